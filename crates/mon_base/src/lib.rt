@@ -1,0 +1,19 @@
+//! The ground of conspecj: byte strings, lists, the names of methods, and numbers as text.
+//!
+//! Every other crate is written over these types. A contract sees a [`Bytes`] as the list of its bytes and a
+//! [`List`] as the list of its items, so definitions speak of trees that hold them directly.
+#![tactic(auto)]
+
+mod bytes;
+mod list;
+mod memory;
+mod method;
+mod number;
+mod room;
+
+pub use bytes::Bytes;
+pub use list::List;
+pub use memory::NoMemory;
+pub use method::MethodId;
+pub use number::{push_number, read_number};
+pub use room::Room;
