@@ -1,0 +1,6 @@
+//! stub
+#[derive(Clone, Copy, Debug, PartialEq, Eq)]
+pub enum FormFault {
+    NotBuilt,
+    Memory,
+}

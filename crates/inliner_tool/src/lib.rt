@@ -1,0 +1,11 @@
+//! The top call of conspecj.
+#![tactic(auto)]
+
+pub mod certificate;
+pub mod checker;
+pub mod code;
+pub mod fault;
+pub mod listing;
+pub mod policy;
+pub mod program;
+pub mod typing;
