@@ -1,3 +1,3 @@
 pub mod Notes
 pub mod Steps
-pub mod Typing
+pub mod FrameTypes

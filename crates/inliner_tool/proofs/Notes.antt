@@ -101,7 +101,7 @@ denied_none program policy linked free =
     nowhere_in (notes_in_class policy) 0 program.classes (λ c class in_program.
     nowhere_in (notes_in_method policy) 0 class.methods (λ m method in_class.
     nowhere_in (note_fault policy) 0 method.refs (λ at ref in_method.
-      let sound = all_at IsCode class.methods m method (all_at IsClass program.classes c class linked.classes in_program).methods in_class in
-      let beside = insn_beside method at ref sound in_method in
-      wrong policy ref (λ api is.
-        free (record { class = c; method = m; at = at }) beside.0 api (rw (in_program, in_class) (beside.1 ∙ ap (λ (t : Target). Some (beside.0, t)) is))))))
+    let sound = all_at IsCode class.methods m method (all_at IsClass program.classes c class linked.classes in_program).methods in_class in
+    let beside = insn_beside method at ref sound in_method in
+    wrong policy ref (λ api is.
+    free (record { class = c; method = m; at = at }) beside.0 api (rw (in_program, in_class) (beside.1 ∙ ap (λ (t : Target). Some (beside.0, t)) is))))))

@@ -27,7 +27,7 @@ methods_differ at [] [] = None
 methods_differ at [] (frames ∷ others) = Some at
 methods_differ at (method ∷ methods) [] = Some at
 methods_differ at (method ∷ methods) (frames ∷ others) =
-  if length method.insns == length frames then methods_differ (at + 1) methods others else Some at
+    if length method.insns == length frames then methods_differ (at + 1) methods others else Some at
 
 -- the first class that one side lacks, with method 0, or a method of a class of both
 abbrev pub classes_differ : ℕ → List LinkedClass → List (List (List FrameType)) → Option (ℕ × ℕ)
@@ -35,7 +35,7 @@ classes_differ at [] [] = None
 classes_differ at [] (frames ∷ others) = Some (at, 0)
 classes_differ at (class ∷ classes) [] = Some (at, 0)
 classes_differ at (class ∷ classes) (frames ∷ others) =
-  or_else (placed at (methods_differ 0 class.methods frames)) (classes_differ (at + 1) classes others)
+    or_else (placed at (methods_differ 0 class.methods frames)) (classes_differ (at + 1) classes others)
 
 abbrev pub shape_fault : Program → Certificate → Option (ℕ × ℕ)
 shape_fault program certificate = classes_differ 0 program.classes certificate.frames
@@ -74,10 +74,10 @@ pub record IsAccepted (program : Program) (policy : DeniedPolicy) (certificate :
 -- The first test that fails, at its first place. No method with a clause is called where all hold.
 abbrev pub verdict : Program → DeniedPolicy → Certificate → Result Accepted CheckFault
 verdict program policy certificate =
-  option_map_or (λ (p : ℕ × ℕ). Err (Shape p.0 p.1)) (shape_fault program certificate)
-  (option_map_or (λ (p : ℕ × (ℕ × (ℕ × ℕ))). Err (Typing p.0 p.1.0 p.1.1.0 p.1.1.1)) (typing_fault program certificate.frames)
-  (option_map_or (λ (p : ℕ × (ℕ × (ℕ × ℕ))). Err (Local p.0 p.1.0 p.1.1.0 p.1.1.1)) (notes_fault program policy)
-  (Ok (record { sites = 0 }))))
+    option_map_or (λ (p : ℕ × ℕ). Err (Shape p.0 p.1)) (shape_fault program certificate)
+    (option_map_or (λ (p : ℕ × (ℕ × (ℕ × ℕ))). Err (Typing p.0 p.1.0 p.1.1.0 p.1.1.1)) (typing_fault program certificate.frames)
+    (option_map_or (λ (p : ℕ × (ℕ × (ℕ × ℕ))). Err (Local p.0 p.1.0 p.1.1.0 p.1.1.1)) (notes_fault program policy)
+    (Ok (record { sites = 0 }))))
 
 -- ---- what a linked program has
 

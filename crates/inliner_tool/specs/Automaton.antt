@@ -9,5 +9,5 @@ after next state (event ∷ events) = option_and_then (λ reached. after next re
 -- The events are accepted in order, or all but the last are, and the last is a return that is refused.
 abbrev pub Follows : {S E : Type 0} → (S → E → Option S) → (E → Bool) → S → List E → Type 0
 Follows next is_return first events =
-  IsSome (after next first events)
-  ⊎ ((before : List _) × (last : _) × (events ≡ before ++ last ∷ []) × IsTrue (is_return last) × IsSome (after next first before))
+    IsSome (after next first events)
+    ⊎ ((before : List _) × (last : _) × (events ≡ before ++ last ∷ []) × IsTrue (is_return last) × IsSome (after next first before))

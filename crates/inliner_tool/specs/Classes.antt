@@ -28,7 +28,7 @@ listed_parent listing name = option_map (λ (entry : ListedClass). entry.parent)
 -- the superclass of a class that is given, listed or built in
 abbrev pub parent_of : Program → List ℕ → Option (List ℕ)
 parent_of program name =
-  option_map_or (λ (class : LinkedClass). Some class.parent) (class_in program.classes name) (listed_parent program.listing name)
+    option_map_or (λ (class : LinkedClass). Some class.parent) (class_in program.classes name) (listed_parent program.listing name)
 
 -- upwards from a class through at most so many superclasses one comes to the other
 abbrev pub reaches : ℕ → (List ℕ → Option (List ℕ)) → List ℕ → List ℕ → Bool

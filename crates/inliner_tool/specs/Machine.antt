@@ -85,12 +85,12 @@ thrown frames = record { frames = []; doing = Ended }
 -- what one instruction does of itself, with the frames below: nop, return and the call of a listed static method
 abbrev pub executed : ℕ → Insn × Target → Frame → List Frame → Option (Thread × Option Event)
 executed number (Plain op, target.None) frame below =
-  if op == 0 then Some (resting (advanced frame ∷ below), None)
-  else (if op == 177 then Some (resting (returned below), None) else None)
+    if op == 0 then Some (resting (advanced frame ∷ below), None)
+    else (if op == 177 then Some (resting (returned below), None) else None)
 executed number (Plain op, target.ApiMethod method) frame below = None
 executed number (Pool op index, target.None) frame below = None
 executed number (Pool op index, target.ApiMethod method) frame below =
-  if op == 184 then Some (record { frames = frame ∷ below; doing = InCall method }, Some (Call number method)) else None
+    if op == 184 then Some (record { frames = frame ∷ below; doing = InCall method }, Some (Call number method)) else None
 
 -- a class that may be thrown by the API: one of the listing or built in that is Throwable or below it
 abbrev pub is_thrown : Listing → List ℕ → Bool
@@ -100,7 +100,7 @@ is_thrown listing class = is_some (entry_of listing class) && reaches (length li
 abbrev pub answered : Program → ℕ → ℕ → Answer → List Frame → Option (Thread × Option Event)
 answered program number method Nothing frames = Some (resting (returned frames), Some (Return number method))
 answered program number method (Throws class) frames =
-  if is_thrown program.listing class then Some (thrown frames, Some (Except number method)) else None
+    if is_thrown program.listing class then Some (thrown frames, Some (Except number method)) else None
 
 -- what a thread does with a choice; None where it is not enabled
 abbrev pub thread_stepped : Program → ℕ → Doing → List Frame → Choice → Option (Thread × Option Event)
@@ -113,8 +113,8 @@ thread_stepped program number Ended frames choice = None
 
 abbrev pub stepped : Program → Machine → Step → Option (Machine × Option Event)
 stepped program machine step =
-  option_and_then (λ (thread : Thread).
-  option_map (λ (done : Thread × Option Event). (record { threads = slice_set machine.threads step.thread done.0 }, done.1))
+    option_and_then (λ (thread : Thread).
+    option_map (λ (done : Thread × Option Event). (record { threads = slice_set machine.threads step.thread done.0 }, done.1))
     (thread_stepped program step.thread thread.doing thread.frames step.choice)) (slice_get machine.threads step.thread)
 
 -- ---- lists of steps
@@ -132,7 +132,7 @@ exec_from (step ∷ steps) program machine = exec_from steps program (option_map
 abbrev pub trace_from : List Step → Program → Machine → List Event
 trace_from [] program machine = []
 trace_from (step ∷ steps) program machine =
-  option_map_or (λ (done : Machine × Option Event). option_to_list done.1 ++ trace_from steps program done.0) (stepped program machine step) (trace_from steps program machine)
+    option_map_or (λ (done : Machine × Option Event). option_to_list done.1 ++ trace_from steps program done.0) (stepped program machine step) (trace_from steps program machine)
 
 abbrev pub exec : Program → List Step → Machine
 exec program steps = exec_from steps program (start program)

@@ -23,8 +23,8 @@ is_interface program name = option_map_or (λ (entry : ListedClass). entry.is_in
 -- A class or array is assignable to itself, to Object, to each interface and to its superclasses.
 abbrev pub class_fits : Program → List ℕ → List ℕ → Bool
 class_fits program from to =
-  same to (codes "java/lang/Object") || is_interface program to
-  || reaches (length program.classes + length program.listing.classes) (parent_of program) from to
+    same to (codes "java/lang/Object") || is_interface program to
+    || reaches (length program.classes + length program.listing.classes) (parent_of program) from to
 
 -- the name in a component `Lname;`
 abbrev pub named : List ℕ → Option (List ℕ)
@@ -116,10 +116,10 @@ meets_successor program insn frame next = not (goes_on insn) || option_map_or (�
 -- the first rule that fails at an instruction
 abbrev pub row_fault : Program → Method → ℕ → Insn → FrameType → Option FrameType → Option ℕ
 row_fault program method at insn frame next =
-  if (at == 0) && not (meets_entry program method frame) then Some 1
-  else (if not (meets_depth method frame) then Some 2
-  else (if not (meets_local method frame) then Some 4
-  else (if not (meets_successor program insn frame next) then Some 6 else None)))
+    if (at == 0) && not (meets_entry program method frame) then Some 1
+    else (if not (meets_depth method frame) then Some 2
+    else (if not (meets_local method frame) then Some 4
+    else (if not (meets_successor program insn frame next) then Some 6 else None)))
 
 -- ---- the first instruction whose row fails, and its rule
 
@@ -132,7 +132,7 @@ abbrev pub rows_fault : Program → Method → ℕ → List Insn → List FrameT
 rows_fault program method at [] frames = None
 rows_fault program method at (insn ∷ insns) [] = None
 rows_fault program method at (insn ∷ insns) (frame ∷ frames) =
-  or_else (placed at (row_fault program method at insn frame (first_of frames))) (rows_fault program method (at + 1) insns frames)
+    or_else (placed at (row_fault program method at insn frame (first_of frames))) (rows_fault program method (at + 1) insns frames)
 
 abbrev pub typing_in_method : Program → Method → List FrameType → Option (ℕ × ℕ)
 typing_in_method program method frames = rows_fault program method 0 method.insns frames

@@ -24,15 +24,32 @@ pub struct Accepted {
 #[derive(Clone, Copy, Debug, PartialEq, Eq)]
 pub enum CheckFault {
     /// 242: the certificate is of a program of another shape.
-    Shape { class: u32, method: u32 },
+    Shape {
+        class: u32,
+        method: u32,
+    },
     /// 202: a rule of the typing fails.
-    Typing { class: u32, method: u32, at: u32, rule: u8 },
+    Typing {
+        class: u32,
+        method: u32,
+        at: u32,
+        rule: u8,
+    },
     /// 243: a rule of the notes fails.
-    Local { class: u32, method: u32, at: u32, rule: u8 },
+    Local {
+        class: u32,
+        method: u32,
+        at: u32,
+        rule: u8,
+    },
 }
 
 /// Checks a program with its certificate. It runs nothing, and takes no memory.
-pub fn check(program: &Program, policy: &DeniedPolicy, certificate: &Certificate) -> Result<Accepted, CheckFault>
+pub fn check(
+    program: &Program,
+    policy: &DeniedPolicy,
+    certificate: &Certificate,
+) -> Result<Accepted, CheckFault>
     requires { IsProgram program.now }
     // It is accepted exactly where the three conditions hold, and then every list of steps obeys.
     ensures ok { IsOk result ↔ IsAccepted program.now policy.now certificate.now }
@@ -48,11 +65,24 @@ pub fn check(program: &Program, policy: &DeniedPolicy, certificate: &Certificate
     if let Some((class, method)) = shape_fault(program, certificate) {
         return Err(CheckFault::Shape { class, method });
     }
-    if let Some((class, (method, (at, rule)))) = typing::typing_fault(program, &certificate.frames) {
-        return Err(CheckFault::Typing { class, method, at, rule });
+    if let Some((class, (method, (at, rule)))) = typing::typing_fault(
+        program,
+        &certificate.frames,
+    ) {
+        return Err(CheckFault::Typing {
+            class,
+            method,
+            at,
+            rule,
+        });
     }
     if let Some((class, (method, (at, rule)))) = notes_fault(program, policy) {
-        return Err(CheckFault::Local { class, method, at, rule });
+        return Err(CheckFault::Local {
+            class,
+            method,
+            at,
+            rule,
+        });
     }
     Ok(Accepted { sites: 0 })
 }
@@ -75,7 +105,11 @@ fn shape_fault(program: &Program, certificate: &Certificate) -> Option<(u32, u32
         frames = others;
         at += 1;
     }
-    if frames.is_empty() { None } else { Some((at, 0)) }
+    if frames.is_empty() {
+        None
+    } else {
+        Some((at, 0))
+    }
 }
 
 fn methods_differ(methods: &[Method], frames: &[List<FrameType>]) -> Option<u32>

@@ -18,7 +18,10 @@ const OBJECT: &[u8] = b"java/lang/Object";
 const ARGUMENTS: &[u8] = b"[Ljava/lang/String;";
 
 /// The class, method, instruction and rule of the first row that fails.
-pub fn typing_fault(program: &Program, frames: &List<List<List<FrameType>>>) -> Option<(u32, (u32, (u32, u8)))>
+pub fn typing_fault(
+    program: &Program,
+    frames: &List<List<List<FrameType>>>,
+) -> Option<(u32, (u32, (u32, u8)))>
     requires { IsProgram program.now }
     ensures { result ≡ typing_fault program.now frames.now }
 {
@@ -39,7 +42,11 @@ pub fn typing_fault(program: &Program, frames: &List<List<List<FrameType>>>) -> 
     None
 }
 
-fn typing_in_class(program: &Program, class: &LinkedClass, frames: &[List<FrameType>]) -> Option<(u32, (u32, u8))>
+fn typing_in_class(
+    program: &Program,
+    class: &LinkedClass,
+    frames: &[List<FrameType>],
+) -> Option<(u32, (u32, u8))>
     requires program { IsProgram program.now }
     requires code { IsClass class.now }
     ensures { result ≡ typing_in_class program.now class.now frames.now }
@@ -84,7 +91,14 @@ fn typing_in_method(program: &Program, method: &Method, frames: &[FrameType]) ->
 }
 
 /// The first rule that fails at an instruction.
-fn row_fault(program: &Program, method: &Method, at: u32, insn: &Insn, frame: &FrameType, later: &[FrameType]) -> Option<u8>
+fn row_fault(
+    program: &Program,
+    method: &Method,
+    at: u32,
+    insn: &Insn,
+    frame: &FrameType,
+    later: &[FrameType],
+) -> Option<u8>
     requires { IsProgram program.now }
     ensures { result ≡ row_fault program.now method.now at insn.now frame.now (first_of later.now) }
 {
@@ -105,7 +119,9 @@ fn meets_entry(program: &Program, method: &Method, frame: &FrameType) -> bool
     requires { IsProgram program.now }
     ensures { result ≡ meets_entry program.now method.now frame.now }
 {
-    method.max_locals >= 1 && takes_arguments(program, frame.locals.as_slice()) && frame.stack.is_empty()
+    method.max_locals >= 1
+        && takes_arguments(program, frame.locals.as_slice())
+        && frame.stack.is_empty()
 }
 
 /// Whether the argument of `main` in local 0 and nothing else is assignable to these locals.

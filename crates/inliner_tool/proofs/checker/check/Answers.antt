@@ -13,10 +13,10 @@ returns-in-Some-notes_fault-clause-calls c = λ shape typing.
 
 pub returns-clause-ok : goal.returns-clause-ok
 returns-clause-ok c =
-    (λ e. record { shape = ?; typing = ?; notes = none_denied c.args.program.now c.args.policy.now ? }, λ accepted. refl)
+    (λ e. record { shape = sym c.in_default.ensures; typing = sym c.in_default-typing_fault.ensures; notes = none_denied c.args.program.now c.args.policy.now (sym c.in_default-notes_fault.ensures) }, λ accepted. refl)
 
 pub returns-clause-secure : goal.returns-clause-secure
-returns-clause-secure c = λ e. secure c.args.program.now c.args.policy.now (none_denied c.args.program.now c.args.policy.now ?)
+returns-clause-secure c = λ e. secure c.args.program.now c.args.policy.now (none_denied c.args.program.now c.args.policy.now (sym c.in_default-notes_fault.ensures))
 
 pub returns-clause-calls : goal.returns-clause-calls
-returns-clause-calls c = λ shape typing. (λ e. none_denied c.args.program.now c.args.policy.now ?, λ free. refl)
+returns-clause-calls c = λ shape typing. (λ e. none_denied c.args.program.now c.args.policy.now (sym c.in_default-notes_fault.ensures), λ free. refl)

@@ -1,5 +1,5 @@
 use Rattle.std.proofs.Common.{sym, ◌∙◌}
-use Rattle.inliner_tool.proofs.Typing.{stack_ended}
+use Rattle.inliner_tool.proofs.FrameTypes.{stack_ended}
 use Rattle.inliner_tool.proofs.typing.stack_fits.Goals as goal
 
 pub returns : goal.returns

@@ -1,5 +1,5 @@
 -- Steps of the tests of types.
-use Rattle.std.proofs.Common.{◌≡◌, ℕ, zero, suc, ◌+◌, ◌-◌, ◌<◌, Bool, true, false, cond, eqb, List, [], ◌∷◌, length, Option, Some, None, refl, sym, ap, subst, ◌∙◌, arith}
+use Rattle.std.proofs.Common.{ne_eqb, ◌≡◌, ℕ, zero, suc, ◌+◌, ◌-◌, ◌<◌, Bool, true, false, cond, eqb, List, [], ◌∷◌, length, Option, Some, None, refl, sym, ap, subst, ◌∙◌, arith}
 use Rattle.std.specs.Prelude.{◌||◌}
 use Rattle.std.specs.Option.{option_map, option_map_or}
 use Rattle.inliner_tool.specs.Classes.{same, reaches}
@@ -14,8 +14,11 @@ reaches_more zero parent_of from to parent more other up = absurd (omega arith)
 reaches_more (suc left) parent_of from to parent more other up =
     let e : suc left - 1 ≡ left = omega arith in rw (other, up, e) refl
 
+lt-eqb_false : (n : ℕ) → eqb (suc n) 0 ≡ false
+lt-eqb_false n = ne_eqb (suc n) 0 (omega arith)
+
 -- on a stack that has ended nothing else may stand
 pub stack_ended : (program : Program) (from to : List VType) → length to < 1 → stack_fits program from to ≡ eqb (length from) 0
 stack_ended program from (t ∷ to) short = absurd (omega arith)
 stack_ended program [] [] short = refl
-stack_ended program (f ∷ from) [] short = refl
+stack_ended program (f ∷ from) [] short = sym (lt-eqb_false (length from))
