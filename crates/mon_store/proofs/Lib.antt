@@ -1,0 +1,2 @@
+mod ListedFiles
+mod Pieces

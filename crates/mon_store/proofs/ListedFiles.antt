@@ -1,0 +1,1 @@
+-- A list of files, as a map from names to bytes.
