@@ -1,5 +1,5 @@
 -- A file that is read piece by piece: what was read is its front, and all of it once a piece is empty.
-use Rattle.std.proofs.Common.{◌≡◌, ◌<◌, ◌≤◌, ◌+◌, ◌-◌, ℕ, List, ◌++◌, length, take, drop, Option, Some, None, IfSome, IsSomeAnd, ap, arith, length-append}
+use Rattle.std.proofs.Common.{◌≡◌, ◌<◌, ◌≤◌, ◌+◌, ◌-◌, ℕ, List, ◌++◌, length, take, drop, Option, Some, None, IfSome, IsSomeAnd, ap, subst, arith, length-append}
 use Rattle.std.proofs.Math.Seq.{take-add}
 use Rattle.std.proofs.lemmas.List.{length-take-le, length-take}
 use Rattle.mon_store.specs.Store.{Files, HasFile, OfFile, Copies}
@@ -18,6 +18,7 @@ grown_in : (file : Option (List ℕ)) (front into new : List ℕ) (n : ℕ) → 
 grown_in None front into new n copies le is begins = tt
 grown_in (Some bytes) front into new n copies le is begins = grown bytes front into new n copies le is begins
 
-pub Begins-grown : (files : Files) (name front into new : List ℕ) (n : ℕ) → HasFile files name (λ bytes. Copies bytes (length front) n into) → n ≤ length into → new ≡ front ++ take n into → Begins files name front → Begins files name new
-Begins-grown None name front into new n copies le is begins = tt
-Begins-grown (Some told) name front into new n copies le is begins = grown_in (told name) front into new n copies le is begins
+pub Begins-grown : (files : Files) (name front into new : List ℕ) (at n : ℕ) → at ≡ length front → HasFile files name (λ bytes. Copies bytes at n into) → n ≤ length into → new ≡ front ++ take n into → Begins files name front → Begins files name new
+Begins-grown None name front into new at n here copies le is begins = tt
+Begins-grown (Some told) name front into new at n here copies le is begins =
+    grown_in (told name) front into new n (subst (λ (k : ℕ). IsSomeAnd (told name) (λ bytes. Copies bytes k n into)) here copies) le is begins

@@ -65,6 +65,7 @@ impl MemStore {
             (self.new ≡ failed self.old name.now) × (is_failing self.old ≡ true) }
         ensures memory { IsErrOf result StoreFault.Memory → self.new ≡ self.old }
         ensures absent { IsErrOf result StoreFault.Absent → ⊥ }
+        ensures faults { self.old.faults ≤ self.new.faults }
     {
         if self.fail.as_slice().contains(&self.calls) {
             self.last = name.copy(self.alloc)?;
