@@ -294,11 +294,11 @@ bytes_again place bytes rest e =
 
 -- bytes of a given number
 pub bytes_is : {E : Type 0} (n : ℕ) (fault : Place → E)
-    → IsTail (λ place. ok_or (bytes_at n place) (fault place)) (λ bytes. bytes) (λ bytes. IsBytes bytes) (λ bytes. length bytes ≡ n)
+    → IsTail (λ place. ok_or (bytes_at n place) (fault place)) (λ bytes. bytes) (λ bytes. Unit {0}) (λ bytes. length bytes ≡ n)
 bytes_is {E = E} n fault = record {
   takes = λ place bytes next fits e.
       let t = bytes_takes n place bytes next fits (ok_or_ok (bytes_at n place) (fault place) (bytes, next) e) in
-      (t.0, t.2, t.1);
+      (t.0, tt, t.1);
   again = λ place bytes rest fits h e.
       subst (λ (k : ℕ). ok_or (bytes_at k place) (fault place) ≡ Ok (bytes, after place bytes rest)) h (rw (bytes_again place bytes rest e) refl);
 }
