@@ -4,8 +4,16 @@
 //! types are kept as indices into the constant pool, and code as bytes.
 #![tactic(auto)]
 
+mod attributes;
+mod constants;
+mod decoding;
 mod fault;
+mod items;
+mod place;
+mod pool;
 mod tree;
 
+pub use decoding::decode;
 pub use fault::ClassFault;
+pub use pool::{Kind, is_of, names, names_code, utf8_at};
 pub use tree::{Attr, ClassFile, Code, Const, Member, Other, TableEntry};
