@@ -1,12 +1,14 @@
 -- Reading one after the other, as a loop does.
-use Rattle.std.proofs.Common.{◌≡◌, ℕ, suc, ◌-◌, ◌+◌, ◌≤◌, ◌<◌, Bool, true, false, List, [], ◌∷◌, ◌++◌, Result, Ok, Err, refl, sym, ap, ◌∙◌, append_assoc, arith}
-use Rattle.std.proofs.lemmas.List.{append-nil}
+use Rattle.std.proofs.Common.{◌≡◌, ℕ, suc, ◌-◌, ◌+◌, ◌≤◌, ◌<◌, Bool, true, false, List, [], ◌∷◌, ◌++◌, length, get_or, take, drop, Result, Ok, Err, refl, sym, ap, subst, ◌∙◌, append_assoc, arith}
+use Rattle.std.specs.List.{flat_map}
+use Rattle.std.proofs.lemmas.List.{append-nil, take_all, length-append}
 use Rattle.mon_base.specs.Reading.{Place, ◌>>=◌, counted}
 use Rattle.class_codec.specs.declared.fault.ClassFault.{ClassFault}
 use Rattle.class_codec.specs.declared.fault.ClassFault.TheVariants.{Magic, Version, Short, Tail, Tag, Index, TooLong, Memory}
 use Rattle.class_codec.specs.declared.tree.Const.{Const}
+use Rattle.class_codec.specs.Spelling.{constant}
 use Rattle.class_codec.specs.Fits.{takes_two}
-use Rattle.class_codec.specs.Reading.{Read, Fails, place_at, places_at}
+use Rattle.class_codec.specs.Reading.{Read, Fails, place_at, places_at, constant_checked, all_checked}
 
 -- what was read before, and what is still read
 abbrev pub with_front : {X : Type 0} → List X → Read (List X) → Read (List X)
@@ -53,7 +55,7 @@ unfolding counted
 ends item e front count i place total lt h so_far =
     let k : count - i ≡ suc (count - (i + 1)) = omega arith in
     let one = failed e (counted item (suc (count - (i + 1))) place) (λ x. Ok (front ++ x.0, x.1)) (failed e (item place) (λ first. counted item (count - (i + 1)) first.1 >>= λ others. Ok (first.0 ∷ others.0, others.1)) h) in
-    along e (with_front front (counted item (suc (count - (i + 1))) place)) total (rw (← k) so_far) one
+    along e (with_front front (counted item (suc (count - (i + 1))) place)) total (subst (λ (n : ℕ). with_front front (counted item n place) ≡ total) k so_far) one
 
 pub is_done : {X : Type 0} (item : Place → Read X) (front : List X) (count i : ℕ) (place : Place) (total : Read (List X)) → count ≤ i
     → with_front front (counted item (count - i) place) ≡ total → total ≡ Ok (front, place)
@@ -83,7 +85,7 @@ place_ends e front second count i place total lt h so_far =
     let j : count - i - 1 ≡ count - (i + 1) = omega arith in
     let h' : Fails e (place_at second (count - (i + 1)) place) = rw (← j) h in
     let one = failed e (places_at second (suc (count - (i + 1))) place) (λ x. Ok (front ++ x.0, x.1)) (failed e (place_at second (count - (i + 1)) place) (λ first. places_at (takes_two first.0) (count - (i + 1)) first.1 >>= λ others. Ok (first.0 ∷ others.0, others.1)) h') in
-    along e (with_front front (places_at second (suc (count - (i + 1))) place)) total (rw (← k) so_far) one
+    along e (with_front front (places_at second (suc (count - (i + 1))) place)) total (subst (λ (n : ℕ). with_front front (places_at second n place) ≡ total) k so_far) one
 
 pub places_done : (front : List Const) (second : Bool) (count i : ℕ) (place : Place) (total : Read (List Const)) → count ≤ i
     → with_front front (places_at second (count - i) place) ≡ total → total ≡ Ok (front, place)
@@ -92,3 +94,62 @@ places_done front second count i place total le so_far =
     let k : count - i ≡ 0 = omega arith in
     let one : with_front front (places_at second (count - i) place) ≡ Ok (front, place) = rw k (ap (λ (ns : List Const). Ok (ns, place)) (append-nil front)) in
     sym so_far ∙ one
+
+-- ---- the indices of the pool
+
+pub checks_on : (pool : List Const) (first : Const) (others : List Const) (at : ℕ) (total : Result (Unit {0}) ClassFault) → constant_checked pool first at ≡ Ok tt
+    → all_checked pool (first ∷ others) at ≡ total → all_checked pool others (at + length (constant first)) ≡ total
+unfolding all_checked
+checks_on pool first others at total h so_far =
+    let one : all_checked pool (first ∷ others) at ≡ all_checked pool others (at + length (constant first)) = rw h refl in
+    sym one ∙ so_far
+
+pub check_ends : (e : ClassFault) (pool : List Const) (first : Const) (others : List Const) (at : ℕ) (total : Result (Unit {0}) ClassFault) → Fails e (constant_checked pool first at)
+    → all_checked pool (first ∷ others) at ≡ total → Fails e total
+unfolding all_checked
+check_ends e pool first others at total h so_far =
+    along e (all_checked pool (first ∷ others) at) total so_far (failed e (constant_checked pool first at) (λ _. all_checked pool others (at + length (constant first))) h)
+
+pub checks_done : (pool : List Const) (at : ℕ) (total : Result (Unit {0}) ClassFault) → all_checked pool [] at ≡ total → total ≡ Ok tt
+unfolding all_checked
+checks_done pool at total so_far = sym so_far
+
+others_are : (left : List Const) (first : Const) → 1 ≤ length left → first ≡ get_or left 0 first → left ≡ first ∷ take (length left - 1) (drop 1 left)
+others_are [] first some is = absurd (omega arith)
+others_are (x ∷ xs) first some is =
+    let n : length (x ∷ xs) - 1 ≡ length xs = omega arith in
+    let same : take (length (x ∷ xs) - 1) xs ≡ xs = rw n (take_all (length xs) xs (omega arith)) in
+    rw (same, is) refl
+
+pub checks_step : (pool left : List Const) (first : Const) (at len : ℕ) (total : Result (Unit {0}) ClassFault) → 1 ≤ length left → first ≡ get_or left 0 first
+    → len ≡ length (constant first) → constant_checked pool first at ≡ Ok tt → all_checked pool left at ≡ total
+    → all_checked pool (take (length left - 1) (drop 1 left)) (at + len) ≡ total
+checks_step pool left first at len total some is l h so_far =
+    let same = others_are left first some is in
+    let so_far' : all_checked pool (first ∷ take (length left - 1) (drop 1 left)) at ≡ total = ap (λ (xs : List Const). all_checked pool xs at) (sym same) ∙ so_far in
+    subst (λ (n : ℕ). all_checked pool (take (length left - 1) (drop 1 left)) (at + n) ≡ total) (sym l) (checks_on pool first (take (length left - 1) (drop 1 left)) at total h so_far')
+
+pub sum_step : (left : List Const) (first : Const) (at len total : ℕ) → 1 ≤ length left → first ≡ get_or left 0 first
+    → len ≡ length (constant first) → at + length (flat_map constant left) ≡ total
+    → at + len + length (flat_map constant (take (length left - 1) (drop 1 left))) ≡ total
+sum_step left first at len total some is l so_far =
+    let same = others_are left first some is in
+    let all : length (flat_map constant left) ≡ length (constant first) + length (flat_map constant (take (length left - 1) (drop 1 left))) = ap (λ (xs : List Const). length (flat_map constant xs)) same ∙ length-append (constant first) (flat_map constant (take (length left - 1) (drop 1 left))) in
+    omega (arith, all, l, so_far)
+
+pub check_step_ends : (e : ClassFault) (pool left : List Const) (first : Const) (at : ℕ) (total : Result (Unit {0}) ClassFault) → 1 ≤ length left → first ≡ get_or left 0 first
+    → Fails e (constant_checked pool first at) → all_checked pool left at ≡ total → Fails e total
+check_step_ends e pool left first at total some is h so_far =
+    let same = others_are left first some is in
+    let so_far' : all_checked pool (first ∷ take (length left - 1) (drop 1 left)) at ≡ total = ap (λ (xs : List Const). all_checked pool xs at) (sym same) ∙ so_far in
+    check_ends e pool first (take (length left - 1) (drop 1 left)) at total h so_far'
+
+pub checks_end : (pool left : List Const) (at : ℕ) (total : Result (Unit {0}) ClassFault) → length left < 1 → all_checked pool left at ≡ total → total ≡ Ok tt
+checks_end pool [] at total none so_far = checks_done pool at total so_far
+checks_end pool (x ∷ xs) at total none so_far = absurd (omega arith)
+
+pub constants_push : (pool : List Const) (x : Const) → length (flat_map constant (pool ++ x ∷ [])) ≡ length (flat_map constant pool) + length (constant x)
+constants_push [] x = simp append-nil (omega arith)
+constants_push (c ∷ pool) x =
+    let so_far = constants_push pool x in
+    omega (arith, so_far, length-append (constant c) (flat_map constant (pool ++ x ∷ [])), length-append (constant c) (flat_map constant pool))

@@ -1,10 +1,10 @@
 //! Reading the constant pool. (The Java Virtual Machine Specification, section 4.4.)
 
-ghost use Rattle.std.specs.Prelude.{◌≡◌, ◌+◌, ◌<◌, ◌^◌, true, length, IfOk, OnOk};
+ghost use Rattle.std.specs.Prelude.{◌≡◌, ◌+◌, ◌<◌, ◌^◌, true, length, position, IfSome, IfOk, OnOk};
 ghost use Rattle.std.specs.List.{flat_map};
 ghost use Rattle.class_codec.specs.Spelling.{constant};
 ghost use Rattle.class_codec.specs.Fits.{takes_two};
-ghost use Rattle.class_codec.specs.Reading.{Reads, ReadsAs, Answers, text_at, pair_at, wide_at, payload_at, constant_at, place_at, places_at, index_checked, pair_checked, constant_checked, all_checked, pool_at};
+ghost use Rattle.class_codec.specs.Reading.{Reads, ReadsAs, Answers, is_no_text_byte, text_checked, text_at, pair_at, wide_at, payload_at, constant_at, place_at, places_at, index_checked, pair_checked, constant_checked, all_checked, pool_at};
 
 use crate::fault::ClassFault;
 use crate::place::{taken, u1, u2, u4, u8};
@@ -22,10 +22,27 @@ fn text(alloc: Global, from: &mut Cursor) -> Result<Bytes, ClassFault>
     let len = u2(from)?;
     let at = from.position();
     let bytes = taken(len as usize, from)?;
-    if let Some(i) = bytes.iter().position(|b| *b == 0 || *b >= 240) {
-        return Err(ClassFault::Index { at: at + i as u64 });
-    }
+    check_text(bytes, at)?;
     Ok(Bytes::from_slice(alloc, bytes)?)
+}
+
+/// Whether all bytes of a text, which stands at a place of the file, may stand there.
+fn check_text(text: &[u8], at: u64) -> Result<(), ClassFault>
+    requires { at + length text.now < 2 ^ 63 }
+    ensures { Answers result (text_checked at (position is_no_text_byte text.now)) }
+{
+    match first_wrong(text) {
+        Some(i) => Err(ClassFault::Index { at: at + i as u64 }),
+        None => Ok(()),
+    }
+}
+
+/// The place of the first byte that may stand in no text.
+fn first_wrong(text: &[u8]) -> Option<usize>
+    ensures found { result ≡ position is_no_text_byte text.now }
+    ensures within { IfSome result (λ i. i < length text.now) }
+{
+    text.iter().position(|b| *b == 0 || *b >= 240)
 }
 
 /// Two indices.

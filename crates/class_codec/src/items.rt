@@ -32,6 +32,7 @@ pub trait Item: Drop {
 }
 
 /// The items that two bytes count.
+#[tactic(auto, unfolding(crate::specs::Reading::counted_at))]
 pub fn counted<T: Item>(
     alloc: Global,
     pool: &[Const],

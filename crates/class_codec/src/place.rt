@@ -1,6 +1,6 @@
 //! Numbers, byte strings and indices at a place of the file.
 
-ghost use Rattle.std.specs.Prelude.{◌≡◌, ◌+◌, OnOk};
+ghost use Rattle.std.specs.Prelude.{◌≡◌, ◌+◌, length, IfOk, OnOk};
 ghost use Rattle.class_codec.specs.Reading.{Reads, ReadsAs, u1_at, u2_at, u4_at, u8_at, taken_at, block_at, index_at};
 
 use crate::fault::ClassFault;
@@ -50,6 +50,7 @@ pub fn u8(from: &mut Cursor) -> Result<u64, ClassFault>
 pub fn taken<'a>(n: usize, from: &mut Cursor<'a>) -> Result<&'a [u8], ClassFault>
     ensures reads { ReadsAs (λ b. b.now) result (taken_at n from.old) from.new }
     ensures moves { OnOk result (from.new.at ≡ from.old.at + n) }
+    ensures len { IfOk result (λ b. length b.now ≡ n) }
 {
     let at = from.position();
     from.take(n).ok_or(ClassFault::Short { at })
