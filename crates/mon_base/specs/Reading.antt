@@ -1,11 +1,16 @@
 -- Reading bytes from left to right.
-use Rattle.std.specs.Prelude.{◌≡◌, ℕ, zero, suc, ◌+◌, ◌<◌, ◌==◌, Bool, true, false, List, [], ◌∷◌, length, take, drop, slice_index, Option, Some, None, option_map, Result, Ok, Err, nat_lt, if◌then◌else◌}
-use Rattle.byteorder.specs.Endian.{big_number}
+use Rattle.std.specs.Prelude.{◌≡◌, ℕ, ℤ, zero, suc, ◌+◌, ◌<◌, ◌==◌, Bool, true, false, List, [], ◌∷◌, length, take, drop, slice_index, Option, Some, None, option_map, Result, Ok, Err, nat_lt, if◌then◌else◌}
+use Rattle.std.specs.Int.{w32, cast_signed}
+pub use Rattle.byteorder.specs.Endian.{big_number, big_bytes}
 
 -- a place among bytes: how many stand before it, and those that are left
 pub record Place : Type 0 where
   pub at : ℕ
   pub rest : List ℕ
+
+-- each is a byte
+abbrev pub IsBytes : List ℕ → Type 0
+IsBytes bytes = (i : ℕ) → slice_index bytes i < 256
 
 -- the next n bytes, and the place after them
 abbrev pub bytes_at : ℕ → Place → Option (List ℕ × Place)
@@ -16,6 +21,10 @@ bytes_at n place =
 -- the number that the next n bytes are, the highest first, and the place after them
 abbrev pub number_at : ℕ → Place → Option (ℕ × Place)
 number_at n place = option_map (λ read. (big_number n read.0, read.1)) (bytes_at n place)
+
+-- the number with a sign that the next four bytes are, as two's complement
+abbrev pub int_at : Place → Option (ℤ × Place)
+int_at place = option_map (λ read. (cast_signed w32 (big_number 4 read.0), read.1)) (bytes_at 4 place)
 
 -- the part of the next n bytes that is there, at the same place
 abbrev pub part : ℕ → Place → Place

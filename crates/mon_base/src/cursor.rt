@@ -1,7 +1,7 @@
 //! A place among bytes that are read from left to right.
 
 ghost use Rattle.std.specs.Prelude.{◌≡◌, ◌↔◌, [], length, option_copied, IsTrue};
-ghost use Rattle.mon_base.specs.Reading.{Place, Gives, number_at, bytes_at, part};
+ghost use Rattle.mon_base.specs.Reading.{Place, Gives, number_at, int_at, bytes_at, part};
 
 use byteorder::{BigEndian, ByteOrder};
 use std::marker::Model;
@@ -110,5 +110,13 @@ impl<'a> Cursor<'a> {
     {
         let bytes = self.take(8)?;
         Some(BigEndian::read_u64(bytes))
+    }
+
+    /// The number with a sign that the next four bytes are.
+    pub fn i4(&mut self) -> Option<i32>
+        ensures { Gives result int_at self.old self.new }
+    {
+        let bytes = self.take(4)?;
+        Some(BigEndian::read_i32(bytes))
     }
 }
