@@ -1,10 +1,12 @@
-//! The ground of conspecj: byte strings, lists, the names of methods, and numbers as text.
+//! The ground of conspecj: byte strings, lists, the names of methods, numbers as text, and
+//! readers of bytes.
 //!
 //! Every other crate is written over these types. A contract sees a [`Bytes`] as the list of its bytes and a
 //! [`List`] as the list of its items, so definitions speak of trees that hold them directly.
 #![tactic(auto)]
 
 mod bytes;
+mod cursor;
 mod list;
 mod memory;
 mod method;
@@ -12,6 +14,7 @@ mod number;
 mod room;
 
 pub use bytes::Bytes;
+pub use cursor::Cursor;
 pub use list::List;
 pub use memory::NoMemory;
 pub use method::MethodId;
