@@ -1,3 +1,4 @@
+pub mod CodeBytes
 pub mod Notes
 pub mod Steps
 pub mod FrameTypes

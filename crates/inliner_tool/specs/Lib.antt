@@ -1,7 +1,16 @@
 pub mod Acceptance
 pub mod Automaton
+pub mod BuiltIn
 pub mod Classes
+pub mod Clauses
+pub mod CodeText
+pub mod Lines
+pub mod Listing
 pub mod Machine
+pub mod Nearest
 pub mod Places
+pub mod Policy
 pub mod Secure
+pub mod Tokens
 pub mod Typing
+pub mod Words
