@@ -1,6 +1,6 @@
 //! Reading the constant pool. (The Java Virtual Machine Specification, section 4.4.)
 
-ghost use Rattle.std.specs.Prelude.{◌≡◌, ◌+◌, ◌<◌, ◌^◌, true, length, position, IfSome, IfOk, OnOk};
+ghost use Rattle.std.specs.Prelude.{◌≡◌, ◌+◌, ◌-◌, ◌<◌, ◌≤◌, ◌^◌, true, length, position, IfSome, IfOk, OnOk};
 ghost use Rattle.std.specs.List.{flat_map};
 ghost use Rattle.class_codec.specs.Spelling.{constant};
 ghost use Rattle.class_codec.specs.Fits.{takes_two};
@@ -20,19 +20,20 @@ fn text(alloc: Global, from: &mut Cursor) -> Result<Bytes, ClassFault>
     ensures moves { IfOk result (λ text. from.new.at ≡ from.old.at + 2 + length text) }
 {
     let len = u2(from)?;
-    let at = from.position();
     let bytes = taken(len as usize, from)?;
-    check_text(bytes, at)?;
+    check_text(bytes, from.position())?;
     Ok(Bytes::from_slice(alloc, bytes)?)
 }
 
-/// Whether all bytes of a text, which stands at a place of the file, may stand there.
-fn check_text(text: &[u8], at: u64) -> Result<(), ClassFault>
-    requires { at + length text.now < 2 ^ 63 }
-    ensures { Answers result (text_checked at (position is_no_text_byte text.now)) }
+/// Whether all bytes of a text, which ends at a place of the file, may stand there.
+fn check_text(text: &[u8], end: u64) -> Result<(), ClassFault>
+    requires { length text.now ≤ end }
+    ensures { Answers result (text_checked (end - length text.now) (position is_no_text_byte text.now)) }
 {
     match first_wrong(text) {
-        Some(i) => Err(ClassFault::Index { at: at + i as u64 }),
+        Some(i) => Err(ClassFault::Index {
+            at: end - text.len() as u64 + i as u64,
+        }),
         None => Ok(()),
     }
 }
@@ -184,7 +185,7 @@ fn check_pair(
 
 /// Whether the indices of a constant that begins at `at` name what they should.
 fn check_constant(pool: &[Const], item: &Const, at: u64) -> Result<(), ClassFault>
-    requires { at + length (constant item.now) < 2 ^ 63 }
+    requires { at + length (constant item.now) < 2 ^ 64 }
     ensures { Answers result (constant_checked pool.now item.now at) }
 {
     match item {
@@ -200,7 +201,7 @@ fn check_constant(pool: &[Const], item: &Const, at: u64) -> Result<(), ClassFaul
 
 /// How many bytes a constant has in the file.
 fn len_of(item: &Const) -> u64
-    requires { length (constant item.now) < 2 ^ 63 }
+    requires { length (constant item.now) < 2 ^ 64 }
     ensures { result ≡ length (constant item.now) }
 {
     match item {
@@ -212,9 +213,9 @@ fn len_of(item: &Const) -> u64
     }
 }
 
-/// Whether all indices of the pool, which stands from `start` on, name what they should.
-fn check_all(pool: &[Const], start: u64) -> Result<(), ClassFault>
-    requires { start + length (flat_map constant pool.now) < 2 ^ 63 }
+/// Whether all indices of the pool, which stands from `start` to `end`, name what they should.
+fn check_all(pool: &[Const], start: u64, end: u64) -> Result<(), ClassFault>
+    requires { start + length (flat_map constant pool.now) ≡ end }
     ensures { Answers result (all_checked pool.now pool.now start) }
 {
     let mut at = start;
@@ -224,6 +225,7 @@ fn check_all(pool: &[Const], start: u64) -> Result<(), ClassFault>
         at += len_of(first);
         left = others;
     }
+    prove_eq!(at, end);
     Ok(())
 }
 
@@ -235,6 +237,6 @@ pub fn pool(alloc: Global, from: &mut Cursor) -> Result<List<Const>, ClassFault>
     let count = u2(from)?;
     let start = from.position();
     let pool = places(alloc, count, from)?;
-    check_all(&pool, start)?;
+    check_all(&pool, start, from.position())?;
     Ok(List::from_vec(pool))
 }

@@ -14,7 +14,7 @@ returns-in_err-check_constant c =
 pub loop-left-preserved : goal.loop-left-preserved
 loop-left-preserved c = (
     checks_step c.args.pool.now c.loop-left.left.now c.first-item.result c.loop-left.at c.len_of-at.result (all_checked c.args.pool.now c.args.pool.now c.args.start) c.in-len1-up.len_at_least c.first-item.is c.len_of-at.ensures c.in_ok-check_constant.ensures c.loop-left.invariant.0,
-    sum_step c.loop-left.left.now c.first-item.result c.loop-left.at c.len_of-at.result (c.args.start + length (flat_map constant c.args.pool.now)) c.in-len1-up.len_at_least c.first-item.is c.len_of-at.ensures c.loop-left.invariant.1,
+    sum_step c.loop-left.left.now c.first-item.result c.loop-left.at c.len_of-at.result c.args.end c.in-len1-up.len_at_least c.first-item.is c.len_of-at.ensures c.loop-left.invariant.1,
   )
 
 pub returns : goal.returns
