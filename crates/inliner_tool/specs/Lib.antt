@@ -5,6 +5,7 @@ pub mod Classes
 pub mod Clauses
 pub mod CodeText
 pub mod Lines
+pub mod Linking
 pub mod Listing
 pub mod Machine
 pub mod Nearest
