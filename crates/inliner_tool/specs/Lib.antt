@@ -1,10 +1,13 @@
 pub mod Acceptance
 pub mod Automaton
 pub mod BuiltIn
+pub mod Certificate
 pub mod Classes
 pub mod Clauses
 pub mod CodeText
 pub mod Lines
+pub mod Forms
+pub mod Inputs
 pub mod Linking
 pub mod Listing
 pub mod Machine

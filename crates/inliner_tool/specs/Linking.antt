@@ -12,6 +12,7 @@ use Rattle.class_codec.specs.declared.tree.Member.{Member}
 use Rattle.class_codec.specs.declared.tree.ClassFile.{ClassFile}
 use Rattle.class_codec.specs.Pool.{utf8_at}
 use Rattle.class_codec.specs.Fits.{SpellsClass}
+use Rattle.class_codec.specs.Spelling.{spelling}
 use Rattle.inliner_tool.specs.declared.code.Insn.{Insn}
 use Rattle.inliner_tool.specs.declared.code.Insn.TheVariants.{Plain, Pool}
 use Rattle.inliner_tool.specs.declared.listing.ListedMethod.{ListedMethod}
@@ -31,6 +32,25 @@ object = codes "java/lang/Object"
 
 abbrev pub state_name : List ℕ
 state_name = codes "conspec/State"
+
+-- the class that holds the state of a policy without variables: public, below Object, with nothing in it
+abbrev pub state_file : ClassFile
+state_file = record {
+  minor = 0;
+  pool = constants.Second ∷ constants.Utf8 state_name ∷ constants.Class 1 ∷ constants.Utf8 object ∷ constants.Class 3
+    ∷ constants.Utf8 (codes "ConstantValue") ∷ constants.Utf8 (codes "I") ∷ constants.Utf8 (codes "Z") ∷ [];
+  flags = 33;
+  this_class = 2;
+  super_class = 4;
+  interfaces = [];
+  fields = [];
+  methods = [];
+  attrs = [];
+}
+
+-- its class file
+abbrev pub state_text : List ℕ
+state_text = spelling state_file
 
 -- ---- names in a constant pool
 

@@ -5,6 +5,7 @@ pub mod certificate;
 pub mod checker;
 pub mod code;
 pub mod fault;
+mod inputs;
 mod linking;
 pub mod listing;
 pub mod policy;

@@ -2,7 +2,7 @@
 
 ghost use Rattle.std.specs.Prelude.{◌≡◌, ◌↔◌, ◌≤◌, ◌<◌, ◌^◌, length, Some, None, Ok, IfOk, IsErrOf, IsTrue, MatchResult, option_map};
 ghost use Rattle.std.specs.Option.{option_copied};
-ghost use Rattle.inliner_tool.specs.Linking.{LinksTo, class_name_at, reference_at, target_of, targets_of, main_of, only_main, bare_code, is_main, is_own_name, has_form, names_it, static_target, search_from, main_method, names_at, is_built_constant, is_below_object, has_methods_alone};
+ghost use Rattle.inliner_tool.specs.Linking.{LinksTo, IsClassOf, class_name_at, reference_at, target_of, targets_of, main_of, only_main, bare_code, is_main, is_own_name, has_form, names_it, static_target, search_from, main_method, names_at, is_built_constant, is_below_object, has_methods_alone};
 ghost use Rattle.std.specs.List.{list_all};
 ghost use Rattle.class_codec.specs.Fits.{CanSpell};
 ghost use Rattle.inliner_tool.specs.Acceptance.{IsClass};
@@ -12,7 +12,7 @@ use crate::code::{Insn, read_code};
 use crate::fault::FormFault;
 use crate::listing::{Declared, Listing, class_name, find_class, nearest};
 use crate::program::{LinkedClass, Method, Target};
-use class_codec::{Attr, ClassFile, Code, Const, Member, utf8_at};
+use class_codec::{Attr, ClassFault, ClassFile, Code, Const, Member, decode, utf8_at};
 use mon_base::{Bytes, List, NoMemory};
 use std::alloc::Global;
 
@@ -275,4 +275,22 @@ fn main_method(alloc: Global, member: &Member, code: &Code, insns: List<Insn>, r
         insns,
         refs,
     })
+}
+
+/// What the bytes of a class file link to, where it is of the class `main` and of the first built form.
+pub fn read_class(alloc: Global, bytes: &[u8], listing: &Listing, main: &[u8]) -> Result<LinkedClass, FormFault>
+    requires short { length bytes.now ≤ 65536 }
+    requires methods { length listing.now.methods < 2 ^ 32 }
+    ensures found { IfOk result (λ class. IsClassOf bytes.now listing.now main.now class) }
+    ensures refused { IsErrOf result FormFault.NotBuilt → (class : LinkedClass) → IsClassOf bytes.now listing.now main.now class → ⊥ }
+    ensures only { (class : LinkedClass) → IsClassOf bytes.now listing.now main.now class
+        → MatchResult result (λ r. r ≡ class) (λ e. e ≡ FormFault.Memory) }
+    ensures sound { IfOk result IsClass }
+{
+    let file = match decode(alloc, bytes) {
+        Ok(file) => file,
+        Err(ClassFault::Memory) => return Err(FormFault::Memory),
+        Err(_) => return Err(FormFault::NotBuilt),
+    };
+    link_class(alloc, &file, listing, main)
 }
