@@ -81,9 +81,9 @@ pub Answers-after_size : (before now : Files) (name : List ℕ) (size limit : �
     → Answers before name limit result (Rose first third ⊎ IsErrOf result Memory)
 Answers-after_size before now name size limit result first second third last same le has within_limit ok within failed absent long =
     by_cases before name limit result (Rose first third ⊎ IsErrOf result Memory)
-      (subst (λ (f : Files). IfOk result (λ b. HasFile f name (λ bytes. b ≡ bytes))) same ok)
-      within
-      (λ is. inl (rose_later first second third le (failed is).rose))
-      (λ is. elim (absent is) [ inl caused ↦ inl (inl (rose_later first second third le caused.rose)) | inr lacks ↦ inr (subst (λ (f : Files). Lacks f name) same lacks) ])
-      (λ is. inr is)
-      (λ len is. let it = long len is in let is_one_more = it.0 in (omega arith, HasFile-no_longer before now name size limit len same has within_limit it.0 it.1))
+    (subst (λ (f : Files). IfOk result (λ b. HasFile f name (λ bytes. b ≡ bytes))) same ok)
+    within
+    (λ is. inl (rose_later first second third le (failed is).rose))
+    (λ is. elim (absent is) [ inl caused ↦ inl (inl (rose_later first second third le caused.rose)) | inr lacks ↦ inr (subst (λ (f : Files). Lacks f name) same lacks) ])
+    (λ is. inr is)
+    (λ len is. let it = long len is in let is_one_more = it.0 in (omega arith, HasFile-no_longer before now name size limit len same has within_limit it.0 it.1))

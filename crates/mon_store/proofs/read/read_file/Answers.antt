@@ -13,7 +13,7 @@ returns-clause-exact g c =
     let size = c.in_ok-size.ensures in
     let rest = c.read_to_end.ensures in
     Answers-after_size
-      (g.S.Store.files c.args.store.now) (g.S.Store.files c.size.new.self) c.args.name.now c.in_ok-size.size c.args.limit c.read_to_end.result
-      (g.S.Store.faults c.args.store.now) (g.S.Store.faults c.size.new.self) (g.S.Store.faults c.read_to_end.new.store) (g.S.Store.last c.read_to_end.new.store)
-      c.in_ok-size.ensures.files c.in_ok-size.ensures.faults c.in_ok-size.ensures.ok c.if-size-limit.false
-      rest.ok rest.within rest.failed rest.absent rest.too_long
+    (g.S.Store.files c.args.store.now) (g.S.Store.files c.size.new.self) c.args.name.now c.in_ok-size.size c.args.limit c.read_to_end.result
+    (g.S.Store.faults c.args.store.now) (g.S.Store.faults c.size.new.self) (g.S.Store.faults c.read_to_end.new.store) (g.S.Store.last c.read_to_end.new.store)
+    c.in_ok-size.ensures.files c.in_ok-size.ensures.faults c.in_ok-size.ensures.ok c.if-size-limit.false
+    rest.ok rest.within rest.failed rest.absent rest.too_long
