@@ -127,7 +127,7 @@ fn read_piece<S: Store>(
     ensures absent { IsErrOf result ReadFault.Absent →
         Caused (S.faults store.old) (S.faults store.new) (S.last store.new) name.now
         ⊎ Lacks (S.files store.old) name.now }
-    ensures short { (len : ℕ) → IsErrOf result (ReadFault.TooLong len) → ⊥ }
+    ensures never_too_long { (len : ℕ) → IsErrOf result (ReadFault.TooLong len) → ⊥ }
 {
     let mut buffer = [0u8; PIECE];
     let room = (limit - text.len() as u64).min(PIECE as u64 - 1) as usize + 1;
