@@ -1,5 +1,5 @@
 -- What was read so far is the front of the file, and no longer than one byte past the limit.
-use Rattle.std.proofs.Common.{◌≡◌, ◌≤◌, ◌+◌, ◌-◌, ℕ, length}
+use Rattle.std.proofs.Common.{◌≡◌, ◌≤◌, ◌+◌, ◌-◌, length}
 use Rattle.mon_store.specs.Read.{Begins}
 use Rattle.mon_store.proofs.read.read_to_end.Given as goal
 
