@@ -1,3 +1,4 @@
 mod Answering
 mod ListedFiles
 mod Pieces
+pub mod StoreLaws

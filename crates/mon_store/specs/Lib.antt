@@ -1,4 +1,5 @@
-pub mod Memory
+pub mod MemSink
+pub mod MemStore
 pub mod Read
 pub mod Sink
 pub mod Store

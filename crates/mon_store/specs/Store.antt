@@ -1,5 +1,5 @@
 -- What a store tells of its files, what a call does to them, and when a call has a fault to show for its failure.
-use Rattle.std.specs.Prelude.{◌≡◌, ◌⊎◌, ◌<◌, ◌≤◌, ◌+◌, ◌-◌, ◌^◌, ℕ, List, ◌++◌, length, take, drop, Option, Some, None, IfSome, IsSomeAnd, bytes_eq, if◌then◌else◌}
+use Rattle.std.specs.Prelude.{◌≡◌, ◌⊎◌, ◌<◌, ◌≤◌, ◌+◌, ◌-◌, ◌^◌, min, ℕ, List, ◌++◌, length, take, drop, Option, Some, None, IfSome, IsSomeAnd, bytes_eq, if◌then◌else◌}
 
 -- The files of a store: None where it does not tell them, else the bytes of each name, None where it has no such file.
 abbrev pub Files : Type 0
@@ -8,6 +8,15 @@ Files = Option (List ℕ → Option (List ℕ))
 -- A count of faults rose. At the top of the 64 bits that an adapter keeps it in, it counts as risen.
 abbrev pub Rose : ℕ → ℕ → Type 0
 Rose before now = (before < now) ⊎ (2 ^ 64 ≤ now + 1)
+
+-- One fault or call more, in 64 bits.
+abbrev pub one_more : ℕ → ℕ
+one_more n = min (n + 1) (2 ^ 64 - 1)
+
+-- What an adapter that tells no files is seen as: how many faults there were, and the name of the last call that had one.
+pub record Counts : Type 0 where
+  pub faults : ℕ
+  pub last : List ℕ
 
 -- A fault was counted in this call, and the last name counted is this call's.
 pub record Caused (before now : ℕ) (last name : List ℕ) : Type 0 where

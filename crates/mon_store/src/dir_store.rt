@@ -1,27 +1,37 @@
 //! Real files.
 
-ghost use Rattle.std.specs.Prelude.{◌≡◌, ◌≢◌, ◌≤◌, ◌⊎◌, length, None, IfOk, IsErrOf};
-ghost use Rattle.mon_store.specs.Store.{Caused};
+ghost use Rattle.std.specs.Prelude.{◌≡◌, ◌≢◌, ◌≤◌, length, [], None, IfOk};
+ghost use Rattle.mon_store.specs.Store.{one_more};
 
 use crate::store::{Store, StoreFault};
 use mon_base::Bytes;
 use std::fs::File;
 use std::io::{Error, ErrorKind, Read, Seek, SeekFrom};
+use std::marker::Model;
 use std::path::Path;
 use std::rt::Files;
 use std::{fs, io};
 
 /// Real files, named by their paths. It does not tell what they hold. A name that is no UTF-8 text fails as a fault.
+#[derive(Drop)]
 pub struct DirStore<'a, R: Files + AllocGlobal> {
     rt: &'a R,
     faults: u64,
     last: Bytes,
 }
 
+impl<'a, R: Files + AllocGlobal> Model for DirStore<'a, R> {
+    ghost use Rattle.mon_store.specs.Store.{Counts};
+
+    ghost Value = { Counts };
+
+    ghost view = { λ s. record { faults = s.faults; last = s.last } };
+}
+
 impl<'a, R: Files + AllocGlobal> DirStore<'a, R> {
     /// The files that this runtime reaches. It takes no memory.
     pub fn new(rt: &'a R) -> DirStore<'a, R>
-        ensures { result.faults ≡ 0 }
+        ensures { result ≡ record { faults = 0; last = [] } }
     {
         DirStore {
             rt,
@@ -32,9 +42,10 @@ impl<'a, R: Files + AllocGlobal> DirStore<'a, R> {
 
     /// Counts a fault of a call with this name. Without memory for the name nothing is counted.
     fn count(&mut self, name: &Bytes, error: Error) -> StoreFault
+        ensures memory { result ≡ StoreFault.Memory → self.new ≡ self.old }
+        ensures counted { result ≢ StoreFault.Memory →
+            self.new ≡ record { faults = one_more self.old.faults; last = name.now } }
         ensures faults { self.old.faults ≤ self.new.faults }
-        ensures caused { result ≢ StoreFault.Memory →
-            Caused self.old.faults self.new.faults self.new.last name.now }
     {
         let Ok(last) = name.copy(self.rt.alloc()) else {
             return StoreFault::Memory;

@@ -17,7 +17,7 @@ mod store;
 
 pub use dir_store::DirStore;
 pub use mem_sink::MemSink;
-pub use mem_store::MemStore;
+pub use mem_store::{MemStore, names_differ};
 pub use out_sink::OutSink;
 pub use read::{ReadFault, read_file};
 pub use sink::{Sink, SinkFault};

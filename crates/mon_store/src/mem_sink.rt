@@ -1,9 +1,7 @@
 //! A text in memory.
 
-ghost use Rattle.std.specs.Prelude.{◌≡◌, ◌≤◌, ◌++◌, [], OnOk, IsErrOf, Contains, Some};
-ghost use Rattle.mon_store.specs.Store.{Rose};
-ghost use Rattle.mon_store.specs.Sink.{Appends, AppendsFront};
-ghost use Rattle.mon_store.specs.Memory.{one_more};
+ghost use Rattle.std.specs.Prelude.{◌≡◌, ◌≤◌, [], true, false, OnOk, IsErrOf, Some};
+ghost use Rattle.mon_store.specs.MemSink.{is_failing, passed, failed};
 
 use crate::sink::{Sink, SinkFault};
 use mon_base::{Bytes, List};
@@ -19,7 +17,7 @@ pub struct MemSink {
 }
 
 impl Model for MemSink {
-    ghost use Rattle.mon_store.specs.Memory.{SinkState};
+    ghost use Rattle.mon_store.specs.MemSink.{SinkState};
 
     ghost Value = { SinkState };
 
@@ -54,7 +52,13 @@ impl Sink for MemSink {
     ghost faults = { λ s. s.faults };
 
     /// Appends the piece, or fails and takes nothing where the number of this call is one of those given.
-    fn put(&mut self, bytes: &[u8]) -> Result<(), SinkFault> {
+    fn put(&mut self, bytes: &[u8]) -> Result<(), SinkFault>
+        ensures ok { OnOk result ((is_failing self.old ≡ false) × (self.new ≡ passed self.old bytes.now)) }
+        ensures failed { IsErrOf result SinkFault.Failed →
+            (is_failing self.old ≡ true) × (self.new ≡ failed self.old) }
+        ensures memory { IsErrOf result SinkFault.Memory → self.new ≡ self.old }
+        ensures faults { self.old.faults ≤ self.new.faults }
+    {
         if self.fail.as_slice().contains(&self.calls) {
             self.calls = self.calls.saturating_add(1);
             self.faults = self.faults.saturating_add(1);

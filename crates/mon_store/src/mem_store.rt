@@ -1,10 +1,10 @@
 //! Files in memory.
 
-ghost use Rattle.std.specs.Prelude.{◌≡◌, ◌≤◌, ◌++◌, [], map, true, false, bytes_eq, length, Some, IfOk, OnOk, OnErr, IsErrOf};
-ghost use Rattle.std.specs.List.{IsDistinct, position_from};
+ghost use Rattle.std.specs.Prelude.{◌≡◌, ◌≤◌, ◌++◌, [], true, false, None, IsSomeAnd, bytes_eq, length, List, ℕ, Contains, Some, IfOk, OnOk, OnErr, IsErrOf};
+ghost use Rattle.std.specs.List.{position_from};
 ghost use Rattle.std.specs.Option.{option_copied};
-ghost use Rattle.mon_store.specs.Store.{Copies};
-ghost use Rattle.mon_store.specs.Memory.{told, with_file, is_failing, passed, failed};
+ghost use Rattle.mon_store.specs.Store.{Copies, written};
+ghost use Rattle.mon_store.specs.MemStore.{told, with_file, with_written, names_differ, is_failing, passed, failed, Counted};
 
 use crate::store::{Store, StoreFault};
 use mon_base::{Bytes, List, NoMemory};
@@ -24,20 +24,26 @@ pub struct MemStore {
 }
 
 impl Model for MemStore {
-    ghost use Rattle.mon_store.specs.Memory.{StoreState};
+    ghost use Rattle.mon_store.specs.MemStore.{StoreState};
 
     ghost Value = { StoreState };
 
     ghost view = { λ s. record {
-        files = s.files; fail = s.fail; calls = s.calls; faults = s.faults; last = s.last } };
+      files = s.files;
+      fail = s.fail;
+      calls = s.calls;
+      faults = s.faults;
+      last = s.last;
+    } };
 }
 
 impl MemStore {
     /// A store with these files, each a name and its bytes, which fails at the calls of [`Store`] whose numbers, counted
     /// from 0, stand in `fail`. No name stands twice.
     pub fn new(files: List<(Bytes, Bytes)>, fail: List<u64>) -> MemStore
-        requires { IsDistinct bytes_eq (map (λ file. file.0) files) }
-        ensures { result ≡ record { files = files; fail = fail; calls = 0; faults = 0; last = [] } }
+        requires { names_differ files ≡ true }
+        ensures state { result ≡ record { files = files; fail = fail; calls = 0; faults = 0; last = [] } }
+        ensures told { (name bytes : List ℕ) → Contains files (name, bytes) → told result.files name ≡ Some bytes }
     {
         let fail = fail.into_vec();
         let alloc = *fail.allocator();
@@ -82,6 +88,20 @@ impl MemStore {
     {
         self.calls = self.calls.saturating_add(1);
     }
+}
+
+/// Whether no name stands twice in these files.
+pub fn names_differ(files: &[(Bytes, Bytes)]) -> bool
+    ensures { result ≡ names_differ files.now }
+{
+    let mut left = files;
+    while let [file, rest @ ..] = left {
+        if bytes_of(rest, &file.0).is_some() {
+            return false;
+        }
+        left = rest;
+    }
+    true
 }
 
 /// The bytes of the first file of this name.
@@ -156,21 +176,40 @@ impl Store for MemStore {
 
     ghost last = { λ s. s.last };
 
-    fn size(&mut self, name: &Bytes) -> Result<u64, StoreFault> {
+    fn size(&mut self, name: &Bytes) -> Result<u64, StoreFault>
+        ensures counted { Counted result self.old self.old self.new name.now }
+        ensures ok { IfOk result (λ n. IsSomeAnd (told self.old.files name.now) (λ bytes. n ≡ length bytes)) }
+        ensures absent { IsErrOf result StoreFault.Absent → told self.old.files name.now ≡ None }
+        ensures files { self.new.files ≡ self.old.files }
+        ensures faults { self.old.faults ≤ self.new.faults }
+    {
         self.begin(name)?;
         self.pass();
         let bytes = bytes_of(self.files.as_slice(), name).ok_or(StoreFault::Absent)?;
         Ok(bytes.len() as u64)
     }
 
-    fn read(&mut self, name: &Bytes, at: u64, into: &mut [u8]) -> Result<usize, StoreFault> {
+    fn read(&mut self, name: &Bytes, at: u64, into: &mut [u8]) -> Result<usize, StoreFault>
+        ensures counted { Counted result self.old self.old self.new name.now }
+        ensures fits { IfOk result (λ n. n ≤ length into.new) }
+        ensures ok { IfOk result (λ n. IsSomeAnd (told self.old.files name.now) (λ bytes. Copies bytes at n into.new)) }
+        ensures absent { IsErrOf result StoreFault.Absent → told self.old.files name.now ≡ None }
+        ensures files { self.new.files ≡ self.old.files }
+        ensures faults { self.old.faults ≤ self.new.faults }
+    {
         self.begin(name)?;
         self.pass();
         let bytes = bytes_of(self.files.as_slice(), name).ok_or(StoreFault::Absent)?;
         Ok(copy_part(bytes.as_slice(), at, into))
     }
 
-    fn write(&mut self, name: &Bytes, bytes: &[u8]) -> Result<(), StoreFault> {
+    fn write(&mut self, name: &Bytes, bytes: &[u8]) -> Result<(), StoreFault>
+        ensures counted { Counted result self.old (with_written self.old name.now bytes.now) self.new name.now }
+        ensures ok { OnOk result (Some (told self.new.files) ≡ written (Some (told self.old.files)) name.now bytes.now) }
+        ensures refused { OnErr result (self.new.files ≡ self.old.files) }
+        ensures present { IsErrOf result StoreFault.Absent → ⊥ }
+        ensures faults { self.old.faults ≤ self.new.faults }
+    {
         self.begin(name)?;
         put_listed(self.alloc, &mut self.files, name, bytes)?;
         self.pass();

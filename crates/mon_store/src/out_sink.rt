@@ -3,17 +3,27 @@
 ghost use Rattle.std.specs.Prelude.{◌≡◌, None};
 
 use crate::sink::{Sink, SinkFault};
+use std::marker::Model;
 
-/// Standard output. It does not tell what was written.
+/// Standard output. It does not tell what was written. A contract sees how many faults there were.
+#[derive(Drop)]
 pub struct OutSink<'a, R: Print> {
     rt: &'a R,
     faults: u64,
 }
 
+impl<'a, R: Print> Model for OutSink<'a, R> {
+    ghost use Rattle.std.specs.Prelude.{ℕ};
+
+    ghost Value = { ℕ };
+
+    ghost view = { λ s. s.faults };
+}
+
 impl<'a, R: Print> OutSink<'a, R> {
     /// The standard output of this runtime.
     pub fn new(rt: &'a R) -> OutSink<'a, R>
-        ensures { result.faults ≡ 0 }
+        ensures { result ≡ 0 }
     {
         OutSink { rt, faults: 0 }
     }
@@ -22,7 +32,7 @@ impl<'a, R: Print> OutSink<'a, R> {
 impl<'a, R: Print> Sink for OutSink<'a, R> {
     ghost text = { λ _. None };
 
-    ghost faults = { λ s. s.faults };
+    ghost faults = { λ faults. faults };
 
     fn put(&mut self, bytes: &[u8]) -> Result<(), SinkFault> {
         match self.rt.write_all(bytes) {

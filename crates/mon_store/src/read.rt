@@ -48,7 +48,12 @@ const PIECE: usize = 4096;
 
 /// Reads the named file whole: first its size, then pieces of at most 4,096 bytes up to its end or one byte past the
 /// limit.
-pub fn read_file<S: Store>(alloc: Global, store: &mut S, name: &Bytes, limit: u64) -> Result<Bytes, ReadFault>
+pub fn read_file<S: Store>(
+    alloc: Global,
+    store: &mut S,
+    name: &Bytes,
+    limit: u64,
+) -> Result<Bytes, ReadFault>
     ensures ok { IfOk result (λ b. HasFile (S.files store.old) name.now (λ bytes. b ≡ bytes)) }
     ensures within { IfOk result (λ b. length b ≤ limit) }
     ensures files { S.files store.new ≡ S.files store.old }
@@ -57,7 +62,7 @@ pub fn read_file<S: Store>(alloc: Global, store: &mut S, name: &Bytes, limit: u6
         Caused (S.faults store.old) (S.faults store.new) (S.last store.new) name.now }
     ensures absent { IsErrOf result ReadFault.Absent →
         Caused (S.faults store.old) (S.faults store.new) (S.last store.new) name.now
-            ⊎ Lacks (S.files store.old) name.now }
+        ⊎ Lacks (S.files store.old) name.now }
     ensures too_long { (len : ℕ) → IsErrOf result (ReadFault.TooLong len) →
         (limit < len) × HasFile (S.files store.old) name.now (λ bytes. len ≡ length bytes) }
     // A store that tells its files gives the one answer for this file, faults and want of memory aside.
@@ -72,7 +77,12 @@ pub fn read_file<S: Store>(alloc: Global, store: &mut S, name: &Bytes, limit: u6
 }
 
 /// Reads pieces up to the end of the file or one byte past the limit.
-fn read_to_end<S: Store>(alloc: Global, store: &mut S, name: &Bytes, limit: u64) -> Result<Bytes, ReadFault>
+fn read_to_end<S: Store>(
+    alloc: Global,
+    store: &mut S,
+    name: &Bytes,
+    limit: u64,
+) -> Result<Bytes, ReadFault>
     ensures ok { IfOk result (λ b. HasFile (S.files store.old) name.now (λ bytes. b ≡ bytes)) }
     ensures within { IfOk result (λ b. length b ≤ limit) }
     ensures files { S.files store.new ≡ S.files store.old }
@@ -81,7 +91,7 @@ fn read_to_end<S: Store>(alloc: Global, store: &mut S, name: &Bytes, limit: u64)
         Caused (S.faults store.old) (S.faults store.new) (S.last store.new) name.now }
     ensures absent { IsErrOf result ReadFault.Absent →
         Caused (S.faults store.old) (S.faults store.new) (S.last store.new) name.now
-            ⊎ Lacks (S.files store.old) name.now }
+        ⊎ Lacks (S.files store.old) name.now }
     ensures too_long { (len : ℕ) → IsErrOf result (ReadFault.TooLong len) →
         (len ≡ limit + 1) × OfFile (S.files store.old) name.now (λ bytes. len ≤ length bytes) }
 {
@@ -97,7 +107,12 @@ fn read_to_end<S: Store>(alloc: Global, store: &mut S, name: &Bytes, limit: u64)
 }
 
 /// Reads one piece behind the bytes that were read, up to one byte past the limit, and gives its length.
-fn read_piece<S: Store>(store: &mut S, name: &Bytes, limit: u64, text: &mut Bytes) -> Result<usize, ReadFault>
+fn read_piece<S: Store>(
+    store: &mut S,
+    name: &Bytes,
+    limit: u64,
+    text: &mut Bytes,
+) -> Result<usize, ReadFault>
     requires { length text.old ≤ limit }
     ensures grows { IfOk result (λ n. length text.new ≡ length text.old + n) }
     ensures within { length text.new ≤ limit + 1 }
@@ -111,8 +126,8 @@ fn read_piece<S: Store>(store: &mut S, name: &Bytes, limit: u64, text: &mut Byte
         Caused (S.faults store.old) (S.faults store.new) (S.last store.new) name.now }
     ensures absent { IsErrOf result ReadFault.Absent →
         Caused (S.faults store.old) (S.faults store.new) (S.last store.new) name.now
-            ⊎ Lacks (S.files store.old) name.now }
-    ensures short { (len : ℕ) → IsErrOf result (ReadFault.TooLong len) → ⊥ }
+        ⊎ Lacks (S.files store.old) name.now }
+    ensures never_too_long { (len : ℕ) → IsErrOf result (ReadFault.TooLong len) → ⊥ }
 {
     let mut buffer = [0u8; PIECE];
     let room = (limit - text.len() as u64).min(PIECE as u64 - 1) as usize + 1;

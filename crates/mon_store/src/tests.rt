@@ -1,1 +1,154 @@
-//! One use of each public call, and a failing call at each number.
+//! One use of each public call, and a store that fails at each of its calls in turn.
+
+use crate::{
+    DirStore, MemSink, MemStore, OutSink, ReadFault, Sink, SinkFault, Store, StoreFault,
+    names_differ, read_file,
+};
+use mon_base::{Bytes, List};
+use std::alloc::Global;
+use std::test::Fail;
+
+/// Each file's bytes behind its name.
+const FILES: [(&[u8], &[u8]); 2] = [(b"a", b"abc"), (b"long/name", b"0123456789")];
+
+fn files_of(alloc: Global, files: &[(&[u8], &[u8])]) -> Result<List<(Bytes, Bytes)>, Fail> {
+    let mut list = List::new(alloc);
+    for (name, bytes) in files {
+        list.push((
+            Bytes::from_slice(alloc, name)?,
+            Bytes::from_slice(alloc, bytes)?,
+        ))?;
+    }
+    Ok(list)
+}
+
+fn numbers(alloc: Global, fail: &[u64]) -> Result<List<u64>, Fail> {
+    Ok(List::from_vec(fail.to_vec(alloc)?))
+}
+
+/// The script that is run below: what each call answers where none fails.
+const ANSWERS: [Result<u64, StoreFault>; 6] = [
+    Ok(3),
+    Ok(2),
+    Ok(0),
+    Ok(0),
+    Ok(5),
+    Err(StoreFault::Absent),
+];
+
+fn run(alloc: Global, store: &mut MemStore) -> Result<[Result<u64, StoreFault>; 6], Fail> {
+    let a = Bytes::from_slice(alloc, b"a")?;
+    let b = Bytes::from_slice(alloc, b"b")?;
+    let none = Bytes::from_slice(alloc, b"none")?;
+    let mut buffer = [0u8; 8];
+    Ok([
+        store.size(&a),
+        store.read(&a, 1, &mut buffer).map(|n| n as u64),
+        store.write(&a, b"in its place").map(|_| 0),
+        store.write(&b, b"a new").map(|_| 0),
+        store.size(&b),
+        store.size(&none),
+    ])
+}
+
+#[test]
+fn a_store_fails_at_each_call_in_turn(rt: HostRuntime) -> Result<(), Fail> {
+    let alloc = rt.alloc();
+    for failing in 0..7u64 {
+        let files = files_of(alloc, &FILES)?;
+        assert!(rt; names_differ(files.as_slice()));
+        let mut store = MemStore::new(files, numbers(alloc, &[failing])?);
+        let answers = run(alloc, &mut store)?;
+        for (number, answer) in answers.iter().enumerate() {
+            let wanted = if number as u64 == failing {
+                Err(StoreFault::Failed)
+            } else if number == 4 && failing == 3 {
+                Err(StoreFault::Absent)
+            } else {
+                ANSWERS[number]
+            };
+            assert_eq!(rt; *answer, wanted, "call {number} where {failing} fails");
+        }
+        let wanted: [(&[u8], &[u8]); 3] = [
+            (
+                b"a",
+                if failing == 2 {
+                    b"abc"
+                } else {
+                    b"in its place"
+                },
+            ),
+            FILES[1],
+            (b"b", b"a new"),
+        ];
+        let count = if failing == 3 { 2 } else { 3 };
+        let wanted = files_of(alloc, &wanted[..count])?;
+        assert!(rt; *store.files() == wanted, "files where {failing} fails");
+    }
+    Ok(())
+}
+
+#[test]
+fn a_file_is_read_up_to_its_limit(rt: HostRuntime) -> Result<(), Fail> {
+    let alloc = rt.alloc();
+    let long = [7u8; 9000];
+    let table: [(&[u8], u64, &[u64], Result<usize, ReadFault>); 8] = [
+        (b"a", 3, &[], Ok(3)),
+        (b"a", 2, &[], Err(ReadFault::TooLong { len: 3 })),
+        (b"none", 9, &[], Err(ReadFault::Absent)),
+        (b"long", 9000, &[], Ok(9000)),
+        (b"long", 8999, &[], Err(ReadFault::TooLong { len: 9000 })),
+        (b"long", 9000, &[0], Err(ReadFault::Failed)),
+        (b"long", 9000, &[2], Err(ReadFault::Failed)),
+        (b"long", 9000, &[5], Ok(9000)),
+    ];
+    for (name, limit, fail, wanted) in table {
+        let files = files_of(alloc, &[(b"a", b"abc"), (b"long", &long)])?;
+        assert!(rt; names_differ(files.as_slice()));
+        let mut store = MemStore::new(files, numbers(alloc, fail)?);
+        let name = Bytes::from_slice(alloc, name)?;
+        let answer = read_file(alloc, &mut store, &name, limit).map(|bytes| bytes.len());
+        assert_eq!(rt; answer, wanted, "{name:?} with the limit {limit}");
+    }
+    Ok(())
+}
+
+#[test]
+fn a_sink_takes_what_it_does_not_fail_at(rt: HostRuntime) -> Result<(), Fail> {
+    let alloc = rt.alloc();
+    let mut sink = MemSink::new(numbers(alloc, &[1])?);
+    assert_eq!(rt; sink.put(b"one "), Ok(()));
+    assert_eq!(rt; sink.put(b"two "), Err(SinkFault::Failed));
+    assert_eq!(rt; sink.put(b"three"), Ok(()));
+    assert_eq!(rt; sink.text().as_slice(), b"one three".as_slice());
+    Ok(())
+}
+
+#[test]
+fn real_files_are_written_and_read_back(rt: HostRuntime) -> Result<(), Fail> {
+    let alloc = rt.alloc();
+    let mut store = DirStore::new(&rt);
+    let name = Bytes::from_slice(alloc, b"out/deep/er/file")?;
+    let folder = Bytes::from_slice(alloc, b"out/deep")?;
+    let none = Bytes::from_slice(alloc, b"out/none")?;
+    let no_text = Bytes::from_slice(alloc, &[0xff])?;
+    assert_eq!(rt; store.write(&name, &[5u8; 5000]), Ok(()));
+    assert_eq!(rt; store.write(&name, b"written anew"), Ok(()));
+    assert_eq!(rt; store.size(&name), Ok(12));
+    let bytes = read_file(alloc, &mut store, &name, 12).map_err(|_| "a fault")?;
+    assert_eq!(rt; bytes.as_slice(), b"written anew".as_slice());
+    assert_eq!(rt;
+        read_file(alloc, &mut store, &name, 11).err(),
+        Some(ReadFault::TooLong { len: 12 })
+    );
+    assert_eq!(rt; store.size(&none), Err(StoreFault::Absent));
+    assert_eq!(rt; store.write(&folder, b"no file"), Err(StoreFault::Failed));
+    assert_eq!(rt; store.size(&no_text), Err(StoreFault::Failed));
+    Ok(())
+}
+
+#[test]
+fn standard_output_takes_a_text(rt: HostRuntime) {
+    let mut sink = OutSink::new(&rt);
+    assert_eq!(rt; sink.put(b"a line\n"), Ok(()));
+}

@@ -1,5 +1,5 @@
 use Rattle.std.proofs.Common.{◌≡◌, length}
-use Rattle.mon_store.specs.Memory.{told}
+use Rattle.mon_store.specs.MemStore.{told}
 use Rattle.mon_store.proofs.mem_store.bytes_of.Given as goal
 
 abbrev pub invariant-loop-left : goal.invariant-loop-left
