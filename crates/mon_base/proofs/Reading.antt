@@ -23,7 +23,7 @@
 -- Other lines: `items` (a counted list), `guard` (a test of what is known), `choose` and `refuse` (by a tag that is
 -- known), `wrapped` (one form of an enum), `said` (the last part, called at the end). `known` grows by one fact
 -- `field e ≡ value` on the right with each field.
-use Rattle.std.proofs.Common.{◌≡◌, ℕ, zero, suc, ◌+◌, ◌*◌, ◌%◌, ◌^◌, ◌<◌, ◌≤◌, Bool, true, false, cond, ltb, eqb, eq-eqb, List, [], ◌∷◌, ◌++◌, length, get_or, take, drop, Option, Some, None, Result, Ok, Err, refl, sym, ap, subst, ◌∙◌, append_assoc, arith, inl, inr}
+use Rattle.std.proofs.Common.{◌≡◌, ℕ, zero, suc, ◌+◌, ◌-◌, ◌*◌, ◌%◌, ◌^◌, ◌<◌, ◌≤◌, Bool, true, false, cond, ltb, eqb, eq-eqb, List, [], ◌∷◌, ◌++◌, length, get_or, take, drop, Option, Some, None, Result, Ok, Err, refl, sym, ap, subst, ◌∙◌, append_assoc, arith, inl, inr}
 use Rattle.std.specs.Prelude.{◌==◌, ok_or, option_map}
 use Rattle.std.specs.List.{flat_map, AllByRecursion}
 use Rattle.std.specs.Int.{w16, w32, w64}
@@ -373,3 +373,37 @@ whole_again {reader = reader} {spell = spell} is fault a fits =
     let start : Place = record { at = 0; rest = spell a } in
     let t = is.again start a [] fits tt (sym (append-nil (spell a))) in
     rw t refl
+
+-- ---- a loop that reads counted items
+
+-- what is read, where the items of front were read before
+abbrev pub with_front : {X E : Type 0} → List X → Result (List X × Place) E → Result (List X × Place) E
+with_front front read = read >>= λ x. Ok (front ++ x.0, x.1)
+
+regroup : {X E : Type 0} (front : List X) (x : X) (read : Result (List X × Place) E) → with_front front (read >>= λ y. Ok (x ∷ y.0, y.1)) ≡ with_front (front ++ x ∷ []) read
+regroup {X = X} {E = E} front x (Ok y) = ap (λ (xs : List X). answer E (xs, y.1)) (sym (append_assoc front (x ∷ []) y.0))
+regroup front x (Err e) = refl
+
+pub goes_on : {X E : Type 0} (item : Place → Result (X × Place) E) (front : List X) (count i : ℕ) (place : Place) (x : X) (next : Place) (total : Result (List X × Place) E)
+    → i < count → item place ≡ Ok (x, next) → with_front front (counted item (count - i) place) ≡ total → with_front (front ++ x ∷ []) (counted item (count - (i + 1)) next) ≡ total
+unfolding counted
+goes_on item front count i place x next total lt h so_far =
+    let k : count - i ≡ suc (count - (i + 1)) = omega arith in
+    let step : with_front front (counted item (count - i) place) ≡ with_front (front ++ x ∷ []) (counted item (count - (i + 1)) next) = rw (k, h) (regroup front x (counted item (count - (i + 1)) next)) in
+    sym step ∙ so_far
+
+pub stops : {X E : Type 0} (item : Place → Result (X × Place) E) (front : List X) (count i : ℕ) (place : Place) (fault : E) (total : Result (List X × Place) E)
+    → i < count → item place ≡ Err fault → with_front front (counted item (count - i) place) ≡ total → total ≡ Err fault
+unfolding counted
+stops item front count i place fault total lt h so_far =
+    let k : count - i ≡ suc (count - (i + 1)) = omega arith in
+    let step : with_front front (counted item (count - i) place) ≡ Err fault = rw (k, h) refl in
+    sym so_far ∙ step
+
+pub is_done : {X E : Type 0} (item : Place → Result (X × Place) E) (front : List X) (count i : ℕ) (place : Place) (total : Result (List X × Place) E)
+    → count ≤ i → with_front front (counted item (count - i) place) ≡ total → total ≡ Ok (front, place)
+unfolding counted
+is_done {X = X} {E = E} item front count i place total le so_far =
+    let k : count - i ≡ 0 = omega arith in
+    let step : with_front front (counted item (count - i) place) ≡ Ok (front, place) = rw k (ap (λ (xs : List X). answer E (xs, place)) (append-nil front)) in
+    sym so_far ∙ step
