@@ -20,7 +20,7 @@
 --         done (record { flags = flags; name = name }) ((tt, refl), refl) (λ e k. rw (← k.0.1, ← k.1) refl)))
 --         (λ e k. simp (append_assoc, append-nil) refl)) to_fits from_fits
 --
--- Other lines: `items` (a counted list), `guard` (a test of what is known), `choose` and `refuse` (by a tag that is
+-- Other lines: `list_is` and `text_is` (with their length before them), `items` (a counted list), `guard` (a test of what is known), `choose` and `refuse` (by a tag that is
 -- known), `wrapped` (one form of an enum), `said` (the last part, called at the end). `known` grows by one fact
 -- `field e ≡ value` on the right with each field.
 use Rattle.std.proofs.Common.{◌≡◌, ℕ, zero, suc, ◌+◌, ◌-◌, ◌*◌, ◌%◌, ◌^◌, ◌<◌, ◌≤◌, Bool, true, false, cond, ltb, eqb, eq-eqb, List, [], ◌∷◌, ◌++◌, length, get_or, take, drop, Option, Some, None, Result, Ok, Err, refl, sym, ap, subst, ◌∙◌, append_assoc, arith, inl, inr}
@@ -353,6 +353,24 @@ number_is {E = E} {n = n} size fault = record {
       let is : big_number n (big_bytes n x) ≡ x = ap (big_number n) (sym (append-nil (big_bytes n x))) ∙ big_number-reads_back n x [] fits in
       rw (read, is) refl;
 }
+
+-- ---- lists and texts with their length before them
+
+-- items, after a number of n bytes that says how many
+pub list_is : {X E : Type 0} {item : Place → Result (X × Place) E} {spell : X → List ℕ} {Fits : X → Type 0} {n : ℕ}
+    → IsReader item spell Fits → IsSize n → (fault : Place → E)
+    → IsReader (λ place. ok_or (number_at n place) (fault place) >>= λ count. counted item count.0 count.1) (λ xs. big_bytes n (length xs) ++ flat_map spell xs) (λ xs. (length xs < 256 ^ n) × AllByRecursion Fits xs)
+list_is is size fault =
+    then _ (number_is size fault) length (λ xs k. tt) λ count k.
+    said (items is count) (λ xs fits h. (fits, (tt, h))) (λ xs fits h. (fits, h.1))
+
+-- bytes, after a number of n bytes that says how many
+pub text_is : {E : Type 0} {n : ℕ} → IsSize n → (fault : Place → E) (fault_in : Place → E)
+    → IsReader (λ place. ok_or (number_at n place) (fault place) >>= λ count. ok_or (bytes_at count.0 count.1) (fault_in count.1)) (λ bytes. big_bytes n (length bytes) ++ bytes) (λ bytes. length bytes < 256 ^ n)
+text_is size fault fault_in = fitting (
+    then _ (number_is size fault) length (λ xs k. tt) λ count k.
+    said (bytes_is count fault_in) (λ xs fits h. (fits, (tt, h))) (λ xs fits h. (fits, h.1)))
+    (λ bytes k fits. fits.0) (λ bytes k fits. (fits, tt))
 
 -- ---- all the bytes
 
