@@ -4,13 +4,12 @@ ghost use Rattle.std.specs.Prelude.{◌≡◌, ◌↔◌, IfOk, IsTrue};
 ghost use Rattle.inliner_tool.specs.Certificate.{StandOnce};
 ghost use Rattle.inliner_tool.specs.CertificateReading.{counted_with};
 
-use crate::fault::FormFault;
-use mon_base::Bytes;
+use mon_base::{Bytes, NoMemory};
 use std::alloc::Global;
 use std::collections::BTreeSet;
 
 /// Whether no name stands twice.
-pub fn stand_once(alloc: Global, names: &[Bytes]) -> Result<bool, FormFault>
+pub fn stand_once(alloc: Global, names: &[Bytes]) -> Result<bool, NoMemory>
     ensures { IfOk result (λ once. IsTrue once ↔ StandOnce names.now) }
 {
     let mut seen = BTreeSet::new(alloc);
