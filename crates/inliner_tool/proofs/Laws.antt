@@ -195,7 +195,7 @@ module _ (names : List Name) (once : StandOnce names) (small : length names < 2 
       then_same _ (number_is one (λ place. tt)) 1 (omega arith) (
       then _ types_is (λ frame. frame.locals) (λ frame k. tt) λ locals u.
       guard (λ frame. ends_with_top frame.locals ≡ false) (not (ends_with_top locals)) (λ place. tt)
-        (λ frame k h. ap ends_with_top k.1 ∙ not_true _ h) (λ frame k h. ap not (ap ends_with_top (sym k.1) ∙ h)) (
+      (λ frame k h. ap ends_with_top k.1 ∙ not_true _ h) (λ frame k h. ap not (ap ends_with_top (sym k.1) ∙ h)) (
       then _ types_is (λ frame. frame.stack) (λ frame k. tt) λ stack u.
       then_same _ (number_is one (λ place. tt)) 0 (omega arith) (
       done (record { locals = locals; stack = stack }) ((tt, refl), refl) (λ frame k. rw (← k.0.1, ← k.1) refl)))))

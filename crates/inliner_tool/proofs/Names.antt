@@ -17,9 +17,9 @@ place-le (first ∷ names) zero lt = rw ((bytes_eq-Decides first first).1 refl) 
 place-le (first ∷ names) (suc i) lt =
     let h = place-le names i (omega arith) in
     by (bytes_eq first (get_or names i [])) h where
-  by : (b : Bool) → place_of names (get_or names i []) ≤ i → cond b 0 (suc (place_of names (get_or names i []))) ≤ suc i
-  by true h = omega arith
-  by false h = omega arith
+      by : (b : Bool) → place_of names (get_or names i []) ≤ i → cond b 0 (suc (place_of names (get_or names i []))) ≤ suc i
+      by true h = omega arith
+      by false h = omega arith
 
 -- what is found is the name
 pub get_or-place : (names : List Name) (name : Name) → place_of names name < length names → get_or names (place_of names name) [] ≡ name

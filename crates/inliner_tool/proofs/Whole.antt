@@ -3,11 +3,14 @@ use Rattle.std.proofs.Common.{◌≡◌, ℕ, zero, suc, ◌+◌, ◌^◌, ◌<�
 use Rattle.std.specs.List.{flat_map, fold, AllByRecursion}
 use Rattle.std.proofs.lemmas.List.{append-nil, take_all, length-take}
 use Rattle.mon_base.specs.Reading.{Place, IsBytes}
-use Rattle.mon_base.proofs.Reading.{after}
+use Rattle.mon_base.proofs.Reading.{after, ok_is}
 use Rattle.inliner_tool.specs.declared.certificate.FrameType.{FrameType}
 use Rattle.inliner_tool.specs.declared.certificate.Certificate.{Certificate}
 use Rattle.inliner_tool.specs.Certificate.{Name, StandOnce, with_name, class_names, names_of, head, spell_names, spell_classes, spell_certificate, SpellsCertificate}
-use Rattle.inliner_tool.specs.CertificateReading.{names_at, classes_at, used_after}
+use Rattle.std.specs.Prelude.{IsErrOf}
+use Rattle.inliner_tool.specs.declared.fault.FormFault.{FormFault}
+use Rattle.inliner_tool.specs.declared.fault.FormFault.TheVariants.{NotBuilt, Memory}
+use Rattle.inliner_tool.specs.CertificateReading.{Reads, names_at, classes_at, used_after}
 use Rattle.inliner_tool.proofs.Laws.{StandIn, names_is, classes_is}
 use Rattle.inliner_tool.proofs.Order.{once-all, all-in, in_order, out_of_order}
 
@@ -67,3 +70,53 @@ told bytes certificate h =
       ended = refl;
       used = all_used names used (used_after names (Some 0) used) stand refl refl;
     }
+
+-- ---- what each way out of the reader says of a certificate that the bytes spell
+
+abbrev refused : (X : Type 0) → FormFault → Result X FormFault
+refused X fault = Err fault
+
+pub not_refused : (fault : FormFault) → fault ≡ Memory → IsErrOf (refused Certificate fault) NotBuilt → ⊥
+not_refused fault m is = cc
+
+err_ok : {A E : Type 0} {x : A} {fault : E} → Err fault ≡ Ok x → ⊥
+err_ok e = cc
+
+module _ (bytes : List ℕ) (c : Certificate) (spelled : SpellsCertificate bytes c) where
+  pub names_fault : (fault : FormFault) (next : Place) → Reads (refused (List Name) fault) names_at (start bytes) next → fault ≡ Memory
+  names_fault NotBuilt next e =
+      let t = told bytes c spelled in
+      absurd (err_ok (sym e ∙ t.names))
+  names_fault Memory next e = refl
+
+  module _ (names : List Name) (middle : Place) (names_read : names_at (start bytes) ≡ Ok (names, middle)) where
+    same_table : (names_of c ≡ names) × ((told bytes c spelled).middle ≡ middle)
+    same_table =
+        let t = told bytes c spelled in
+        let is = ok_is (Unit {0}) (names_of c, t.middle) (names, middle) (sym t.names ∙ names_read) in
+        (ap (λ (x : List Name × Place). x.0) is, ap (λ (x : List Name × Place). x.1) is)
+
+    pub twice : (StandOnce names → ⊥) → ⊥
+    twice not_once = not_once (subst StandOnce same_table.0 (told bytes c spelled).once)
+
+    classes_told : classes_at names middle ≡ Ok (c.frames, (told bytes c spelled).end)
+    classes_told =
+        let t = told bytes c spelled in
+        subst (λ (ns : List Name). classes_at ns middle ≡ Ok (c.frames, t.end)) same_table.0 (subst (λ (p : Place). classes_at (names_of c) p ≡ Ok (c.frames, t.end)) same_table.1 t.classes)
+
+    pub classes_fault : (fault : FormFault) (next : Place) → Reads (refused (List (List (List FrameType))) fault) (classes_at names) middle next → fault ≡ Memory
+    classes_fault NotBuilt next e = absurd (err_ok (sym e ∙ classes_told))
+    classes_fault Memory next e = refl
+
+    module _ (frames : List (List (List FrameType))) (end : Place) (classes_read : classes_at names middle ≡ Ok (frames, end)) where
+      pub same_frames : (c.frames ≡ frames) × ((told bytes c spelled).end ≡ end)
+      same_frames =
+          let t = told bytes c spelled in
+          let is = ok_is (Unit {0}) (c.frames, t.end) (frames, end) (sym classes_told ∙ classes_read) in
+          (ap (λ (x : List (List (List FrameType)) × Place). x.0) is, ap (λ (x : List (List (List FrameType)) × Place). x.1) is)
+
+      pub all_read : (end.rest ≡ []) × (used_after names (Some 0) (flat_map class_names frames) ≡ Some (length names))
+      all_read =
+          let t = told bytes c spelled in
+          let used = subst (λ (ns : List Name). used_after ns (Some 0) (flat_map class_names c.frames) ≡ Some (length ns)) same_table.0 t.used in
+          (subst (λ (p : Place). p.rest ≡ []) same_frames.1 t.ended, subst (λ (fs : List (List (List FrameType))). used_after names (Some 0) (flat_map class_names fs) ≡ Some (length names)) same_frames.0 used)

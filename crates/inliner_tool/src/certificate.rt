@@ -53,9 +53,11 @@ pub fn read_certificate(alloc: Global, bytes: &[u8]) -> Result<Certificate, Form
     }
     let mut used = Some(0);
     let frames = reading::read_classes(alloc, names.as_slice(), &mut used, &mut from)?;
-    if used == Some(names.len()) && from.is_at_end() {
-        Ok(Certificate { frames })
-    } else {
-        Err(FormFault::NotBuilt)
+    if !names::are_all_used(used, names.len()) {
+        return Err(FormFault::NotBuilt);
     }
+    if !from.is_at_end() {
+        return Err(FormFault::NotBuilt);
+    }
+    Ok(Certificate { frames })
 }

@@ -3,6 +3,5 @@
 
 pub mod certificate;
 pub mod fault;
-
 #[cfg(test)]
 mod tests;

@@ -20,7 +20,7 @@
 --         done (record { flags = flags; name = name }) ((tt, refl), refl) (λ e k. rw (← k.0.1, ← k.1) refl)))
 --         (λ e k. simp (append_assoc, append-nil) refl)) to_fits from_fits
 --
--- Other lines: `list_is` and `text_is` (with their length before them), `items` (a counted list), `guard` (a test of what is known), `choose` and `refuse` (by a tag that is
+-- Other lines: `list_is` and `text_is` (with their length before them), `items` (a counted list), `guard` and `guarded` (a test of what is known), `choose` and `refuse` (by a tag that is
 -- known), `wrapped` (one form of an enum), `said` (the last part, called at the end). `known` grows by one fact
 -- `field e ≡ value` on the right with each field.
 use Rattle.std.proofs.Common.{◌≡◌, ℕ, zero, suc, ◌+◌, ◌-◌, ◌*◌, ◌%◌, ◌^◌, ◌<◌, ◌≤◌, Bool, true, false, cond, ltb, eqb, eq-eqb, List, [], ◌∷◌, ◌++◌, length, get_or, take, drop, Option, Some, None, Result, Ok, Err, refl, sym, ap, subst, ◌∙◌, append_assoc, arith, inl, inr}
@@ -159,19 +159,28 @@ spelled {spell = spell} {spell' = spell'} is same = record {
       g ∙ ap (λ (w : List ℕ). Ok (a, after place w rest)) (same a h);
 }
 
+-- a test of what is known, and then the others, whose law may use that it held
+pub guarded : {A E : Type 0} {others : Place → Result (A × Place) E} {spell : A → List ℕ} {Fits known : A → Type 0} (Holds : A → Type 0) (test : Bool) (fault : Place → E)
+    → ((a : A) → known a → test ≡ true → Holds a) → ((a : A) → known a → Holds a → test ≡ true)
+    → (test ≡ true → IsTail others spell Fits known)
+    → IsTail (λ place. need test (fault place) >>= λ _. others place) spell (λ a. Holds a × Fits a) known
+guarded {others = others} Holds test fault to from is = record {
+  takes = λ place a next fits e.
+      let b = need_ok test (fault place) (λ _. others place) (a, next) e in
+      let t = (is b.0).takes place a next fits b.1 in
+      (t.0, (to a t.2 b.0, t.1), t.2);
+  again = λ place a rest fits h e.
+      let holds = from a h fits.0 in
+      let t = (is holds).again place a rest fits.1 h e in
+      rw holds t;
+}
+
 -- a test of what is known, and then the others
 pub guard : {A E : Type 0} {others : Place → Result (A × Place) E} {spell : A → List ℕ} {Fits known : A → Type 0} (Holds : A → Type 0) (test : Bool) (fault : Place → E)
     → ((a : A) → known a → test ≡ true → Holds a) → ((a : A) → known a → Holds a → test ≡ true)
     → IsTail others spell Fits known
     → IsTail (λ place. need test (fault place) >>= λ _. others place) spell (λ a. Holds a × Fits a) known
-guard {others = others} Holds test fault to from is = record {
-  takes = λ place a next fits e.
-      let b = need_ok test (fault place) (λ _. others place) (a, next) e in
-      let t = is.takes place a next fits b.1 in
-      (t.0, (to a t.2 b.0, t.1), t.2);
-  again = λ place a rest fits h e.
-      rw (from a h fits.0) (is.again place a rest fits.1 h e);
-}
+guard Holds test fault to from is = guarded Holds test fault to from (λ holds. is)
 
 -- a reader of the answers of one form, from that of what the form holds
 pub wrapped : {A X E : Type 0} {reader : Place → Result (X × Place) E} {spell_x : X → List ℕ} {Fits_x known_x : X → Type 0} {spell : A → List ℕ} {Fits known : A → Type 0}

@@ -1,6 +1,6 @@
 //! The names of a certificate: each stands once in its table, in the order in which the types use them.
 
-ghost use Rattle.std.specs.Prelude.{◌≡◌, ◌↔◌, IfOk, IsTrue};
+ghost use Rattle.std.specs.Prelude.{◌≡◌, ◌↔◌, Some, IfOk, IsTrue};
 ghost use Rattle.inliner_tool.specs.Certificate.{StandOnce};
 ghost use Rattle.inliner_tool.specs.CertificateReading.{counted_with};
 
@@ -34,5 +34,15 @@ pub fn with_use(used: Option<usize>, index: u32) -> Option<usize>
         Some(index + 1)
     } else {
         None
+    }
+}
+
+/// Whether each of so many names was used, all in order.
+pub fn are_all_used(used: Option<usize>, names: usize) -> bool
+    ensures { IsTrue result ↔ (used ≡ Some names) }
+{
+    match used {
+        Some(count) => count == names,
+        None => false,
     }
 }

@@ -6,7 +6,18 @@ ghost use Rattle.mon_base.specs.Reading.{Place, counted};
 ghost use Rattle.inliner_tool.specs.Certificate.{StandOnce, type_names, frame_names, class_names};
 ghost use Rattle.inliner_tool.specs.Certificate as spec;
 ghost use Rattle.inliner_tool.specs.CertificateReading.{
-    Reads, number, name_at, names_at, type_at, reference_at, types_at, instruction_at, method_at, class_at, classes_at, used_after,
+  Reads,
+  number,
+  name_at,
+  names_at,
+  type_at,
+  reference_at,
+  types_at,
+  instruction_at,
+  method_at,
+  class_at,
+  classes_at,
+  used_after,
 };
 
 use crate::certificate::names::with_use;
@@ -57,7 +68,11 @@ fn read_name(alloc: Global, from: &mut Cursor) -> Result<Bytes, FormFault>
     Ok(Bytes::from_slice(alloc, name)?)
 }
 
-fn read_counted_names(alloc: Global, from: &mut Cursor, count: u32) -> Result<List<Bytes>, FormFault>
+fn read_counted_names(
+    alloc: Global,
+    from: &mut Cursor,
+    count: u32,
+) -> Result<List<Bytes>, FormFault>
     ensures { Reads result (counted name_at count) from.old from.new }
 {
     let mut names = List::new(alloc);
@@ -94,7 +109,12 @@ trait Item: Drop {
     ghost names_in: { Self → Items (Items ℕ) };
 
     /// The next item. `used` is how many of the names were used so far in their order.
-    fn read(alloc: Global, names: &[Bytes], used: &mut Option<usize>, from: &mut Cursor) -> Result<Self, FormFault>
+    fn read(
+        alloc: Global,
+        names: &[Bytes],
+        used: &mut Option<usize>,
+        from: &mut Cursor,
+    ) -> Result<Self, FormFault>
         requires { StandOnce names.now }
         ensures read { Reads result (item_at names.now) from.old from.new }
         ensures used { IfOk result (λ x. used.new ≡ used_after names.now used.old (names_in x)) };
@@ -119,7 +139,12 @@ fn read_counted<T: Item>(
 }
 
 #[tactic(auto, unfolding(crate::specs::CertificateReading::reference_at))]
-fn read_reference(alloc: Global, names: &[Bytes], used: &mut Option<usize>, from: &mut Cursor) -> Result<VType, FormFault>
+fn read_reference(
+    alloc: Global,
+    names: &[Bytes],
+    used: &mut Option<usize>,
+    from: &mut Cursor,
+) -> Result<VType, FormFault>
     requires { StandOnce names.now }
     ensures read { Reads result (reference_at names.now) from.old from.new }
     ensures used { IfOk result (λ t. used.new ≡ used_after names.now used.old (type_names t)) }
@@ -139,7 +164,12 @@ impl Item for VType {
     ghost names_in = { type_names };
 
     #[tactic(auto, unfolding(crate::specs::CertificateReading::type_at))]
-    fn read(alloc: Global, names: &[Bytes], used: &mut Option<usize>, from: &mut Cursor) -> Result<VType, FormFault> {
+    fn read(
+        alloc: Global,
+        names: &[Bytes],
+        used: &mut Option<usize>,
+        from: &mut Cursor,
+    ) -> Result<VType, FormFault> {
         match byte(from)? {
             0 => Ok(VType::Top),
             3 => read_reference(alloc, names, used, from),
@@ -149,7 +179,12 @@ impl Item for VType {
 }
 
 #[tactic(auto, unfolding(crate::specs::CertificateReading::types_at))]
-fn read_types(alloc: Global, names: &[Bytes], used: &mut Option<usize>, from: &mut Cursor) -> Result<List<VType>, FormFault>
+fn read_types(
+    alloc: Global,
+    names: &[Bytes],
+    used: &mut Option<usize>,
+    from: &mut Cursor,
+) -> Result<List<VType>, FormFault>
     requires { StandOnce names.now }
     ensures read { Reads result (types_at names.now) from.old from.new }
     ensures used { IfOk result (λ ts. used.new ≡ used_after names.now used.old (flat_map type_names ts)) }
@@ -170,7 +205,12 @@ impl Item for FrameType {
     ghost names_in = { frame_names };
 
     #[tactic(auto, unfolding(crate::specs::CertificateReading::instruction_at))]
-    fn read(alloc: Global, names: &[Bytes], used: &mut Option<usize>, from: &mut Cursor) -> Result<FrameType, FormFault> {
+    fn read(
+        alloc: Global,
+        names: &[Bytes],
+        used: &mut Option<usize>,
+        from: &mut Cursor,
+    ) -> Result<FrameType, FormFault> {
         if byte(from)? != REACHED {
             return Err(FormFault::NotBuilt);
         }
@@ -192,7 +232,12 @@ impl Item for List<FrameType> {
     ghost names_in = { flat_map frame_names };
 
     #[tactic(auto, unfolding(crate::specs::CertificateReading::method_at))]
-    fn read(alloc: Global, names: &[Bytes], used: &mut Option<usize>, from: &mut Cursor) -> Result<List<FrameType>, FormFault> {
+    fn read(
+        alloc: Global,
+        names: &[Bytes],
+        used: &mut Option<usize>,
+        from: &mut Cursor,
+    ) -> Result<List<FrameType>, FormFault> {
         let count = word(from)?;
         read_counted(alloc, names, used, from, count)
     }
