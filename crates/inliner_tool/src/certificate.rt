@@ -61,3 +61,6 @@ pub fn read_certificate(alloc: Global, bytes: &[u8]) -> Result<Certificate, Form
     }
     Ok(Certificate { frames })
 }
+
+#[cfg(test)]
+mod tests;

@@ -3,5 +3,3 @@
 
 pub mod certificate;
 pub mod fault;
-#[cfg(test)]
-mod tests;
