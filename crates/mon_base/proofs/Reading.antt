@@ -20,10 +20,10 @@
 --         done (record { flags = flags; name = name }) ((tt, refl), refl) (λ e k. rw (← k.0.1, ← k.1) refl)))
 --         (λ e k. simp (append_assoc, append-nil) refl)) to_fits from_fits
 --
--- Other lines: `items` (a counted list), `guard` (a test of what is known), `choose` and `refuse` (by a tag that is
+-- Other lines: `list_is` and `text_is` (with their length before them), `items` (a counted list), `guard` and `guarded` (a test of what is known), `choose` and `refuse` (by a tag that is
 -- known), `wrapped` (one form of an enum), `said` (the last part, called at the end). `known` grows by one fact
 -- `field e ≡ value` on the right with each field.
-use Rattle.std.proofs.Common.{◌≡◌, ℕ, zero, suc, ◌+◌, ◌*◌, ◌%◌, ◌^◌, ◌<◌, ◌≤◌, Bool, true, false, cond, ltb, eqb, eq-eqb, List, [], ◌∷◌, ◌++◌, length, get_or, take, drop, Option, Some, None, Result, Ok, Err, refl, sym, ap, subst, ◌∙◌, append_assoc, arith, inl, inr}
+use Rattle.std.proofs.Common.{◌≡◌, ℕ, zero, suc, ◌+◌, ◌-◌, ◌*◌, ◌%◌, ◌^◌, ◌<◌, ◌≤◌, Bool, true, false, cond, ltb, eqb, eq-eqb, List, [], ◌∷◌, ◌++◌, length, get_or, take, drop, Option, Some, None, Result, Ok, Err, refl, sym, ap, subst, ◌∙◌, append_assoc, arith, inl, inr}
 use Rattle.std.specs.Prelude.{◌==◌, ok_or, option_map}
 use Rattle.std.specs.List.{flat_map, AllByRecursion}
 use Rattle.std.specs.Int.{w16, w32, w64}
@@ -159,19 +159,28 @@ spelled {spell = spell} {spell' = spell'} is same = record {
       g ∙ ap (λ (w : List ℕ). Ok (a, after place w rest)) (same a h);
 }
 
+-- a test of what is known, and then the others, whose law may use that it held
+pub guarded : {A E : Type 0} {others : Place → Result (A × Place) E} {spell : A → List ℕ} {Fits known : A → Type 0} (Holds : A → Type 0) (test : Bool) (fault : Place → E)
+    → ((a : A) → known a → test ≡ true → Holds a) → ((a : A) → known a → Holds a → test ≡ true)
+    → (test ≡ true → IsTail others spell Fits known)
+    → IsTail (λ place. need test (fault place) >>= λ _. others place) spell (λ a. Holds a × Fits a) known
+guarded {others = others} Holds test fault to from is = record {
+  takes = λ place a next fits e.
+      let b = need_ok test (fault place) (λ _. others place) (a, next) e in
+      let t = (is b.0).takes place a next fits b.1 in
+      (t.0, (to a t.2 b.0, t.1), t.2);
+  again = λ place a rest fits h e.
+      let holds = from a h fits.0 in
+      let t = (is holds).again place a rest fits.1 h e in
+      rw holds t;
+}
+
 -- a test of what is known, and then the others
 pub guard : {A E : Type 0} {others : Place → Result (A × Place) E} {spell : A → List ℕ} {Fits known : A → Type 0} (Holds : A → Type 0) (test : Bool) (fault : Place → E)
     → ((a : A) → known a → test ≡ true → Holds a) → ((a : A) → known a → Holds a → test ≡ true)
     → IsTail others spell Fits known
     → IsTail (λ place. need test (fault place) >>= λ _. others place) spell (λ a. Holds a × Fits a) known
-guard {others = others} Holds test fault to from is = record {
-  takes = λ place a next fits e.
-      let b = need_ok test (fault place) (λ _. others place) (a, next) e in
-      let t = is.takes place a next fits b.1 in
-      (t.0, (to a t.2 b.0, t.1), t.2);
-  again = λ place a rest fits h e.
-      rw (from a h fits.0) (is.again place a rest fits.1 h e);
-}
+guard Holds test fault to from is = guarded Holds test fault to from (λ holds. is)
 
 -- a reader of the answers of one form, from that of what the form holds
 pub wrapped : {A X E : Type 0} {reader : Place → Result (X × Place) E} {spell_x : X → List ℕ} {Fits_x known_x : X → Type 0} {spell : A → List ℕ} {Fits known : A → Type 0}
@@ -354,6 +363,24 @@ number_is {E = E} {n = n} size fault = record {
       rw (read, is) refl;
 }
 
+-- ---- lists and texts with their length before them
+
+-- items, after a number of n bytes that says how many
+pub list_is : {X E : Type 0} {item : Place → Result (X × Place) E} {spell : X → List ℕ} {Fits : X → Type 0} {n : ℕ}
+    → IsReader item spell Fits → IsSize n → (fault : Place → E)
+    → IsReader (λ place. ok_or (number_at n place) (fault place) >>= λ count. counted item count.0 count.1) (λ xs. big_bytes n (length xs) ++ flat_map spell xs) (λ xs. (length xs < 256 ^ n) × AllByRecursion Fits xs)
+list_is is size fault =
+    then _ (number_is size fault) length (λ xs k. tt) λ count k.
+    said (items is count) (λ xs fits h. (fits, (tt, h))) (λ xs fits h. (fits, h.1))
+
+-- bytes, after a number of n bytes that says how many
+pub text_is : {E : Type 0} {n : ℕ} → IsSize n → (fault : Place → E) (fault_in : Place → E)
+    → IsReader (λ place. ok_or (number_at n place) (fault place) >>= λ count. ok_or (bytes_at count.0 count.1) (fault_in count.1)) (λ bytes. big_bytes n (length bytes) ++ bytes) (λ bytes. length bytes < 256 ^ n)
+text_is size fault fault_in = fitting (
+    then _ (number_is size fault) length (λ xs k. tt) λ count k.
+    said (bytes_is count fault_in) (λ xs fits h. (fits, (tt, h))) (λ xs fits h. (fits, h.1)))
+    (λ bytes k fits. fits.0) (λ bytes k fits. (fits, tt))
+
 -- ---- all the bytes
 
 pub whole_takes : {A E : Type 0} {reader : Place → Result (A × Place) E} {spell : A → List ℕ} {Fits : A → Type 0} → IsReader reader spell Fits
@@ -373,3 +400,37 @@ whole_again {reader = reader} {spell = spell} is fault a fits =
     let start : Place = record { at = 0; rest = spell a } in
     let t = is.again start a [] fits tt (sym (append-nil (spell a))) in
     rw t refl
+
+-- ---- a loop that reads counted items
+
+-- what is read, where the items of front were read before
+abbrev pub with_front : {X E : Type 0} → List X → Result (List X × Place) E → Result (List X × Place) E
+with_front front read = read >>= λ x. Ok (front ++ x.0, x.1)
+
+regroup : {X E : Type 0} (front : List X) (x : X) (read : Result (List X × Place) E) → with_front front (read >>= λ y. Ok (x ∷ y.0, y.1)) ≡ with_front (front ++ x ∷ []) read
+regroup {X = X} {E = E} front x (Ok y) = ap (λ (xs : List X). answer E (xs, y.1)) (sym (append_assoc front (x ∷ []) y.0))
+regroup front x (Err e) = refl
+
+pub goes_on : {X E : Type 0} (item : Place → Result (X × Place) E) (front : List X) (count i : ℕ) (place : Place) (x : X) (next : Place) (total : Result (List X × Place) E)
+    → i < count → item place ≡ Ok (x, next) → with_front front (counted item (count - i) place) ≡ total → with_front (front ++ x ∷ []) (counted item (count - (i + 1)) next) ≡ total
+unfolding counted
+goes_on item front count i place x next total lt h so_far =
+    let k : count - i ≡ suc (count - (i + 1)) = omega arith in
+    let step : with_front front (counted item (count - i) place) ≡ with_front (front ++ x ∷ []) (counted item (count - (i + 1)) next) = rw (k, h) (regroup front x (counted item (count - (i + 1)) next)) in
+    sym step ∙ so_far
+
+pub stops : {X E : Type 0} (item : Place → Result (X × Place) E) (front : List X) (count i : ℕ) (place : Place) (fault : E) (total : Result (List X × Place) E)
+    → i < count → item place ≡ Err fault → with_front front (counted item (count - i) place) ≡ total → total ≡ Err fault
+unfolding counted
+stops item front count i place fault total lt h so_far =
+    let k : count - i ≡ suc (count - (i + 1)) = omega arith in
+    let step : with_front front (counted item (count - i) place) ≡ Err fault = rw (k, h) refl in
+    sym so_far ∙ step
+
+pub is_done : {X E : Type 0} (item : Place → Result (X × Place) E) (front : List X) (count i : ℕ) (place : Place) (total : Result (List X × Place) E)
+    → count ≤ i → with_front front (counted item (count - i) place) ≡ total → total ≡ Ok (front, place)
+unfolding counted
+is_done {X = X} {E = E} item front count i place total le so_far =
+    let k : count - i ≡ 0 = omega arith in
+    let step : with_front front (counted item (count - i) place) ≡ Ok (front, place) = rw k (ap (λ (xs : List X). answer E (xs, place)) (append-nil front)) in
+    sym so_far ∙ step
