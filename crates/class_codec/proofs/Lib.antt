@@ -2,3 +2,5 @@ pub mod Loop
 mod Readers
 mod Numbers
 mod PoolLaws
+mod AttributeLaws
+pub mod FileLaws

@@ -108,3 +108,25 @@ enclosed {A = A} {E = E} {reader = reader} {spell = spell} {Fits = Fits} {known 
   let all : bytes_at n place ≡ Some (spell a, after place (spell a) rest) = subst (λ (k : ℕ). bytes_at k place ≡ Some (spell a, after place (spell a) rest)) h.1 (bytes_again place (spell a) rest e) in
   rw (one, all) refl;
 }
+
+-- a number that is always the same, whose fault tells another number, and then the others
+pub then_equal : {A E : Type 0} {reader : Place → Result (ℕ × Place) E} {spell_x : ℕ → List ℕ} {Fits_x : ℕ → Type 0}
+    {others : Place → Result (A × Place) E} {spell : A → List ℕ} {Fits known : A → Type 0} (fault : ℕ → E)
+    → IsReader reader spell_x Fits_x → (same : ℕ) → Fits_x same
+    → IsTail others spell Fits known
+    → IsTail (λ place. reader place >>= λ x. need (x.0 == same) (fault x.0) >>= λ _. others x.1) (λ a. spell_x same ++ spell a) Fits known
+then_equal {A = A} {reader = reader} {spell_x = spell_x} {others = others} {spell = spell} fault first same fits_same is = record {
+  takes = λ place a next fits e.
+  let b = bind_ok (reader place) (λ x. need (x.0 == same) (fault x.0) >>= λ _. others x.1) (a, next) e in
+  let g = need_ok (b.0.0 == same) (fault b.0.0) (λ _. others b.0.1) (a, next) b.2 in
+  let one = first.takes place b.0.0 b.0.1 fits b.1 in
+  let two = is.takes b.0.1 a next one.0.fits g.1 in
+  let is_same : b.0.0 ≡ same = eqb-true _ _ g.0 in
+  (rw (← is_same) (Took-then place (spell_x b.0.0) b.0.1 (spell a) next one.0 two.0), two.1, two.2);
+  again = λ place a rest fits h e.
+  let mid = after place (spell_x same) (spell a ++ rest) in
+  let one = first.again place same (spell a ++ rest) fits_same tt (e ∙ append_assoc (spell_x same) (spell a) rest) in
+  let two = is.again mid a rest fits h refl in
+  let far : place.at + length (spell_x same) + length (spell a) ≡ place.at + length (spell_x same ++ spell a) = omega (arith, length-append (spell_x same) (spell a)) in
+  rw (one, eq-eqb same same refl, two, far) refl;
+}
