@@ -4,7 +4,7 @@ use Rattle.std.specs.Prelude.{◌==◌, nat_le, slice_get, IfOk}
 use Rattle.std.proofs.lemmas.Bool.{false≢true}
 use Rattle.std.proofs.lemmas.Bool.Decides.{nat_tests}
 use Rattle.mon_base.specs.Reading.{Place, IsBytes, ◌>>=◌, need, whole}
-use Rattle.mon_base.proofs.Reading.{need_ok, IsTail, IsReader, then, done, said, whole_takes, whole_again}
+use Rattle.mon_base.proofs.Reading.{need_ok, ok_is, IsTail, IsReader, then, done, said, whole_takes, whole_again}
 use Rattle.class_codec.specs.declared.fault.ClassFault.{ClassFault}
 use Rattle.class_codec.specs.declared.fault.ClassFault.TheVariants.{Magic, Version, Tail, TooLong}
 use Rattle.class_codec.specs.declared.pool.Kind.TheVariants as kinds
@@ -117,3 +117,10 @@ is_found bytes (Err e) fits given = tt
 
 pub is_only : (bytes : List ℕ) (r : Result ClassFile ClassFault) (f : ClassFile) → Answers r (class_of bytes) → SpellsClass bytes f → length bytes ≤ 1048576 → Answers r (Ok f)
 is_only bytes r f given h short = subst (λ (read : Result ClassFile ClassFault). Answers r read) (class_again bytes f h short) given
+
+pub same_tree : (bytes : List ℕ) (f g : ClassFile) → SpellsClass bytes f → SpellsClass bytes g → f ≡ g
+same_tree bytes f g spells_f spells_g =
+    let one = whole_again class_is (λ p. Tail p.at) f spells_f.fits in
+    let two = whole_again class_is (λ p. Tail p.at) g spells_g.fits in
+    let same : spelling.spelling f ≡ spelling.spelling g = sym spells_f.is ∙ spells_g.is in
+    ok_is ClassFault f g (sym one ∙ ap (λ (b : List ℕ). whole class_at (λ p. Tail p.at) b) same ∙ two)
