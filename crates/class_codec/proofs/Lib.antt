@@ -1,1 +1,6 @@
 pub mod Loop
+mod Readers
+mod Numbers
+mod PoolLaws
+mod AttributeLaws
+pub mod FileLaws

@@ -26,18 +26,14 @@ IsU4 n = n < 2 ^ 32
 abbrev pub IsU8 : ℕ → Type 0
 IsU8 n = n < 2 ^ 64
 
-abbrev pub IsByte : ℕ → Type 0
-IsByte b = b < 256
-
 -- two bytes count the items, and each fits
 pub record FitCounted {X : Type 0} (FitsItem : X → Type 0) (items : List X) : Type 0 where
   pub count : IsU2 (length items)
   pub each : AllByRecursion FitsItem items
 
 -- four bytes count the bytes
-pub record FitsBlock (bytes : List ℕ) : Type 0 where
-  pub len : IsU4 (length bytes)
-  pub bytes_are : AllByRecursion IsByte bytes
+abbrev pub FitsBlock : List ℕ → Type 0
+FitsBlock bytes = IsU4 (length bytes)
 
 -- ---- the constant pool
 
@@ -113,7 +109,6 @@ pub record FitsCode (pool : List Const) (c : Code) : Type 0 where
   pub name : IsIndex kinds.Utf8 pool c.name
   pub max_stack : IsU2 c.max_stack
   pub max_locals : IsU2 c.max_locals
-  pub code : FitsBlock c.code
   pub some : 1 ≤ length c.code
   pub short : length c.code ≤ 65535
   pub table : FitCounted (FitsTableEntry pool) c.table

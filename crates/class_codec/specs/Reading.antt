@@ -176,20 +176,31 @@ other_at pool p = do
   bytes ← block_at name.1
   Ok (record { name = name.0; bytes = bytes.0 }, bytes.1)
 
+-- the class that is caught, or 0 for any
+unfoldable pub caught_at : List Const → Place → Read ℕ
+caught_at pool p = do
+  class ← u2_at p
+  named ← need ((class.0 == 0) || names kinds.Class pool class.0) (Index p.at)
+  Ok class
+
 unfoldable pub table_entry_at : List Const → Place → Read TableEntry
 table_entry_at pool p = do
   from ← u2_at p
   to ← u2_at from.1
   at ← u2_at to.1
-  class ← u2_at at.1
-  named ← need ((class.0 == 0) || names kinds.Class pool class.0) (Index at.1.at)
+  class ← caught_at pool at.1
   Ok (record { from = from.0; to = to.0; at = at.0; class = class.0 }, class.1)
 
--- the bytes of a method's code, after their length, which is 1 to 65,535
+-- the length of a method's code, which is 1 to 65,535
+unfoldable pub code_len_at : Place → Read ℕ
+code_len_at p = do
+  len ← u4_at p
+  right ← need (nat_le 1 len.0 && nat_le len.0 65535) (Index p.at)
+  Ok len
+
 unfoldable pub instructions_at : Place → Read (List ℕ)
 instructions_at p = do
-  len ← u4_at p
-  some ← need (nat_le 1 len.0 && nat_le len.0 65535) (Index p.at)
+  len ← code_len_at p
   taken_at len.0 len.1
 
 unfoldable pub contents_at : List Const → ℕ → Place → Read Code

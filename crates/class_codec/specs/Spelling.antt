@@ -57,7 +57,7 @@ other o = u2 o.name ++ block o.bytes
 
 -- what stands in a Code attribute
 abbrev pub contents : Code → List ℕ
-contents c = u2 c.max_stack ++ u2 c.max_locals ++ block c.code ++ counted table_entry c.table ++ counted other c.attrs
+contents c = u2 c.max_stack ++ u2 c.max_locals ++ (block c.code ++ (counted table_entry c.table ++ counted other c.attrs))
 
 abbrev pub attribute : Attr → List ℕ
 attribute (attributes.Code c) = u2 c.name ++ block (contents c)
@@ -68,8 +68,8 @@ member m = u2 m.flags ++ u2 m.name ++ u2 m.desc ++ counted attribute m.attrs
 
 -- what stands after the constant pool
 abbrev pub body : ClassFile → List ℕ
-body f = u2 f.flags ++ u2 f.this_class ++ u2 f.super_class ++ counted u2 f.interfaces
-    ++ counted member f.fields ++ counted member f.methods ++ counted attribute f.attrs
+body f = u2 f.flags ++ u2 f.this_class ++ u2 f.super_class
+    ++ (counted u2 f.interfaces ++ (counted member f.fields ++ (counted member f.methods ++ counted attribute f.attrs)))
 
 abbrev pub spelling : ClassFile → List ℕ
-spelling f = u4 0xCAFEBABE ++ u2 f.minor ++ u2 49 ++ counted constant f.pool ++ body f
+spelling f = u4 0xCAFEBABE ++ u2 f.minor ++ u2 49 ++ (counted constant f.pool ++ body f)

@@ -1,7 +1,7 @@
 //! Reading attributes. (The Java Virtual Machine Specification, section 4.7.)
 
 ghost use Rattle.std.specs.Prelude.{◌≡◌};
-ghost use Rattle.class_codec.specs.Reading.{Reads, ReadsAs, index_at, other_at, table_entry_at, instructions_at, contents_at, code_at, named_at, attribute_at, member_at};
+ghost use Rattle.class_codec.specs.Reading.{Reads, ReadsAs, index_at, other_at, caught_at, table_entry_at, code_len_at, instructions_at, contents_at, code_at, named_at, attribute_at, member_at};
 ghost use Rattle.class_codec.specs.declared.pool.Kind.TheVariants as kinds;
 
 use crate::fault::ClassFault;
@@ -39,11 +39,7 @@ impl Item for TableEntry {
         let first = u2(from)?;
         let to = u2(from)?;
         let handler = u2(from)?;
-        let at = from.position();
-        let class = u2(from)?;
-        if class != 0 && !names(Kind::Class, pool, class) {
-            return Err(ClassFault::Index { at });
-        }
+        let class = caught(pool, from)?;
         Ok(TableEntry {
             from: first,
             to,
@@ -172,15 +168,37 @@ fn contents(
     })
 }
 
-/// The bytes of a method's code: four bytes of length, which is 1 to 65,535, and that many bytes.
+/// The bytes of a method's code: their length, and that many bytes.
 #[tactic(auto, unfolding(crate::specs::Reading::instructions_at))]
 fn instructions<'a>(from: &mut Cursor<'a>) -> Result<&'a [u8], ClassFault>
     ensures { ReadsAs (λ b. b.now) result (instructions_at from.old) from.new }
+{
+    let len = code_len(from)?;
+    taken(len as usize, from)
+}
+
+/// The length of a method's code, which is 1 to 65,535.
+#[tactic(auto, unfolding(crate::specs::Reading::code_len_at))]
+fn code_len(from: &mut Cursor) -> Result<u32, ClassFault>
+    ensures { Reads result (code_len_at from.old) from.new }
 {
     let at = from.position();
     let len = u4(from)?;
     if len < 1 || 65535 < len {
         return Err(ClassFault::Index { at });
     }
-    taken(len as usize, from)
+    Ok(len)
+}
+
+/// The index of the class that is caught, or 0 for any.
+#[tactic(auto, unfolding(crate::specs::Reading::caught_at))]
+fn caught(pool: &[Const], from: &mut Cursor) -> Result<u16, ClassFault>
+    ensures { Reads result (caught_at pool.now from.old) from.new }
+{
+    let at = from.position();
+    let class = u2(from)?;
+    if class != 0 && !names(Kind::Class, pool, class) {
+        return Err(ClassFault::Index { at });
+    }
+    Ok(class)
 }

@@ -1,6 +1,7 @@
 //! Reading class files. (The Java Virtual Machine Specification, section 4.1.)
 
-ghost use Rattle.std.specs.Prelude.{◌≡◌};
+ghost use Rattle.std.specs.Prelude.{◌≡◌, ◌≤◌, length, Ok, IfOk};
+ghost use Rattle.class_codec.specs.Fits.{SpellsClass};
 ghost use Rattle.class_codec.specs.Reading.{Reads, Answers, head_at, body_at, class_at, class_of};
 
 use crate::constants::pool;
@@ -93,6 +94,11 @@ fn all(alloc: Global, bytes: &[u8]) -> Result<ClassFile, ClassFault>
 
 /// The class file that the bytes are. The faults are those of [`ClassFault`], the first in the order of reading.
 pub fn decode(alloc: Global, bytes: &[u8]) -> Result<ClassFile, ClassFault>
+    // What is read is spelled so.
+    ensures found { IfOk result (λ file. SpellsClass bytes.now file) }
+    // What is spelled so is read, unless memory runs out.
+    ensures only { (file : ClassFile) → SpellsClass bytes.now file → length bytes.now ≤ 1048576 → Answers result (Ok file) }
+    // Which fault it is.
     ensures exact { Answers result (class_of bytes.now) }
 {
     all(alloc, bytes)

@@ -7,13 +7,15 @@
 mod attributes;
 mod constants;
 mod decoding;
+mod encoding;
 mod fault;
 mod items;
 mod place;
 mod pool;
 mod tree;
 
-pub use decoding::decode;
+pub use decoding::{MAX_LEN, decode};
+pub use encoding::{encode, one_tree};
 pub use fault::ClassFault;
 pub use pool::{Kind, is_of, names, names_code, utf8_at};
 pub use tree::{Attr, ClassFile, Code, Const, Member, Other, TableEntry};

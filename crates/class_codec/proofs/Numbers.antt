@@ -1,0 +1,64 @@
+-- Numbers, byte strings and indices are read exactly as they are spelled.
+use Rattle.std.proofs.Common.{◌≡◌, ℕ, ◌<◌, ◌≤◌, ◌^◌, Bool, true, false, cond, List, [], ◌∷◌, ◌++◌, length, Result, Ok, Err, refl, sym, ap, subst, arith}
+use Rattle.std.specs.List.{flat_map, AllByRecursion}
+use Rattle.mon_base.specs.Reading.{Place, IsBytes, need, counted}
+use Rattle.mon_base.proofs.Reading.{IsTail, IsReader, then, said, items, number_is, bytes_is, one, two, four, eight}
+use Rattle.class_codec.specs.declared.fault.ClassFault.{ClassFault}
+use Rattle.class_codec.specs.declared.fault.ClassFault.TheVariants.{Short, Index}
+use Rattle.class_codec.specs.declared.pool.Kind.{Kind}
+use Rattle.class_codec.specs.declared.tree.Const.{Const}
+use Rattle.class_codec.specs.Pool.{names}
+use Rattle.class_codec.specs.Spelling as spelling
+use Rattle.class_codec.specs.Fits.{IsU2, IsU4, IsU8, IsIndex, FitsBlock, FitCounted}
+use Rattle.class_codec.specs.Reading.{Read, u1_at, u2_at, u4_at, u8_at, taken_at, block_at, index_at, counted_at}
+use Rattle.class_codec.proofs.Readers.{checked}
+
+pub u1_is : IsReader u1_at spelling.u1 (λ n. n < 256)
+unfolding u1_at
+u1_is = number_is one (λ p. Short p.at)
+
+pub u2_is : IsReader u2_at spelling.u2 IsU2
+unfolding u2_at
+u2_is = number_is two (λ p. Short p.at)
+
+pub u4_is : IsReader u4_at spelling.u4 IsU4
+unfolding u4_at
+u4_is = number_is four (λ p. Short p.at)
+
+pub u8_is : IsReader u8_at spelling.u8 IsU8
+unfolding u8_at
+u8_is = number_is eight (λ p. Short p.at)
+
+pub taken_is : (n : ℕ) → IsTail (taken_at n) (λ bytes. bytes) (λ bytes. Unit {0}) (λ bytes. length bytes ≡ n)
+unfolding taken_at
+taken_is n = bytes_is n (λ p. Short p.at)
+
+-- bytes of which the length was told
+pub rest_is : (n : ℕ) → IsTail (taken_at n) (λ bytes. bytes) (λ bytes. Unit {0}) (λ bytes. Unit {0} × (length bytes ≡ n))
+rest_is n = said (taken_is n) (λ a f k. (f, (tt, k))) (λ a f k. (f, k.1))
+
+pub block_is : IsReader block_at spelling.block FitsBlock
+unfolding block_at
+block_is = said (then {spell = λ (bytes : List ℕ). bytes} {Fits = λ bytes. Unit {0}} {known = λ _. Unit {0}} (λ len. taken_at len.0 len.1) u4_is length (λ a k. tt) (λ n k. rest_is n))
+    (λ a f k. (f.0, tt)) (λ a f k. ((f, tt), tt))
+
+-- a test after a reading
+pub need_holds : (b : Bool) (fault : ClassFault) → need b fault ≡ Ok tt → b ≡ true
+need_holds true fault e = refl
+need_holds false fault e = absurd cc
+
+pub holds_need : (b : Bool) (fault : ClassFault) → b ≡ true → need b fault ≡ Ok tt
+holds_need b fault e = rw e refl
+
+pub index_is : (kind : Kind) (pool : List Const) → IsReader (index_at kind pool) spelling.u2 (IsIndex kind pool)
+unfolding index_at
+index_is kind pool = said (checked (λ index. names kind pool index ≡ true) (λ p index. need (names kind pool index) (Index p.at)) u2_is
+      (λ p index e. need_holds (names kind pool index) (Index p.at) e) (λ p index h. holds_need (names kind pool index) (Index p.at) h))
+    (λ a f k. (record { fits = f.0; named = f.1 }, tt)) (λ a f k. ((f.fits, f.named), tt))
+
+-- items that two bytes count
+pub counted_is : {X : Type 0} {item : Place → Read X} {spell : X → List ℕ} {Fits : X → Type 0} → IsReader item spell Fits → IsReader (counted_at item) (spelling.counted spell) (FitCounted Fits)
+unfolding counted_at
+counted_is {X = X} {item = item} {spell = spell} {Fits = Fits} is = said (then {spell = λ (xs : List X). flat_map spell xs} {Fits = λ xs. AllByRecursion Fits xs} {known = λ _. Unit {0}} (λ count. counted item count.0 count.1) u2_is length (λ a k. tt)
+      (λ n k. said (items is n) (λ a f k. (f, (tt, k))) (λ a f k. (f, k.1))))
+    (λ a f k. (record { count = f.0; each = f.1 }, tt)) (λ a f k. ((f.count, f.each), tt))

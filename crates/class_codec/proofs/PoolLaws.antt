@@ -1,0 +1,492 @@
+-- The constant pool is read exactly as it is spelled.
+use Rattle.std.proofs.Common.{◌≡◌, ℕ, zero, suc, ◌+◌, ◌*◌, ◌-◌, ◌<◌, ◌≤◌, ◌^◌, Bool, true, false, cond, not, eqb, ltb, leb, nat_eq, List, [], ◌∷◌, ◌++◌, length, Option, Some, None, Result, Ok, Err, refl, sym, ap, subst, ◌∙◌, append_assoc, arith, ℤ, FitsSigned, inl, inr}
+use Rattle.std.specs.Prelude.{◌||◌, nat_lt, nat_le, position, ◌==◌}
+use Rattle.std.specs.Int.{w32, w64, cast_signed, cast_unsigned}
+use Rattle.std.specs.List.{flat_map, AllByRecursion, position_or_len, prefix_len}
+use Rattle.std.proofs.lemmas.Bool.{cases_lt, false≢true, eq-eqb, eqb-true, ltb-true, ltb-false, lt-ltb, le-ltb}
+use Rattle.std.proofs.lemmas.Bool.Decides.{nat_tests}
+use Rattle.std.proofs.lemmas.Int.{of_z-to_z, to_z-of_z, ints}
+use Rattle.std.proofs.lemmas.List.{length-append}
+use Rattle.mon_base.specs.Reading.{Place, IsBytes, ◌>>=◌, need}
+use Rattle.mon_base.proofs.Reading.{bind_ok, ok_is, after, Took, Took-then, IsTail, IsReader, then, said, done, guard, choose, refuse}
+use Rattle.class_codec.specs.declared.fault.ClassFault.{ClassFault}
+use Rattle.class_codec.specs.declared.fault.ClassFault.TheVariants.{Short, Index, Tag}
+use Rattle.class_codec.specs.declared.pool.Kind.{Kind}
+use Rattle.class_codec.specs.declared.pool.Kind.TheVariants as kinds
+use Rattle.class_codec.specs.declared.tree.Const.{Const}
+use Rattle.class_codec.specs.declared.tree.Const.TheVariants.{Utf8, Integer, Float, Long, Double, Class, Str, Field, Method, IMethod, NameAndType, Second}
+use Rattle.class_codec.specs.Pool.{names}
+use Rattle.class_codec.specs.Spelling as spelling
+use Rattle.class_codec.specs.Fits.{IsU2, IsU4, IsU8, IsTextByte, FitsConst, is_second, takes_two, HasSeconds, IsNamed, FitsPool}
+use Rattle.class_codec.specs.Reading.{Read, u1_at, u2_at, u4_at, u8_at, taken_at, is_no_text_byte, text_checked, text_at, pair_at, wide_at, payload_at, constant_at, place_at, places_at, index_checked, pair_checked, constant_checked, all_checked, pool_at}
+use Rattle.class_codec.proofs.Readers.{then_from, checked, wrapped, spelled_where}
+use Rattle.class_codec.proofs.Numbers.{u1_is, u2_is, u4_is, u8_is, rest_is, need_holds, holds_need}
+
+-- ---- texts
+
+-- the place of the first byte that passes, by recursion
+none_where : (b : Bool) (n : ℕ) → cond b (Some n) None ≡ None → b ≡ false
+none_where true n e = absurd cc
+none_where false n e = refl
+
+where_none : (b : Bool) (n : ℕ) → b ≡ false → cond b (Some n) None ≡ None
+where_none b n e = rw e refl
+
+-- by the first byte's test, and the place among the others
+first_none : (t : Bool) (n len : ℕ) → ltb (cond (not t) (1 + n) 0) (suc len) ≡ false → (t ≡ false) × (ltb n len ≡ false)
+first_none true n len e = let h : suc len ≤ 0 = ltb-false 0 (suc len) e in absurd (omega arith)
+first_none false n len e = let h : suc len ≤ 1 + n = ltb-false (1 + n) (suc len) e in (refl, le-ltb n len (omega arith))
+
+none_first : (t : Bool) (n len : ℕ) → t ≡ false → ltb n len ≡ false → ltb (cond (not t) (1 + n) 0) (suc len) ≡ false
+none_first t n len out e = let h : len ≤ n = ltb-false n len e in rw out (le-ltb (1 + n) (suc len) (omega arith))
+
+passes : (p : ℕ → Bool) (b : ℕ) (bs : List ℕ) → position p (b ∷ bs) ≡ None → (p b ≡ false) × (position p bs ≡ None)
+passes p b bs e =
+    let out : ltb (cond (not (p b)) (1 + position_or_len p bs) 0) (suc (length bs)) ≡ false = none_where (ltb (position_or_len p (b ∷ bs)) (length (b ∷ bs))) (position_or_len p (b ∷ bs)) e in
+    let h = first_none (p b) (position_or_len p bs) (length bs) out in
+    (h.0, where_none (ltb (position_or_len p bs) (length bs)) (position_or_len p bs) h.1)
+
+pass : (p : ℕ → Bool) (b : ℕ) (bs : List ℕ) → p b ≡ false → position p bs ≡ None → position p (b ∷ bs) ≡ None
+pass p b bs clean none =
+    let out : ltb (position_or_len p bs) (length bs) ≡ false = none_where (ltb (position_or_len p bs) (length bs)) (position_or_len p bs) none in
+    where_none (ltb (position_or_len p (b ∷ bs)) (length (b ∷ bs))) (position_or_len p (b ∷ bs)) (none_first (p b) (position_or_len p bs) (length bs) clean out)
+
+text_byte : (b : ℕ) → is_no_text_byte b ≡ false → IsTextByte b
+text_byte b e = grind (arith, nat_tests)
+
+no_fault : (b : ℕ) → IsTextByte b → is_no_text_byte b ≡ false
+no_fault b h = grind (arith, nat_tests)
+
+text_bytes : (bs : List ℕ) → position is_no_text_byte bs ≡ None → AllByRecursion IsTextByte bs
+text_bytes [] e = tt
+text_bytes (b ∷ bs) e =
+    let h = passes is_no_text_byte b bs e in
+    (text_byte b h.0, text_bytes bs h.1)
+
+all_pass : (bs : List ℕ) → AllByRecursion IsTextByte bs → position is_no_text_byte bs ≡ None
+all_pass [] h = refl
+all_pass (b ∷ bs) h = pass is_no_text_byte b bs (no_fault b h.0) (all_pass bs h.1)
+
+text_holds : (at : ℕ) (o : Option ℕ) → text_checked at o ≡ Ok tt → o ≡ None
+text_holds at None e = refl
+text_holds at (Some i) e = absurd cc
+
+holds_text : (at : ℕ) (o : Option ℕ) → o ≡ None → text_checked at o ≡ Ok tt
+holds_text at o e = rw e refl
+
+-- the text of a constant
+abbrev text : List ℕ → List ℕ
+text bytes = spelling.u2 (length bytes) ++ bytes
+
+abbrev FitsText : List ℕ → Type 0
+FitsText bytes = IsU2 (length bytes) × AllByRecursion IsTextByte bytes
+
+text_is : IsReader text_at text FitsText
+unfolding text_at
+text_is = said (then {spell = λ (bytes : List ℕ). bytes} {Fits = λ bytes. Unit {0} × AllByRecursion IsTextByte bytes} {known = λ _. Unit {0}}
+      (λ len. taken_at len.0 len.1 >>= λ x. text_checked len.1.at (position is_no_text_byte x.0) >>= λ _. Ok x) u2_is length (λ a k. tt)
+      (λ n k. checked (λ bytes. AllByRecursion IsTextByte bytes) (λ p bytes. text_checked p.at (position is_no_text_byte bytes)) (rest_is n)
+        (λ p bytes e. text_bytes bytes (text_holds p.at (position is_no_text_byte bytes) e)) (λ p bytes h. holds_text p.at (position is_no_text_byte bytes) (all_pass bytes h))))
+    (λ a f k. ((f.0, f.1.1), tt)) (λ a f k. ((f.0, (tt, f.1)), tt))
+
+-- ---- pairs of indices, and numbers of eight bytes
+
+pair_is : IsReader pair_at (λ x. spelling.u2 x.0 ++ spelling.u2 x.1) (λ x. IsU2 x.0 × IsU2 x.1)
+unfolding pair_at
+pair_is = then {spell = λ (x : ℕ × ℕ). spelling.u2 x.1} {Fits = λ x. IsU2 x.1} {known = λ _. Unit {0}} (λ first. u2_at first.1 >>= λ second. Ok ((first.0, second.0), second.1)) u2_is (λ x. x.0) (λ a k. tt)
+    (λ m k. wrapped {A = ℕ × ℕ} (λ n. (m, n)) u2_is (λ n f k. (refl, f, (tt, refl))) (λ a f k. (a.1, rw (← k.1) refl, f, tt)))
+
+wide_is : (at left : ℕ) → IsReader (wide_at at left) spelling.u8 (λ n. (0 < left) × IsU8 n)
+unfolding wide_at
+wide_is at left = guard (λ _. 0 < left) (nat_lt 0 left) (λ _. Index at) (λ a k e. ltb-true 0 left e) (λ a k h. lt-ltb 0 left h) u8_is
+
+-- ---- constants, by their tags
+
+abbrev tag_of : Const → ℕ
+tag_of (Utf8 text) = 1
+tag_of (Integer n) = 3
+tag_of (Float bits) = 4
+tag_of (Long n) = 5
+tag_of (Double bits) = 6
+tag_of (Class name) = 7
+tag_of (Str text) = 8
+tag_of (Field class name) = 9
+tag_of (Method class name) = 10
+tag_of (IMethod class name) = 11
+tag_of (NameAndType name desc) = 12
+tag_of Second = 0
+
+-- what follows the tag
+abbrev payload : Const → List ℕ
+payload (Utf8 bytes) = text bytes
+payload (Integer n) = spelling.u4 (cast_unsigned w32 n)
+payload (Float bits) = spelling.u4 bits
+payload (Long n) = spelling.u8 (cast_unsigned w64 n)
+payload (Double bits) = spelling.u8 bits
+payload (Class name) = spelling.u2 name
+payload (Str text) = spelling.u2 text
+payload (Field class name) = spelling.u2 class ++ spelling.u2 name
+payload (Method class name) = spelling.u2 class ++ spelling.u2 name
+payload (IMethod class name) = spelling.u2 class ++ spelling.u2 name
+payload (NameAndType name desc) = spelling.u2 name ++ spelling.u2 desc
+payload Second = []
+
+-- a constant with `left` places after its first
+record Stands (left : ℕ) (c : Const) : Type 0 where
+  fits : FitsConst c
+  first : is_second c ≡ false
+  room : takes_two c ≡ true → 0 < left
+
+is_utf8 : (c : Const) → tag_of c ≡ 1 → (bytes : List ℕ) × (Utf8 bytes ≡ c)
+is_utf8 (Utf8 bytes) e = (bytes, refl)
+is_utf8 c e = absurd (omega (arith, e))
+
+is_integer : (c : Const) → tag_of c ≡ 3 → (n : ℤ) × (Integer n ≡ c)
+is_integer (Integer n) e = (n, refl)
+is_integer c e = absurd (omega (arith, e))
+
+is_float : (c : Const) → tag_of c ≡ 4 → (n : ℕ) × (Float n ≡ c)
+is_float (Float n) e = (n, refl)
+is_float c e = absurd (omega (arith, e))
+
+is_long : (c : Const) → tag_of c ≡ 5 → (n : ℤ) × (Long n ≡ c)
+is_long (Long n) e = (n, refl)
+is_long c e = absurd (omega (arith, e))
+
+is_double : (c : Const) → tag_of c ≡ 6 → (n : ℕ) × (Double n ≡ c)
+is_double (Double n) e = (n, refl)
+is_double c e = absurd (omega (arith, e))
+
+is_class : (c : Const) → tag_of c ≡ 7 → (n : ℕ) × (Class n ≡ c)
+is_class (Class n) e = (n, refl)
+is_class c e = absurd (omega (arith, e))
+
+is_str : (c : Const) → tag_of c ≡ 8 → (n : ℕ) × (Str n ≡ c)
+is_str (Str n) e = (n, refl)
+is_str c e = absurd (omega (arith, e))
+
+is_field : (c : Const) → tag_of c ≡ 9 → (x : ℕ × ℕ) × (Field x.0 x.1 ≡ c)
+is_field (Field m n) e = ((m, n), refl)
+is_field c e = absurd (omega (arith, e))
+
+is_method : (c : Const) → tag_of c ≡ 10 → (x : ℕ × ℕ) × (Method x.0 x.1 ≡ c)
+is_method (Method m n) e = ((m, n), refl)
+is_method c e = absurd (omega (arith, e))
+
+is_imethod : (c : Const) → tag_of c ≡ 11 → (x : ℕ × ℕ) × (IMethod x.0 x.1 ≡ c)
+is_imethod (IMethod m n) e = ((m, n), refl)
+is_imethod c e = absurd (omega (arith, e))
+
+is_name_and_type : (c : Const) → tag_of c ≡ 12 → (x : ℕ × ℕ) × (NameAndType x.0 x.1 ≡ c)
+is_name_and_type (NameAndType m n) e = ((m, n), refl)
+is_name_and_type c e = absurd (omega (arith, e))
+
+-- what is known of a constant after its tag
+abbrev Tagged : ℕ → Const → Type 0
+Tagged tag c = Unit {0} × (tag_of c ≡ tag)
+
+-- What follows a tag.
+abbrev IsPayload : ℕ → ℕ → (Place → Read Const) → Type 0
+IsPayload left tag reader = IsTail reader payload (Stands left) (Tagged tag)
+
+no_room : (left : ℕ) → false ≡ true → 0 < left
+no_room left e = absurd cc
+
+signed_32 : (n : ℕ) → n < 2 ^ 32 → FitsSigned w32 (cast_signed w32 n)
+signed_32 n h = omega (arith, ints)
+
+unsigned_32 : (z : ℤ) → FitsSigned w32 z → cast_unsigned w32 z < 2 ^ 32
+unsigned_32 z h = omega (arith, ints)
+
+signed_64 : (n : ℕ) → n < 2 ^ 64 → FitsSigned w64 (cast_signed w64 n)
+signed_64 n h = omega (arith, ints)
+
+unsigned_64 : (z : ℤ) → FitsSigned w64 z → cast_unsigned w64 z < 2 ^ 64
+unsigned_64 z h = omega (arith, ints)
+
+utf8_is : (left tag : ℕ) → tag ≡ 1 → IsPayload left tag (λ p. text_at p >>= λ x. Ok (Utf8 x.0, x.1))
+utf8_is left tag t = wrapped (λ x. Utf8 x) text_is
+    (λ x f k. (refl, record { fits = f; first = refl; room = λ e. no_room left e }, (tt, sym t)))
+    (λ c f k. let g = is_utf8 c (k.1 ∙ t) in (g.0, g.1, subst FitsConst (sym g.1) f.fits, tt))
+
+integer_is : (left tag : ℕ) → tag ≡ 3 → IsPayload left tag (λ p. u4_at p >>= λ x. Ok (Integer (cast_signed w32 x.0), x.1))
+integer_is left tag t = wrapped (λ x. Integer (cast_signed w32 x)) u4_is
+    (λ x f k. (ap spelling.u4 (sym (of_z-to_z w32 x f)), record { fits = signed_32 x f; first = refl; room = λ e. no_room left e }, (tt, sym t)))
+    (λ c f k. let g = is_integer c (k.1 ∙ t) in
+      let fits : FitsSigned w32 g.0 = subst FitsConst (sym g.1) f.fits in
+      (cast_unsigned w32 g.0, ap (λ (z : ℤ). Integer z) (to_z-of_z w32 g.0 fits) ∙ g.1, unsigned_32 g.0 fits, tt))
+
+float_is : (left tag : ℕ) → tag ≡ 4 → IsPayload left tag (λ p. u4_at p >>= λ x. Ok (Float x.0, x.1))
+float_is left tag t = wrapped (λ x. Float x) u4_is
+    (λ x f k. (refl, record { fits = f; first = refl; room = λ e. no_room left e }, (tt, sym t)))
+    (λ c f k. let g = is_float c (k.1 ∙ t) in (g.0, g.1, subst FitsConst (sym g.1) f.fits, tt))
+
+long_is : (at left tag : ℕ) → tag ≡ 5 → IsPayload left tag (λ p. wide_at at left p >>= λ x. Ok (Long (cast_signed w64 x.0), x.1))
+long_is at left tag t = wrapped (λ x. Long (cast_signed w64 x)) (wide_is at left)
+    (λ x f k. (ap spelling.u8 (sym (of_z-to_z w64 x f.1)), record { fits = signed_64 x f.1; first = refl; room = λ e. f.0 }, (tt, sym t)))
+    (λ c f k. let g = is_long c (k.1 ∙ t) in
+      let fits : FitsSigned w64 g.0 = subst FitsConst (sym g.1) f.fits in
+      (cast_unsigned w64 g.0, ap (λ (z : ℤ). Long z) (to_z-of_z w64 g.0 fits) ∙ g.1, (f.room (ap takes_two (sym g.1)), unsigned_64 g.0 fits), tt))
+
+double_is : (at left tag : ℕ) → tag ≡ 6 → IsPayload left tag (λ p. wide_at at left p >>= λ x. Ok (Double x.0, x.1))
+double_is at left tag t = wrapped (λ x. Double x) (wide_is at left)
+    (λ x f k. (refl, record { fits = f.1; first = refl; room = λ e. f.0 }, (tt, sym t)))
+    (λ c f k. let g = is_double c (k.1 ∙ t) in (g.0, g.1, (f.room (ap takes_two (sym g.1)), subst FitsConst (sym g.1) f.fits), tt))
+
+class_is : (left tag : ℕ) → tag ≡ 7 → IsPayload left tag (λ p. u2_at p >>= λ x. Ok (Class x.0, x.1))
+class_is left tag t = wrapped (λ x. Class x) u2_is
+    (λ x f k. (refl, record { fits = f; first = refl; room = λ e. no_room left e }, (tt, sym t)))
+    (λ c f k. let g = is_class c (k.1 ∙ t) in (g.0, g.1, subst FitsConst (sym g.1) f.fits, tt))
+
+str_is : (left tag : ℕ) → tag ≡ 8 → IsPayload left tag (λ p. u2_at p >>= λ x. Ok (Str x.0, x.1))
+str_is left tag t = wrapped (λ x. Str x) u2_is
+    (λ x f k. (refl, record { fits = f; first = refl; room = λ e. no_room left e }, (tt, sym t)))
+    (λ c f k. let g = is_str c (k.1 ∙ t) in (g.0, g.1, subst FitsConst (sym g.1) f.fits, tt))
+
+field_is : (left tag : ℕ) → tag ≡ 9 → IsPayload left tag (λ p. pair_at p >>= λ x. Ok (Field x.0.0 x.0.1, x.1))
+field_is left tag t = wrapped (λ x. Field x.0 x.1) pair_is
+    (λ x f k. (refl, record { fits = f; first = refl; room = λ e. no_room left e }, (tt, sym t)))
+    (λ c f k. let g = is_field c (k.1 ∙ t) in (g.0, g.1, subst FitsConst (sym g.1) f.fits, tt))
+
+method_is : (left tag : ℕ) → tag ≡ 10 → IsPayload left tag (λ p. pair_at p >>= λ x. Ok (Method x.0.0 x.0.1, x.1))
+method_is left tag t = wrapped (λ x. Method x.0 x.1) pair_is
+    (λ x f k. (refl, record { fits = f; first = refl; room = λ e. no_room left e }, (tt, sym t)))
+    (λ c f k. let g = is_method c (k.1 ∙ t) in (g.0, g.1, subst FitsConst (sym g.1) f.fits, tt))
+
+imethod_is : (left tag : ℕ) → tag ≡ 11 → IsPayload left tag (λ p. pair_at p >>= λ x. Ok (IMethod x.0.0 x.0.1, x.1))
+imethod_is left tag t = wrapped (λ x. IMethod x.0 x.1) pair_is
+    (λ x f k. (refl, record { fits = f; first = refl; room = λ e. no_room left e }, (tt, sym t)))
+    (λ c f k. let g = is_imethod c (k.1 ∙ t) in (g.0, g.1, subst FitsConst (sym g.1) f.fits, tt))
+
+name_and_type_is : (left tag : ℕ) → tag ≡ 12 → IsPayload left tag (λ p. pair_at p >>= λ x. Ok (NameAndType x.0.0 x.0.1, x.1))
+name_and_type_is left tag t = wrapped (λ x. NameAndType x.0 x.1) pair_is
+    (λ x f k. (refl, record { fits = f; first = refl; room = λ e. no_room left e }, (tt, sym t)))
+    (λ c f k. let g = is_name_and_type c (k.1 ∙ t) in (g.0, g.1, subst FitsConst (sym g.1) f.fits, tt))
+
+-- Every constant has one of the tags.
+record IsNoTag (tag : ℕ) : Type 0 where
+  not_1 : eqb tag 1 ≡ false
+  not_3 : eqb tag 3 ≡ false
+  not_4 : eqb tag 4 ≡ false
+  not_5 : eqb tag 5 ≡ false
+  not_6 : eqb tag 6 ≡ false
+  not_7 : eqb tag 7 ≡ false
+  not_8 : eqb tag 8 ≡ false
+  not_9 : eqb tag 9 ≡ false
+  not_10 : eqb tag 10 ≡ false
+  not_11 : eqb tag 11 ≡ false
+  not_12 : eqb tag 12 ≡ false
+
+apart : (tag k : ℕ) → eqb tag k ≡ false → k ≡ tag → ⊥
+apart tag k n e = false≢true (sym n ∙ eq-eqb tag k (sym e))
+
+none_has : (left tag : ℕ) → IsNoTag tag → (c : Const) → Stands left c → tag_of c ≡ tag → ⊥
+none_has left tag others (Utf8 bytes) f e = apart tag 1 others.not_1 e
+none_has left tag others (Integer n) f e = apart tag 3 others.not_3 e
+none_has left tag others (Float bits) f e = apart tag 4 others.not_4 e
+none_has left tag others (Long n) f e = apart tag 5 others.not_5 e
+none_has left tag others (Double bits) f e = apart tag 6 others.not_6 e
+none_has left tag others (Class name) f e = apart tag 7 others.not_7 e
+none_has left tag others (Str bytes) f e = apart tag 8 others.not_8 e
+none_has left tag others (Field class name) f e = apart tag 9 others.not_9 e
+none_has left tag others (Method class name) f e = apart tag 10 others.not_10 e
+none_has left tag others (IMethod class name) f e = apart tag 11 others.not_11 e
+none_has left tag others (NameAndType name desc) f e = apart tag 12 others.not_12 e
+none_has left tag others Second f e = false≢true (sym f.first)
+
+payload_is : (at left tag : ℕ) → IsPayload left tag (payload_at at left tag)
+unfolding payload_at
+payload_is at left tag =
+    choose (eqb tag 1) (λ t. utf8_is left tag (eqb-true _ _ t)) (λ n1.
+    choose (eqb tag 3) (λ t. integer_is left tag (eqb-true _ _ t)) (λ n3.
+    choose (eqb tag 4) (λ t. float_is left tag (eqb-true _ _ t)) (λ n4.
+    choose (eqb tag 5) (λ t. long_is at left tag (eqb-true _ _ t)) (λ n5.
+    choose (eqb tag 6) (λ t. double_is at left tag (eqb-true _ _ t)) (λ n6.
+    choose (eqb tag 7) (λ t. class_is left tag (eqb-true _ _ t)) (λ n7.
+    choose (eqb tag 8) (λ t. str_is left tag (eqb-true _ _ t)) (λ n8.
+    choose (eqb tag 9) (λ t. field_is left tag (eqb-true _ _ t)) (λ n9.
+    choose (eqb tag 10) (λ t. method_is left tag (eqb-true _ _ t)) (λ n10.
+    choose (eqb tag 11) (λ t. imethod_is left tag (eqb-true _ _ t)) (λ n11.
+    choose (eqb tag 12) (λ t. name_and_type_is left tag (eqb-true _ _ t)) (λ n12.
+    refuse (λ _. Tag at tag) (λ c f k. none_has left tag (record { not_1 = n1; not_3 = n3; not_4 = n4; not_5 = n5; not_6 = n6; not_7 = n7; not_8 = n8; not_9 = n9; not_10 = n10; not_11 = n11; not_12 = n12 }) c f k.1))))))))))))
+
+tag_small : (c : Const) → tag_of c < 256
+tag_small (Utf8 bytes) = omega arith
+tag_small (Integer n) = omega arith
+tag_small (Float bits) = omega arith
+tag_small (Long n) = omega arith
+tag_small (Double bits) = omega arith
+tag_small (Class name) = omega arith
+tag_small (Str bytes) = omega arith
+tag_small (Field class name) = omega arith
+tag_small (Method class name) = omega arith
+tag_small (IMethod class name) = omega arith
+tag_small (NameAndType name desc) = omega arith
+tag_small Second = omega arith
+
+tagged_is : (c : Const) → is_second c ≡ false → spelling.u1 (tag_of c) ++ payload c ≡ spelling.constant c
+tagged_is (Utf8 bytes) e = refl
+tagged_is (Integer n) e = refl
+tagged_is (Float bits) e = refl
+tagged_is (Long n) e = refl
+tagged_is (Double bits) e = refl
+tagged_is (Class name) e = refl
+tagged_is (Str bytes) e = refl
+tagged_is (Field class name) e = refl
+tagged_is (Method class name) e = refl
+tagged_is (IMethod class name) e = refl
+tagged_is (NameAndType name desc) e = refl
+tagged_is Second e = absurd (false≢true (sym e))
+
+constant_is : (left : ℕ) → IsReader (constant_at left) spelling.constant (Stands left)
+unfolding constant_at
+constant_is left = spelled_where {spell = λ c. spelling.u1 (tag_of c) ++ payload c} (said (then_from {spell = payload} {Fits = Stands left} {known = λ _. Unit {0}} (λ place tag. payload_at place.at left tag.0 tag.1) u1_is tag_of (λ c k. tt) (λ place tag k. payload_is place.at left tag))
+      (λ c f k. (f.1, tt)) (λ c f k. ((tag_small c, f), tt)))
+    (λ c f k. tagged_is c f.first)
+
+-- ---- places
+
+-- a place with `left` places after it
+record StandsAt (second : Bool) (left : ℕ) (c : Const) : Type 0 where
+  fits : FitsConst c
+  first : is_second c ≡ second
+  room : takes_two c ≡ true → 0 < left
+
+second_is : (c : Const) → is_second c ≡ true → c ≡ Second
+second_is Second e = refl
+second_is c e = absurd (false≢true e)
+
+second_at : (left : ℕ) → IsReader (place_at true left) spelling.constant (StandsAt true left)
+unfolding place_at
+second_at left = said (spelled_where {spell = λ c. []} (done {known = λ c. c ≡ Second} Second refl (λ c k. k)) (λ c f k. sym (ap spelling.constant k)))
+    (λ c f k. (subst (StandsAt true left) (sym k) (record { fits = tt; first = refl; room = λ e. no_room left e }), tt)) (λ c f k. (tt, second_is c f.first))
+
+place_is : (second : Bool) (left : ℕ) → IsReader (place_at second left) spelling.constant (StandsAt second left)
+unfolding place_at
+place_is true left = second_at left
+place_is false left = said (constant_is left) (λ c f k. (record { fits = f.fits; first = f.first; room = f.room }, tt)) (λ c f k. (record { fits = f.fits; first = f.first; room = f.room }, tt))
+
+-- Second stands where it is due, as far as the places go.
+abbrev Due : Bool → List Const → Type 0
+Due second [] = Unit {0}
+Due second (c ∷ cs) = (is_second c ≡ second) × (takes_two c ≡ true → 0 < length cs) × Due (takes_two c) cs
+
+due_has : (second : Bool) (cs : List Const) → Due second cs → (second ≡ true → 0 < length cs) → HasSeconds second cs
+due_has true [] d some = let h : 0 < 0 = some refl in absurd (omega arith)
+due_has false [] d some = refl
+due_has second (c ∷ cs) d some = (d.0, due_has (takes_two c) cs d.2 d.1)
+
+has_due : (second : Bool) (cs : List Const) → HasSeconds second cs → Due second cs × (second ≡ true → 0 < length cs)
+has_due second [] h = (tt, λ e. absurd (false≢true (sym h ∙ e)))
+has_due second (c ∷ cs) h =
+    let rest = has_due (takes_two c) cs h.1 in
+    ((h.0, rest.1, rest.0), λ e. omega arith)
+
+places_takes : (second : Bool) (n : ℕ) (place : Place) (xs : List Const) (next : Place) → IsBytes place.rest → places_at second n place ≡ Ok (xs, next)
+    → Took place (flat_map spelling.constant xs) next × (Due second xs × AllByRecursion FitsConst xs) × (length xs ≡ n)
+unfolding places_at
+places_takes second zero place xs next fits e =
+    subst (λ (y : List Const × Place). Took place (flat_map spelling.constant y.0) y.1 × (Due second y.0 × AllByRecursion FitsConst y.0) × (length y.0 ≡ 0)) (ok_is ClassFault ([], place) (xs, next) e) (record { parts = refl; moved = omega arith; fits = fits }, (tt, tt), refl)
+places_takes second (suc n) place xs next fits e =
+    let a = bind_ok (place_at second n place) (λ first. places_at (takes_two first.0) n first.1 >>= λ others. Ok (first.0 ∷ others.0, others.1)) (xs, next) e in
+    let b = bind_ok (places_at (takes_two a.0.0) n a.0.1) (λ others. Ok (a.0.0 ∷ others.0, others.1)) (xs, next) a.2 in
+    let first = (place_is second n).takes place a.0.0 a.0.1 fits a.1 in
+    let others = places_takes (takes_two a.0.0) n a.0.1 b.0.0 b.0.1 first.0.fits b.1 in
+    let both = Took-then place (spelling.constant a.0.0) a.0.1 (flat_map spelling.constant b.0.0) b.0.1 first.0 others.0 in
+    let room : takes_two a.0.0 ≡ true → 0 < length b.0.0 = λ two. let h = first.1.room two in omega (arith, others.2, h) in
+    let made : List Const × Place = (a.0.0 ∷ b.0.0, b.0.1) in
+    subst (λ (y : List Const × Place). Took place (flat_map spelling.constant y.0) y.1 × (Due second y.0 × AllByRecursion FitsConst y.0) × (length y.0 ≡ suc n)) (ok_is ClassFault made (xs, next) b.2) (both, ((first.1.first, room, others.1.0), (first.1.fits, others.1.1)), ap suc others.2)
+
+places_again : (xs : List Const) (second : Bool) (place : Place) (rest : List ℕ) → Due second xs → AllByRecursion FitsConst xs → place.rest ≡ flat_map spelling.constant xs ++ rest
+    → places_at second (length xs) place ≡ Ok (xs, after place (flat_map spelling.constant xs) rest)
+unfolding places_at
+places_again [] second place rest due fits e =
+    let n : place.at + 0 ≡ place.at = omega arith in
+    rw (n, ← e) refl
+places_again (x ∷ xs) second place rest due fits e =
+    let mid = after place (spelling.constant x) (flat_map spelling.constant xs ++ rest) in
+    let one = (place_is second (length xs)).again place x (flat_map spelling.constant xs ++ rest) (record { fits = fits.0; first = due.0; room = due.1 }) tt (e ∙ append_assoc (spelling.constant x) (flat_map spelling.constant xs) rest) in
+    let two = places_again xs (takes_two x) mid rest due.2 fits.1 refl in
+    let far : place.at + length (spelling.constant x) + length (flat_map spelling.constant xs) ≡ place.at + length (spelling.constant x ++ flat_map spelling.constant xs) = omega (arith, length-append (spelling.constant x) (flat_map spelling.constant xs)) in
+    rw (one, two, far) refl
+
+places_is : (second : Bool) (n : ℕ) → IsTail (places_at second n) (λ xs. flat_map spelling.constant xs) (λ xs. Due second xs × AllByRecursion FitsConst xs) (λ xs. length xs ≡ n)
+places_is second n = record {
+  takes = λ place xs next fits e. places_takes second n place xs next fits e;
+  again = λ place xs rest fits h e.
+  subst (λ (k : ℕ). places_at second k place ≡ Ok (xs, after place (flat_map spelling.constant xs) rest)) h (places_again xs second place rest fits.0 fits.1 e);
+}
+
+-- ---- indices
+
+index_named : (pool : List Const) (kind : Kind) (index at : ℕ) → index_checked pool kind index at ≡ Ok tt → names kind pool index ≡ true
+unfolding index_checked
+index_named pool kind index at e = need_holds (names kind pool index) (Index at) e
+
+named_index : (pool : List Const) (kind : Kind) (index at : ℕ) → names kind pool index ≡ true → index_checked pool kind index at ≡ Ok tt
+unfolding index_checked
+named_index pool kind index at h = holds_need (names kind pool index) (Index at) h
+
+pair_named : (pool : List Const) (kind : Kind) (m : ℕ) (other : Kind) (n at : ℕ) → pair_checked pool kind m other n at ≡ Ok tt → (names kind pool m ≡ true) × (names other pool n ≡ true)
+unfolding pair_checked
+pair_named pool kind m other n at e =
+    let b = bind_ok (index_checked pool kind m (at + 1)) (λ _. index_checked pool other n (at + 3)) tt e in
+    (index_named pool kind m (at + 1) b.1, index_named pool other n (at + 3) b.2)
+
+named_pair : (pool : List Const) (kind : Kind) (m : ℕ) (other : Kind) (n at : ℕ) → (names kind pool m ≡ true) × (names other pool n ≡ true) → pair_checked pool kind m other n at ≡ Ok tt
+unfolding pair_checked
+named_pair pool kind m other n at h = rw (named_index pool kind m (at + 1) h.0) (named_index pool other n (at + 3) h.1)
+
+constant_named : (pool : List Const) (c : Const) (at : ℕ) → constant_checked pool c at ≡ Ok tt → IsNamed pool c
+constant_named pool (Class name) at e = index_named pool kinds.Utf8 name (at + 1) e
+constant_named pool (Str bytes) at e = index_named pool kinds.Utf8 bytes (at + 1) e
+constant_named pool (Field class name) at e = pair_named pool kinds.Class class kinds.NameAndType name at e
+constant_named pool (Method class name) at e = pair_named pool kinds.Class class kinds.NameAndType name at e
+constant_named pool (IMethod class name) at e = pair_named pool kinds.Class class kinds.NameAndType name at e
+constant_named pool (NameAndType name desc) at e = pair_named pool kinds.Utf8 name kinds.Utf8 desc at e
+constant_named pool c at e = tt
+
+named_constant : (pool : List Const) (c : Const) (at : ℕ) → IsNamed pool c → constant_checked pool c at ≡ Ok tt
+named_constant pool (Class name) at h = named_index pool kinds.Utf8 name (at + 1) h
+named_constant pool (Str bytes) at h = named_index pool kinds.Utf8 bytes (at + 1) h
+named_constant pool (Field class name) at h = named_pair pool kinds.Class class kinds.NameAndType name at h
+named_constant pool (Method class name) at h = named_pair pool kinds.Class class kinds.NameAndType name at h
+named_constant pool (IMethod class name) at h = named_pair pool kinds.Class class kinds.NameAndType name at h
+named_constant pool (NameAndType name desc) at h = named_pair pool kinds.Utf8 name kinds.Utf8 desc at h
+named_constant pool c at h = refl
+
+all_named : (pool cs : List Const) (at : ℕ) → all_checked pool cs at ≡ Ok tt → AllByRecursion (IsNamed pool) cs
+unfolding all_checked
+all_named pool [] at e = tt
+all_named pool (c ∷ cs) at e =
+    let b = bind_ok (constant_checked pool c at) (λ _. all_checked pool cs (at + length (spelling.constant c))) tt e in
+    (constant_named pool c at b.1, all_named pool cs (at + length (spelling.constant c)) b.2)
+
+named_all : (pool cs : List Const) (at : ℕ) → AllByRecursion (IsNamed pool) cs → all_checked pool cs at ≡ Ok tt
+unfolding all_checked
+named_all pool [] at h = refl
+named_all pool (c ∷ cs) at h = rw (named_constant pool c at h.0) (named_all pool cs (at + length (spelling.constant c)) h.1)
+
+-- ---- the pool
+
+-- a pool, or no place
+pub record IsPool (pool : List Const) : Type 0 where
+  pub count : IsU2 (length pool)
+  pub each : AllByRecursion FitsConst pool
+  pub due : Due true pool
+  pub named : AllByRecursion (IsNamed pool) pool
+
+pub pool_is : IsReader pool_at (spelling.counted spelling.constant) IsPool
+unfolding pool_at
+pool_is = said (then {spell = λ (cs : List Const). flat_map spelling.constant cs} {Fits = λ cs. (Due true cs × AllByRecursion FitsConst cs) × AllByRecursion (IsNamed cs) cs} {known = λ _. Unit {0}}
+      (λ count. places_at true count.0 count.1 >>= λ pool. all_checked pool.0 pool.0 count.1.at >>= λ _. Ok pool) u2_is length (λ a k. tt)
+      (λ n k. checked (λ cs. AllByRecursion (IsNamed cs) cs) (λ p cs. all_checked cs cs p.at) (said (places_is true n) (λ a f k. (f, (tt, k))) (λ a f k. (f, k.1)))
+        (λ p cs e. all_named cs cs p.at e) (λ p cs h. named_all cs cs p.at h)))
+    (λ a f k. (record { count = f.0; each = f.1.0.1; due = f.1.0.0; named = f.1.1 }, tt)) (λ a f k. ((f.count, ((f.due, f.each), f.named)), tt))
+
+-- A pool with a place is one of a class file.
+pub whole_pool : (pool : List Const) → 0 < length pool → IsPool pool → FitsPool pool
+whole_pool pool some is = record { count = is.count; each = is.each; seconds = due_has true pool is.due (λ e. some); named = is.named }
+
+pub pool_whole : (pool : List Const) → FitsPool pool → IsPool pool
+pool_whole pool is = record { count = is.count; each = is.each; due = (has_due true pool is.seconds).0; named = is.named }

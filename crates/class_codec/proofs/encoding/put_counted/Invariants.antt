@@ -1,0 +1,7 @@
+use Rattle.std.proofs.Common.{◌≡◌, ◌++◌, length, take}
+use Rattle.std.specs.List.{flat_map}
+use Rattle.class_codec.specs.Spelling.{u2}
+use Rattle.class_codec.proofs.encoding.put_counted.Given as goal
+
+abbrev pub invariant-loop-item : goal.invariant-loop-item
+invariant-loop-item g l = l.out ≡ l.fn.out ++ (u2 (length l.items) ++ flat_map g.T.Spelled.spelled (take l.item-index l.items))
