@@ -1,13 +1,13 @@
 -- What a listing is, and which listing a text spells.
-use Rattle.std.specs.Prelude.{◌≡◌, ◌≢◌, ℕ, ◌≤◌, Bool, true, false, List, [], ◌∷◌, ◌++◌, length, codes, All, AllPairs, Any, Option, Some, None, IsTrue}
-use Rattle.std.specs.List.{filter_map}
+use Rattle.std.specs.Prelude.{◌≡◌, ◌≢◌, ℕ, ◌≤◌, Bool, true, false, List, [], ◌∷◌, ◌++◌, length, codes, AllPairs, bytes_eq, not, ◌&&◌, ◌==◌, Option, Some, None, IsTrue}
+use Rattle.std.specs.List.{filter_map, list_any, list_all}
 use Rattle.mon_base.specs.declared.method.MethodId.{MethodId}
 use Rattle.inliner_tool.specs.declared.listing.ListedClass.{ListedClass}
 use Rattle.inliner_tool.specs.declared.listing.ListedMethod.{ListedMethod}
 use Rattle.inliner_tool.specs.declared.listing.Listing.{Listing}
 use Rattle.inliner_tool.specs.declared.listing.lines.Line.{Line}
 use Rattle.inliner_tool.specs.declared.listing.lines.Line.TheVariants.{Class, Static}
-use Rattle.inliner_tool.specs.Words.{IsClassName}
+use Rattle.inliner_tool.specs.Words.{is_class_name}
 use Rattle.inliner_tool.specs.BuiltIn.{object, built_in_classes, is_built_in}
 use Rattle.inliner_tool.specs.Lines.{Says}
 
@@ -31,25 +31,25 @@ method_of (Static class name) = Some (static_method class name)
 abbrev pub listing_of : List Line → Listing
 listing_of lines = record { classes = built_in_classes ++ filter_map class_of lines; methods = filter_map method_of lines; fields = [] }
 
--- A class that is built in or listed has the name.
-abbrev pub IsKnown : List ListedClass → List ℕ → Type 0
-IsKnown classes name = Any (λ c. c.name ≡ name) classes
+-- whether one of the classes has the name
+abbrev pub is_known : List ListedClass → List ℕ → Bool
+is_known classes name = list_any (λ c. bytes_eq c.name name) classes
 
--- A name that a class may have: the tool keeps `conspec/State` for itself.
-abbrev pub MayName : List ℕ → Type 0
-MayName name = IsClassName name × (name ≢ codes "conspec/State")
+-- whether a class may have the name: the tool keeps `conspec/State` for itself
+abbrev pub may_name : List ℕ → Bool
+may_name name = is_class_name name && not (bytes_eq name (codes "conspec/State"))
 
--- A method that a listing may declare.
-pub record MayDeclare (classes : List ListedClass) (m : ListedMethod) : Type 0 where
-  pub class : IsKnown classes m.id.class
-  pub name : m.id.name ≢ []
-  pub own : is_built_in m.id.class m.id.name m.id.desc ≡ false
+-- whether a listing may declare the method: its class is known, it has a name, and it is not built in
+abbrev pub may_declare : List ListedClass → ListedMethod → Bool
+may_declare classes m =
+    is_known classes m.id.class
+    && (not (length m.id.name == 0) && not (is_built_in m.id.class m.id.name m.id.desc))
 
 pub record IsSound (listing : Listing) : Type 0 where
   pub few : length listing.methods ≤ 20000
-  pub names : All (λ c. MayName c.name) listing.classes
+  pub names : IsTrue (list_all (λ c. may_name c.name) listing.classes)
   pub classes_once : AllPairs (λ c d. c.name ≢ d.name) listing.classes
-  pub methods : All (MayDeclare listing.classes) listing.methods
+  pub methods : IsTrue (list_all (may_declare listing.classes) listing.methods)
   pub methods_once : AllPairs (λ m n. m.id ≢ n.id) listing.methods
 
 pub record SpellsListing (text : List ℕ) (listing : Listing) : Type 0 where

@@ -21,5 +21,8 @@ is_segment [] = false
 is_segment (b ∷ bytes) = list_all is_name_byte (b ∷ bytes)
 
 -- segments joined by `/`
+abbrev pub is_class_name : List ℕ → Bool
+is_class_name name = list_all is_segment (pieces 47 name)
+
 abbrev pub IsClassName : List ℕ → Type 0
-IsClassName name = IsTrue (list_all is_segment (pieces 47 name))
+IsClassName name = IsTrue (is_class_name name)

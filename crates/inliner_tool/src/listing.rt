@@ -11,7 +11,7 @@ pub use built_in::is_built_in;
 pub use lookup::{Declared, is_known_class, nearest};
 use mon_base::{Bytes, List, MethodId};
 pub use reading::read_listing;
-pub use words::{class_name, continues_name, is_text, pieces, starts_name};
+pub use words::{all_continue, class_name, continues_name, is_text, pieces, starts_name};
 
 /// A method of a listing.
 #[derive(Debug, Drop, PartialEq, Eq)]

@@ -48,8 +48,9 @@ fn classes_of(alloc: Global, said: &[Line]) -> Result<List<ListedClass>, NoMemor
 {
     let mut classes = built_in_classes(alloc)?;
     for line in said {
-        if let Line::Class(name) = line {
-            classes.push(listed_class(alloc, name)?)?;
+        match line {
+            Line::Class(name) => classes.push(listed_class(alloc, name)?)?,
+            Line::Static { .. } => {}
         }
     }
     Ok(classes)
@@ -71,8 +72,9 @@ fn methods_of(alloc: Global, said: &[Line]) -> Result<List<ListedMethod>, NoMemo
 {
     let mut methods = List::new(alloc);
     for line in said {
-        if let Line::Static { class, name } = line {
-            methods.push(listed_method(alloc, class, name)?)?;
+        match line {
+            Line::Static { class, name } => methods.push(listed_method(alloc, class, name)?)?,
+            Line::Class(_) => {}
         }
     }
     Ok(methods)

@@ -53,15 +53,25 @@ pub fn is_text(bytes: &[u8], text: &str) -> bool
     bytes == text.as_bytes()
 }
 
-fn segment(text: &[u8]) -> bool
-    ensures { result ≡ is_segment text.now }
+/// Whether a name may go on with each of the bytes.
+pub fn all_continue(bytes: &[u8]) -> bool
+    ensures { result ≡ list_all is_name_byte bytes.now }
 {
-    for b in text {
+    for b in bytes {
         if !continues_name(*b) {
             return false;
         }
     }
-    !text.is_empty()
+    true
+}
+
+fn segment(text: &[u8]) -> bool
+    ensures { result ≡ is_segment text.now }
+{
+    match text {
+        [] => false,
+        [_, ..] => all_continue(text),
+    }
 }
 
 /// Whether the text is a class's name: segments of ASCII letters, digits, `_` and `$`, joined by `/`.

@@ -2,10 +2,9 @@
 
 ghost use Rattle.std.specs.Prelude.{◌≡◌, IfOk, bytes_eq};
 ghost use Rattle.std.specs.List.{list_any, list_all};
-ghost use Rattle.inliner_tool.specs.Words.{is_name_byte};
 ghost use Rattle.inliner_tool.specs.Policy.{keywords, has_name_form, is_policy_name, may_deny};
 
-use crate::listing::{continues_name, is_text, pieces, starts_name};
+use crate::listing::{all_continue, is_text, pieces, starts_name};
 use mon_base::{Bytes, MethodId, NoMemory};
 use std::alloc::Global;
 
@@ -47,17 +46,6 @@ fn has_name_form(token: &[u8]) -> bool
         [] => false,
         [first, rest @ ..] => starts_name(*first) && all_continue(rest),
     }
-}
-
-fn all_continue(bytes: &[u8]) -> bool
-    ensures { result ≡ list_all is_name_byte bytes.now }
-{
-    for b in bytes {
-        if !continues_name(*b) {
-            return false;
-        }
-    }
-    true
 }
 
 fn is_keyword(token: &[u8]) -> bool
