@@ -1,6 +1,10 @@
 -- What lines say, one line after the other.
-use Rattle.std.proofs.Common.{◌≡◌, ℕ, Bool, true, false, List, [], ◌∷◌, ◌++◌, length, map, refl, sym, ap, ◌∙◌, append_assoc}
+use Rattle.std.proofs.Common.{◌≡◌, ℕ, Bool, true, false, List, [], ◌∷◌, ◌++◌, length, map, get_or, take, ◌+◌, ◌<◌, Option, Some, None, refl, sym, ap, ◌∙◌, append_assoc}
 use Rattle.std.specs.Prelude.{filter}
+use Rattle.std.specs.List.{filter_map}
+use Rattle.std.specs.Option.{option_to_list}
+use Rattle.std.proofs.lemmas.List.{take_more}
+use Rattle.std.proofs.lemmas.List.Elements.{filter_map-append}
 use Rattle.inliner_tool.specs.declared.listing.lines.Line.{Line}
 use Rattle.inliner_tool.specs.declared.listing.lines.Line.TheVariants.{Class, Static}
 use Rattle.inliner_tool.specs.Words.{pieces}
@@ -22,3 +26,22 @@ pub no_said : (said other : List Line) (left : List (List ℕ)) (line : List ℕ
 no_said said other left line rest all is says none so_far e =
     let first : said_in left ≡ pieces 32 line ∷ said_in rest = rw (is, says) refl in
     no_line said other (pieces 32 line) (said_in rest) none (sym (ap (λ (t : List (List (List ℕ))). map words_of said ++ t) first) ∙ so_far ∙ e)
+
+one : {X Y : Type 0} (h : X → Option Y) (x : X) (o : Option Y) → h x ≡ o → filter_map h (x ∷ []) ≡ option_to_list o
+one h x None e = rw e refl
+one h x (Some y) e = rw e refl
+
+-- what h gives of one item more
+pub filter_map_more : {X Y : Type 0} (h : X → Option Y) (xs : List X) (i : ℕ) (d : X) → i < length xs → filter_map h (take (i + 1) xs) ≡ filter_map h (take i xs) ++ option_to_list (h (get_or xs i d))
+filter_map_more h xs i d lt =
+    ap (filter_map h) (take_more xs i d lt) ∙ filter_map-append h (take i xs) (get_or xs i d ∷ [])
+      ∙ ap (λ (t : List _). filter_map h (take i xs) ++ t) (one h (get_or xs i d) (h (get_or xs i d)) refl)
+
+-- a loop that adds what h gives of each item
+pub more_given : {X Y : Type 0} (h : X → Option Y) (xs : List X) (i : ℕ) (x : X) (front so_far new : List Y) → i < length xs → x ≡ get_or xs i x
+    → so_far ≡ front ++ filter_map h (take i xs) → new ≡ so_far ++ option_to_list (h x) → new ≡ front ++ filter_map h (take (i + 1) xs)
+more_given h xs i x front so_far new lt is before added =
+    added
+      ∙ ap (λ (t : List _). t ++ option_to_list (h x)) before
+      ∙ append_assoc front (filter_map h (take i xs)) (option_to_list (h x))
+      ∙ ap (λ (t : List _). front ++ t) (ap (λ y. filter_map h (take i xs) ++ option_to_list (h y)) is ∙ sym (filter_map_more h xs i x lt))
