@@ -12,7 +12,7 @@ use Rattle.inliner_tool.specs.declared.certificate.FrameType.{FrameType}
 use Rattle.inliner_tool.specs.Certificate
 use Rattle.inliner_tool.specs.Certificate.{Name, place_of, StandOnce, type_names, frame_names, class_names, head, spell_name, spell_names, spell_type, spell_types, spell_instruction, spell_method, spell_class, spell_classes, is_top, ends_with_top, CanSpellFrame, CanSpellMethod, CanSpellClass, CanSpellNames, CanSpellClasses}
 use Rattle.inliner_tool.specs.CertificateReading.{Read, number, name_at, names_at, reference_at, type_of_kind, type_at, types_at, instruction_at, method_at, class_at, classes_at}
-use Rattle.inliner_tool.proofs.Names.{get_or-place}
+use Rattle.inliner_tool.proofs.CertificateNames.{get_or-place}
 
 -- ---- the table of names
 

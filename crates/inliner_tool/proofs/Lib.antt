@@ -1,4 +1,17 @@
+pub mod CertificateNames
+pub mod Climbing
 pub mod CodeBytes
-pub mod Notes
-pub mod Steps
 pub mod FrameTypes
+pub mod Laws
+pub mod Listings
+pub mod Lists
+mod Loops
+pub mod Names
+pub mod Notes
+mod Order
+pub mod Numbers
+pub mod Said
+mod Seen
+pub mod Steps
+pub mod Tables
+mod Whole

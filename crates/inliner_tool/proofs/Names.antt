@@ -1,53 +1,34 @@
--- The places of names.
-use Rattle.std.proofs.Common.{◌≡◌, ℕ, zero, suc, ◌+◌, ◌<◌, ◌≤◌, Bool, true, false, cond, ltb, List, [], ◌∷◌, ◌++◌, length, get_or, Option, inl, inr, refl, sym, ap, ◌∙◌, arith}
+-- Tests of names tell whether they are the same.
+use Rattle.std.proofs.Common.{◌≡◌, ℕ, Bool, true, false, List, sym, ap, refl, ◌∙◌, ◌&&◌}
 use Rattle.std.specs.Prelude.{bytes_eq}
-use Rattle.std.specs.List.{flat_map}
-use Rattle.std.proofs.lemmas.Bool.{cases_lt, le-ltb, lt-ltb, false≢true}
-use Rattle.std.proofs.lemmas.List.{append-nil}
-use Rattle.std.proofs.lemmas.List.Sums.{fold-append}
-use Rattle.std.proofs.lemmas.Grind.{flat_map-append}
+use Rattle.std.specs.Bool.{Decides}
 use Rattle.std.proofs.lemmas.Slice.Eq.{bytes_eq-Decides}
-use Rattle.inliner_tool.specs.Certificate.{Name, place_of, StandOnce}
-use Rattle.inliner_tool.specs.CertificateReading.{counted_with, used_after}
+use Rattle.std.proofs.lemmas.Bool.Decides.{Decides-and}
+use Rattle.mon_base.specs.declared.method.MethodId.{MethodId}
+use Rattle.inliner_tool.specs.declared.listing.ListedClass.{ListedClass}
+use Rattle.inliner_tool.specs.declared.listing.ListedMethod.{ListedMethod}
+use Rattle.inliner_tool.specs.BuiltIn.{is_method}
 
--- where the name stands it is found no later
-pub place-le : (names : List Name) (i : ℕ) → i < length names → place_of names (get_or names i []) ≤ i
-place-le [] i lt = absurd (omega arith)
-place-le (first ∷ names) zero lt = rw ((bytes_eq-Decides first first).1 refl) (omega arith)
-place-le (first ∷ names) (suc i) lt =
-    let h = place-le names i (omega arith) in
-    by (bytes_eq first (get_or names i [])) h where
-      by : (b : Bool) → place_of names (get_or names i []) ≤ i → cond b 0 (suc (place_of names (get_or names i []))) ≤ suc i
-      by true h = omega arith
-      by false h = omega arith
+pub name_exact : (c d : ListedClass) → Decides (bytes_eq d.name c.name) (c.name ≡ d.name)
+name_exact c d = let e = bytes_eq-Decides d.name c.name in (λ t. sym (e.0 t), λ q. e.1 (sym q))
 
--- what is found is the name
-pub get_or-place : (names : List Name) (name : Name) → place_of names name < length names → get_or names (place_of names name) [] ≡ name
-get_or-place [] name lt = absurd (omega arith)
-get_or-place (first ∷ names) name lt = by (bytes_eq first name) refl lt (get_or-place names name) where
-  by : (b : Bool) → bytes_eq first name ≡ b → cond b 0 (suc (place_of names name)) < suc (length names)
-      → (place_of names name < length names → get_or names (place_of names name) [] ≡ name) → get_or (first ∷ names) (cond b 0 (suc (place_of names name))) [] ≡ name
-  by true e lt later = (bytes_eq-Decides first name).0 e
-  by false e lt later = later (omega arith)
+pub id_is : (a b : MethodId) → a.class ≡ b.class → a.name ≡ b.name → a.desc ≡ b.desc → a ≡ b
+id_is a b c n d =
+    let made : List ℕ → List ℕ → List ℕ → MethodId = λ x y z. record { class = x; name = y; desc = z } in
+    ap (λ x. made x a.name a.desc) c ∙ ap (λ y. made b.class y a.desc) n ∙ ap (λ z. made b.class b.name z) d
 
--- the names of one item more are used
-pub used-push : {X : Type 0} (names_in : X → List Name) (names : List Name) (used : Option ℕ) (xs : List X) (x : X)
-    → used_after names used (flat_map names_in (xs ++ x ∷ [])) ≡ used_after names (used_after names used (flat_map names_in xs)) (names_in x)
-used-push names_in names used xs x =
-    ap (used_after names used) (flat_map-append names_in xs (x ∷ []) ∙ ap (λ (t : List Name). flat_map names_in xs ++ t) (append-nil (names_in x)))
-    ∙ fold-append (λ u name. counted_with u (place_of names name)) used (flat_map names_in xs) (names_in x)
+pub method_is : (class name desc : List ℕ) (id : MethodId) → is_method class name desc id ≡ true → (id.class ≡ class) × (id.name ≡ name) × (id.desc ≡ desc)
+method_is class name desc id t =
+    let inner = Decides-and (bytes_eq id.name name) (bytes_eq id.desc desc) (bytes_eq-Decides id.name name) (bytes_eq-Decides id.desc desc) in
+    let all = (Decides-and (bytes_eq id.class class) (bytes_eq id.name name && bytes_eq id.desc desc) (bytes_eq-Decides id.class class) inner).0 t in
+    (all.0, all.1.0, all.1.1)
 
--- which names stand in the table before the place i, and which before the next
-pub place-next : (names : List Name) (i : ℕ) (name : Name) → i < length names → place_of names (get_or names i []) ≡ i
-    → ltb (place_of names name) (i + 1) ≡ cond (bytes_eq (get_or names i []) name) true (ltb (place_of names name) i)
-place-next names i name lt own = by (bytes_eq (get_or names i []) name) refl where
-  by : (b : Bool) → bytes_eq (get_or names i []) name ≡ b → ltb (place_of names name) (i + 1) ≡ cond b true (ltb (place_of names name) i)
-  by true e =
-      let same : get_or names i [] ≡ name = (bytes_eq-Decides (get_or names i []) name).0 e in
-      lt-ltb _ _ (omega (arith, own, ap (place_of names) same))
-  by false e = elim (cases_lt (place_of names name) i) [
-    | inl below ↦ lt-ltb _ _ (omega arith) ∙ sym (lt-ltb _ _ below)
-    | inr above ↦
-        let far : (place_of names name ≡ i → ⊥) = λ at. absurd (false≢true (sym e ∙ (bytes_eq-Decides (get_or names i []) name).1 (ap (λ (k : ℕ). get_or names k []) (sym at) ∙ get_or-place names name (omega (arith, at))))) in
-        le-ltb _ _ (omega (arith, far)) ∙ sym (le-ltb _ _ above)
-  ]
+pub is_method_of : (class name desc : List ℕ) (id : MethodId) → id.class ≡ class → id.name ≡ name → id.desc ≡ desc → is_method class name desc id ≡ true
+is_method_of class name desc id c n d =
+    let inner = Decides-and (bytes_eq id.name name) (bytes_eq id.desc desc) (bytes_eq-Decides id.name name) (bytes_eq-Decides id.desc desc) in
+    (Decides-and (bytes_eq id.class class) (bytes_eq id.name name && bytes_eq id.desc desc) (bytes_eq-Decides id.class class) inner).1 (c, (n, d))
+
+pub id_exact : (m n : ListedMethod) → Decides (is_method m.id.class m.id.name m.id.desc n.id) (m.id ≡ n.id)
+id_exact m n =
+    (λ t. let e = method_is m.id.class m.id.name m.id.desc n.id t in id_is m.id n.id (sym e.0) (sym e.1) (sym e.2),
+     λ q. is_method_of m.id.class m.id.name m.id.desc n.id (ap (λ (i : MethodId). i.class) (sym q)) (ap (λ (i : MethodId). i.name) (sym q)) (ap (λ (i : MethodId). i.desc) (sym q)))

@@ -8,7 +8,7 @@ use Rattle.std.proofs.lemmas.List.{append-nil, length-append, length-take, take_
 use Rattle.std.proofs.lemmas.Grind.{common_steps}
 use Rattle.inliner_tool.specs.Certificate.{Name, place_of, with_name, StandOnce}
 use Rattle.inliner_tool.specs.CertificateReading.{counted_with, used_after}
-use Rattle.inliner_tool.proofs.Names.{place-le, get_or-place}
+use Rattle.inliner_tool.proofs.CertificateNames.{place-le, get_or-place}
 use Rattle.inliner_tool.proofs.Laws.{StandIn}
 
 place-within : (names : List Name) (name : Name) → place_of names name ≤ length names

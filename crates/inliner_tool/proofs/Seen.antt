@@ -6,7 +6,7 @@ use Rattle.std.specs.Ordering.{nat_cmp, is_eq}
 use Rattle.std.proofs.lemmas.Bool.{ltb-false, ltb-true, false≢true}
 use Rattle.std.proofs.lemmas.Map.Text.{is_eq-slice_cmp}
 use Rattle.inliner_tool.specs.Certificate.{Name, place_of, StandOnce}
-use Rattle.inliner_tool.proofs.Names.{place-le, place-next}
+use Rattle.inliner_tool.proofs.CertificateNames.{place-le, place-next}
 
 abbrev pub has : BTreeSet (Bor Name) → Name → Bool
 has seen name = contains_by (λ key. slice_cmp nat_cmp name key.now) seen

@@ -29,7 +29,7 @@ abbrev pub bad_argument : List ℕ
 bad_argument = codes "java/lang/IllegalArgumentException"
 
 -- each built-in class with its superclass; Object has none
-abbrev pub class_rows : List (List ℕ × List ℕ)
+unfoldable pub class_rows : List (List ℕ × List ℕ)
 class_rows =
     (object, [])
     ∷ (codes "java/lang/Class", object)
@@ -92,7 +92,7 @@ constructors class =
     ∷ (class, codes "<init>", codes "(Ljava/lang/String;)V", false)
     ∷ []
 
-abbrev pub method_rows : List MethodRow
+unfoldable pub method_rows : List MethodRow
 method_rows =
     (object, codes "<init>", codes "()V", false)
     ∷ (thread, codes "<init>", codes "()V", false)
@@ -108,6 +108,9 @@ method_rows =
 abbrev pub is_method : List ℕ → List ℕ → List ℕ → MethodId → Bool
 is_method class name desc id = bytes_eq id.class class && (bytes_eq id.name name && bytes_eq id.desc desc)
 
+abbrev pub is_row : List ℕ → List ℕ → List ℕ → MethodRow → Bool
+is_row class name desc row = bytes_eq row.0 class && (bytes_eq row.1 name && bytes_eq row.2 desc)
+
 -- whether the class has the method built in
 abbrev pub is_built_in : List ℕ → List ℕ → List ℕ → Bool
-is_built_in class name desc = list_any (λ r. bytes_eq r.0 class && (bytes_eq r.1 name && bytes_eq r.2 desc)) method_rows
+is_built_in class name desc = list_any (is_row class name desc) method_rows

@@ -2,12 +2,13 @@ pub mod Acceptance
 pub mod Automaton
 pub mod BuiltIn
 pub mod Certificate
+pub mod CertificateReading
 pub mod Classes
 pub mod Clauses
 pub mod CodeText
-pub mod Lines
 pub mod Forms
 pub mod Inputs
+pub mod Lines
 pub mod Linking
 pub mod Listing
 pub mod Machine

@@ -1,6 +1,6 @@
 -- Where a method is declared, from a class upwards.
-use Rattle.std.specs.Prelude.{ℕ, zero, suc, Bool, true, false, List, [], ◌∷◌, ◌++◌, length, map, position, find, bytes_eq, Option, Some, None}
-use Rattle.std.specs.List.{flat_map}
+use Rattle.std.specs.Prelude.{ℕ, zero, suc, Bool, true, false, List, [], ◌∷◌, ◌++◌, length, map, find, bytes_eq, Option, Some, None}
+use Rattle.std.specs.List.{flat_map, position_from}
 use Rattle.std.specs.Option.{option_or, option_map_or}
 use Rattle.inliner_tool.specs.declared.listing.ListedClass.{ListedClass}
 use Rattle.inliner_tool.specs.declared.listing.ListedMethod.{ListedMethod}
@@ -22,7 +22,7 @@ listed_or_built_in None false = None
 -- how the very class declares the method
 abbrev pub declared_in : List ListedMethod → List ℕ → List ℕ → List ℕ → Option Declared
 declared_in methods name desc class =
-    listed_or_built_in (position (λ m. is_method class name desc m.id) methods) (is_built_in class name desc)
+    listed_or_built_in (position_from (λ m. is_method class name desc m.id) 0 methods) (is_built_in class name desc)
 
 -- how the first of the classes that declares the method does
 abbrev pub first_declared : List ListedMethod → List ℕ → List ℕ → List (List ℕ) → Option Declared

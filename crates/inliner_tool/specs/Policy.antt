@@ -37,10 +37,14 @@ abbrev pub header : ℤ → List (List ℕ)
 header maxint =
     codes "MAXINT" ∷ signed_decimal maxint ∷ codes "SCOPE" ∷ codes "Session" ∷ codes "SECURITY" ∷ codes "STATE" ∷ []
 
+-- a name and a dot
+abbrev pub dotted : List ℕ → List (List ℕ)
+dotted name = name ∷ codes "." ∷ []
+
 -- `BEFORE void`, the names of the class and of the method with dots between, `() PERFORM`
 abbrev pub clause : MethodId → List (List ℕ)
 clause id =
-    (codes "BEFORE" ∷ codes "void" ∷ flat_map (λ name. name ∷ codes "." ∷ []) (pieces 47 id.class))
+    (codes "BEFORE" ∷ codes "void" ∷ flat_map dotted (pieces 47 id.class))
     ++ id.name ∷ codes "(" ∷ codes ")" ∷ codes "PERFORM" ∷ []
 
 -- the clause of the method with the index

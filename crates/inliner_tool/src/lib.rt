@@ -1,4 +1,4 @@
-//! The top call of conspecj.
+//! The top call of conspecj, and the definitions that it stands on.
 #![tactic(auto)]
 
 pub mod certificate;
@@ -6,7 +6,7 @@ pub mod checker;
 pub mod code;
 pub mod fault;
 mod inputs;
-mod linking;
+pub mod linking;
 pub mod listing;
 pub mod policy;
 pub mod program;

@@ -1,7 +1,8 @@
 //! The classes that every program has without declaring them, and their methods.
 
 ghost use Rattle.std.specs.Prelude.{◌≡◌, map, IfOk};
-ghost use Rattle.inliner_tool.specs.BuiltIn.{class_rows, class_of_row, built_in_classes, method_rows, is_built_in};
+ghost use Rattle.std.specs.List.{list_any};
+ghost use Rattle.inliner_tool.specs.BuiltIn.{class_of_row, built_in_classes, is_row, is_built_in};
 
 use crate::listing::ListedClass;
 use crate::listing::words::is_text;
@@ -204,14 +205,20 @@ pub static METHODS: [(&str, &str, &str, bool); 37] = [
 pub fn built_in_classes(alloc: Global) -> Result<List<ListedClass>, NoMemory>
     ensures { IfOk result (λ classes. classes ≡ built_in_classes) }
 {
+    classes_of_rows(alloc, CLASSES.as_slice())
+}
+
+fn classes_of_rows(alloc: Global, rows: &[(&str, &str)]) -> Result<List<ListedClass>, NoMemory>
+    ensures { IfOk result (λ classes. classes ≡ map (λ r. class_of_row (r.0.now, r.1.now)) rows.now) }
+{
     let mut classes = List::new(alloc);
-    for (name, parent) in CLASSES.iter() {
-        classes.push(built_in_class(alloc, name.as_bytes(), parent.as_bytes())?)?;
+    for (name, parent) in rows {
+        classes.push(class_of_row(alloc, name.as_bytes(), parent.as_bytes())?)?;
     }
     Ok(classes)
 }
 
-fn built_in_class(alloc: Global, name: &[u8], parent: &[u8]) -> Result<ListedClass, NoMemory>
+fn class_of_row(alloc: Global, name: &[u8], parent: &[u8]) -> Result<ListedClass, NoMemory>
     ensures { IfOk result (λ class. class ≡ class_of_row (name.now, parent.now)) }
 {
     let mut interfaces = List::new(alloc);
@@ -230,8 +237,15 @@ fn built_in_class(alloc: Global, name: &[u8], parent: &[u8]) -> Result<ListedCla
 pub fn is_built_in(class: &[u8], name: &[u8], desc: &[u8]) -> bool
     ensures { result ≡ is_built_in class.now name.now desc.now }
 {
-    for (of, named, described, _) in METHODS.iter() {
-        if of.as_bytes() == class && named.as_bytes() == name && described.as_bytes() == desc {
+    is_among(METHODS.as_slice(), class, name, desc)
+}
+
+fn is_among(rows: &[(&str, &str, &str, bool)], class: &[u8], name: &[u8], desc: &[u8]) -> bool
+    ensures { result ≡ list_any (λ r. is_row class.now name.now desc.now (r.0.now, r.1.now, r.2.now, r.3)) rows.now }
+{
+    for (of, named, described, _) in rows {
+        let same_class = of.as_bytes() == class;
+        if same_class && named.as_bytes() == name && described.as_bytes() == desc {
             return true;
         }
     }

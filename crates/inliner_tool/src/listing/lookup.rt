@@ -1,6 +1,7 @@
 //! Where a method is declared, from a class upwards.
 
-ghost use Rattle.std.specs.Prelude.{◌≡◌, ◌<◌, ◌^◌, length, position};
+ghost use Rattle.std.specs.Prelude.{◌≡◌, ◌<◌, ◌^◌, length};
+ghost use Rattle.std.specs.List.{position_from};
 ghost use Rattle.std.specs.Option.{option_copied};
 ghost use Rattle.inliner_tool.specs.Listing.{is_known};
 ghost use Rattle.inliner_tool.specs.BuiltIn.{is_method};
@@ -8,7 +9,7 @@ ghost use Rattle.inliner_tool.specs.Nearest.{class_named, declared_in, first_dec
 
 use crate::listing::built_in::is_built_in;
 use crate::listing::{ListedClass, ListedMethod, Listing};
-use mon_base::Bytes;
+use mon_base::{Bytes, MethodId};
 
 /// How a method is declared: by its index among the listed methods, or built in.
 #[derive(Clone, Copy, Debug, PartialEq, Eq)]
@@ -92,7 +93,7 @@ fn nearest_interface(listing: &Listing, class: &[u8], name: &[u8], desc: &[u8]) 
     None
 }
 
-pub fn find_class<'a>(classes: &'a [ListedClass], name: &[u8]) -> Option<&'a ListedClass>
+fn find_class<'a>(classes: &'a [ListedClass], name: &[u8]) -> Option<&'a ListedClass>
     ensures { option_copied result ≡ class_named classes.now name.now }
 {
     let mut left = classes;
@@ -143,16 +144,23 @@ fn declaration(methods: &[ListedMethod], class: &[u8], name: &[u8], desc: &[u8])
 /// The index of the first of the methods with this class, name and descriptor.
 pub fn index_of(methods: &[ListedMethod], class: &[u8], name: &[u8], desc: &[u8]) -> Option<u32>
     requires { length methods.now < 2 ^ 32 }
-    ensures { result ≡ position (λ m. is_method class.now name.now desc.now m.id) methods.now }
+    ensures { result ≡ position_from (λ m. is_method class.now name.now desc.now m.id) 0 methods.now }
 {
-    for (i, method) in methods.iter().enumerate() {
-        let id = &method.id;
-        if id.class.as_slice() == class
-            && id.name.as_slice() == name
-            && id.desc.as_slice() == desc
-        {
-            return Some(i as u32);
+    let mut index = 0;
+    let mut left = methods;
+    while let [method, rest @ ..] = left {
+        if is_method(&method.id, class, name, desc) {
+            return Some(index);
         }
+        index += 1;
+        left = rest;
     }
     None
+}
+
+/// Whether the method has this class, name and descriptor.
+pub fn is_method(id: &MethodId, class: &[u8], name: &[u8], desc: &[u8]) -> bool
+    ensures { result ≡ is_method class.now name.now desc.now id.now }
+{
+    id.class.as_slice() == class && id.name.as_slice() == name && id.desc.as_slice() == desc
 }

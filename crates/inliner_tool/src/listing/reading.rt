@@ -1,7 +1,8 @@
 //! A listing out of its text.
 
-ghost use Rattle.std.specs.Prelude.{◌≡◌, ◌++◌, IfOk, IsErrOf, MatchResult};
+ghost use Rattle.std.specs.Prelude.{◌≡◌, ◌++◌, IfOk, OnOk, IsErrOf, MatchResult};
 ghost use Rattle.std.specs.List.{filter_map};
+ghost use Rattle.std.specs.Option.{option_to_list};
 ghost use Rattle.inliner_tool.specs.declared.fault.FormFault.TheVariants as faults;
 ghost use Rattle.inliner_tool.specs.declared.listing.Listing.{Listing};
 ghost use Rattle.inliner_tool.specs.BuiltIn.{built_in_classes};
@@ -48,11 +49,18 @@ fn classes_of(alloc: Global, said: &[Line]) -> Result<List<ListedClass>, NoMemor
 {
     let mut classes = built_in_classes(alloc)?;
     for line in said {
-        if let Line::Class(name) = line {
-            classes.push(listed_class(alloc, name)?)?;
-        }
+        push_class(alloc, &mut classes, line)?;
     }
     Ok(classes)
+}
+
+fn push_class(alloc: Global, classes: &mut List<ListedClass>, line: &Line) -> Result<(), NoMemory>
+    ensures { OnOk result (classes.new ≡ classes.old ++ option_to_list (class_of line.now)) }
+{
+    match line {
+        Line::Class(name) => classes.push(listed_class(alloc, name)?),
+        Line::Static { .. } => Ok(()),
+    }
 }
 
 fn listed_class(alloc: Global, name: &Bytes) -> Result<ListedClass, NoMemory>
@@ -71,11 +79,18 @@ fn methods_of(alloc: Global, said: &[Line]) -> Result<List<ListedMethod>, NoMemo
 {
     let mut methods = List::new(alloc);
     for line in said {
-        if let Line::Static { class, name } = line {
-            methods.push(listed_method(alloc, class, name)?)?;
-        }
+        push_method(alloc, &mut methods, line)?;
     }
     Ok(methods)
+}
+
+fn push_method(alloc: Global, methods: &mut List<ListedMethod>, line: &Line) -> Result<(), NoMemory>
+    ensures { OnOk result (methods.new ≡ methods.old ++ option_to_list (method_of line.now)) }
+{
+    match line {
+        Line::Static { class, name } => methods.push(listed_method(alloc, class, name)?),
+        Line::Class(_) => Ok(()),
+    }
 }
 
 fn listed_method(alloc: Global, class: &Bytes, name: &Bytes) -> Result<ListedMethod, NoMemory>

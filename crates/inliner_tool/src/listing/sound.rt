@@ -1,11 +1,12 @@
 //! What has to hold of the classes and methods of a listing.
 
-ghost use Rattle.std.specs.Prelude.{◌≡◌, ◌≢◌, ◌↔◌, AllPairs, Any, IsTrue};
-ghost use Rattle.std.specs.List.{list_all};
+ghost use Rattle.std.specs.Prelude.{◌≡◌, ◌≢◌, ◌↔◌, AllPairs, IsTrue};
+ghost use Rattle.std.specs.List.{list_all, list_any};
+ghost use Rattle.inliner_tool.specs.BuiltIn.{is_method};
 ghost use Rattle.inliner_tool.specs.Listing.{may_name, may_declare, IsSound};
 
 use crate::listing::built_in::is_built_in;
-use crate::listing::lookup::is_named;
+use crate::listing::lookup::{is_method, is_named};
 use crate::listing::words::{class_name, is_text};
 use crate::listing::{ListedClass, ListedMethod, Listing};
 use mon_base::MethodId;
@@ -44,10 +45,12 @@ fn may_name(name: &[u8]) -> bool
 fn are_classes_once(classes: &[ListedClass]) -> bool
     ensures { IsTrue result ↔ AllPairs (λ c d. c.name ≢ d.name) classes.now }
 {
-    for (i, class) in classes.iter().enumerate() {
-        if is_named(&classes[i + 1..], class.name.as_slice()) {
+    let mut left = classes;
+    while let [class, rest @ ..] = left {
+        if is_named(rest, class.name.as_slice()) {
             return false;
         }
+        left = rest;
     }
     true
 }
@@ -75,19 +78,21 @@ fn is_declarable(classes: &[ListedClass], method: &ListedMethod) -> bool
 fn are_methods_once(methods: &[ListedMethod]) -> bool
     ensures { IsTrue result ↔ AllPairs (λ m n. m.id ≢ n.id) methods.now }
 {
-    for (i, method) in methods.iter().enumerate() {
-        if is_listed(&methods[i + 1..], &method.id) {
+    let mut left = methods;
+    while let [method, rest @ ..] = left {
+        if is_listed(rest, &method.id) {
             return false;
         }
+        left = rest;
     }
     true
 }
 
 fn is_listed(methods: &[ListedMethod], id: &MethodId) -> bool
-    ensures { IsTrue result ↔ Any (λ m. m.id ≡ id.now) methods.now }
+    ensures { result ≡ list_any (λ m. is_method id.now.class id.now.name id.now.desc m.id) methods.now }
 {
-    for other in methods {
-        if other.id == *id {
+    for method in methods {
+        if is_method(&method.id, id.class.as_slice(), id.name.as_slice(), id.desc.as_slice()) {
             return true;
         }
     }

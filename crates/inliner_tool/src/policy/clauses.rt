@@ -1,9 +1,10 @@
 //! The clauses of a policy of denied methods.
 
 ghost use Rattle.std.specs.Prelude.{◌≡◌, ◌≢◌, ◌<◌, ◌^◌, ◌++◌, ◌∷◌, [], ℕ, List, Some, OnOk, map, length, AllPairs, slice_get, IsSomeAnd, IfOk, IfSome, IfNone, IsErrOf, IsTrue};
+ghost use Rattle.std.specs.List.{flat_map};
 ghost use Rattle.inliner_tool.specs.declared.fault.FormFault.TheVariants as faults;
 ghost use Rattle.inliner_tool.specs.declared.policy.clauses.Clause.{Clause};
-ghost use Rattle.inliner_tool.specs.Policy.{clause, may_deny};
+ghost use Rattle.inliner_tool.specs.Policy.{dotted, clause, may_deny};
 ghost use Rattle.inliner_tool.specs.Clauses.{clause_for, AreClauses};
 
 use crate::fault::FormFault;
@@ -108,21 +109,35 @@ fn clause_for(alloc: Global, id: &MethodId) -> Result<Clause, NoMemory>
     ensures tokens { IfOk result (λ c. c.tokens ≡ clause id.now) }
     ensures may_stand { IfOk result (λ c. c.may_stand ≡ may_deny id.now) }
 {
+    Ok(Clause {
+        tokens: clause_tokens(alloc, id)?,
+        may_stand: may_deny(alloc, id)?,
+    })
+}
+
+fn clause_tokens(alloc: Global, id: &MethodId) -> Result<List<Bytes>, NoMemory>
+    ensures { IfOk result (λ tokens. tokens ≡ clause id.now) }
+{
+    let names = pieces(alloc, id.class.as_slice(), b'/')?;
     let mut tokens = List::new(alloc);
     push_text(alloc, &mut tokens, "BEFORE")?;
     push_text(alloc, &mut tokens, "void")?;
-    for name in pieces(alloc, id.class.as_slice(), b'/')?.as_slice() {
-        tokens.push(name.copy(alloc)?)?;
-        push_text(alloc, &mut tokens, ".")?;
-    }
+    push_dotted(alloc, &mut tokens, names.as_slice())?;
     tokens.push(id.name.copy(alloc)?)?;
     push_text(alloc, &mut tokens, "(")?;
     push_text(alloc, &mut tokens, ")")?;
     push_text(alloc, &mut tokens, "PERFORM")?;
-    Ok(Clause {
-        tokens,
-        may_stand: may_deny(alloc, id)?,
-    })
+    Ok(tokens)
+}
+
+fn push_dotted(alloc: Global, tokens: &mut List<Bytes>, names: &[Bytes]) -> Result<(), NoMemory>
+    ensures { OnOk result (tokens.new ≡ tokens.old ++ flat_map dotted names.now) }
+{
+    for name in names {
+        tokens.push(name.copy(alloc)?)?;
+        push_text(alloc, tokens, ".")?;
+    }
+    Ok(())
 }
 
 fn push_text(alloc: Global, tokens: &mut List<Bytes>, text: &str) -> Result<(), NoMemory>

@@ -3,7 +3,7 @@ use Rattle.std.proofs.lemmas.Result.{err_from_is_err_and}
 use Rattle.mon_base.specs.Reading.{counted}
 use Rattle.mon_base.proofs.Reading.{goes_on, is_done}
 use Rattle.inliner_tool.specs.CertificateReading.{used_after}
-use Rattle.inliner_tool.proofs.Names.{used-push}
+use Rattle.inliner_tool.proofs.CertificateNames.{used-push}
 use Rattle.inliner_tool.proofs.Loops.{ends}
 use Rattle.inliner_tool.proofs.certificate.reading.read_counted.Goals as goal
 

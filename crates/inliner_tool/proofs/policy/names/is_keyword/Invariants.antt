@@ -1,7 +1,7 @@
 use Rattle.std.proofs.Common.{◌≡◌, take, false, true}
 use Rattle.std.specs.Prelude.{bytes_eq}
 use Rattle.std.specs.List.{list_any}
-use Rattle.inliner_tool.specs.declared.TheConstants.{KEYWORDS}
+use Rattle.inliner_tool.specs.declared.policy.names.TheConstants.{KEYWORDS}
 use Rattle.inliner_tool.proofs.policy.names.is_keyword.Given as goal
 
 abbrev pub invariant-loop-word : goal.invariant-loop-word
