@@ -1,14 +1,14 @@
 -- Steps of the tests of types.
 use Rattle.std.proofs.Common.{ne_eqb, ◌≡◌, ℕ, zero, suc, ◌+◌, ◌-◌, ◌<◌, Bool, true, false, cond, eqb, List, [], ◌∷◌, length, Option, Some, None, refl, sym, ap, subst, ◌∙◌, arith}
-use Rattle.std.specs.Prelude.{◌||◌}
+use Rattle.std.specs.Prelude.{◌||◌, bytes_eq}
 use Rattle.std.specs.Option.{option_map, option_map_or}
-use Rattle.inliner_tool.specs.Classes.{same, reaches}
+use Rattle.inliner_tool.specs.Classes.{reaches}
 use Rattle.inliner_tool.specs.declared.certificate.VType.{VType}
 use Rattle.inliner_tool.specs.declared.program.Program.{Program}
 use Rattle.inliner_tool.specs.Typing.{stack_fits}
 
 -- one superclass upwards
-pub reaches_more : (left : ℕ) (parent_of : List ℕ → Option (List ℕ)) (from to parent : List ℕ) → 0 < left → same from to ≡ false → parent_of from ≡ Some parent
+pub reaches_more : (left : ℕ) (parent_of : List ℕ → Option (List ℕ)) (from to parent : List ℕ) → 0 < left → bytes_eq from to ≡ false → parent_of from ≡ Some parent
     → reaches left parent_of from to ≡ reaches (left - 1) parent_of parent to
 reaches_more zero parent_of from to parent more other up = absurd (omega arith)
 reaches_more (suc left) parent_of from to parent more other up =

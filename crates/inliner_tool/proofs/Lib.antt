@@ -5,11 +5,13 @@ pub mod FrameTypes
 pub mod Laws
 pub mod Listings
 pub mod Lists
+pub mod LinkedCode
 mod Loops
 pub mod Names
 pub mod Notes
 mod Order
 pub mod Numbers
+pub mod ReadFiles
 pub mod Said
 mod Seen
 pub mod Steps

@@ -45,8 +45,10 @@ may_declare classes m =
     is_known classes m.id.class
     && (not (length m.id.name == 0) && not (is_built_in m.id.class m.id.name m.id.desc))
 
+-- A text has at most 20,000 lines, and 20 classes are built in.
 pub record IsSound (listing : Listing) : Type 0 where
   pub few : length listing.methods ≤ 20000
+  pub few_classes : length listing.classes ≤ 20020
   pub names : IsTrue (list_all (λ c. may_name c.name) listing.classes)
   pub classes_once : AllPairs (λ c d. c.name ≢ d.name) listing.classes
   pub methods : IsTrue (list_all (may_declare listing.classes) listing.methods)

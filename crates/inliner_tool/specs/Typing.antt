@@ -1,7 +1,7 @@
 -- The types that a certificate gives before each instruction, and when they are right (JVM specification,
 -- section 4.10, for the inferring verifier). Rows are tried in order, and in a row the rules 1 to 7; those that no
 -- instruction of the first built form can break (3 operands, 5 objects being made, 7 handlers) are left out.
-use Rattle.std.specs.Prelude.{ℕ, ◌+◌, Bool, true, false, not, ◌==◌, ◌&&◌, ◌||◌, nat_le, nat_lt, ◌-◌, slice_index, take, if◌then◌else◌, List, [], ◌∷◌, length, codes, Option, Some, None}
+use Rattle.std.specs.Prelude.{ℕ, ◌+◌, Bool, true, false, not, ◌==◌, ◌&&◌, ◌||◌, nat_le, nat_lt, bytes_eq, ◌-◌, slice_index, take, if◌then◌else◌, List, [], ◌∷◌, length, codes, Option, Some, None}
 use Rattle.std.specs.Option.{option_map_or}
 use Rattle.inliner_tool.specs.declared.certificate.VType.{VType}
 use Rattle.inliner_tool.specs.declared.certificate.VType.TheVariants.{Top, Ref}
@@ -13,7 +13,7 @@ use Rattle.inliner_tool.specs.declared.program.LinkedClass.{LinkedClass}
 use Rattle.inliner_tool.specs.declared.program.Program.{Program}
 use Rattle.inliner_tool.specs.declared.listing.ListedClass.{ListedClass}
 use Rattle.inliner_tool.specs.Places.{or_else, placed, first_pair}
-use Rattle.inliner_tool.specs.Classes.{same, entry_of, parent_of, reaches}
+use Rattle.inliner_tool.specs.Classes.{entry_of, parent_of, reaches}
 
 -- ---- assignability
 
@@ -23,7 +23,7 @@ is_interface program name = option_map_or (λ (entry : ListedClass). entry.is_in
 -- A class or array is assignable to itself, to Object, to each interface and to its superclasses.
 abbrev pub class_fits : Program → List ℕ → List ℕ → Bool
 class_fits program from to =
-    same to (codes "java/lang/Object") || is_interface program to
+    bytes_eq to (codes "java/lang/Object") || is_interface program to
     || reaches (length program.classes + length program.listing.classes) (parent_of program) from to
 
 -- the name in a component `Lname;`
@@ -41,7 +41,7 @@ reference_of component = if is_array component then Some component else named co
 
 -- the same component, or a reference that is assignable to a class
 abbrev pub leaf_fits : Program → List ℕ → List ℕ → Bool
-leaf_fits program from to = same from to || option_map_or (λ target. option_map_or (λ source. class_fits program source target) (reference_of from) false) (named to) false
+leaf_fits program from to = bytes_eq from to || option_map_or (λ target. option_map_or (λ source. class_fits program source target) (reference_of from) false) (named to) false
 
 -- components of two arrays: arrays again, or leaves
 abbrev pub component_fits : Program → List ℕ → List ℕ → Bool

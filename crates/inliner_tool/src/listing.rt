@@ -8,7 +8,7 @@ mod sound;
 mod words;
 
 pub use built_in::is_built_in;
-pub use lookup::{Declared, is_known_class, nearest};
+pub use lookup::{Declared, find_class, is_known_class, nearest};
 use mon_base::{Bytes, List, MethodId};
 pub use reading::read_listing;
 pub use words::{all_continue, class_name, continues_name, is_text, pieces, starts_name};

@@ -5,7 +5,8 @@ mod names;
 mod reading;
 mod tokens;
 
-ghost use Rattle.std.specs.Prelude.{◌↔◌, Contains, IsTrue};
+ghost use Rattle.std.specs.Prelude.{◌≡◌};
+ghost use Rattle.inliner_tool.specs.Secure.{is_denied};
 
 use mon_base::List;
 pub use reading::read_policy;
@@ -21,9 +22,9 @@ pub struct DeniedPolicy {
 
 /// Whether the policy forbids the method with the index.
 pub fn is_denied(policy: &DeniedPolicy, method: u32) -> bool
-    ensures { IsTrue result ↔ Contains policy.now.denied method }
+    ensures { result ≡ is_denied policy.now method }
 {
-    policy.denied.as_slice().contains(&method)
+    policy.denied.as_slice().iter().any(|denied| *denied == method)
 }
 
 #[cfg(test)]

@@ -4,12 +4,12 @@ ghost use Rattle.std.specs.Prelude.{◌≡◌, ◌+◌, ◌^◌, ◌<◌, ◌≤
 ghost use Rattle.std.specs.Option.{option_map};
 ghost use Rattle.inliner_tool.specs.declared.certificate.VType.TheVariants.{Ref};
 ghost use Rattle.inliner_tool.specs.Acceptance.{IsProgram, IsClass, IsCode};
-ghost use Rattle.inliner_tool.specs.Classes.{entry_in, class_in, parent_of, reaches};
+ghost use Rattle.inliner_tool.specs.Classes.{class_in, parent_of, reaches};
 ghost use Rattle.inliner_tool.specs.Typing.{typing_fault, typing_in_class, typing_in_method, row_fault, meets_entry, meets_successor, goes_on, frame_fits, arguments, locals_fit, stack_fits, assignable, name_fits, class_fits, array_fits, component_fits, leaf_fits, named, reference_of, is_interface, first_of};
 
 use crate::certificate::{FrameType, VType};
 use crate::code::Insn;
-use crate::listing::ListedClass;
+use crate::listing::find_class;
 use crate::program::{LinkedClass, Method, Program};
 use mon_base::List;
 
@@ -260,24 +260,10 @@ fn class_fits(program: &Program, from: &[u8], to: &[u8]) -> bool
 fn is_interface(program: &Program, name: &[u8]) -> bool
     ensures { result ≡ is_interface program.now name.now }
 {
-    match entry_of(program.listing.classes.as_slice(), name) {
+    match find_class(program.listing.classes.as_slice(), name) {
         None => false,
         Some(entry) => entry.is_interface,
     }
-}
-
-/// The entry of a class that is listed or built in.
-fn entry_of<'a>(classes: &'a [ListedClass], name: &[u8]) -> Option<&'a ListedClass>
-    ensures { option_map (λ e. e.now) result ≡ entry_in classes.now name.now }
-{
-    let mut classes = classes;
-    while let [entry, others @ ..] = classes {
-        if entry.name.as_slice() == name {
-            return Some(entry);
-        }
-        classes = others;
-    }
-    None
 }
 
 /// A given class, by its name.
@@ -320,7 +306,7 @@ fn parent_of<'a>(program: &'a Program, name: &[u8]) -> Option<&'a [u8]>
     if let Some(class) = class_of(program.classes.as_slice(), name) {
         return Some(class.parent.as_slice());
     }
-    match entry_of(program.listing.classes.as_slice(), name) {
+    match find_class(program.listing.classes.as_slice(), name) {
         None => None,
         Some(entry) => Some(entry.parent.as_slice()),
     }

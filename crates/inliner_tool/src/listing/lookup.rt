@@ -93,7 +93,8 @@ fn nearest_interface(listing: &Listing, class: &[u8], name: &[u8], desc: &[u8]) 
     None
 }
 
-fn find_class<'a>(classes: &'a [ListedClass], name: &[u8]) -> Option<&'a ListedClass>
+/// The entry of the class with the name.
+pub fn find_class<'a>(classes: &'a [ListedClass], name: &[u8]) -> Option<&'a ListedClass>
     ensures { option_copied result ≡ class_named classes.now name.now }
 {
     let mut left = classes;

@@ -19,6 +19,7 @@ pub fn is_sound(listing: &Listing) -> bool
     let classes = listing.classes.as_slice();
     let methods = listing.methods.as_slice();
     methods.len() <= 20_000
+        && classes.len() <= 20_020
         && are_names(classes)
         && are_classes_once(classes)
         && are_declarable(classes, methods)
