@@ -12,6 +12,7 @@ pub mod Notes
 mod Order
 pub mod Numbers
 pub mod ReadFiles
+pub mod Replies
 pub mod Said
 mod Seen
 pub mod Steps

@@ -1,6 +1,6 @@
 -- No note is wrong exactly where no call of a denied method stands in the code.
 use Rattle.std.proofs.Common.{◌≡◌, ℕ, zero, suc, ◌+◌, ◌<◌, ◌^◌, Bool, true, false, cond, List, [], ◌∷◌, length, Option, Some, None, refl, sym, ap, subst, ◌∙◌, inl, inr, arith}
-use Rattle.std.specs.Prelude.{option_and_then, slice_get}
+use Rattle.std.specs.Prelude.{option_and_then, slice_get, sum_by, count_by}
 use Rattle.std.specs.Option.{option_map}
 use Rattle.std.specs.List.{AllByRecursion}
 use Rattle.std.proofs.lemmas.Option.{slice_get_within, slice_get_cases}
@@ -11,7 +11,7 @@ use Rattle.inliner_tool.specs.declared.program.Method.{Method}
 use Rattle.inliner_tool.specs.declared.program.LinkedClass.{LinkedClass}
 use Rattle.inliner_tool.specs.declared.program.Program.{Program}
 use Rattle.inliner_tool.specs.declared.policy.DeniedPolicy.{DeniedPolicy}
-use Rattle.inliner_tool.specs.Acceptance.{notes_fault, notes_in_class, notes_in_method, note_fault, calls_denied, CallsNone, IsProgram, IsClass, IsCode}
+use Rattle.inliner_tool.specs.Acceptance.{notes_fault, notes_in_class, notes_in_method, note_fault, calls_denied, sites_of, CallsNone, IsProgram, IsClass, IsCode}
 use Rattle.inliner_tool.specs.Machine.{Frame, insn_at, insn_in, method_at}
 use Rattle.inliner_tool.specs.Places.{or_else, placed, first_place}
 use Rattle.inliner_tool.specs.Secure.{is_denied}
@@ -105,3 +105,31 @@ denied_none program policy linked free =
     let beside = insn_beside method at ref sound in_method in
     wrong policy ref (λ api is.
     free (record { class = c; method = m; at = at }) beside.0 api (rw (in_program, in_class) (beside.1 ∙ ap (λ (t : Target). Some (beside.0, t)) is))))))
+
+-- where no note of a method is wrong, it has no call of a denied method
+free_method : (policy : DeniedPolicy) (at : ℕ) (refs : List Target) → first_place (note_fault policy) at refs ≡ None → count_by (calls_denied policy) refs ≡ 0
+free_method policy at [] none = refl
+free_method policy at (ref ∷ refs) none =
+    let both = or_else_none (placed at (note_fault policy ref)) (first_place (note_fault policy) (at + 1) refs) none in
+    let free : calls_denied policy ref ≡ false = not_denied (calls_denied policy ref) (placed_none at (note_fault policy ref) both.0) in
+    rw free (free_method policy (at + 1) refs both.1)
+
+free_class : (policy : DeniedPolicy) (at : ℕ) (methods : List Method) → first_place (notes_in_method policy) at methods ≡ None → sum_by (λ (method : Method). count_by (calls_denied policy) method.refs) methods ≡ 0
+free_class policy at [] none = refl
+free_class policy at (method ∷ methods) none =
+    let both = or_else_none (placed at (notes_in_method policy method)) (first_place (notes_in_method policy) (at + 1) methods) none in
+    let one = free_method policy 0 method.refs (placed_none at (notes_in_method policy method) both.0) in
+    let others = free_class policy (at + 1) methods both.1 in
+    rw (one, others) refl
+
+free_classes : (policy : DeniedPolicy) (at : ℕ) (classes : List LinkedClass) → first_place (notes_in_class policy) at classes ≡ None → sum_by (λ (class : LinkedClass). sum_by (λ (method : Method). count_by (calls_denied policy) method.refs) class.methods) classes ≡ 0
+free_classes policy at [] none = refl
+free_classes policy at (class ∷ classes) none =
+    let both = or_else_none (placed at (notes_in_class policy class)) (first_place (notes_in_class policy) (at + 1) classes) none in
+    let one = free_class policy 0 class.methods (placed_none at (notes_in_class policy class) both.0) in
+    let others = free_classes policy (at + 1) classes both.1 in
+    rw (one, others) refl
+
+-- where no note is wrong, no call of a denied method is counted
+pub no_sites : (program : Program) (policy : DeniedPolicy) → notes_fault program policy ≡ None → 0 ≡ sites_of program policy
+no_sites program policy none = sym (free_classes policy 0 program.classes none)

@@ -1,5 +1,5 @@
 -- When a program is accepted with a certificate, and the first thing that is wrong where it is not.
-use Rattle.std.specs.Prelude.{◌≡◌, ℕ, ◌+◌, ◌^◌, ◌<◌, Bool, true, false, ◌==◌, if◌then◌else◌, List, [], ◌∷◌, length, Option, Some, None, Result, Ok, Err}
+use Rattle.std.specs.Prelude.{◌≡◌, ℕ, ◌+◌, ◌^◌, ◌<◌, Bool, true, false, ◌==◌, if◌then◌else◌, List, [], ◌∷◌, length, sum_by, count_by, Option, Some, None, Result, Ok, Err}
 use Rattle.std.specs.Option.{option_map_or}
 use Rattle.std.specs.List.{AllByRecursion}
 use Rattle.inliner_tool.specs.declared.code.Insn.{Insn}
@@ -63,6 +63,10 @@ notes_fault program policy = first_place (notes_in_class policy) 0 program.class
 -- no call of a denied method stands in the code
 abbrev pub CallsNone : Program → DeniedPolicy → Type 0
 CallsNone program policy = (place : Frame) (insn : Insn) (method : ℕ) → insn_at program place ≡ Some (insn, target.ApiMethod method) → is_denied policy method ≡ false
+
+-- how many calls of methods that the policy has clauses for stand in the code
+abbrev pub sites_of : Program → DeniedPolicy → ℕ
+sites_of program policy = sum_by (λ (class : LinkedClass). sum_by (λ (method : Method). count_by (calls_denied policy) method.refs) class.methods) program.classes
 
 -- ---- acceptance
 

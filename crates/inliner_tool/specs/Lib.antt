@@ -17,5 +17,6 @@ pub mod Places
 pub mod Policy
 pub mod Secure
 pub mod Tokens
+pub mod Tool
 pub mod Typing
 pub mod Words

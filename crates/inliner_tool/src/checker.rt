@@ -1,8 +1,8 @@
 //! The checker: whether a program with its certificate obeys a policy of denied methods, for every list of steps.
 
-ghost use Rattle.std.specs.Prelude.{◌≡◌, ◌↔◌, ◌+◌, ◌^◌, ◌<◌, ◌≤◌, IsOk, None, length};
+ghost use Rattle.std.specs.Prelude.{◌≡◌, ◌↔◌, ◌^◌, ◌<◌, IsOk, IfOk, None, length};
 ghost use Rattle.std.specs.List.{AllByRecursion};
-ghost use Rattle.inliner_tool.specs.Acceptance.{IsAccepted, IsProgram, IsClass, IsCode, CallsNone, verdict, shape_fault, classes_differ, methods_differ, notes_fault, notes_in_class, notes_in_method, note_fault};
+ghost use Rattle.inliner_tool.specs.Acceptance.{IsAccepted, IsProgram, IsClass, IsCode, CallsNone, verdict, sites_of, shape_fault, classes_differ, methods_differ, notes_fault, notes_in_class, notes_in_method, note_fault};
 ghost use Rattle.inliner_tool.specs.Secure.{Secure};
 ghost use Rattle.inliner_tool.specs.Typing.{typing_fault};
 
@@ -59,7 +59,10 @@ pub fn check(
     ensures calls { shape_fault program.now certificate.now ≡ None → typing_fault program.now certificate.now.frames ≡ None
         → (IsOk result ↔ CallsNone program.now policy.now) }
 
-    // Which fault it is, and that no call of a method with a clause is counted.
+    // How many calls of methods that the policy has clauses for stand in the code.
+    ensures sites { IfOk result (λ accepted. accepted.sites ≡ sites_of program.now policy.now) }
+
+    // Which fault it is.
     ensures exact { result ≡ verdict program.now policy.now certificate.now }
 {
     if let Some((class, method)) = shape_fault(program, certificate) {

@@ -9,6 +9,7 @@ ghost use Rattle.inliner_tool.specs.Listing.{SpellsListing, IsSound};
 ghost use Rattle.inliner_tool.specs.Certificate.{SpellsCertificate};
 ghost use Rattle.inliner_tool.specs.Inputs.{ReadsClasses, ReadsInputs, PolicyOver, ClassOf, StateClass, named_by};
 ghost use Rattle.inliner_tool.specs.Acceptance.{IsClass};
+ghost use Rattle.inliner_tool.specs.Tool.{AreSound};
 ghost use Rattle.std.specs.List.{AllByRecursion};
 
 use crate::certificate::{Certificate, read_certificate};
@@ -188,7 +189,7 @@ fn others_of<S: Store>(alloc: Global, store: &mut S, names: &[Bytes], listing: &
 /// Reads the files of a check in their order: listing, policy, certificate, classes.
 pub fn read_inputs<S: Store>(alloc: Global, store: &mut S, words: &CheckWords) -> Result<Inputs, Stop>
     ensures read { ReadsInputs (S.files store.old) (record { before = S.faults store.old; now = S.faults store.new; last = S.last store.new }) (named_by words.now) result }
-    ensures sound { IfOk result (λ inputs. IsSound inputs.listing × AllByRecursion IsClass inputs.classes) }
+    ensures sound { IfOk result AreSound }
     ensures files { S.files store.new ≡ S.files store.old }
     ensures faults { S.faults store.old ≤ S.faults store.new }
 {

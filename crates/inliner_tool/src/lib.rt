@@ -10,4 +10,8 @@ pub mod linking;
 pub mod listing;
 pub mod policy;
 pub mod program;
+mod tool;
 pub mod typing;
+mod words;
+
+pub use tool::{Status, run_tool};

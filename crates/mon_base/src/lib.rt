@@ -18,5 +18,5 @@ pub use cursor::Cursor;
 pub use list::List;
 pub use memory::NoMemory;
 pub use method::MethodId;
-pub use number::{push_number, read_number};
+pub use number::{push_count, push_number, read_number};
 pub use room::Room;

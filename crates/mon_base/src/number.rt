@@ -2,7 +2,7 @@
 //! below zero.
 
 ghost use Rattle.std.specs.Prelude.{◌≡◌, ◌++◌, OnOk, OnErr, IfSome, IfNone};
-ghost use Rattle.std.specs.Fmt.{signed_decimal};
+ghost use Rattle.std.specs.Fmt.{decimal, signed_decimal};
 ghost use Rattle.std.specs.Int.{w64};
 ghost use Rattle.std.proofs.Common.{ℤ, FitsSigned};
 
@@ -13,6 +13,15 @@ use itoa::Buffer;
 /// Appends the decimal text of the number. On refusal the bytes are unchanged.
 pub fn push_number(out: &mut Bytes, n: i64) -> Result<(), NoMemory>
     ensures ok { OnOk result (out.new ≡ out.old ++ signed_decimal n) }
+    ensures err { OnErr result (out.new ≡ out.old) }
+{
+    let mut buffer = Buffer::new();
+    out.extend(buffer.format(n).as_bytes())
+}
+
+/// Appends the decimal text of a count. On refusal the bytes are unchanged.
+pub fn push_count(out: &mut Bytes, n: u64) -> Result<(), NoMemory>
+    ensures ok { OnOk result (out.new ≡ out.old ++ decimal n) }
     ensures err { OnErr result (out.new ≡ out.old) }
 {
     let mut buffer = Buffer::new();

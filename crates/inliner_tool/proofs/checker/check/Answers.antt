@@ -1,5 +1,5 @@
 use Rattle.std.proofs.Common.{◌≡◌, Some, None, sym, ◌∙◌, refl, ap}
-use Rattle.inliner_tool.proofs.Notes.{none_denied, denied_none}
+use Rattle.inliner_tool.proofs.Notes.{none_denied, denied_none, no_sites}
 use Rattle.inliner_tool.proofs.Steps.{secure}
 use Rattle.inliner_tool.proofs.checker.check.Goals as goal
 
@@ -20,3 +20,6 @@ returns-clause-secure c = λ e. secure c.args.program.now c.args.policy.now (non
 
 pub returns-clause-calls : goal.returns-clause-calls
 returns-clause-calls c = λ shape typing. (λ e. none_denied c.args.program.now c.args.policy.now (sym c.in_default-notes_fault.ensures), λ free. refl)
+
+pub returns-clause-sites : goal.returns-clause-sites
+returns-clause-sites c = no_sites c.args.program.now c.args.policy.now (sym c.in_default-notes_fault.ensures)
