@@ -45,7 +45,7 @@ program_of inputs = record { classes = inputs.classes ++ state_class ∷ []; lis
 pub record IsChecked (files : Files) (words : List (List ℕ)) (inputs : Inputs) : Type 0 where
   pub named : Named
   pub spelled : IsCheck words named
-  pub inputs : AreInputs files named inputs
+  pub read : AreInputs files named inputs
   pub one : length inputs.classes ≡ 1
 
 -- The program is accepted with the certificate, and obeys its policy for every list of guest steps.
