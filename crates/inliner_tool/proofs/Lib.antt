@@ -5,3 +5,5 @@ pub mod Tables
 pub mod Climbing
 pub mod Listings
 pub mod Numbers
+pub mod Denied
+pub mod Policies
