@@ -158,10 +158,10 @@ found_is methods i left rest h = found_in (slice_get methods i) left rest (subst
 pub read_more : (methods : List ListedMethod) (tokens left rest : List (List ℕ)) (denied : List ℕ) (i : ℕ) → AreRead methods tokens denied left → MayDeny methods i → left ≡ clause_at methods i ++ rest
     → ((k : ℕ) (d : ℕ) → k < length denied → get_or denied k d ≢ i) → AreRead methods tokens (denied ++ i ∷ []) rest
 read_more methods tokens left rest denied i so_far may is new = record {
-    spelled = so_far.spelled ∙ ap (λ t. flat_map (clause_at methods) denied ++ t) is ∙ sym (ap (λ t. t ++ rest) (flat_map-append (clause_at methods) denied (i ∷ [])) ∙ one) ;
-    listed = All-push (MayDeny methods) denied i so_far.listed may ;
-    once = all_pairs_push (λ m n. m ≢ n) denied i so_far.once new
-  }
+  spelled = so_far.spelled ∙ ap (λ t. flat_map (clause_at methods) denied ++ t) is ∙ sym (ap (λ t. t ++ rest) (flat_map-append (clause_at methods) denied (i ∷ [])) ∙ one);
+  listed = All-push (MayDeny methods) denied i so_far.listed may;
+  once = all_pairs_push (λ m n. m ≢ n) denied i so_far.once new;
+}
   where
     one : (flat_map (clause_at methods) denied ++ flat_map (clause_at methods) (i ∷ [])) ++ rest ≡ flat_map (clause_at methods) denied ++ (clause_at methods i ++ rest)
     one = simp (append_assoc, append-nil)
@@ -226,11 +226,11 @@ too_many methods once tokens left denied other so_far full long are =
 -- where nothing is left the clauses are read
 pub all_read : (methods : List ListedMethod) (tokens left : List (List ℕ)) (denied : List ℕ) → AreRead methods tokens denied left → left ≡ [] → length denied ≤ 64 → AreClauses methods tokens denied
 all_read methods tokens left denied so_far none few = record {
-    spelled = so_far.spelled ∙ ap (λ t. flat_map (clause_at methods) denied ++ t) none ∙ append-nil (flat_map (clause_at methods) denied) ;
-    few = few ;
-    listed = so_far.listed ;
-    once = so_far.once
-  }
+  spelled = so_far.spelled ∙ ap (λ t. flat_map (clause_at methods) denied ++ t) none ∙ append-nil (flat_map (clause_at methods) denied);
+  few = few;
+  listed = so_far.listed;
+  once = so_far.once;
+}
 
 nothing : (methods : List ListedMethod) (more : List ℕ) → All (MayDeny methods) more → [] ≡ flat_map (clause_at methods) more → more ≡ []
 nothing methods [] may e = refl

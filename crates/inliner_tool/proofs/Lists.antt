@@ -20,7 +20,6 @@ abbrev pub Once : {X K : Type 0} → (X → K) → List X → Type 0
 Once key xs = AllPairs (λ x y. key x ≢ key y) xs
 
 module _ {X K : Type 0} (key : X → K) (same : X → X → Bool) (exact : (x y : X) → Decides (same y x) (key x ≡ key y)) where
-
   -- an item whose key no later one has
   pub Once-cons : (x : X) (xs : List X) → list_any (λ y. same y x) xs ≡ false → Once key xs → Once key (x ∷ xs)
   Once-cons x xs none once =

@@ -29,6 +29,7 @@ is_method_of class name desc id c n d =
     (Decides-and (bytes_eq id.class class) (bytes_eq id.name name && bytes_eq id.desc desc) (bytes_eq-Decides id.class class) inner).1 (c, (n, d))
 
 pub id_exact : (m n : ListedMethod) → Decides (is_method m.id.class m.id.name m.id.desc n.id) (m.id ≡ n.id)
-id_exact m n =
-    (λ t. let e = method_is m.id.class m.id.name m.id.desc n.id t in id_is m.id n.id (sym e.0) (sym e.1) (sym e.2),
-     λ q. is_method_of m.id.class m.id.name m.id.desc n.id (ap (λ (i : MethodId). i.class) (sym q)) (ap (λ (i : MethodId). i.name) (sym q)) (ap (λ (i : MethodId). i.desc) (sym q)))
+id_exact m n = (
+  λ t. let e = method_is m.id.class m.id.name m.id.desc n.id t in id_is m.id n.id (sym e.0) (sym e.1) (sym e.2),
+  λ q. is_method_of m.id.class m.id.name m.id.desc n.id (ap (λ (i : MethodId). i.class) (sym q)) (ap (λ (i : MethodId). i.name) (sym q)) (ap (λ (i : MethodId). i.desc) (sym q)),
+)

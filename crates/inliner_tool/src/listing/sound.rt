@@ -92,7 +92,12 @@ fn is_listed(methods: &[ListedMethod], id: &MethodId) -> bool
     ensures { result ≡ list_any (λ m. is_method id.now.class id.now.name id.now.desc m.id) methods.now }
 {
     for method in methods {
-        if is_method(&method.id, id.class.as_slice(), id.name.as_slice(), id.desc.as_slice()) {
+        if is_method(
+            &method.id,
+            id.class.as_slice(),
+            id.name.as_slice(),
+            id.desc.as_slice(),
+        ) {
             return true;
         }
     }

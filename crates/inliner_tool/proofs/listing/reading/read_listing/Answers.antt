@@ -25,11 +25,11 @@ returns-then-is_sound-clause-only c =
 pub returns-clause-refused : goal.returns-clause-refused
 returns-clause-refused c =
     λ refused l s.
-      let is : c.in_ok-listing.listing ≡ l = c.in_ok-listing.ensures ∙ ap listing_of (c.as_slice.ensures ∙ says_one c.args.text.now c.in_ok-said.said s.said c.in_ok-said.ensures.found s.says) ∙ sym s.listed in
-      false≢true (sym c.if-is_sound.false ∙ c.is_sound.ensures.1 (subst IsSound (sym is) s.sound))
+    let is : c.in_ok-listing.listing ≡ l = c.in_ok-listing.ensures ∙ ap listing_of (c.as_slice.ensures ∙ says_one c.args.text.now c.in_ok-said.said s.said c.in_ok-said.ensures.found s.says) ∙ sym s.listed in
+    false≢true (sym c.if-is_sound.false ∙ c.is_sound.ensures.1 (subst IsSound (sym is) s.sound))
 
 pub returns-clause-only : goal.returns-clause-only
 returns-clause-only c =
     λ l s.
-      let is : c.in_ok-listing.listing ≡ l = c.in_ok-listing.ensures ∙ ap listing_of (c.as_slice.ensures ∙ says_one c.args.text.now c.in_ok-said.said s.said c.in_ok-said.ensures.found s.says) ∙ sym s.listed in
-      absurd (false≢true (sym c.if-is_sound.false ∙ c.is_sound.ensures.1 (subst IsSound (sym is) s.sound)))
+    let is : c.in_ok-listing.listing ≡ l = c.in_ok-listing.ensures ∙ ap listing_of (c.as_slice.ensures ∙ says_one c.args.text.now c.in_ok-said.said s.said c.in_ok-said.ensures.found s.says) ∙ sym s.listed in
+    absurd (false≢true (sym c.if-is_sound.false ∙ c.is_sound.ensures.1 (subst IsSound (sym is) s.sound)))

@@ -13,5 +13,5 @@ pub returns : goal.returns
 returns c =
     let names = ap (flat_map dotted) (c.as_slice-2.ensures ∙ c.in_ok-names.ensures ∙ ap (pieces 47) c.as_slice.ensures) in
     let all = spelled _ _ _ _ _ _ _ _ _ _ _ _ _ _ _ c.new-tokens.ensures c.in_ok-push_text.ensures c.in_ok-push_text-2.ensures c.in_ok-push_dotted.ensures c.in_ok-push.ensures.ok
-      c.in_ok-push_text-3.ensures c.in_ok-push_text-4.ensures c.in_ok-push_text-5.ensures in
+    c.in_ok-push_text-3.ensures c.in_ok-push_text-4.ensures c.in_ok-push_text-5.ensures in
     rw (← names, ← c.in_ok-copy.ensures) all

@@ -9,4 +9,4 @@ returns-in-Some-clause-none c =
     let fits : FitsSigned w64 c.in-Some.number = search rules in
     let back : to_z w64 (of_z w64 c.in-Some.number) ≡ c.in-Some.number = search rules in
     none_in_range c.args.token.now c.in-Some.number c.maxint_of.result fits c.in-Some.ensures.found
-      (subst (λ z. IfNone c.maxint_of.result (MayBeMaxint z → ⊥)) back c.maxint_of.ensures.none)
+    (subst (λ z. IfNone c.maxint_of.result (MayBeMaxint z → ⊥)) back c.maxint_of.ensures.none)
