@@ -2,6 +2,7 @@ pub mod Words
 pub mod BuiltIn
 pub mod Lines
 pub mod Listing
+pub mod Seen
 pub mod Nearest
 pub mod Tokens
 pub mod Policy
