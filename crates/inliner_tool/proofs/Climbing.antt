@@ -24,7 +24,7 @@ pub first_declared-append : (methods : List ListedMethod) (name desc : List ℕ)
 first_declared-append methods name desc [] ys = refl
 first_declared-append methods name desc (x ∷ xs) ys =
     ap (option_or (declared_in methods name desc x)) (first_declared-append methods name desc xs ys)
-      ∙ either (declared_in methods name desc x) (first_declared methods name desc xs) (first_declared methods name desc ys)
+    ∙ either (declared_in methods name desc x) (first_declared methods name desc xs) (first_declared methods name desc ys)
 
 -- one class further up, where the class declares nothing
 pub climbs : (methods : List ListedMethod) (name desc : List ℕ) (n i : ℕ) (classes : List ListedClass) (at : List ℕ) (c : ListedClass) (total : Option Declared) → i < n → class_named classes at ≡ Some c
@@ -40,7 +40,7 @@ pub climbs_by_interfaces : (methods : List ListedMethod) (name desc : List ℕ) 
     → first_declared methods name desc (interfaces_of (upwards (n - (i + 1)) classes c.parent)) ≡ total
 climbs_by_interfaces methods name desc n i classes at c total lt some none so_far =
     let step : first_declared methods name desc (interfaces_of (upwards (n - i) classes at)) ≡ first_declared methods name desc (interfaces_of (upwards (n - (i + 1)) classes c.parent)) =
-      rw (upwards_some n i classes at c lt some, first_declared-append, none) refl in
+    rw (upwards_some n i classes at c lt some, first_declared-append, none) refl in
     sym step ∙ so_far
 
 -- the interfaces of the class declare the method

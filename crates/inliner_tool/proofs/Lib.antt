@@ -1,16 +1,18 @@
 pub mod CertificateNames
 pub mod Climbing
 pub mod CodeBytes
+pub mod Denied
 pub mod FrameTypes
 pub mod Laws
+pub mod LinkedCode
 pub mod Listings
 pub mod Lists
-pub mod LinkedCode
 mod Loops
 pub mod Names
 pub mod Notes
-mod Order
 pub mod Numbers
+mod Order
+pub mod Policies
 pub mod ReadFiles
 pub mod Replies
 pub mod Said

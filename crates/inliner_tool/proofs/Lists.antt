@@ -1,12 +1,13 @@
 -- Lists: the first item, and items that stand once.
-use Rattle.std.proofs.Common.{◌≡◌, ◌≢◌, ℕ, suc, ◌+◌, ◌-◌, ◌<◌, ◌≤◌, Bool, true, false, List, [], ◌∷◌, ◌++◌, length, get_or, take, drop, All, refl, sym, ap, ◌∙◌, arith}
-use Rattle.std.specs.Prelude.{AllPairs, Any}
-use Rattle.std.specs.List.{list_any}
+use Rattle.std.proofs.Common.{◌≡◌, ◌≢◌, ℕ, suc, ◌+◌, ◌-◌, ◌<◌, ◌≤◌, Bool, true, false, cond, not, ◌||◌, List, [], ◌∷◌, ◌++◌, length, get_or, take, drop, refl, sym, ap, ◌∙◌, subst, arith}
+use Rattle.std.specs.Prelude.{AllPairs}
+use Rattle.std.specs.List.{list_any, list_all}
 use Rattle.std.specs.Bool.{Decides}
 use Rattle.std.proofs.lemmas.Bool.{false≢true}
-use Rattle.std.proofs.lemmas.List.{take_all}
-use Rattle.std.proofs.lemmas.List.Folds.{list_any_at, Any-from_list_any}
-use Rattle.std.proofs.lemmas.List.Kept.{AllPairs-cons}
+use Rattle.std.proofs.lemmas.List.{take_all, take_more, get_or-take, length-take}
+use Rattle.std.proofs.lemmas.Option.{slice_get-get_or, get_or_from_slice_get}
+use Rattle.std.proofs.lemmas.List.Folds.{list_any_at, list_any_more, Any-from_list_any}
+use Rattle.std.proofs.lemmas.List.Quantifiers.{all_pairs_push}
 
 -- a list that is not empty is its first item and the others
 pub front_is : {X : Type 0} (xs : List X) (x : X) → 1 ≤ length xs → x ≡ get_or xs 0 x → xs ≡ x ∷ take (length xs - 1) (drop 1 xs)
@@ -19,19 +20,52 @@ front_is (y ∷ ys) x long e =
 abbrev pub Once : {X K : Type 0} → (X → K) → List X → Type 0
 Once key xs = AllPairs (λ x y. key x ≢ key y) xs
 
-module _ {X K : Type 0} (key : X → K) (same : X → X → Bool) (exact : (x y : X) → Decides (same y x) (key x ≡ key y)) where
+or_swap : (a b : Bool) → (a || b) ≡ (b || a)
+or_swap true true = refl
+or_swap true false = refl
+or_swap false true = refl
+or_swap false false = refl
 
-  -- an item whose key no later one has
-  pub Once-cons : (x : X) (xs : List X) → list_any (λ y. same y x) xs ≡ false → Once key xs → Once key (x ∷ xs)
-  Once-cons x xs none once =
-      AllPairs-cons (λ a b. key a ≢ key b) x xs (λ k d lt e. false≢true (sym none ∙ list_any_at (λ y. same y x) xs k d lt ((exact x (get_or xs k d)).1 e))) once
+pub cond_or : (a b : Bool) → cond a true b ≡ (a || b)
+cond_or true b = refl
+cond_or false b = refl
 
-  pub Once-tail : (x : X) (xs : List X) → Once key (x ∷ xs) → Once key xs
-  Once-tail x xs once = λ i j d below within. once (suc i) (suc j) d (omega arith) (omega arith)
+pub not_false : (b : Bool) → not b ≡ false → b ≡ true
+not_false true e = refl
+not_false false e = sym e
 
-  -- an item whose key a later one has
-  pub not_once : (x : X) (xs : List X) → list_any (λ y. same y x) xs ≡ true → Once key (x ∷ xs) → ⊥
-  not_once x xs some once =
-      let found = Any-from_list_any (λ y. same y x) xs some in
-      let later : get_or xs found.0 found.1 ≡ found.1 = found.3 in
-      once 0 (suc found.0) found.1 (omega arith) (omega arith) ((exact x (get_or xs found.0 found.1)).0 (ap (λ y. same y x) later ∙ found.4))
+pub not_true : (b : Bool) → not b ≡ true → b ≡ false
+not_true true e = sym e
+not_true false e = refl
+
+module _ {X K : Type 0} (key : X → K) (has : X → K → Bool) (exact : (x : X) (k : K) → Decides (has x k) (key x ≡ k)) where
+  -- one item more
+  pub any_more : (xs : List X) (i : ℕ) (x : X) (k : K) → i < length xs → x ≡ get_or xs i x → (has x k || list_any (λ y. has y k) (take i xs)) ≡ list_any (λ y. has y k) (take (i + 1) xs)
+  any_more xs i x k lt is =
+      or_swap (has x k) (list_any (λ y. has y k) (take i xs))
+      ∙ ap (λ y. list_any (λ z. has z k) (take i xs) || has y k) is
+      ∙ sym (list_any_more (λ y. has y k) xs i x lt)
+
+  -- one item more, whose key none before has
+  pub once_more : (xs : List X) (i : ℕ) (x : X) → i < length xs → x ≡ get_or xs i x → list_any (λ y. has y (key x)) (take i xs) ≡ false → Once key (take i xs) → Once key (take (i + 1) xs)
+  once_more xs i x lt is none once =
+      let pushed = all_pairs_push (λ a b. key a ≢ key b) (take i xs) x once
+      (λ k d below e. false≢true (sym none ∙ list_any_at (λ y. has y (key x)) (take i xs) k d below ((exact (get_or (take i xs) k d) (key x)).1 e))) in
+      let more : take (i + 1) xs ≡ take i xs ++ x ∷ [] = take_more xs i x lt ∙ ap (λ y. take i xs ++ y ∷ []) (sym is) in
+      subst (Once key) (sym more) pushed
+
+  -- an item whose key one before has
+  pub not_once : (xs : List X) (i : ℕ) (x : X) → i < length xs → x ≡ get_or xs i x → list_any (λ y. has y (key x)) (take i xs) ≡ true → Once key xs → ⊥
+  not_once xs i x lt is some once =
+      let found = Any-from_list_any (λ y. has y (key x)) (take i xs) some in
+      let short : length (take i xs) ≤ i = omega (arith, length-take i xs) in
+      let early : found.0 < i = omega (arith, found.2) in
+      let inside : found.0 < length xs = omega arith in
+      let at : get_or xs found.0 x ≡ found.1 = get_or_from_slice_get xs found.0 (get_or xs found.0 found.1) x (slice_get-get_or xs found.0 found.1 inside) ∙ sym (get_or-take i xs found.0 found.1 early) ∙ found.3 in
+      let same : key found.1 ≡ key x = (exact found.1 (key x)).0 found.4 in
+      once found.0 i x early lt (ap key at ∙ same ∙ ap key is)
+
+-- tests that agree pass the same lists
+pub all_agree : {X : Type 0} (p q : X → Bool) → ((x : X) → p x ≡ q x) → (xs : List X) → list_all p xs ≡ list_all q xs
+all_agree p q same [] = refl
+all_agree p q same (x ∷ xs) = rw (same x, all_agree p q same xs) refl

@@ -35,13 +35,13 @@ one h x (Some y) e = rw e refl
 pub filter_map_more : {X Y : Type 0} (h : X → Option Y) (xs : List X) (i : ℕ) (d : X) → i < length xs → filter_map h (take (i + 1) xs) ≡ filter_map h (take i xs) ++ option_to_list (h (get_or xs i d))
 filter_map_more h xs i d lt =
     ap (filter_map h) (take_more xs i d lt) ∙ filter_map-append h (take i xs) (get_or xs i d ∷ [])
-      ∙ ap (λ (t : List _). filter_map h (take i xs) ++ t) (one h (get_or xs i d) (h (get_or xs i d)) refl)
+    ∙ ap (λ (t : List _). filter_map h (take i xs) ++ t) (one h (get_or xs i d) (h (get_or xs i d)) refl)
 
 -- a loop that adds what h gives of each item
 pub more_given : {X Y : Type 0} (h : X → Option Y) (xs : List X) (i : ℕ) (x : X) (front so_far new : List Y) → i < length xs → x ≡ get_or xs i x
     → so_far ≡ front ++ filter_map h (take i xs) → new ≡ so_far ++ option_to_list (h x) → new ≡ front ++ filter_map h (take (i + 1) xs)
 more_given h xs i x front so_far new lt is before added =
     added
-      ∙ ap (λ (t : List _). t ++ option_to_list (h x)) before
-      ∙ append_assoc front (filter_map h (take i xs)) (option_to_list (h x))
-      ∙ ap (λ (t : List _). front ++ t) (ap (λ y. filter_map h (take i xs) ++ option_to_list (h y)) is ∙ sym (filter_map_more h xs i x lt))
+    ∙ ap (λ (t : List _). t ++ option_to_list (h x)) before
+    ∙ append_assoc front (filter_map h (take i xs)) (option_to_list (h x))
+    ∙ ap (λ (t : List _). front ++ t) (ap (λ y. filter_map h (take i xs) ++ option_to_list (h y)) is ∙ sym (filter_map_more h xs i x lt))

@@ -16,6 +16,7 @@ pub mod Nearest
 pub mod Places
 pub mod Policy
 pub mod Secure
+pub mod Seen
 pub mod Tokens
 pub mod Tool
 pub mod Typing

@@ -40,9 +40,9 @@ abbrev pub may_name : List ℕ → Bool
 may_name name = is_class_name name && not (bytes_eq name (codes "conspec/State"))
 
 -- whether a listing may declare the method: its class is known, it has a name, and it is not built in
-abbrev pub may_declare : List ListedClass → ListedMethod → Bool
-may_declare classes m =
-    is_known classes m.id.class
+abbrev pub may_declare : (List ℕ → Bool) → ListedMethod → Bool
+may_declare known m =
+    known m.id.class
     && (not (length m.id.name == 0) && not (is_built_in m.id.class m.id.name m.id.desc))
 
 -- A text has at most 20,000 lines, and 20 classes are built in.
@@ -51,7 +51,7 @@ pub record IsSound (listing : Listing) : Type 0 where
   pub few_classes : length listing.classes ≤ 20020
   pub names : IsTrue (list_all (λ c. may_name c.name) listing.classes)
   pub classes_once : AllPairs (λ c d. c.name ≢ d.name) listing.classes
-  pub methods : IsTrue (list_all (may_declare listing.classes) listing.methods)
+  pub methods : IsTrue (list_all (may_declare (is_known listing.classes)) listing.methods)
   pub methods_once : AllPairs (λ m n. m.id ≢ n.id) listing.methods
 
 pub record SpellsListing (text : List ℕ) (listing : Listing) : Type 0 where

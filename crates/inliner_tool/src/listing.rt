@@ -4,6 +4,7 @@ mod built_in;
 mod lines;
 mod lookup;
 mod reading;
+mod seen;
 mod sound;
 mod words;
 

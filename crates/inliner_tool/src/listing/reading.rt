@@ -27,7 +27,8 @@ pub fn read_listing(alloc: Global, text: &[u8]) -> Result<Listing, FormFault>
 {
     let said = read_lines(alloc, text)?;
     let listing = listing_of(alloc, said.as_slice())?;
-    if is_sound(&listing) {
+    let sound = is_sound(alloc, &listing)?;
+    if sound {
         Ok(listing)
     } else {
         Err(FormFault::NotBuilt)

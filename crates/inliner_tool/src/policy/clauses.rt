@@ -1,7 +1,7 @@
 //! The clauses of a policy of denied methods.
 
-ghost use Rattle.std.specs.Prelude.{◌≡◌, ◌≢◌, ◌<◌, ◌^◌, ◌++◌, ◌∷◌, [], ℕ, List, Some, OnOk, map, length, AllPairs, slice_get, IsSomeAnd, IfOk, IfSome, IfNone, IsErrOf, IsTrue};
-ghost use Rattle.std.specs.List.{flat_map};
+ghost use Rattle.std.specs.Prelude.{◌≡◌, ◌==◌, ◌≢◌, ◌<◌, ◌^◌, ◌++◌, ◌∷◌, [], ℕ, List, Some, OnOk, map, length, AllPairs, slice_get, IsSomeAnd, IfOk, IfSome, IfNone, IsErrOf, IsTrue};
+ghost use Rattle.std.specs.List.{flat_map, list_any};
 ghost use Rattle.inliner_tool.specs.declared.fault.FormFault.TheVariants as faults;
 ghost use Rattle.inliner_tool.specs.declared.policy.clauses.Clause.{Clause};
 ghost use Rattle.inliner_tool.specs.Policy.{dotted, clause, may_deny};
@@ -12,6 +12,9 @@ use crate::listing::{ListedMethod, pieces};
 use crate::policy::names::may_deny;
 use mon_base::{Bytes, List, MethodId, NoMemory};
 use std::alloc::Global;
+
+/// How many clauses a policy may have.
+const MAX_CLAUSES: usize = 64;
 
 /// The tokens of a clause that forbids a method, and whether a policy may have it.
 #[derive(Debug, Drop)]
@@ -34,13 +37,13 @@ pub fn read_clauses(
     let clauses = clauses_for(alloc, methods)?;
     let mut denied = List::new(alloc);
     let mut left = tokens;
-    for _ in 0..64 {
+    for _ in 0..MAX_CLAUSES {
         if left.is_empty() {
             return Ok(denied);
         }
         match first_clause(left, clauses.as_slice()) {
             Some((method, rest)) => {
-                if denied.as_slice().contains(&method) {
+                if is_among(denied.as_slice(), method) {
                     return Err(FormFault::NotBuilt);
                 }
                 denied.push(method)?;
@@ -54,6 +57,12 @@ pub fn read_clauses(
     } else {
         Err(FormFault::NotBuilt)
     }
+}
+
+fn is_among(methods: &[u32], method: u32) -> bool
+    ensures { result ≡ list_any (λ m. m == method) methods.now }
+{
+    methods.contains(&method)
 }
 
 fn first_clause<'a>(tokens: &'a [Bytes], clauses: &[Clause]) -> Option<(u32, &'a [Bytes])>

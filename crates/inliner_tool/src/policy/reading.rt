@@ -58,7 +58,16 @@ fn read_maxint(token: &[u8]) -> Option<i32>
     ensures found { IfSome result (λ n. MayBeMaxint n × (token.now ≡ signed_decimal n)) }
     ensures none { IfNone result ((n : ℤ) → MayBeMaxint n → token.now ≡ signed_decimal n → ⊥) }
 {
-    let number = read_number(token)?;
+    match read_number(token) {
+        Some(number) => maxint_of(number),
+        None => None,
+    }
+}
+
+fn maxint_of(number: i64) -> Option<i32>
+    ensures found { IfSome result (λ n. (n ≡ number) × MayBeMaxint n) }
+    ensures none { IfNone result (MayBeMaxint number → ⊥) }
+{
     if number >= 1 && number <= 1_000_000_000 {
         Some(number as i32)
     } else {

@@ -5,4 +5,4 @@ use Rattle.inliner_tool.proofs.listing.lookup.nearest_interface.Given as goal
 abbrev pub invariant-loop : goal.invariant-loop
 invariant-loop l =
     first_declared l.listing.methods l.name l.desc (interfaces_of (upwards (length l.listing.classes - l.counter) l.listing.classes l.at))
-      ≡ first_declared l.listing.methods l.name l.desc (interfaces_of (upwards (length l.listing.classes) l.listing.classes l.class))
+    ≡ first_declared l.listing.methods l.name l.desc (interfaces_of (upwards (length l.listing.classes) l.listing.classes l.class))

@@ -18,18 +18,18 @@ returns-in_err-said-clause-only c =
     let p2 = p.2 in
     λ l s. rw p.1 (memory p.0 (λ built. c.in_err-said.ensures.refused (cc) s.said s.says))
 
-pub returns-then-is_sound-clause-only : goal.returns-then-is_sound-clause-only
-returns-then-is_sound-clause-only c =
+pub returns-then-sound-clause-only : goal.returns-then-sound-clause-only
+returns-then-sound-clause-only c =
     λ l s. c.in_ok-listing.ensures ∙ ap listing_of (c.as_slice.ensures ∙ says_one c.args.text.now c.in_ok-said.said s.said c.in_ok-said.ensures.found s.says) ∙ sym s.listed
 
 pub returns-clause-refused : goal.returns-clause-refused
 returns-clause-refused c =
     λ refused l s.
-      let is : c.in_ok-listing.listing ≡ l = c.in_ok-listing.ensures ∙ ap listing_of (c.as_slice.ensures ∙ says_one c.args.text.now c.in_ok-said.said s.said c.in_ok-said.ensures.found s.says) ∙ sym s.listed in
-      false≢true (sym c.if-is_sound.false ∙ c.is_sound.ensures.1 (subst IsSound (sym is) s.sound))
+    let is : c.in_ok-listing.listing ≡ l = c.in_ok-listing.ensures ∙ ap listing_of (c.as_slice.ensures ∙ says_one c.args.text.now c.in_ok-said.said s.said c.in_ok-said.ensures.found s.says) ∙ sym s.listed in
+    false≢true (sym c.if-sound.false ∙ c.in_ok-sound.ensures.1 (subst IsSound (sym is) s.sound))
 
 pub returns-clause-only : goal.returns-clause-only
 returns-clause-only c =
     λ l s.
-      let is : c.in_ok-listing.listing ≡ l = c.in_ok-listing.ensures ∙ ap listing_of (c.as_slice.ensures ∙ says_one c.args.text.now c.in_ok-said.said s.said c.in_ok-said.ensures.found s.says) ∙ sym s.listed in
-      absurd (false≢true (sym c.if-is_sound.false ∙ c.is_sound.ensures.1 (subst IsSound (sym is) s.sound)))
+    let is : c.in_ok-listing.listing ≡ l = c.in_ok-listing.ensures ∙ ap listing_of (c.as_slice.ensures ∙ says_one c.args.text.now c.in_ok-said.said s.said c.in_ok-said.ensures.found s.says) ∙ sym s.listed in
+    absurd (false≢true (sym c.if-sound.false ∙ c.in_ok-sound.ensures.1 (subst IsSound (sym is) s.sound)))

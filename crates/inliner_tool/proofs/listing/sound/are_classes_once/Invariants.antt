@@ -1,9 +1,0 @@
-use Rattle.std.proofs.Common.{length}
-use Rattle.inliner_tool.proofs.Lists.{Once}
-use Rattle.inliner_tool.proofs.listing.sound.are_classes_once.Given as goal
-
-abbrev pub invariant-loop-left : goal.invariant-loop-left
-invariant-loop-left l = (Once (λ c. c.name) l.left → Once (λ c. c.name) l.classes) × (Once (λ c. c.name) l.classes → Once (λ c. c.name) l.left)
-
-abbrev pub decreases-loop-left : goal.decreases-loop-left
-decreases-loop-left l = length l.left
