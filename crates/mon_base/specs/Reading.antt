@@ -26,6 +26,10 @@ number_at n place = option_map (λ read. (big_number n read.0, read.1)) (bytes_a
 abbrev pub int_at : Place → Option (ℤ × Place)
 int_at place = option_map (λ read. (cast_signed w32 (big_number 4 read.0), read.1)) (bytes_at 4 place)
 
+-- the part of the next n bytes that is there, at the same place
+abbrev pub part : ℕ → Place → Place
+part n place = record { at = place.at; rest = take n place.rest }
+
 -- A call at the place old that left new answered what reading gives. Where that is nothing, the place stays.
 abbrev pub Gives : {X : Type 0} → Option X → (Place → Option (X × Place)) → Place → Place → Type 0
 Gives (Some x) reading old new = reading old ≡ Some (x, new)

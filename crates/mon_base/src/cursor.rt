@@ -1,7 +1,7 @@
 //! A place among bytes that are read from left to right.
 
 ghost use Rattle.std.specs.Prelude.{◌≡◌, ◌↔◌, [], length, option_copied, IsTrue};
-ghost use Rattle.mon_base.specs.Reading.{Place, Gives, number_at, int_at, bytes_at};
+ghost use Rattle.mon_base.specs.Reading.{Place, Gives, number_at, int_at, bytes_at, part};
 
 use byteorder::{BigEndian, ByteOrder};
 use std::marker::Model;
@@ -54,6 +54,17 @@ impl<'a> Cursor<'a> {
         ensures { IsTrue result ↔ (self.now.rest ≡ []) }
     {
         self.rest.is_empty()
+    }
+
+    /// The part of the next `n` bytes that is there, at the same place. This place stays.
+    pub fn part(&self, n: usize) -> Cursor<'a>
+        ensures { result ≡ part n self.now }
+    {
+        let len = n.min(self.rest.len());
+        Cursor {
+            at: self.at,
+            rest: &self.rest[..len],
+        }
     }
 
     /// The next `n` bytes.

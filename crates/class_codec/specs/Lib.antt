@@ -1,0 +1,5 @@
+pub mod Fault
+pub mod Pool
+pub mod Spelling
+pub mod Fits
+pub mod Reading

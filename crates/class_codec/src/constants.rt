@@ -1,0 +1,240 @@
+//! Reading the constant pool. (The Java Virtual Machine Specification, section 4.4.)
+
+ghost use Rattle.std.specs.Prelude.{◌≡◌, ◌+◌, ◌<◌, ◌^◌, true, length, position, IfSome, IfOk, OnOk};
+ghost use Rattle.std.specs.List.{flat_map};
+ghost use Rattle.class_codec.specs.Spelling.{constant};
+ghost use Rattle.class_codec.specs.Fits.{takes_two};
+ghost use Rattle.class_codec.specs.Reading.{Reads, ReadsAs, Answers, is_no_text_byte, text_checked, text_at, pair_at, wide_at, payload_at, constant_at, place_at, places_at, index_checked, pair_checked, constant_checked, all_checked, pool_at};
+
+use crate::fault::ClassFault;
+use crate::place::{taken, u1, u2, u4, u8};
+use crate::pool::{Kind, names};
+use crate::tree::Const;
+use mon_base::{Bytes, Cursor, List};
+use std::alloc::Global;
+
+/// The text of a constant: two bytes of length, and that many bytes, none of which is 0 or in 0xF0 to 0xFF.
+#[tactic(auto, unfolding(crate::specs::Reading::text_at))]
+fn text(alloc: Global, from: &mut Cursor) -> Result<Bytes, ClassFault>
+    ensures reads { Reads result (text_at from.old) from.new }
+    ensures moves { IfOk result (λ text. from.new.at ≡ from.old.at + 2 + length text) }
+{
+    let len = u2(from)?;
+    let at = from.position();
+    let bytes = taken(len as usize, from)?;
+    check_text(bytes, at)?;
+    Ok(Bytes::from_slice(alloc, bytes)?)
+}
+
+/// Whether all bytes of a text, which stands at a place of the file, may stand there.
+fn check_text(text: &[u8], at: u64) -> Result<(), ClassFault>
+    requires { at + length text.now < 2 ^ 63 }
+    ensures { Answers result (text_checked at (position is_no_text_byte text.now)) }
+{
+    match first_wrong(text) {
+        Some(i) => Err(ClassFault::Index { at: at + i as u64 }),
+        None => Ok(()),
+    }
+}
+
+/// The place of the first byte that may stand in no text.
+fn first_wrong(text: &[u8]) -> Option<usize>
+    ensures found { result ≡ position is_no_text_byte text.now }
+    ensures within { IfSome result (λ i. i < length text.now) }
+{
+    text.iter().position(|b| *b == 0 || *b >= 240)
+}
+
+/// Two indices.
+#[tactic(auto, unfolding(crate::specs::Reading::pair_at))]
+fn pair(from: &mut Cursor) -> Result<(u16, u16), ClassFault>
+    ensures reads { Reads result (pair_at from.old) from.new }
+    ensures moves { OnOk result (from.new.at ≡ from.old.at + 4) }
+{
+    let first = u2(from)?;
+    let second = u2(from)?;
+    Ok((first, second))
+}
+
+/// The eight bytes of a constant that takes two places: it begins at `at`, and `left` places stand after its first.
+#[tactic(auto, unfolding(crate::specs::Reading::wide_at))]
+fn wide(at: u64, left: u16, from: &mut Cursor) -> Result<u64, ClassFault>
+    ensures reads { Reads result (wide_at at left from.old) from.new }
+    ensures moves { OnOk result (from.new.at ≡ from.old.at + 8) }
+{
+    if left == 0 {
+        return Err(ClassFault::Index { at });
+    }
+    u8(from)
+}
+
+/// What follows the tag of a constant.
+#[tactic(auto, unfolding(crate::specs::Reading::payload_at))]
+fn payload(
+    alloc: Global,
+    at: u64,
+    left: u16,
+    tag: u8,
+    from: &mut Cursor,
+) -> Result<Const, ClassFault>
+    ensures reads { Reads result (payload_at at left tag from.old) from.new }
+    ensures moves { IfOk result (λ c. from.new.at + 1 ≡ from.old.at + length (constant c)) }
+{
+    match tag {
+        1 => Ok(Const::Utf8(text(alloc, from)?)),
+        3 => Ok(Const::Integer(u4(from)?.cast_signed())),
+        4 => Ok(Const::Float(u4(from)?)),
+        5 => Ok(Const::Long(wide(at, left, from)?.cast_signed())),
+        6 => Ok(Const::Double(wide(at, left, from)?)),
+        7 => Ok(Const::Class(u2(from)?)),
+        8 => Ok(Const::Str(u2(from)?)),
+        9 => {
+            let (class, name) = pair(from)?;
+            Ok(Const::Field(class, name))
+        }
+        10 => {
+            let (class, name) = pair(from)?;
+            Ok(Const::Method(class, name))
+        }
+        11 => {
+            let (class, name) = pair(from)?;
+            Ok(Const::IMethod(class, name))
+        }
+        12 => {
+            let (name, desc) = pair(from)?;
+            Ok(Const::NameAndType(name, desc))
+        }
+        _ => Err(ClassFault::Tag { at, tag }),
+    }
+}
+
+/// A constant, after whose first place `left` places stand.
+#[tactic(auto, unfolding(crate::specs::Reading::constant_at))]
+fn constant(alloc: Global, left: u16, from: &mut Cursor) -> Result<Const, ClassFault>
+    ensures reads { Reads result (constant_at left from.old) from.new }
+    ensures moves { IfOk result (λ c. from.new.at ≡ from.old.at + length (constant c)) }
+{
+    let at = from.position();
+    let tag = u1(from)?;
+    payload(alloc, at, left, tag, from)
+}
+
+/// A place of the pool, or the second place of its constant, which has no bytes.
+#[tactic(auto, unfolding(crate::specs::Reading::place_at))]
+fn place(alloc: Global, second: bool, left: u16, from: &mut Cursor) -> Result<Const, ClassFault>
+    ensures reads { Reads result (place_at second left from.old) from.new }
+    ensures moves { IfOk result (λ c. from.new.at ≡ from.old.at + length (constant c)) }
+{
+    if second {
+        return Ok(Const::Second);
+    }
+    constant(alloc, left, from)
+}
+
+/// Whether a constant takes two places.
+fn takes_two(item: &Const) -> bool
+    ensures { result ≡ takes_two item.now }
+{
+    matches!(item, Const::Long(_) | Const::Double(_))
+}
+
+/// The places of the pool, the first of which is the second place of no constant.
+fn places(alloc: Global, count: u16, from: &mut Cursor) -> Result<Vec<Const>, ClassFault>
+    ensures reads { ReadsAs (λ v. v.items) result (places_at true count from.old) from.new }
+    ensures moves { IfOk result (λ pool. from.new.at ≡ from.old.at + length (flat_map constant pool.items)) }
+{
+    let mut pool = Vec::new(alloc);
+    let mut second = true;
+    for number in 0..count {
+        let next = place(alloc, second, count - number - 1, from)?;
+        second = takes_two(&next);
+        pool.push(next)?;
+    }
+    Ok(pool)
+}
+
+/// Whether the index at a place of the file names a constant of the kind.
+#[tactic(auto, unfolding(crate::specs::Reading::index_checked))]
+fn check_index(pool: &[Const], kind: Kind, index: u16, at: u64) -> Result<(), ClassFault>
+    ensures { Answers result (index_checked pool.now kind index at) }
+{
+    if names(kind, pool, index) {
+        Ok(())
+    } else {
+        Err(ClassFault::Index { at })
+    }
+}
+
+/// Whether two indices after a tag name constants of their kinds.
+#[tactic(auto, unfolding(crate::specs::Reading::pair_checked))]
+fn check_pair(
+    pool: &[Const],
+    kind: Kind,
+    first: u16,
+    other: Kind,
+    second: u16,
+    at: u64,
+) -> Result<(), ClassFault>
+    requires { at + 3 < 2 ^ 64 }
+    ensures { Answers result (pair_checked pool.now kind first other second at) }
+{
+    check_index(pool, kind, first, at + 1)?;
+    check_index(pool, other, second, at + 3)
+}
+
+/// Whether the indices of a constant that begins at `at` name what they should.
+fn check_constant(pool: &[Const], item: &Const, at: u64) -> Result<(), ClassFault>
+    requires { at + length (constant item.now) < 2 ^ 63 }
+    ensures { Answers result (constant_checked pool.now item.now at) }
+{
+    match item {
+        Const::Class(name) => check_index(pool, Kind::Utf8, *name, at + 1),
+        Const::Str(text) => check_index(pool, Kind::Utf8, *text, at + 1),
+        Const::Field(class, name) | Const::Method(class, name) | Const::IMethod(class, name) => {
+            check_pair(pool, Kind::Class, *class, Kind::NameAndType, *name, at)
+        }
+        Const::NameAndType(name, desc) => check_pair(pool, Kind::Utf8, *name, Kind::Utf8, *desc, at),
+        _ => Ok(()),
+    }
+}
+
+/// How many bytes a constant has in the file.
+fn len_of(item: &Const) -> u64
+    requires { length (constant item.now) < 2 ^ 63 }
+    ensures { result ≡ length (constant item.now) }
+{
+    match item {
+        Const::Utf8(text) => 3 + text.len() as u64,
+        Const::Class(_) | Const::Str(_) => 3,
+        Const::Long(_) | Const::Double(_) => 9,
+        Const::Second => 0,
+        _ => 5,
+    }
+}
+
+/// Whether all indices of the pool, which stands from `start` on, name what they should.
+fn check_all(pool: &[Const], start: u64) -> Result<(), ClassFault>
+    requires { start + length (flat_map constant pool.now) < 2 ^ 63 }
+    ensures { Answers result (all_checked pool.now pool.now start) }
+{
+    let mut at = start;
+    let mut left = pool;
+    while let [first, others @ ..] = left {
+        check_constant(pool, first, at)?;
+        at += len_of(first);
+        left = others;
+    }
+    Ok(())
+}
+
+/// The constant pool.
+#[tactic(auto, unfolding(crate::specs::Reading::pool_at))]
+pub fn pool(alloc: Global, from: &mut Cursor) -> Result<List<Const>, ClassFault>
+    ensures { Reads result (pool_at from.old) from.new }
+{
+    let count = u2(from)?;
+    let start = from.position();
+    let pool = places(alloc, count, from)?;
+    check_all(&pool, start)?;
+    Ok(List::from_vec(pool))
+}

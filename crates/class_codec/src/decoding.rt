@@ -1,0 +1,99 @@
+//! Reading class files. (The Java Virtual Machine Specification, section 4.1.)
+
+ghost use Rattle.std.specs.Prelude.{◌≡◌};
+ghost use Rattle.class_codec.specs.Reading.{Reads, Answers, head_at, body_at, class_at, class_of};
+
+use crate::constants::pool;
+use crate::fault::ClassFault;
+use crate::items::counted;
+use crate::place::{index, u2, u4};
+use crate::pool::Kind;
+use crate::tree::{ClassFile, Const};
+use mon_base::{Cursor, List};
+use std::alloc::Global;
+
+/// How many bytes a class file may have.
+pub const MAX_LEN: usize = 1_048_576;
+
+/// What stands before the pool: the minor version.
+#[tactic(auto, unfolding(crate::specs::Reading::head_at))]
+fn head(from: &mut Cursor) -> Result<u16, ClassFault>
+    ensures { Reads result (head_at from.old) from.new }
+{
+    if u4(from)? != 0xCAFE_BABE {
+        return Err(ClassFault::Magic);
+    }
+    let minor = u2(from)?;
+    let major = u2(from)?;
+    if major != 49 {
+        return Err(ClassFault::Version { major });
+    }
+    Ok(minor)
+}
+
+/// What stands after the pool.
+#[tactic(auto, unfolding(crate::specs::Reading::body_at))]
+fn body(
+    alloc: Global,
+    minor: u16,
+    pool: List<Const>,
+    from: &mut Cursor,
+) -> Result<ClassFile, ClassFault>
+    ensures { Reads result (body_at minor pool from.old) from.new }
+{
+    let flags = u2(from)?;
+    let this_class = index(Kind::Class, pool.as_slice(), from)?;
+    let super_class = index(Kind::Class, pool.as_slice(), from)?;
+    let interfaces = counted(alloc, pool.as_slice(), false, from)?;
+    let fields = counted(alloc, pool.as_slice(), false, from)?;
+    let methods = counted(alloc, pool.as_slice(), true, from)?;
+    let attrs = counted(alloc, pool.as_slice(), false, from)?;
+    Ok(ClassFile {
+        minor,
+        pool,
+        flags,
+        this_class,
+        super_class,
+        interfaces,
+        fields,
+        methods,
+        attrs,
+    })
+}
+
+/// A class file.
+#[tactic(auto, unfolding(crate::specs::Reading::class_at))]
+fn class_file(alloc: Global, from: &mut Cursor) -> Result<ClassFile, ClassFault>
+    ensures { Reads result (class_at from.old) from.new }
+{
+    let minor = head(from)?;
+    let pool = pool(alloc, from)?;
+    body(alloc, minor, pool, from)
+}
+
+/// The class file that all the bytes are, of which there are at most 1,048,576.
+#[tactic(auto, unfolding(crate::specs::Reading::class_of))]
+fn all(alloc: Global, bytes: &[u8]) -> Result<ClassFile, ClassFault>
+    ensures { Answers result (class_of bytes.now) }
+{
+    if bytes.len() > MAX_LEN {
+        return Err(ClassFault::TooLong {
+            len: bytes.len() as u64,
+        });
+    }
+    let mut from = Cursor::new(bytes);
+    let file = class_file(alloc, &mut from)?;
+    if !from.is_at_end() {
+        return Err(ClassFault::Tail {
+            at: from.position(),
+        });
+    }
+    Ok(file)
+}
+
+/// The class file that the bytes are. The faults are those of [`ClassFault`], the first in the order of reading.
+pub fn decode(alloc: Global, bytes: &[u8]) -> Result<ClassFile, ClassFault>
+    ensures exact { Answers result (class_of bytes.now) }
+{
+    all(alloc, bytes)
+}

@@ -1,0 +1,65 @@
+//! Items that are counted: two bytes of count, and the items.
+
+ghost use Rattle.std.specs.Prelude.{◌≡◌};
+ghost use Rattle.mon_base.specs.Reading.{counted};
+ghost use Rattle.class_codec.specs.Reading.{Reads, ReadsAs, counted_at};
+
+use crate::fault::ClassFault;
+use crate::place::u2;
+use crate::tree::Const;
+use mon_base::{Cursor, List};
+use std::alloc::Global;
+
+/// What is counted in a class file.
+pub trait Item: Drop {
+    ghost use Rattle.std.specs.Prelude.{List, Bool};
+    ghost use Rattle.mon_base.specs.Reading.{Place};
+    ghost use Rattle.class_codec.specs.declared.tree.Const.{Const};
+    ghost use Rattle.class_codec.specs.Reading.{Read};
+
+    /// What reading it gives, with the pool, and whether a method has it.
+    ghost item_at: { List Const → Bool → Place → Read Self };
+
+    fn read(
+        alloc: Global,
+        pool: &[Const],
+        of_method: bool,
+        from: &mut Cursor,
+    ) -> Result<Self, ClassFault>
+    where
+        Self: Sized,
+        ensures { Reads result (item_at pool.now of_method from.old) from.new };
+}
+
+/// The items that two bytes count.
+#[tactic(auto, unfolding(crate::specs::Reading::counted_at))]
+pub fn counted<T: Item>(
+    alloc: Global,
+    pool: &[Const],
+    of_method: bool,
+    from: &mut Cursor,
+) -> Result<List<T>, ClassFault>
+    ensures { Reads result (counted_at (T.item_at pool.now of_method) from.old) from.new }
+{
+    let count = u2(from)?;
+    let items = several(alloc, pool, of_method, count, from)?;
+    Ok(List::from_vec(items))
+}
+
+/// That many items.
+fn several<T: Item>(
+    alloc: Global,
+    pool: &[Const],
+    of_method: bool,
+    count: u16,
+    from: &mut Cursor,
+) -> Result<Vec<T>, ClassFault>
+    ensures { ReadsAs (λ v. v.items) result (counted (T.item_at pool.now of_method) count from.old) from.new }
+{
+    let mut items = Vec::new(alloc);
+    for _ in 0..count {
+        let item = T::read(alloc, pool, of_method, from)?;
+        items.push(item)?;
+    }
+    Ok(items)
+}
