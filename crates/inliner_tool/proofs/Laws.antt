@@ -1,17 +1,13 @@
 -- The parts of a certificate: what is read is spelled so, and what is spelled so is read.
-use Rattle.std.proofs.Common.{◌≡◌, ℕ, zero, suc, ◌+◌, ◌^◌, ◌<◌, Bool, true, false, not, cond, eqb, ltb, List, [], ◌∷◌, ◌++◌, length, get_or, Result, Ok, Err, refl, sym, ap, subst, ◌∙◌, append_assoc, arith}
+use Rattle.std.proofs.Common.{◌≡◌, ℕ, ◌^◌, ◌<◌, Bool, true, false, not, eqb, ltb, List, [], ◌∷◌, ◌++◌, length, get_or, Ok, refl, sym, ap, ◌∙◌, arith}
 use Rattle.std.specs.List.{flat_map, AllByRecursion}
 use Rattle.std.proofs.lemmas.Bool.{eqb-true, eq-eqb, false≢true, ltb-true, lt-ltb}
-use Rattle.std.proofs.lemmas.List.{append-nil}
-use Rattle.std.proofs.lemmas.Grind.{flat_map-append}
-use Rattle.mon_base.specs.Reading.{Place, IsBytes, big_bytes, ◌>>=◌, need, counted}
-use Rattle.mon_base.proofs.Reading.{IsTail, IsReader, Took, after, bind_ok, need_ok, ok_is, done, then, then_same, said, fitting, spelled, guard, guarded, choose, refuse, wrapped, number_is, text_is, list_is, one, two, four}
+use Rattle.mon_base.specs.Reading.{Place, big_bytes}
+use Rattle.mon_base.proofs.Reading.{IsTail, IsReader, done, then, then_same, said, fitting, spelled, guard, guarded, choose, refuse, number_is, text_is, list_is, one, two, four}
 use Rattle.inliner_tool.specs.declared.certificate.VType.{VType}
 use Rattle.inliner_tool.specs.declared.certificate.VType.TheVariants.{Top, Ref}
-use Rattle.inliner_tool.specs.declared.certificate.FrameType.{FrameType}
-use Rattle.inliner_tool.specs.Certificate
-use Rattle.inliner_tool.specs.Certificate.{Name, place_of, StandOnce, type_names, frame_names, class_names, head, spell_name, spell_names, spell_type, spell_types, spell_instruction, spell_method, spell_class, spell_classes, is_top, ends_with_top, CanSpellFrame, CanSpellMethod, CanSpellClass, CanSpellNames, CanSpellClasses}
-use Rattle.inliner_tool.specs.CertificateReading.{Read, number, name_at, names_at, reference_at, type_of_kind, type_at, types_at, instruction_at, method_at, class_at, classes_at}
+use Rattle.inliner_tool.specs.Certificate.{Name, place_of, StandOnce, type_names, frame_names, class_names, head, spell_name, spell_names, spell_type, spell_types, spell_instruction, spell_method, spell_class, spell_classes, ends_with_top, CanSpellFrame, CanSpellMethod, CanSpellClass, CanSpellNames, CanSpellClasses}
+use Rattle.inliner_tool.specs.CertificateReading.{Read, name_at, names_at, reference_at, type_at, types_at, instruction_at, method_at, class_at, classes_at}
 use Rattle.inliner_tool.proofs.Names.{get_or-place}
 
 -- ---- the table of names

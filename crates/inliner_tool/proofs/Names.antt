@@ -7,7 +7,7 @@ use Rattle.std.proofs.lemmas.List.{append-nil}
 use Rattle.std.proofs.lemmas.List.Sums.{fold-append}
 use Rattle.std.proofs.lemmas.Grind.{flat_map-append}
 use Rattle.std.proofs.lemmas.Slice.Eq.{bytes_eq-Decides}
-use Rattle.inliner_tool.specs.Certificate.{Name, place_of, StandOnce}
+use Rattle.inliner_tool.specs.Certificate.{Name, place_of}
 use Rattle.inliner_tool.specs.CertificateReading.{counted_with, used_after}
 
 -- where the name stands it is found no later

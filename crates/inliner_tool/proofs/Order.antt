@@ -1,10 +1,10 @@
 -- The names of a table are used in their order exactly where the table is the names in order of first use.
-use Rattle.std.proofs.Common.{◌≡◌, ℕ, zero, suc, ◌+◌, ◌<◌, ◌≤◌, Bool, true, false, cond, ltb, eqb, List, [], ◌∷◌, ◌++◌, length, get_or, take, drop, Option, Some, None, inl, inr, refl, sym, ap, ◌∙◌, append_assoc, arith}
-use Rattle.std.specs.Prelude.{bytes_eq, nat_lt}
-use Rattle.std.specs.List.{fold, AllByRecursion}
-use Rattle.std.proofs.lemmas.Bool.{cases_lt, le-ltb, lt-ltb, eq-eqb, eqb-true, ltb-true, ltb-false, false≢true}
+use Rattle.std.proofs.Common.{◌≡◌, ℕ, suc, ◌+◌, ◌<◌, ◌≤◌, Bool, true, false, cond, eqb, List, [], ◌∷◌, ◌++◌, length, get_or, take, drop, Option, Some, None, inl, inr, refl, sym, ap, ◌∙◌, append_assoc, arith}
+use Rattle.std.specs.Prelude.{bytes_eq}
+use Rattle.std.specs.List.{fold}
+use Rattle.std.proofs.lemmas.Bool.{cases_lt, le-ltb, lt-ltb, eq-eqb, eqb-true}
 use Rattle.std.proofs.lemmas.Slice.Eq.{bytes_eq-Decides}
-use Rattle.std.proofs.lemmas.List.{append-nil, length-append, length-take, take_all, take-append-drop, take_more}
+use Rattle.std.proofs.lemmas.List.{append-nil, length-append, length-take, take-append-drop, take_more}
 use Rattle.std.proofs.lemmas.Grind.{common_steps}
 use Rattle.inliner_tool.specs.Certificate.{Name, place_of, with_name, StandOnce}
 use Rattle.inliner_tool.specs.CertificateReading.{counted_with, used_after}

@@ -1,12 +1,12 @@
 -- All the bytes of a certificate.
-use Rattle.std.proofs.Common.{◌≡◌, ℕ, zero, suc, ◌+◌, ◌^◌, ◌<◌, ◌≤◌, List, [], ◌∷◌, ◌++◌, length, take, Option, Some, None, Result, Ok, Err, refl, sym, ap, subst, ◌∙◌, append_assoc, arith}
-use Rattle.std.specs.List.{flat_map, fold, AllByRecursion}
+use Rattle.std.proofs.Common.{◌≡◌, ℕ, List, [], ◌++◌, length, take, Option, Some, None, Result, Ok, Err, refl, sym, ap, subst, ◌∙◌, append_assoc, arith}
+use Rattle.std.specs.List.{flat_map, fold}
 use Rattle.std.proofs.lemmas.List.{append-nil, take_all, length-take}
 use Rattle.mon_base.specs.Reading.{Place, IsBytes}
 use Rattle.mon_base.proofs.Reading.{after, ok_is}
 use Rattle.inliner_tool.specs.declared.certificate.FrameType.{FrameType}
 use Rattle.inliner_tool.specs.declared.certificate.Certificate.{Certificate}
-use Rattle.inliner_tool.specs.Certificate.{Name, StandOnce, with_name, class_names, names_of, head, spell_names, spell_classes, spell_certificate, SpellsCertificate}
+use Rattle.inliner_tool.specs.Certificate.{Name, StandOnce, with_name, class_names, names_of, head, spell_names, spell_classes, SpellsCertificate}
 use Rattle.std.specs.Prelude.{IsErrOf}
 use Rattle.inliner_tool.specs.declared.fault.FormFault.{FormFault}
 use Rattle.inliner_tool.specs.declared.fault.FormFault.TheVariants.{NotBuilt, Memory}

@@ -1,5 +1,5 @@
 -- A certificate in bytes: the one spelling of each.
-use Rattle.std.specs.Prelude.{◌≡◌, ℕ, zero, suc, ◌<◌, ◌^◌, Bool, true, false, List, [], ◌∷◌, ◌++◌, length, get_or, slice_get, ◌-◌, Option, Some, None, bytes_eq, nat_lt, if◌then◌else◌}
+use Rattle.std.specs.Prelude.{◌≡◌, ℕ, suc, ◌<◌, ◌^◌, Bool, true, false, List, [], ◌∷◌, ◌++◌, length, get_or, slice_get, ◌-◌, Option, Some, None, bytes_eq, nat_lt, if◌then◌else◌}
 use Rattle.std.specs.List.{flat_map, fold, AllByRecursion}
 use Rattle.mon_base.specs.Reading.{big_bytes}
 use Rattle.inliner_tool.specs.declared.certificate.VType.{VType}
