@@ -26,7 +26,8 @@ pub get_or-place : (names : List Name) (name : Name) → place_of names name < l
 get_or-place [] name lt = absurd (omega arith)
 get_or-place (first ∷ names) name lt = by (bytes_eq first name) refl lt (get_or-place names name) where
   by : (b : Bool) → bytes_eq first name ≡ b → cond b 0 (suc (place_of names name)) < suc (length names)
-      → (place_of names name < length names → get_or names (place_of names name) [] ≡ name) → get_or (first ∷ names) (cond b 0 (suc (place_of names name))) [] ≡ name
+      → (place_of names name < length names → get_or names (place_of names name) [] ≡ name)
+      → get_or (first ∷ names) (cond b 0 (suc (place_of names name))) [] ≡ name
   by true e lt later = (bytes_eq-Decides first name).0 e
   by false e lt later = later (omega arith)
 
