@@ -7,7 +7,7 @@ use Rattle.std.proofs.lemmas.List.{append-nil}
 use Rattle.std.proofs.lemmas.List.Sums.{fold-append}
 use Rattle.std.proofs.lemmas.Grind.{flat_map-append}
 use Rattle.std.proofs.lemmas.Slice.Eq.{bytes_eq-Decides}
-use Rattle.inliner_tool.specs.Certificate.{Name, place_of, StandOnce}
+use Rattle.inliner_tool.specs.Certificate.{Name, place_of}
 use Rattle.inliner_tool.specs.CertificateReading.{counted_with, used_after}
 
 -- where the name stands it is found no later
@@ -26,7 +26,8 @@ pub get_or-place : (names : List Name) (name : Name) → place_of names name < l
 get_or-place [] name lt = absurd (omega arith)
 get_or-place (first ∷ names) name lt = by (bytes_eq first name) refl lt (get_or-place names name) where
   by : (b : Bool) → bytes_eq first name ≡ b → cond b 0 (suc (place_of names name)) < suc (length names)
-      → (place_of names name < length names → get_or names (place_of names name) [] ≡ name) → get_or (first ∷ names) (cond b 0 (suc (place_of names name))) [] ≡ name
+      → (place_of names name < length names → get_or names (place_of names name) [] ≡ name)
+      → get_or (first ∷ names) (cond b 0 (suc (place_of names name))) [] ≡ name
   by true e lt later = (bytes_eq-Decides first name).0 e
   by false e lt later = later (omega arith)
 

@@ -1,17 +1,13 @@
 -- The parts of a certificate: what is read is spelled so, and what is spelled so is read.
-use Rattle.std.proofs.Common.{◌≡◌, ℕ, zero, suc, ◌+◌, ◌^◌, ◌<◌, Bool, true, false, not, cond, eqb, ltb, List, [], ◌∷◌, ◌++◌, length, get_or, Result, Ok, Err, refl, sym, ap, subst, ◌∙◌, append_assoc, arith}
+use Rattle.std.proofs.Common.{◌≡◌, ℕ, ◌^◌, ◌<◌, Bool, true, false, not, eqb, ltb, List, [], ◌∷◌, ◌++◌, length, get_or, Ok, refl, sym, ap, ◌∙◌, arith}
 use Rattle.std.specs.List.{flat_map, AllByRecursion}
 use Rattle.std.proofs.lemmas.Bool.{eqb-true, eq-eqb, false≢true, ltb-true, lt-ltb}
-use Rattle.std.proofs.lemmas.List.{append-nil}
-use Rattle.std.proofs.lemmas.Grind.{flat_map-append}
-use Rattle.mon_base.specs.Reading.{Place, IsBytes, big_bytes, ◌>>=◌, need, counted}
-use Rattle.mon_base.proofs.Reading.{IsTail, IsReader, Took, after, bind_ok, need_ok, ok_is, done, then, then_same, said, fitting, spelled, guard, guarded, choose, refuse, wrapped, number_is, text_is, list_is, one, two, four}
+use Rattle.mon_base.specs.Reading.{Place, big_bytes}
+use Rattle.mon_base.proofs.Reading.{IsTail, IsReader, done, then, then_same, said, fitting, spelled, guard, guarded, choose, refuse, number_is, text_is, list_is, one, two, four}
 use Rattle.inliner_tool.specs.declared.certificate.VType.{VType}
 use Rattle.inliner_tool.specs.declared.certificate.VType.TheVariants.{Top, Ref}
-use Rattle.inliner_tool.specs.declared.certificate.FrameType.{FrameType}
-use Rattle.inliner_tool.specs.Certificate
-use Rattle.inliner_tool.specs.Certificate.{Name, place_of, StandOnce, type_names, frame_names, class_names, head, spell_name, spell_names, spell_type, spell_types, spell_instruction, spell_method, spell_class, spell_classes, is_top, ends_with_top, CanSpellFrame, CanSpellMethod, CanSpellClass, CanSpellNames, CanSpellClasses}
-use Rattle.inliner_tool.specs.CertificateReading.{Read, number, name_at, names_at, reference_at, type_of_kind, type_at, types_at, instruction_at, method_at, class_at, classes_at}
+use Rattle.inliner_tool.specs.Certificate.{Name, place_of, StandOnce, type_names, frame_names, class_names, head, spell_name, spell_names, spell_type, spell_types, spell_instruction, spell_method, spell_class, spell_classes, ends_with_top, CanSpellFrame, CanSpellMethod, CanSpellClass, CanSpellNames, CanSpellClasses}
+use Rattle.inliner_tool.specs.CertificateReading.{Read, name_at, names_at, reference_at, type_at, types_at, instruction_at, method_at, class_at, classes_at}
 use Rattle.inliner_tool.proofs.CertificateNames.{get_or-place}
 
 -- ---- the table of names
@@ -60,11 +56,13 @@ joined names names_in Fits (x ∷ xs) f h =
     let g = append-stand names (names_in x) (flat_map names_in xs) h in
     ((f.0, g.0), joined names names_in Fits xs f.1 g.1)
 
-all_stand : {X : Type 0} (names : List Name) (names_in : X → List Name) (xs : List X) → AllByRecursion (λ x. StandIn names (names_in x)) xs → StandIn names (flat_map names_in xs)
+all_stand : {X : Type 0} (names : List Name) (names_in : X → List Name) (xs : List X)
+    → AllByRecursion (λ x. StandIn names (names_in x)) xs → StandIn names (flat_map names_in xs)
 all_stand names names_in [] h = tt
 all_stand names names_in (x ∷ xs) h = stand-append names (names_in x) (flat_map names_in xs) h.0 (all_stand names names_in xs h.1)
 
-stand_all : {X : Type 0} (names : List Name) (names_in : X → List Name) (xs : List X) → StandIn names (flat_map names_in xs) → AllByRecursion (λ x. StandIn names (names_in x)) xs
+stand_all : {X : Type 0} (names : List Name) (names_in : X → List Name) (xs : List X) → StandIn names (flat_map names_in xs)
+    → AllByRecursion (λ x. StandIn names (names_in x)) xs
 stand_all names names_in [] h = tt
 stand_all names names_in (x ∷ xs) h =
     let g = append-stand names (names_in x) (flat_map names_in xs) h in
@@ -97,7 +95,8 @@ module _ (names : List Name) (once : StandOnce names) (small : length names < 2 
   reference_spelled Top k = absurd (omega arith)
   reference_spelled (Ref name) k = refl
 
-  is_below : (t : VType) (index : ℕ) → (kind_of t ≡ 3) × (place_in t ≡ index) → StandIn names (type_names t) → ltb index (length names) ≡ true
+  is_below : (t : VType) (index : ℕ) → (kind_of t ≡ 3) × (place_in t ≡ index) → StandIn names (type_names t)
+      → ltb index (length names) ≡ true
   unfolding kind_of place_in
   is_below Top index k h = absurd (omega (arith, k.0))
   is_below (Ref name) index k h = lt-ltb _ _ (omega (arith, h.0, k.1))
@@ -109,7 +108,8 @@ module _ (names : List Name) (once : StandOnce names) (small : length names < 2 
       let lt : index < length names = ltb-true _ _ h in
       (omega (arith, lt, k.1), tt)
 
-  is_reference : (t : VType) (index : ℕ) → ltb index (length names) ≡ true → (kind_of t ≡ 3) × (place_in t ≡ index) → t ≡ Ref (get_or names index [])
+  is_reference : (t : VType) (index : ℕ) → ltb index (length names) ≡ true → (kind_of t ≡ 3) × (place_in t ≡ index)
+      → t ≡ Ref (get_or names index [])
   unfolding kind_of place_in
   is_reference Top index h k = absurd (omega (arith, k.0))
   is_reference (Ref name) index h k =
@@ -117,7 +117,8 @@ module _ (names : List Name) (once : StandOnce names) (small : length names < 2 
       let at : get_or names (place_of names name) [] ≡ name = get_or-place names name (omega (arith, lt, k.1)) in
       ap Ref (sym at ∙ ap (λ (i : ℕ). get_or names i []) k.1)
 
-  made_reference : (index : ℕ) → ltb index (length names) ≡ true → (kind_of (Ref (get_or names index [])) ≡ 3) × (place_in (Ref (get_or names index [])) ≡ index)
+  made_reference : (index : ℕ) → ltb index (length names) ≡ true
+      → (kind_of (Ref (get_or names index [])) ≡ 3) × (place_in (Ref (get_or names index [])) ≡ index)
   unfolding kind_of place_in
   made_reference index h = (refl, once index (ltb-true _ _ h))
 
@@ -160,7 +161,8 @@ module _ (names : List Name) (once : StandOnce names) (small : length names < 2 
   unfolding top_at
   top_is = fitting (spelled (done Top top_made is_top_type) top_spelled) (λ t k f. top_stands t k) (λ t k f. tt)
 
-  kind_told : {reader : Place → Read VType} (kind n : ℕ) → eqb kind n ≡ true → IsTail reader after_kind (λ t. StandIn names (type_names t)) (λ t. kind_of t ≡ n)
+  kind_told : {reader : Place → Read VType} (kind n : ℕ) → eqb kind n ≡ true
+      → IsTail reader after_kind (λ t. StandIn names (type_names t)) (λ t. kind_of t ≡ n)
       → IsTail reader after_kind (λ t. StandIn names (type_names t)) (λ t. Unit {0} × (kind_of t ≡ kind))
   kind_told kind n is law =
       let same : kind ≡ n = eqb-true _ _ is in

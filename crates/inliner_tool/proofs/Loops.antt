@@ -1,5 +1,5 @@
 -- A loop that reads counted items, where a reading fails.
-use Rattle.std.proofs.Common.{◌≡◌, ℕ, ◌-◌, ◌<◌, List, Result, Ok, Err, sym, ◌∙◌}
+use Rattle.std.proofs.Common.{◌≡◌, ℕ, ◌-◌, ◌<◌, List, Result, Err}
 use Rattle.mon_base.specs.Reading.{Place, counted}
 use Rattle.mon_base.proofs.Reading.{with_front, stops}
 use Rattle.inliner_tool.specs.declared.fault.FormFault.{FormFault}

@@ -1,10 +1,10 @@
 -- The names of a table are used in their order exactly where the table is the names in order of first use.
-use Rattle.std.proofs.Common.{◌≡◌, ℕ, zero, suc, ◌+◌, ◌<◌, ◌≤◌, Bool, true, false, cond, ltb, eqb, List, [], ◌∷◌, ◌++◌, length, get_or, take, drop, Option, Some, None, inl, inr, refl, sym, ap, ◌∙◌, append_assoc, arith}
-use Rattle.std.specs.Prelude.{bytes_eq, nat_lt}
-use Rattle.std.specs.List.{fold, AllByRecursion}
-use Rattle.std.proofs.lemmas.Bool.{cases_lt, le-ltb, lt-ltb, eq-eqb, eqb-true, ltb-true, ltb-false, false≢true}
+use Rattle.std.proofs.Common.{◌≡◌, ℕ, suc, ◌+◌, ◌<◌, ◌≤◌, Bool, true, false, cond, eqb, List, [], ◌∷◌, ◌++◌, length, get_or, take, drop, Option, Some, None, inl, inr, refl, sym, ap, ◌∙◌, append_assoc, arith}
+use Rattle.std.specs.Prelude.{bytes_eq}
+use Rattle.std.specs.List.{fold}
+use Rattle.std.proofs.lemmas.Bool.{cases_lt, le-ltb, lt-ltb, eq-eqb, eqb-true}
 use Rattle.std.proofs.lemmas.Slice.Eq.{bytes_eq-Decides}
-use Rattle.std.proofs.lemmas.List.{append-nil, length-append, length-take, take_all, take-append-drop, take_more}
+use Rattle.std.proofs.lemmas.List.{append-nil, length-append, length-take, take-append-drop, take_more}
 use Rattle.std.proofs.lemmas.Grind.{common_steps}
 use Rattle.inliner_tool.specs.Certificate.{Name, place_of, with_name, StandOnce}
 use Rattle.inliner_tool.specs.CertificateReading.{counted_with, used_after}
@@ -22,7 +22,8 @@ place-within (x ∷ names) name = by (bytes_eq x name) (place-within names name)
 place-append : (a b : List Name) (name : Name) → place_of a name < length a → place_of (a ++ b) name ≡ place_of a name
 place-append [] b name lt = absurd (omega arith)
 place-append (x ∷ a) b name lt = by (bytes_eq x name) (place-append a b name) lt where
-  by : (t : Bool) → (place_of a name < length a → place_of (a ++ b) name ≡ place_of a name) → cond t 0 (suc (place_of a name)) < suc (length a)
+  by : (t : Bool) → (place_of a name < length a → place_of (a ++ b) name ≡ place_of a name)
+      → cond t 0 (suc (place_of a name)) < suc (length a)
       → cond t 0 (suc (place_of (a ++ b) name)) ≡ cond t 0 (suc (place_of a name))
   by true h lt = refl
   by false h lt = ap suc (h (omega arith))
@@ -31,7 +32,8 @@ place-append (x ∷ a) b name lt = by (bytes_eq x name) (place-append a b name) 
 place-past : (a b : List Name) (name : Name) → length a ≤ place_of a name → place_of (a ++ b) name ≡ length a + place_of b name
 place-past [] b name le = omega arith
 place-past (x ∷ a) b name le = by (bytes_eq x name) (place-past a b name) le where
-  by : (t : Bool) → (length a ≤ place_of a name → place_of (a ++ b) name ≡ length a + place_of b name) → suc (length a) ≤ cond t 0 (suc (place_of a name))
+  by : (t : Bool) → (length a ≤ place_of a name → place_of (a ++ b) name ≡ length a + place_of b name)
+      → suc (length a) ≤ cond t 0 (suc (place_of a name))
       → cond t 0 (suc (place_of (a ++ b) name)) ≡ suc (length a) + place_of b name
   by true h le = absurd (omega arith)
   by false h le = let e = h (omega arith) in omega (arith, e)

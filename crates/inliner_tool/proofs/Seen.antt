@@ -1,5 +1,5 @@
 -- A set of the names before a place of the table.
-use Rattle.std.proofs.Common.{◌≡◌, ℕ, zero, suc, ◌+◌, ◌<◌, ◌≤◌, Bool, true, false, not, cond, ltb, List, [], length, get_or, Bor, refl, sym, ap, ◌∙◌, arith}
+use Rattle.std.proofs.Common.{◌≡◌, ℕ, ◌+◌, ◌<◌, ◌≤◌, Bool, true, false, not, cond, ltb, List, [], length, get_or, Bor, refl, sym, ap, ◌∙◌, arith}
 use Rattle.std.specs.BTreeSet.{BTreeSet, contains_by}
 use Rattle.std.specs.Cmp.Lexicographic.{slice_cmp}
 use Rattle.std.specs.Ordering.{nat_cmp, is_eq}
@@ -15,7 +15,8 @@ abbrev pub HasFirst : List Name → ℕ → BTreeSet (Bor Name) → Type 0
 HasFirst names i seen = (name : Name) → has seen name ≡ ltb (place_of names name) i
 
 -- the name at the place i was not there before
-pub is_first : (names : List Name) (i : ℕ) (old : BTreeSet (Bor Name)) (name : Name) (added : Bool) → i < length names → name ≡ get_or names i []
+pub is_first : (names : List Name) (i : ℕ) (old : BTreeSet (Bor Name)) (name : Name) (added : Bool) → i < length names
+    → name ≡ get_or names i []
     → HasFirst names i old → added ≡ not (has old name) → added ≡ true → place_of names (get_or names i []) ≡ i
 is_first names i old name added lt at first said is = by (has old name) refl said where
   by : (b : Bool) → has old name ≡ b → added ≡ not b → place_of names (get_or names i []) ≡ i
@@ -26,7 +27,8 @@ is_first names i old name added lt at first said is = by (has old name) refl sai
       let same : place_of names name ≡ place_of names (get_or names i []) = ap (place_of names) at in
       omega (arith, above, below, same)
 
-pub not_first : (names : List Name) (i : ℕ) (old : BTreeSet (Bor Name)) (name : Name) (added : Bool) → i < length names → name ≡ get_or names i []
+pub not_first : (names : List Name) (i : ℕ) (old : BTreeSet (Bor Name)) (name : Name) (added : Bool) → i < length names
+    → name ≡ get_or names i []
     → HasFirst names i old → added ≡ not (has old name) → added ≡ false → StandOnce names → ⊥
 not_first names i old name added lt at first said is once = by (has old name) refl said where
   by : (b : Bool) → has old name ≡ b → added ≡ not b → ⊥

@@ -1,12 +1,12 @@
 -- All the bytes of a certificate.
-use Rattle.std.proofs.Common.{◌≡◌, ℕ, zero, suc, ◌+◌, ◌^◌, ◌<◌, ◌≤◌, List, [], ◌∷◌, ◌++◌, length, take, Option, Some, None, Result, Ok, Err, refl, sym, ap, subst, ◌∙◌, append_assoc, arith}
-use Rattle.std.specs.List.{flat_map, fold, AllByRecursion}
+use Rattle.std.proofs.Common.{◌≡◌, ℕ, List, [], ◌++◌, length, take, Option, Some, None, Result, Ok, Err, refl, sym, ap, subst, ◌∙◌, append_assoc, arith}
+use Rattle.std.specs.List.{flat_map, fold}
 use Rattle.std.proofs.lemmas.List.{append-nil, take_all, length-take}
 use Rattle.mon_base.specs.Reading.{Place, IsBytes}
 use Rattle.mon_base.proofs.Reading.{after, ok_is}
 use Rattle.inliner_tool.specs.declared.certificate.FrameType.{FrameType}
 use Rattle.inliner_tool.specs.declared.certificate.Certificate.{Certificate}
-use Rattle.inliner_tool.specs.Certificate.{Name, StandOnce, with_name, class_names, names_of, head, spell_names, spell_classes, spell_certificate, SpellsCertificate}
+use Rattle.inliner_tool.specs.Certificate.{Name, StandOnce, with_name, class_names, names_of, head, spell_names, spell_classes, SpellsCertificate}
 use Rattle.std.specs.Prelude.{IsErrOf}
 use Rattle.inliner_tool.specs.declared.fault.FormFault.{FormFault}
 use Rattle.inliner_tool.specs.declared.fault.FormFault.TheVariants.{NotBuilt, Memory}
@@ -44,7 +44,8 @@ pub record Told (bytes : List ℕ) (certificate : Certificate) : Type 0 where
   pub ended : end.rest ≡ []
   pub used : used_after (names_of certificate) (Some 0) (flat_map class_names certificate.frames) ≡ Some (length (names_of certificate))
 
-all_used : (names : List Name) (ns : List Name) (count : Option ℕ) → StandIn names ns → fold with_name [] ns ≡ names → used_after names (Some 0) ns ≡ count → count ≡ Some (length names)
+all_used : (names : List Name) (ns : List Name) (count : Option ℕ) → StandIn names ns → fold with_name [] ns ≡ names
+    → used_after names (Some 0) ns ≡ count → count ≡ Some (length names)
 all_used names ns None stand is e = absurd (out_of_order names ns 0 stand (omega arith) e is)
 all_used names ns (Some m) stand is e =
     let g = in_order names ns 0 m stand (omega arith) e in
@@ -104,7 +105,8 @@ module _ (bytes : List ℕ) (c : Certificate) (spelled : SpellsCertificate bytes
         let t = told bytes c spelled in
         subst (λ (ns : List Name). classes_at ns middle ≡ Ok (c.frames, t.end)) same_table.0 (subst (λ (p : Place). classes_at (names_of c) p ≡ Ok (c.frames, t.end)) same_table.1 t.classes)
 
-    pub classes_fault : (fault : FormFault) (next : Place) → Reads (refused (List (List (List FrameType))) fault) (classes_at names) middle next → fault ≡ Memory
+    pub classes_fault : (fault : FormFault) (next : Place)
+        → Reads (refused (List (List (List FrameType))) fault) (classes_at names) middle next → fault ≡ Memory
     classes_fault NotBuilt next e = absurd (err_ok (sym e ∙ classes_told))
     classes_fault Memory next e = refl
 

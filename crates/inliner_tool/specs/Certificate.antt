@@ -1,5 +1,5 @@
 -- A certificate in bytes: the one spelling of each.
-use Rattle.std.specs.Prelude.{◌≡◌, ℕ, zero, suc, ◌<◌, ◌^◌, Bool, true, false, List, [], ◌∷◌, ◌++◌, length, get_or, slice_get, ◌-◌, Option, Some, None, bytes_eq, nat_lt, if◌then◌else◌}
+use Rattle.std.specs.Prelude.{◌≡◌, ℕ, suc, ◌<◌, ◌^◌, Bool, true, false, List, [], ◌∷◌, ◌++◌, length, get_or, slice_get, ◌-◌, Option, Some, None, bytes_eq, nat_lt, if◌then◌else◌}
 use Rattle.std.specs.List.{flat_map, fold, AllByRecursion}
 use Rattle.mon_base.specs.Reading.{big_bytes}
 use Rattle.inliner_tool.specs.declared.certificate.VType.{VType}
@@ -61,7 +61,7 @@ spell_types names types = big_bytes 2 (length types) ++ flat_map (spell_type nam
 
 -- 1, since it is reached, then its frame, then 0, since its note is Free
 abbrev pub spell_instruction : List Name → FrameType → List ℕ
-spell_instruction names frame = 1 ∷ [] ++ (spell_types names frame.locals ++ (spell_types names frame.stack ++ 0 ∷ []))
+spell_instruction names frame = 1 ∷ (spell_types names frame.locals ++ (spell_types names frame.stack ++ 0 ∷ []))
 
 abbrev pub spell_method : List Name → List FrameType → List ℕ
 spell_method names frames = big_bytes 4 (length frames) ++ flat_map (spell_instruction names) frames

@@ -1,5 +1,5 @@
 -- Reading a certificate from left to right, with a table of names that is known.
-use Rattle.std.specs.Prelude.{◌≡◌, ℕ, zero, suc, ◌+◌, ◌<◌, ◌==◌, Bool, true, false, not, List, [], ◌∷◌, length, get_or, Option, Some, None, Result, Ok, Err, ok_or, nat_lt, if◌then◌else◌}
+use Rattle.std.specs.Prelude.{◌≡◌, ℕ, ◌+◌, ◌==◌, not, List, [], length, get_or, Option, Some, None, Result, Ok, Err, ok_or, nat_lt, if◌then◌else◌}
 use Rattle.std.specs.List.{fold}
 use Rattle.mon_base.specs.Reading.{Place, ◌>>=◌, need, bytes_at, number_at, counted}
 use Rattle.inliner_tool.specs.declared.fault.FormFault.{FormFault}

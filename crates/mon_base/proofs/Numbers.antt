@@ -1,10 +1,10 @@
 -- What is no text of a number.
-use Rattle.std.proofs.Common.{◌≡◌, ℤ, FitsSigned, ℕ, ◌<◌, ◌^◌, List, Option, Some, None, Result, Ok, Err, MatchResult, IfNone, Bor, ap, to_z, of_z, eqb, false, true, [], ◌∷◌, length, arith, sym, ◌∙◌, subst, refl, cond, ◌&&◌}
+use Rattle.std.proofs.Common.{◌≡◌, ℤ, FitsSigned, ℕ, ◌<◌, ◌^◌, List, Option, Some, None, Result, Ok, Err, MatchResult, IfNone, Bor, ap, to_z, of_z, eqb, false, true, [], ◌∷◌, arith, sym, ◌∙◌, subst, refl}
 use Rattle.std.specs.Fmt.{signed_decimal}
 use Rattle.std.specs.Int.{w64}
 use Rattle.std.specs.Int.Signed.{mag}
 use Rattle.std.specs.Result.{result_ok}
-use Rattle.std.specs.Str.{IsUtf8, IsAscii}
+use Rattle.std.specs.Str.{IsUtf8}
 use Rattle.std.specs.Str.Parse.{ParsesSigned}
 use Rattle.std.proofs.lemmas.Fmt.{IsAscii-signed, parse-signed_decimal}
 use Rattle.std.proofs.lemmas.Str.{IsUtf8-from_ascii}

@@ -23,16 +23,14 @@
 -- Other lines: `list_is` and `text_is` (with their length before them), `items` (a counted list), `guard` and `guarded` (a test of what is known), `choose` and `refuse` (by a tag that is
 -- known), `wrapped` (one form of an enum), `said` (the last part, called at the end). `known` grows by one fact
 -- `field e ≡ value` on the right with each field.
-use Rattle.std.proofs.Common.{◌≡◌, ℕ, zero, suc, ◌+◌, ◌-◌, ◌*◌, ◌%◌, ◌^◌, ◌<◌, ◌≤◌, Bool, true, false, cond, ltb, eqb, eq-eqb, List, [], ◌∷◌, ◌++◌, length, get_or, take, drop, Option, Some, None, Result, Ok, Err, refl, sym, ap, subst, ◌∙◌, append_assoc, arith, inl, inr}
+use Rattle.std.proofs.Common.{◌≡◌, ℕ, zero, suc, ◌+◌, ◌-◌, ◌*◌, ◌%◌, ◌^◌, ◌<◌, ◌≤◌, Bool, true, false, cond, ltb, eq-eqb, List, [], ◌∷◌, ◌++◌, length, take, drop, Option, Some, None, Result, Ok, Err, refl, sym, ap, subst, ◌∙◌, append_assoc, arith, inl, inr}
 use Rattle.std.specs.Prelude.{◌==◌, ok_or, option_map}
 use Rattle.std.specs.List.{flat_map, AllByRecursion}
-use Rattle.std.specs.Int.{w16, w32, w64}
 use Rattle.std.proofs.lemmas.Bool.{cases_lt, ltb-false, le-ltb, eqb-true}
 use Rattle.std.proofs.lemmas.List.{take_at, drop_at, take-append-drop, length-append, length-take, get_or-drop, get_or-take, get_or_past, append-nil, nil_from_length}
-use Rattle.std.proofs.lemmas.List.Concat.{flat_map-cons}
 use Rattle.std.proofs.lemmas.Nat.{be_bytes_2, be_bytes_4, be_bytes_8}
 use Rattle.byteorder.specs.Endian.{big_number, big_bytes}
-use Rattle.byteorder.specs.Numbers.{big_from-lt, big_from-append, big_number-reads_back, length-bytes_high_first}
+use Rattle.byteorder.specs.Numbers.{big_from-lt, big_number-reads_back, length-bytes_high_first}
 use Rattle.mon_base.specs.Reading.{Place, IsBytes, bytes_at, number_at, ◌>>=◌, need, counted, whole}
 
 IsBytes-drop : (n : ℕ) (bytes : List ℕ) → IsBytes bytes → IsBytes (drop n bytes)
@@ -59,7 +57,8 @@ pub ok_is : {A : Type 0} (E : Type 0) (x y : A) → answer E x ≡ answer E y �
 ok_is E x y e = cc
 
 -- a test that did not fail
-pub need_ok : {B E : Type 0} (b : Bool) (fault : E) (f : Unit {0} → Result B E) (y : B) → (need b fault >>= f) ≡ Ok y → (b ≡ true) × (f tt ≡ Ok y)
+pub need_ok : {B E : Type 0} (b : Bool) (fault : E) (f : Unit {0} → Result B E) (y : B) → (need b fault >>= f) ≡ Ok y
+    → (b ≡ true) × (f tt ≡ Ok y)
 need_ok true fault f y e = (refl, e)
 need_ok false fault f y e = absurd cc
 
@@ -88,8 +87,10 @@ Took-then a x b y c p q = record {
 
 -- Of the answers of which known holds, the reader reads exactly the texts that spell gives those of which Fits holds.
 pub record IsTail {A E : Type 0} (reader : Place → Result (A × Place) E) (spell : A → List ℕ) (Fits known : A → Type 0) : Type 0 where
-  pub takes : (place : Place) (a : A) (next : Place) → IsBytes place.rest → reader place ≡ Ok (a, next) → Took place (spell a) next × Fits a × known a
-  pub again : (place : Place) (a : A) (rest : List ℕ) → Fits a → known a → place.rest ≡ spell a ++ rest → reader place ≡ Ok (a, after place (spell a) rest)
+  pub takes : (place : Place) (a : A) (next : Place) → IsBytes place.rest → reader place ≡ Ok (a, next)
+      → Took place (spell a) next × Fits a × known a
+  pub again : (place : Place) (a : A) (rest : List ℕ) → Fits a → known a → place.rest ≡ spell a ++ rest
+      → reader place ≡ Ok (a, after place (spell a) rest)
 
 -- The reader reads exactly the texts that spell gives.
 abbrev pub IsReader : {A E : Type 0} → (Place → Result (A × Place) E) → (A → List ℕ) → (A → Type 0) → Type 0
@@ -185,7 +186,8 @@ guard Holds test fault to from is = guarded Holds test fault to from (λ holds. 
 -- a reader of the answers of one form, from that of what the form holds
 pub wrapped : {A X E : Type 0} {reader : Place → Result (X × Place) E} {spell_x : X → List ℕ} {Fits_x known_x : X → Type 0} {spell : A → List ℕ} {Fits known : A → Type 0}
     → IsTail reader spell_x Fits_x known_x → (wrap : X → A) → ((x : X) → spell (wrap x) ≡ spell_x x)
-    → ((x : X) → Fits_x x → known_x x → Fits (wrap x) × known (wrap x)) → ((a : A) → Fits a → known a → (x : X) × (a ≡ wrap x) × Fits_x x × known_x x)
+    → ((x : X) → Fits_x x → known_x x → Fits (wrap x) × known (wrap x))
+    → ((a : A) → Fits a → known a → (x : X) × (a ≡ wrap x) × Fits_x x × known_x x)
     → IsTail (λ place. reader place >>= λ x. Ok (wrap x.0, x.1)) spell Fits known
 wrapped {A = A} {X = X} {E = E} {reader = reader} {spell_x = spell_x} {spell = spell} {Fits = Fits} {known = known} is wrap same to from = record {
   takes = λ place a next fits e.
@@ -269,7 +271,8 @@ counted_again item spell Fits is (x ∷ xs) place rest fits e =
     let far : place.at + length (spell x) + length (flat_map spell xs) ≡ place.at + length (spell x ++ flat_map spell xs) = omega (arith, length-append (spell x) (flat_map spell xs)) in
     rw (one, two, far) refl
 
-pub items : {X E : Type 0} {item : Place → Result (X × Place) E} {spell : X → List ℕ} {Fits : X → Type 0} → IsReader item spell Fits → (n : ℕ)
+pub items : {X E : Type 0} {item : Place → Result (X × Place) E} {spell : X → List ℕ} {Fits : X → Type 0} → IsReader item spell Fits
+    → (n : ℕ)
     → IsTail (counted item n) (λ xs. flat_map spell xs) (λ xs. AllByRecursion Fits xs) (λ xs. length xs ≡ n)
 items {X = X} {E = E} {item = item} {spell = spell} {Fits = Fits} is n = record {
   takes = λ place xs next fits e. counted_takes item spell Fits is n place xs next fits e;
@@ -296,7 +299,8 @@ bytes_takes n place bytes next fits e =
       IsBytes-take n place.rest fits,
     )
 
-pub bytes_again : (place : Place) (bytes rest : List ℕ) → place.rest ≡ bytes ++ rest → bytes_at (length bytes) place ≡ Some (bytes, after place bytes rest)
+pub bytes_again : (place : Place) (bytes rest : List ℕ) → place.rest ≡ bytes ++ rest
+    → bytes_at (length bytes) place ≡ Some (bytes, after place bytes rest)
 bytes_again place bytes rest e =
     let long : ltb (length (bytes ++ rest)) (length bytes) ≡ false = le-ltb _ _ (omega (arith, length-append bytes rest)) in
     rw (e, long, take_at bytes rest (length bytes) refl, drop_at bytes rest (length bytes) refl) refl
@@ -339,7 +343,8 @@ eight = record { back = λ bytes len fits. be_bytes_8 bytes _ len fits (omega ar
 some_is : {A : Type 0} (x y : A) → Some x ≡ Some y → x ≡ y
 some_is x y e = cc
 
-some_pair : (n : ℕ) (r : Option (List ℕ × Place)) (x : ℕ) (next : Place) → option_map {U = ℕ × Place} (λ read. (big_number n read.0, read.1)) r ≡ Some (x, next)
+some_pair : (n : ℕ) (r : Option (List ℕ × Place)) (x : ℕ) (next : Place)
+    → option_map {U = ℕ × Place} (λ read. (big_number n read.0, read.1)) r ≡ Some (x, next)
     → (bytes : List ℕ) × (r ≡ Some (bytes, next)) × (big_number n bytes ≡ x)
 some_pair n None x next e = absurd cc
 some_pair n (Some read) x next e =
@@ -383,7 +388,8 @@ text_is size fault fault_in = fitting (
 
 -- ---- all the bytes
 
-pub whole_takes : {A E : Type 0} {reader : Place → Result (A × Place) E} {spell : A → List ℕ} {Fits : A → Type 0} → IsReader reader spell Fits
+pub whole_takes : {A E : Type 0} {reader : Place → Result (A × Place) E} {spell : A → List ℕ} {Fits : A → Type 0}
+    → IsReader reader spell Fits
     → (fault : Place → E) (bytes : List ℕ) (a : A) → IsBytes bytes → whole reader fault bytes ≡ Ok a → (bytes ≡ spell a) × Fits a
 whole_takes {A = A} {E = E} {reader = reader} {spell = spell} {Fits = Fits} is fault bytes a fits e =
     let start : Place = record { at = 0; rest = bytes } in
@@ -394,7 +400,8 @@ whole_takes {A = A} {E = E} {reader = reader} {spell = spell} {Fits = Fits} is f
     let all : bytes ≡ spell b.0.0 = t.0.parts ∙ ap (λ (r : List ℕ). spell b.0.0 ++ r) nothing ∙ append-nil (spell b.0.0) in
     subst (λ (x : A). (bytes ≡ spell x) × Fits x) (ok_is E b.0.0 a g.1) (all, t.1)
 
-pub whole_again : {A E : Type 0} {reader : Place → Result (A × Place) E} {spell : A → List ℕ} {Fits : A → Type 0} → IsReader reader spell Fits
+pub whole_again : {A E : Type 0} {reader : Place → Result (A × Place) E} {spell : A → List ℕ} {Fits : A → Type 0}
+    → IsReader reader spell Fits
     → (fault : Place → E) (a : A) → Fits a → whole reader fault (spell a) ≡ Ok a
 whole_again {reader = reader} {spell = spell} is fault a fits =
     let start : Place = record { at = 0; rest = spell a } in
@@ -407,12 +414,14 @@ whole_again {reader = reader} {spell = spell} is fault a fits =
 abbrev pub with_front : {X E : Type 0} → List X → Result (List X × Place) E → Result (List X × Place) E
 with_front front read = read >>= λ x. Ok (front ++ x.0, x.1)
 
-regroup : {X E : Type 0} (front : List X) (x : X) (read : Result (List X × Place) E) → with_front front (read >>= λ y. Ok (x ∷ y.0, y.1)) ≡ with_front (front ++ x ∷ []) read
+regroup : {X E : Type 0} (front : List X) (x : X) (read : Result (List X × Place) E)
+    → with_front front (read >>= λ y. Ok (x ∷ y.0, y.1)) ≡ with_front (front ++ x ∷ []) read
 regroup {X = X} {E = E} front x (Ok y) = ap (λ (xs : List X). answer E (xs, y.1)) (sym (append_assoc front (x ∷ []) y.0))
 regroup front x (Err e) = refl
 
 pub goes_on : {X E : Type 0} (item : Place → Result (X × Place) E) (front : List X) (count i : ℕ) (place : Place) (x : X) (next : Place) (total : Result (List X × Place) E)
-    → i < count → item place ≡ Ok (x, next) → with_front front (counted item (count - i) place) ≡ total → with_front (front ++ x ∷ []) (counted item (count - (i + 1)) next) ≡ total
+    → i < count → item place ≡ Ok (x, next) → with_front front (counted item (count - i) place) ≡ total
+    → with_front (front ++ x ∷ []) (counted item (count - (i + 1)) next) ≡ total
 unfolding counted
 goes_on item front count i place x next total lt h so_far =
     let k : count - i ≡ suc (count - (i + 1)) = omega arith in

@@ -1,7 +1,5 @@
-use Rattle.std.proofs.Common.{◌≡◌, [], get_or, ◌∙◌, sym, ap, arith}
+use Rattle.std.proofs.Common.{◌≡◌, [], get_or, arith}
 use Rattle.std.proofs.lemmas.Grind.{common_steps}
-use Rattle.inliner_tool.specs.Certificate.{place_of}
-use Rattle.inliner_tool.specs.CertificateReading.{counted_with}
 use Rattle.inliner_tool.proofs.certificate.reading.read_reference.Goals as goal
 
 pub returns-clause-used : goal.returns-clause-used
