@@ -49,7 +49,7 @@ left (x ∷ xs) [] rest p q e =
     absurd (not_empty x (flat_map insn_bytes xs ++ rest) (sym (append_assoc (insn_bytes x) (flat_map insn_bytes xs) rest) ∙ ap (λ (t : List ℕ). t ++ rest) (sym (flat_map-cons insn_bytes x xs)) ∙ e))
 left (x ∷ xs) (y ∷ ys) rest p q e =
     let parts : insn_bytes x ++ (flat_map insn_bytes xs ++ rest) ≡ insn_bytes y ++ flat_map insn_bytes ys =
-      sym (append_assoc (insn_bytes x) (flat_map insn_bytes xs) rest) ∙ ap (λ (t : List ℕ). t ++ rest) (sym (flat_map-cons insn_bytes x xs)) ∙ e ∙ flat_map-cons insn_bytes y ys in
+    sym (append_assoc (insn_bytes x) (flat_map insn_bytes xs) rest) ∙ ap (λ (t : List ℕ). t ++ rest) (sym (flat_map-cons insn_bytes x xs)) ∙ e ∙ flat_map-cons insn_bytes y ys in
     let one = one_insn x y (flat_map insn_bytes xs ++ rest) (flat_map insn_bytes ys) p.0 q.0 parts in
     let more = left xs ys rest p.1 q.1 one.rest in
     record { zs = more.zs; whole = let h = more.whole in let i = one.insn in cc; spelled = more.spelled; built = more.built }

@@ -18,5 +18,6 @@ pub mod Replies
 pub mod Said
 mod Seen
 pub mod Steps
+pub mod StopsAt
 pub mod Tables
 mod Whole

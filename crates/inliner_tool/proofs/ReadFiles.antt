@@ -58,14 +58,16 @@ pub class_stops : (files : Files) (listing : Listing) (main : List ℕ) (names :
     → first ≤ begun → HaveRead files listing main names classes (name ∷ left)
     → ReadsForm files (record { before = begun; now = now; last = last }) name (ClassOf listing main) (Err stop)
     → ReadsClasses files (record { before = first; now = now; last = last }) listing main names (Err stop)
-class_stops files listing main names classes name left first begun now last (Input bad) le had stops =
-    (record {
-      before = had.before;
-      later = left;
-      classes = classes;
-      whole = had.whole ∙ ap (λ (n : List ℕ). had.before ++ n ∷ left) (sym stops.0);
-      read = had.read;
-    }, subst (λ (n : List ℕ). IsOfNoForm files n (ClassOf listing main)) (sym stops.0) stops.1)
+class_stops files listing main names classes name left first begun now last (Input bad) le had stops = (
+  record {
+    before = had.before;
+    later = left;
+    classes = classes;
+    whole = had.whole ∙ ap (λ (n : List ℕ). had.before ++ n ∷ left) (sym stops.0);
+    read = had.read;
+  },
+  subst (λ (n : List ℕ). IsOfNoForm files n (ClassOf listing main)) (sym stops.0) stops.1,
+)
 class_stops files listing main names classes name left first begun now last (Unread bad) le had stops =
     let named : Contains names name = subst (λ (ns : List (List ℕ)). Contains ns name) (sym had.whole) (contains_there had.before name left) in
     (subst (λ (n : List ℕ). Contains names n) (sym stops.0) named, subst (λ (n : List ℕ). IsUnread files (record { before = first; now = now; last = last }) n) (sym stops.0) (unread_before files first begun now last name le stops.1))

@@ -26,7 +26,12 @@ pub record Named : Type 0 where
 
 abbrev pub named_by : CheckWords → Named
 named_by words = record {
-  policy = words.policy.now; listing = words.listing.now; certificate = words.certificate.now; main = words.main.now; others = words.others.now; state = words.state.now
+  policy = words.policy.now;
+  listing = words.listing.now;
+  certificate = words.certificate.now;
+  main = words.main.now;
+  others = words.others.now;
+  state = words.state.now;
 }
 
 -- the files that a check may read
@@ -53,7 +58,7 @@ AreClasses files listing main [] [] = Unit {0}
 AreClasses files listing main [] (class ∷ classes) = ⊥
 AreClasses files listing main (name ∷ names) [] = ⊥
 AreClasses files listing main (name ∷ names) (class ∷ classes) =
-  IsOfForm files name (ClassOf listing main) class × AreClasses files listing main names classes
+    IsOfForm files name (ClassOf listing main) class × AreClasses files listing main names classes
 
 -- the names before this one are of classes
 pub record AreBefore (files : Files) (listing : Listing) (main : List ℕ) (names : List (List ℕ)) (name : List ℕ) : Type 0 where
@@ -81,26 +86,26 @@ pub record AreInputs (files : Files) (named : Named) (inputs : Inputs) : Type 0 
 -- The first file that is of no form is a class.
 abbrev pub BadClass : Files → Named → Listing → List ℕ → Type 0
 BadClass files named listing bad =
-  (AreBefore files listing named.main named.others bad × IsOfNoForm files bad (ClassOf listing named.main))
-  ⊎ ((classes : List LinkedClass) × AreClasses files listing named.main named.others classes × (bad ≡ named.state) × IsOfNoForm files bad StateClass)
+    (AreBefore files listing named.main named.others bad × IsOfNoForm files bad (ClassOf listing named.main))
+    ⊎ ((classes : List LinkedClass) × AreClasses files listing named.main named.others classes × (bad ≡ named.state) × IsOfNoForm files bad StateClass)
 
 -- It is the certificate, or a class after it.
 abbrev pub BadCertificate : Files → Named → Listing → List ℕ → Type 0
 BadCertificate files named listing bad =
-  ((bad ≡ named.certificate) × IsOfNoForm files bad SpellsCertificate)
-  ⊎ ((certificate : Certificate) × IsOfForm files named.certificate SpellsCertificate certificate × BadClass files named listing bad)
+    ((bad ≡ named.certificate) × IsOfNoForm files bad SpellsCertificate)
+    ⊎ ((certificate : Certificate) × IsOfForm files named.certificate SpellsCertificate certificate × BadClass files named listing bad)
 
 -- It is the policy, or one after it.
 abbrev pub BadPolicy : Files → Named → Listing → List ℕ → Type 0
 BadPolicy files named listing bad =
-  ((bad ≡ named.policy) × IsOfNoForm files bad (PolicyOver listing))
-  ⊎ ((policy : DeniedPolicy) × IsOfForm files named.policy (PolicyOver listing) policy × BadCertificate files named listing bad)
+    ((bad ≡ named.policy) × IsOfNoForm files bad (PolicyOver listing))
+    ⊎ ((policy : DeniedPolicy) × IsOfForm files named.policy (PolicyOver listing) policy × BadCertificate files named listing bad)
 
 -- It is the listing, or one after it: those before it are of their forms.
 abbrev pub FirstBad : Files → Named → List ℕ → Type 0
 FirstBad files named bad =
-  ((bad ≡ named.listing) × IsOfNoForm files bad SpellsListing)
-  ⊎ ((listing : Listing) × IsOfForm files named.listing SpellsListing listing × BadPolicy files named listing bad)
+    ((bad ≡ named.listing) × IsOfNoForm files bad SpellsListing)
+    ⊎ ((listing : Listing) × IsOfForm files named.listing SpellsListing listing × BadPolicy files named listing bad)
 
 -- What reading the files of a check answers.
 abbrev pub ReadsInputs : Files → Count → Named → Result Inputs Stop → Type 0

@@ -38,7 +38,7 @@ abbrev pub state_file : ClassFile
 state_file = record {
   minor = 0;
   pool = constants.Second ∷ constants.Utf8 state_name ∷ constants.Class 1 ∷ constants.Utf8 object ∷ constants.Class 3
-    ∷ constants.Utf8 (codes "ConstantValue") ∷ constants.Utf8 (codes "I") ∷ constants.Utf8 (codes "Z") ∷ [];
+      ∷ constants.Utf8 (codes "ConstantValue") ∷ constants.Utf8 (codes "I") ∷ constants.Utf8 (codes "Z") ∷ [];
   flags = 33;
   this_class = 2;
   super_class = 4;
@@ -88,7 +88,7 @@ search_from own class = if bytes_eq class own || bytes_eq class state_name then 
 -- a method that is listed, and static
 abbrev pub static_target : Listing → Option Declared → Option Target
 static_target listing (Some (Listed method)) =
-  option_and_then (λ (m : ListedMethod). if m.is_static then Some (target.ApiMethod method) else None) (slice_get listing.methods method)
+    option_and_then (λ (m : ListedMethod). if m.is_static then Some (target.ApiMethod method) else None) (slice_get listing.methods method)
 static_target listing (Some BuiltIn) = None
 static_target listing None = None
 
@@ -104,7 +104,7 @@ target_of pool listing own (Pool op index) = call_target listing own (reference_
 abbrev pub targets_of : List Const → Listing → List ℕ → List Insn → Option (List Target)
 targets_of pool listing own [] = Some []
 targets_of pool listing own (insn ∷ insns) =
-  option_and_then (λ first. option_map (λ others. first ∷ others) (targets_of pool listing own insns)) (target_of pool listing own insn)
+    option_and_then (λ first. option_map (λ others. first ∷ others) (targets_of pool listing own insns)) (target_of pool listing own insn)
 
 -- ---- the class and its method
 
@@ -167,7 +167,13 @@ main_of file listing main = if has_form file listing main then only_main file.po
 
 abbrev pub main_method : Member → Code → List Insn → List Target → Method
 main_method member code insns refs = record {
-  flags = member.flags; name = main_name; desc = main_desc; max_stack = code.max_stack; max_locals = code.max_locals; insns = insns; refs = refs
+  flags = member.flags;
+  name = main_name;
+  desc = main_desc;
+  max_stack = code.max_stack;
+  max_locals = code.max_locals;
+  insns = insns;
+  refs = refs;
 }
 
 abbrev pub linked_class : List ℕ → Member → Code → List Insn → List Target → LinkedClass

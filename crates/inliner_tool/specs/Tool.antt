@@ -117,9 +117,9 @@ IsDenied program fault other = ⊥
 -- What is answered where all files are of their forms.
 abbrev pub SaysOf : Inputs → Answer → Type 0
 SaysOf inputs (answers.Accepted sites) =
-  (length inputs.classes ≡ 1) × IsAccepted (program_of inputs) inputs.policy inputs.certificate × Secure (program_of inputs) inputs.policy × (sites ≡ sites_of (program_of inputs) inputs.policy)
+    (length inputs.classes ≡ 1) × IsAccepted (program_of inputs) inputs.policy inputs.certificate × Secure (program_of inputs) inputs.policy × (sites ≡ sites_of (program_of inputs) inputs.policy)
 SaysOf inputs (answers.Denied fault label) =
-  (length inputs.classes ≡ 1) × (verdict (program_of inputs) inputs.policy inputs.certificate ≡ Err fault) × (label ≡ label_of (program_of inputs) (number_of_class fault))
+    (length inputs.classes ≡ 1) × (verdict (program_of inputs) inputs.policy inputs.certificate ≡ Err fault) × (label ≡ label_of (program_of inputs) (number_of_class fault))
 SaysOf inputs answers.NotBuilt = length inputs.classes ≢ 1
 SaysOf inputs answers.Memory = Unit {0}
 SaysOf inputs other = ⊥

@@ -62,7 +62,13 @@ fn first_insn(code: &[u8]) -> Option<(Insn, &[u8])>
     }
     let (operand, after) = rest.split_at(2);
     let index = BigEndian::read_u16(operand);
-    Some((Insn::Pool { op: INVOKESTATIC, index }, after))
+    Some((
+        Insn::Pool {
+            op: INVOKESTATIC,
+            index,
+        },
+        after,
+    ))
 }
 
 /// Whether the last instruction is one after which control does not go on.

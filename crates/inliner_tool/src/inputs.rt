@@ -83,7 +83,8 @@ impl From<NoMemory> for Stop {
 const LIMIT: u64 = 65536;
 
 /// The class file of `conspec/State` for a policy without variables.
-const STATE: &[u8] = b"\xca\xfe\xba\xbe\x00\x00\x001\x00\x08\x01\x00\x0dconspec/State\x07\x00\x01\x01\x00\x10java/lang/Object\x07\x00\x03\x01\x00\x0dConstantValue\x01\x00\x01I\x01\x00\x01Z\x00!\x00\x02\x00\x04\x00\x00\x00\x00\x00\x00\x00\x00";
+const STATE: &[u8] =
+    b"\xca\xfe\xba\xbe\x00\x00\x001\x00\x08\x01\x00\x0dconspec/State\x07\x00\x01\x01\x00\x10java/lang/Object\x07\x00\x03\x01\x00\x0dConstantValue\x01\x00\x01I\x01\x00\x01Z\x00!\x00\x02\x00\x04\x00\x00\x00\x00\x00\x00\x00\x00";
 
 /// The text of a file that is not too long.
 fn text_of<S: Store>(alloc: Global, store: &mut S, name: &Bytes) -> Result<Bytes, Stop>
@@ -122,7 +123,12 @@ fn listing_of<S: Store>(alloc: Global, store: &mut S, name: &Bytes) -> Result<Li
 }
 
 /// The policy that a file spells, over the methods of the listing.
-fn policy_of<S: Store>(alloc: Global, store: &mut S, name: &Bytes, listing: &Listing) -> Result<DeniedPolicy, Stop>
+fn policy_of<S: Store>(
+    alloc: Global,
+    store: &mut S,
+    name: &Bytes,
+    listing: &Listing,
+) -> Result<DeniedPolicy, Stop>
     requires { IsSound listing.now }
     ensures form { ReadsForm (S.files store.old) (record { before = S.faults store.old; now = S.faults store.new; last = S.last store.new }) name.now (PolicyOver listing.now) result }
     ensures files { S.files store.new ≡ S.files store.old }
@@ -143,7 +149,13 @@ fn certificate_of<S: Store>(alloc: Global, store: &mut S, name: &Bytes) -> Resul
 }
 
 /// What the class file of this name links to, where it is of the class `main`.
-fn class_of<S: Store>(alloc: Global, store: &mut S, name: &Bytes, listing: &Listing, main: &Bytes) -> Result<LinkedClass, Stop>
+fn class_of<S: Store>(
+    alloc: Global,
+    store: &mut S,
+    name: &Bytes,
+    listing: &Listing,
+    main: &Bytes,
+) -> Result<LinkedClass, Stop>
     requires { IsSound listing.now }
     ensures form { ReadsForm (S.files store.old) (record { before = S.faults store.old; now = S.faults store.new; last = S.last store.new }) name.now (ClassOf listing.now main.now) result }
     ensures sound { IfOk result IsClass }
@@ -151,7 +163,11 @@ fn class_of<S: Store>(alloc: Global, store: &mut S, name: &Bytes, listing: &List
     ensures faults { S.faults store.old ≤ S.faults store.new }
 {
     let text = text_of(alloc, store, name)?;
-    of_form(alloc, name, read_class(alloc, text.as_slice(), listing, main.as_slice()))
+    of_form(
+        alloc,
+        name,
+        read_class(alloc, text.as_slice(), listing, main.as_slice()),
+    )
 }
 
 /// That the file of this name is the class that holds the state of a policy without variables.
@@ -169,7 +185,13 @@ fn state_of<S: Store>(alloc: Global, store: &mut S, name: &Bytes) -> Result<(), 
 }
 
 /// The classes before the last one, each of the class `main`.
-fn others_of<S: Store>(alloc: Global, store: &mut S, names: &[Bytes], listing: &Listing, main: &Bytes) -> Result<List<LinkedClass>, Stop>
+fn others_of<S: Store>(
+    alloc: Global,
+    store: &mut S,
+    names: &[Bytes],
+    listing: &Listing,
+    main: &Bytes,
+) -> Result<List<LinkedClass>, Stop>
     requires { IsSound listing.now }
     ensures read { ReadsClasses (S.files store.old) (record { before = S.faults store.old; now = S.faults store.new; last = S.last store.new }) listing.now main.now names.now result }
     ensures sound { IfOk result (AllByRecursion IsClass) }
@@ -187,7 +209,11 @@ fn others_of<S: Store>(alloc: Global, store: &mut S, names: &[Bytes], listing: &
 }
 
 /// Reads the files of a check in their order: listing, policy, certificate, classes.
-pub fn read_inputs<S: Store>(alloc: Global, store: &mut S, words: &CheckWords) -> Result<Inputs, Stop>
+pub fn read_inputs<S: Store>(
+    alloc: Global,
+    store: &mut S,
+    words: &CheckWords,
+) -> Result<Inputs, Stop>
     ensures read { ReadsInputs (S.files store.old) (record { before = S.faults store.old; now = S.faults store.new; last = S.last store.new }) (named_by words.now) result }
     ensures sound { IfOk result AreSound }
     ensures files { S.files store.new ≡ S.files store.old }

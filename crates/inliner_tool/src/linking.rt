@@ -116,13 +116,22 @@ fn target_of(pool: &[Const], listing: &Listing, own: &[u8], insn: &Insn) -> Opti
         Insn::Plain(_) => Some(Target::None),
         Insn::Pool { index, .. } => match reference_at(pool, *index) {
             None => None,
-            Some((class, (name, desc))) => static_target(listing, nearest(listing, search_from(own, class), name, desc)),
+            Some((class, (name, desc))) => static_target(
+                listing,
+                nearest(listing, search_from(own, class), name, desc),
+            ),
         },
     }
 }
 
 /// The targets of all instructions, in their order.
-fn targets_of(alloc: Global, pool: &[Const], listing: &Listing, own: &[u8], insns: &[Insn]) -> Result<List<Target>, FormFault>
+fn targets_of(
+    alloc: Global,
+    pool: &[Const],
+    listing: &Listing,
+    own: &[u8],
+    insns: &[Insn],
+) -> Result<List<Target>, FormFault>
     requires { length listing.now.methods < 2 ^ 32 }
     ensures found { IfOk result (λ targets. targets_of pool.now listing.now own.now insns.now ≡ Some targets) }
     ensures refused { IsErrOf result FormFault.NotBuilt → targets_of pool.now listing.now own.now insns.now ≡ None }
@@ -144,7 +153,11 @@ fn is_built_constant(constant: &Const) -> bool
 {
     matches!(
         constant,
-        Const::Utf8(_) | Const::Class(_) | Const::Method(_, _) | Const::NameAndType(_, _) | Const::Second
+        Const::Utf8(_)
+            | Const::Class(_)
+            | Const::Method(_, _)
+            | Const::NameAndType(_, _)
+            | Const::Second
     )
 }
 
@@ -168,7 +181,10 @@ fn is_own_name(listing: &Listing, main: &[u8]) -> bool
 fn has_form(file: &ClassFile, listing: &Listing, main: &[u8]) -> bool
     ensures { result ≡ has_form file.now listing.now main.now }
 {
-    all_built(file.pool.as_slice()) && is_below_object(file, main) && has_methods_alone(file) && is_own_name(listing, main)
+    all_built(file.pool.as_slice())
+        && is_below_object(file, main)
+        && has_methods_alone(file)
+        && is_own_name(listing, main)
 }
 
 fn all_built(pool: &[Const]) -> bool
@@ -181,19 +197,24 @@ fn is_below_object(file: &ClassFile, main: &[u8]) -> bool
     ensures { result ≡ is_below_object file.now main.now }
 {
     let pool = file.pool.as_slice();
-    names_it(class_name_at(pool, file.this_class), main) && names_it(class_name_at(pool, file.super_class), OBJECT)
+    names_it(class_name_at(pool, file.this_class), main)
+        && names_it(class_name_at(pool, file.super_class), OBJECT)
 }
 
 fn has_methods_alone(file: &ClassFile) -> bool
     ensures { result ≡ has_methods_alone file.now }
 {
-    file.interfaces.as_slice().is_empty() && file.fields.as_slice().is_empty() && file.attrs.as_slice().is_empty()
+    file.interfaces.as_slice().is_empty()
+        && file.fields.as_slice().is_empty()
+        && file.attrs.as_slice().is_empty()
 }
 
 fn is_main(pool: &[Const], member: &Member) -> bool
     ensures { result ≡ is_main pool.now member.now }
 {
-    member.flags & 1320 == 8 && names_it(text_at(pool, member.name), MAIN) && names_it(text_at(pool, member.desc), MAIN_DESC)
+    member.flags & 1320 == 8
+        && names_it(text_at(pool, member.name), MAIN)
+        && names_it(text_at(pool, member.desc), MAIN_DESC)
 }
 
 /// The code of a method that has it alone, without handlers and attributes.
@@ -228,7 +249,11 @@ fn only_main<'a>(pool: &[Const], methods: &'a [Member]) -> Option<(&'a Member, &
     }
 }
 
-fn main_of<'a>(file: &'a ClassFile, listing: &Listing, main: &[u8]) -> Option<(&'a Member, &'a Code)>
+fn main_of<'a>(
+    file: &'a ClassFile,
+    listing: &Listing,
+    main: &[u8],
+) -> Option<(&'a Member, &'a Code)>
     ensures { option_map (λ m. (m.0.now, m.1.now)) result ≡ main_of file.now listing.now main.now }
 {
     if has_form(file, listing, main) {
@@ -239,7 +264,12 @@ fn main_of<'a>(file: &'a ClassFile, listing: &Listing, main: &[u8]) -> Option<(&
 }
 
 /// What the class file links to, where it is of the class `main` and of the first built form.
-pub fn link_class(alloc: Global, file: &ClassFile, listing: &Listing, main: &[u8]) -> Result<LinkedClass, FormFault>
+pub fn link_class(
+    alloc: Global,
+    file: &ClassFile,
+    listing: &Listing,
+    main: &[u8],
+) -> Result<LinkedClass, FormFault>
     requires fits { CanSpell file.now }
     requires methods { length listing.now.methods < 2 ^ 32 }
     ensures found { IfOk result (λ class. LinksTo file.now listing.now main.now class) }
@@ -263,7 +293,13 @@ pub fn link_class(alloc: Global, file: &ClassFile, listing: &Listing, main: &[u8
     })
 }
 
-fn main_method(alloc: Global, member: &Member, code: &Code, insns: List<Insn>, refs: List<Target>) -> Result<Method, NoMemory>
+fn main_method(
+    alloc: Global,
+    member: &Member,
+    code: &Code,
+    insns: List<Insn>,
+    refs: List<Target>,
+) -> Result<Method, NoMemory>
     ensures { IfOk result (λ m. m ≡ main_method member.now code.now insns refs) }
 {
     Ok(Method {
@@ -278,7 +314,12 @@ fn main_method(alloc: Global, member: &Member, code: &Code, insns: List<Insn>, r
 }
 
 /// What the bytes of a class file link to, where it is of the class `main` and of the first built form.
-pub fn read_class(alloc: Global, bytes: &[u8], listing: &Listing, main: &[u8]) -> Result<LinkedClass, FormFault>
+pub fn read_class(
+    alloc: Global,
+    bytes: &[u8],
+    listing: &Listing,
+    main: &[u8],
+) -> Result<LinkedClass, FormFault>
     requires short { length bytes.now ≤ 65536 }
     requires methods { length listing.now.methods < 2 ^ 32 }
     ensures found { IfOk result (λ class. IsClassOf bytes.now listing.now main.now class) }

@@ -24,7 +24,11 @@ pub struct DeniedPolicy {
 pub fn is_denied(policy: &DeniedPolicy, method: u32) -> bool
     ensures { result ≡ is_denied policy.now method }
 {
-    policy.denied.as_slice().iter().any(|denied| *denied == method)
+    policy
+        .denied
+        .as_slice()
+        .iter()
+        .any(|denied| *denied == method)
 }
 
 #[cfg(test)]

@@ -56,7 +56,12 @@ pub enum Answer {
 /// The command `check POLICY LISTING CERT MAIN CLASS..`: links the classes and checks the program with its certificate.
 ///
 /// It changes no file. One line is put into the sink, which says the answer.
-pub fn run_tool<S: Store, K: Sink>(alloc: Global, words: &[Bytes], store: &mut S, out: &mut K) -> Status
+pub fn run_tool<S: Store, K: Sink>(
+    alloc: Global,
+    words: &[Bytes],
+    store: &mut S,
+    out: &mut K,
+) -> Status
     // Whoever made the files: where the check ends well, the program that they link to obeys the policy for every list
     // of guest steps.
     ensures headline { result ≡ Status.Done → (inputs : Inputs) × IsChecked (S.files store.old) words.now inputs
@@ -119,7 +124,12 @@ fn checked(alloc: Global, inputs: Inputs) -> Answer
     if inputs.classes.len() != 1 {
         return Answer::NotBuilt;
     }
-    let Inputs { listing, policy, certificate, classes } = inputs;
+    let Inputs {
+        listing,
+        policy,
+        certificate,
+        classes,
+    } = inputs;
     let Ok(program) = program_of(alloc, listing, classes) else {
         return Answer::Memory;
     };
@@ -130,7 +140,11 @@ fn checked(alloc: Global, inputs: Inputs) -> Answer
 }
 
 /// The program of the classes and the class that holds the policy's state.
-fn program_of(alloc: Global, listing: Listing, classes: List<LinkedClass>) -> Result<Program, NoMemory>
+fn program_of(
+    alloc: Global,
+    listing: Listing,
+    classes: List<LinkedClass>,
+) -> Result<Program, NoMemory>
     ensures { IfOk result (λ program. program ≡ record { classes = classes ++ state_class ∷ []; listing = listing; main_class = 0; main_method = 0 }) }
 {
     let mut classes = classes;
@@ -227,11 +241,21 @@ fn push_denied(line: &mut Bytes, fault: &CheckFault, label: &Bytes) -> Result<()
             push_named(line, b"242 ", label)?;
             push_field(line, u64::from(*method))
         }
-        CheckFault::Typing { method, at, rule, .. } => {
+        CheckFault::Typing {
+            method,
+            at,
+            rule,
+            ..
+        } => {
             push_named(line, b"202 ", label)?;
             push_place(line, *method, *at, *rule)
         }
-        CheckFault::Local { method, at, rule, .. } => {
+        CheckFault::Local {
+            method,
+            at,
+            rule,
+            ..
+        } => {
             push_named(line, b"243 ", label)?;
             push_place(line, *method, *at, *rule)
         }

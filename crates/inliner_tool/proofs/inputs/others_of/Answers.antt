@@ -19,7 +19,7 @@ returns-in_err-class-clause-read g c =
     let apart : left ≡ name ∷ later = taken_apart left name (omega arith) c.name-item.is in
     let classes : List LinkedClass = c.loop-rest.classes.items in
     let had : HaveRead files c.args.listing.now c.args.main.now c.args.names.now classes (name ∷ later) =
-      subst (λ (l : List (List ℕ)). HaveRead files c.args.listing.now c.args.main.now c.args.names.now classes l) apart c.loop-rest.invariant.read in
+    subst (λ (l : List (List ℕ)). HaveRead files c.args.listing.now c.args.main.now c.args.names.now classes l) apart c.loop-rest.invariant.read in
     let begun : ℕ = g.S.Store.faults c.loop-rest.store in
     let now : ℕ = g.S.Store.faults c.class_of.new.store in
     let last : List ℕ = g.S.Store.last c.class_of.new.store in
@@ -38,7 +38,7 @@ loop-rest-preserved g c =
     let classes : List LinkedClass = c.loop-rest.classes.items in
     let class : LinkedClass = c.in_ok-class.class in
     let had : HaveRead files c.args.listing.now c.args.main.now c.args.names.now classes (name ∷ later) =
-      subst (λ (l : List (List ℕ)). HaveRead files c.args.listing.now c.args.main.now c.args.names.now classes l) apart c.loop-rest.invariant.read in
+    subst (λ (l : List (List ℕ)). HaveRead files c.args.listing.now c.args.main.now c.args.names.now classes l) apart c.loop-rest.invariant.read in
     record {
       read = rw c.in_ok-push.ensures.items (one_read files c.args.listing.now c.args.main.now c.args.names.now classes name later class had (subst (λ (fs : Files). IsOfForm fs name (ClassOf c.args.listing.now c.args.main.now) class) c.loop-rest.invariant.files c.in_ok-class.ensures.form));
       sound = sound_pushed IsClass classes c.push.new.self.items class c.in_ok-push.ensures.items c.loop-rest.invariant.sound c.in_ok-class.ensures.sound;
