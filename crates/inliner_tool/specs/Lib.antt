@@ -18,6 +18,7 @@ pub mod Policy
 pub mod Secure
 pub mod Seen
 pub mod Tokens
+pub mod Status
 pub mod Tool
 pub mod Typing
 pub mod Words

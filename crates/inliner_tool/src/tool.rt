@@ -4,6 +4,7 @@ ghost use Rattle.std.specs.Prelude.{◌≡◌, ◌≤◌, ◌∷◌, [], ◌++�
 ghost use Rattle.mon_store.specs.Store.{Rose};
 ghost use Rattle.inliner_tool.specs.Acceptance.{IsAccepted};
 ghost use Rattle.inliner_tool.specs.Secure.{Secure};
+ghost use Rattle.inliner_tool.specs.Status.{code_of};
 ghost use Rattle.inliner_tool.specs.Tool.{AreSound, IsChecked, IsDenied, Replies, Says, SaysOf, fault_text, field, label_of, line_of, number_of_class, program_of, state_class, status_of};
 
 use crate::checker::{CheckFault, check};
@@ -32,6 +33,23 @@ pub enum Status {
     SinkFault,
     /// Memory ran out. Nothing is printed.
     Memory,
+}
+
+impl Status {
+    /// The exit status of the program.
+    pub fn code(&self) -> u8
+        ensures { result ≡ code_of self.now }
+    {
+        match self {
+            Status::Done => 0,
+            Status::Denied => 1,
+            Status::Usage => 2,
+            Status::Input => 3,
+            Status::StoreFault => 5,
+            Status::SinkFault => 6,
+            Status::Memory => 7,
+        }
+    }
 }
 
 /// What is answered to a command.
