@@ -124,3 +124,10 @@ same_tree bytes f g spells_f spells_g =
     let two = whole_again class_is (λ p. Tail p.at) g spells_g.fits in
     let same : spelling.spelling f ≡ spelling.spelling g = sym spells_f.is ∙ spells_g.is in
     ok_is ClassFault f g (sym one ∙ ap (λ (b : List ℕ). whole class_at (λ p. Tail p.at) b) same ∙ two)
+
+pub is_long : (bytes : List ℕ) (r : Result ClassFile ClassFault) → Answers r (class_of bytes) → 1048576 < length bytes → Answers r (Err (TooLong (length bytes)))
+unfolding class_of
+is_long bytes r given long =
+    let b : nat_le (length bytes) 1048576 ≡ false = grind (arith, nat_tests) in
+    let same : class_of bytes ≡ Err (TooLong (length bytes)) = rw b refl in
+    subst (λ (read : Result ClassFile ClassFault). Answers r read) same given
