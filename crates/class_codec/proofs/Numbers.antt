@@ -53,12 +53,12 @@ holds_need b fault e = rw e refl
 pub index_is : (kind : Kind) (pool : List Const) → IsReader (index_at kind pool) spelling.u2 (IsIndex kind pool)
 unfolding index_at
 index_is kind pool = said (checked (λ index. names kind pool index ≡ true) (λ p index. need (names kind pool index) (Index p.at)) u2_is
-      (λ p index e. need_holds (names kind pool index) (Index p.at) e) (λ p index h. holds_need (names kind pool index) (Index p.at) h))
+    (λ p index e. need_holds (names kind pool index) (Index p.at) e) (λ p index h. holds_need (names kind pool index) (Index p.at) h))
     (λ a f k. (record { fits = f.0; named = f.1 }, tt)) (λ a f k. ((f.fits, f.named), tt))
 
 -- items that two bytes count
 pub counted_is : {X : Type 0} {item : Place → Read X} {spell : X → List ℕ} {Fits : X → Type 0} → IsReader item spell Fits → IsReader (counted_at item) (spelling.counted spell) (FitCounted Fits)
 unfolding counted_at
 counted_is {X = X} {item = item} {spell = spell} {Fits = Fits} is = said (then {spell = λ (xs : List X). flat_map spell xs} {Fits = λ xs. AllByRecursion Fits xs} {known = λ _. Unit {0}} (λ count. counted item count.0 count.1) u2_is length (λ a k. tt)
-      (λ n k. said (items is n) (λ a f k. (f, (tt, k))) (λ a f k. (f, k.1))))
+    (λ n k. said (items is n) (λ a f k. (f, (tt, k))) (λ a f k. (f, k.1))))
     (λ a f k. (record { count = f.0; each = f.1 }, tt)) (λ a f k. ((f.count, f.each), tt))

@@ -84,9 +84,9 @@ FitsText bytes = IsU2 (length bytes) × AllByRecursion IsTextByte bytes
 text_is : IsReader text_at text FitsText
 unfolding text_at
 text_is = said (then {spell = λ (bytes : List ℕ). bytes} {Fits = λ bytes. Unit {0} × AllByRecursion IsTextByte bytes} {known = λ _. Unit {0}}
-      (λ len. taken_at len.0 len.1 >>= λ x. text_checked len.1.at (position is_no_text_byte x.0) >>= λ _. Ok x) u2_is length (λ a k. tt)
-      (λ n k. checked (λ bytes. AllByRecursion IsTextByte bytes) (λ p bytes. text_checked p.at (position is_no_text_byte bytes)) (rest_is n)
-        (λ p bytes e. text_bytes bytes (text_holds p.at (position is_no_text_byte bytes) e)) (λ p bytes h. holds_text p.at (position is_no_text_byte bytes) (all_pass bytes h))))
+    (λ len. taken_at len.0 len.1 >>= λ x. text_checked len.1.at (position is_no_text_byte x.0) >>= λ _. Ok x) u2_is length (λ a k. tt)
+    (λ n k. checked (λ bytes. AllByRecursion IsTextByte bytes) (λ p bytes. text_checked p.at (position is_no_text_byte bytes)) (rest_is n)
+    (λ p bytes e. text_bytes bytes (text_holds p.at (position is_no_text_byte bytes) e)) (λ p bytes h. holds_text p.at (position is_no_text_byte bytes) (all_pass bytes h))))
     (λ a f k. ((f.0, f.1.1), tt)) (λ a f k. ((f.0, (tt, f.1)), tt))
 
 -- ---- pairs of indices, and numbers of eight bytes
@@ -213,8 +213,8 @@ integer_is : (left tag : ℕ) → tag ≡ 3 → IsPayload left tag (λ p. u4_at 
 integer_is left tag t = wrapped (λ x. Integer (cast_signed w32 x)) u4_is
     (λ x f k. (ap spelling.u4 (sym (of_z-to_z w32 x f)), record { fits = signed_32 x f; first = refl; room = λ e. no_room left e }, (tt, sym t)))
     (λ c f k. let g = is_integer c (k.1 ∙ t) in
-      let fits : FitsSigned w32 g.0 = subst FitsConst (sym g.1) f.fits in
-      (cast_unsigned w32 g.0, ap (λ (z : ℤ). Integer z) (to_z-of_z w32 g.0 fits) ∙ g.1, unsigned_32 g.0 fits, tt))
+    let fits : FitsSigned w32 g.0 = subst FitsConst (sym g.1) f.fits in
+    (cast_unsigned w32 g.0, ap (λ (z : ℤ). Integer z) (to_z-of_z w32 g.0 fits) ∙ g.1, unsigned_32 g.0 fits, tt))
 
 float_is : (left tag : ℕ) → tag ≡ 4 → IsPayload left tag (λ p. u4_at p >>= λ x. Ok (Float x.0, x.1))
 float_is left tag t = wrapped (λ x. Float x) u4_is
@@ -225,8 +225,8 @@ long_is : (at left tag : ℕ) → tag ≡ 5 → IsPayload left tag (λ p. wide_a
 long_is at left tag t = wrapped (λ x. Long (cast_signed w64 x)) (wide_is at left)
     (λ x f k. (ap spelling.u8 (sym (of_z-to_z w64 x f.1)), record { fits = signed_64 x f.1; first = refl; room = λ e. f.0 }, (tt, sym t)))
     (λ c f k. let g = is_long c (k.1 ∙ t) in
-      let fits : FitsSigned w64 g.0 = subst FitsConst (sym g.1) f.fits in
-      (cast_unsigned w64 g.0, ap (λ (z : ℤ). Long z) (to_z-of_z w64 g.0 fits) ∙ g.1, (f.room (ap takes_two (sym g.1)), unsigned_64 g.0 fits), tt))
+    let fits : FitsSigned w64 g.0 = subst FitsConst (sym g.1) f.fits in
+    (cast_unsigned w64 g.0, ap (λ (z : ℤ). Long z) (to_z-of_z w64 g.0 fits) ∙ g.1, (f.room (ap takes_two (sym g.1)), unsigned_64 g.0 fits), tt))
 
 double_is : (at left tag : ℕ) → tag ≡ 6 → IsPayload left tag (λ p. wide_at at left p >>= λ x. Ok (Double x.0, x.1))
 double_is at left tag t = wrapped (λ x. Double x) (wide_is at left)
@@ -341,7 +341,7 @@ tagged_is Second e = absurd (false≢true (sym e))
 constant_is : (left : ℕ) → IsReader (constant_at left) spelling.constant (Stands left)
 unfolding constant_at
 constant_is left = spelled_where {spell = λ c. spelling.u1 (tag_of c) ++ payload c} (said (then_from {spell = payload} {Fits = Stands left} {known = λ _. Unit {0}} (λ place tag. payload_at place.at left tag.0 tag.1) u1_is tag_of (λ c k. tt) (λ place tag k. payload_is place.at left tag))
-      (λ c f k. (f.1, tt)) (λ c f k. ((tag_small c, f), tt)))
+    (λ c f k. (f.1, tt)) (λ c f k. ((tag_small c, f), tt)))
     (λ c f k. tagged_is c f.first)
 
 -- ---- places
@@ -414,7 +414,7 @@ places_is : (second : Bool) (n : ℕ) → IsTail (places_at second n) (λ xs. fl
 places_is second n = record {
   takes = λ place xs next fits e. places_takes second n place xs next fits e;
   again = λ place xs rest fits h e.
-  subst (λ (k : ℕ). places_at second k place ≡ Ok (xs, after place (flat_map spelling.constant xs) rest)) h (places_again xs second place rest fits.0 fits.1 e);
+      subst (λ (k : ℕ). places_at second k place ≡ Ok (xs, after place (flat_map spelling.constant xs) rest)) h (places_again xs second place rest fits.0 fits.1 e);
 }
 
 -- ---- indices
@@ -479,9 +479,9 @@ pub record IsPool (pool : List Const) : Type 0 where
 pub pool_is : IsReader pool_at (spelling.counted spelling.constant) IsPool
 unfolding pool_at
 pool_is = said (then {spell = λ (cs : List Const). flat_map spelling.constant cs} {Fits = λ cs. (Due true cs × AllByRecursion FitsConst cs) × AllByRecursion (IsNamed cs) cs} {known = λ _. Unit {0}}
-      (λ count. places_at true count.0 count.1 >>= λ pool. all_checked pool.0 pool.0 count.1.at >>= λ _. Ok pool) u2_is length (λ a k. tt)
-      (λ n k. checked (λ cs. AllByRecursion (IsNamed cs) cs) (λ p cs. all_checked cs cs p.at) (said (places_is true n) (λ a f k. (f, (tt, k))) (λ a f k. (f, k.1)))
-        (λ p cs e. all_named cs cs p.at e) (λ p cs h. named_all cs cs p.at h)))
+    (λ count. places_at true count.0 count.1 >>= λ pool. all_checked pool.0 pool.0 count.1.at >>= λ _. Ok pool) u2_is length (λ a k. tt)
+    (λ n k. checked (λ cs. AllByRecursion (IsNamed cs) cs) (λ p cs. all_checked cs cs p.at) (said (places_is true n) (λ a f k. (f, (tt, k))) (λ a f k. (f, k.1)))
+    (λ p cs e. all_named cs cs p.at e) (λ p cs h. named_all cs cs p.at h)))
     (λ a f k. (record { count = f.0; each = f.1.0.1; due = f.1.0.0; named = f.1.1 }, tt)) (λ a f k. ((f.count, ((f.due, f.each), f.named)), tt))
 
 -- A pool with a place is one of a class file.

@@ -124,12 +124,7 @@ fn named(
 
 /// A Code attribute after its name. Its contents end exactly at its length.
 #[tactic(auto, unfolding(crate::specs::Reading::code_at))]
-fn code(
-    alloc: Global,
-    pool: &[Const],
-    name: u16,
-    from: &mut Cursor,
-) -> Result<Code, ClassFault>
+fn code(alloc: Global, pool: &[Const], name: u16, from: &mut Cursor) -> Result<Code, ClassFault>
     ensures { Reads result (code_at pool.now name from.old) from.new }
 {
     let len = u4(from)?;
@@ -145,12 +140,7 @@ fn code(
 
 /// What stands in a Code attribute.
 #[tactic(auto, unfolding(crate::specs::Reading::contents_at))]
-fn contents(
-    alloc: Global,
-    pool: &[Const],
-    name: u16,
-    from: &mut Cursor,
-) -> Result<Code, ClassFault>
+fn contents(alloc: Global, pool: &[Const], name: u16, from: &mut Cursor) -> Result<Code, ClassFault>
     ensures { Reads result (contents_at pool.now name from.old) from.new }
 {
     let max_stack = u2(from)?;

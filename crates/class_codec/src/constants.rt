@@ -194,7 +194,14 @@ fn check_constant(pool: &[Const], item: &Const, at: u64) -> Result<(), ClassFaul
         Const::Field(class, name) | Const::Method(class, name) | Const::IMethod(class, name) => {
             check_pair(pool, Kind::Class, *class, Kind::NameAndType, *name, at)
         }
-        Const::NameAndType(name, desc) => check_pair(pool, Kind::Utf8, *name, Kind::Utf8, *desc, at),
+        Const::NameAndType(name, desc) => check_pair(
+            pool,
+            Kind::Utf8,
+            *name,
+            Kind::Utf8,
+            *desc,
+            at,
+        ),
         _ => Ok(()),
     }
 }

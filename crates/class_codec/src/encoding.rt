@@ -252,5 +252,4 @@ pub fn encode(alloc: Global, file: &ClassFile) -> Result<Bytes, NoMemory>
 pub fn one_tree()
     ensures tree { (bytes : List ℕ) (f g : ClassFile) → SpellsClass bytes f → SpellsClass bytes g → f ≡ g }
     ensures file { (a b : List ℕ) (f : ClassFile) → SpellsClass a f → SpellsClass b f → a ≡ b }
-{
-}
+{}

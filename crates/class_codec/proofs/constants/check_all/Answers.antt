@@ -13,9 +13,9 @@ returns-in_err-check_constant c =
 
 pub loop-left-preserved : goal.loop-left-preserved
 loop-left-preserved c = (
-    checks_step c.args.pool.now c.loop-left.left.now c.first-item.result c.loop-left.at c.len_of-at.result (all_checked c.args.pool.now c.args.pool.now c.args.start) c.in-len1-up.len_at_least c.first-item.is c.len_of-at.ensures c.in_ok-check_constant.ensures c.loop-left.invariant.0,
-    sum_step c.loop-left.left.now c.first-item.result c.loop-left.at c.len_of-at.result c.args.end c.in-len1-up.len_at_least c.first-item.is c.len_of-at.ensures c.loop-left.invariant.1,
-  )
+  checks_step c.args.pool.now c.loop-left.left.now c.first-item.result c.loop-left.at c.len_of-at.result (all_checked c.args.pool.now c.args.pool.now c.args.start) c.in-len1-up.len_at_least c.first-item.is c.len_of-at.ensures c.in_ok-check_constant.ensures c.loop-left.invariant.0,
+  sum_step c.loop-left.left.now c.first-item.result c.loop-left.at c.len_of-at.result c.args.end c.in-len1-up.len_at_least c.first-item.is c.len_of-at.ensures c.loop-left.invariant.1,
+)
 
 pub returns : goal.returns
 returns c = checks_end c.args.pool.now c.loop-left.left.now c.loop-left.at (all_checked c.args.pool.now c.args.pool.now c.args.start) c.in_default.len_below c.loop-left.invariant.0

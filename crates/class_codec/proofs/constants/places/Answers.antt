@@ -11,9 +11,9 @@ returns-in_err-next-clause-reads c =
 
 pub loop-number-preserved : goal.loop-number-preserved
 loop-number-preserved c = rw (c.in_ok-push.ensures.items, c.takes_two-second.ensures) (
-    place_goes_on c.loop-number.pool.items c.loop-number.second c.args.count c.loop-number.number c.loop-number.from c.in_ok-next.next c.place.new.from (places_at true c.args.count c.args.from.now) c.loop-number-test.true c.in_ok-next.ensures.reads c.loop-number.invariant.0,
-    omega (arith, c.in_ok-next.ensures.moves, c.loop-number.invariant.1, constants_push c.loop-number.pool.items c.in_ok-next.next),
-  )
+  place_goes_on c.loop-number.pool.items c.loop-number.second c.args.count c.loop-number.number c.loop-number.from c.in_ok-next.next c.place.new.from (places_at true c.args.count c.args.from.now) c.loop-number-test.true c.in_ok-next.ensures.reads c.loop-number.invariant.0,
+  omega (arith, c.in_ok-next.ensures.moves, c.loop-number.invariant.1, constants_push c.loop-number.pool.items c.in_ok-next.next),
+)
 
 pub returns-clause-reads : goal.returns-clause-reads
 returns-clause-reads c = places_done c.loop-number.pool.items c.loop-number.second c.args.count c.loop-number.number c.loop-number.from (places_at true c.args.count c.args.from.now) c.loop-number-test.false c.loop-number.invariant.0
