@@ -155,12 +155,9 @@ attribute_is pool of_method = said (spelled_where {spell = λ a. spelling.u2 (na
 
 pub member_is : (pool : List Const) (of_method : Bool) → IsReader (member_at pool of_method) spelling.member (FitsMember pool of_method)
 unfolding member_at
-member_is pool of_method = said (then {spell = λ (m : Member). spelling.u2 m.name ++ spelling.u2 m.desc ++ spelling.counted spelling.attribute m.attrs} {Fits = λ m. IsIndex kinds.Utf8 pool m.name × (IsIndex kinds.Utf8 pool m.desc × FitCounted (FitsAttr pool of_method) m.attrs)} {known = λ _. Unit {0}}
-    (λ flags. index_at kinds.Utf8 pool flags.1 >>= λ name. index_at kinds.Utf8 pool name.1 >>= λ desc. counted_at (attribute_at pool of_method) desc.1 >>= λ attrs. Ok (record { flags = flags.0; name = name.0; desc = desc.0; attrs = attrs.0 }, attrs.1)) u2_is (λ m. m.flags) (λ m k. tt)
-    (λ flags k. then {spell = λ (m : Member). spelling.u2 m.desc ++ spelling.counted spelling.attribute m.attrs} {Fits = λ m. IsIndex kinds.Utf8 pool m.desc × FitCounted (FitsAttr pool of_method) m.attrs} {known = λ m. Unit {0} × (m.flags ≡ flags)}
-    (λ name. index_at kinds.Utf8 pool name.1 >>= λ desc. counted_at (attribute_at pool of_method) desc.1 >>= λ attrs. Ok (record { flags = flags; name = name.0; desc = desc.0; attrs = attrs.0 }, attrs.1)) (index_is kinds.Utf8 pool) (λ m. m.name) (λ m k. tt)
-    (λ name k. then {spell = λ (m : Member). spelling.counted spelling.attribute m.attrs} {Fits = λ m. FitCounted (FitsAttr pool of_method) m.attrs} {known = λ m. (Unit {0} × (m.flags ≡ flags)) × (m.name ≡ name)}
-    (λ desc. counted_at (attribute_at pool of_method) desc.1 >>= λ attrs. Ok (record { flags = flags; name = name; desc = desc.0; attrs = attrs.0 }, attrs.1)) (index_is kinds.Utf8 pool) (λ m. m.desc) (λ m k. tt)
-    (λ desc k. wrapped {A = Member} (λ attrs. record { flags = flags; name = name; desc = desc; attrs = attrs }) (counted_is (attribute_is pool of_method)) (λ attrs f k. (refl, f, (((tt, refl), refl), refl)))
-    (λ m f k. (m.attrs, rw (← k.0.0.1, ← k.0.1, ← k.1) refl, f, tt))))))
+member_is pool of_method = said (then _ u2_is (λ m. m.flags) (λ m k. tt)
+    (λ flags k. then _ (index_is kinds.Utf8 pool) (λ m. m.name) (λ m k. tt)
+      (λ name k. then _ (index_is kinds.Utf8 pool) (λ m. m.desc) (λ m k. tt)
+        (λ desc k. wrapped {A = Member} (λ attrs. record { flags = flags; name = name; desc = desc; attrs = attrs }) (counted_is (attribute_is pool of_method)) (λ attrs f k. (refl, f, (((tt, refl), refl), refl)))
+          (λ m f k. (m.attrs, rw (← k.0.0.1, ← k.0.1, ← k.1) refl, f, tt))))))
     (λ m f k. (record { flags = f.0; name = f.1.0; desc = f.1.1.0; attrs = f.1.1.1 }, tt)) (λ m f k. ((f.flags, (f.name, (f.desc, f.attrs))), tt))

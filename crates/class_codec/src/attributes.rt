@@ -1,7 +1,8 @@
 //! Reading attributes. (The Java Virtual Machine Specification, section 4.7.)
 
 ghost use Rattle.std.specs.Prelude.{◌≡◌};
-ghost use Rattle.class_codec.specs.Reading.{Reads, ReadsAs, index_at, other_at, caught_at, table_entry_at, code_len_at, instructions_at, contents_at, code_at, named_at, attribute_at, member_at};
+ghost use Rattle.class_codec.specs.Reading.{Reads, ReadsAs, index_at, other_at, caught_at, table_entry_at, code_len_at};
+ghost use Rattle.class_codec.specs.Reading.{instructions_at, contents_at, code_at, named_at, attribute_at, member_at};
 ghost use Rattle.class_codec.specs.declared.pool.Kind.TheVariants as kinds;
 
 use crate::fault::ClassFault;

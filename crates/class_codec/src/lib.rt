@@ -9,6 +9,7 @@ mod constants;
 mod decoding;
 mod encoding;
 mod fault;
+mod indices;
 mod items;
 mod place;
 mod pool;

@@ -4,7 +4,7 @@ use Rattle.std.proofs.lemmas.Result.{err_from_is_err_and}
 use Rattle.class_codec.specs.Spelling.{constant}
 use Rattle.class_codec.specs.Reading.{all_checked}
 use Rattle.class_codec.proofs.Loop.{checks_step, sum_step, check_step_ends, checks_end}
-use Rattle.class_codec.proofs.constants.check_all.Goals as goal
+use Rattle.class_codec.proofs.indices.check_all.Goals as goal
 
 pub returns-in_err-check_constant : goal.returns-in_err-check_constant
 returns-in_err-check_constant c =
