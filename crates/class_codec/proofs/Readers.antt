@@ -1,5 +1,5 @@
 -- Readers made of others, beside those of mon_base.
-use Rattle.std.proofs.Common.{◌≡◌, ℕ, ◌+◌, ◌<◌, Bool, true, false, cond, ltb, eqb, eq-eqb, List, [], ◌∷◌, ◌++◌, length, take, drop, Option, Some, None, Result, Ok, Err, refl, sym, ap, subst, ◌∙◌, append_assoc, arith}
+use Rattle.std.proofs.Common.{◌≡◌, ℕ, ◌+◌, Bool, true, false, cond, ltb, eq-eqb, List, [], ◌++◌, length, take, drop, Some, None, Result, Ok, refl, sym, ap, subst, ◌∙◌, append_assoc, arith}
 use Rattle.std.specs.Prelude.{◌==◌, ok_or}
 use Rattle.std.proofs.lemmas.Bool.{eqb-true}
 use Rattle.std.proofs.lemmas.List.{take_at, append-nil, nil_from_length, length-append}
@@ -28,7 +28,8 @@ then_from {A = A} {X = X} {reader = reader} {spell_x = spell_x} {Fits_x = Fits_x
 }
 
 -- a reader whose answer is checked
-pub checked : {A E : Type 0} {reader : Place → Result (A × Place) E} {spell : A → List ℕ} {Fits known : A → Type 0} (Holds : A → Type 0) (check : Place → A → Result (Unit {0}) E)
+pub checked : {A E : Type 0} {reader : Place → Result (A × Place) E} {spell : A → List ℕ} {Fits known : A → Type 0} (Holds : A
+    → Type 0) (check : Place → A → Result (Unit {0}) E)
     → IsTail reader spell Fits known
     → ((place : Place) (a : A) → check place a ≡ Ok tt → Holds a) → ((place : Place) (a : A) → Holds a → check place a ≡ Ok tt)
     → IsTail (λ place. reader place >>= λ x. check place x.0 >>= λ _. Ok x) spell (λ a. Fits a × Holds a) known
@@ -44,7 +45,8 @@ checked {A = A} {E = E} {reader = reader} {spell = spell} {Fits = Fits} {known =
 }
 
 -- a reader whose answer is wrapped
-pub wrapped : {A X E : Type 0} {reader : Place → Result (X × Place) E} {spell_x : X → List ℕ} {Fits_x known_x : X → Type 0} {spell : A → List ℕ} {Fits known : A → Type 0}
+pub wrapped : {A X E : Type 0} {reader : Place → Result (X × Place) E} {spell_x : X → List ℕ} {Fits_x known_x : X
+    → Type 0} {spell : A → List ℕ} {Fits known : A → Type 0}
     (wrap : X → A) → IsTail reader spell_x Fits_x known_x
     → ((x : X) → Fits_x x → known_x x → (spell_x x ≡ spell (wrap x)) × Fits (wrap x) × known (wrap x))
     → ((a : A) → Fits a → known a → (x : X) × (wrap x ≡ a) × Fits_x x × known_x x)
@@ -85,9 +87,11 @@ bytes_are n place bytes next e =
     ap (λ (x : List ℕ × Place). x.0) (some_taken (ltb (length place.rest) n) read (bytes, next) e)
 
 -- a reader of the next n bytes, all of which it takes
-pub enclosed : {A E : Type 0} {reader : Place → Result (A × Place) E} {spell : A → List ℕ} {Fits known : A → Type 0} (n : ℕ) (left cut : A × Place → E)
+pub enclosed : {A E : Type 0} {reader : Place → Result (A × Place) E} {spell : A → List ℕ} {Fits known : A
+    → Type 0} (n : ℕ) (left cut : A × Place → E)
     → IsTail reader spell Fits known
-    → IsTail (λ place. reader (part n place) >>= λ x. need (length x.1.rest == 0) (left x) >>= λ _. ok_or (bytes_at n place) (cut x) >>= λ all. Ok (x.0, all.1)) spell Fits (λ a. known a × (length (spell a) ≡ n))
+    → IsTail (λ place. reader (part n place) >>= λ x. need (length x.1.rest == 0) (left x) >>= λ _. ok_or (bytes_at n place)
+    (cut x) >>= λ all. Ok (x.0, all.1)) spell Fits (λ a. known a × (length (spell a) ≡ n))
 enclosed {A = A} {E = E} {reader = reader} {spell = spell} {Fits = Fits} {known = known} n left cut is = record {
   takes = λ place a next fits e.
       let b = bind_ok (reader (part n place)) (λ x. need (length x.1.rest == 0) (left x) >>= λ _. ok_or (bytes_at n place) (cut x) >>= λ all. Ok (x.0, all.1)) (a, next) e in
