@@ -1,0 +1,4 @@
+pub mod Memory
+pub mod Read
+pub mod Sink
+pub mod Store
