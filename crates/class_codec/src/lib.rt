@@ -6,6 +6,7 @@
 
 mod attributes;
 mod constants;
+mod copying;
 mod decoding;
 mod encoding;
 mod fault;
@@ -15,6 +16,7 @@ mod place;
 mod pool;
 mod tree;
 
+pub use copying::{Copied, copy_list};
 pub use decoding::{MAX_LEN, decode};
 pub use encoding::{encode, one_tree};
 pub use fault::ClassFault;

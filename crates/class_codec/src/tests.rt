@@ -97,6 +97,8 @@ fn known_files_both_ways(rt: HostRuntime) -> Result<(), Fail> {
             .ok_or("the bytes are a class file")?;
         let again = encode(alloc, &file).ok().ok_or("memory is left")?;
         assert_eq!(rt; again.as_slice(), bytes.as_slice());
+        let copy = file.copy(alloc).ok().ok_or("memory is left")?;
+        assert!(rt; copy == file);
     }
     Ok(())
 }
