@@ -1,9 +1,9 @@
 -- Class files are read exactly as they are spelled.
-use Rattle.std.proofs.Common.{◌≡◌, ℕ, ◌+◌, ◌<◌, ◌≤◌, ◌^◌, Bool, true, false, List, [], ◌∷◌, ◌++◌, length, Result, Ok, Err, refl, sym, ap, subst, ◌∙◌, arith}
-use Rattle.std.specs.Prelude.{◌==◌, nat_le, slice_get, IfOk}
+use Rattle.std.proofs.Common.{◌≡◌, ℕ, ◌<◌, ◌≤◌, true, false, List, [], ◌∷◌, ◌++◌, length, Result, Ok, Err, refl, sym, ap, subst, ◌∙◌, arith}
+use Rattle.std.specs.Prelude.{◌==◌, nat_le, IfOk}
 use Rattle.std.proofs.lemmas.Bool.{false≢true}
 use Rattle.std.proofs.lemmas.Bool.Decides.{nat_tests}
-use Rattle.mon_base.specs.Reading.{Place, IsBytes, ◌>>=◌, need, whole}
+use Rattle.mon_base.specs.Reading.{IsBytes, ◌>>=◌, need, whole}
 use Rattle.mon_base.proofs.Reading.{need_ok, ok_is, IsTail, IsReader, then, done, said, whole_takes, whole_again}
 use Rattle.class_codec.specs.declared.fault.ClassFault.{ClassFault}
 use Rattle.class_codec.specs.declared.fault.ClassFault.TheVariants.{Magic, Version, Tail, TooLong}
@@ -12,8 +12,8 @@ use Rattle.class_codec.specs.declared.tree.Const.{Const}
 use Rattle.class_codec.specs.declared.tree.ClassFile.{ClassFile}
 use Rattle.class_codec.specs.Pool.{names}
 use Rattle.class_codec.specs.Spelling as spelling
-use Rattle.class_codec.specs.Fits.{IsU2, IsIndex, FitCounted, FitsAttr, FitsMember, FitsPool, CanSpell, SpellsClass}
-use Rattle.class_codec.specs.Reading.{Read, Answers, u2_at, u4_at, index_at, counted_at, attribute_at, member_at, head_at, pool_at, body_at, class_at, class_of}
+use Rattle.class_codec.specs.Fits.{IsU2, IsIndex, FitCounted, FitsAttr, FitsMember, CanSpell, SpellsClass}
+use Rattle.class_codec.specs.Reading.{Answers, u2_at, head_at, body_at, class_at, class_of}
 use Rattle.class_codec.proofs.Readers.{wrapped, then_equal}
 use Rattle.class_codec.proofs.Numbers.{u2_is, u4_is, index_is, counted_is}
 use Rattle.class_codec.proofs.PoolLaws.{IsPool, pool_is, whole_pool, pool_whole}
@@ -21,9 +21,10 @@ use Rattle.class_codec.proofs.AttributeLaws.{attribute_is, member_is}
 
 -- ---- the head
 
-version_is : IsReader (λ p. u2_at p >>= λ minor. u2_at minor.1 >>= λ major. need (major.0 == 49) (Version major.0) >>= λ _. Ok (minor.0, major.1)) (λ minor. spelling.u2 minor ++ (spelling.u2 49 ++ [])) IsU2
-version_is = said (then {spell = λ (n : ℕ). spelling.u2 49 ++ []} {Fits = λ n. Unit {0}} {known = λ _. Unit {0}} (λ minor. u2_at minor.1 >>= λ major. need (major.0 == 49) (Version major.0) >>= λ _. Ok (minor.0, major.1)) u2_is (λ n. n) (λ n k. tt)
-      (λ minor k. then_equal (λ n. Version n) u2_is 49 (omega arith) (done {known = λ n. Unit {0} × (n ≡ minor)} minor (tt, refl) (λ n k. k.1))))
+version_is : IsReader (λ p. u2_at p >>= λ minor. u2_at minor.1 >>= λ major. need (major.0 == 49) (Version major.0) >>= λ _. Ok
+    (minor.0, major.1)) (λ minor. spelling.u2 minor ++ (spelling.u2 49 ++ [])) IsU2
+version_is = said (then {known = λ _. Unit {0}} _ u2_is (λ n. n) (λ n k. tt)
+    (λ minor k. then_equal (λ n. Version n) u2_is 49 (omega arith) (done {known = λ n. Unit {0} × (n ≡ minor)} minor (tt, refl) (λ n k. k.1))))
     (λ n f k. (f.0, tt)) (λ n f k. ((f, tt), tt))
 
 head_is : IsReader head_at (λ minor. spelling.u4 0xCAFEBABE ++ (spelling.u2 minor ++ (spelling.u2 49 ++ []))) IsU2
@@ -41,43 +42,22 @@ record FitsBody (pool : List Const) (f : ClassFile) : Type 0 where
   methods : FitCounted (FitsMember pool true) f.methods
   attrs : FitCounted (FitsAttr pool false) f.attrs
 
-body_is : (minor : ℕ) (pool : List Const) → IsTail (body_at minor pool) spelling.body (FitsBody pool) (λ f. (Unit {0} × (f.minor ≡ minor)) × (f.pool ≡ pool))
+body_is : (minor : ℕ) (pool : List Const)
+    → IsTail (body_at minor pool) spelling.body (FitsBody pool) (λ f. (Unit {0} × (f.minor ≡ minor)) × (f.pool ≡ pool))
 unfolding body_at
-body_is minor pool = said (then {spell = λ (f : ClassFile). spelling.u2 f.this_class ++ (spelling.u2 f.super_class ++ (spelling.counted spelling.u2 f.interfaces ++ (spelling.counted spelling.member f.fields ++ (spelling.counted spelling.member f.methods ++ spelling.counted spelling.attribute f.attrs))))}
-      {Fits = λ f. IsIndex kinds.Class pool f.this_class × (IsIndex kinds.Class pool f.super_class × (FitCounted (IsIndex kinds.Class pool) f.interfaces × (FitCounted (FitsMember pool false) f.fields × (FitCounted (FitsMember pool true) f.methods × FitCounted (FitsAttr pool false) f.attrs))))}
-      {known = λ f. (Unit {0} × (f.minor ≡ minor)) × (f.pool ≡ pool)}
-      (λ flags. index_at kinds.Class pool flags.1 >>= λ this. index_at kinds.Class pool this.1 >>= λ super. counted_at (index_at kinds.Class pool) super.1 >>= λ interfaces. counted_at (member_at pool false) interfaces.1 >>= λ fields. counted_at (member_at pool true) fields.1 >>= λ methods. counted_at (attribute_at pool false) methods.1 >>= λ attrs. Ok (record { minor = minor; pool = pool; flags = flags.0; this_class = this.0; super_class = super.0; interfaces = interfaces.0; fields = fields.0; methods = methods.0; attrs = attrs.0 }, attrs.1))
-      u2_is (λ f. f.flags) (λ f k. tt)
-      (λ flags k. then {spell = λ (f : ClassFile). spelling.u2 f.super_class ++ (spelling.counted spelling.u2 f.interfaces ++ (spelling.counted spelling.member f.fields ++ (spelling.counted spelling.member f.methods ++ spelling.counted spelling.attribute f.attrs)))}
-        {Fits = λ f. IsIndex kinds.Class pool f.super_class × (FitCounted (IsIndex kinds.Class pool) f.interfaces × (FitCounted (FitsMember pool false) f.fields × (FitCounted (FitsMember pool true) f.methods × FitCounted (FitsAttr pool false) f.attrs)))}
-        {known = λ f. ((Unit {0} × (f.minor ≡ minor)) × (f.pool ≡ pool)) × (f.flags ≡ flags)}
-        (λ this. index_at kinds.Class pool this.1 >>= λ super. counted_at (index_at kinds.Class pool) super.1 >>= λ interfaces. counted_at (member_at pool false) interfaces.1 >>= λ fields. counted_at (member_at pool true) fields.1 >>= λ methods. counted_at (attribute_at pool false) methods.1 >>= λ attrs. Ok (record { minor = minor; pool = pool; flags = flags; this_class = this.0; super_class = super.0; interfaces = interfaces.0; fields = fields.0; methods = methods.0; attrs = attrs.0 }, attrs.1))
-        (index_is kinds.Class pool) (λ f. f.this_class) (λ f k. tt)
-        (λ this k. then {spell = λ (f : ClassFile). spelling.counted spelling.u2 f.interfaces ++ (spelling.counted spelling.member f.fields ++ (spelling.counted spelling.member f.methods ++ spelling.counted spelling.attribute f.attrs))}
-          {Fits = λ f. FitCounted (IsIndex kinds.Class pool) f.interfaces × (FitCounted (FitsMember pool false) f.fields × (FitCounted (FitsMember pool true) f.methods × FitCounted (FitsAttr pool false) f.attrs))}
-          {known = λ f. (((Unit {0} × (f.minor ≡ minor)) × (f.pool ≡ pool)) × (f.flags ≡ flags)) × (f.this_class ≡ this)}
-          (λ super. counted_at (index_at kinds.Class pool) super.1 >>= λ interfaces. counted_at (member_at pool false) interfaces.1 >>= λ fields. counted_at (member_at pool true) fields.1 >>= λ methods. counted_at (attribute_at pool false) methods.1 >>= λ attrs. Ok (record { minor = minor; pool = pool; flags = flags; this_class = this; super_class = super.0; interfaces = interfaces.0; fields = fields.0; methods = methods.0; attrs = attrs.0 }, attrs.1))
-          (index_is kinds.Class pool) (λ f. f.super_class) (λ f k. tt)
-          (λ super k. then {spell = λ (f : ClassFile). spelling.counted spelling.member f.fields ++ (spelling.counted spelling.member f.methods ++ spelling.counted spelling.attribute f.attrs)}
-            {Fits = λ f. FitCounted (FitsMember pool false) f.fields × (FitCounted (FitsMember pool true) f.methods × FitCounted (FitsAttr pool false) f.attrs)}
-            {known = λ f. ((((Unit {0} × (f.minor ≡ minor)) × (f.pool ≡ pool)) × (f.flags ≡ flags)) × (f.this_class ≡ this)) × (f.super_class ≡ super)}
-            (λ interfaces. counted_at (member_at pool false) interfaces.1 >>= λ fields. counted_at (member_at pool true) fields.1 >>= λ methods. counted_at (attribute_at pool false) methods.1 >>= λ attrs. Ok (record { minor = minor; pool = pool; flags = flags; this_class = this; super_class = super; interfaces = interfaces.0; fields = fields.0; methods = methods.0; attrs = attrs.0 }, attrs.1))
-            (counted_is (index_is kinds.Class pool)) (λ f. f.interfaces) (λ f k. tt)
-            (λ interfaces k. then {spell = λ (f : ClassFile). spelling.counted spelling.member f.methods ++ spelling.counted spelling.attribute f.attrs}
-              {Fits = λ f. FitCounted (FitsMember pool true) f.methods × FitCounted (FitsAttr pool false) f.attrs}
-              {known = λ f. (((((Unit {0} × (f.minor ≡ minor)) × (f.pool ≡ pool)) × (f.flags ≡ flags)) × (f.this_class ≡ this)) × (f.super_class ≡ super)) × (f.interfaces ≡ interfaces)}
-              (λ fields. counted_at (member_at pool true) fields.1 >>= λ methods. counted_at (attribute_at pool false) methods.1 >>= λ attrs. Ok (record { minor = minor; pool = pool; flags = flags; this_class = this; super_class = super; interfaces = interfaces; fields = fields.0; methods = methods.0; attrs = attrs.0 }, attrs.1))
-              (counted_is (member_is pool false)) (λ f. f.fields) (λ f k. tt)
-              (λ fields k. then {spell = λ (f : ClassFile). spelling.counted spelling.attribute f.attrs}
-                {Fits = λ f. FitCounted (FitsAttr pool false) f.attrs}
-                {known = λ f. ((((((Unit {0} × (f.minor ≡ minor)) × (f.pool ≡ pool)) × (f.flags ≡ flags)) × (f.this_class ≡ this)) × (f.super_class ≡ super)) × (f.interfaces ≡ interfaces)) × (f.fields ≡ fields)}
-                (λ methods. counted_at (attribute_at pool false) methods.1 >>= λ attrs. Ok (record { minor = minor; pool = pool; flags = flags; this_class = this; super_class = super; interfaces = interfaces; fields = fields; methods = methods.0; attrs = attrs.0 }, attrs.1))
-                (counted_is (member_is pool true)) (λ f. f.methods) (λ f k. tt)
-                (λ methods k. wrapped {A = ClassFile} (λ attrs. record { minor = minor; pool = pool; flags = flags; this_class = this; super_class = super; interfaces = interfaces; fields = fields; methods = methods; attrs = attrs }) (counted_is (attribute_is pool false))
-                  (λ attrs f k. (refl, f, ((((((((tt, refl), refl), refl), refl), refl), refl), refl), refl)))
-                  (λ c f k. (c.attrs, rw (← k.0.0.0.0.0.0.0.1, ← k.0.0.0.0.0.0.1, ← k.0.0.0.0.0.1, ← k.0.0.0.0.1, ← k.0.0.0.1, ← k.0.0.1, ← k.0.1, ← k.1) refl, f, tt)))))))))
-    (λ c f k. (record { flags = f.0; this_class = f.1.0; super_class = f.1.1.0; interfaces = f.1.1.1.0; fields = f.1.1.1.1.0; methods = f.1.1.1.1.1.0; attrs = f.1.1.1.1.1.1 }, k))
-    (λ c f k. ((f.flags, (f.this_class, (f.super_class, (f.interfaces, (f.fields, (f.methods, f.attrs)))))), k))
+body_is minor pool = said (then {known = λ f. (Unit {0} × (f.minor ≡ minor)) × (f.pool ≡ pool)} _ u2_is (λ f. f.flags) (λ f k. tt)
+    (λ flags k. then _ (index_is kinds.Class pool) (λ f. f.this_class) (λ f k. tt)
+    (λ this k. then _ (index_is kinds.Class pool) (λ f. f.super_class) (λ f k. tt)
+    (λ super k. then _ (counted_is (index_is kinds.Class pool)) (λ f. f.interfaces) (λ f k. tt)
+    (λ interfaces k. then _ (counted_is (member_is pool false)) (λ f. f.fields) (λ f k. tt)
+    (λ fields k. then _ (counted_is (member_is pool true)) (λ f. f.methods) (λ f k. tt)
+    (λ methods k. wrapped {A = ClassFile}
+    (λ attrs. record { minor = minor; pool = pool; flags = flags; this_class = this; super_class = super; interfaces = interfaces; fields = fields; methods = methods; attrs = attrs })
+    (counted_is (attribute_is pool false))
+    (λ attrs f k. (refl, f, ((((((((tt, refl), refl), refl), refl), refl), refl), refl), refl)))
+    (λ f h k. (f.attrs, rw (← k.0.0.0.0.0.0.0.1, ← k.0.0.0.0.0.0.1, ← k.0.0.0.0.0.1, ← k.0.0.0.0.1, ← k.0.0.0.1, ← k.0.0.1, ← k.0.1, ← k.1) refl, h, tt)))))))))
+    (λ f h k. (record { flags = h.0; this_class = h.1.0; super_class = h.1.1.0; interfaces = h.1.1.1.0; fields = h.1.1.1.1.0; methods = h.1.1.1.1.1.0; attrs = h.1.1.1.1.1.1 }, k))
+    (λ f h k. ((h.flags, (h.this_class, (h.super_class, (h.interfaces, (h.fields, (h.methods, h.attrs)))))), k))
 
 -- ---- the file
 
@@ -87,15 +67,39 @@ unfolding names
 some_place [] index e = absurd (false≢true e)
 some_place (c ∷ pool) index e = omega arith
 
+class_fits : (f : ClassFile) → IsU2 f.minor → IsPool f.pool → FitsBody f.pool f → CanSpell f
+class_fits f minor pool h = record {
+  minor = minor;
+  pool = whole_pool f.pool (some_place f.pool f.this_class h.this_class.named) pool;
+  flags = h.flags;
+  this_class = h.this_class;
+  super_class = h.super_class;
+  interfaces = h.interfaces;
+  fields = h.fields;
+  methods = h.methods;
+  attrs = h.attrs;
+}
+
+fits_class : (f : ClassFile) → CanSpell f → FitsBody f.pool f
+fits_class f h = record {
+  flags = h.flags;
+  this_class = h.this_class;
+  super_class = h.super_class;
+  interfaces = h.interfaces;
+  fields = h.fields;
+  methods = h.methods;
+  attrs = h.attrs;
+}
+
 class_is : IsReader class_at spelling.spelling CanSpell
 unfolding class_at
-class_is = said (then {spell = λ (f : ClassFile). spelling.counted spelling.constant f.pool ++ spelling.body f} {Fits = λ f. IsPool f.pool × FitsBody f.pool f} {known = λ _. Unit {0}}
-      (λ minor. pool_at minor.1 >>= λ pool. body_at minor.0 pool.0 pool.1) head_is (λ f. f.minor) (λ f k. tt)
-      (λ minor k. then {spell = spelling.body} {Fits = λ f. FitsBody f.pool f} {known = λ f. Unit {0} × (f.minor ≡ minor)}
-        (λ pool. body_at minor pool.0 pool.1) pool_is (λ f. f.pool) (λ f k. tt)
-        (λ pool k. said (body_is minor pool) (λ f h k. (subst (λ (p : List Const). FitsBody p f) (sym k.1) h, k)) (λ f h k. (subst (λ (p : List Const). FitsBody p f) k.1 h, k)))))
-    (λ f h k. (record { minor = h.0; pool = whole_pool f.pool (some_place f.pool f.this_class h.1.1.this_class.named) h.1.0; flags = h.1.1.flags; this_class = h.1.1.this_class; super_class = h.1.1.super_class; interfaces = h.1.1.interfaces; fields = h.1.1.fields; methods = h.1.1.methods; attrs = h.1.1.attrs }, tt))
-    (λ f h k. ((h.minor, (pool_whole f.pool h.pool, record { flags = h.flags; this_class = h.this_class; super_class = h.super_class; interfaces = h.interfaces; fields = h.fields; methods = h.methods; attrs = h.attrs })), tt))
+class_is = said (then {known = λ _. Unit {0}} _ head_is (λ f. f.minor) (λ f k. tt)
+    (λ minor k. then _ pool_is (λ f. f.pool) (λ f k. tt)
+    (λ pool k. said {Fits' = λ f. FitsBody f.pool f} (body_is minor pool)
+    (λ f h k. (subst (λ (p : List Const). FitsBody p f) (sym k.1) h, k))
+    (λ f h k. (subst (λ (p : List Const). FitsBody p f) k.1 h, k)))))
+    (λ f h k. (class_fits f h.0 h.1.0 h.1.1, tt))
+    (λ f h k. ((h.minor, (pool_whole f.pool h.pool, fits_class f h)), tt))
 
 class_takes : (bytes : List ℕ) (f : ClassFile) → IsBytes bytes → class_of bytes ≡ Ok f → SpellsClass bytes f
 unfolding class_of
@@ -111,11 +115,13 @@ class_again bytes f h short =
     let b : nat_le (length bytes) 1048576 ≡ true = grind (arith, nat_tests) in
     rw (b, h.is) t
 
-pub is_found : (bytes : List ℕ) (r : Result ClassFile ClassFault) → IsBytes bytes → Answers r (class_of bytes) → IfOk r (λ f. SpellsClass bytes f)
+pub is_found : (bytes : List ℕ) (r : Result ClassFile ClassFault) → IsBytes bytes → Answers r (class_of bytes)
+    → IfOk r (λ f. SpellsClass bytes f)
 is_found bytes (Ok f) fits given = class_takes bytes f fits given
 is_found bytes (Err e) fits given = tt
 
-pub is_only : (bytes : List ℕ) (r : Result ClassFile ClassFault) (f : ClassFile) → Answers r (class_of bytes) → SpellsClass bytes f → length bytes ≤ 1048576 → Answers r (Ok f)
+pub is_only : (bytes : List ℕ) (r : Result ClassFile ClassFault) (f : ClassFile) → Answers r (class_of bytes) → SpellsClass bytes f
+    → length bytes ≤ 1048576 → Answers r (Ok f)
 is_only bytes r f given h short = subst (λ (read : Result ClassFile ClassFault). Answers r read) (class_again bytes f h short) given
 
 pub same_tree : (bytes : List ℕ) (f g : ClassFile) → SpellsClass bytes f → SpellsClass bytes g → f ≡ g
@@ -124,3 +130,11 @@ same_tree bytes f g spells_f spells_g =
     let two = whole_again class_is (λ p. Tail p.at) g spells_g.fits in
     let same : spelling.spelling f ≡ spelling.spelling g = sym spells_f.is ∙ spells_g.is in
     ok_is ClassFault f g (sym one ∙ ap (λ (b : List ℕ). whole class_at (λ p. Tail p.at) b) same ∙ two)
+
+pub is_long : (bytes : List ℕ) (r : Result ClassFile ClassFault) → Answers r (class_of bytes) → 1048576 < length bytes
+    → Answers r (Err (TooLong (length bytes)))
+unfolding class_of
+is_long bytes r given long =
+    let b : nat_le (length bytes) 1048576 ≡ false = grind (arith, nat_tests) in
+    let same : class_of bytes ≡ Err (TooLong (length bytes)) = rw b refl in
+    subst (λ (read : Result ClassFile ClassFault). Answers r read) same given

@@ -1,5 +1,5 @@
 -- Reading one after the other, as a loop does.
-use Rattle.std.proofs.Common.{◌≡◌, ℕ, suc, ◌-◌, ◌+◌, ◌≤◌, ◌<◌, Bool, true, false, List, [], ◌∷◌, ◌++◌, length, get_or, take, drop, Result, Ok, Err, refl, sym, ap, subst, ◌∙◌, append_assoc, arith}
+use Rattle.std.proofs.Common.{◌≡◌, ℕ, suc, ◌-◌, ◌+◌, ◌≤◌, ◌<◌, Bool, List, [], ◌∷◌, ◌++◌, length, get_or, take, drop, Result, Ok, Err, refl, sym, ap, subst, ◌∙◌, append_assoc, arith}
 use Rattle.std.specs.List.{flat_map}
 use Rattle.std.proofs.lemmas.List.{append-nil, take_all, length-append}
 use Rattle.mon_base.specs.Reading.{Place, ◌>>=◌, counted}
@@ -14,12 +14,14 @@ use Rattle.class_codec.specs.Reading.{Read, Fails, place_at, places_at, constant
 abbrev pub with_front : {X : Type 0} → List X → Read (List X) → Read (List X)
 with_front front read = read >>= λ x. Ok (front ++ x.0, x.1)
 
-regroup : {X : Type 0} (front : List X) (n : X) (read : Read (List X)) → with_front front (read >>= λ x. Ok (n ∷ x.0, x.1)) ≡ with_front (front ++ n ∷ []) read
+regroup : {X : Type 0} (front : List X) (n : X) (read : Read (List X))
+    → with_front front (read >>= λ x. Ok (n ∷ x.0, x.1)) ≡ with_front (front ++ n ∷ []) read
 regroup {X = X} front n (Ok x) = ap (λ (ns : List X). Ok (ns, x.1)) (simp append_assoc)
 regroup front n (Err f) = refl
 
 -- A fault at an item is the answer.
-failed : {Y Z : Type 0} (e : ClassFault) (first : Result Y ClassFault) (others : Y → Result Z ClassFault) → Fails e first → Fails e (first >>= others)
+failed : {Y Z : Type 0} (e : ClassFault) (first : Result Y ClassFault) (others : Y → Result Z ClassFault) → Fails e first
+    → Fails e (first >>= others)
 failed Memory first others h = tt
 failed Magic first others h = rw h refl
 failed (Version major) first others h = rw h refl
@@ -41,15 +43,18 @@ along (TooLong len) a b same h = sym same ∙ h
 
 -- ---- items
 
-pub goes_on : {X : Type 0} (item : Place → Read X) (front : List X) (count i : ℕ) (place : Place) (x : X) (next : Place) (total : Read (List X)) → i < count → item place ≡ Ok (x, next)
-    → with_front front (counted item (count - i) place) ≡ total → with_front (front ++ x ∷ []) (counted item (count - (i + 1)) next) ≡ total
+pub goes_on : {X : Type 0} (item : Place → Read X) (front : List X) (count i : ℕ) (place : Place) (x : X) (next : Place)
+    (total : Read (List X)) → i < count → item place ≡ Ok (x, next)
+    → with_front front (counted item (count - i) place) ≡ total
+    → with_front (front ++ x ∷ []) (counted item (count - (i + 1)) next) ≡ total
 unfolding counted
 goes_on item front count i place x next total lt h so_far =
     let k : count - i ≡ suc (count - (i + 1)) = omega arith in
     let one : with_front front (counted item (count - i) place) ≡ with_front (front ++ x ∷ []) (counted item (count - (i + 1)) next) = rw (k, h) (regroup front x (counted item (count - (i + 1)) next)) in
     sym one ∙ so_far
 
-pub ends : {X : Type 0} (item : Place → Read X) (e : ClassFault) (front : List X) (count i : ℕ) (place : Place) (total : Read (List X)) → i < count → Fails e (item place)
+pub ends : {X : Type 0} (item : Place → Read X) (e : ClassFault) (front : List X) (count i : ℕ) (place : Place)
+    (total : Read (List X)) → i < count → Fails e (item place)
     → with_front front (counted item (count - i) place) ≡ total → Fails e total
 unfolding counted
 ends item e front count i place total lt h so_far =
@@ -67,8 +72,10 @@ is_done {X = X} item front count i place total le so_far =
 
 -- ---- places of the pool
 
-pub place_goes_on : (front : List Const) (second : Bool) (count i : ℕ) (place : Place) (x : Const) (next : Place) (total : Read (List Const)) → i < count → place_at second (count - i - 1) place ≡ Ok (x, next)
-    → with_front front (places_at second (count - i) place) ≡ total → with_front (front ++ x ∷ []) (places_at (takes_two x) (count - (i + 1)) next) ≡ total
+pub place_goes_on : (front : List Const) (second : Bool) (count i : ℕ) (place : Place) (x : Const) (next : Place)
+    (total : Read (List Const)) → i < count → place_at second (count - i - 1) place ≡ Ok (x, next)
+    → with_front front (places_at second (count - i) place) ≡ total
+    → with_front (front ++ x ∷ []) (places_at (takes_two x) (count - (i + 1)) next) ≡ total
 unfolding places_at
 place_goes_on front second count i place x next total lt h so_far =
     let k : count - i ≡ suc (count - (i + 1)) = omega arith in
@@ -77,7 +84,8 @@ place_goes_on front second count i place x next total lt h so_far =
     let one : with_front front (places_at second (count - i) place) ≡ with_front (front ++ x ∷ []) (places_at (takes_two x) (count - (i + 1)) next) = rw (k, h') (regroup front x (places_at (takes_two x) (count - (i + 1)) next)) in
     sym one ∙ so_far
 
-pub place_ends : (e : ClassFault) (front : List Const) (second : Bool) (count i : ℕ) (place : Place) (total : Read (List Const)) → i < count → Fails e (place_at second (count - i - 1) place)
+pub place_ends : (e : ClassFault) (front : List Const) (second : Bool) (count i : ℕ) (place : Place) (total : Read (List Const))
+    → i < count → Fails e (place_at second (count - i - 1) place)
     → with_front front (places_at second (count - i) place) ≡ total → Fails e total
 unfolding places_at
 place_ends e front second count i place total lt h so_far =
@@ -97,14 +105,16 @@ places_done front second count i place total le so_far =
 
 -- ---- the indices of the pool
 
-pub checks_on : (pool : List Const) (first : Const) (others : List Const) (at : ℕ) (total : Result (Unit {0}) ClassFault) → constant_checked pool first at ≡ Ok tt
+pub checks_on : (pool : List Const) (first : Const) (others : List Const) (at : ℕ) (total : Result (Unit {0}) ClassFault)
+    → constant_checked pool first at ≡ Ok tt
     → all_checked pool (first ∷ others) at ≡ total → all_checked pool others (at + length (constant first)) ≡ total
 unfolding all_checked
 checks_on pool first others at total h so_far =
     let one : all_checked pool (first ∷ others) at ≡ all_checked pool others (at + length (constant first)) = rw h refl in
     sym one ∙ so_far
 
-pub check_ends : (e : ClassFault) (pool : List Const) (first : Const) (others : List Const) (at : ℕ) (total : Result (Unit {0}) ClassFault) → Fails e (constant_checked pool first at)
+pub check_ends : (e : ClassFault) (pool : List Const) (first : Const) (others : List Const) (at : ℕ)
+    (total : Result (Unit {0}) ClassFault) → Fails e (constant_checked pool first at)
     → all_checked pool (first ∷ others) at ≡ total → Fails e total
 unfolding all_checked
 check_ends e pool first others at total h so_far =
@@ -114,14 +124,16 @@ pub checks_done : (pool : List Const) (at : ℕ) (total : Result (Unit {0}) Clas
 unfolding all_checked
 checks_done pool at total so_far = sym so_far
 
-others_are : (left : List Const) (first : Const) → 1 ≤ length left → first ≡ get_or left 0 first → left ≡ first ∷ take (length left - 1) (drop 1 left)
+others_are : (left : List Const) (first : Const) → 1 ≤ length left → first ≡ get_or left 0 first
+    → left ≡ first ∷ take (length left - 1) (drop 1 left)
 others_are [] first some is = absurd (omega arith)
 others_are (x ∷ xs) first some is =
     let n : length (x ∷ xs) - 1 ≡ length xs = omega arith in
     let same : take (length (x ∷ xs) - 1) xs ≡ xs = rw n (take_all (length xs) xs (omega arith)) in
     rw (same, is) refl
 
-pub checks_step : (pool left : List Const) (first : Const) (at len : ℕ) (total : Result (Unit {0}) ClassFault) → 1 ≤ length left → first ≡ get_or left 0 first
+pub checks_step : (pool left : List Const) (first : Const) (at len : ℕ) (total : Result (Unit {0}) ClassFault) → 1 ≤ length left
+    → first ≡ get_or left 0 first
     → len ≡ length (constant first) → constant_checked pool first at ≡ Ok tt → all_checked pool left at ≡ total
     → all_checked pool (take (length left - 1) (drop 1 left)) (at + len) ≡ total
 checks_step pool left first at len total some is l h so_far =
@@ -137,18 +149,21 @@ sum_step left first at len total some is l so_far =
     let all : length (flat_map constant left) ≡ length (constant first) + length (flat_map constant (take (length left - 1) (drop 1 left))) = ap (λ (xs : List Const). length (flat_map constant xs)) same ∙ length-append (constant first) (flat_map constant (take (length left - 1) (drop 1 left))) in
     omega (arith, all, l, so_far)
 
-pub check_step_ends : (e : ClassFault) (pool left : List Const) (first : Const) (at : ℕ) (total : Result (Unit {0}) ClassFault) → 1 ≤ length left → first ≡ get_or left 0 first
+pub check_step_ends : (e : ClassFault) (pool left : List Const) (first : Const) (at : ℕ) (total : Result (Unit {0}) ClassFault)
+    → 1 ≤ length left → first ≡ get_or left 0 first
     → Fails e (constant_checked pool first at) → all_checked pool left at ≡ total → Fails e total
 check_step_ends e pool left first at total some is h so_far =
     let same = others_are left first some is in
     let so_far' : all_checked pool (first ∷ take (length left - 1) (drop 1 left)) at ≡ total = ap (λ (xs : List Const). all_checked pool xs at) (sym same) ∙ so_far in
     check_ends e pool first (take (length left - 1) (drop 1 left)) at total h so_far'
 
-pub checks_end : (pool left : List Const) (at : ℕ) (total : Result (Unit {0}) ClassFault) → length left < 1 → all_checked pool left at ≡ total → total ≡ Ok tt
+pub checks_end : (pool left : List Const) (at : ℕ) (total : Result (Unit {0}) ClassFault) → length left < 1
+    → all_checked pool left at ≡ total → total ≡ Ok tt
 checks_end pool [] at total none so_far = checks_done pool at total so_far
 checks_end pool (x ∷ xs) at total none so_far = absurd (omega arith)
 
-pub constants_push : (pool : List Const) (x : Const) → length (flat_map constant (pool ++ x ∷ [])) ≡ length (flat_map constant pool) + length (constant x)
+pub constants_push : (pool : List Const) (x : Const)
+    → length (flat_map constant (pool ++ x ∷ [])) ≡ length (flat_map constant pool) + length (constant x)
 constants_push [] x = simp append-nil (omega arith)
 constants_push (c ∷ pool) x =
     let so_far = constants_push pool x in

@@ -1,7 +1,6 @@
 -- Numbers, byte strings and indices are read exactly as they are spelled.
-use Rattle.std.proofs.Common.{◌≡◌, ℕ, ◌<◌, ◌≤◌, ◌^◌, Bool, true, false, cond, List, [], ◌∷◌, ◌++◌, length, Result, Ok, Err, refl, sym, ap, subst, arith}
-use Rattle.std.specs.List.{flat_map, AllByRecursion}
-use Rattle.mon_base.specs.Reading.{Place, IsBytes, need, counted}
+use Rattle.std.proofs.Common.{◌≡◌, ℕ, ◌<◌, Bool, true, false, List, length, Ok, refl}
+use Rattle.mon_base.specs.Reading.{Place, need}
 use Rattle.mon_base.proofs.Reading.{IsTail, IsReader, then, said, items, number_is, bytes_is, one, two, four, eight}
 use Rattle.class_codec.specs.declared.fault.ClassFault.{ClassFault}
 use Rattle.class_codec.specs.declared.fault.ClassFault.TheVariants.{Short, Index}
@@ -39,7 +38,7 @@ rest_is n = said (taken_is n) (λ a f k. (f, (tt, k))) (λ a f k. (f, k.1))
 
 pub block_is : IsReader block_at spelling.block FitsBlock
 unfolding block_at
-block_is = said (then {spell = λ (bytes : List ℕ). bytes} {Fits = λ bytes. Unit {0}} {known = λ _. Unit {0}} (λ len. taken_at len.0 len.1) u4_is length (λ a k. tt) (λ n k. rest_is n))
+block_is = said (then {known = λ _. Unit {0}} _ u4_is length (λ a k. tt) (λ n k. rest_is n))
     (λ a f k. (f.0, tt)) (λ a f k. ((f, tt), tt))
 
 -- a test after a reading
@@ -53,12 +52,15 @@ holds_need b fault e = rw e refl
 pub index_is : (kind : Kind) (pool : List Const) → IsReader (index_at kind pool) spelling.u2 (IsIndex kind pool)
 unfolding index_at
 index_is kind pool = said (checked (λ index. names kind pool index ≡ true) (λ p index. need (names kind pool index) (Index p.at)) u2_is
-      (λ p index e. need_holds (names kind pool index) (Index p.at) e) (λ p index h. holds_need (names kind pool index) (Index p.at) h))
-    (λ a f k. (record { fits = f.0; named = f.1 }, tt)) (λ a f k. ((f.fits, f.named), tt))
+    (λ p index e. need_holds (names kind pool index) (Index p.at) e)
+    (λ p index h. holds_need (names kind pool index) (Index p.at) h))
+    (λ a f k. (record { fits = f.0; named = f.1 }, tt))
+    (λ a f k. ((f.fits, f.named), tt))
 
 -- items that two bytes count
-pub counted_is : {X : Type 0} {item : Place → Read X} {spell : X → List ℕ} {Fits : X → Type 0} → IsReader item spell Fits → IsReader (counted_at item) (spelling.counted spell) (FitCounted Fits)
+pub counted_is : {X : Type 0} {item : Place → Read X} {spell : X → List ℕ} {Fits : X → Type 0} → IsReader item spell Fits
+    → IsReader (counted_at item) (spelling.counted spell) (FitCounted Fits)
 unfolding counted_at
-counted_is {X = X} {item = item} {spell = spell} {Fits = Fits} is = said (then {spell = λ (xs : List X). flat_map spell xs} {Fits = λ xs. AllByRecursion Fits xs} {known = λ _. Unit {0}} (λ count. counted item count.0 count.1) u2_is length (λ a k. tt)
-      (λ n k. said (items is n) (λ a f k. (f, (tt, k))) (λ a f k. (f, k.1))))
-    (λ a f k. (record { count = f.0; each = f.1 }, tt)) (λ a f k. ((f.count, f.each), tt))
+counted_is is = said (then {known = λ _. Unit {0}} _ u2_is length (λ a k. tt) (λ n k. said (items is n) (λ a f k. (f, (tt, k))) (λ a f k. (f, k.1))))
+    (λ a f k. (record { count = f.0; each = f.1 }, tt))
+    (λ a f k. ((f.count, f.each), tt))

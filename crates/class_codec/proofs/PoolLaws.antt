@@ -1,24 +1,24 @@
 -- The constant pool is read exactly as it is spelled.
-use Rattle.std.proofs.Common.{◌≡◌, ℕ, zero, suc, ◌+◌, ◌*◌, ◌-◌, ◌<◌, ◌≤◌, ◌^◌, Bool, true, false, cond, not, eqb, ltb, leb, nat_eq, List, [], ◌∷◌, ◌++◌, length, Option, Some, None, Result, Ok, Err, refl, sym, ap, subst, ◌∙◌, append_assoc, arith, ℤ, FitsSigned, inl, inr}
-use Rattle.std.specs.Prelude.{◌||◌, nat_lt, nat_le, position, ◌==◌}
+use Rattle.std.proofs.Common.{◌≡◌, ℕ, zero, suc, ◌+◌, ◌<◌, ◌≤◌, ◌^◌, Bool, true, false, cond, not, eqb, ltb, List, [], ◌∷◌, ◌++◌, length, Option, Some, None, Ok, refl, sym, ap, subst, ◌∙◌, append_assoc, arith, ℤ, FitsSigned}
+use Rattle.std.specs.Prelude.{nat_lt, position}
 use Rattle.std.specs.Int.{w32, w64, cast_signed, cast_unsigned}
-use Rattle.std.specs.List.{flat_map, AllByRecursion, position_or_len, prefix_len}
-use Rattle.std.proofs.lemmas.Bool.{cases_lt, false≢true, eq-eqb, eqb-true, ltb-true, ltb-false, lt-ltb, le-ltb}
+use Rattle.std.specs.List.{flat_map, AllByRecursion, position_or_len}
+use Rattle.std.proofs.lemmas.Bool.{false≢true, eq-eqb, eqb-true, ltb-true, ltb-false, lt-ltb, le-ltb}
 use Rattle.std.proofs.lemmas.Bool.Decides.{nat_tests}
 use Rattle.std.proofs.lemmas.Int.{of_z-to_z, to_z-of_z, ints}
 use Rattle.std.proofs.lemmas.List.{length-append}
-use Rattle.mon_base.specs.Reading.{Place, IsBytes, ◌>>=◌, need}
+use Rattle.mon_base.specs.Reading.{Place, IsBytes, ◌>>=◌}
 use Rattle.mon_base.proofs.Reading.{bind_ok, ok_is, after, Took, Took-then, IsTail, IsReader, then, said, done, guard, choose, refuse}
 use Rattle.class_codec.specs.declared.fault.ClassFault.{ClassFault}
-use Rattle.class_codec.specs.declared.fault.ClassFault.TheVariants.{Short, Index, Tag}
+use Rattle.class_codec.specs.declared.fault.ClassFault.TheVariants.{Index, Tag}
 use Rattle.class_codec.specs.declared.pool.Kind.{Kind}
 use Rattle.class_codec.specs.declared.pool.Kind.TheVariants as kinds
 use Rattle.class_codec.specs.declared.tree.Const.{Const}
 use Rattle.class_codec.specs.declared.tree.Const.TheVariants.{Utf8, Integer, Float, Long, Double, Class, Str, Field, Method, IMethod, NameAndType, Second}
 use Rattle.class_codec.specs.Pool.{names}
 use Rattle.class_codec.specs.Spelling as spelling
-use Rattle.class_codec.specs.Fits.{IsU2, IsU4, IsU8, IsTextByte, FitsConst, is_second, takes_two, HasSeconds, IsNamed, FitsPool}
-use Rattle.class_codec.specs.Reading.{Read, u1_at, u2_at, u4_at, u8_at, taken_at, is_no_text_byte, text_checked, text_at, pair_at, wide_at, payload_at, constant_at, place_at, places_at, index_checked, pair_checked, constant_checked, all_checked, pool_at}
+use Rattle.class_codec.specs.Fits.{IsU2, IsU8, IsTextByte, FitsConst, is_second, takes_two, HasSeconds, IsNamed, FitsPool}
+use Rattle.class_codec.specs.Reading.{Read, u2_at, u4_at, is_no_text_byte, text_checked, text_at, pair_at, wide_at, payload_at, constant_at, place_at, places_at, index_checked, pair_checked, constant_checked, all_checked, pool_at}
 use Rattle.class_codec.proofs.Readers.{then_from, checked, wrapped, spelled_where}
 use Rattle.class_codec.proofs.Numbers.{u1_is, u2_is, u4_is, u8_is, rest_is, need_holds, holds_need}
 
@@ -83,17 +83,18 @@ FitsText bytes = IsU2 (length bytes) × AllByRecursion IsTextByte bytes
 
 text_is : IsReader text_at text FitsText
 unfolding text_at
-text_is = said (then {spell = λ (bytes : List ℕ). bytes} {Fits = λ bytes. Unit {0} × AllByRecursion IsTextByte bytes} {known = λ _. Unit {0}}
-      (λ len. taken_at len.0 len.1 >>= λ x. text_checked len.1.at (position is_no_text_byte x.0) >>= λ _. Ok x) u2_is length (λ a k. tt)
-      (λ n k. checked (λ bytes. AllByRecursion IsTextByte bytes) (λ p bytes. text_checked p.at (position is_no_text_byte bytes)) (rest_is n)
-        (λ p bytes e. text_bytes bytes (text_holds p.at (position is_no_text_byte bytes) e)) (λ p bytes h. holds_text p.at (position is_no_text_byte bytes) (all_pass bytes h))))
-    (λ a f k. ((f.0, f.1.1), tt)) (λ a f k. ((f.0, (tt, f.1)), tt))
+text_is = said (then {Fits = λ bytes. Unit {0} × AllByRecursion IsTextByte bytes} {known = λ _. Unit {0}} _ u2_is length (λ a k. tt)
+    (λ n k. checked (λ bytes. AllByRecursion IsTextByte bytes) (λ p bytes. text_checked p.at (position is_no_text_byte bytes)) (rest_is n)
+    (λ p bytes e. text_bytes bytes (text_holds p.at (position is_no_text_byte bytes) e))
+    (λ p bytes h. holds_text p.at (position is_no_text_byte bytes) (all_pass bytes h))))
+    (λ a f k. ((f.0, f.1.1), tt))
+    (λ a f k. ((f.0, (tt, f.1)), tt))
 
 -- ---- pairs of indices, and numbers of eight bytes
 
 pair_is : IsReader pair_at (λ x. spelling.u2 x.0 ++ spelling.u2 x.1) (λ x. IsU2 x.0 × IsU2 x.1)
 unfolding pair_at
-pair_is = then {spell = λ (x : ℕ × ℕ). spelling.u2 x.1} {Fits = λ x. IsU2 x.1} {known = λ _. Unit {0}} (λ first. u2_at first.1 >>= λ second. Ok ((first.0, second.0), second.1)) u2_is (λ x. x.0) (λ a k. tt)
+pair_is = then {Fits = λ x. IsU2 x.1} {known = λ _. Unit {0}} _ u2_is (λ x. x.0) (λ a k. tt)
     (λ m k. wrapped {A = ℕ × ℕ} (λ n. (m, n)) u2_is (λ n f k. (refl, f, (tt, refl))) (λ a f k. (a.1, rw (← k.1) refl, f, tt)))
 
 wide_is : (at left : ℕ) → IsReader (wide_at at left) spelling.u8 (λ n. (0 < left) × IsU8 n)
@@ -213,8 +214,8 @@ integer_is : (left tag : ℕ) → tag ≡ 3 → IsPayload left tag (λ p. u4_at 
 integer_is left tag t = wrapped (λ x. Integer (cast_signed w32 x)) u4_is
     (λ x f k. (ap spelling.u4 (sym (of_z-to_z w32 x f)), record { fits = signed_32 x f; first = refl; room = λ e. no_room left e }, (tt, sym t)))
     (λ c f k. let g = is_integer c (k.1 ∙ t) in
-      let fits : FitsSigned w32 g.0 = subst FitsConst (sym g.1) f.fits in
-      (cast_unsigned w32 g.0, ap (λ (z : ℤ). Integer z) (to_z-of_z w32 g.0 fits) ∙ g.1, unsigned_32 g.0 fits, tt))
+    let fits : FitsSigned w32 g.0 = subst FitsConst (sym g.1) f.fits in
+    (cast_unsigned w32 g.0, ap (λ (z : ℤ). Integer z) (to_z-of_z w32 g.0 fits) ∙ g.1, unsigned_32 g.0 fits, tt))
 
 float_is : (left tag : ℕ) → tag ≡ 4 → IsPayload left tag (λ p. u4_at p >>= λ x. Ok (Float x.0, x.1))
 float_is left tag t = wrapped (λ x. Float x) u4_is
@@ -225,8 +226,8 @@ long_is : (at left tag : ℕ) → tag ≡ 5 → IsPayload left tag (λ p. wide_a
 long_is at left tag t = wrapped (λ x. Long (cast_signed w64 x)) (wide_is at left)
     (λ x f k. (ap spelling.u8 (sym (of_z-to_z w64 x f.1)), record { fits = signed_64 x f.1; first = refl; room = λ e. f.0 }, (tt, sym t)))
     (λ c f k. let g = is_long c (k.1 ∙ t) in
-      let fits : FitsSigned w64 g.0 = subst FitsConst (sym g.1) f.fits in
-      (cast_unsigned w64 g.0, ap (λ (z : ℤ). Long z) (to_z-of_z w64 g.0 fits) ∙ g.1, (f.room (ap takes_two (sym g.1)), unsigned_64 g.0 fits), tt))
+    let fits : FitsSigned w64 g.0 = subst FitsConst (sym g.1) f.fits in
+    (cast_unsigned w64 g.0, ap (λ (z : ℤ). Long z) (to_z-of_z w64 g.0 fits) ∙ g.1, (f.room (ap takes_two (sym g.1)), unsigned_64 g.0 fits), tt))
 
 double_is : (at left tag : ℕ) → tag ≡ 6 → IsPayload left tag (λ p. wide_at at left p >>= λ x. Ok (Double x.0, x.1))
 double_is at left tag t = wrapped (λ x. Double x) (wide_is at left)
@@ -340,8 +341,11 @@ tagged_is Second e = absurd (false≢true (sym e))
 
 constant_is : (left : ℕ) → IsReader (constant_at left) spelling.constant (Stands left)
 unfolding constant_at
-constant_is left = spelled_where {spell = λ c. spelling.u1 (tag_of c) ++ payload c} (said (then_from {spell = payload} {Fits = Stands left} {known = λ _. Unit {0}} (λ place tag. payload_at place.at left tag.0 tag.1) u1_is tag_of (λ c k. tt) (λ place tag k. payload_is place.at left tag))
-      (λ c f k. (f.1, tt)) (λ c f k. ((tag_small c, f), tt)))
+constant_is left = spelled_where {spell = λ c. spelling.u1 (tag_of c) ++ payload c} (said
+    (then_from {spell = payload} {Fits = Stands left} {known = λ _. Unit {0}} (λ place tag. payload_at place.at left tag.0 tag.1) u1_is tag_of (λ c k. tt)
+    (λ place tag k. payload_is place.at left tag))
+    (λ c f k. (f.1, tt))
+    (λ c f k. ((tag_small c, f), tt)))
     (λ c f k. tagged_is c f.first)
 
 -- ---- places
@@ -382,7 +386,8 @@ has_due second (c ∷ cs) h =
     let rest = has_due (takes_two c) cs h.1 in
     ((h.0, rest.1, rest.0), λ e. omega arith)
 
-places_takes : (second : Bool) (n : ℕ) (place : Place) (xs : List Const) (next : Place) → IsBytes place.rest → places_at second n place ≡ Ok (xs, next)
+places_takes : (second : Bool) (n : ℕ) (place : Place) (xs : List Const) (next : Place) → IsBytes place.rest
+    → places_at second n place ≡ Ok (xs, next)
     → Took place (flat_map spelling.constant xs) next × (Due second xs × AllByRecursion FitsConst xs) × (length xs ≡ n)
 unfolding places_at
 places_takes second zero place xs next fits e =
@@ -397,7 +402,8 @@ places_takes second (suc n) place xs next fits e =
     let made : List Const × Place = (a.0.0 ∷ b.0.0, b.0.1) in
     subst (λ (y : List Const × Place). Took place (flat_map spelling.constant y.0) y.1 × (Due second y.0 × AllByRecursion FitsConst y.0) × (length y.0 ≡ suc n)) (ok_is ClassFault made (xs, next) b.2) (both, ((first.1.first, room, others.1.0), (first.1.fits, others.1.1)), ap suc others.2)
 
-places_again : (xs : List Const) (second : Bool) (place : Place) (rest : List ℕ) → Due second xs → AllByRecursion FitsConst xs → place.rest ≡ flat_map spelling.constant xs ++ rest
+places_again : (xs : List Const) (second : Bool) (place : Place) (rest : List ℕ) → Due second xs → AllByRecursion FitsConst xs
+    → place.rest ≡ flat_map spelling.constant xs ++ rest
     → places_at second (length xs) place ≡ Ok (xs, after place (flat_map spelling.constant xs) rest)
 unfolding places_at
 places_again [] second place rest due fits e =
@@ -410,11 +416,12 @@ places_again (x ∷ xs) second place rest due fits e =
     let far : place.at + length (spelling.constant x) + length (flat_map spelling.constant xs) ≡ place.at + length (spelling.constant x ++ flat_map spelling.constant xs) = omega (arith, length-append (spelling.constant x) (flat_map spelling.constant xs)) in
     rw (one, two, far) refl
 
-places_is : (second : Bool) (n : ℕ) → IsTail (places_at second n) (λ xs. flat_map spelling.constant xs) (λ xs. Due second xs × AllByRecursion FitsConst xs) (λ xs. length xs ≡ n)
+places_is : (second : Bool) (n : ℕ) → IsTail (places_at second n) (λ xs. flat_map spelling.constant xs) (λ xs. Due second xs
+    × AllByRecursion FitsConst xs) (λ xs. length xs ≡ n)
 places_is second n = record {
   takes = λ place xs next fits e. places_takes second n place xs next fits e;
   again = λ place xs rest fits h e.
-  subst (λ (k : ℕ). places_at second k place ≡ Ok (xs, after place (flat_map spelling.constant xs) rest)) h (places_again xs second place rest fits.0 fits.1 e);
+      subst (λ (k : ℕ). places_at second k place ≡ Ok (xs, after place (flat_map spelling.constant xs) rest)) h (places_again xs second place rest fits.0 fits.1 e);
 }
 
 -- ---- indices
@@ -427,13 +434,15 @@ named_index : (pool : List Const) (kind : Kind) (index at : ℕ) → names kind 
 unfolding index_checked
 named_index pool kind index at h = holds_need (names kind pool index) (Index at) h
 
-pair_named : (pool : List Const) (kind : Kind) (m : ℕ) (other : Kind) (n at : ℕ) → pair_checked pool kind m other n at ≡ Ok tt → (names kind pool m ≡ true) × (names other pool n ≡ true)
+pair_named : (pool : List Const) (kind : Kind) (m : ℕ) (other : Kind) (n at : ℕ) → pair_checked pool kind m other n at ≡ Ok tt
+    → (names kind pool m ≡ true) × (names other pool n ≡ true)
 unfolding pair_checked
 pair_named pool kind m other n at e =
     let b = bind_ok (index_checked pool kind m (at + 1)) (λ _. index_checked pool other n (at + 3)) tt e in
     (index_named pool kind m (at + 1) b.1, index_named pool other n (at + 3) b.2)
 
-named_pair : (pool : List Const) (kind : Kind) (m : ℕ) (other : Kind) (n at : ℕ) → (names kind pool m ≡ true) × (names other pool n ≡ true) → pair_checked pool kind m other n at ≡ Ok tt
+named_pair : (pool : List Const) (kind : Kind) (m : ℕ) (other : Kind) (n at : ℕ)
+    → (names kind pool m ≡ true) × (names other pool n ≡ true) → pair_checked pool kind m other n at ≡ Ok tt
 unfolding pair_checked
 named_pair pool kind m other n at h = rw (named_index pool kind m (at + 1) h.0) (named_index pool other n (at + 3) h.1)
 
@@ -478,11 +487,12 @@ pub record IsPool (pool : List Const) : Type 0 where
 
 pub pool_is : IsReader pool_at (spelling.counted spelling.constant) IsPool
 unfolding pool_at
-pool_is = said (then {spell = λ (cs : List Const). flat_map spelling.constant cs} {Fits = λ cs. (Due true cs × AllByRecursion FitsConst cs) × AllByRecursion (IsNamed cs) cs} {known = λ _. Unit {0}}
-      (λ count. places_at true count.0 count.1 >>= λ pool. all_checked pool.0 pool.0 count.1.at >>= λ _. Ok pool) u2_is length (λ a k. tt)
-      (λ n k. checked (λ cs. AllByRecursion (IsNamed cs) cs) (λ p cs. all_checked cs cs p.at) (said (places_is true n) (λ a f k. (f, (tt, k))) (λ a f k. (f, k.1)))
-        (λ p cs e. all_named cs cs p.at e) (λ p cs h. named_all cs cs p.at h)))
-    (λ a f k. (record { count = f.0; each = f.1.0.1; due = f.1.0.0; named = f.1.1 }, tt)) (λ a f k. ((f.count, ((f.due, f.each), f.named)), tt))
+pool_is = said (then {Fits = λ cs. (Due true cs × AllByRecursion FitsConst cs) × AllByRecursion (IsNamed cs) cs} {known = λ _. Unit {0}} _ u2_is length (λ a k. tt)
+    (λ n k. checked (λ cs. AllByRecursion (IsNamed cs) cs) (λ p cs. all_checked cs cs p.at) (said (places_is true n) (λ a f k. (f, (tt, k))) (λ a f k. (f, k.1)))
+    (λ p cs e. all_named cs cs p.at e)
+    (λ p cs h. named_all cs cs p.at h)))
+    (λ a f k. (record { count = f.0; each = f.1.0.1; due = f.1.0.0; named = f.1.1 }, tt))
+    (λ a f k. ((f.count, ((f.due, f.each), f.named)), tt))
 
 -- A pool with a place is one of a class file.
 pub whole_pool : (pool : List Const) → 0 < length pool → IsPool pool → FitsPool pool

@@ -1,5 +1,5 @@
 -- Reading a class file from left to right: the tree and the place after it, or the first fault.
-use Rattle.std.specs.Prelude.{◌≡◌, ℕ, zero, suc, ◌+◌, ◌==◌, ◌||◌, ◌&&◌, Bool, true, false, List, [], ◌∷◌, length, take, drop, position, Option, Some, None, ok_or, Result, Ok, Err, nat_lt, nat_le, if◌then◌else◌}
+use Rattle.std.specs.Prelude.{◌≡◌, ℕ, zero, suc, ◌+◌, ◌==◌, ◌||◌, ◌&&◌, Bool, true, false, List, [], ◌∷◌, length, position, Option, Some, None, ok_or, Result, Ok, Err, nat_lt, nat_le, if◌then◌else◌}
 use Rattle.std.specs.Int.{w32, w64, cast_signed}
 use Rattle.mon_base.specs.Reading.{Place, part, bytes_at, number_at, ◌>>=◌, need, counted, whole}
 use Rattle.class_codec.specs.declared.fault.ClassFault.{ClassFault}
@@ -15,7 +15,7 @@ use Rattle.class_codec.specs.declared.tree.Attr.{Attr}
 use Rattle.class_codec.specs.declared.tree.Attr.TheVariants as attributes
 use Rattle.class_codec.specs.declared.tree.Member.{Member}
 use Rattle.class_codec.specs.declared.tree.ClassFile.{ClassFile}
-use Rattle.class_codec.specs.Pool.{names, utf8_at, is_code}
+use Rattle.class_codec.specs.Pool.{names}
 use Rattle.class_codec.specs.Spelling.{constant}
 use Rattle.class_codec.specs.Fits.{takes_two, is_read_as_code}
 
@@ -266,7 +266,20 @@ body_at minor pool p = do
   fields ← counted_at (member_at pool false) interfaces.1
   methods ← counted_at (member_at pool true) fields.1
   attrs ← counted_at (attribute_at pool false) methods.1
-  Ok (record { minor = minor; pool = pool; flags = flags.0; this_class = this_class.0; super_class = super_class.0; interfaces = interfaces.0; fields = fields.0; methods = methods.0; attrs = attrs.0 }, attrs.1)
+  Ok (
+    record {
+      minor = minor;
+      pool = pool;
+      flags = flags.0;
+      this_class = this_class.0;
+      super_class = super_class.0;
+      interfaces = interfaces.0;
+      fields = fields.0;
+      methods = methods.0;
+      attrs = attrs.0;
+    },
+    attrs.1,
+  )
 
 unfoldable pub class_at : Place → Read ClassFile
 class_at p = do

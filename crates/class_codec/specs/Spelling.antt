@@ -1,5 +1,5 @@
 -- The bytes of a class file, from its tree. (The Java Virtual Machine Specification, chapter 4.)
-use Rattle.std.specs.Prelude.{ℕ, List, [], ◌∷◌, ◌++◌, length}
+use Rattle.std.specs.Prelude.{ℕ, List, [], ◌++◌, length}
 use Rattle.std.specs.List.{flat_map}
 use Rattle.std.specs.Int.{w32, w64, cast_unsigned}
 use Rattle.byteorder.specs.Endian.{big_bytes}

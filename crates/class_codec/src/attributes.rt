@@ -1,7 +1,8 @@
 //! Reading attributes. (The Java Virtual Machine Specification, section 4.7.)
 
 ghost use Rattle.std.specs.Prelude.{◌≡◌};
-ghost use Rattle.class_codec.specs.Reading.{Reads, ReadsAs, index_at, other_at, caught_at, table_entry_at, code_len_at, instructions_at, contents_at, code_at, named_at, attribute_at, member_at};
+ghost use Rattle.class_codec.specs.Reading.{Reads, ReadsAs, index_at, other_at, caught_at, table_entry_at, code_len_at};
+ghost use Rattle.class_codec.specs.Reading.{instructions_at, contents_at, code_at, named_at, attribute_at, member_at};
 ghost use Rattle.class_codec.specs.declared.pool.Kind.TheVariants as kinds;
 
 use crate::fault::ClassFault;
@@ -124,12 +125,7 @@ fn named(
 
 /// A Code attribute after its name. Its contents end exactly at its length.
 #[tactic(auto, unfolding(crate::specs::Reading::code_at))]
-fn code(
-    alloc: Global,
-    pool: &[Const],
-    name: u16,
-    from: &mut Cursor,
-) -> Result<Code, ClassFault>
+fn code(alloc: Global, pool: &[Const], name: u16, from: &mut Cursor) -> Result<Code, ClassFault>
     ensures { Reads result (code_at pool.now name from.old) from.new }
 {
     let len = u4(from)?;
@@ -145,12 +141,7 @@ fn code(
 
 /// What stands in a Code attribute.
 #[tactic(auto, unfolding(crate::specs::Reading::contents_at))]
-fn contents(
-    alloc: Global,
-    pool: &[Const],
-    name: u16,
-    from: &mut Cursor,
-) -> Result<Code, ClassFault>
+fn contents(alloc: Global, pool: &[Const], name: u16, from: &mut Cursor) -> Result<Code, ClassFault>
     ensures { Reads result (contents_at pool.now name from.old) from.new }
 {
     let max_stack = u2(from)?;

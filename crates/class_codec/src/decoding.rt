@@ -1,6 +1,7 @@
 //! Reading class files. (The Java Virtual Machine Specification, section 4.1.)
 
-ghost use Rattle.std.specs.Prelude.{◌≡◌, ◌≤◌, length, Ok, IfOk};
+ghost use Rattle.std.specs.Prelude.{◌≡◌, ◌<◌, ◌≤◌, length, Ok, Err, IfOk};
+ghost use Rattle.class_codec.specs.declared.fault.ClassFault.TheVariants.{TooLong};
 ghost use Rattle.class_codec.specs.Fits.{SpellsClass};
 ghost use Rattle.class_codec.specs.Reading.{Reads, Answers, head_at, body_at, class_at, class_of};
 
@@ -98,7 +99,9 @@ pub fn decode(alloc: Global, bytes: &[u8]) -> Result<ClassFile, ClassFault>
     ensures found { IfOk result (λ file. SpellsClass bytes.now file) }
     // What is spelled so is read, unless memory runs out.
     ensures only { (file : ClassFile) → SpellsClass bytes.now file → length bytes.now ≤ 1048576 → Answers result (Ok file) }
-    // Which fault it is.
+    // More bytes than a class file may have are refused before all else.
+    ensures too_long { 1048576 < length bytes.now → Answers result (Err (TooLong (length bytes.now))) }
+    // Which fault it is: the first that reading meets.
     ensures exact { Answers result (class_of bytes.now) }
 {
     all(alloc, bytes)

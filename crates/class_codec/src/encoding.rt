@@ -2,7 +2,8 @@
 
 ghost use Rattle.std.specs.Prelude.{◌≡◌, ℕ, List, ◌++◌, ◌∷◌, [], length, OnOk, IfOk};
 ghost use Rattle.std.specs.List.{flat_map};
-ghost use Rattle.class_codec.specs.Spelling.{u1, u2, u4, u8, block, counted, constant, table_entry, other, contents, attribute, member, body, spelling};
+ghost use Rattle.class_codec.specs.Spelling.{u1, u2, u4, u8, block, counted, constant, table_entry, other};
+ghost use Rattle.class_codec.specs.Spelling.{contents, attribute, member, body, spelling};
 ghost use Rattle.class_codec.specs.Fits.{CanSpell, SpellsClass};
 ghost use Rattle.class_codec.specs.declared.tree.ClassFile.{ClassFile};
 
@@ -252,5 +253,4 @@ pub fn encode(alloc: Global, file: &ClassFile) -> Result<Bytes, NoMemory>
 pub fn one_tree()
     ensures tree { (bytes : List ℕ) (f g : ClassFile) → SpellsClass bytes f → SpellsClass bytes g → f ≡ g }
     ensures file { (a b : List ℕ) (f : ClassFile) → SpellsClass a f → SpellsClass b f → a ≡ b }
-{
-}
+{}

@@ -6,16 +6,25 @@
 
 mod attributes;
 mod constants;
+mod copying;
 mod decoding;
 mod encoding;
 mod fault;
+mod indices;
 mod items;
 mod place;
 mod pool;
 mod tree;
 
+pub use copying::{Copied, copy_list};
 pub use decoding::{MAX_LEN, decode};
 pub use encoding::{encode, one_tree};
 pub use fault::ClassFault;
-pub use pool::{Kind, is_of, names, names_code, utf8_at};
+pub use pool::{
+    Kind, Reference, class_name_at, is_of, name_and_type_at, names, names_code, reference_at,
+    utf8_at,
+};
 pub use tree::{Attr, ClassFile, Code, Const, Member, Other, TableEntry};
+
+#[cfg(test)]
+mod tests;

@@ -9,6 +9,7 @@ use crate::tree::Const;
 use mon_base::{Bytes, Cursor};
 use std::alloc::Global;
 
+/// A number of one byte.
 #[tactic(auto, unfolding(crate::specs::Reading::u1_at))]
 pub fn u1(from: &mut Cursor) -> Result<u8, ClassFault>
     ensures reads { Reads result (u1_at from.old) from.new }
@@ -18,6 +19,7 @@ pub fn u1(from: &mut Cursor) -> Result<u8, ClassFault>
     from.u1().ok_or(ClassFault::Short { at })
 }
 
+/// A number of two bytes.
 #[tactic(auto, unfolding(crate::specs::Reading::u2_at))]
 pub fn u2(from: &mut Cursor) -> Result<u16, ClassFault>
     ensures reads { Reads result (u2_at from.old) from.new }
@@ -27,6 +29,7 @@ pub fn u2(from: &mut Cursor) -> Result<u16, ClassFault>
     from.u2().ok_or(ClassFault::Short { at })
 }
 
+/// A number of four bytes.
 #[tactic(auto, unfolding(crate::specs::Reading::u4_at))]
 pub fn u4(from: &mut Cursor) -> Result<u32, ClassFault>
     ensures reads { Reads result (u4_at from.old) from.new }
@@ -36,6 +39,7 @@ pub fn u4(from: &mut Cursor) -> Result<u32, ClassFault>
     from.u4().ok_or(ClassFault::Short { at })
 }
 
+/// A number of eight bytes.
 #[tactic(auto, unfolding(crate::specs::Reading::u8_at))]
 pub fn u8(from: &mut Cursor) -> Result<u64, ClassFault>
     ensures reads { Reads result (u8_at from.old) from.new }

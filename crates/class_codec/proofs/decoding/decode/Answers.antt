@@ -1,5 +1,5 @@
 use Rattle.std.proofs.Common.{arith}
-use Rattle.class_codec.proofs.FileLaws.{is_found, is_only}
+use Rattle.class_codec.proofs.FileLaws.{is_found, is_only, is_long}
 use Rattle.class_codec.proofs.decoding.decode.Goals as goal
 
 pub returns-clause-found : goal.returns-clause-found
@@ -7,3 +7,6 @@ returns-clause-found c = is_found c.args.bytes.now c.all.result (λ i. omega (ar
 
 pub returns-clause-only : goal.returns-clause-only
 returns-clause-only c = λ file spells short. is_only c.args.bytes.now c.all.result file c.all.ensures spells short
+
+pub returns-clause-too_long : goal.returns-clause-too_long
+returns-clause-too_long c = λ long. is_long c.args.bytes.now c.all.result c.all.ensures long

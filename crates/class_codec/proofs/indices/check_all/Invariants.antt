@@ -2,7 +2,7 @@ use Rattle.std.proofs.Common.{◌≡◌, ◌+◌, length}
 use Rattle.std.specs.List.{flat_map}
 use Rattle.class_codec.specs.Spelling.{constant}
 use Rattle.class_codec.specs.Reading.{all_checked}
-use Rattle.class_codec.proofs.constants.check_all.Given as goal
+use Rattle.class_codec.proofs.indices.check_all.Given as goal
 
 abbrev pub invariant-loop-left : goal.invariant-loop-left
 invariant-loop-left l = (all_checked l.pool l.left l.at ≡ all_checked l.pool l.pool l.start)
