@@ -7,3 +7,4 @@ pub mod Listings
 pub mod Numbers
 pub mod Denied
 pub mod Policies
+pub mod Called
