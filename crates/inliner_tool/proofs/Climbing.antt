@@ -1,6 +1,6 @@
 -- From a class upwards, one class after the other.
-use Rattle.std.proofs.Common.{◌≡◌, ℕ, zero, suc, ◌+◌, ◌-◌, ◌<◌, Bool, List, [], ◌∷◌, ◌++◌, Option, Some, None, refl, sym, ap, ◌∙◌, arith}
-use Rattle.std.specs.Option.{option_or, option_map_or}
+use Rattle.std.proofs.Common.{◌≡◌, ℕ, suc, ◌+◌, ◌-◌, ◌<◌, List, [], ◌∷◌, ◌++◌, Option, Some, None, refl, sym, ap, ◌∙◌, arith}
+use Rattle.std.specs.Option.{option_or}
 use Rattle.inliner_tool.specs.declared.listing.ListedClass.{ListedClass}
 use Rattle.inliner_tool.specs.declared.listing.ListedMethod.{ListedMethod}
 use Rattle.inliner_tool.specs.declared.listing.lookup.Declared.{Declared}

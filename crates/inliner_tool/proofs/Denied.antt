@@ -1,5 +1,5 @@
 -- The clauses of denied methods, one after the other.
-use Rattle.std.proofs.Common.{◌≡◌, ◌≢◌, ℕ, zero, suc, ◌+◌, ◌<◌, ◌≤◌, Bool, true, false, List, [], ◌∷◌, ◌++◌, length, get_or, drop, map, All, Option, Some, None, refl, sym, ap, ◌∙◌, subst, append_assoc, arith, ◌⊎◌, inl, inr, ◌&&◌, ◌||◌, eqb}
+use Rattle.std.proofs.Common.{◌≡◌, ◌≢◌, ℕ, zero, suc, ◌<◌, ◌≤◌, Bool, true, false, List, [], ◌∷◌, ◌++◌, length, get_or, drop, map, All, Option, Some, None, refl, sym, ap, ◌∙◌, subst, append_assoc, arith, inl, inr, ◌&&◌, ◌||◌, eqb}
 use Rattle.std.specs.Prelude.{codes, bytes_eq, slice_get, AllPairs, IsTrue, IsSomeAnd, Contains}
 use Rattle.std.specs.List.{flat_map, list_all, list_any, join_with_byte}
 use Rattle.std.specs.Option.{option_map, option_map_or}
@@ -14,13 +14,13 @@ use Rattle.std.proofs.lemmas.List.Elements.{All-push}
 use Rattle.std.proofs.lemmas.List.Quantifiers.{all_pairs_push}
 use Rattle.std.proofs.lemmas.List.Splits.{join_with_byte-slice_split}
 use Rattle.std.proofs.lemmas.Grind.{flat_map-append}
-use Rattle.std.proofs.lemmas.Option.{slice_get-map, get_or_from_slice_get, slice_get_past}
+use Rattle.std.proofs.lemmas.Option.{slice_get-map, get_or_from_slice_get}
 use Rattle.mon_base.specs.declared.method.MethodId.{MethodId}
 use Rattle.inliner_tool.specs.declared.listing.ListedMethod.{ListedMethod}
 use Rattle.inliner_tool.specs.declared.policy.clauses.Clause.{Clause}
 use Rattle.inliner_tool.specs.Words.{pieces}
 use Rattle.inliner_tool.specs.Policy.{is_policy_name, may_deny, dotted, clause, clause_at, MayDeny}
-use Rattle.inliner_tool.specs.Clauses.{clause_for, AreClauses}
+use Rattle.inliner_tool.specs.Clauses.{clause_for, BeginsWith, AreClauses}
 use Rattle.inliner_tool.proofs.Lists.{Once}
 use Rattle.inliner_tool.proofs.Names.{id_is}
 
@@ -179,15 +179,15 @@ empty : (left : List (List ℕ)) → 0 < length left → left ≡ [] → ⊥
 empty left long none = let e = ap length none in omega (arith, e)
 
 none_stands : (methods : List ListedMethod) (left : List (List ℕ)) (more : List ℕ) → All (MayDeny methods) more → left ≡ flat_map (clause_at methods) more → 0 < length left
-    → ((m : ℕ) (c : Clause) (rest : List (List ℕ)) → slice_get (map clause_for methods) m ≡ Some c → IsTrue c.may_stand → left ≡ c.tokens ++ rest → ⊥) → ⊥
+    → ((m : ℕ) (c : Clause) (rest : List (List ℕ)) → slice_get (map clause_for methods) m ≡ Some c → BeginsWith c left rest → ⊥) → ⊥
 none_stands methods left [] may is long none = empty left long is
 none_stands methods left (m ∷ more) may is long none =
     let d = some_is (slice_get methods m) (all_front (MayDeny methods) m more may) in
-    none m (clause_for d.0) (flat_map (clause_at methods) more) (slice_get-map clause_for methods m ∙ ap (option_map clause_for) d.1) d.2 (is ∙ ap (λ t. t ++ flat_map (clause_at methods) more) (clause_at_is methods m d.0 d.1))
+    none m (clause_for d.0) (flat_map (clause_at methods) more) (slice_get-map clause_for methods m ∙ ap (option_map clause_for) d.1) (d.2, is ∙ ap (λ t. t ++ flat_map (clause_at methods) more) (clause_at_is methods m d.0 d.1))
 
 -- no clause stands where tokens are left that are none
 pub no_clause : (methods : List ListedMethod) → Once (λ m. m.id) methods → (tokens left : List (List ℕ)) (denied other : List ℕ) → AreRead methods tokens denied left → 0 < length left
-    → ((m : ℕ) (c : Clause) (rest : List (List ℕ)) → slice_get (map clause_for methods) m ≡ Some c → IsTrue c.may_stand → left ≡ c.tokens ++ rest → ⊥) → AreClauses methods tokens other → ⊥
+    → ((m : ℕ) (c : Clause) (rest : List (List ℕ)) → slice_get (map clause_for methods) m ≡ Some c → BeginsWith c left rest → ⊥) → AreClauses methods tokens other → ⊥
 no_clause methods once tokens left denied other so_far long none are =
     let on = others_go_on methods once tokens left denied other so_far are in
     none_stands methods left on.0 (all_behind (MayDeny methods) denied on.0 (subst (All (MayDeny methods)) on.1 are.listed)) on.2 long none

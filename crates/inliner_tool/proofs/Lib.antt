@@ -1,3 +1,4 @@
+pub mod Called
 pub mod CertificateNames
 pub mod Climbing
 pub mod CodeBytes

@@ -1,14 +1,12 @@
 -- One text spells one listing.
-use Rattle.std.proofs.Common.{◌≡◌, ℕ, Bool, true, false, List, [], ◌∷◌, ◌++◌, map, refl, sym, ap, ◌∙◌, arith}
-use Rattle.std.specs.Prelude.{filter, codes}
+use Rattle.std.proofs.Common.{◌≡◌, ℕ, List, [], ◌∷◌, map, refl, sym, ap, ◌∙◌}
 use Rattle.std.proofs.lemmas.List.{append_cancel_right}
 use Rattle.inliner_tool.specs.declared.fault.FormFault.{FormFault}
 use Rattle.inliner_tool.specs.declared.fault.FormFault.TheVariants as faults
 use Rattle.inliner_tool.specs.declared.listing.Listing.{Listing}
 use Rattle.inliner_tool.specs.declared.listing.lines.Line.{Line}
 use Rattle.inliner_tool.specs.declared.listing.lines.Line.TheVariants.{Class, Static}
-use Rattle.inliner_tool.specs.Words.{pieces}
-use Rattle.inliner_tool.specs.Lines.{says_something, words_of, Says}
+use Rattle.inliner_tool.specs.Lines.{words_of, Says}
 use Rattle.inliner_tool.specs.Listing.{listing_of, SpellsListing}
 use Rattle.inliner_tool.proofs.Said.{said_in}
 

@@ -1,5 +1,5 @@
 -- The decimal text of a number tells the number.
-use Rattle.std.proofs.Common.{◌≡◌, ℕ, ◌+◌, ◌<◌, ◌^◌, List, [], ◌∷◌, map, ℤ, pos, negsuc, ◌<ℤ◌, ◌≤ℤ◌, ◌⊎◌, inl, inr, FitsSigned, sym, ap, ◌∙◌, arith, get_or, subst, suc}
+use Rattle.std.proofs.Common.{◌≡◌, ℕ, ◌+◌, List, [], ◌∷◌, map, ℤ, pos, negsuc, FitsSigned, sym, ap, ◌∙◌, arith, get_or, subst, suc}
 use Rattle.std.specs.Fmt.{signed_decimal, decimal}
 use Rattle.std.specs.Int.{w64}
 use Rattle.std.specs.Int.Digits.{digits_of}

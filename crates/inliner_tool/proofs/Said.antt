@@ -1,12 +1,11 @@
 -- What lines say, one line after the other.
-use Rattle.std.proofs.Common.{◌≡◌, ℕ, Bool, true, false, List, [], ◌∷◌, ◌++◌, length, map, get_or, take, ◌+◌, ◌<◌, Option, Some, None, refl, sym, ap, ◌∙◌, append_assoc}
+use Rattle.std.proofs.Common.{◌≡◌, ℕ, true, List, [], ◌∷◌, ◌++◌, length, map, get_or, take, ◌+◌, ◌<◌, Option, Some, None, refl, sym, ap, ◌∙◌, append_assoc}
 use Rattle.std.specs.Prelude.{filter}
 use Rattle.std.specs.List.{filter_map}
 use Rattle.std.specs.Option.{option_to_list}
 use Rattle.std.proofs.lemmas.List.{take_more}
 use Rattle.std.proofs.lemmas.List.Elements.{filter_map-append}
 use Rattle.inliner_tool.specs.declared.listing.lines.Line.{Line}
-use Rattle.inliner_tool.specs.declared.listing.lines.Line.TheVariants.{Class, Static}
 use Rattle.inliner_tool.specs.Words.{pieces}
 use Rattle.inliner_tool.specs.Lines.{says_something, words_of}
 

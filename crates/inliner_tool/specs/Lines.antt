@@ -1,5 +1,5 @@
 -- The lines of a listing.
-use Rattle.std.specs.Prelude.{◌≡◌, ℕ, ◌≤◌, Bool, true, false, ◌==◌, not, List, [], ◌∷◌, ◌++◌, length, map, filter, codes}
+use Rattle.std.specs.Prelude.{◌≡◌, ℕ, ◌≤◌, Bool, false, ◌==◌, not, List, [], ◌∷◌, ◌++◌, length, map, filter, codes}
 use Rattle.inliner_tool.specs.declared.listing.lines.Line.{Line}
 use Rattle.inliner_tool.specs.declared.listing.lines.Line.TheVariants.{Class, Static}
 use Rattle.inliner_tool.specs.Words.{pieces}

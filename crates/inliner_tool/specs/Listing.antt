@@ -1,7 +1,6 @@
 -- What a listing is, and which listing a text spells.
-use Rattle.std.specs.Prelude.{◌≡◌, ◌≢◌, ℕ, ◌≤◌, Bool, true, false, List, [], ◌∷◌, ◌++◌, length, codes, AllPairs, bytes_eq, not, ◌&&◌, ◌==◌, Option, Some, None, IsTrue}
+use Rattle.std.specs.Prelude.{◌≡◌, ◌≢◌, ℕ, ◌≤◌, Bool, true, false, List, [], ◌++◌, length, codes, AllPairs, bytes_eq, not, ◌&&◌, ◌==◌, Option, Some, None, IsTrue}
 use Rattle.std.specs.List.{filter_map, list_any, list_all}
-use Rattle.mon_base.specs.declared.method.MethodId.{MethodId}
 use Rattle.inliner_tool.specs.declared.listing.ListedClass.{ListedClass}
 use Rattle.inliner_tool.specs.declared.listing.ListedMethod.{ListedMethod}
 use Rattle.inliner_tool.specs.declared.listing.Listing.{Listing}

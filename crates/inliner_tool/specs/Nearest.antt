@@ -1,5 +1,5 @@
 -- Where a method is declared, from a class upwards.
-use Rattle.std.specs.Prelude.{ℕ, zero, suc, Bool, true, false, List, [], ◌∷◌, ◌++◌, length, map, find, bytes_eq, Option, Some, None}
+use Rattle.std.specs.Prelude.{◌≡◌, ⊤, slice_get, IsSomeAnd, ℕ, zero, suc, Bool, true, false, List, [], ◌∷◌, ◌++◌, length, map, find, bytes_eq, Option, Some, None}
 use Rattle.std.specs.List.{flat_map, position_from}
 use Rattle.std.specs.Option.{option_or, option_map_or}
 use Rattle.inliner_tool.specs.declared.listing.ListedClass.{ListedClass}
@@ -18,6 +18,11 @@ abbrev pub listed_or_built_in : Option ℕ → Bool → Option Declared
 listed_or_built_in (Some at) built_in = Some (Listed at)
 listed_or_built_in None true = Some BuiltIn
 listed_or_built_in None false = None
+
+-- A listed method has the name and the descriptor.
+abbrev pub IsCalled : List ListedMethod → List ℕ → List ℕ → Declared → Type 0
+IsCalled methods name desc (Listed at) = IsSomeAnd (slice_get methods at) (λ m. (m.id.name ≡ name) × (m.id.desc ≡ desc))
+IsCalled methods name desc BuiltIn = ⊤
 
 -- how the very class declares the method
 abbrev pub declared_in : List ListedMethod → List ℕ → List ℕ → List ℕ → Option Declared

@@ -1,11 +1,11 @@
 //! Where a method is declared, from a class upwards.
 
-ghost use Rattle.std.specs.Prelude.{◌≡◌, ◌<◌, ◌^◌, length};
+ghost use Rattle.std.specs.Prelude.{◌≡◌, ◌<◌, ◌^◌, length, IfSome};
 ghost use Rattle.std.specs.List.{position_from};
 ghost use Rattle.std.specs.Option.{option_copied};
 ghost use Rattle.inliner_tool.specs.Listing.{is_known};
 ghost use Rattle.inliner_tool.specs.BuiltIn.{is_method};
-ghost use Rattle.inliner_tool.specs.Nearest.{class_named, declared_in, first_declared, upwards, names_of, interfaces_of, nearest_of};
+ghost use Rattle.inliner_tool.specs.Nearest.{class_named, declared_in, first_declared, upwards, names_of, interfaces_of, nearest_of, IsCalled};
 
 use crate::listing::built_in::is_built_in;
 use crate::listing::{ListedClass, ListedMethod, Listing};
@@ -42,7 +42,9 @@ pub fn is_named(classes: &[ListedClass], name: &[u8]) -> bool
 /// where no class has the name. It takes no memory.
 pub fn nearest(listing: &Listing, class: &[u8], name: &[u8], desc: &[u8]) -> Option<Declared>
     requires { length listing.now.methods < 2 ^ 32 }
-    ensures { result ≡ nearest_of listing.now class.now name.now desc.now }
+    ensures value { result ≡ nearest_of listing.now class.now name.now desc.now }
+    // What is listed has an entry in the listing, with this name and descriptor.
+    ensures called { IfSome result (IsCalled listing.now.methods name.now desc.now) }
 {
     match nearest_class(listing, class, name, desc) {
         Some(declared) => Some(declared),

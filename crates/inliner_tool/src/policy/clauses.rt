@@ -1,11 +1,13 @@
 //! The clauses of a policy of denied methods.
 
-ghost use Rattle.std.specs.Prelude.{◌≡◌, ◌==◌, ◌≢◌, ◌<◌, ◌^◌, ◌++◌, ◌∷◌, [], ℕ, List, Some, OnOk, map, length, AllPairs, slice_get, IsSomeAnd, IfOk, IfSome, IfNone, IsErrOf, IsTrue};
-ghost use Rattle.std.specs.List.{flat_map, list_any};
+ghost use Rattle.std.specs.Prelude.{◌≡◌, ◌==◌, ◌≢◌, ◌<◌, ◌^◌, ◌++◌, ◌∷◌, [], ℕ, List, Some, map, length};
+ghost use Rattle.std.specs.List.{AllPairs, flat_map, list_any, slice_get};
+ghost use Rattle.std.specs.Option.{IfSome, IfNone, IsSomeAnd};
+ghost use Rattle.std.specs.Result.{IfOk, OnOk, IsErrOf};
 ghost use Rattle.inliner_tool.specs.declared.fault.FormFault.TheVariants as faults;
 ghost use Rattle.inliner_tool.specs.declared.policy.clauses.Clause.{Clause};
 ghost use Rattle.inliner_tool.specs.Policy.{dotted, clause, may_deny};
-ghost use Rattle.inliner_tool.specs.Clauses.{clause_for, AreClauses};
+ghost use Rattle.inliner_tool.specs.Clauses.{clause_for, BeginsWith, AreClauses};
 
 use crate::fault::FormFault;
 use crate::listing::{ListedMethod, pieces};
@@ -67,9 +69,9 @@ fn is_among(methods: &[u32], method: u32) -> bool
 
 fn first_clause<'a>(tokens: &'a [Bytes], clauses: &[Clause]) -> Option<(u32, &'a [Bytes])>
     requires { length clauses.now < 2 ^ 32 }
-    ensures found { IfSome result (λ r. IsSomeAnd (slice_get clauses.now r.0) (λ c. IsTrue c.may_stand × (tokens.now ≡ c.tokens ++ r.1.now))) }
-    ensures none { IfNone result ((m : ℕ) (c : Clause) (rest : List (List ℕ)) → slice_get clauses.now m ≡ Some c → IsTrue c.may_stand
-        → tokens.now ≡ c.tokens ++ rest → ⊥) }
+    ensures found { IfSome result (λ r. IsSomeAnd (slice_get clauses.now r.0) (λ c. BeginsWith c tokens.now r.1.now)) }
+    ensures none { IfNone result ((m : ℕ) (c : Clause) (rest : List (List ℕ)) → slice_get clauses.now m ≡ Some c
+        → BeginsWith c tokens.now rest → ⊥) }
 {
     for (i, clause) in clauses.iter().enumerate() {
         if clause.may_stand {

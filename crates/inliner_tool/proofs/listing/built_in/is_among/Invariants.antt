@@ -1,4 +1,4 @@
-use Rattle.std.proofs.Common.{◌≡◌, take, false, true}
+use Rattle.std.proofs.Common.{◌≡◌, take, false}
 use Rattle.std.specs.List.{list_any}
 use Rattle.inliner_tool.specs.BuiltIn.{is_row}
 use Rattle.inliner_tool.proofs.listing.built_in.is_among.Given as goal

@@ -1,4 +1,4 @@
-use Rattle.std.proofs.Common.{◌≡◌, take, false, true}
+use Rattle.std.proofs.Common.{◌≡◌, take, false}
 use Rattle.inliner_tool.specs.Listing.{is_known}
 use Rattle.inliner_tool.proofs.listing.lookup.is_named.Given as goal
 

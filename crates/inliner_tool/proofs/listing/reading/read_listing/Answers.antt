@@ -1,8 +1,8 @@
-use Rattle.std.proofs.Common.{◌≡◌, ◌∙◌, sym, ap, false, true, subst}
+use Rattle.std.proofs.Common.{◌≡◌, ◌∙◌, sym, ap, subst}
 use Rattle.std.proofs.lemmas.Result.{err_from_is_err_and}
 use Rattle.std.proofs.lemmas.Bool.{false≢true}
 use Rattle.inliner_tool.specs.Listing.{listing_of, IsSound}
-use Rattle.inliner_tool.proofs.Listings.{says_one, spells_one, memory}
+use Rattle.inliner_tool.proofs.Listings.{says_one, memory}
 use Rattle.inliner_tool.proofs.listing.reading.read_listing.Goals as goal
 
 pub returns-in_err-said-clause-refused : goal.returns-in_err-said-clause-refused

@@ -1,12 +1,10 @@
-use Rattle.std.proofs.Common.{◌≡◌, ◌∙◌, ap, ◌||◌, sym}
+use Rattle.std.proofs.Common.{◌∙◌, ap, ◌||◌}
 use Rattle.std.specs.Prelude.{bytes_eq}
 use Rattle.std.specs.Ordering.{is_eq, nat_cmp}
 use Rattle.std.specs.Cmp.Lexicographic.{slice_cmp}
 use Rattle.std.proofs.lemmas.Map.Text.{is_eq-slice_cmp}
-use Rattle.inliner_tool.specs.BuiltIn.{is_method}
-use Rattle.inliner_tool.specs.Seen.{has_name, has_id}
+use Rattle.inliner_tool.specs.Seen.{has_name}
 use Rattle.inliner_tool.proofs.Lists.{cond_or}
-use Rattle.inliner_tool.proofs.Names.{id_cmp-is}
 use Rattle.inliner_tool.proofs.listing.seen.add_name.Goals as goal
 
 pub returns-clause-added : goal.returns-clause-added

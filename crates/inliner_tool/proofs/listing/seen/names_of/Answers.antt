@@ -1,9 +1,7 @@
-use Rattle.std.proofs.Common.{◌≡◌, ◌∙◌, ap, ◌||◌, sym, true, false}
+use Rattle.std.proofs.Common.{◌∙◌, ap, ◌||◌, sym}
 use Rattle.std.specs.Prelude.{bytes_eq}
-use Rattle.std.proofs.lemmas.Bool.{false≢true}
-use Rattle.inliner_tool.specs.BuiltIn.{is_method}
 use Rattle.inliner_tool.proofs.Lists.{not_false, not_true, any_more, once_more, not_once}
-use Rattle.inliner_tool.proofs.Names.{name_exact, id_exact}
+use Rattle.inliner_tool.proofs.Names.{name_exact}
 use Rattle.inliner_tool.proofs.listing.seen.names_of.Goals as goal
 
 pub returns-then-not-branch : goal.returns-then-not-branch

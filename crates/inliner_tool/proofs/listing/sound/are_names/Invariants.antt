@@ -1,4 +1,4 @@
-use Rattle.std.proofs.Common.{◌≡◌, take, false, true}
+use Rattle.std.proofs.Common.{◌≡◌, take, true}
 use Rattle.std.specs.List.{list_all}
 use Rattle.inliner_tool.specs.Listing.{may_name}
 use Rattle.inliner_tool.proofs.listing.sound.are_names.Given as goal

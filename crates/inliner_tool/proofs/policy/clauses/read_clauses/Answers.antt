@@ -1,9 +1,7 @@
-use Rattle.std.proofs.Common.{◌≡◌, ◌++◌, ◌∷◌, [], ◌∙◌, sym, ap, subst, arith, map, length, ◌+◌, rules, eqb, true, false}
+use Rattle.std.proofs.Common.{◌≡◌, ◌++◌, ◌∙◌, sym, ap, subst, arith, length, ◌+◌, eqb}
 use Rattle.std.specs.List.{list_any}
 use Rattle.std.specs.Prelude.{slice_get, IsSomeAnd, IsTrue}
 use Rattle.std.proofs.lemmas.List.{length_push}
-use Rattle.inliner_tool.specs.declared.policy.clauses.Clause.{Clause}
-use Rattle.inliner_tool.specs.Clauses.{clause_for}
 use Rattle.inliner_tool.proofs.Denied.{AreRead, found_is, read_more, no_clause, twice, too_many, has, hasnt, not_empty}
 use Rattle.inliner_tool.proofs.policy.clauses.read_clauses.Goals as goal
 
@@ -37,7 +35,7 @@ returns-in-None-clause-refused c =
     λ refused other are.
     no_clause c.args.methods.now c.requires.once c.args.tokens.now c.loop.left.now c.loop.denied other c.loop.invariant.0
     (not_empty (length c.loop.left.now) (sym c.is_empty.ensures ∙ c.if-is_empty.false))
-    (λ m e rest at may is. none m e rest (ap (λ cs. slice_get cs m) clauses ∙ at) may is) are
+    (λ m e rest at begins. none m e rest (ap (λ cs. slice_get cs m) clauses ∙ at) begins) are
 
 pub returns-clause-refused : goal.returns-clause-refused
 returns-clause-refused c =
