@@ -3,6 +3,7 @@ pub mod CertificateNames
 pub mod Climbing
 pub mod CodeBytes
 pub mod Denied
+pub mod FirstCall
 pub mod FrameTypes
 pub mod Laws
 pub mod LinkedCode

@@ -119,9 +119,16 @@ stepped program machine step =
 
 -- ---- lists of steps
 
+abbrev pub first_frame : Program → Frame
+first_frame program = record { class = program.main_class; method = program.main_method; at = 0 }
+
+-- a step without an answer
+abbrev pub alone : ℕ → Step
+alone thread = record { thread = thread; choice = Alone }
+
 -- thread 0 stands at the first instruction of the main method
 abbrev pub start : Program → Machine
-start program = record { threads = resting (record { class = program.main_class; method = program.main_method; at = 0 } ∷ []) ∷ [] }
+start program = record { threads = resting (first_frame program ∷ []) ∷ [] }
 
 -- the machine after the steps, where one that is not enabled changes nothing
 abbrev pub exec_from : List Step → Program → Machine → Machine

@@ -8,6 +8,7 @@ pub mod fault;
 mod inputs;
 pub mod linking;
 pub mod listing;
+pub mod machine;
 pub mod policy;
 pub mod program;
 mod tool;
