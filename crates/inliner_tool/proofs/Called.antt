@@ -7,7 +7,7 @@ use Rattle.inliner_tool.specs.declared.listing.Listing.{Listing}
 use Rattle.inliner_tool.specs.declared.listing.ListedMethod.{ListedMethod}
 use Rattle.inliner_tool.specs.declared.listing.lookup.Declared.{Declared}
 use Rattle.inliner_tool.specs.BuiltIn.{is_method, is_built_in}
-use Rattle.inliner_tool.specs.Nearest.{IsCalled, listed_or_built_in, declared_in, first_declared, nearest_of}
+use Rattle.inliner_tool.specs.Nearest.{IsCalled, listed_or_built_in, found_in, first_found, nearest_of}
 use Rattle.inliner_tool.proofs.Names.{method_is}
 
 -- an item at place k of the list, which begins at place n, passes the test
@@ -44,10 +44,10 @@ either : {X : Type 0} (P : X → Type 0) (o p : Option X) → IfSome o P → IfS
 either P None p a b = b
 either P (Some x) p a b = a
 
-first_called : (methods : List ListedMethod) (name desc : List ℕ) (classes : List (List ℕ)) → IfSome (first_declared methods name desc classes) (IsCalled methods name desc)
+first_called : (methods : List ListedMethod) (name desc : List ℕ) (classes : List (List ℕ)) → IfSome (first_found methods name desc classes) (IsCalled methods name desc)
 first_called methods name desc [] = tt
 first_called methods name desc (class ∷ classes) =
-    either (IsCalled methods name desc) (declared_in methods name desc class) (first_declared methods name desc classes)
+    either (IsCalled methods name desc) (found_in methods name desc class) (first_found methods name desc classes)
     (called methods class name desc (position_from (λ m. is_method class name desc m.id) 0 methods) (is_built_in class name desc) (passes (λ m. is_method class name desc m.id) methods 0))
     (first_called methods name desc classes)
 

@@ -25,15 +25,15 @@ IsCalled methods name desc (Listed at) = IsSomeAnd (slice_get methods at) (λ m.
 IsCalled methods name desc BuiltIn = ⊤
 
 -- how the very class declares the method
-abbrev pub declared_in : List ListedMethod → List ℕ → List ℕ → List ℕ → Option Declared
-declared_in methods name desc class =
+abbrev pub found_in : List ListedMethod → List ℕ → List ℕ → List ℕ → Option Declared
+found_in methods name desc class =
     listed_or_built_in (position_from (λ m. is_method class name desc m.id) 0 methods) (is_built_in class name desc)
 
 -- how the first of the classes that declares the method does
-abbrev pub first_declared : List ListedMethod → List ℕ → List ℕ → List (List ℕ) → Option Declared
-first_declared methods name desc [] = None
-first_declared methods name desc (class ∷ classes) =
-    option_or (declared_in methods name desc class) (first_declared methods name desc classes)
+abbrev pub first_found : List ListedMethod → List ℕ → List ℕ → List (List ℕ) → Option Declared
+first_found methods name desc [] = None
+first_found methods name desc (class ∷ classes) =
+    option_or (found_in methods name desc class) (first_found methods name desc classes)
 
 -- the class and its superclasses, at most n of them
 abbrev pub upwards : ℕ → List ListedClass → List ℕ → List ListedClass
@@ -50,4 +50,4 @@ interfaces_of classes = flat_map (λ c. c.interfaces) classes
 abbrev pub nearest_of : Listing → List ℕ → List ℕ → List ℕ → Option Declared
 nearest_of listing class name desc =
     let supers = upwards (length listing.classes) listing.classes class in
-    first_declared listing.methods name desc (names_of supers ++ interfaces_of supers)
+    first_found listing.methods name desc (names_of supers ++ interfaces_of supers)

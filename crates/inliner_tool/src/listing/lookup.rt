@@ -5,7 +5,7 @@ ghost use Rattle.std.specs.List.{position_from};
 ghost use Rattle.std.specs.Option.{option_copied};
 ghost use Rattle.inliner_tool.specs.Listing.{is_known};
 ghost use Rattle.inliner_tool.specs.BuiltIn.{is_method};
-ghost use Rattle.inliner_tool.specs.Nearest.{class_named, declared_in, first_declared, upwards, names_of, interfaces_of, nearest_of, IsCalled};
+ghost use Rattle.inliner_tool.specs.Nearest.{class_named, found_in, first_found, upwards, names_of, interfaces_of, nearest_of, IsCalled};
 
 use crate::listing::built_in::is_built_in;
 use crate::listing::{ListedClass, ListedMethod, Listing};
@@ -54,7 +54,7 @@ pub fn nearest(listing: &Listing, class: &[u8], name: &[u8], desc: &[u8]) -> Opt
 
 fn nearest_class(listing: &Listing, class: &[u8], name: &[u8], desc: &[u8]) -> Option<Declared>
     requires { length listing.now.methods < 2 ^ 32 }
-    ensures { result ≡ first_declared listing.now.methods name.now desc.now
+    ensures { result ≡ first_found listing.now.methods name.now desc.now
         (names_of (upwards (length listing.now.classes) listing.now.classes class.now)) }
 {
     let mut at = class;
@@ -75,7 +75,7 @@ fn nearest_class(listing: &Listing, class: &[u8], name: &[u8], desc: &[u8]) -> O
 
 fn nearest_interface(listing: &Listing, class: &[u8], name: &[u8], desc: &[u8]) -> Option<Declared>
     requires { length listing.now.methods < 2 ^ 32 }
-    ensures { result ≡ first_declared listing.now.methods name.now desc.now
+    ensures { result ≡ first_found listing.now.methods name.now desc.now
         (interfaces_of (upwards (length listing.now.classes) listing.now.classes class.now)) }
 {
     let mut at = class;
@@ -116,7 +116,7 @@ fn first_declaration(
     desc: &[u8],
 ) -> Option<Declared>
     requires { length methods.now < 2 ^ 32 }
-    ensures { result ≡ first_declared methods.now name.now desc.now classes.now }
+    ensures { result ≡ first_found methods.now name.now desc.now classes.now }
 {
     let mut left = classes;
     while let [class, rest @ ..] = left {
@@ -130,7 +130,7 @@ fn first_declaration(
 
 fn declaration(methods: &[ListedMethod], class: &[u8], name: &[u8], desc: &[u8]) -> Option<Declared>
     requires { length methods.now < 2 ^ 32 }
-    ensures { result ≡ declared_in methods.now name.now desc.now class.now }
+    ensures { result ≡ found_in methods.now name.now desc.now class.now }
 {
     match index_of(methods, class, name, desc) {
         Some(index) => Some(Declared::Listed(index)),
