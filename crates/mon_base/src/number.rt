@@ -24,8 +24,8 @@ pub fn push_count(out: &mut Bytes, n: u64) -> Result<(), NoMemory>
     ensures ok { OnOk result (out.new ≡ out.old ++ decimal n) }
     ensures err { OnErr result (out.new ≡ out.old) }
 {
-    let mut buffer = Buffer::new();
-    out.extend(buffer.format(n).as_bytes())
+    let mut digits = Buffer::new();
+    out.extend(digits.format(n).as_bytes())
 }
 
 /// The number whose decimal text this is. It takes no memory.
