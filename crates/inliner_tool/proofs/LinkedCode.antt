@@ -1,5 +1,5 @@
 -- The code of a class that was linked: as many targets as instructions, and not too many.
-use Rattle.std.proofs.Common.{◌≡◌, ℕ, ◌+◌, ◌≤◌, ◌<◌, ◌^◌, Bool, true, false, cond, eqb, List, [], ◌∷◌, length, Option, Some, None, Result, Ok, refl, sym, ap, subst, ◌∙◌, arith}
+use Rattle.std.proofs.Common.{◌≡◌, ℕ, ◌+◌, ◌≤◌, ◌<◌, ◌^◌, Bool, true, false, cond, eqb, List, [], ◌∷◌, length, Option, Some, None, Result, Ok, Err, refl, sym, ap, subst, ◌∙◌, arith}
 use Rattle.std.specs.Prelude.{option_and_then, option_map, ◌&&◌}
 use Rattle.class_codec.specs.declared.tree.Const.{Const}
 use Rattle.class_codec.specs.declared.tree.Code.{Code}
@@ -15,7 +15,10 @@ use Rattle.inliner_tool.specs.declared.program.Target.{Target}
 use Rattle.inliner_tool.specs.declared.program.Method.{Method}
 use Rattle.inliner_tool.specs.Acceptance.{IsCode, IsClass}
 use Rattle.class_codec.specs.declared.fault.ClassFault.{ClassFault}
-use Rattle.inliner_tool.specs.Linking.{target_of, targets_of, bare_code, only_main, is_main, main_of, main_method, has_form}
+use Rattle.class_codec.specs.declared.fault.ClassFault.TheVariants as classes
+use Rattle.class_codec.specs.Reading.{Answers}
+use Rattle.inliner_tool.specs.declared.fault.FormFault.TheVariants as forms
+use Rattle.inliner_tool.specs.Linking.{target_of, targets_of, bare_code, only_main, is_main, main_of, main_method, has_form, form_fault}
 
 mapped : {A B : Type 0} (f : A → B) (o : Option A) (y : B) → option_map f o ≡ Some y → (x : A) × (o ≡ Some x) × (f x ≡ y)
 mapped f None y e = absurd cc
@@ -74,3 +77,8 @@ read_file file = Ok file
 -- bytes that spell two files spell one
 pub same_file : (read other : ClassFile) → read_file other ≡ read_file read → other ≡ read
 same_file read other e = cc
+
+-- bytes that were refused for another cause than memory spell no file
+pub none_read : (fault : ClassFault) (file : ClassFile) → Answers (Err fault) (Ok file) → form_fault fault ≡ forms.NotBuilt → ⊥
+none_read classes.Memory file answers is = absurd cc
+none_read other file answers is = absurd cc

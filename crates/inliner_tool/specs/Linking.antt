@@ -3,6 +3,10 @@
 use Rattle.std.specs.Prelude.{◌≡◌, ℕ, Bool, true, false, not, ◌==◌, ◌&&◌, ◌||◌, bytes_eq, bit_and, if◌then◌else◌, List, [], ◌∷◌, length, codes, Option, Some, None, option_and_then, option_map, is_none, slice_get, slice_index}
 use Rattle.std.specs.List.{list_all}
 use Rattle.std.specs.Option.{option_map_or}
+use Rattle.class_codec.specs.declared.fault.ClassFault.{ClassFault}
+use Rattle.class_codec.specs.declared.fault.ClassFault.TheVariants as classes
+use Rattle.inliner_tool.specs.declared.fault.FormFault.{FormFault}
+use Rattle.inliner_tool.specs.declared.fault.FormFault.TheVariants as forms
 use Rattle.class_codec.specs.declared.tree.Const.{Const}
 use Rattle.class_codec.specs.declared.tree.Const.TheVariants as constants
 use Rattle.class_codec.specs.declared.tree.Code.{Code}
@@ -195,3 +199,8 @@ pub record IsClassOf (bytes : List ℕ) (listing : Listing) (main : List ℕ) (c
   pub file : ClassFile
   pub spelled : SpellsClass bytes file
   pub links : LinksTo file listing main class
+
+-- A class file that is refused is of no form; want of memory stays what it is.
+abbrev pub form_fault : ClassFault → FormFault
+form_fault classes.Memory = forms.Memory
+form_fault other = forms.NotBuilt

@@ -2,7 +2,7 @@
 
 ghost use Rattle.std.specs.Prelude.{◌≡◌, ◌↔◌, ◌≤◌, ◌<◌, ◌^◌, length, Some, None, Ok, IfOk, IsErrOf, IsTrue, MatchResult, option_map};
 ghost use Rattle.std.specs.Option.{option_copied};
-ghost use Rattle.inliner_tool.specs.Linking.{LinksTo, IsClassOf, class_name_at, reference_at, target_of, targets_of, main_of, only_main, bare_code, is_main, is_own_name, has_form, names_it, static_target, search_from, main_method, names_at, is_built_constant, is_below_object, has_methods_alone};
+ghost use Rattle.inliner_tool.specs.Linking.{LinksTo, IsClassOf, form_fault, class_name_at, reference_at, target_of, targets_of, main_of, only_main, bare_code, is_main, is_own_name, has_form, names_it, static_target, search_from, main_method, names_at, is_built_constant, is_below_object, has_methods_alone};
 ghost use Rattle.std.specs.List.{list_all};
 ghost use Rattle.class_codec.specs.Fits.{CanSpell};
 ghost use Rattle.inliner_tool.specs.Acceptance.{IsClass};
@@ -330,8 +330,17 @@ pub fn read_class(
 {
     let file = match decode(alloc, bytes) {
         Ok(file) => file,
-        Err(ClassFault::Memory) => return Err(FormFault::Memory),
-        Err(_) => return Err(FormFault::NotBuilt),
+        Err(fault) => return Err(form_fault(&fault)),
     };
     link_class(alloc, &file, listing, main)
+}
+
+/// A fault of a class file as one of its form.
+fn form_fault(fault: &ClassFault) -> FormFault
+    ensures { result ≡ form_fault fault.now }
+{
+    match fault {
+        ClassFault::Memory => FormFault::Memory,
+        _ => FormFault::NotBuilt,
+    }
 }
