@@ -25,12 +25,12 @@ denied policy method is obeys =
     let follows = subst (Follows (next policy) is_return (initial policy)) seen obeys in
     let refused : after (next policy) (initial policy) (Call 0 method ∷ []) ≡ None = rw is refl in
     ⊎_elim
-      (λ (some : IsSome (after (next policy) (initial policy) (Call 0 method ∷ []))). let none : IsSome {T = State} None = subst IsSome refused some in absurd (false≢true none))
-      (λ last.
-        let same = one_event last.0 (Call 0 method) last.1 last.2 in
-        let returns : IsTrue (is_return (Call 0 method)) = subst (λ (e : Event). IsTrue (is_return e)) (sym same) last.3 in
-        absurd (false≢true returns))
-      follows
+    (λ (some : IsSome (after (next policy) (initial policy) (Call 0 method ∷ []))). let none : IsSome {T = State} None = subst IsSome refused some in absurd (false≢true none))
+    (λ last.
+    let same = one_event last.0 (Call 0 method) last.1 last.2 in
+    let returns : IsTrue (is_return (Call 0 method)) = subst (λ (e : Event). IsTrue (is_return e)) (sym same) last.3 in
+    absurd (false≢true returns))
+    follows
 
 pub denied_call : (program : Program) (policy : DeniedPolicy) (index method : ℕ) → insn_at program (first_frame program) ≡ Some (Pool 184 index, ApiMethod method)
     → is_denied policy method ≡ true → Secure program policy → ⊥

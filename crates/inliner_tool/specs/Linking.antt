@@ -14,7 +14,7 @@ use Rattle.class_codec.specs.declared.tree.Attr.{Attr}
 use Rattle.class_codec.specs.declared.tree.Attr.TheVariants as attributes
 use Rattle.class_codec.specs.declared.tree.Member.{Member}
 use Rattle.class_codec.specs.declared.tree.ClassFile.{ClassFile}
-use Rattle.class_codec.specs.Pool.{utf8_at}
+use Rattle.class_codec.specs.Pool.{class_name_at, name_and_type_at, utf8_at}
 use Rattle.class_codec.specs.Fits.{SpellsClass}
 use Rattle.class_codec.specs.Spelling.{spelling}
 use Rattle.inliner_tool.specs.declared.code.Insn.{Insn}
@@ -56,34 +56,15 @@ state_file = record {
 abbrev pub state_text : List ℕ
 state_text = spelling state_file
 
--- ---- names in a constant pool
+-- ---- calls
 
--- the name of the class whose constant this is
-abbrev pub class_of_constant : List Const → Option Const → Option (List ℕ)
-class_of_constant pool (Some (constants.Class name)) = utf8_at pool name
-class_of_constant pool other = None
-
--- the name of the class that the index names
-abbrev pub class_name_at : List Const → ℕ → Option (List ℕ)
-class_name_at pool index = class_of_constant pool (slice_get pool index)
-
-abbrev pub names_of_constant : List Const → Option Const → Option (List ℕ × List ℕ)
-names_of_constant pool (Some (constants.NameAndType name desc)) = option_and_then (λ n. option_map (λ d. (n, d)) (utf8_at pool desc)) (utf8_at pool name)
-names_of_constant pool other = None
-
--- the name and the descriptor that the index names
-abbrev pub names_at : List Const → ℕ → Option (List ℕ × List ℕ)
-names_at pool index = names_of_constant pool (slice_get pool index)
-
-abbrev pub reference_of_constant : List Const → Option Const → Option (List ℕ × (List ℕ × List ℕ))
-reference_of_constant pool (Some (constants.Method class names)) = option_and_then (λ c. option_map (λ n. (c, n)) (names_at pool names)) (class_name_at pool class)
-reference_of_constant pool other = None
+abbrev pub method_of : List Const → Option Const → Option (List ℕ × (List ℕ × List ℕ))
+method_of pool (Some (constants.Method class names)) = option_and_then (λ c. option_map (λ n. (c, n)) (name_and_type_at pool names)) (class_name_at pool class)
+method_of pool other = None
 
 -- class, name and descriptor of the method that a Methodref names
-abbrev pub reference_at : List Const → ℕ → Option (List ℕ × (List ℕ × List ℕ))
-reference_at pool index = reference_of_constant pool (slice_get pool index)
-
--- ---- calls
+abbrev pub method_at : List Const → ℕ → Option (List ℕ × (List ℕ × List ℕ))
+method_at pool index = method_of pool (slice_get pool index)
 
 -- A given class declares no listed method, so the search for one begins at its superclass, which is Object.
 abbrev pub search_from : List ℕ → List ℕ → List ℕ
@@ -103,7 +84,7 @@ call_target listing own None = None
 -- what an instruction's operand names, in the code of the class `own`
 abbrev pub target_of : List Const → Listing → List ℕ → Insn → Option Target
 target_of pool listing own (Plain op) = Some target.None
-target_of pool listing own (Pool op index) = call_target listing own (reference_at pool index)
+target_of pool listing own (Pool op index) = call_target listing own (method_at pool index)
 
 abbrev pub targets_of : List Const → Listing → List ℕ → List Insn → Option (List Target)
 targets_of pool listing own [] = Some []

@@ -2,17 +2,19 @@
 
 ghost use Rattle.std.specs.Prelude.{◌≡◌, ◌↔◌, ◌≤◌, ◌<◌, ◌^◌, length, Some, None, Ok, IfOk, IsErrOf, IsTrue, MatchResult, option_map};
 ghost use Rattle.std.specs.Option.{option_copied};
-ghost use Rattle.inliner_tool.specs.Linking.{LinksTo, IsClassOf, form_fault, class_name_at, reference_at, target_of, targets_of, main_of, only_main, bare_code, is_main, is_own_name, has_form, names_it, static_target, search_from, main_method, names_at, is_built_constant, is_below_object, has_methods_alone};
+ghost use Rattle.inliner_tool.specs.Linking.{LinksTo, IsClassOf, form_fault, method_at, target_of, targets_of, main_of, only_main, bare_code, is_main, is_own_name, has_form, names_it, static_target, search_from, main_method, is_built_constant, is_below_object, has_methods_alone};
 ghost use Rattle.std.specs.List.{list_all};
 ghost use Rattle.class_codec.specs.Fits.{CanSpell};
 ghost use Rattle.inliner_tool.specs.Acceptance.{IsClass};
-ghost use Rattle.class_codec.specs.Pool.{utf8_at};
 
 use crate::code::{Insn, read_code};
 use crate::fault::FormFault;
 use crate::listing::{Declared, Listing, class_name, find_class, nearest};
 use crate::program::{LinkedClass, Method, Target};
-use class_codec::{Attr, ClassFault, ClassFile, Code, Const, Member, decode, utf8_at};
+use class_codec::{
+    Attr, ClassFault, ClassFile, Code, Const, Member, class_name_at, decode, name_and_type_at,
+    utf8_at,
+};
 use mon_base::{Bytes, List, NoMemory};
 use std::alloc::Global;
 
@@ -24,50 +26,14 @@ const MAIN: &[u8] = b"main";
 
 const MAIN_DESC: &[u8] = b"([Ljava/lang/String;)V";
 
-/// The text that the index names.
-fn text_at(pool: &[Const], index: u16) -> Option<&[u8]>
-    ensures { option_copied result ≡ utf8_at pool.now index }
-{
-    match utf8_at(pool, index) {
-        None => None,
-        Some(text) => Some(text.as_slice()),
-    }
-}
-
-/// The name of the class that the index names.
-fn class_name_at(pool: &[Const], index: u16) -> Option<&[u8]>
-    ensures { option_copied result ≡ class_name_at pool.now index }
-{
-    match pool.get(usize::from(index)) {
-        Some(Const::Class(name)) => text_at(pool, *name),
-        _ => None,
-    }
-}
-
-/// The name and descriptor that the index names.
-fn names_at(pool: &[Const], index: u16) -> Option<(&[u8], &[u8])>
-    ensures { option_map (λ n. (n.0.now, n.1.now)) result ≡ names_at pool.now index }
-{
-    match pool.get(usize::from(index)) {
-        Some(Const::NameAndType(name, desc)) => match text_at(pool, *name) {
-            None => None,
-            Some(name) => match text_at(pool, *desc) {
-                None => None,
-                Some(desc) => Some((name, desc)),
-            },
-        },
-        _ => None,
-    }
-}
-
 /// Class, name and descriptor of the method that a Methodref names.
-fn reference_at(pool: &[Const], index: u16) -> Option<(&[u8], (&[u8], &[u8]))>
-    ensures { option_map (λ r. (r.0.now, (r.1.0.now, r.1.1.now))) result ≡ reference_at pool.now index }
+fn method_at(pool: &[Const], index: u16) -> Option<(&Bytes, (&Bytes, &Bytes))>
+    ensures { option_map (λ r. (r.0.now, (r.1.0.now, r.1.1.now))) result ≡ method_at pool.now index }
 {
     match pool.get(usize::from(index)) {
         Some(Const::Method(class, names)) => match class_name_at(pool, *class) {
             None => None,
-            Some(class) => match names_at(pool, *names) {
+            Some(class) => match name_and_type_at(pool, *names) {
                 None => None,
                 Some(names) => Some((class, names)),
             },
@@ -114,12 +80,15 @@ fn target_of(pool: &[Const], listing: &Listing, own: &[u8], insn: &Insn) -> Opti
 {
     match insn {
         Insn::Plain(_) => Some(Target::None),
-        Insn::Pool { index, .. } => match reference_at(pool, *index) {
+        Insn::Pool { index, .. } => match method_at(pool, *index) {
             None => None,
-            Some((class, (name, desc))) => static_target(
-                listing,
-                nearest(listing, search_from(own, class), name, desc),
-            ),
+            Some((class, (name, desc))) => {
+                let from = search_from(own, class.as_slice());
+                static_target(
+                    listing,
+                    nearest(listing, from, name.as_slice(), desc.as_slice()),
+                )
+            }
         },
     }
 }
@@ -161,12 +130,12 @@ fn is_built_constant(constant: &Const) -> bool
     )
 }
 
-fn names_it(name: Option<&[u8]>, text: &[u8]) -> bool
+fn names_it(name: Option<&Bytes>, text: &[u8]) -> bool
     ensures { result ≡ names_it (option_copied name.entry) text.now }
 {
     match name {
         None => false,
-        Some(name) => name == text,
+        Some(name) => name.as_slice() == text,
     }
 }
 
@@ -213,8 +182,8 @@ fn is_main(pool: &[Const], member: &Member) -> bool
     ensures { result ≡ is_main pool.now member.now }
 {
     member.flags & 1320 == 8
-        && names_it(text_at(pool, member.name), MAIN)
-        && names_it(text_at(pool, member.desc), MAIN_DESC)
+        && names_it(utf8_at(pool, member.name), MAIN)
+        && names_it(utf8_at(pool, member.desc), MAIN_DESC)
 }
 
 /// The code of a method that has it alone, without handlers and attributes.

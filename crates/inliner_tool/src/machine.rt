@@ -12,13 +12,11 @@ ghost use Rattle.inliner_tool.specs.Secure.{Secure, is_denied};
 pub fn first_call()
     ensures { (program : Program) (index method : ℕ) → insn_at program (first_frame program) ≡ Some (Pool 184 index, ApiMethod method)
         → trace program (alone 0 ∷ []) ≡ Call 0 method ∷ [] }
-{
-}
+{}
 
 /// So a program that begins with a denied call does not obey.
 pub fn denied_call()
     ensures { (program : Program) (policy : DeniedPolicy) (index method : ℕ)
         → insn_at program (first_frame program) ≡ Some (Pool 184 index, ApiMethod method)
         → is_denied policy method ≡ true → Secure program policy → ⊥ }
-{
-}
+{}
