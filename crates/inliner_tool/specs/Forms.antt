@@ -43,6 +43,9 @@ pub record Count : Type 0 where
   pub now : ℕ
   pub last : List ℕ
 
+abbrev pub since : ℕ → ℕ → List ℕ → Count
+since before now last = record { before = before; now = now; last = last }
+
 -- The file could not be read: the store counted a fault at this name, or its told files lack it.
 abbrev pub IsUnread : Files → Count → List ℕ → Type 0
 IsUnread files count name = Caused count.before count.now count.last name ⊎ Lacks files name

@@ -6,6 +6,7 @@ use Rattle.mon_store.specs.Store.{Files}
 use Rattle.inliner_tool.specs.declared.checker.CheckFault.{CheckFault}
 use Rattle.inliner_tool.specs.declared.checker.CheckFault.TheVariants.{Shape, Typing, Local}
 use Rattle.inliner_tool.specs.declared.inputs.Inputs.{Inputs}
+use Rattle.inliner_tool.specs.declared.listing.Listing.{Listing}
 use Rattle.inliner_tool.specs.declared.program.LinkedClass.{LinkedClass}
 use Rattle.inliner_tool.specs.declared.program.Program.{Program}
 use Rattle.inliner_tool.specs.declared.tool.Answer.{Answer}
@@ -37,9 +38,12 @@ pub record IsCheck (words : List (List ℕ)) (named : Named) : Type 0 where
 abbrev pub state_class : LinkedClass
 state_class = record { name = state_name; parent = object; methods = [] }
 
--- the program of a class and the class that holds the policy's state; it begins with the first method of the first class
+-- classes and behind them the class that holds the policy's state; the program begins with the first method of the first
+abbrev pub program_with : Listing → List LinkedClass → Program
+program_with listing classes = record { classes = classes ++ state_class ∷ []; listing = listing; main_class = 0; main_method = 0 }
+
 abbrev pub program_of : Inputs → Program
-program_of inputs = record { classes = inputs.classes ++ state_class ∷ []; listing = inputs.listing; main_class = 0; main_method = 0 }
+program_of inputs = program_with inputs.listing inputs.classes
 
 -- The words name files that are texts of a listing, a policy, a certificate and one class, and State.
 pub record IsChecked (files : Files) (words : List (List ℕ)) (inputs : Inputs) : Type 0 where

@@ -2,7 +2,22 @@
 
 ghost use Rattle.std.specs.Prelude.{◌≡◌, ◌↔◌, ◌^◌, ◌<◌, IsOk, IfOk, None, length};
 ghost use Rattle.std.specs.List.{AllByRecursion};
-ghost use Rattle.inliner_tool.specs.Acceptance.{IsAccepted, IsProgram, IsClass, IsCode, CallsNone, verdict, sites_of, shape_fault, classes_differ, methods_differ, notes_fault, notes_in_class, notes_in_method, note_fault};
+ghost use Rattle.inliner_tool.specs.Acceptance.{
+  IsAccepted,
+  IsProgram,
+  IsClass,
+  IsCode,
+  CallsNone,
+  verdict,
+  sites_of,
+  shape_fault,
+  classes_differ,
+  methods_differ,
+  notes_fault,
+  notes_in_class,
+  notes_in_method,
+  note_fault,
+};
 ghost use Rattle.inliner_tool.specs.Secure.{Secure};
 ghost use Rattle.inliner_tool.specs.Typing.{typing_fault};
 

@@ -1,6 +1,18 @@
 //! The code of a method as a list of instructions (JVM specification, chapter 6).
 
-ghost use Rattle.std.specs.Prelude.{◌≡◌, ◌≤◌, length, IfOk, IsErrOf, IfSome, IfNone, MatchResult, ◌++◌, ℕ, List as Items};
+ghost use Rattle.std.specs.Prelude.{
+  ◌≡◌,
+  ◌≤◌,
+  length,
+  IfOk,
+  IsErrOf,
+  IfSome,
+  IfNone,
+  MatchResult,
+  ◌++◌,
+  ℕ,
+  List as Items,
+};
 ghost use Rattle.inliner_tool.specs.CodeText.{SpellsCode, IsBuiltInsn, insn_bytes, ends, is_return};
 
 use crate::fault::FormFault;

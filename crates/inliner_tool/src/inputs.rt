@@ -4,10 +4,17 @@
 ghost use Rattle.std.specs.Prelude.{◌≡◌, ◌≤◌, ◌∷◌, [], ◌++◌, length, IfOk, Result};
 ghost use Rattle.mon_store.specs.Store.{Files};
 ghost use Rattle.inliner_tool.specs.declared.inputs.Stop.TheVariants.{Memory};
-ghost use Rattle.inliner_tool.specs.Forms.{ReadsForm, ReadsText, BuildsForm};
+ghost use Rattle.inliner_tool.specs.Forms.{ReadsForm, ReadsText, BuildsForm, since};
 ghost use Rattle.inliner_tool.specs.Listing.{SpellsListing, IsSound};
 ghost use Rattle.inliner_tool.specs.Certificate.{SpellsCertificate};
-ghost use Rattle.inliner_tool.specs.Inputs.{ReadsClasses, ReadsInputs, PolicyOver, ClassOf, StateClass, named_by};
+ghost use Rattle.inliner_tool.specs.Inputs.{
+  ReadsClasses,
+  ReadsInputs,
+  PolicyOver,
+  ClassOf,
+  StateClass,
+  named_by,
+};
 ghost use Rattle.inliner_tool.specs.Acceptance.{IsClass};
 ghost use Rattle.inliner_tool.specs.Tool.{AreSound};
 ghost use Rattle.std.specs.List.{AllByRecursion};
@@ -83,12 +90,15 @@ impl From<NoMemory> for Stop {
 const LIMIT: u64 = 65536;
 
 /// The class file of `conspec/State` for a policy without variables.
-const STATE: &[u8] =
-    b"\xca\xfe\xba\xbe\x00\x00\x001\x00\x08\x01\x00\x0dconspec/State\x07\x00\x01\x01\x00\x10java/lang/Object\x07\x00\x03\x01\x00\x0dConstantValue\x01\x00\x01I\x01\x00\x01Z\x00!\x00\x02\x00\x04\x00\x00\x00\x00\x00\x00\x00\x00";
+const STATE: &[u8] = b"\xca\xfe\xba\xbe\x00\x00\x001\x00\x08\x01\x00\x0dconspec/State\
+    \x07\x00\x01\x01\x00\x10java/lang/Object\
+    \x07\x00\x03\x01\x00\x0dConstantValue\x01\x00\x01I\x01\x00\x01Z\
+    \x00!\x00\x02\x00\x04\x00\x00\x00\x00\x00\x00\x00\x00";
 
 /// The text of a file that is not too long.
 fn text_of<S: Store>(alloc: Global, store: &mut S, name: &Bytes) -> Result<Bytes, Stop>
-    ensures text { ReadsText (S.files store.old) (record { before = S.faults store.old; now = S.faults store.new; last = S.last store.new }) name.now result }
+    ensures text { ReadsText (S.files store.old) (since (S.faults store.old) (S.faults store.new) (S.last store.new))
+        name.now result }
     ensures files { S.files store.new ≡ S.files store.old }
     ensures faults { S.faults store.old ≤ S.faults store.new }
 {
@@ -114,7 +124,8 @@ fn of_form<T: Drop>(alloc: Global, name: &Bytes, read: Result<T, FormFault>) -> 
 
 /// The listing that a file spells.
 fn listing_of<S: Store>(alloc: Global, store: &mut S, name: &Bytes) -> Result<Listing, Stop>
-    ensures form { ReadsForm (S.files store.old) (record { before = S.faults store.old; now = S.faults store.new; last = S.last store.new }) name.now SpellsListing result }
+    ensures form { ReadsForm (S.files store.old) (since (S.faults store.old) (S.faults store.new) (S.last store.new))
+        name.now SpellsListing result }
     ensures files { S.files store.new ≡ S.files store.old }
     ensures faults { S.faults store.old ≤ S.faults store.new }
 {
@@ -130,7 +141,8 @@ fn policy_of<S: Store>(
     listing: &Listing,
 ) -> Result<DeniedPolicy, Stop>
     requires { IsSound listing.now }
-    ensures form { ReadsForm (S.files store.old) (record { before = S.faults store.old; now = S.faults store.new; last = S.last store.new }) name.now (PolicyOver listing.now) result }
+    ensures form { ReadsForm (S.files store.old) (since (S.faults store.old) (S.faults store.new) (S.last store.new))
+        name.now (PolicyOver listing.now) result }
     ensures files { S.files store.new ≡ S.files store.old }
     ensures faults { S.faults store.old ≤ S.faults store.new }
 {
@@ -140,7 +152,8 @@ fn policy_of<S: Store>(
 
 /// The certificate that a file spells.
 fn certificate_of<S: Store>(alloc: Global, store: &mut S, name: &Bytes) -> Result<Certificate, Stop>
-    ensures form { ReadsForm (S.files store.old) (record { before = S.faults store.old; now = S.faults store.new; last = S.last store.new }) name.now SpellsCertificate result }
+    ensures form { ReadsForm (S.files store.old) (since (S.faults store.old) (S.faults store.new) (S.last store.new))
+        name.now SpellsCertificate result }
     ensures files { S.files store.new ≡ S.files store.old }
     ensures faults { S.faults store.old ≤ S.faults store.new }
 {
@@ -157,7 +170,8 @@ fn class_of<S: Store>(
     main: &Bytes,
 ) -> Result<LinkedClass, Stop>
     requires { IsSound listing.now }
-    ensures form { ReadsForm (S.files store.old) (record { before = S.faults store.old; now = S.faults store.new; last = S.last store.new }) name.now (ClassOf listing.now main.now) result }
+    ensures form { ReadsForm (S.files store.old) (since (S.faults store.old) (S.faults store.new) (S.last store.new))
+        name.now (ClassOf listing.now main.now) result }
     ensures sound { IfOk result IsClass }
     ensures files { S.files store.new ≡ S.files store.old }
     ensures faults { S.faults store.old ≤ S.faults store.new }
@@ -172,7 +186,8 @@ fn class_of<S: Store>(
 
 /// That the file of this name is the class that holds the state of a policy without variables.
 fn state_of<S: Store>(alloc: Global, store: &mut S, name: &Bytes) -> Result<(), Stop>
-    ensures form { ReadsForm (S.files store.old) (record { before = S.faults store.old; now = S.faults store.new; last = S.last store.new }) name.now StateClass result }
+    ensures form { ReadsForm (S.files store.old) (since (S.faults store.old) (S.faults store.new) (S.last store.new))
+        name.now StateClass result }
     ensures files { S.files store.new ≡ S.files store.old }
     ensures faults { S.faults store.old ≤ S.faults store.new }
 {
@@ -193,7 +208,8 @@ fn others_of<S: Store>(
     main: &Bytes,
 ) -> Result<List<LinkedClass>, Stop>
     requires { IsSound listing.now }
-    ensures read { ReadsClasses (S.files store.old) (record { before = S.faults store.old; now = S.faults store.new; last = S.last store.new }) listing.now main.now names.now result }
+    ensures read { ReadsClasses (S.files store.old) (since (S.faults store.old) (S.faults store.new) (S.last store.new))
+        listing.now main.now names.now result }
     ensures sound { IfOk result (AllByRecursion IsClass) }
     ensures files { S.files store.new ≡ S.files store.old }
     ensures faults { S.faults store.old ≤ S.faults store.new }
@@ -214,7 +230,8 @@ pub fn read_inputs<S: Store>(
     store: &mut S,
     words: &CheckWords,
 ) -> Result<Inputs, Stop>
-    ensures read { ReadsInputs (S.files store.old) (record { before = S.faults store.old; now = S.faults store.new; last = S.last store.new }) (named_by words.now) result }
+    ensures read { ReadsInputs (S.files store.old) (since (S.faults store.old) (S.faults store.new) (S.last store.new))
+        (named_by words.now) result }
     ensures sound { IfOk result AreSound }
     ensures files { S.files store.new ≡ S.files store.old }
     ensures faults { S.faults store.old ≤ S.faults store.new }

@@ -1,8 +1,43 @@
 //! Linking: a class file of the first built form becomes a class whose calls have their targets.
 
-ghost use Rattle.std.specs.Prelude.{◌≡◌, ◌↔◌, ◌≤◌, ◌<◌, ◌^◌, length, Some, None, Ok, IfOk, IsErrOf, IsTrue, MatchResult, option_map};
+ghost use Rattle.std.specs.Prelude.{
+  ◌≡◌,
+  ◌↔◌,
+  ◌≤◌,
+  ◌<◌,
+  ◌^◌,
+  length,
+  Some,
+  None,
+  Ok,
+  IfOk,
+  IsErrOf,
+  IsTrue,
+  MatchResult,
+  option_map,
+};
 ghost use Rattle.std.specs.Option.{option_copied};
-ghost use Rattle.inliner_tool.specs.Linking.{LinksTo, IsClassOf, form_fault, method_at, target_of, targets_of, main_of, only_main, bare_code, is_main, is_own_name, has_form, names_it, static_target, search_from, main_method, is_built_constant, is_below_object, has_methods_alone};
+ghost use Rattle.inliner_tool.specs.Linking.{
+  LinksTo,
+  IsClassOf,
+  form_fault,
+  method_at,
+  target_of,
+  targets_of,
+  main_of,
+  only_main,
+  bare_code,
+  is_main,
+  is_own_name,
+  has_form,
+  names_it,
+  static_target,
+  search_from,
+  main_method,
+  is_built_constant,
+  is_below_object,
+  has_methods_alone,
+};
 ghost use Rattle.std.specs.List.{list_all};
 ghost use Rattle.class_codec.specs.Fits.{CanSpell};
 ghost use Rattle.inliner_tool.specs.Acceptance.{IsClass};

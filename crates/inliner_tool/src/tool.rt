@@ -3,9 +3,25 @@
 ghost use Rattle.std.specs.Prelude.{◌≡◌, ◌≤◌, ◌∷◌, [], ◌++◌, ◌↔◌, IfOk, IsTrue, OnOk, codes};
 ghost use Rattle.mon_store.specs.Store.{Rose};
 ghost use Rattle.inliner_tool.specs.Acceptance.{IsAccepted};
+ghost use Rattle.inliner_tool.specs.Forms.{since};
 ghost use Rattle.inliner_tool.specs.Secure.{Secure};
 ghost use Rattle.inliner_tool.specs.Status.{code_of};
-ghost use Rattle.inliner_tool.specs.Tool.{AreSound, IsChecked, IsDenied, Replies, Says, SaysOf, fault_text, field, label_of, line_of, number_of_class, program_of, state_class, status_of};
+ghost use Rattle.inliner_tool.specs.Tool.{
+  AreSound,
+  IsChecked,
+  IsDenied,
+  Replies,
+  Says,
+  SaysOf,
+  fault_text,
+  field,
+  label_of,
+  line_of,
+  number_of_class,
+  program_of,
+  program_with,
+  status_of,
+};
 
 use crate::checker::{CheckFault, check};
 use crate::inputs::{Inputs, Stop, read_inputs};
@@ -86,7 +102,7 @@ pub fn run_tool<S: Store, K: Sink>(
         × IsAccepted (program_of inputs) inputs.policy inputs.certificate × Secure (program_of inputs) inputs.policy }
 
     // The answer that its case gives, and the line for it.
-    ensures answer { Replies (S.files store.old) (record { before = S.faults store.old; now = S.faults store.new; last = S.last store.new }) words.now
+    ensures answer { Replies (S.files store.old) (since (S.faults store.old) (S.faults store.new) (S.last store.new)) words.now
         (K.text out.old) (K.text out.new) (Rose (K.faults out.old) (K.faults out.new)) result }
 
     // What stands.
@@ -119,7 +135,7 @@ fn is_memory(answer: &Answer) -> bool
 
 /// The answer to the words, over the store's files.
 fn answer_to<S: Store>(alloc: Global, words: &[Bytes], store: &mut S) -> Answer
-    ensures says { Says (S.files store.old) (record { before = S.faults store.old; now = S.faults store.new; last = S.last store.new }) words.now result }
+    ensures says { Says (S.files store.old) (since (S.faults store.old) (S.faults store.new) (S.last store.new)) words.now result }
     ensures files { S.files store.new ≡ S.files store.old }
     ensures faults { S.faults store.old ≤ S.faults store.new }
 {
@@ -163,7 +179,7 @@ fn program_of(
     listing: Listing,
     classes: List<LinkedClass>,
 ) -> Result<Program, NoMemory>
-    ensures { IfOk result (λ program. program ≡ record { classes = classes ++ state_class ∷ []; listing = listing; main_class = 0; main_method = 0 }) }
+    ensures { IfOk result (λ program. program ≡ program_with listing classes) }
 {
     let mut classes = classes;
     classes.push(LinkedClass {

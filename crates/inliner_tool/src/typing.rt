@@ -5,7 +5,29 @@ ghost use Rattle.std.specs.Option.{option_map};
 ghost use Rattle.inliner_tool.specs.declared.certificate.VType.TheVariants.{Ref};
 ghost use Rattle.inliner_tool.specs.Acceptance.{IsProgram, IsClass, IsCode};
 ghost use Rattle.inliner_tool.specs.Classes.{class_in, parent_of, reaches};
-ghost use Rattle.inliner_tool.specs.Typing.{typing_fault, typing_in_class, typing_in_method, row_fault, meets_entry, meets_successor, goes_on, frame_fits, arguments, locals_fit, stack_fits, assignable, name_fits, class_fits, array_fits, component_fits, leaf_fits, named, reference_of, is_interface, first_of};
+ghost use Rattle.inliner_tool.specs.Typing.{
+  typing_fault,
+  typing_in_class,
+  typing_in_method,
+  row_fault,
+  meets_entry,
+  meets_successor,
+  goes_on,
+  frame_fits,
+  arguments,
+  locals_fit,
+  stack_fits,
+  assignable,
+  name_fits,
+  class_fits,
+  array_fits,
+  component_fits,
+  leaf_fits,
+  named,
+  reference_of,
+  is_interface,
+  first_of,
+};
 
 use crate::certificate::{FrameType, VType};
 use crate::code::Insn;

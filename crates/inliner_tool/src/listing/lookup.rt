@@ -5,7 +5,16 @@ ghost use Rattle.std.specs.List.{position_from};
 ghost use Rattle.std.specs.Option.{option_copied};
 ghost use Rattle.inliner_tool.specs.Listing.{is_known};
 ghost use Rattle.inliner_tool.specs.BuiltIn.{is_method};
-ghost use Rattle.inliner_tool.specs.Nearest.{class_named, found_in, first_found, upwards, names_of, interfaces_of, nearest_of, IsCalled};
+ghost use Rattle.inliner_tool.specs.Nearest.{
+  class_named,
+  found_in,
+  first_found,
+  upwards,
+  names_of,
+  interfaces_of,
+  nearest_of,
+  IsCalled,
+};
 
 use crate::listing::built_in::is_built_in;
 use crate::listing::{ListedClass, ListedMethod, Listing};

@@ -6,7 +6,14 @@ ghost use Rattle.std.specs.Option.{option_to_list};
 ghost use Rattle.inliner_tool.specs.declared.fault.FormFault.TheVariants as faults;
 ghost use Rattle.inliner_tool.specs.declared.listing.Listing.{Listing};
 ghost use Rattle.inliner_tool.specs.BuiltIn.{built_in_classes};
-ghost use Rattle.inliner_tool.specs.Listing.{class_below_object, class_of, static_method, method_of, listing_of, SpellsListing};
+ghost use Rattle.inliner_tool.specs.Listing.{
+  class_below_object,
+  class_of,
+  static_method,
+  method_of,
+  listing_of,
+  SpellsListing,
+};
 
 use crate::fault::FormFault;
 use crate::listing::built_in::built_in_classes;

@@ -1,6 +1,20 @@
 //! Sets of names: whether one stands twice takes no search through a list.
 
-ghost use Rattle.std.specs.Prelude.{◌≡◌, ◌≢◌, ◌↔◌, ◌||◌, ℕ, List, not, AllPairs, IsTrue, IfOk, OnOk, MatchOption, bytes_eq};
+ghost use Rattle.std.specs.Prelude.{
+  ◌≡◌,
+  ◌≢◌,
+  ◌↔◌,
+  ◌||◌,
+  ℕ,
+  List,
+  not,
+  AllPairs,
+  IsTrue,
+  IfOk,
+  OnOk,
+  MatchOption,
+  bytes_eq,
+};
 ghost use Rattle.mon_base.specs.declared.method.MethodId.{MethodId};
 ghost use Rattle.inliner_tool.specs.BuiltIn.{is_method};
 ghost use Rattle.inliner_tool.specs.Seen.{has_name, has_id, AreNames};

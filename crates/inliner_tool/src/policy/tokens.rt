@@ -3,7 +3,19 @@
 ghost use Rattle.std.specs.Prelude.{◌≡◌, IfOk, IsErrOf, Some, None};
 ghost use Rattle.inliner_tool.specs.declared.fault.FormFault.TheVariants as faults;
 ghost use Rattle.inliner_tool.specs.declared.policy.tokens.Reading.TheVariants as readings;
-ghost use Rattle.inliner_tool.specs.Tokens.{is_blank, is_mark, extended, closed, opened, turned, begun, fed_in, fed, ended, tokens_of};
+ghost use Rattle.inliner_tool.specs.Tokens.{
+  is_blank,
+  is_mark,
+  extended,
+  closed,
+  opened,
+  turned,
+  begun,
+  fed_in,
+  fed,
+  ended,
+  tokens_of,
+};
 
 use crate::fault::FormFault;
 use crate::listing::{continues_name, starts_name};
