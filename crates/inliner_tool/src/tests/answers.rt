@@ -62,9 +62,7 @@ fn words(rt: HostRuntime) -> Result<(), Fail> {
             USAGE,
         ),
         (
-            &[
-                "check", "POLICY", "LISTING", "CERT", "a/E", "E.class", "",
-            ],
+            &["check", "POLICY", "LISTING", "CERT", "a/E", "E.class", ""],
             Status::Usage,
             USAGE,
         ),
@@ -183,7 +181,10 @@ fn certificates_of_a_quiet_class(rt: HostRuntime) -> Result<(), Fail> {
         (&[EMPTY_FRAME, TWO_FRAMES], "denied 242 a/E 0\n"),
         (&[NOP_RETURN], "denied 242 a/E 0\n"),
         (
-            &[("CERT", 51, 0, b"\x00\x00\x00\x00"), ("CERT", 35, 1, b"\x02")],
+            &[
+                ("CERT", 51, 0, b"\x00\x00\x00\x00"),
+                ("CERT", 35, 1, b"\x02"),
+            ],
             "denied 242 a/E 1\n",
         ),
         (
@@ -199,10 +200,7 @@ fn certificates_of_a_quiet_class(rt: HostRuntime) -> Result<(), Fail> {
         (&[("CERT", 49, 1, b"\x01\x00")], "denied 202 a/E 0 0 1\n"),
         (&[("CERT", 30, 1, b"x")], "denied 202 a/E 0 0 1\n"),
         (&[("CERT", 13, 19, b"[Ljava/lang/Object;")], ACCEPTED),
-        (
-            &[("CERT", 11, 21, b"\x00\x10java/lang/Object")],
-            ACCEPTED,
-        ),
+        (&[("CERT", 11, 21, b"\x00\x10java/lang/Object")], ACCEPTED),
         (&[TWO_RETURNS, EMPTY_FRAME, TWO_FRAMES], ACCEPTED),
         (&[NOP_RETURN, EMPTY_FRAME, TWO_FRAMES], ACCEPTED),
         (
@@ -218,7 +216,12 @@ fn certificates_of_a_quiet_class(rt: HostRuntime) -> Result<(), Fail> {
             "denied 202 a/E 0 0 6\n",
         ),
         (
-            &[NOP_RETURN, TWO_LOCALS, TWO_FRAMES, ("E.class", 109, 1, b"\x02")],
+            &[
+                NOP_RETURN,
+                TWO_LOCALS,
+                TWO_FRAMES,
+                ("E.class", 109, 1, b"\x02"),
+            ],
             "denied 202 a/E 0 0 6\n",
         ),
         // A class that is listed is none of the program's own.

@@ -36,13 +36,15 @@ const LISTING: &[u8] = b"class api/Net extends java/lang/Object\nstatic api/Net 
 const POLICY: &[u8] = b"MAXINT 1 SCOPE Session SECURITY STATE BEFORE void api.Net.send() PERFORM";
 
 /// One method of one instruction, with an array of strings in its one local, and a class without code.
-const QUIET_CERTIFICATE: &[u8] = b"CSPC\x00\x01\x01\x00\x00\x00\x01\x00\x13[Ljava/lang/String;\x00\x02\
+const QUIET_CERTIFICATE: &[u8] =
+    b"CSPC\x00\x01\x01\x00\x00\x00\x01\x00\x13[Ljava/lang/String;\x00\x02\
     \x00\x01\x00\x00\x00\x01\
     \x01\x00\x01\x03\x00\x00\x00\x00\x00\x00\x00\
     \x00\x00";
 
 /// The same with two instructions.
-const SENDS_CERTIFICATE: &[u8] = b"CSPC\x00\x01\x01\x00\x00\x00\x01\x00\x13[Ljava/lang/String;\x00\x02\
+const SENDS_CERTIFICATE: &[u8] =
+    b"CSPC\x00\x01\x01\x00\x00\x00\x01\x00\x13[Ljava/lang/String;\x00\x02\
     \x00\x01\x00\x00\x00\x02\
     \x01\x00\x01\x03\x00\x00\x00\x00\x00\x00\x00\
     \x01\x00\x01\x03\x00\x00\x00\x00\x00\x00\x00\
@@ -105,13 +107,7 @@ fn edited(alloc: Global, name: &str, bytes: &[u8], edits: &[Edit]) -> Result<Byt
     Ok(text)
 }
 
-fn replaced(
-    alloc: Global,
-    text: &[u8],
-    at: usize,
-    gone: usize,
-    new: &[u8],
-) -> Result<Bytes, Fail> {
+fn replaced(alloc: Global, text: &[u8], at: usize, gone: usize, new: &[u8]) -> Result<Bytes, Fail> {
     let front = text.get(..at).ok_or("a place of the file")?;
     let rest = text.get(at..).ok_or("a place of the file")?;
     let back = rest.get(gone..).ok_or("bytes of the file")?;

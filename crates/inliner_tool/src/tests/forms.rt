@@ -54,7 +54,10 @@ fn texts(rt: HostRuntime) -> Result<(), Fail> {
         ),
         (
             "an instruction that is not reached",
-            &[("CERT", 40, 10, b"\x00"), ("CERT", 7, 25, b"\x00\x00\x00\x00")],
+            &[
+                ("CERT", 40, 10, b"\x00"),
+                ("CERT", 7, 25, b"\x00\x00\x00\x00"),
+            ],
         ),
         ("a name that is not there", &[("CERT", 47, 1, b"\x01")]),
     ];
@@ -72,18 +75,31 @@ fn classes(rt: HostRuntime) -> Result<(), Fail> {
         ("one byte more", &[("E.class", 121, 0, b"\x00")]),
         (
             "a constant of a text",
-            &[("E.class", 80, 0, b"\x08\x00\x01"), ("E.class", 9, 1, b"\x09")],
+            &[
+                ("E.class", 80, 0, b"\x08\x00\x01"),
+                ("E.class", 9, 1, b"\x09"),
+            ],
         ),
         ("another class", &[("E.class", 15, 1, b"F")]),
         ("below itself", &[("E.class", 85, 1, b"\x02")]),
         ("an interface", &[("E.class", 86, 2, b"\x00\x01\x00\x04")]),
         (
             "a field",
-            &[("E.class", 88, 2, b"\x00\x01\x00\x08\x00\x05\x00\x06\x00\x00")],
+            &[(
+                "E.class",
+                88,
+                2,
+                b"\x00\x01\x00\x08\x00\x05\x00\x06\x00\x00",
+            )],
         ),
         (
             "a second method",
-            &[("E.class", 90, 2, b"\x00\x02\x04\x01\x00\x05\x00\x06\x00\x00")],
+            &[(
+                "E.class",
+                90,
+                2,
+                b"\x00\x02\x04\x01\x00\x05\x00\x06\x00\x00",
+            )],
         ),
         ("an instance method", &[("E.class", 93, 1, b"\x01")]),
         ("a synchronized method", &[("E.class", 93, 1, b"\x29")]),
@@ -132,7 +148,10 @@ fn classes(rt: HostRuntime) -> Result<(), Fail> {
             ],
         ),
         ("no return at the end", &[("E.class", 114, 1, b"\x00")]),
-        ("a call without its operand", &[("E.class", 114, 1, b"\xb8")]),
+        (
+            "a call without its operand",
+            &[("E.class", 114, 1, b"\xb8")],
+        ),
         (
             "a call of a method that is not listed",
             &[("S.class", 99, 1, b"t")],
@@ -174,7 +193,7 @@ fn is_refused(rt: &impl Abort, alloc: Global, what: &str, edits: &[Edit]) -> Res
     Ok(())
 }
 
-/// The files with empty lines behind the listing's own, so that it has this length.
+/// The files with a remark behind the lines of the listing, so that it has this length.
 fn with_long_listing(alloc: Global, length: usize) -> Result<List<(Bytes, Bytes)>, Fail> {
     let mut files = Vec::new(alloc);
     for (name, text) in files_with(alloc, &[])?.into_vec() {
@@ -188,9 +207,11 @@ fn with_long_listing(alloc: Global, length: usize) -> Result<List<(Bytes, Bytes)
 }
 
 fn lengthen(text: &mut Bytes, length: usize) -> Result<(), Fail> {
-    while text.len() < length {
-        text.push(b'\n')?;
+    let signs = length.saturating_sub(text.len()).saturating_sub(1);
+    for _ in 0..signs {
+        text.push(b'#')?;
     }
+    text.push(b'\n')?;
     Ok(())
 }
 
@@ -204,7 +225,11 @@ fn lengths(rt: HostRuntime) -> Result<(), Fail> {
     for (length, status, printed) in table {
         let files = with_long_listing(alloc, length)?;
         let ended = run(alloc, &QUIET, files, &[], &[])?;
-        assert_eq!(rt; ended.printed.as_slice(), printed.as_bytes(), "{length} bytes");
+        assert_eq!(rt;
+            ended.printed.as_slice(),
+            printed.as_bytes(),
+            "{length} bytes"
+        );
         assert_eq!(rt; ended.status, status, "{length} bytes");
     }
     Ok(())

@@ -28,7 +28,10 @@ fn a_store_fails_at_each_call_in_turn(rt: HostRuntime) -> Result<(), Fail> {
         }
     }
     let ended = run(alloc, &QUIET, files_with(alloc, &[])?, &[call], &[])?;
-    assert_eq!(rt; ended.printed.as_slice(), b"accepted release sites 0\n".as_slice());
+    assert_eq!(rt;
+        ended.printed.as_slice(),
+        b"accepted release sites 0\n".as_slice()
+    );
     assert_eq!(rt; ended.status, Status::Done);
     Ok(())
 }
@@ -42,7 +45,11 @@ fn a_file_is_not_there(rt: HostRuntime) -> Result<(), Fail> {
             *word = "none";
         }
         let ended = run(alloc, &words, files_with(alloc, &[])?, &[], &[])?;
-        assert_eq!(rt; ended.printed.as_slice(), b"store none\n".as_slice(), "{name}");
+        assert_eq!(rt;
+            ended.printed.as_slice(),
+            b"store none\n".as_slice(),
+            "{name}"
+        );
         assert_eq!(rt; ended.status, Status::StoreFault, "{name}");
     }
     Ok(())
