@@ -16,3 +16,6 @@ pub mod typing;
 mod words;
 
 pub use tool::{Status, run_tool};
+
+#[cfg(test)]
+mod tests;
