@@ -1,0 +1,4 @@
+mod Climbing
+pub mod Descriptors
+mod Lists
+pub mod Tables
