@@ -2,7 +2,7 @@
 use Rattle.std.proofs.Common.{◌≡◌, ℕ, suc, zero, ◌+◌, ◌-◌, ◌<◌, ◌≤◌, Bool, true, false, List, [], ◌∷◌, ◌++◌, length, take, drop, get_or, Option, Some, None, Result, Ok, Err, refl, sym, ap, ◌∙◌, append_assoc, arith, eq-eqb, length-append}
 use Rattle.std.specs.Prelude.{option_map}
 use Rattle.std.proofs.lemmas.List.{take_all, append-nil}
-use Rattle.std.proofs.lemmas.Bool.{eqb-apart}
+use Rattle.std.proofs.lemmas.Bool.{ne_eqb}
 use Rattle.mon_base.specs.Reading.{◌>>=◌}
 use Rattle.api_listing.specs.declared.descriptor.Element.{Element}
 use Rattle.api_listing.specs.declared.descriptor.FieldType.{FieldType}
@@ -43,7 +43,7 @@ pub ends_flat : (n : ℕ) (left rest behind : List ℕ) (first : ℕ) (element :
 unfolding type_at
 ends_flat n left rest behind first element total split other found so_far =
     let none : n + 0 ≡ n = omega arith in
-    let step : deepened n (type_at left) ≡ Ok (record { dimensions = n + 0; element = element }, behind) = rw (split, eqb-apart first 91 other, found) refl in
+    let step : deepened n (type_at left) ≡ Ok (record { dimensions = n + 0; element = element }, behind) = rw (split, ne_eqb first 91 other, found) refl in
     sym so_far ∙ step ∙ ap (λ (d : ℕ). Ok (record { dimensions = d; element = element }, behind)) none
 
 pub no_type : (n : ℕ) (left rest : List ℕ) (first : ℕ) (e : FormFault) (total : Read (FieldType × List ℕ)) → left ≡ first ∷ rest → (first ≡ 91 → ⊥)
@@ -51,7 +51,7 @@ pub no_type : (n : ℕ) (left rest : List ℕ) (first : ℕ) (e : FormFault) (to
 unfolding type_at
 no_type n left rest first Memory total split other failed so_far = tt
 no_type n left rest first NoForm total split other failed so_far =
-    let step : deepened n (type_at left) ≡ Err NoForm = rw (split, eqb-apart first 91 other, failed) refl in
+    let step : deepened n (type_at left) ≡ Err NoForm = rw (split, ne_eqb first 91 other, failed) refl in
     sym so_far ∙ step
 
 pub empty_type : (n : ℕ) (left : List ℕ) (total : Read (FieldType × List ℕ)) → length left < 1 → deepened n (type_at left) ≡ total → total ≡ Err NoForm
@@ -88,7 +88,7 @@ passes at left bytes rest first total split other p =
     let lengths : length front + length left ≡ length bytes = sym (length-append front left) ∙ ap length p.whole in
     let n : at + 1 ≡ length front + 1 = omega (arith, lengths, p.count) in
     let more : take (at + 1) bytes ≡ front ++ first ∷ [] = ap (λ (k : ℕ). take k bytes) n ∙ ap (take (length front + 1)) (sym whole) ∙ take_front front rest first in
-    let step : behind front (until 59 left) ≡ behind (front ++ first ∷ []) (until 59 rest) = rw (split, eqb-apart first 59 other) (behind_more front first (until 59 rest)) in
+    let step : behind front (until 59 left) ≡ behind (front ++ first ∷ []) (until 59 rest) = rw (split, ne_eqb first 59 other) (behind_more front first (until 59 rest)) in
     record {
       found = rw more (sym step ∙ p.found);
       whole = rw more (append_assoc front (first ∷ []) rest ∙ whole);
@@ -108,19 +108,19 @@ regroup front x (Err e) = refl
 pub goes_on : (front : List FieldType) (i : ℕ) (left next : List ℕ) (x : FieldType) (total : Read (List FieldType × List ℕ)) → i < 256 → is_closed left ≡ false → type_at left ≡ Ok (x, next)
     → with_front front (arguments_at (256 - i) left) ≡ total → with_front (front ++ x ∷ []) (arguments_at (256 - (i + 1)) next) ≡ total
 unfolding arguments_at
-goes_on front i left next x total lt open found so_far =
+goes_on front i left next x total lt unclosed found so_far =
     let k : 256 - i ≡ suc (256 - (i + 1)) = omega arith in
     let step : with_front front (arguments_at (256 - i) left) ≡ with_front (front ++ x ∷ []) (arguments_at (256 - (i + 1)) next) =
-    rw (k, open, found) (regroup front x (arguments_at (256 - (i + 1)) next)) in
+    rw (k, unclosed, found) (regroup front x (arguments_at (256 - (i + 1)) next)) in
     sym step ∙ so_far
 
 pub ends : (front : List FieldType) (i : ℕ) (left : List ℕ) (e : FormFault) (total : Read (List FieldType × List ℕ)) → i < 256 → is_closed left ≡ false → Fails e (type_at left)
     → with_front front (arguments_at (256 - i) left) ≡ total → Fails e total
 unfolding arguments_at
-ends front i left Memory total lt open failed so_far = tt
-ends front i left NoForm total lt open failed so_far =
+ends front i left Memory total lt unclosed failed so_far = tt
+ends front i left NoForm total lt unclosed failed so_far =
     let k : 256 - i ≡ suc (256 - (i + 1)) = omega arith in
-    let step : with_front front (arguments_at (256 - i) left) ≡ Err NoForm = rw (k, open, failed) refl in
+    let step : with_front front (arguments_at (256 - i) left) ≡ Err NoForm = rw (k, unclosed, failed) refl in
     sym so_far ∙ step
 
 pub closes : (front : List FieldType) (i : ℕ) (left : List ℕ) (total : Read (List FieldType × List ℕ)) → i < 256 → is_closed left ≡ true
@@ -138,3 +138,13 @@ too_many front i left total le so_far =
     let k : 256 - i ≡ 0 = omega arith in
     let step : with_front front (arguments_at (256 - i) left) ≡ Err NoForm = rw k refl in
     sym so_far ∙ step
+
+pub no_front : {X : Type 0} (front : List X) (read : Read (List X × List ℕ)) → front ≡ [] → with_front front read ≡ read
+no_front {X = X} front read none = ap (λ (xs : List X). with_front xs read) none ∙ same read where
+  same : (r : Read (List X × List ℕ)) → with_front [] r ≡ r
+  same (Ok r) = refl
+  same (Err e) = refl
+
+pub rest_all : (xs : List ℕ) → take (length xs - 1) (drop 1 xs) ≡ drop 1 xs
+rest_all [] = refl
+rest_all (y ∷ ys) = take_all (length (y ∷ ys) - 1) ys (omega arith)

@@ -189,22 +189,25 @@ fn add_class(alloc: Global, draft: &mut Draft, class: &ListedClass) -> Result<()
     requires { Agrees draft.old }
     ensures { OnOk result (Agrees draft.new × (draft.new.listing ≡ with_class draft.old.listing class.now)) }
 {
+    draft.listing.classes.push(class.copy(alloc)?)?;
     add_name(alloc, &mut draft.names, &class.name)?;
-    draft.listing.classes.push(class.copy(alloc)?)
+    Ok(())
 }
 
 fn add_method(alloc: Global, draft: &mut Draft, method: &ListedMethod) -> Result<(), NoMemory>
     requires { Agrees draft.old }
     ensures { OnOk result (Agrees draft.new × (draft.new.listing ≡ with_method draft.old.listing method.now)) }
 {
+    draft.listing.methods.push(method.copy(alloc)?)?;
     add_id(alloc, &mut draft.methods, &method.id)?;
-    draft.listing.methods.push(method.copy(alloc)?)
+    Ok(())
 }
 
 fn add_field(alloc: Global, draft: &mut Draft, id: &MethodId) -> Result<(), NoMemory>
     requires { Agrees draft.old }
     ensures { OnOk result (Agrees draft.new × (draft.new.listing ≡ with_field draft.old.listing id.now)) }
 {
+    draft.listing.fields.push(id.copy(alloc)?)?;
     add_id(alloc, &mut draft.fields, id)?;
-    draft.listing.fields.push(id.copy(alloc)?)
+    Ok(())
 }

@@ -29,10 +29,21 @@ pub fn resolve(listing: &Listing, class: &Bytes, name: &Bytes, desc: &Bytes) -> 
     requires { length listing.now.methods < 2 ^ 32 }
     ensures { result ≡ nearest listing.now class.now name.now desc.now }
 {
-    let (name, desc) = (name.as_slice(), desc.as_slice());
-    match among_classes(listing, class.as_slice(), name, desc) {
+    nearest_index(
+        listing,
+        class.as_slice(),
+        name.as_slice(),
+        desc.as_slice(),
+    )
+}
+
+fn nearest_index(listing: &Listing, class: &[u8], name: &[u8], desc: &[u8]) -> Option<u32>
+    requires { length listing.now.methods < 2 ^ 32 }
+    ensures { result ≡ nearest listing.now class.now name.now desc.now }
+{
+    match among_classes(listing, class, name, desc) {
         Some(index) => Some(index),
-        None => among_interfaces(listing, class.as_slice(), name, desc),
+        None => among_interfaces(listing, class, name, desc),
     }
 }
 

@@ -2,7 +2,7 @@ use Rattle.std.proofs.Common.{◌≡◌, ◌∙◌, sym, ap, length, Some, None,
 use Rattle.std.specs.Option.{option_copied, option_or}
 use Rattle.api_listing.specs.Nearest.{class_named, declared_in, first_declared, nearest, upwards, names_of, interfaces_of}
 use Rattle.api_listing.proofs.Climbing.{climbs, climbs_by_interfaces, ends_by_interfaces, first_declared-append}
-use Rattle.api_listing.proofs.lookup.resolve.Goals as goal
+use Rattle.api_listing.proofs.lookup.nearest_index.Goals as goal
 
 pub returns-in-Some : goal.returns-in-Some
 returns-in-Some c =
