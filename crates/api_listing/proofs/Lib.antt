@@ -2,6 +2,7 @@ mod Climbing
 pub mod DescriptorLaws
 pub mod Descriptors
 mod Growing
+pub mod LineLaws
 mod Lists
 mod Names
 pub mod Tables
