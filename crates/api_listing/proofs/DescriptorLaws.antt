@@ -1,6 +1,6 @@
 -- What is read of a descriptor is spelled so, and what is spelled so is read.
 use Rattle.std.proofs.Common.{◌≡◌, ℕ, suc, zero, ◌+◌, ◌-◌, ◌<◌, ◌≤◌, Bool, true, false, not, cond, ◌&&◌, ◌||◌, List, [], ◌∷◌, ◌++◌, length, drop, Option, Some, None, Result, Ok, Err, refl, sym, ap, ap₂, subst, ◌∙◌, append_assoc, arith, eq-eqb, length-append, inl, inr, eqb, ◌⊎◌, ◌≢◌}
-use Rattle.std.specs.Prelude.{option_map, ok_or, IsTrue, bytes_eq, codes, replicate}
+use Rattle.std.specs.Prelude.{option_map, ok_or, IfOk, IfSome, IfNone, MatchResult, IsTrue, bytes_eq, codes, replicate}
 use Rattle.std.specs.List.{list_all, list_any, flat_map, slice_split, onto_first}
 use Rattle.std.proofs.lemmas.List.{append-nil}
 use Rattle.std.proofs.lemmas.Bool.{ne_eqb, false≢true}
@@ -15,7 +15,7 @@ use Rattle.api_listing.specs.declared.descriptor.MethodType.{MethodType}
 use Rattle.api_listing.specs.declared.fault.FormFault.{FormFault}
 use Rattle.api_listing.specs.declared.fault.FormFault.TheVariants.{NoForm, Memory}
 use Rattle.api_listing.specs.Words.{pieces, is_name_byte, is_segment, is_class_name}
-use Rattle.api_listing.specs.Fault.{Read, Fails}
+use Rattle.api_listing.specs.Fault.{Read, Reads, Fails}
 use Rattle.api_listing.specs.Descriptor.{class_spelled, element_spelled, type_spelled, result_spelled, method_spelled, is_element, is_type, is_result, SpellsDescriptor, SpellsClass, until, when_named, named_only, name_at, class_at, element_at, deeper, flat, type_at, whole_type, result_of, is_closed, arguments_at, after_first, method_type, ended, class_behind, class_described}
 
 pub both : (a b : Bool) → (a && b) ≡ true → (a ≡ true) × (b ≡ true)
@@ -446,3 +446,28 @@ class_descriptor_found (first ∷ rest) name h = by (eqb_tells first 76) where
 
 pub class_descriptor_again : (text name : List ℕ) → SpellsClass text name → class_described text ≡ Some name
 class_descriptor_again text name s = rw (s.spelled, name_again name [] s.named) refl
+
+-- ---- calls that answer what is read
+
+abbrev typed : MethodType → Read MethodType
+typed m = Ok m
+
+whole_is : (a b : MethodType) → typed a ≡ typed b → a ≡ b
+whole_is a b h = cc
+
+pub answer_found : (text : List ℕ) (result : Read MethodType) → Reads result (method_type text) → IfOk result (λ m. SpellsDescriptor text m)
+answer_found text (Ok m) h = method_found text m h
+answer_found text (Err e) h = tt
+
+pub answer_only : (text : List ℕ) (result : Read MethodType) → Reads result (method_type text) → (m : MethodType) → SpellsDescriptor text m → MatchResult result (λ r. r ≡ m) (λ e. e ≡ Memory)
+answer_only text (Ok r) h m s = whole_is r m (sym h ∙ method_again text m s)
+answer_only text (Err Memory) h m s = refl
+answer_only text (Err NoForm) h m s = absurd (none_method m (sym h ∙ method_again text m s))
+
+pub class_answer_found : (text : List ℕ) (result : Option (List ℕ)) → result ≡ class_described text → IfSome result (λ name. SpellsClass text name)
+class_answer_found text (Some name) h = class_descriptor_found text name (sym h)
+class_answer_found text None h = tt
+
+pub class_answer_none : (text : List ℕ) (result : Option (List ℕ)) → result ≡ class_described text → IfNone result ((name : List ℕ) → SpellsClass text name → ⊥)
+class_answer_none text (Some name) h = tt
+class_answer_none text None h = λ name s. none_named name (h ∙ class_descriptor_again text name s)

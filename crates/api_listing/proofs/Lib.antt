@@ -6,3 +6,4 @@ pub mod LineLaws
 mod Lists
 mod Names
 pub mod Tables
+pub mod TextLaws

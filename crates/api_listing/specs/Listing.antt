@@ -124,3 +124,55 @@ read_lines lines =
 -- what the text gives: the listing, or the fault of its first wrong line
 unfoldable pub reading : List ℕ → Result Listing ListFault
 reading text = read_lines (said_lines (pieces 10 text))
+
+-- ---- spelling
+
+abbrev pub class_declared : Declaration → Option ListedClass
+class_declared (Class c) = Some c
+class_declared (Method m types) = None
+class_declared (Field id class) = None
+
+abbrev pub method_declared : Declaration → Option ListedMethod
+method_declared (Class c) = None
+method_declared (Method m types) = Some m
+method_declared (Field id class) = None
+
+abbrev pub field_declared : Declaration → Option MethodId
+field_declared (Class c) = None
+field_declared (Method m types) = None
+field_declared (Field id class) = Some id
+
+-- the built-in classes, and then what is declared, each in its order
+abbrev pub listing_of : List Declaration → Listing
+listing_of said = record {
+  classes = built_in_classes ++ filter_map class_declared said;
+  methods = filter_map method_declared said;
+  fields = filter_map field_declared said;
+}
+
+-- The lines spell the declarations, one each, in words between single spaces.
+abbrev pub AreSaid : List (List ℕ) → List Declaration → Type 0
+AreSaid [] [] = Unit {0}
+AreSaid [] (d ∷ said) = ⊥
+AreSaid (line ∷ lines) [] = ⊥
+AreSaid (line ∷ lines) (d ∷ said) = SpellsLine (pieces 32 line) d × AreSaid lines said
+
+-- Each declares what does not stand before it.
+abbrev pub AreOnce : List Declaration → Type 0
+AreOnce said = (before after : List Declaration) (d : Declaration) → said ≡ before ++ d ∷ after → IsTrue (not (stands_already (listing_of before) d))
+
+-- Each names what is known: a class its superclass and interfaces before it, a method or field classes of the listing.
+abbrev pub AreNamed : Listing → List Declaration → Type 0
+AreNamed listing said =
+    (before after : List Declaration) (d : Declaration) → said ≡ before ++ d ∷ after → IsTrue (names_known (is_known listing.classes) (listing_of before) d)
+
+-- The lines of the text, without those that say nothing, spell the listing behind the built-in classes.
+pub record SpellsListing (text : List ℕ) (listing : Listing) : Type 0 where
+  pub lines : List (List ℕ)
+  pub said : List Declaration
+  pub ended : pieces 10 text ≡ lines ++ [] ∷ []
+  pub few : length lines ≤ 20000
+  pub spelled : AreSaid (filter says_something lines) said
+  pub listed : listing ≡ listing_of said
+  pub once : AreOnce said
+  pub named : AreNamed listing said

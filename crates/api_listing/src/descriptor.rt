@@ -6,7 +6,7 @@
 ghost use Rattle.std.specs.Prelude.{◌≡◌, ◌++◌, ◌∷◌, [], ◌≤◌, ℕ, List, IsTrue, IfOk, IfSome, IfNone, MatchResult, length, drop, option_map, option_copied};
 ghost use Rattle.api_listing.specs.Fault.{Reads, ReadsAs};
 ghost use Rattle.api_listing.specs.Words.{IsClassName};
-ghost use Rattle.api_listing.specs.Descriptor.{until, name_at, element_at, type_at, whole_type, result_of, is_closed, arguments_at, method_type, class_described, class_behind, class_at, after_first};
+ghost use Rattle.api_listing.specs.Descriptor.{until, name_at, element_at, type_at, whole_type, result_of, is_closed, arguments_at, method_type, class_described, class_behind, class_at, after_first, SpellsDescriptor, SpellsClass};
 ghost use Rattle.api_listing.specs.declared.descriptor.MethodType.{MethodType};
 ghost use Rattle.api_listing.specs.declared.fault.FormFault.TheVariants as forms;
 
@@ -42,10 +42,20 @@ pub struct MethodType {
 }
 
 /// The types that a method's descriptor spells.
-#[tactic(auto, unfolding(crate::specs::Descriptor::method_type))]
 pub fn parse_descriptor(alloc: Global, desc: &[u8]) -> Result<MethodType, FormFault>
     // What is read decides the answer.
     ensures exact { Reads result (method_type desc.now) }
+    // What is read is spelled so.
+    ensures found { IfOk result (λ m. SpellsDescriptor desc.now m) }
+    // What is spelled so is read, unless memory runs out.
+    ensures only { (m : MethodType) → SpellsDescriptor desc.now m → MatchResult result (λ r. r ≡ m) (λ e. e ≡ forms.Memory) }
+{
+    method_type(alloc, desc)
+}
+
+#[tactic(auto, unfolding(crate::specs::Descriptor::method_type))]
+fn method_type(alloc: Global, desc: &[u8]) -> Result<MethodType, FormFault>
+    ensures { Reads result (method_type desc.now) }
 {
     match desc {
         [] => Err(FormFault::NoForm),
@@ -65,9 +75,17 @@ fn after_first(alloc: Global, first: u8, rest: &[u8]) -> Result<MethodType, Form
     Ok(MethodType { arguments, result })
 }
 
-/// The class that a field's descriptor of class type names.
+/// The class that a field's descriptor of class type names. It takes no memory.
 pub fn parse_class_descriptor<'a>(desc: &'a [u8]) -> Option<&'a [u8]>
     ensures exact { option_copied result ≡ class_described desc.now }
+    ensures found { IfSome (option_copied result) (λ name. SpellsClass desc.now name) }
+    ensures none { IfNone (option_copied result) ((name : List ℕ) → SpellsClass desc.now name → ⊥) }
+{
+    class_described(desc)
+}
+
+fn class_described<'a>(desc: &'a [u8]) -> Option<&'a [u8]>
+    ensures { option_copied result ≡ class_described desc.now }
 {
     match desc {
         [] => None,

@@ -1,9 +1,11 @@
 //! A listing out of its text.
 
-ghost use Rattle.std.specs.Prelude.{◌≡◌, ◌||◌, ℕ, List, IfOk, OnOk};
+ghost use Rattle.std.specs.Prelude.{◌≡◌, ◌||◌, ℕ, List, IfOk, OnOk, MatchResult};
+ghost use Rattle.api_listing.specs.declared.fault.ListFault.TheVariants as faults;
+ghost use Rattle.api_listing.specs.declared.types.Listing.{Listing};
 ghost use Rattle.api_listing.specs.Fault.{Answers};
 ghost use Rattle.api_listing.specs.Seen.{has_name};
-ghost use Rattle.api_listing.specs.Listing.{is_known, is_named, class_said, classes_in, reading};
+ghost use Rattle.api_listing.specs.Listing.{is_known, is_named, class_said, classes_in, reading, SpellsListing};
 
 use crate::built_in::built_in_classes;
 use crate::draft::listing_of;
@@ -16,10 +18,20 @@ use std::alloc::Global;
 use std::collections::BTreeSet;
 
 /// The listing that the text spells, or what is wrong with its first line that is wrong.
-#[tactic(auto, unfolding(crate::specs::Listing::reading))]
 pub fn read(alloc: Global, text: &[u8]) -> Result<Listing, ListFault>
     // What is read decides the answer, and of several faults which one.
     ensures exact { Answers result (reading text.now) }
+    // What is read is spelled so.
+    ensures found { IfOk result (λ l. SpellsListing text.now l) }
+    // What is spelled so is read, unless memory runs out.
+    ensures only { (l : Listing) → SpellsListing text.now l → MatchResult result (λ r. r ≡ l) (λ e. e ≡ faults.Memory) }
+{
+    read_text(alloc, text)
+}
+
+#[tactic(auto, unfolding(crate::specs::Listing::reading))]
+fn read_text(alloc: Global, text: &[u8]) -> Result<Listing, ListFault>
+    ensures { Answers result (reading text.now) }
 {
     let lines = said_lines(alloc, text)?;
     if lines.len() > 20_000 {

@@ -1,17 +1,8 @@
-use Rattle.std.proofs.Common.{◌≡◌, ◌∙◌, ℕ, List, sym, ap, subst, length, arith}
-use Rattle.std.specs.Prelude.{Result}
-use Rattle.api_listing.specs.declared.types.Listing.{Listing}
-use Rattle.api_listing.specs.declared.fault.ListFault.{ListFault}
-use Rattle.api_listing.specs.Words.{pieces}
-use Rattle.api_listing.specs.Lines.{said_lines}
-use Rattle.api_listing.specs.Seen.{has_name}
-use Rattle.api_listing.specs.Fault.{Answers}
-use Rattle.api_listing.specs.Listing.{reading, after_lines, built_in_listing, read_lines}
-use Rattle.api_listing.proofs.Growing.{few_lines}
+use Rattle.api_listing.proofs.TextLaws.{answer_found, answer_only}
 use Rattle.api_listing.proofs.reading.read.Goals as goal
 
-pub returns : goal.returns
-unfolding reading
-returns c =
-    let few = few_lines c.in_ok-lines.lines (has_name c.in_ok-known.known) (omega (arith, c.if-len-gt20000.false, c.len.ensures)) (λ q. rw (← c.as_slice.ensures) (c.in_ok-known.ensures q)) in
-    record { exact = subst (λ (r : Result Listing ListFault). Answers c.listing_of.result r) (rw c.as_slice-2.ensures few ∙ ap read_lines c.in_ok-lines.ensures) c.listing_of.ensures }
+pub returns-clause-found : goal.returns-clause-found
+returns-clause-found c = answer_found c.args.text.now c.read_text.result c.read_text.ensures
+
+pub returns-clause-only : goal.returns-clause-only
+returns-clause-only c = answer_only c.args.text.now c.read_text.result c.read_text.ensures
