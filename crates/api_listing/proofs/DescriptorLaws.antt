@@ -92,6 +92,7 @@ until_next b bytes name rest others e = by (eqb_tells b 59) where
       let front : b ∷ r.0 ≡ name = ap (λ (x : List ℕ × List ℕ). x.0) same in
       let back : r.1 ≡ rest = ap (λ (x : List ℕ × List ℕ). x.1) same in
       ap (λ (t : List ℕ). b ∷ t) inner ∙ ap (λ (t : List ℕ). t ++ 59 ∷ r.1) front ∙ ap (λ (t : List ℕ). name ++ 59 ∷ t) back
+
   by : ((eqb b 59 ≡ true) × (b ≡ 59)) ⊎ ((eqb b 59 ≡ false) × (b ≢ 59)) → b ∷ bytes ≡ name ++ 59 ∷ rest
   by (inl p) =
       let h = rw p.0 at e in
@@ -127,6 +128,7 @@ name_found bytes name rest e = by (until 59 bytes) refl e where
       let same : ◌≡◌ {A = List ℕ × List ℕ} r (name, rest) = cc in
       let front : r.0 ≡ name = ap (λ (x : List ℕ × List ℕ). x.0) same in
       (until_found bytes name rest (was ∙ h), ap is_class_name (sym front) ∙ is)
+
   by : (read : Option (List ℕ × List ℕ)) → until 59 bytes ≡ read → named_only read ≡ Some (name, rest) → (bytes ≡ name ++ 59 ∷ rest) × (is_class_name name ≡ true)
   by None is h = absurd cc
   by (Some r) is h = when r (is_class_name r.0) refl is h
@@ -205,6 +207,7 @@ type_next b bytes behind t others h = by (eqb_tells b 91) where
       let same = is_read.0 in
       let back = is_read.1 in
       (ap (λ (x : List ℕ). 91 ∷ x) inner.0 ∙ deeper_spelled r.0 r.1 ∙ ap (λ (u : FieldType). type_spelled u ++ r.1) same ∙ ap (λ (x : List ℕ). type_spelled t ++ x) back, sym (ap is_type same) ∙ inner.1)
+
   here : (read : Read (Element × List ℕ)) → element_at b bytes ≡ read → (read >>= λ r. Ok (flat r)) ≡ Ok (t, behind) → (b ∷ bytes ≡ type_spelled t ++ behind) × (is_type t ≡ true)
   here (Err e) is h = absurd cc
   here (Ok r) is h =
@@ -213,6 +216,7 @@ type_next b bytes behind t others h = by (eqb_tells b 91) where
       let same = is_read.0 in
       let back = is_read.1 in
       (inner.0 ∙ ap (λ (u : FieldType). type_spelled u ++ r.1) same ∙ ap (λ (x : List ℕ). type_spelled t ++ x) back, sym (ap is_type same) ∙ inner.1)
+
   by : ((eqb b 91 ≡ true) × (b ≡ 91)) ⊎ ((eqb b 91 ≡ false) × (b ≢ 91)) → (b ∷ bytes ≡ type_spelled t ++ behind) × (is_type t ≡ true)
   by (inl p) =
       let found = later (type_at bytes) refl (rw p.0 at h) in
@@ -262,6 +266,7 @@ arguments_next n bytes behind ts others h = by (is_closed bytes) refl h where
   closed_is : (bs : List ℕ) → is_closed bs ≡ true → bs ≡ 41 ∷ drop 1 bs
   closed_is [] e = absurd (false≢true e)
   closed_is (b ∷ bs) e = ap (λ (x : ℕ). x ∷ bs) (eqb_is b 41 e)
+
   more : (t : FieldType × List ℕ) (read : Read (List FieldType × List ℕ)) → type_at bytes ≡ Ok t → arguments_at n t.1 ≡ read → (read >>= λ others. Ok (t.0 ∷ others.0, others.1)) ≡ read_of ts behind
       → (bytes ≡ flat_map type_spelled ts ++ 41 ∷ behind) × (length ts < suc n) × (list_all is_type ts ≡ true)
   more t (Err e) first is h = absurd cc
@@ -272,23 +277,27 @@ arguments_next n bytes behind ts others h = by (is_closed bytes) refl h where
       let spelled : bytes ≡ flat_map type_spelled (t.0 ∷ r.0) ++ 41 ∷ r.1 =
       found.0 ∙ ap (λ (x : List ℕ). type_spelled t.0 ++ x) rest.0 ∙ sym (append_assoc (type_spelled t.0) (flat_map type_spelled r.0) (41 ∷ r.1)) in
       let long : length (t.0 ∷ r.0) < suc n = omega (arith, rest.1) in
-      let good : list_all is_type (t.0 ∷ r.0) ≡ true = rw (found.1, rest.2) refl in
-      (spelled ∙ ap (λ (us : List FieldType). flat_map type_spelled us ++ 41 ∷ r.1) same.0 ∙ ap (λ (x : List ℕ). flat_map type_spelled ts ++ 41 ∷ x) same.1,
-      subst (λ (us : List FieldType). length us < suc n) same.0 long,
-      sym (ap (list_all is_type) same.0) ∙ good)
+      let good : list_all is_type (t.0 ∷ r.0) ≡ true = rw (found.1, rest.2) refl in (
+        spelled ∙ ap (λ (us : List FieldType). flat_map type_spelled us ++ 41 ∷ r.1) same.0 ∙ ap (λ (x : List ℕ). flat_map type_spelled ts ++ 41 ∷ x) same.1,
+        subst (λ (us : List FieldType). length us < suc n) same.0 long,
+        sym (ap (list_all is_type) same.0) ∙ good,
+      )
+
   first_is : (read : Read (FieldType × List ℕ)) → type_at bytes ≡ read → (read >>= λ first. arguments_at n first.1 >>= λ others. Ok (first.0 ∷ others.0, others.1)) ≡ read_of ts behind
       → (bytes ≡ flat_map type_spelled ts ++ 41 ∷ behind) × (length ts < suc n) × (list_all is_type ts ≡ true)
   first_is (Err e) is h = absurd cc
   first_is (Ok t) is h = more t (arguments_at n t.1) is refl h
+
   by : (b : Bool) → is_closed bytes ≡ b → cond b (Ok ([], drop 1 bytes)) (type_at bytes >>= λ first. arguments_at n first.1 >>= λ others. Ok (first.0 ∷ others.0, others.1)) ≡ read_of ts behind
       → (bytes ≡ flat_map type_spelled ts ++ 41 ∷ behind) × (length ts < suc n) × (list_all is_type ts ≡ true)
   by false is h = first_is (type_at bytes) refl h
   by true is h =
       let same = same_read [] ts (drop 1 bytes) behind h in
-      let short : 0 < suc n = omega arith in
-      (closed_is bytes is ∙ ap (λ (us : List FieldType). flat_map type_spelled us ++ 41 ∷ drop 1 bytes) same.0 ∙ ap (λ (x : List ℕ). flat_map type_spelled ts ++ 41 ∷ x) same.1,
-      subst (λ (us : List FieldType). length us < suc n) same.0 short,
-      sym (ap (list_all is_type) same.0))
+      let short : 0 < suc n = omega arith in (
+        closed_is bytes is ∙ ap (λ (us : List FieldType). flat_map type_spelled us ++ 41 ∷ drop 1 bytes) same.0 ∙ ap (λ (x : List ℕ). flat_map type_spelled ts ++ 41 ∷ x) same.1,
+        subst (λ (us : List FieldType). length us < suc n) same.0 short,
+        sym (ap (list_all is_type) same.0),
+      )
 
 pub arguments_found : (n : ℕ) (bytes behind : List ℕ) (ts : List FieldType) → arguments_at n bytes ≡ read_of ts behind
     → (bytes ≡ flat_map type_spelled ts ++ 41 ∷ behind) × (length ts < n) × (list_all is_type ts ≡ true)
@@ -334,6 +343,7 @@ whole_found bytes t h = by (type_at bytes) refl h where
       let found = type_found bytes r.1 r.0 is in
       let same : r.0 ≡ t = cc in
       (found.0 ∙ ap (λ (x : List ℕ). type_spelled r.0 ++ x) left ∙ append-nil (type_spelled r.0) ∙ ap type_spelled same, sym (ap is_type same) ∙ found.1)
+
   by : (read : Read (FieldType × List ℕ)) → type_at bytes ≡ read → (read >>= λ r. need (eqb (length r.1) 0) NoForm >>= λ end. Ok r.0) ≡ Ok t → (bytes ≡ type_spelled t) × (is_type t ≡ true)
   by (Err e) is h = absurd cc
   by (Ok r) is h = ended_at r r.1 refl is h
@@ -400,9 +410,11 @@ opened first rest m h = by (eqb_tells first 40) where
         arguments = found.2;
         result = after.1;
       })
+
   with_arguments : (read : Read (List FieldType × List ℕ)) → first ≡ 40 → arguments_at 256 rest ≡ read → (read >>= λ ts. result_of ts.1 >>= λ r. Ok (made ts.0 r)) ≡ Ok m → SpellsDescriptor (first ∷ rest) m
   with_arguments (Err e) bracket is h = absurd cc
   with_arguments (Ok ts) bracket is h = with_result ts (result_of ts.1) bracket is refl h
+
   by : ((eqb first 40 ≡ true) × (first ≡ 40)) ⊎ ((eqb first 40 ≡ false) × (first ≢ 40)) → SpellsDescriptor (first ∷ rest) m
   by (inl p) = with_arguments (arguments_at 256 rest) p.1 refl (rw p.0 at h)
   by (inr p) = absurd (none_method m (rw p.0 at h))
@@ -437,9 +449,11 @@ class_descriptor_found (first ∷ rest) name h = by (eqb_tells first 76) where
         spelled = ap (λ (x : ℕ). x ∷ rest) letter ∙ ap (λ (t : List ℕ). 76 ∷ t) found.0 ∙ ap (λ (t : List ℕ). 76 ∷ (r.0 ++ 59 ∷ t)) left ∙ ap class_spelled same;
         named = sym (ap is_class_name same) ∙ found.1;
       }
+
   ends : (read : Option (List ℕ × List ℕ)) → name_at rest ≡ read → first ≡ 76 → ended read ≡ Some name → SpellsClass (first ∷ rest) name
   ends None is letter h = absurd cc
   ends (Some r) is letter h = last r r.1 refl is letter h
+
   by : ((eqb first 76 ≡ true) × (first ≡ 76)) ⊎ ((eqb first 76 ≡ false) × (first ≢ 76)) → SpellsClass (first ∷ rest) name
   by (inl p) = ends (name_at rest) refl p.1 (rw p.0 at h)
   by (inr p) = absurd (none_named name (rw p.0 at h))

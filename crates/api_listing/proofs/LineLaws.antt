@@ -55,6 +55,7 @@ method_line_found words is_static class name desc d spelled h = by (is_class_nam
       let same : method_declared is_static class name desc types ≡ d = cc in
       let line : SpellsLine words (method_declared is_static class name desc types) = (record { spelled = spelled; named = named }, method_found desc types is) in
       subst (SpellsLine words) same line
+
   by : (b : Bool) → (is_class_name class && not (eqb (length name) 0)) ≡ b → (need b NoForm >>= λ named. method_type desc >>= λ types. Ok (method_declared is_static class name desc types)) ≡ Ok d → SpellsLine words d
   by false is h = absurd cc
   by true is h = typed (method_type desc) is refl h
@@ -68,6 +69,7 @@ field_line_found words class name desc d spelled h = by (is_class_name class && 
       let same : Field (member class name desc) of ≡ d = cc in
       let line : SpellsLine words (Field (member class name desc) of) = (record { spelled = spelled; named = named }, class_descriptor_found desc of is) in
       subst (SpellsLine words) same line
+
   by : (b : Bool) → (is_class_name class && not (eqb (length name) 0)) ≡ b → (need b NoForm >>= λ named. class_of desc >>= λ of. Ok (Field (member class name desc) of)) ≡ Ok d → SpellsLine words d
   by false is h = absurd cc
   by true is h = typed (class_described desc) is refl h
@@ -90,13 +92,16 @@ four_found verb class third last d h = first (bytes_eq verb (codes "class") && b
   fourth : (b : Bool) → bytes_eq verb (codes "field") ≡ b → cond b (field_line class third last) (Err NoForm) ≡ Ok d → SpellsLine (verb ∷ class ∷ third ∷ last ∷ []) d
   fourth false is h = absurd cc
   fourth true is h = field_line_found (verb ∷ class ∷ third ∷ last ∷ []) class third last d (ap (λ (v : List ℕ). v ∷ class ∷ third ∷ last ∷ []) (text_is verb (codes "field") is)) h
+
   third_form : (b : Bool) → bytes_eq verb (codes "static") ≡ b → cond b (method_line true class third last) (cond (bytes_eq verb (codes "field")) (field_line class third last) (Err NoForm)) ≡ Ok d → SpellsLine (verb ∷ class ∷ third ∷ last ∷ []) d
   third_form false is h = fourth (bytes_eq verb (codes "field")) refl h
   third_form true is h = method_line_found (verb ∷ class ∷ third ∷ last ∷ []) true class third last d (ap (λ (v : List ℕ). v ∷ class ∷ third ∷ last ∷ []) (text_is verb (codes "static") is)) h
+
   second : (b : Bool) → bytes_eq verb (codes "method") ≡ b
       → cond b (method_line false class third last) (cond (bytes_eq verb (codes "static")) (method_line true class third last) (cond (bytes_eq verb (codes "field")) (field_line class third last) (Err NoForm))) ≡ Ok d → SpellsLine (verb ∷ class ∷ third ∷ last ∷ []) d
   second false is h = third_form (bytes_eq verb (codes "static")) refl h
   second true is h = method_line_found (verb ∷ class ∷ third ∷ last ∷ []) false class third last d (ap (λ (v : List ℕ). v ∷ class ∷ third ∷ last ∷ []) (text_is verb (codes "method") is)) h
+
   first : (b : Bool) → (bytes_eq verb (codes "class") && bytes_eq third (codes "extends")) ≡ b
       → cond b (class_line class last []) (cond (bytes_eq verb (codes "method")) (method_line false class third last) (cond (bytes_eq verb (codes "static")) (method_line true class third last) (cond (bytes_eq verb (codes "field")) (field_line class third last) (Err NoForm)))) ≡ Ok d
       → SpellsLine (verb ∷ class ∷ third ∷ last ∷ []) d

@@ -113,6 +113,7 @@ module _ (known : List ℕ → Bool) where
     knows true new is h =
         let fits = others (ap (λ (next : Listing). after_lines known (number + 1) next lines) (sym (listing_more front d)) ∙ h) in
         (fits.0, fits.1 ∙ ap listing_of (append_assoc front (d ∷ []) (declarations lines)), (new, is, fits.2))
+
     by : (b : Bool) → stands_already (listing_of front) d ≡ b
         → (cond b (Err (faults.Twice number)) (cond (names_known known (listing_of front) d) (Ok (with_declaration (listing_of front) d)) (Err (faults.NoSuper number))) >>= λ next. after_lines known (number + 1) next lines) ≡ listed l
         → Fits (Says d ∷ lines) front l
@@ -142,6 +143,7 @@ line_said line rest others later formed = by (says_something line) refl where
   by_form : (read : Read Declaration) → form_of (pieces 32 line) ≡ read → is_formed (said_as read) ≡ true → AreSaid (line ∷ filter says_something rest) (declarations (said_as read ∷ others))
   by_form (Err e) is good = absurd (false≢true good)
   by_form (Ok d) is good = (line_found (pieces 32 line) d is, later)
+
   by : (b : Bool) → says_something line ≡ b → AreSaid (filter says_something (line ∷ rest)) (declarations (said line ∷ others))
   by false is = rw is later
   by true is =
@@ -166,6 +168,7 @@ line_read line rest ds others are = by (says_something line) refl where
       let later = others es are.1 in
       let read : said line ≡ Says d = rw (is, line_again (pieces 32 line) d are.0) refl in
       (rw (read, later.0) refl, rw read (ap (λ (t : List Declaration). d ∷ t) later.1))
+
   by : (b : Bool) → says_something line ≡ b → AreRead (line ∷ rest) ds
   by false is =
       let later = others ds (rw is at are) in

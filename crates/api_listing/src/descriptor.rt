@@ -106,7 +106,10 @@ fn class_behind<'a>(first: u8, rest: &'a [u8]) -> Option<&'a [u8]>
 
 /// At most 255 types and the bracket behind them.
 #[tactic(auto, unfolding(crate::specs::Descriptor::arguments_at))]
-fn arguments_at<'a>(alloc: Global, bytes: &'a [u8]) -> Result<(List<FieldType>, &'a [u8]), FormFault>
+fn arguments_at<'a>(
+    alloc: Global,
+    bytes: &'a [u8],
+) -> Result<(List<FieldType>, &'a [u8]), FormFault>
     ensures { ReadsAs (λ r. (r.0, r.1.now)) result (arguments_at 256 bytes.now) }
 {
     let mut arguments = List::new(alloc);
@@ -163,7 +166,13 @@ fn type_at<'a>(alloc: Global, bytes: &'a [u8]) -> Result<(FieldType, &'a [u8]), 
     while let [first, rest @ ..] = left {
         if *first != b'[' {
             let (element, behind) = element_at(alloc, *first, rest)?;
-            return Ok((FieldType { dimensions, element }, behind));
+            return Ok((
+                FieldType {
+                    dimensions,
+                    element,
+                },
+                behind,
+            ));
         }
         dimensions += 1;
         left = rest;
@@ -196,10 +205,7 @@ fn class_at<'a>(alloc: Global, bytes: &'a [u8]) -> Result<(Element, &'a [u8]), F
     ensures { ReadsAs (λ r. (r.0, r.1.now)) result (class_at bytes.now) }
 {
     match name_at(bytes) {
-        Some((name, behind)) => Ok((
-            Element::Class(Bytes::from_slice(alloc, name)?),
-            behind,
-        )),
+        Some((name, behind)) => Ok((Element::Class(Bytes::from_slice(alloc, name)?), behind)),
         None => Err(FormFault::NoForm),
     }
 }

@@ -27,7 +27,11 @@ pub struct Draft {
 }
 
 /// The listing after all these lines; `known` has the names of all classes.
-pub fn listing_of(alloc: Global, known: &BTreeSet<Bytes>, lines: &[Said]) -> Result<Listing, ListFault>
+pub fn listing_of(
+    alloc: Global,
+    known: &BTreeSet<Bytes>,
+    lines: &[Said],
+) -> Result<Listing, ListFault>
     requires { length lines.now ≤ 20000 }
     ensures { Answers result (after_lines (has_name known.now) 1 built_in_listing lines.now) }
 {

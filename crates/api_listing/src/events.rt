@@ -56,5 +56,8 @@ pub enum Event {
         /// What the method gave; nothing where it has no result.
         value: Option<ApiValue>,
     },
-    Except { thread: u32, method: u32 },
+    Except {
+        thread: u32,
+        method: u32,
+    },
 }

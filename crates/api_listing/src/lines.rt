@@ -23,7 +23,10 @@ pub enum Declaration {
         types: MethodType,
     },
     /// A field, with the class that its descriptor names.
-    Field { id: MethodId, class: Bytes },
+    Field {
+        id: MethodId,
+        class: Bytes,
+    },
 }
 
 /// What a line says.

@@ -29,12 +29,7 @@ pub fn resolve(listing: &Listing, class: &Bytes, name: &Bytes, desc: &Bytes) -> 
     requires { length listing.now.methods < 2 ^ 32 }
     ensures { result ≡ nearest listing.now class.now name.now desc.now }
 {
-    nearest_index(
-        listing,
-        class.as_slice(),
-        name.as_slice(),
-        desc.as_slice(),
-    )
+    nearest_index(listing, class.as_slice(), name.as_slice(), desc.as_slice())
 }
 
 fn nearest_index(listing: &Listing, class: &[u8], name: &[u8], desc: &[u8]) -> Option<u32>
@@ -77,12 +72,7 @@ fn among_interfaces(listing: &Listing, class: &[u8], name: &[u8], desc: &[u8]) -
     for _ in 0..listing.classes.len() {
         let entry = find_class(listing.classes.as_slice(), at)?;
         let interfaces = entry.interfaces.as_slice();
-        if let Some(index) = first_index(
-            listing.methods.as_slice(),
-            interfaces,
-            name,
-            desc,
-        ) {
+        if let Some(index) = first_index(listing.methods.as_slice(), interfaces, name, desc) {
             return Some(index);
         }
         at = entry.parent.as_slice();
@@ -104,12 +94,7 @@ pub fn find_class<'a>(classes: &'a [ListedClass], name: &[u8]) -> Option<&'a Lis
     None
 }
 
-fn first_index(
-    methods: &[ListedMethod],
-    classes: &[Bytes],
-    name: &[u8],
-    desc: &[u8],
-) -> Option<u32>
+fn first_index(methods: &[ListedMethod], classes: &[Bytes], name: &[u8], desc: &[u8]) -> Option<u32>
     requires { length methods.now < 2 ^ 32 }
     ensures { result ≡ first_declared methods.now name.now desc.now classes.now }
 {

@@ -3,9 +3,11 @@ use mon_base::{Bytes, List};
 use std::test::Fail;
 
 /// The listing of two classes with four methods.
-const NET: &str = "class api/Net extends java/lang/Object\nclass api/Broken extends java/lang/Exception\nstatic api/Net send ()V\nstatic api/Net read ()I\nmethod api/Net push (I)V\nmethod api/Net <init> ()V\n";
+const NET: &str =
+    "class api/Net extends java/lang/Object\nclass api/Broken extends java/lang/Exception\nstatic api/Net send ()V\nstatic api/Net read ()I\nmethod api/Net push (I)V\nmethod api/Net <init> ()V\n";
 
-const FAMILY: &str = "# a remark\n\ninterface x/I\ninterface x/J\nclass x/A extends java/lang/Object implements x/I,x/J\nclass x/B extends x/A\nmethod x/I m ()V\nmethod x/J n ()V\nmethod x/A m (I)V\nmethod x/A p ()V\nmethod x/B p ()V\nfield x/B out Lx/A;\nmethod java/lang/Object q ([[Lx/B;BCISZ)[I\n";
+const FAMILY: &str =
+    "# a remark\n\ninterface x/I\ninterface x/J\nclass x/A extends java/lang/Object implements x/I,x/J\nclass x/B extends x/A\nmethod x/I m ()V\nmethod x/J n ()V\nmethod x/A m (I)V\nmethod x/A p ()V\nmethod x/B p ()V\nfield x/B out Lx/A;\nmethod java/lang/Object q ([[Lx/B;BCISZ)[I\n";
 
 #[test]
 fn what_is_read(rt: HostRuntime) -> Result<(), Fail> {
@@ -14,9 +16,7 @@ fn what_is_read(rt: HostRuntime) -> Result<(), Fail> {
     assert_eq!(rt; net.methods.len(), 4);
     assert!(rt; net.methods.as_slice()[1].is_static && !net.methods.as_slice()[2].is_static);
     assert!(rt; net.methods.as_slice()[3].id.name.as_slice() == b"<init>".as_slice());
-    let family = read(rt.alloc(), FAMILY.as_bytes())
-        .ok()
-        .ok_or("a listing")?;
+    let family = read(rt.alloc(), FAMILY.as_bytes()).ok().ok_or("a listing")?;
     assert_eq!(rt; family.classes.len(), 24);
     assert_eq!(rt; family.classes.as_slice()[22].interfaces.len(), 2);
     assert!(rt; family.classes.as_slice()[20].is_interface);
@@ -36,7 +36,11 @@ fn faults(rt: HostRuntime) {
         ("class  a/A extends java/lang/Object\n", 161, 1),
         ("class a//A extends java/lang/Object\n", 161, 1),
         ("class a/A extends java/lang/Object implements\n", 161, 1),
-        ("class a/A extends java/lang/Object implements java/lang/Runnable,\n", 161, 1),
+        (
+            "class a/A extends java/lang/Object implements java/lang/Runnable,\n",
+            161,
+            1,
+        ),
         ("interface I x\n", 161, 1),
         ("final java/lang/Object m ()V\n", 161, 1),
         ("method java/lang/Object  ()V\n", 161, 1),
@@ -53,16 +57,36 @@ fn faults(rt: HostRuntime) {
         ("method java/lang/Object m I\n", 161, 1),
         ("field java/lang/Object m I\n", 161, 1),
         ("field java/lang/Object m [Ljava/lang/Object;\n", 161, 1),
-        ("class A extends java/lang/Object\nclass A extends B\n", 162, 2),
+        (
+            "class A extends java/lang/Object\nclass A extends B\n",
+            162,
+            2,
+        ),
         ("class java/lang/Thread extends java/lang/Object\n", 162, 1),
         ("interface conspec/State\n", 162, 1),
         ("method java/lang/Thread start ()V\n", 162, 1),
         ("method java/lang/Runnable run ()V\n", 162, 1),
-        ("method java/lang/Thread m ()V\nstatic java/lang/Thread m ()V\n", 162, 2),
-        ("field java/lang/Thread m Ljava/lang/Thread;\nfield java/lang/Thread m Ljava/lang/Thread;\n", 162, 2),
-        ("class A extends B\nclass B extends java/lang/Object\n", 163, 1),
+        (
+            "method java/lang/Thread m ()V\nstatic java/lang/Thread m ()V\n",
+            162,
+            2,
+        ),
+        (
+            "field java/lang/Thread m Ljava/lang/Thread;\nfield java/lang/Thread m Ljava/lang/Thread;\n",
+            162,
+            2,
+        ),
+        (
+            "class A extends B\nclass B extends java/lang/Object\n",
+            163,
+            1,
+        ),
         ("class A extends A\n", 163, 1),
-        ("class A extends java/lang/Object implements I\ninterface I\n", 163, 1),
+        (
+            "class A extends java/lang/Object implements I\ninterface I\n",
+            163,
+            1,
+        ),
         ("method a/Q m ()V\n", 163, 1),
         ("method java/lang/Thread m (La/Q;)V\n", 163, 1),
         ("method java/lang/Thread m ()[La/Q;\n", 163, 1),
@@ -80,7 +104,14 @@ fn faults(rt: HostRuntime) {
             }
         }
     }
-    assert_eq!(rt; read(rt.alloc(), b"method A m ()V\nclass A extends java/lang/Object\n".as_slice()).is_ok(), true);
+    assert_eq!(rt;
+        read(
+            rt.alloc(),
+            b"method A m ()V\nclass A extends java/lang/Object\n".as_slice()
+        )
+        .is_ok(),
+        true
+    );
 }
 
 fn place(fault: &ListFault) -> u64 {
@@ -132,7 +163,10 @@ fn descriptors(rt: HostRuntime) -> Result<(), Fail> {
             desc.extend(b"[I".as_slice()).ok().ok_or("memory")?;
         }
         desc.extend(b")V".as_slice()).ok().ok_or("memory")?;
-        assert_eq!(rt; parse_descriptor(rt.alloc(), desc.as_slice()).is_ok(), *good);
+        assert_eq!(rt;
+            parse_descriptor(rt.alloc(), desc.as_slice()).is_ok(),
+            *good
+        );
     }
     let types = parse_descriptor(rt.alloc(), b"([[La/B;I)[Z".as_slice())
         .ok()
@@ -147,9 +181,7 @@ fn descriptors(rt: HostRuntime) -> Result<(), Fail> {
 
 #[test]
 fn declarations(rt: HostRuntime) -> Result<(), Fail> {
-    let family = read(rt.alloc(), FAMILY.as_bytes())
-        .ok()
-        .ok_or("a listing")?;
+    let family = read(rt.alloc(), FAMILY.as_bytes()).ok().ok_or("a listing")?;
     let rows = [
         ("x/B", "p", "()V", Some(4)),
         ("x/A", "p", "()V", Some(3)),

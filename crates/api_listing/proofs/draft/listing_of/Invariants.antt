@@ -7,7 +7,7 @@ abbrev pub invariant-loop-left : goal.invariant-loop-left
 invariant-loop-left l = record {
   agrees : Agrees l.draft;
   so_far : after_lines (has_name l.known) l.number l.draft.listing l.left ≡ after_lines (has_name l.known) 1 built_in_listing l.lines;
-  count : l.number + length l.left ≡ length l.lines + 1
+  count : l.number + length l.left ≡ length l.lines + 1;
 }
 
 abbrev pub decreases-loop-left : goal.decreases-loop-left
