@@ -20,10 +20,10 @@ use Rattle.api_listing.specs.declared.fault.FormFault.{FormFault}
 use Rattle.api_listing.specs.declared.fault.ListFault.{ListFault}
 use Rattle.api_listing.specs.declared.fault.ListFault.TheVariants as faults
 use Rattle.api_listing.specs.Words.{pieces}
-use Rattle.api_listing.specs.BuiltIn.{built_in_classes}
+use Rattle.api_listing.specs.BuiltIn.{built_in_classes, class_rows}
 use Rattle.api_listing.specs.Fault.{Read, Answers, Refuses}
 use Rattle.api_listing.specs.Lines.{says_something, form_of, said_as, said, ending, said_lines, SpellsLine}
-use Rattle.api_listing.specs.Listing.{is_known, stands_already, names_known, with_declaration, built_in_listing, declared, after_line, after_lines, class_said, classes_in, read_lines, reading, class_declared, method_declared, field_declared, listing_of, AreSaid, AreOnce, AreNamed, SpellsListing}
+use Rattle.api_listing.specs.Listing.{is_known, stands_already, names_known, with_declaration, built_in_listing, declared, after_line, after_lines, class_said, classes_in, read_lines, reading, class_declared, method_declared, field_declared, listing_of, AreSaid, AreOnce, AreNamed, SpellsListing, IsFew}
 use Rattle.api_listing.proofs.Lists.{not_true}
 use Rattle.api_listing.proofs.DescriptorLaws.{both}
 use Rattle.api_listing.proofs.LineLaws.{line_found, line_again}
@@ -298,3 +298,43 @@ refused (faults.TooMany count) l read h is = absurd (none_listed (faults.TooMany
 pub answer_only : (text : List ℕ) (result : Result Listing ListFault) → Answers result (reading text) → (l : Listing) → SpellsListing text l → MatchResult result (λ r. r ≡ l) (λ e. e ≡ faults.Memory)
 answer_only text (Ok r) h l s = listed_is r l (sym h ∙ text_again text l s)
 answer_only text (Err e) h l s = refused e l (reading text) h (text_again text l s)
+
+-- ---- few are declared
+
+few_given : {X Y : Type 0} (h : X → Option Y) (xs : List X) → length (filter_map h xs) ≤ length xs
+few_given h [] = omega arith
+few_given h (x ∷ xs) = by (h x) refl (few_given h xs) where
+  by : (o : Option _) → h x ≡ o → length (filter_map h xs) ≤ length xs → length (filter_map h (x ∷ xs)) ≤ length (x ∷ xs)
+  by None is less = rw is (omega arith)
+  by (Some y) is less = rw is (omega arith)
+
+few_left : (p : List ℕ → Bool) (xs : List (List ℕ)) → length (filter p xs) ≤ length xs
+few_left p [] = omega arith
+few_left p (x ∷ xs) = by (p x) refl (few_left p xs) where
+  by : (b : Bool) → p x ≡ b → length (filter p xs) ≤ length xs → length (filter p (x ∷ xs)) ≤ length (x ∷ xs)
+  by false is less = rw is (omega arith)
+  by true is less = rw is (omega arith)
+
+one_each : (lines : List (List ℕ)) (ds : List Declaration) → AreSaid lines ds → length ds ≡ length lines
+one_each [] [] are = refl
+one_each [] (d ∷ ds) are = absurd are
+one_each (line ∷ lines) [] are = absurd are
+one_each (line ∷ lines) (d ∷ ds) are = omega (arith, one_each lines ds are.1)
+
+built_in_count : length built_in_classes ≡ 20
+unfolding class_rows
+built_in_count = refl
+
+few_spelled : (text : List ℕ) (l : Listing) → SpellsListing text l → IsFew l
+few_spelled text l s =
+    let count : length s.said ≤ 20000 = omega (arith, s.few, few_left says_something s.lines, one_each (filter says_something s.lines) s.said s.spelled) in
+    let few : IsFew (listing_of s.said) = record {
+      classes = omega (arith, count, built_in_count, few_given class_declared s.said, length-append built_in_classes (filter_map class_declared s.said));
+      methods = omega (arith, count, few_given method_declared s.said);
+      fields = omega (arith, count, few_given field_declared s.said);
+    } in
+    subst IsFew (sym s.listed) few
+
+pub answer_few : (text : List ℕ) (result : Result Listing ListFault) → Answers result (reading text) → IfOk result (λ l. IsFew l)
+answer_few text (Ok l) h = few_spelled text l (text_found text l h)
+answer_few text (Err e) h = tt

@@ -176,3 +176,9 @@ pub record SpellsListing (text : List ℕ) (listing : Listing) : Type 0 where
   pub listed : listing ≡ listing_of said
   pub once : AreOnce said
   pub named : AreNamed listing said
+
+-- A text has at most 20,000 lines, and 20 classes are built in.
+pub record IsFew (listing : Listing) : Type 0 where
+  pub classes : length listing.classes ≤ 20020
+  pub methods : length listing.methods ≤ 20000
+  pub fields : length listing.fields ≤ 20000

@@ -5,7 +5,7 @@ ghost use Rattle.api_listing.specs.declared.fault.ListFault.TheVariants as fault
 ghost use Rattle.api_listing.specs.declared.types.Listing.{Listing};
 ghost use Rattle.api_listing.specs.Fault.{Answers};
 ghost use Rattle.api_listing.specs.Seen.{has_name};
-ghost use Rattle.api_listing.specs.Listing.{is_known, is_named, class_said, classes_in, reading, SpellsListing};
+ghost use Rattle.api_listing.specs.Listing.{is_known, is_named, class_said, classes_in, reading, SpellsListing, IsFew};
 
 use crate::built_in::built_in_classes;
 use crate::draft::listing_of;
@@ -25,6 +25,8 @@ pub fn read(alloc: Global, text: &[u8]) -> Result<Listing, ListFault>
     ensures found { IfOk result (λ l. SpellsListing text.now l) }
     // What is spelled so is read, unless memory runs out.
     ensures only { (l : Listing) → SpellsListing text.now l → MatchResult result (λ r. r ≡ l) (λ e. e ≡ faults.Memory) }
+    // It is few, so that an index of a method fits 32 bits.
+    ensures few { IfOk result (λ l. IsFew l) }
 {
     read_text(alloc, text)
 }
