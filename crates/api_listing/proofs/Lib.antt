@@ -5,5 +5,6 @@ mod Growing
 pub mod LineLaws
 mod Lists
 mod Names
+mod Resolving
 pub mod Tables
 pub mod TextLaws

@@ -1,6 +1,6 @@
 -- Where a method is declared, from a class upwards.
-use Rattle.std.specs.Prelude.{ℕ, zero, suc, List, [], ◌∷◌, ◌++◌, length, map, find, bytes_eq, Option, Some, None}
-use Rattle.std.specs.List.{flat_map, position_from}
+use Rattle.std.specs.Prelude.{◌≡◌, ℕ, zero, suc, List, [], ◌∷◌, ◌++◌, length, map, find, bytes_eq, Option, Some, None, IsTrue, slice_get}
+use Rattle.std.specs.List.{flat_map, list_any, position_from}
 use Rattle.std.specs.Option.{option_or, option_map_or}
 use Rattle.api_listing.specs.declared.types.ListedClass.{ListedClass}
 use Rattle.api_listing.specs.declared.types.ListedMethod.{ListedMethod}
@@ -32,8 +32,24 @@ names_of classes = map (λ c. c.name) classes
 abbrev pub interfaces_of : List ListedClass → List (List ℕ)
 interfaces_of classes = flat_map (λ c. c.interfaces) classes
 
+-- where a method of a class is looked for: in the class, its superclasses from the nearest on, and then their interfaces
+abbrev pub looked_in : Listing → List ℕ → List (List ℕ)
+looked_in listing class =
+    let supers = upwards (length listing.classes) listing.classes class in
+    names_of supers ++ interfaces_of supers
+
 -- the index of the method that the class, or else its nearest superclass, or else the first of their interfaces declares
 abbrev pub nearest : Listing → List ℕ → List ℕ → List ℕ → Option ℕ
-nearest listing class name desc =
-    let supers = upwards (length listing.classes) listing.classes class in
-    first_declared listing.methods name desc (names_of supers ++ interfaces_of supers)
+nearest listing class name desc = first_declared listing.methods name desc (looked_in listing class)
+
+-- The method with this index has the name and the descriptor, and is of a class in which it is looked for.
+pub record IsMethodAt (listing : Listing) (class name desc : List ℕ) (index : ℕ) : Type 0 where
+  pub method : ListedMethod
+  pub there : slice_get listing.methods index ≡ Some method
+  pub named : method.id.name ≡ name
+  pub described : method.id.desc ≡ desc
+  pub of_these : IsTrue (list_any (λ c. bytes_eq c method.id.class) (looked_in listing class))
+
+-- None has.
+abbrev pub HasNoMethod : Listing → List ℕ → List ℕ → List ℕ → Type 0
+HasNoMethod listing class name desc = (index : ℕ) → IsMethodAt listing class name desc index → ⊥

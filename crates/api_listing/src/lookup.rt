@@ -1,11 +1,11 @@
 //! Which method of a listing a call means.
 
-ghost use Rattle.std.specs.Prelude.{◌≡◌, ◌<◌, ◌^◌, length};
+ghost use Rattle.std.specs.Prelude.{◌≡◌, ◌<◌, ◌^◌, length, IfSome, IfNone};
 ghost use Rattle.std.specs.List.{position_from};
 ghost use Rattle.std.specs.Option.{option_copied};
 ghost use Rattle.api_listing.specs.Listing.{is_known};
 ghost use Rattle.api_listing.specs.BuiltIn.{is_method};
-ghost use Rattle.api_listing.specs.Nearest.{class_named, declared_in, first_declared, upwards, names_of, interfaces_of, nearest};
+ghost use Rattle.api_listing.specs.Nearest.{class_named, declared_in, first_declared, upwards, names_of, interfaces_of, nearest, IsMethodAt, HasNoMethod};
 
 use crate::types::{ListedClass, ListedMethod, Listing};
 use mon_base::{Bytes, MethodId};
@@ -27,7 +27,9 @@ pub fn is_known_class(listing: &Listing, name: &[u8]) -> bool
 /// 5.4.3.3). `None` where none of them declares it, and where no class has the name. It takes no memory.
 pub fn resolve(listing: &Listing, class: &Bytes, name: &Bytes, desc: &Bytes) -> Option<u32>
     requires { length listing.now.methods < 2 ^ 32 }
-    ensures { result ≡ nearest listing.now class.now name.now desc.now }
+    ensures exact { result ≡ nearest listing.now class.now name.now desc.now }
+    ensures found { IfSome result (λ index. IsMethodAt listing.now class.now name.now desc.now index) }
+    ensures none { IfNone result (HasNoMethod listing.now class.now name.now desc.now) }
 {
     nearest_index(listing, class.as_slice(), name.as_slice(), desc.as_slice())
 }
