@@ -1,0 +1,15 @@
+//! The code of a method: read from bytes into a list of instructions, and written from it, byte for byte.
+//!
+//! The targets of branches and switches are indices into the list. Each form of an instruction is its own value, so
+//! there is one list for the bytes and one text of bytes for a list.
+#![tactic(auto)]
+
+mod fault;
+mod insn;
+mod opcode;
+mod place;
+mod targets;
+
+pub use fault::{CodeFault, CodeOverflow};
+pub use insn::Insn;
+pub use opcode::{Operands, goes_on, is_frame_only, name_of, operands_of};
