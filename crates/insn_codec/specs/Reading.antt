@@ -107,18 +107,36 @@ padding_at at p = ok_or (bytes_at (padding at) p) (Cut at)
 abbrev pub all_zero : List ℕ → Bool
 all_zero bytes = list_all (λ b. b == 0) bytes
 
--- The padding is tried last: that bytes are missing comes before it.
+-- the least number, and how many there are up to the greatest, which is not below it
+unfoldable pub bounds_at : ℕ → Place → Read (ℤ × ℕ)
+bounds_at at p = do
+  low ← i4_at at p
+  high ← i4_at at low.1
+  order ← need (int_le low.0 high.0) (Form at)
+  Ok ((low.0, nat_abs (high.0 -ℤ low.0) + 1), high.1)
+
+-- what follows the padding, which is tried last: that bytes are missing comes before it
+unfoldable pub ranged_at : Finder → ℕ → List ℕ → Place → Read Insn
+ranged_at find at pad p = do
+  other ← far_at find at p
+  bounds ← bounds_at at other.1
+  all ← counted (far_at find at) bounds.0.1 bounds.1
+  clean ← need (all_zero pad) (Form at)
+  Ok (insns.Table other.0 bounds.0.0 all.0, all.1)
+
 unfoldable pub table_at : Finder → ℕ → Place → Read Insn
 table_at find at p = do
   pad ← padding_at at p
-  other ← far_at find at pad.1
-  low ← i4_at at other.1
-  high ← i4_at at low.1
-  order ← need (int_le low.0 high.0) (Form at)
-  all ← counted (far_at find at) (nat_abs (high.0 -ℤ low.0) + 1) high.1
-  clean ← need (all_zero pad.0) (Form at)
-  Ok (insns.Table other.0 low.0 all.0, all.1)
+  ranged_at find at pad.0 pad.1
 
+-- a count that is not below 0
+unfoldable pub count_at : ℕ → Place → Read ℕ
+count_at at p = do
+  count ← i4_at at p
+  some ← need (int_le (pos 0) count.0) (Form at)
+  Ok (nat_abs count.0, count.1)
+
+-- a key and its target
 unfoldable pub case_at : Finder → ℕ → Place → Read Case
 case_at find at p = do
   key ← i4_at at p
@@ -133,16 +151,24 @@ ascend_from least (key ∷ keys) = int_le least key && ascend_from (key +ℤ pos
 abbrev pub ascend : List ℤ → Bool
 ascend keys = ascend_from (negsuc 0x7FFFFFFF) keys
 
+unfoldable pub cases_at : Finder → ℕ → Place → Read (List Case)
+cases_at find at p = do
+  count ← count_at at p
+  counted (case_at find at) count.0 count.1
+
+-- what follows the padding, which is tried last, with the order of the keys
+unfoldable pub keyed_at : Finder → ℕ → List ℕ → Place → Read Insn
+keyed_at find at pad p = do
+  other ← far_at find at p
+  all ← cases_at find at other.1
+  clean ← need (all_zero pad) (Form at)
+  order ← need (ascend (map (λ one. one.key) all.0)) (Form at)
+  Ok (insns.Lookup other.0 (map (λ one. one.key) all.0) (map (λ one. one.to) all.0), all.1)
+
 unfoldable pub lookup_at : Finder → ℕ → Place → Read Insn
 lookup_at find at p = do
   pad ← padding_at at p
-  other ← far_at find at pad.1
-  count ← i4_at at other.1
-  some ← need (int_le (pos 0) count.0) (Form at)
-  all ← counted (case_at find at) (nat_abs count.0) count.1
-  clean ← need (all_zero pad.0) (Form at)
-  order ← need (ascend (map (λ one. one.key) all.0)) (Form at)
-  Ok (insns.Lookup other.0 (map (λ one. one.key) all.0) (map (λ one. one.to) all.0), all.1)
+  keyed_at find at pad.0 pad.1
 
 -- ---- instructions
 

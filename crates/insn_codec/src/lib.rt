@@ -8,6 +8,8 @@ mod fault;
 mod insn;
 mod opcode;
 mod place;
+mod reading;
+mod switches;
 mod targets;
 
 pub use fault::{CodeFault, CodeOverflow};
