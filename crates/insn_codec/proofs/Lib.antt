@@ -1,3 +1,5 @@
+pub mod Ascend
+pub mod Instruction
 pub mod Loop
 pub mod Opcodes
 pub mod Signed

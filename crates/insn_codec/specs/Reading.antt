@@ -1,5 +1,5 @@
 -- Reading a code from left to right: the instructions, or the first fault.
-use Rattle.std.specs.Prelude.{◌≡◌, ℕ, zero, suc, ℤ, pos, negsuc, ◌+ℤ◌, ◌-ℤ◌, int_le, int_lt, ◌+◌, ◌-◌, ◌==◌, ◌&&◌, Bool, true, false, List, [], ◌∷◌, length, map, Option, Some, None, ok_or, option_map, Result, Ok, Err, nat_lt, nat_le, nat_abs, if◌then◌else◌}
+use Rattle.std.specs.Prelude.{◌≡◌, ℕ, zero, suc, ℤ, pos, negsuc, ◌+ℤ◌, ◌-ℤ◌, int_le, int_lt, ◌+◌, ◌-◌, ◌==◌, ◌&&◌, Bool, true, false, List, [], ◌∷◌, length, map, not, Option, Some, None, ok_or, option_map, Result, Ok, Err, nat_lt, nat_le, nat_abs, if◌then◌else◌}
 use Rattle.std.specs.List.{list_all}
 use Rattle.std.specs.Int.{w8, w16, w32, cast_signed}
 use Rattle.mon_base.specs.Reading.{Place, bytes_at, number_at, ◌>>=◌, need, counted}
@@ -35,6 +35,14 @@ ReadsAs view (Err e) read new = Fails e read
 abbrev pub Answers : {X : Type 0} → Result X CodeFault → Result X CodeFault → Type 0
 Answers (Ok x) answer = answer ≡ Ok x
 Answers (Err e) answer = Fails e answer
+
+abbrev pub AnswersAs : {X Y : Type 0} → (X → Y) → Result X CodeFault → Result Y CodeFault → Type 0
+AnswersAs view (Ok x) answer = answer ≡ Ok (view x)
+AnswersAs view (Err e) answer = Fails e answer
+
+-- where the bytes end
+abbrev pub end_of : Place → ℕ
+end_of p = p.at + length p.rest
 
 -- ---- numbers, of the instruction at `at`
 
@@ -252,8 +260,9 @@ insns_of find code = do
 -- Control cannot go on past the last of the instructions, which stand from `at` on.
 abbrev pub ended : ℕ → List Insn → Result (Unit {0}) CodeFault
 ended at [] = Ok tt
-ended at (last ∷ []) = need (if goes_on (opcode_of last) then false else true) (End at)
-ended at (first ∷ next ∷ others) = ended (at + size at first) (next ∷ others)
+ended at (first ∷ others) =
+    if length others == 0 then need (not (goes_on (opcode_of first))) (End at)
+    else ended (at + size at first) others
 
 -- The code is read with any targets, which tells where its instructions begin, and then with these.
 unfoldable pub code_of : List ℕ → Result (List Insn) CodeFault

@@ -6,6 +6,7 @@
 
 mod fault;
 mod insn;
+mod layout;
 mod opcode;
 mod place;
 mod reading;
@@ -13,5 +14,6 @@ mod switches;
 mod targets;
 
 pub use fault::{CodeFault, CodeOverflow};
-pub use insn::Insn;
+pub use insn::{Case, Insn};
+pub use layout::starts;
 pub use opcode::{Operands, goes_on, is_frame_only, name_of, operands_of};

@@ -3,7 +3,7 @@
 ghost use Rattle.std.specs.Prelude.{◌≡◌, ◌+◌, ◌<◌, ◌^◌, length, OnOk, IfOk, Ok};
 ghost use Rattle.insn_codec.specs.Spelling.{size, len_from};
 ghost use Rattle.insn_codec.specs.Reading.{Reads, Answers, iface_at, new_array_at, inc_at, wide_inc_at, widened_at, wide_at};
-ghost use Rattle.insn_codec.specs.Reading.{operands_at, insn_at, insns_at};
+ghost use Rattle.insn_codec.specs.Reading.{AnswersAs, end_of, operands_at, insn_at, insns_of};
 ghost use Rattle.insn_codec.specs.Opcodes.{operands_of};
 ghost use Rattle.insn_codec.specs.Targets.{finds};
 
@@ -21,6 +21,7 @@ use std::alloc::Global;
 fn iface(at: u64, from: &mut Cursor) -> Result<Insn, CodeFault>
     ensures reads { Reads result (iface_at at from.old) from.new }
     ensures moves { IfOk result (λ insn. from.new.at + 1 ≡ from.old.at + size at insn) }
+    ensures stays { OnOk result (end_of from.new ≡ end_of from.old) }
 {
     let index = u2(at, from)?;
     let count = u1(at, from)?;
@@ -35,6 +36,7 @@ fn iface(at: u64, from: &mut Cursor) -> Result<Insn, CodeFault>
 fn new_array(at: u64, from: &mut Cursor) -> Result<Insn, CodeFault>
     ensures reads { Reads result (new_array_at at from.old) from.new }
     ensures moves { IfOk result (λ insn. from.new.at + 1 ≡ from.old.at + size at insn) }
+    ensures stays { OnOk result (end_of from.new ≡ end_of from.old) }
 {
     let kind = u1(at, from)?;
     if kind < 4 || 11 < kind {
@@ -51,6 +53,7 @@ fn new_array(at: u64, from: &mut Cursor) -> Result<Insn, CodeFault>
 fn inc(at: u64, from: &mut Cursor) -> Result<Insn, CodeFault>
     ensures reads { Reads result (inc_at at from.old) from.new }
     ensures moves { IfOk result (λ insn. from.new.at + 1 ≡ from.old.at + size at insn) }
+    ensures stays { OnOk result (end_of from.new ≡ end_of from.old) }
 {
     let slot = u1(at, from)?;
     let by = i1(at, from)?;
@@ -66,6 +69,7 @@ fn inc(at: u64, from: &mut Cursor) -> Result<Insn, CodeFault>
 fn wide_inc(at: u64, from: &mut Cursor) -> Result<Insn, CodeFault>
     ensures reads { Reads result (wide_inc_at at from.old) from.new }
     ensures moves { IfOk result (λ insn. from.new.at + 2 ≡ from.old.at + size at insn) }
+    ensures stays { OnOk result (end_of from.new ≡ end_of from.old) }
 {
     let slot = u2(at, from)?;
     let by = i2(at, from)?;
@@ -80,6 +84,7 @@ fn wide_inc(at: u64, from: &mut Cursor) -> Result<Insn, CodeFault>
 fn widened(op: u8, at: u64, from: &mut Cursor) -> Result<Insn, CodeFault>
     ensures reads { Reads result (widened_at (operands_of op) at op from.old) from.new }
     ensures moves { IfOk result (λ insn. from.new.at + 2 ≡ from.old.at + size at insn) }
+    ensures stays { OnOk result (end_of from.new ≡ end_of from.old) }
 {
     match operands_of(op) {
         Operands::Local => Ok(Insn::Local {
@@ -97,6 +102,7 @@ fn widened(op: u8, at: u64, from: &mut Cursor) -> Result<Insn, CodeFault>
 fn wide(at: u64, from: &mut Cursor) -> Result<Insn, CodeFault>
     ensures reads { Reads result (wide_at at from.old) from.new }
     ensures moves { IfOk result (λ insn. from.new.at + 1 ≡ from.old.at + size at insn) }
+    ensures stays { OnOk result (end_of from.new ≡ end_of from.old) }
 {
     let op = u1(at, from)?;
     widened(op, at, from)
@@ -113,6 +119,7 @@ fn operands(
     requires { at < 2 ^ 32 }
     ensures reads { Reads result (operands_at (operands_of op) (finds targets.now) at op from.old) from.new }
     ensures moves { IfOk result (λ insn. from.new.at + 1 ≡ from.old.at + size at insn) }
+    ensures stays { OnOk result (end_of from.new ≡ end_of from.old) }
 {
     match operands_of(op) {
         Operands::Plain => Ok(Insn::Plain(op)),
@@ -152,8 +159,27 @@ fn insn(alloc: Global, targets: &Targets, from: &mut Cursor) -> Result<Insn, Cod
     requires { from.old.at < 2 ^ 32 }
     ensures reads { Reads result (insn_at (finds targets.now) from.old.at from.old) from.new }
     ensures moves { IfOk result (λ insn. from.new.at ≡ from.old.at + size from.old.at insn) }
+    ensures stays { OnOk result (end_of from.new ≡ end_of from.old) }
 {
     let at = from.position();
     let op = u1(at, from)?;
     operands(alloc, targets, op, at, from)
+}
+
+/// All the instructions.
+pub fn insns(alloc: Global, targets: &Targets, code: &[u8]) -> Result<Vec<Insn>, CodeFault>
+    requires { length code.now < 2 ^ 32 }
+    ensures reads { AnswersAs (λ v. v.items) result (insns_of (finds targets.now) code.now) }
+    ensures len { IfOk result (λ v. len_from 0 v.items ≡ length code.now) }
+{
+    let mut from = Cursor::new(code);
+    let mut insns = Vec::new(alloc);
+    for _ in 0..code.len() {
+        if from.is_at_end() {
+            return Ok(insns);
+        }
+        let next = insn(alloc, targets, &mut from)?;
+        insns.push(next)?;
+    }
+    Ok(insns)
 }

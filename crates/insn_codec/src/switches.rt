@@ -3,7 +3,7 @@
 ghost use Rattle.std.specs.Prelude.{◌≡◌, ◌+◌, ◌*◌, ◌<◌, ◌^◌, length, map, IfOk, OnOk};
 ghost use Rattle.mon_base.specs.Reading.{counted};
 ghost use Rattle.insn_codec.specs.Spelling.{padding, size};
-ghost use Rattle.insn_codec.specs.Reading.{Reads, ReadsAs, all_zero, bounds_at, ranged_at, table_at};
+ghost use Rattle.insn_codec.specs.Reading.{Reads, ReadsAs, all_zero, bounds_at, ranged_at, table_at, end_of};
 ghost use Rattle.insn_codec.specs.Reading.{far_at, case_at, ascend, count_at, cases_at, keyed_at, lookup_at};
 ghost use Rattle.insn_codec.specs.Targets.{finds};
 
@@ -11,14 +11,14 @@ use crate::fault::CodeFault;
 use crate::insn::{Case, Insn};
 use crate::place::{i4, padding};
 use crate::targets::Targets;
-use mon_base::{Cursor, List};
+use mon_base::{Cursor, List, NoMemory};
 use std::alloc::Global;
 
 /// What is counted in a switch.
 trait Item: Drop {
     ghost use Rattle.std.specs.Prelude.{◌≡◌, ◌+◌, ◌<◌, ◌^◌, ℕ, OnOk};
     ghost use Rattle.mon_base.specs.Reading.{Place};
-    ghost use Rattle.insn_codec.specs.Reading.{Finder, Read, Reads};
+    ghost use Rattle.insn_codec.specs.Reading.{Finder, Read, Reads, end_of};
     ghost use Rattle.insn_codec.specs.Targets.{finds};
 
     /// What reading it gives, in the instruction that begins at a place.
@@ -32,7 +32,8 @@ trait Item: Drop {
         Self: Sized,
         requires { at < 2 ^ 32 }
         ensures reads { Reads result (item_at (finds targets.now) at from.old) from.new }
-        ensures moves { OnOk result (from.new.at ≡ from.old.at + len) };
+        ensures moves { OnOk result (from.new.at ≡ from.old.at + len) }
+        ensures stays { OnOk result (end_of from.new ≡ end_of from.old) };
 }
 
 impl Item for u32 {
@@ -69,6 +70,7 @@ fn several<T: Item>(
     requires { at < 2 ^ 32 }
     ensures reads { ReadsAs (λ v. v.items) result (counted (T.item_at (finds targets.now) at) count from.old) from.new }
     ensures moves { IfOk result (λ v. from.new.at ≡ from.old.at + T.len * length v.items) }
+    ensures stays { OnOk result (end_of from.new ≡ end_of from.old) }
 {
     let mut items = Vec::new(alloc);
     for _ in 0..count {
@@ -90,6 +92,7 @@ fn all_zero(bytes: &[u8]) -> bool
 fn bounds(at: u64, from: &mut Cursor) -> Result<(i32, u64), CodeFault>
     ensures reads { Reads result (bounds_at at from.old) from.new }
     ensures moves { OnOk result (from.new.at ≡ from.old.at + 8) }
+    ensures stays { OnOk result (end_of from.new ≡ end_of from.old) }
 {
     let low = i4(at, from)?;
     let high = i4(at, from)?;
@@ -111,6 +114,7 @@ fn ranged(
     requires { at < 2 ^ 32 }
     ensures reads { Reads result (ranged_at (finds targets.now) at pad.now from.old) from.new }
     ensures moves { IfOk result (λ insn. from.new.at + padding at + 1 ≡ from.old.at + size at insn) }
+    ensures stays { OnOk result (end_of from.new ≡ end_of from.old) }
 {
     let other = targets.far(at, from)?;
     let (low, count) = bounds(at, from)?;
@@ -136,6 +140,7 @@ pub fn table(
     requires { at < 2 ^ 32 }
     ensures reads { Reads result (table_at (finds targets.now) at from.old) from.new }
     ensures moves { IfOk result (λ insn. from.new.at + 1 ≡ from.old.at + size at insn) }
+    ensures stays { OnOk result (end_of from.new ≡ end_of from.old) }
 {
     let pad = padding(at, from)?;
     ranged(alloc, targets, at, pad, from)
@@ -158,7 +163,7 @@ fn ascend(keys: &[Case]) -> bool
 }
 
 /// The keys of the cases.
-fn keys_of(alloc: Global, cases: &[Case]) -> Result<Vec<i32>, CodeFault>
+fn keys_of(alloc: Global, cases: &[Case]) -> Result<Vec<i32>, NoMemory>
     ensures { IfOk result (λ keys. keys.items ≡ map (λ one. one.key) cases.now) }
 {
     let mut keys = Vec::new(alloc);
@@ -169,7 +174,7 @@ fn keys_of(alloc: Global, cases: &[Case]) -> Result<Vec<i32>, CodeFault>
 }
 
 /// The targets of the cases.
-fn targets_of(alloc: Global, cases: &[Case]) -> Result<Vec<u32>, CodeFault>
+fn targets_of(alloc: Global, cases: &[Case]) -> Result<Vec<u32>, NoMemory>
     ensures { IfOk result (λ targets. targets.items ≡ map (λ one. one.to) cases.now) }
 {
     let mut targets = Vec::new(alloc);
@@ -184,6 +189,7 @@ fn targets_of(alloc: Global, cases: &[Case]) -> Result<Vec<u32>, CodeFault>
 fn count(at: u64, from: &mut Cursor) -> Result<u64, CodeFault>
     ensures reads { Reads result (count_at at from.old) from.new }
     ensures moves { OnOk result (from.new.at ≡ from.old.at + 4) }
+    ensures stays { OnOk result (end_of from.new ≡ end_of from.old) }
 {
     let count = i4(at, from)?;
     if count < 0 {
@@ -203,6 +209,7 @@ fn cases(
     requires { at < 2 ^ 32 }
     ensures reads { ReadsAs (λ v. v.items) result (cases_at (finds targets.now) at from.old) from.new }
     ensures moves { IfOk result (λ v. from.new.at ≡ from.old.at + 4 + 8 * length v.items) }
+    ensures stays { OnOk result (end_of from.new ≡ end_of from.old) }
 {
     let count = count(at, from)?;
     several(alloc, targets, at, count, from)
@@ -220,6 +227,7 @@ fn keyed(
     requires { at < 2 ^ 32 }
     ensures reads { Reads result (keyed_at (finds targets.now) at pad.now from.old) from.new }
     ensures moves { IfOk result (λ insn. from.new.at + padding at + 1 ≡ from.old.at + size at insn) }
+    ensures stays { OnOk result (end_of from.new ≡ end_of from.old) }
 {
     let other = targets.far(at, from)?;
     let all = cases(alloc, targets, at, from)?;
@@ -247,6 +255,7 @@ pub fn lookup(
     requires { at < 2 ^ 32 }
     ensures reads { Reads result (lookup_at (finds targets.now) at from.old) from.new }
     ensures moves { IfOk result (λ insn. from.new.at + 1 ≡ from.old.at + size at insn) }
+    ensures stays { OnOk result (end_of from.new ≡ end_of from.old) }
 {
     let pad = padding(at, from)?;
     keyed(alloc, targets, at, pad, from)

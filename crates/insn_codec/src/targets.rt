@@ -1,7 +1,7 @@
 //! Which instruction begins at a position of the code.
 
 ghost use Rattle.std.specs.Prelude.{◌≡◌, ◌+◌, ◌+ℤ◌, ◌<◌, ◌^◌, pos, OnOk};
-ghost use Rattle.insn_codec.specs.Reading.{Reads, Answers, target_of, near_at, far_at};
+ghost use Rattle.insn_codec.specs.Reading.{Reads, Answers, target_of, near_at, far_at, end_of};
 ghost use Rattle.insn_codec.specs.Targets.{finds};
 
 use crate::fault::CodeFault;
@@ -51,6 +51,7 @@ impl Targets {
         requires { at < 2 ^ 32 }
         ensures reads { Reads result (near_at (finds self.now) at from.old) from.new }
         ensures moves { OnOk result (from.new.at ≡ from.old.at + 2) }
+        ensures stays { OnOk result (end_of from.new ≡ end_of from.old) }
     {
         let by = i2(at, from)?;
         self.target(at, by as i32)
@@ -62,6 +63,7 @@ impl Targets {
         requires { at < 2 ^ 32 }
         ensures reads { Reads result (far_at (finds self.now) at from.old) from.new }
         ensures moves { OnOk result (from.new.at ≡ from.old.at + 4) }
+        ensures stays { OnOk result (end_of from.new ≡ end_of from.old) }
     {
         let by = i4(at, from)?;
         self.target(at, by)
