@@ -2,4 +2,6 @@ pub mod Ascend
 pub mod Instruction
 pub mod Loop
 pub mod Opcodes
+pub mod Sequence
 pub mod Signed
+pub mod Standing

@@ -64,7 +64,7 @@ fn mark(marks: &mut Vec<Option<u32>>, number: u32, len: u64) -> Result<(), NoMem
     ensures { OnOk result (marks.new.items ≡ marks.old.items ++ (Some number ∷ replicate (len - 1) None)) }
 {
     marks.push(Some(number))?;
-    for _ in 1..len {
+    for _ in 0..len - 1 {
         marks.push(None)?;
     }
     Ok(())

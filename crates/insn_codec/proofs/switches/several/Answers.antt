@@ -1,4 +1,4 @@
-use Rattle.std.proofs.Common.{arith}
+use Rattle.std.proofs.Common.{arith, ◌∙◌}
 use Rattle.std.proofs.lemmas.Result.{err_from_is_err_and}
 use Rattle.mon_base.specs.Reading.{counted}
 use Rattle.insn_codec.specs.Targets.{finds}
@@ -22,6 +22,7 @@ loop-preserved g c =
           c.loop-test.true c.in_ok-item.ensures.reads c.loop.invariant.0,
       counts_on g.T.Item.len c.loop.items.items c.in_ok-item.item c.args.from.now.at c.loop.from.at c.read.new.from.at
           c.loop.invariant.1 c.in_ok-item.ensures.moves,
+      c.in_ok-item.ensures.stays ∙ c.loop.invariant.2,
     )
 
 pub returns-clause-reads : goal.returns-clause-reads
