@@ -1,6 +1,7 @@
 pub mod Ascend
 pub mod Instruction
 pub mod Loop
+pub mod Marks
 pub mod Opcodes
 pub mod Sequence
 pub mod Signed

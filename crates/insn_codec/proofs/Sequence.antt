@@ -8,7 +8,7 @@ use Rattle.mon_base.specs.Reading.{Place, ◌>>=◌}
 use Rattle.insn_codec.specs.declared.fault.CodeFault.{CodeFault}
 use Rattle.insn_codec.specs.declared.insn.Insn.{Insn}
 use Rattle.insn_codec.specs.Spelling.{size, len_from}
-use Rattle.insn_codec.specs.Reading.{Finder, Read, Fails, end_of, insn_at, insns_at, insns_of}
+use Rattle.insn_codec.specs.Reading.{Finder, Read, Fails, any, among, end_of, insn_at, insns_at, insns_of, ended, code_of}
 use Rattle.insn_codec.proofs.Loop.{with_front, regroup, failed, along}
 use Rattle.insn_codec.proofs.Standing.{size-some, len_push}
 
@@ -100,3 +100,36 @@ len_on front x at next here moved =
 
 pub moved_on : (x : Insn) (i at next : ℕ) → i ≤ at → next ≡ at + size at x → i + 1 ≤ next
 moved_on x i at next le moved = omega (arith, size-some at x, moved)
+
+-- ---- the code
+
+pub code_read : (code : List ℕ) (shapes all : List Insn) → insns_of any code ≡ Ok shapes → insns_of (among shapes) code ≡ Ok all
+    → ended 0 all ≡ Ok tt → code_of code ≡ Ok all
+unfolding code_of
+code_read code shapes all one two end = rw (one, two, end) refl
+
+pub no_shapes : (code : List ℕ) (e : CodeFault) → Fails e (insns_of any code) → Fails e (code_of code)
+unfolding code_of
+no_shapes code e h = failed e (insns_of any code) (λ shapes. insns_of (among shapes) code >>= λ all. ended 0 all >>= λ _. Ok all) h
+
+after_shapes : (code : List ℕ) (shapes : List Insn) → insns_of any code ≡ Ok shapes
+    → code_of code ≡ (insns_of (among shapes) code >>= λ all. ended 0 all >>= λ _. Ok all)
+unfolding code_of
+after_shapes code shapes one = rw one refl
+
+pub no_targets : (code : List ℕ) (shapes : List Insn) (e : CodeFault) → insns_of any code ≡ Ok shapes
+    → Fails e (insns_of (among shapes) code) → Fails e (code_of code)
+no_targets code shapes e one h =
+    let two = failed e (insns_of (among shapes) code) (λ all. ended 0 all >>= λ _. Ok all) h in
+    along e (insns_of (among shapes) code >>= λ all. ended 0 all >>= λ _. Ok all) (code_of code) (sym (after_shapes code shapes one)) two
+
+after_targets : (code : List ℕ) (shapes all : List Insn) → insns_of any code ≡ Ok shapes → insns_of (among shapes) code ≡ Ok all
+    → code_of code ≡ (ended 0 all >>= λ _. Ok all)
+unfolding code_of
+after_targets code shapes all one two = rw (one, two) refl
+
+pub no_end : (code : List ℕ) (shapes all : List Insn) (e : CodeFault) → insns_of any code ≡ Ok shapes → insns_of (among shapes) code ≡ Ok all
+    → Fails e (ended 0 all) → Fails e (code_of code)
+no_end code shapes all e one two h =
+    let three = failed e (ended 0 all) (λ _. Ok all) h in
+    along e (ended 0 all >>= λ _. Ok all) (code_of code) (sym (after_targets code shapes all one two)) three

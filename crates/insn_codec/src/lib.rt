@@ -16,4 +16,8 @@ mod targets;
 pub use fault::{CodeFault, CodeOverflow};
 pub use insn::{Case, Insn};
 pub use layout::starts;
-pub use opcode::{Operands, goes_on, is_frame_only, name_of, operands_of};
+pub use opcode::{Operands, goes_on, is_frame_only, operands_of};
+pub use reading::read_code;
+
+#[cfg(test)]
+mod tests;

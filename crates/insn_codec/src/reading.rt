@@ -3,17 +3,18 @@
 ghost use Rattle.std.specs.Prelude.{◌≡◌, ◌+◌, ◌<◌, ◌^◌, length, OnOk, IfOk, Ok};
 ghost use Rattle.insn_codec.specs.Spelling.{size, len_from};
 ghost use Rattle.insn_codec.specs.Reading.{Reads, Answers, iface_at, new_array_at, inc_at, wide_inc_at, widened_at, wide_at};
-ghost use Rattle.insn_codec.specs.Reading.{AnswersAs, end_of, operands_at, insn_at, insns_of};
+ghost use Rattle.insn_codec.specs.Reading.{AnswersAs, end_of, operands_at, insn_at, insns_of, code_of};
 ghost use Rattle.insn_codec.specs.Opcodes.{operands_of};
 ghost use Rattle.insn_codec.specs.Targets.{finds};
 
 use crate::fault::CodeFault;
 use crate::insn::Insn;
+use crate::layout::{check_end, marks};
 use crate::opcode::{Operands, operands_of};
 use crate::place::{i1, i2, u1, u2};
 use crate::switches::{lookup, table};
 use crate::targets::Targets;
-use mon_base::Cursor;
+use mon_base::{Cursor, List};
 use std::alloc::Global;
 
 /// `invokeinterface`, after its opcode.
@@ -167,7 +168,7 @@ fn insn(alloc: Global, targets: &Targets, from: &mut Cursor) -> Result<Insn, Cod
 }
 
 /// All the instructions.
-pub fn insns(alloc: Global, targets: &Targets, code: &[u8]) -> Result<Vec<Insn>, CodeFault>
+fn insns(alloc: Global, targets: &Targets, code: &[u8]) -> Result<Vec<Insn>, CodeFault>
     requires { length code.now < 2 ^ 32 }
     ensures reads { AnswersAs (λ v. v.items) result (insns_of (finds targets.now) code.now) }
     ensures len { IfOk result (λ v. len_from 0 v.items ≡ length code.now) }
@@ -182,4 +183,28 @@ pub fn insns(alloc: Global, targets: &Targets, code: &[u8]) -> Result<Vec<Insn>,
         insns.push(next)?;
     }
     Ok(insns)
+}
+
+/// The instructions of a code that ends, with targets as indices.
+fn all(alloc: Global, code: &[u8]) -> Result<Vec<Insn>, CodeFault>
+    requires { length code.now < 2 ^ 32 }
+    ensures reads { AnswersAs (λ v. v.items) result (code_of code.now) }
+    ensures len { IfOk result (λ v. len_from 0 v.items ≡ length code.now) }
+{
+    let shapes = insns(alloc, &Targets::Any, code)?;
+    let targets = Targets::Among(marks(alloc, &shapes)?);
+    let insns = insns(alloc, &targets, code)?;
+    check_end(&insns)?;
+    Ok(insns)
+}
+
+/// The instructions of a code, whose targets are given by index. The faults are those of [`CodeFault`].
+pub fn read_code(alloc: Global, code: &[u8]) -> Result<List<Insn>, CodeFault>
+    requires { length code.now < 2 ^ 32 }
+    // The instructions have all the bytes.
+    ensures len { IfOk result (λ insns. len_from 0 insns ≡ length code.now) }
+    // Which fault it is: the first that reading meets.
+    ensures exact { Answers result (code_of code.now) }
+{
+    Ok(List::from_vec(all(alloc, code)?))
 }
