@@ -3,6 +3,7 @@ pub mod Instruction
 pub mod Loop
 pub mod Marks
 pub mod Opcodes
+pub mod Putting
 pub mod Sequence
 pub mod Signed
 pub mod Standing

@@ -4,3 +4,4 @@ pub mod Spelling
 pub mod Fits
 pub mod Reading
 pub mod Targets
+pub mod Writing

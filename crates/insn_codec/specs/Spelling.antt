@@ -95,6 +95,15 @@ cases [] targets = []
 cases (key ∷ keys) [] = []
 cases (key ∷ keys) (to ∷ targets) = record { key = key; to = to } ∷ cases keys targets
 
+-- the least and the greatest number of a tableswitch, and its offsets
+abbrev pub range : List ℕ → ℕ → ℤ → List ℕ → List ℕ
+range starts at low targets =
+    i4 low ++ (i4 (low +ℤ pos (length targets) -ℤ pos 1) ++ flat_map (λ to. i4 (offset starts at to)) targets)
+
+-- the count of a lookupswitch, its keys and their offsets
+abbrev pub keyed : List ℕ → ℕ → List ℤ → List ℕ → List ℕ
+keyed starts at keys targets = u4 (length targets) ++ flat_map (case starts at) (cases keys targets)
+
 -- the bytes of an instruction at `at`
 abbrev pub bytes_of : List ℕ → ℕ → Insn → List ℕ
 bytes_of starts at (Plain op) = u1 op
@@ -110,10 +119,10 @@ bytes_of starts at (Inc slot by true) = u1 0xC4 ++ (u1 0x84 ++ (u2 slot ++ i2 by
 bytes_of starts at (Branch op to) = u1 op ++ i2 (offset starts at to)
 bytes_of starts at (GotoW to) = u1 0xC8 ++ i4 (offset starts at to)
 bytes_of starts at (NewArray kind) = u1 0xBC ++ u1 kind
-bytes_of starts at (Table other low targets) = u1 0xAA ++ (replicate (padding at) 0 ++ (i4 (offset starts at other)
-    ++ (i4 low ++ (i4 (low +ℤ pos (length targets) -ℤ pos 1) ++ flat_map (λ to. i4 (offset starts at to)) targets))))
-bytes_of starts at (Lookup other keys targets) = u1 0xAB ++ (replicate (padding at) 0 ++ (i4 (offset starts at other)
-    ++ (u4 (length targets) ++ flat_map (case starts at) (cases keys targets))))
+bytes_of starts at (Table other low targets) =
+    (u1 0xAA ++ (replicate (padding at) 0 ++ i4 (offset starts at other))) ++ range starts at low targets
+bytes_of starts at (Lookup other keys targets) =
+    (u1 0xAB ++ (replicate (padding at) 0 ++ i4 (offset starts at other))) ++ keyed starts at keys targets
 
 -- the bytes of the instructions from `at` on
 unfoldable pub bytes_from : List ℕ → ℕ → List Insn → List ℕ

@@ -12,12 +12,14 @@ mod place;
 mod reading;
 mod switches;
 mod targets;
+mod writing;
 
 pub use fault::{CodeFault, CodeOverflow};
 pub use insn::{Case, Insn};
 pub use layout::starts;
 pub use opcode::{Operands, goes_on, is_frame_only, operands_of};
 pub use reading::read_code;
+pub use writing::write_code;
 
 #[cfg(test)]
 mod tests;
