@@ -1,5 +1,6 @@
 pub mod Ascend
 pub mod Instruction
+pub mod Laws
 pub mod Loop
 pub mod Marks
 pub mod Opcodes

@@ -169,8 +169,7 @@ unfoldable pub keyed_at : Finder → ℕ → List ℕ → Place → Read Insn
 keyed_at find at pad p = do
   other ← far_at find at p
   all ← cases_at find at other.1
-  clean ← need (all_zero pad) (Form at)
-  order ← need (ascend (map (λ one. one.key) all.0)) (Form at)
+  right ← need (all_zero pad && ascend (map (λ one. one.key) all.0)) (Form at)
   Ok (insns.Lookup other.0 (map (λ one. one.key) all.0) (map (λ one. one.to) all.0), all.1)
 
 unfoldable pub lookup_at : Finder → ℕ → Place → Read Insn

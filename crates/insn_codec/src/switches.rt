@@ -231,10 +231,7 @@ fn keyed(
 {
     let other = targets.far(at, from)?;
     let all = cases(alloc, targets, at, from)?;
-    if !all_zero(pad) {
-        return Err(CodeFault::Form { at });
-    }
-    if !ascend(&all) {
+    if !all_zero(pad) || !ascend(&all) {
         return Err(CodeFault::Form { at });
     }
     Ok(Insn::Lookup {
