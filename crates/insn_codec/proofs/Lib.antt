@@ -8,3 +8,4 @@ pub mod Putting
 pub mod Sequence
 pub mod Signed
 pub mod Standing
+pub mod SwitchLaws
