@@ -1,4 +1,5 @@
 pub mod Ascend
+pub mod InsnLaws
 pub mod Instruction
 pub mod Laws
 pub mod Loop
