@@ -1,4 +1,5 @@
 pub mod Ascend
+pub mod Finding
 pub mod InsnLaws
 pub mod Instruction
 pub mod Laws
