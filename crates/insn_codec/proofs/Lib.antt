@@ -1,4 +1,5 @@
 pub mod Ascend
+pub mod CodeLaws
 pub mod Finding
 pub mod InsnLaws
 pub mod Instruction
@@ -11,3 +12,4 @@ pub mod Sequence
 pub mod Signed
 pub mod Standing
 pub mod SwitchLaws
+pub mod WriteLaws

@@ -135,21 +135,21 @@ cases_done starts at i keys targets out total le so_far =
 
 -- ---- instructions
 
-reach_first : (starts : List ℕ) (at : ℕ) (x : Insn) (xs : List Insn)
+pub reach_first : (starts : List ℕ) (at : ℕ) (x : Insn) (xs : List Insn)
     → reach_from starts at (x ∷ xs) ≡ (reach starts at x >>= λ _. reach_from starts (at + size at x) xs)
 unfolding reach_from
 reach_first starts at x xs = refl
 
-reach_none : (starts : List ℕ) (at : ℕ) → reach_from starts at [] ≡ Ok tt
+pub reach_none : (starts : List ℕ) (at : ℕ) → reach_from starts at [] ≡ Ok tt
 unfolding reach_from
 reach_none starts at = refl
 
-bytes_first : (starts : List ℕ) (at : ℕ) (x : Insn) (xs : List Insn)
+pub bytes_first : (starts : List ℕ) (at : ℕ) (x : Insn) (xs : List Insn)
     → bytes_from starts at (x ∷ xs) ≡ bytes_of starts at x ++ bytes_from starts (at + size at x) xs
 unfolding bytes_from
 bytes_first starts at x xs = refl
 
-bytes_none : (starts : List ℕ) (at : ℕ) → bytes_from starts at [] ≡ []
+pub bytes_none : (starts : List ℕ) (at : ℕ) → bytes_from starts at [] ≡ []
 unfolding bytes_from
 bytes_none starts at = refl
 

@@ -29,7 +29,7 @@ size-some at (NewArray kind) = omega arith
 size-some at (Table other low targets) = omega arith
 size-some at (Lookup other keys targets) = omega arith
 
-len_first : (at : ℕ) (x : Insn) (xs : List Insn) → len_from at (x ∷ xs) ≡ size at x + len_from (at + size at x) xs
+pub len_first : (at : ℕ) (x : Insn) (xs : List Insn) → len_from at (x ∷ xs) ≡ size at x + len_from (at + size at x) xs
 unfolding len_from
 len_first at x xs = refl
 
@@ -139,7 +139,7 @@ marks_done front left number at total none so_far =
 
 -- ---- the end
 
-ended_on : (at : ℕ) (x : Insn) (xs : List Insn) → 1 ≤ length xs → ended at (x ∷ xs) ≡ ended (at + size at x) xs
+pub ended_on : (at : ℕ) (x : Insn) (xs : List Insn) → 1 ≤ length xs → ended at (x ∷ xs) ≡ ended (at + size at x) xs
 ended_on at x xs some =
     let more : (length xs == 0) ≡ false = grind (arith, nat_tests) in
     rw more refl

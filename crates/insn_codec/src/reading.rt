@@ -1,11 +1,13 @@
 //! Reading instructions. (The Java Virtual Machine Specification, section 6.5.)
 
-ghost use Rattle.std.specs.Prelude.{◌≡◌, ◌+◌, ◌<◌, ◌^◌, length, OnOk, IfOk, Ok};
+ghost use Rattle.std.specs.Prelude.{◌≡◌, ◌+◌, ◌<◌, ◌^◌, length, OnOk, IfOk, Ok, List};
 ghost use Rattle.insn_codec.specs.Spelling.{size, len_from};
 ghost use Rattle.insn_codec.specs.Reading.{Reads, Answers, iface_at, new_array_at, inc_at, wide_inc_at, widened_at, wide_at};
 ghost use Rattle.insn_codec.specs.Reading.{AnswersAs, end_of, operands_at, insn_at, insns_of, code_of};
 ghost use Rattle.insn_codec.specs.Opcodes.{operands_of};
+ghost use Rattle.insn_codec.specs.Fits.{SpellsCode};
 ghost use Rattle.insn_codec.specs.Targets.{finds};
+ghost use Rattle.insn_codec.specs.declared.insn.Insn.{Insn};
 
 use crate::fault::CodeFault;
 use crate::insn::Insn;
@@ -186,25 +188,29 @@ fn insns(alloc: Global, targets: &Targets, code: &[u8]) -> Result<Vec<Insn>, Cod
 }
 
 /// The instructions of a code that ends, with targets as indices.
-fn all(alloc: Global, code: &[u8]) -> Result<Vec<Insn>, CodeFault>
+fn all(alloc: Global, code: &[u8]) -> Result<List<Insn>, CodeFault>
     requires { length code.now < 2 ^ 32 }
-    ensures reads { AnswersAs (λ v. v.items) result (code_of code.now) }
-    ensures len { IfOk result (λ v. len_from 0 v.items ≡ length code.now) }
+    ensures reads { Answers result (code_of code.now) }
+    ensures len { IfOk result (λ insns. len_from 0 insns ≡ length code.now) }
 {
     let shapes = insns(alloc, &Targets::Any, code)?;
     let targets = Targets::Among(marks(alloc, &shapes)?);
     let insns = insns(alloc, &targets, code)?;
     check_end(&insns)?;
-    Ok(insns)
+    Ok(List::from_vec(insns))
 }
 
 /// The instructions of a code, whose targets are given by index. The faults are those of [`CodeFault`].
 pub fn read_code(alloc: Global, code: &[u8]) -> Result<List<Insn>, CodeFault>
     requires { length code.now < 2 ^ 32 }
+    // What is read is spelled so.
+    ensures found { IfOk result (λ insns. SpellsCode code.now insns) }
+    // What is spelled so is read, unless memory runs out.
+    ensures only { (insns : List Insn) → SpellsCode code.now insns → Answers result (Ok insns) }
     // The instructions have all the bytes.
     ensures len { IfOk result (λ insns. len_from 0 insns ≡ length code.now) }
     // Which fault it is: the first that reading meets.
     ensures exact { Answers result (code_of code.now) }
 {
-    Ok(List::from_vec(all(alloc, code)?))
+    all(alloc, code)
 }

@@ -1,10 +1,10 @@
 //! Writing instructions. (The Java Virtual Machine Specification, section 6.5.)
 
-ghost use Rattle.std.specs.Prelude.{◌≡◌, ◌++◌, ◌<◌, ◌^◌, ◌-ℤ◌, ◌+ℤ◌, ◌≤ℤ◌, pos, [], length, slice_index, replicate, OnOk, IfOk, Err};
+ghost use Rattle.std.specs.Prelude.{◌≡◌, ◌++◌, ◌<◌, ◌^◌, ◌-ℤ◌, ◌+ℤ◌, ◌≤ℤ◌, pos, [], length, slice_index, replicate, OnOk, IfOk, Ok, Err, ℕ, List, ◌≤◌};
 ghost use Rattle.std.specs.List.{flat_map, AllByRecursion};
 ghost use Rattle.insn_codec.specs.Spelling.{u1, u2, u4, i1, i2, i4, offset, padding, case, cases, bytes_of, bytes_from};
 ghost use Rattle.insn_codec.specs.Spelling.{range, keyed, len_from, size, starts_of, spelling};
-ghost use Rattle.insn_codec.specs.Fits.{FitsSlot, FitsBy, FitsTable, FitsLookup, IsInsn};
+ghost use Rattle.insn_codec.specs.Fits.{FitsSlot, FitsBy, FitsTable, FitsLookup, IsInsn, SpellsCode};
 ghost use Rattle.insn_codec.specs.declared.insn.Insn.TheVariants.{Local, Inc};
 ghost use Rattle.insn_codec.specs.Writing.{near, far, all_far, reach, reach_from, written, Puts, Tells};
 
@@ -359,6 +359,8 @@ pub fn write_code(alloc: Global, insns: &[Insn]) -> Result<Bytes, CodeOverflow>
     ensures length { 65535 < len_from 0 insns.now → Tells result (Err (Length (len_from 0 insns.now))) }
     // Which overflow it is, and that there is none where the code is short and each offset is held.
     ensures exact { Tells result (written insns.now) }
+    // What was read is written as it was.
+    ensures back { (bytes : List ℕ) → SpellsCode bytes insns.now → length bytes ≤ 65535 → Tells result (Ok bytes) }
 {
     written(alloc, insns)
 }

@@ -38,4 +38,4 @@ returns-clause-reads c =
     let is = finds_among shapes c.in_ok-marks.field-0 (c.in_ok-marks.ensures ∙ ap (marks_from 0 0) c.deref.ensures.value) in
     let two : insns_of (among shapes) c.args.code.now ≡ Ok all = subst (λ (find : Finder). insns_of find c.args.code.now ≡ Ok all) is c.in_ok-insns.ensures.reads in
     let three = ap (ended 0) (sym c.deref-2.ensures.value) ∙ c.in_ok-check_end.ensures in
-    code_read c.args.code.now shapes all c.in_ok-shapes.ensures.reads two three
+    code_read c.args.code.now shapes all c.in_ok-shapes.ensures.reads two three ∙ ap (λ (xs : List Insn). Ok xs) (sym c.from_vec.ensures)
