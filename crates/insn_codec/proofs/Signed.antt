@@ -1,0 +1,4 @@
+-- Numbers with a sign.
+use Rattle.std.proofs.lemmas.Int.{to_z-of_z}
+
+pub ruleset signed = (to_z-of_z)

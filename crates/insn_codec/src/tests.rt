@@ -1,0 +1,5 @@
+//! Codes by hand.
+
+use crate::*;
+use mon_base::List;
+use std::alloc::Global;
