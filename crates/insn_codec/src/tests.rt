@@ -17,7 +17,7 @@ const EVERY: [&str; 5] = [
 ];
 
 /// Codes that a Java compiler wrote (ecj 3.32, version 49), a block before a call, and a switch at each padding.
-const CODES: [&str; 12] = [
+static CODES: [&str; 12] = [
     "2ab7001b2a1215b5001cb1",
     "bb000159b7002f4c2bb900300100b1",
     "2ab7000c2abb000e59b70010b50011b1",
@@ -32,48 +32,44 @@ const CODES: [&str; 12] = [
     "000000aa000000110000000500000005fffffffdb1",
 ];
 
-/// Codes that are none, and why.
-const REFUSED: [(&str, CodeFault); 28] = [
-    ("00ca", CodeFault::Opcode { at: 1, op: 0xCA }),
-    ("ba", CodeFault::Opcode { at: 0, op: 0xBA }),
-    ("0060610000", CodeFault::LeftOut { at: 2, op: 0x61 }),
-    ("bc06", CodeFault::LeftOut { at: 0, op: 0xBC }),
-    ("bc0b", CodeFault::LeftOut { at: 0, op: 0xBC }),
-    ("bc03", CodeFault::Form { at: 0 }),
-    ("bc0c", CodeFault::Form { at: 0 }),
-    ("00bc", CodeFault::Cut { at: 1 }),
-    ("10", CodeFault::Cut { at: 0 }),
-    ("c4", CodeFault::Cut { at: 0 }),
-    ("c41500", CodeFault::Cut { at: 0 }),
-    ("c484000100", CodeFault::Cut { at: 0 }),
-    ("c460b1", CodeFault::Form { at: 0 }),
-    ("c4c4c4c4", CodeFault::Form { at: 0 }),
-    ("b900010101", CodeFault::Form { at: 0 }),
-    ("00aa0000", CodeFault::Cut { at: 1 }),
-    (
-        "aa000000000000000000000100000000",
-        CodeFault::Form { at: 0 },
-    ),
-    ("aa00000000000000800000007fffffff", CodeFault::Cut { at: 0 }),
-    ("aa010000000000000000000000000000", CodeFault::Cut { at: 0 }),
-    (
-        "aa01000000000000000000000000000000000000",
-        CodeFault::Form { at: 0 },
-    ),
-    ("ab00000000000000ffffffff", CodeFault::Form { at: 0 }),
+/// Codes that are none, the number of the fault, and its place.
+static REFUSED: [(&str, u32, u64); 28] = [
+    ("00ca", 121, 1),
+    ("ba", 121, 0),
+    ("0060610000", 124, 2),
+    ("bc06", 124, 0),
+    ("bc0b", 124, 0),
+    ("bc03", 125, 0),
+    ("bc0c", 125, 0),
+    ("00bc", 122, 1),
+    ("10", 122, 0),
+    ("c4", 122, 0),
+    ("c41500", 122, 0),
+    ("c484000100", 122, 0),
+    ("c460b1", 125, 0),
+    ("c4c4c4c4", 125, 0),
+    ("b900010101", 125, 0),
+    ("00aa0000", 122, 1),
+    ("aa000000000000000000000100000000", 125, 0),
+    ("aa00000000000000800000007fffffff", 122, 0),
+    ("aa010000000000000000000000000000", 122, 0),
+    ("aa01000000000000000000000000000000000000", 125, 0),
+    ("ab00000000000000ffffffff", 125, 0),
     (
         "ab0000000000000000000002000000070000000000000007000000",
-        CodeFault::Cut { at: 0 },
+        122,
+        0,
     ),
     (
         "ab000000000000000000000200000007000000000000000700000000",
-        CodeFault::Form { at: 0 },
+        125,
+        0,
     ),
-    ("a70001b1", CodeFault::Target { at: 0 }),
-    ("a70004b1", CodeFault::Target { at: 0 }),
-    ("00a7fffe00", CodeFault::Target { at: 1 }),
-    ("a7000161", CodeFault::LeftOut { at: 3, op: 0x61 }),
-    ("a7000310051000", CodeFault::End { at: 5 }),
+    ("a70001b1", 123, 0),
+    ("a70004b1", 123, 0),
+    ("00a7fffe00", 123, 1),
+    ("a7000161", 124, 3),
+    ("a7000310051000", 126, 5),
 ];
 
 fn digit(character: u8) -> u8
@@ -123,6 +119,19 @@ fn starts_in(alloc: Global, bytes: &[u8]) -> Option<List<u32>> {
     }
 }
 
+/// The place of a fault.
+fn place_of(fault: CodeFault) -> u64 {
+    match fault {
+        CodeFault::Opcode { at, .. } => at,
+        CodeFault::Cut { at } => at,
+        CodeFault::Target { at } => at,
+        CodeFault::LeftOut { at, .. } => at,
+        CodeFault::Form { at } => at,
+        CodeFault::End { at } => at,
+        CodeFault::Memory => 0,
+    }
+}
+
 /// Why the bytes are no code.
 fn fault_of(alloc: Global, bytes: &[u8]) -> Option<CodeFault> {
     if bytes.len() > 65_535 {
@@ -134,8 +143,8 @@ fn fault_of(alloc: Global, bytes: &[u8]) -> Option<CodeFault> {
 #[test]
 fn known_codes_both_ways(rt: HostRuntime) -> Result<(), Fail> {
     let alloc = rt.alloc();
-    for line in CODES {
-        let bytes = bytes_of(alloc, &[line])?;
+    for line in &CODES {
+        let bytes = bytes_of(alloc, &[*line])?;
         let written = again(alloc, &bytes).ok_or("the bytes are a code")?;
         assert_eq!(rt; written.as_slice(), bytes.as_slice());
     }
@@ -158,10 +167,10 @@ fn every_instruction(rt: HostRuntime) -> Result<(), Fail> {
 #[test]
 fn the_first_fault(rt: HostRuntime) -> Result<(), Fail> {
     let alloc = rt.alloc();
-    for (line, fault) in REFUSED {
-        let bytes = bytes_of(alloc, &[line])?;
-        let found = fault_of(alloc, &bytes).ok_or("the bytes are no code")?;
-        assert_eq!(rt; found, fault);
+    for (line, number, at) in &REFUSED {
+        let bytes = bytes_of(alloc, &[*line])?;
+        let fault = fault_of(alloc, &bytes).ok_or("the bytes are no code")?;
+        assert_eq!(rt; (fault.number(), place_of(fault)), (*number, *at));
     }
     Ok(())
 }
