@@ -18,7 +18,8 @@ use Rattle.insn_codec.specs.Spelling.{u1, i4, range, keyed, opcode_of, padding, 
 use Rattle.insn_codec.specs.Fits.{IsInsn, AimsWithin, Reaches, ReachFrom, Ends, CanSpell, SpellsCode}
 use Rattle.insn_codec.specs.Reading.{Finder, Read, Answers, AnswersAs, any, among, insn_at, insns_at, insns_of, ended, code_of}
 use Rattle.insn_codec.proofs.Laws.{Leads}
-use Rattle.insn_codec.proofs.InsnLaws.{FitsInsn, insn_is}
+use Rattle.insn_codec.proofs.Forms.{FitsInsn}
+use Rattle.insn_codec.proofs.InsnLaws.{insn_is}
 use Rattle.insn_codec.proofs.Finding.{leads, Alike, SameSize, same_finder, insn_any}
 use Rattle.insn_codec.proofs.Sequence.{first_of, none_left, none_asked, all_read, code_read}
 use Rattle.insn_codec.proofs.Standing.{size-some, nothing, ended_on}
@@ -276,3 +277,7 @@ is_found code (Err e) fits given = tt
 
 pub is_only : (code : List ℕ) (r : Result (List Insn) CodeFault) (all : List Insn) → Answers r (code_of code) → SpellsCode code all → Answers r (Ok all)
 is_only code r all given s = subst (λ (read : Result (List Insn) CodeFault). Answers r read) (spelled_code code all s) given
+
+pub is_each : (code : List ℕ) (r : Result (List Insn) CodeFault) → IsBytes code → Answers r (code_of code) → IfOk r (λ all. AllByRecursion IsInsn all)
+is_each code (Ok all) fits given = (code_spells code all fits given).fits.each
+is_each code (Err e) fits given = tt

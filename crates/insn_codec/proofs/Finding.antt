@@ -48,14 +48,14 @@ found_at (x ∷ xs) at p i e =
           let there : slice_index (starts_from at (x ∷ xs)) i ≡ p = ap (slice_index (starts_from at (x ∷ xs))) g.2 ∙ ap (λ (ns : List ℕ). slice_index ns (suc g.0)) (starts_first at x xs) ∙ h.1 in
           (lt, there)
       | inr here ↦ elim (cases_lt p at) [
-          | inl before ↦ absurd (none_is i (sym (index_before (x ∷ xs) at p before) ∙ e))
-          | inr not_before ↦
-              let same : at ≡ p = omega arith in
-              let zero_is : 0 ≡ i = some_is 0 i (sym (index_here at x xs) ∙ ap (index_from at (x ∷ xs)) same ∙ e) in
-              let lt : i < length (x ∷ xs) = omega (arith, zero_is) in
-              let there : slice_index (starts_from at (x ∷ xs)) i ≡ p = ap (slice_index (starts_from at (x ∷ xs))) (sym zero_is) ∙ ap (λ (ns : List ℕ). slice_index ns 0) (starts_first at x xs) ∙ same in
-              (lt, there)
-        ]
+        | inl before ↦ absurd (none_is i (sym (index_before (x ∷ xs) at p before) ∙ e))
+        | inr not_before ↦
+            let same : at ≡ p = omega arith in
+            let zero_is : 0 ≡ i = some_is 0 i (sym (index_here at x xs) ∙ ap (index_from at (x ∷ xs)) same ∙ e) in
+            let lt : i < length (x ∷ xs) = omega (arith, zero_is) in
+            let there : slice_index (starts_from at (x ∷ xs)) i ≡ p = ap (slice_index (starts_from at (x ∷ xs))) (sym zero_is) ∙ ap (λ (ns : List ℕ). slice_index ns 0) (starts_first at x xs) ∙ same in
+            (lt, there)
+      ]
     ]
 
 starts_above : (xs : List Insn) (at i : ℕ) → i < length xs → at ≤ slice_index (starts_from at xs) i

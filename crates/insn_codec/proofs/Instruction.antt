@@ -16,4 +16,4 @@ pub reads_insn : (find : Finder) (at here : ℕ) (p : Place) (op : ℕ) (next : 
     → Reads answer (insn_at find here p) new
 reads_insn find at here p op next answer new is h read =
     subst (λ (n : ℕ). Reads answer (insn_at find n p) new) is (
-      subst (λ (r : Read Insn). Reads answer r new) (sym (after_opcode find at p op next h)) read)
+    subst (λ (r : Read Insn). Reads answer r new) (sym (after_opcode find at p op next h)) read)

@@ -1,6 +1,7 @@
 pub mod Ascend
 pub mod CodeLaws
 pub mod Finding
+pub mod Forms
 pub mod InsnLaws
 pub mod Instruction
 pub mod Laws
@@ -9,7 +10,6 @@ pub mod Marks
 pub mod Opcodes
 pub mod Putting
 pub mod Sequence
-pub mod Signed
 pub mod Standing
 pub mod SwitchLaws
 pub mod WriteLaws

@@ -95,7 +95,7 @@ starts_step front left first at len total some is l so_far =
     let rest = take (length left - 1) (drop 1 left) in
     let all : starts_from at left ≡ at ∷ starts_from (at + size at first) rest = ap (starts_from at) (first_and_rest left first some is) ∙ starts_first at first rest in
     subst (λ (n : ℕ). (front ++ at ∷ []) ++ starts_from (at + n) rest ≡ total) (sym l) (
-      append_assoc front (at ∷ []) (starts_from (at + size at first) rest) ∙ ap (λ (xs : List ℕ). front ++ xs) (sym all) ∙ so_far)
+    append_assoc front (at ∷ []) (starts_from (at + size at first) rest) ∙ ap (λ (xs : List ℕ). front ++ xs) (sym all) ∙ so_far)
 
 pub starts_done : (front : List ℕ) (left : List Insn) (at : ℕ) (total : List ℕ) → length left < 1
     → front ++ starts_from at left ≡ total → front ++ at ∷ [] ≡ total
@@ -129,7 +129,7 @@ marks_step front left first number at len total some is l so_far =
     let rest = take (length left - 1) (drop 1 left) in
     let all : marks_from number at left ≡ marked number (size at first) ++ marks_from (number + 1) (at + size at first) rest = ap (marks_from number at) (first_and_rest left first some is) ∙ marks_first number at first rest in
     subst (λ (n : ℕ). (front ++ marked number n) ++ marks_from (number + 1) (at + n) rest ≡ total) (sym l) (
-      append_assoc front (marked number (size at first)) (marks_from (number + 1) (at + size at first) rest) ∙ ap (λ (xs : List (Option ℕ)). front ++ xs) (sym all) ∙ so_far)
+    append_assoc front (marked number (size at first)) (marks_from (number + 1) (at + size at first) rest) ∙ ap (λ (xs : List (Option ℕ)). front ++ xs) (sym all) ∙ so_far)
 
 pub marks_done : (front : List (Option ℕ)) (left : List Insn) (number at : ℕ) (total : List (Option ℕ)) → length left < 1
     → front ++ marks_from number at left ≡ total → front ≡ total

@@ -294,12 +294,15 @@ keyed_same starts at cs =
 
 keyed_fits : (starts : List ℕ) (n at : ℕ) (cs : List Case) → FitsCases starts n at cs → ascend (keys cs) ≡ true
     → FitsLookup (keys cs) (tos cs) × AllByRecursion (FitsFar starts n at) (tos cs)
-keyed_fits starts n at cs f up = (record {
-  each = all_keys starts n at cs f.1;
-  ascend = ascends (negsuc 0x7FFFFFFF) (keys cs) up;
-  same = length-map cs (λ one. one.key) ∙ sym (length-map cs (λ one. one.to));
-  count = subst (λ (m : ℕ). m < 2 ^ 31) (sym (length-map cs (λ one. one.to))) f.0;
-}, all_tos starts n at cs f.1)
+keyed_fits starts n at cs f up = (
+  record {
+    each = all_keys starts n at cs f.1;
+    ascend = ascends (negsuc 0x7FFFFFFF) (keys cs) up;
+    same = length-map cs (λ one. one.key) ∙ sym (length-map cs (λ one. one.to));
+    count = subst (λ (m : ℕ). m < 2 ^ 31) (sym (length-map cs (λ one. one.to))) f.0;
+  },
+  all_tos starts n at cs f.1,
+)
 
 keyed_back : (a : Insn) (other : ℕ) (cs : List Case) → is_lookup a ≡ true → other_of a ≡ other → keys cs ≡ keys_of a → tos cs ≡ targets_of a
     → Lookup other (keys cs) (tos cs) ≡ a

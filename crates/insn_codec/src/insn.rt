@@ -20,17 +20,36 @@ pub enum Insn {
     /// `ldc`, by an index into the constant pool.
     Ldc(u8),
     /// An opcode and an index into the constant pool.
-    Pool { op: u8, index: u16 },
+    Pool {
+        op: u8,
+        index: u16,
+    },
     /// `invokeinterface`, by an index into the constant pool and a count of argument words.
-    Iface { index: u16, count: u8 },
+    Iface {
+        index: u16,
+        count: u8,
+    },
     /// A load or store of a local variable.
-    Local { op: u8, slot: u16, wide: bool },
+    Local {
+        op: u8,
+        slot: u16,
+        wide: bool,
+    },
     /// `iinc`: adds to a local variable.
-    Inc { slot: u16, by: i16, wide: bool },
+    Inc {
+        slot: u16,
+        by: i16,
+        wide: bool,
+    },
     /// A jump, with an offset of two bytes.
-    Branch { op: u8, to: u32 },
+    Branch {
+        op: u8,
+        to: u32,
+    },
     /// `goto_w`.
-    GotoW { to: u32 },
+    GotoW {
+        to: u32,
+    },
     /// `newarray`, by the type of its items.
     NewArray(u8),
     /// `tableswitch`: `targets` are those of the numbers from `low` on, `other` is that of all others.

@@ -22,20 +22,8 @@ pub fn size(at: u64, insn: &Insn) -> u64
         Insn::Byte(_) | Insn::Ldc(_) | Insn::NewArray(_) => 2,
         Insn::Short(_) | Insn::Pool { .. } | Insn::Branch { .. } => 3,
         Insn::Iface { .. } | Insn::GotoW { .. } => 5,
-        Insn::Local { wide, .. } => {
-            if *wide {
-                4
-            } else {
-                2
-            }
-        }
-        Insn::Inc { wide, .. } => {
-            if *wide {
-                6
-            } else {
-                3
-            }
-        }
+        Insn::Local { wide, .. } => { if *wide { 4 } else { 2 } }
+        Insn::Inc { wide, .. } => { if *wide { 6 } else { 3 } }
         Insn::Table { targets, .. } => 13 + padding + 4 * targets.len() as u64,
         Insn::Lookup { targets, .. } => 9 + padding + 8 * targets.len() as u64,
     }

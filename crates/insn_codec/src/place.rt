@@ -67,5 +67,6 @@ pub fn padding<'a>(at: u64, from: &mut Cursor<'a>) -> Result<&'a [u8], CodeFault
     ensures moves { OnOk result (from.new.at ≡ from.old.at + padding at) }
     ensures stays { OnOk result (end_of from.new ≡ end_of from.old) }
 {
-    from.take(3 - (at % 4) as usize).ok_or(CodeFault::Cut { at })
+    from.take(3 - (at % 4) as usize)
+        .ok_or(CodeFault::Cut { at })
 }

@@ -1,11 +1,12 @@
 //! Reading instructions. (The Java Virtual Machine Specification, section 6.5.)
 
 ghost use Rattle.std.specs.Prelude.{◌≡◌, ◌+◌, ◌<◌, ◌^◌, length, OnOk, IfOk, Ok, List};
+ghost use Rattle.std.specs.List.{AllByRecursion};
 ghost use Rattle.insn_codec.specs.Spelling.{size, len_from};
 ghost use Rattle.insn_codec.specs.Reading.{Reads, Answers, iface_at, new_array_at, inc_at, wide_inc_at, widened_at, wide_at};
 ghost use Rattle.insn_codec.specs.Reading.{AnswersAs, end_of, operands_at, insn_at, insns_of, code_of};
 ghost use Rattle.insn_codec.specs.Opcodes.{operands_of};
-ghost use Rattle.insn_codec.specs.Fits.{SpellsCode};
+ghost use Rattle.insn_codec.specs.Fits.{IsInsn, SpellsCode};
 ghost use Rattle.insn_codec.specs.Targets.{finds};
 ghost use Rattle.insn_codec.specs.declared.insn.Insn.{Insn};
 
@@ -207,7 +208,8 @@ pub fn read_code(alloc: Global, code: &[u8]) -> Result<List<Insn>, CodeFault>
     ensures found { IfOk result (λ insns. SpellsCode code.now insns) }
     // What is spelled so is read, unless memory runs out.
     ensures only { (insns : List Insn) → SpellsCode code.now insns → Answers result (Ok insns) }
-    // The instructions have all the bytes.
+    // The instructions can be written, and have all the bytes.
+    ensures each { IfOk result (λ insns. AllByRecursion IsInsn insns) }
     ensures len { IfOk result (λ insns. len_from 0 insns ≡ length code.now) }
     // Which fault it is: the first that reading meets.
     ensures exact { Answers result (code_of code.now) }

@@ -7,7 +7,6 @@ ghost use Rattle.insn_codec.specs.Spelling.{range, keyed, len_from, size, starts
 ghost use Rattle.insn_codec.specs.Fits.{FitsSlot, FitsBy, FitsTable, FitsLookup, IsInsn, SpellsCode};
 ghost use Rattle.insn_codec.specs.declared.insn.Insn.TheVariants.{Local, Inc};
 ghost use Rattle.insn_codec.specs.Writing.{near, far, all_far, reach, reach_from, written, Puts, Tells};
-
 ghost use Rattle.insn_codec.specs.declared.fault.CodeOverflow.TheVariants.{Length};
 
 use crate::fault::CodeOverflow;

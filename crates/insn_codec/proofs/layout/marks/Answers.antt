@@ -5,12 +5,20 @@ use Rattle.insn_codec.proofs.Standing.{fits_size, size-some, len_step, marks_ste
 use Rattle.insn_codec.proofs.layout.marks.Goals as goal
 
 pub size-len-requires : goal.size-len-requires
-size-len-requires c = omega (arith, fits_size c.loop-left.left.now c.first-item.result c.loop-left.at (len_from 0 c.args.insns.now)
-    c.in-len1-up.len_at_least c.first-item.is c.loop-left.invariant.1)
+size-len-requires c = omega (
+  arith,
+  fits_size c.loop-left.left.now c.first-item.result c.loop-left.at (len_from 0 c.args.insns.now)
+      c.in-len1-up.len_at_least c.first-item.is c.loop-left.invariant.1,
+)
 
 pub overflow_add-number : goal.overflow_add-number
-overflow_add-number c = omega (arith, c.size-len.ensures, size-some c.loop-left.at c.first-item.result, fits_size c.loop-left.left.now c.first-item.result c.loop-left.at (len_from 0 c.args.insns.now)
-    c.in-len1-up.len_at_least c.first-item.is c.loop-left.invariant.1)
+overflow_add-number c = omega (
+  arith,
+  c.size-len.ensures,
+  size-some c.loop-left.at c.first-item.result,
+  fits_size c.loop-left.left.now c.first-item.result c.loop-left.at (len_from 0 c.args.insns.now)
+      c.in-len1-up.len_at_least c.first-item.is c.loop-left.invariant.1,
+)
 
 pub loop-left-preserved : goal.loop-left-preserved
 loop-left-preserved c =

@@ -4,12 +4,19 @@ use Rattle.insn_codec.proofs.Standing.{fits_size, len_step, starts_step, starts_
 use Rattle.insn_codec.proofs.layout.starts.Goals as goal
 
 pub size-at-requires : goal.size-at-requires
-size-at-requires c = omega (arith, fits_size c.loop-left.left.now c.first-item.result c.loop-left.at (len_from 0 c.args.insns.now)
-    c.in-len1-up.len_at_least c.first-item.is c.loop-left.invariant.1)
+size-at-requires c = omega (
+  arith,
+  fits_size c.loop-left.left.now c.first-item.result c.loop-left.at (len_from 0 c.args.insns.now)
+      c.in-len1-up.len_at_least c.first-item.is c.loop-left.invariant.1,
+)
 
 pub overflow_add-at : goal.overflow_add-at
-overflow_add-at c = omega (arith, c.size-at.ensures, fits_size c.loop-left.left.now c.first-item.result c.loop-left.at (len_from 0 c.args.insns.now)
-    c.in-len1-up.len_at_least c.first-item.is c.loop-left.invariant.1)
+overflow_add-at c = omega (
+  arith,
+  c.size-at.ensures,
+  fits_size c.loop-left.left.now c.first-item.result c.loop-left.at (len_from 0 c.args.insns.now)
+      c.in-len1-up.len_at_least c.first-item.is c.loop-left.invariant.1,
+)
 
 pub loop-left-preserved : goal.loop-left-preserved
 loop-left-preserved c =

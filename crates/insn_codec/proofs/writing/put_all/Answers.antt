@@ -16,12 +16,21 @@ put_insn-requires c =
     }
 
 pub size-at-requires : goal.size-at-requires
-size-at-requires c = omega (arith, c.requires.len, fits_size c.loop-left.left.now c.first-item.result c.loop-left.at (len_from 0 c.args.insns.now)
-    c.in-len1-up.len_at_least c.first-item.is c.loop-left.invariant.2)
+size-at-requires c = omega (
+  arith,
+  c.requires.len,
+  fits_size c.loop-left.left.now c.first-item.result c.loop-left.at (len_from 0 c.args.insns.now)
+      c.in-len1-up.len_at_least c.first-item.is c.loop-left.invariant.2,
+)
 
 pub overflow_add-at : goal.overflow_add-at
-overflow_add-at c = omega (arith, c.requires.len, c.size-at.ensures, fits_size c.loop-left.left.now c.first-item.result c.loop-left.at (len_from 0 c.args.insns.now)
-    c.in-len1-up.len_at_least c.first-item.is c.loop-left.invariant.2)
+overflow_add-at c = omega (
+  arith,
+  c.requires.len,
+  c.size-at.ensures,
+  fits_size c.loop-left.left.now c.first-item.result c.loop-left.at (len_from 0 c.args.insns.now)
+      c.in-len1-up.len_at_least c.first-item.is c.loop-left.invariant.2,
+)
 
 pub returns-in_err-put_insn : goal.returns-in_err-put_insn
 returns-in_err-put_insn c =

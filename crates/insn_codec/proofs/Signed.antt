@@ -1,4 +1,0 @@
--- Numbers with a sign.
-use Rattle.std.proofs.lemmas.Int.{to_z-of_z}
-
-pub ruleset signed = (to_z-of_z)
