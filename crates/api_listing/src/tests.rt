@@ -24,6 +24,7 @@ fn what_is_read(rt: HostRuntime) -> Result<(), Fail> {
     assert_eq!(rt; family.classes.len(), 24);
     assert_eq!(rt; family.classes.as_slice()[22].interfaces.len(), 2);
     assert!(rt; family.classes.as_slice()[20].is_interface);
+    assert_eq!(rt; family.fields.len(), 1);
     assert!(rt; family.fields.as_slice()[0].desc.as_slice() == b"Lx/A;".as_slice());
     let java = read(rt.alloc(), library::LIBRARY.as_bytes())
         .ok()
