@@ -1,7 +1,5 @@
 //! Listings as people write them, each fault with its line, and which method a call means.
 
-mod library;
-
 use super::*;
 use mon_base::{Bytes, List};
 use std::test::Fail;
@@ -24,13 +22,8 @@ fn what_is_read(rt: HostRuntime) -> Result<(), Fail> {
     assert_eq!(rt; family.classes.len(), 24);
     assert_eq!(rt; family.classes.as_slice()[22].interfaces.len(), 2);
     assert!(rt; family.classes.as_slice()[20].is_interface);
+    assert_eq!(rt; family.fields.len(), 1);
     assert!(rt; family.fields.as_slice()[0].desc.as_slice() == b"Lx/A;".as_slice());
-    let java = read(rt.alloc(), library::LIBRARY.as_bytes())
-        .ok()
-        .ok_or("a listing")?;
-    assert_eq!(rt; java.classes.len(), 35);
-    assert_eq!(rt; java.methods.len(), 42);
-    assert_eq!(rt; java.fields.len(), 2);
     let empty = read(rt.alloc(), b"".as_slice()).ok().ok_or("a listing")?;
     assert_eq!(rt; empty.classes.len(), 20);
     Ok(())
