@@ -1,0 +1,543 @@
+-- Which opcode an instruction has, and in what form it stands.
+use Rattle.std.proofs.Common.{◌≡◌, ℕ, zero, suc, ℤ, pos, ◌+◌, ◌<◌, Bool, true, false, not, List, [], ◌++◌, replicate, refl, sym, ap, subst, ◌∙◌, inl, inr, arith}
+use Rattle.std.specs.Prelude.{◌==◌, ◌&&◌, ◌||◌}
+use Rattle.std.proofs.lemmas.Bool.{cases_lt, false≢true}
+use Rattle.std.proofs.lemmas.Bool.Decides.{nat_tests}
+use Rattle.mon_base.proofs.Reading.{after}
+use Rattle.insn_codec.specs.declared.opcode.Operands.{Operands}
+use Rattle.insn_codec.specs.declared.opcode.Operands.TheVariants as ops
+use Rattle.insn_codec.specs.declared.insn.Insn.{Insn}
+use Rattle.insn_codec.specs.declared.insn.Insn.TheVariants.{Plain, Byte, Short, Ldc, Pool, Iface, Local, Inc, Branch, GotoW, NewArray, Table, Lookup}
+use Rattle.insn_codec.specs.Opcodes.{Opcode, opcode_at, operands_of}
+use Rattle.insn_codec.specs.Spelling.{u1, u2, i1, i2, i4, offset, padding}
+use Rattle.insn_codec.specs.Fits.{IsInsn, AimsWithin, Reaches}
+use Rattle.insn_codec.proofs.Opcodes.{no_opcode}
+use Rattle.insn_codec.proofs.SwitchLaws.{is_table, is_lookup, after_padding, after_zeros}
+
+-- ---- opcodes
+
+abbrev pub number : Operands → ℕ
+number ops.Plain = 0
+number ops.Byte = 1
+number ops.Short = 2
+number ops.Ldc = 3
+number ops.Pool = 4
+number ops.Local = 5
+number ops.Inc = 6
+number ops.Branch = 7
+number ops.GotoW = 8
+number ops.Table = 9
+number ops.Lookup = 10
+number ops.Iface = 11
+number ops.NewArray = 12
+number ops.Wide = 13
+number ops.LeftOut = 14
+number ops.Unknown = 15
+
+abbrev pub all_below : ℕ → (ℕ → Bool) → Bool
+all_below zero test = true
+all_below (suc n) test = test n && all_below n test
+
+pub both : (a b : Bool) → (a && b) ≡ true → (a ≡ true) × (b ≡ true)
+both true b h = (refl, h)
+both false b h = absurd (false≢true h)
+
+pub each_below : (n : ℕ) (test : ℕ → Bool) → all_below n test ≡ true → (i : ℕ) → i < n → test i ≡ true
+each_below zero test h i lt = absurd (omega arith)
+each_below (suc n) test h i lt =
+    let b = both (test n) (all_below n test) h in
+    elim (cases_lt i n) [
+      | inl less ↦ each_below n test b.1 i less
+      | inr most ↦ let same : n ≡ i = omega arith in subst (λ (k : ℕ). test k ≡ true) same b.0
+    ]
+
+-- An opcode with operands is below 202.
+pub known_opcode : (op : ℕ) → (number (operands_of op) == 15) ≡ false → op < 202
+known_opcode op known =
+    elim (cases_lt op 202) [
+      | inl less ↦ less
+      | inr more ↦ absurd (false≢true (sym known ∙ ap (λ (o : Opcode). number o.operands == 15) (no_opcode op more)))
+    ]
+
+abbrev pub only_at : ℕ → ℕ → ℕ → Bool
+only_at kind only op = not (number (operands_of op) == kind) || (op == only)
+
+pub passed : (b c : Bool) → (not b || c) ≡ true → b ≡ true → c ≡ true
+passed b c h holds = sym (rw holds refl) ∙ h
+
+pub equal_numbers : (m n : ℕ) → (m == n) ≡ true → m ≡ n
+equal_numbers m n h = grind (arith, nat_tests)
+
+pub number_itself : (n : ℕ) → (n == n) ≡ true
+number_itself n = grind (arith, nat_tests)
+
+pub only_one : (o : Operands) (only : ℕ) → (number o == 15) ≡ false → all_below 202 (only_at (number o) only) ≡ true
+    → (op : ℕ) → operands_of op ≡ o → op ≡ only
+only_one o only known table op is =
+    let less = known_opcode op (ap (λ (x : Operands). number x == 15) is ∙ known) in
+    let test = each_below 202 (only_at (number o) only) table op less in
+    let same : (number (operands_of op) == number o) ≡ true = ap (λ (x : Operands). number x == number o) is ∙ number_itself (number o) in
+    equal_numbers op only (passed (number (operands_of op) == number o) (op == only) test same)
+
+pub only_byte : (op : ℕ) → operands_of op ≡ ops.Byte → op ≡ 0x10
+unfolding opcode_at
+only_byte op is = only_one ops.Byte 0x10 refl refl op is
+
+pub byte_code : operands_of 0x10 ≡ ops.Byte
+unfolding opcode_at
+byte_code = refl
+
+pub only_short : (op : ℕ) → operands_of op ≡ ops.Short → op ≡ 0x11
+unfolding opcode_at
+only_short op is = only_one ops.Short 0x11 refl refl op is
+
+pub short_code : operands_of 0x11 ≡ ops.Short
+unfolding opcode_at
+short_code = refl
+
+pub only_ldc : (op : ℕ) → operands_of op ≡ ops.Ldc → op ≡ 0x12
+unfolding opcode_at
+only_ldc op is = only_one ops.Ldc 0x12 refl refl op is
+
+pub ldc_code : operands_of 0x12 ≡ ops.Ldc
+unfolding opcode_at
+ldc_code = refl
+
+pub only_inc : (op : ℕ) → operands_of op ≡ ops.Inc → op ≡ 0x84
+unfolding opcode_at
+only_inc op is = only_one ops.Inc 0x84 refl refl op is
+
+pub inc_code : operands_of 0x84 ≡ ops.Inc
+unfolding opcode_at
+inc_code = refl
+
+pub only_gotow : (op : ℕ) → operands_of op ≡ ops.GotoW → op ≡ 0xC8
+unfolding opcode_at
+only_gotow op is = only_one ops.GotoW 0xC8 refl refl op is
+
+pub gotow_code : operands_of 0xC8 ≡ ops.GotoW
+unfolding opcode_at
+gotow_code = refl
+
+pub only_table : (op : ℕ) → operands_of op ≡ ops.Table → op ≡ 0xAA
+unfolding opcode_at
+only_table op is = only_one ops.Table 0xAA refl refl op is
+
+pub table_code : operands_of 0xAA ≡ ops.Table
+unfolding opcode_at
+table_code = refl
+
+pub only_lookup : (op : ℕ) → operands_of op ≡ ops.Lookup → op ≡ 0xAB
+unfolding opcode_at
+only_lookup op is = only_one ops.Lookup 0xAB refl refl op is
+
+pub lookup_code : operands_of 0xAB ≡ ops.Lookup
+unfolding opcode_at
+lookup_code = refl
+
+pub only_iface : (op : ℕ) → operands_of op ≡ ops.Iface → op ≡ 0xB9
+unfolding opcode_at
+only_iface op is = only_one ops.Iface 0xB9 refl refl op is
+
+pub iface_code : operands_of 0xB9 ≡ ops.Iface
+unfolding opcode_at
+iface_code = refl
+
+pub only_newarray : (op : ℕ) → operands_of op ≡ ops.NewArray → op ≡ 0xBC
+unfolding opcode_at
+only_newarray op is = only_one ops.NewArray 0xBC refl refl op is
+
+pub newarray_code : operands_of 0xBC ≡ ops.NewArray
+unfolding opcode_at
+newarray_code = refl
+
+pub only_wide : (op : ℕ) → operands_of op ≡ ops.Wide → op ≡ 0xC4
+unfolding opcode_at
+only_wide op is = only_one ops.Wide 0xC4 refl refl op is
+
+pub wide_code : operands_of 0xC4 ≡ ops.Wide
+unfolding opcode_at
+wide_code = refl
+
+-- ---- forms
+
+-- with what operands an instruction stands
+abbrev pub form_of : Insn → Operands
+form_of (Plain op) = ops.Plain
+form_of (Byte n) = ops.Byte
+form_of (Short n) = ops.Short
+form_of (Ldc index) = ops.Ldc
+form_of (Pool op index) = ops.Pool
+form_of (Iface index count) = ops.Iface
+form_of (Local op slot false) = ops.Local
+form_of (Local op slot true) = ops.Wide
+form_of (Inc slot by false) = ops.Inc
+form_of (Inc slot by true) = ops.Wide
+form_of (Branch op to) = ops.Branch
+form_of (GotoW to) = ops.GotoW
+form_of (NewArray kind) = ops.NewArray
+form_of (Table other low targets) = ops.Table
+form_of (Lookup other keys targets) = ops.Lookup
+
+abbrev pub first_byte : Insn → ℕ
+first_byte (Plain op) = op
+first_byte (Byte n) = 0x10
+first_byte (Short n) = 0x11
+first_byte (Ldc index) = 0x12
+first_byte (Pool op index) = op
+first_byte (Iface index count) = 0xB9
+first_byte (Local op slot false) = op
+first_byte (Local op slot true) = 0xC4
+first_byte (Inc slot by false) = 0x84
+first_byte (Inc slot by true) = 0xC4
+first_byte (Branch op to) = op
+first_byte (GotoW to) = 0xC8
+first_byte (NewArray kind) = 0xBC
+first_byte (Table other low targets) = 0xAA
+first_byte (Lookup other keys targets) = 0xAB
+
+-- what follows the first byte
+abbrev pub after_first : List ℕ → ℕ → Insn → List ℕ
+after_first starts at (Plain op) = []
+after_first starts at (Byte n) = i1 n
+after_first starts at (Short n) = i2 n
+after_first starts at (Ldc index) = u1 index
+after_first starts at (Pool op index) = u2 index
+after_first starts at (Iface index count) = u2 index ++ (u1 count ++ u1 0)
+after_first starts at (Local op slot false) = u1 slot
+after_first starts at (Local op slot true) = u1 op ++ u2 slot
+after_first starts at (Inc slot by false) = u1 slot ++ i1 by
+after_first starts at (Inc slot by true) = u1 0x84 ++ (u2 slot ++ i2 by)
+after_first starts at (Branch op to) = i2 (offset starts at to)
+after_first starts at (GotoW to) = i4 (offset starts at to)
+after_first starts at (NewArray kind) = u1 kind
+after_first starts at (Table other low targets) = replicate (padding at) 0 ++ after_padding starts at (Table other low targets)
+after_first starts at (Lookup other keys targets) = replicate (padding at) 0 ++ after_zeros starts at (Lookup other keys targets)
+
+-- an instruction of a code of n instructions
+abbrev pub FitsInsn : List ℕ → ℕ → ℕ → Insn → Type 0
+FitsInsn starts n at a = IsInsn a × (AimsWithin n a × Reaches starts at a)
+
+-- what is known of it after its first byte
+abbrev pub Known : Operands → ℕ → Insn → Type 0
+Known o op a = (first_byte a ≡ op) × (form_of a ≡ o)
+
+pub is_plain : (a : Insn) → form_of a ≡ ops.Plain → Plain (first_byte a) ≡ a
+is_plain (Plain op) e = refl
+is_plain (Byte n) e = absurd cc
+is_plain (Short n) e = absurd cc
+is_plain (Ldc index) e = absurd cc
+is_plain (Pool op index) e = absurd cc
+is_plain (Iface index count) e = absurd cc
+is_plain (Local op slot false) e = absurd cc
+is_plain (Local op slot true) e = absurd cc
+is_plain (Inc slot by false) e = absurd cc
+is_plain (Inc slot by true) e = absurd cc
+is_plain (Branch op to) e = absurd cc
+is_plain (GotoW to) e = absurd cc
+is_plain (NewArray kind) e = absurd cc
+is_plain (Table other low targets) e = absurd cc
+is_plain (Lookup other keys targets) e = absurd cc
+
+pub is_byte : (a : Insn) → form_of a ≡ ops.Byte → (n : ℤ) × (Byte n ≡ a)
+is_byte (Plain op) e = absurd cc
+is_byte (Byte n) e = (n, refl)
+is_byte (Short n) e = absurd cc
+is_byte (Ldc index) e = absurd cc
+is_byte (Pool op index) e = absurd cc
+is_byte (Iface index count) e = absurd cc
+is_byte (Local op slot false) e = absurd cc
+is_byte (Local op slot true) e = absurd cc
+is_byte (Inc slot by false) e = absurd cc
+is_byte (Inc slot by true) e = absurd cc
+is_byte (Branch op to) e = absurd cc
+is_byte (GotoW to) e = absurd cc
+is_byte (NewArray kind) e = absurd cc
+is_byte (Table other low targets) e = absurd cc
+is_byte (Lookup other keys targets) e = absurd cc
+
+pub is_short : (a : Insn) → form_of a ≡ ops.Short → (n : ℤ) × (Short n ≡ a)
+is_short (Plain op) e = absurd cc
+is_short (Byte n) e = absurd cc
+is_short (Short n) e = (n, refl)
+is_short (Ldc index) e = absurd cc
+is_short (Pool op index) e = absurd cc
+is_short (Iface index count) e = absurd cc
+is_short (Local op slot false) e = absurd cc
+is_short (Local op slot true) e = absurd cc
+is_short (Inc slot by false) e = absurd cc
+is_short (Inc slot by true) e = absurd cc
+is_short (Branch op to) e = absurd cc
+is_short (GotoW to) e = absurd cc
+is_short (NewArray kind) e = absurd cc
+is_short (Table other low targets) e = absurd cc
+is_short (Lookup other keys targets) e = absurd cc
+
+pub is_ldc : (a : Insn) → form_of a ≡ ops.Ldc → (n : ℕ) × (Ldc n ≡ a)
+is_ldc (Plain op) e = absurd cc
+is_ldc (Byte n) e = absurd cc
+is_ldc (Short n) e = absurd cc
+is_ldc (Ldc index) e = (index, refl)
+is_ldc (Pool op index) e = absurd cc
+is_ldc (Iface index count) e = absurd cc
+is_ldc (Local op slot false) e = absurd cc
+is_ldc (Local op slot true) e = absurd cc
+is_ldc (Inc slot by false) e = absurd cc
+is_ldc (Inc slot by true) e = absurd cc
+is_ldc (Branch op to) e = absurd cc
+is_ldc (GotoW to) e = absurd cc
+is_ldc (NewArray kind) e = absurd cc
+is_ldc (Table other low targets) e = absurd cc
+is_ldc (Lookup other keys targets) e = absurd cc
+
+pub is_pool : (a : Insn) → form_of a ≡ ops.Pool → (n : ℕ) × (Pool (first_byte a) n ≡ a)
+is_pool (Plain op) e = absurd cc
+is_pool (Byte n) e = absurd cc
+is_pool (Short n) e = absurd cc
+is_pool (Ldc index) e = absurd cc
+is_pool (Pool op index) e = (index, refl)
+is_pool (Iface index count) e = absurd cc
+is_pool (Local op slot false) e = absurd cc
+is_pool (Local op slot true) e = absurd cc
+is_pool (Inc slot by false) e = absurd cc
+is_pool (Inc slot by true) e = absurd cc
+is_pool (Branch op to) e = absurd cc
+is_pool (GotoW to) e = absurd cc
+is_pool (NewArray kind) e = absurd cc
+is_pool (Table other low targets) e = absurd cc
+is_pool (Lookup other keys targets) e = absurd cc
+
+pub is_iface : (a : Insn) → form_of a ≡ ops.Iface → (x : ℕ × ℕ) × (Iface x.0 x.1 ≡ a)
+is_iface (Plain op) e = absurd cc
+is_iface (Byte n) e = absurd cc
+is_iface (Short n) e = absurd cc
+is_iface (Ldc index) e = absurd cc
+is_iface (Pool op index) e = absurd cc
+is_iface (Iface index count) e = ((index, count), refl)
+is_iface (Local op slot false) e = absurd cc
+is_iface (Local op slot true) e = absurd cc
+is_iface (Inc slot by false) e = absurd cc
+is_iface (Inc slot by true) e = absurd cc
+is_iface (Branch op to) e = absurd cc
+is_iface (GotoW to) e = absurd cc
+is_iface (NewArray kind) e = absurd cc
+is_iface (Table other low targets) e = absurd cc
+is_iface (Lookup other keys targets) e = absurd cc
+
+pub is_local : (a : Insn) → form_of a ≡ ops.Local → (n : ℕ) × (Local (first_byte a) n false ≡ a)
+is_local (Plain op) e = absurd cc
+is_local (Byte n) e = absurd cc
+is_local (Short n) e = absurd cc
+is_local (Ldc index) e = absurd cc
+is_local (Pool op index) e = absurd cc
+is_local (Iface index count) e = absurd cc
+is_local (Local op slot false) e = (slot, refl)
+is_local (Local op slot true) e = absurd cc
+is_local (Inc slot by false) e = absurd cc
+is_local (Inc slot by true) e = absurd cc
+is_local (Branch op to) e = absurd cc
+is_local (GotoW to) e = absurd cc
+is_local (NewArray kind) e = absurd cc
+is_local (Table other low targets) e = absurd cc
+is_local (Lookup other keys targets) e = absurd cc
+
+pub is_inc : (a : Insn) → form_of a ≡ ops.Inc → (x : ℕ × ℤ) × (Inc x.0 x.1 false ≡ a)
+is_inc (Plain op) e = absurd cc
+is_inc (Byte n) e = absurd cc
+is_inc (Short n) e = absurd cc
+is_inc (Ldc index) e = absurd cc
+is_inc (Pool op index) e = absurd cc
+is_inc (Iface index count) e = absurd cc
+is_inc (Local op slot false) e = absurd cc
+is_inc (Local op slot true) e = absurd cc
+is_inc (Inc slot by false) e = ((slot, by), refl)
+is_inc (Inc slot by true) e = absurd cc
+is_inc (Branch op to) e = absurd cc
+is_inc (GotoW to) e = absurd cc
+is_inc (NewArray kind) e = absurd cc
+is_inc (Table other low targets) e = absurd cc
+is_inc (Lookup other keys targets) e = absurd cc
+
+pub is_branch : (a : Insn) → form_of a ≡ ops.Branch → (n : ℕ) × (Branch (first_byte a) n ≡ a)
+is_branch (Plain op) e = absurd cc
+is_branch (Byte n) e = absurd cc
+is_branch (Short n) e = absurd cc
+is_branch (Ldc index) e = absurd cc
+is_branch (Pool op index) e = absurd cc
+is_branch (Iface index count) e = absurd cc
+is_branch (Local op slot false) e = absurd cc
+is_branch (Local op slot true) e = absurd cc
+is_branch (Inc slot by false) e = absurd cc
+is_branch (Inc slot by true) e = absurd cc
+is_branch (Branch op to) e = (to, refl)
+is_branch (GotoW to) e = absurd cc
+is_branch (NewArray kind) e = absurd cc
+is_branch (Table other low targets) e = absurd cc
+is_branch (Lookup other keys targets) e = absurd cc
+
+pub is_goto_w : (a : Insn) → form_of a ≡ ops.GotoW → (n : ℕ) × (GotoW n ≡ a)
+is_goto_w (Plain op) e = absurd cc
+is_goto_w (Byte n) e = absurd cc
+is_goto_w (Short n) e = absurd cc
+is_goto_w (Ldc index) e = absurd cc
+is_goto_w (Pool op index) e = absurd cc
+is_goto_w (Iface index count) e = absurd cc
+is_goto_w (Local op slot false) e = absurd cc
+is_goto_w (Local op slot true) e = absurd cc
+is_goto_w (Inc slot by false) e = absurd cc
+is_goto_w (Inc slot by true) e = absurd cc
+is_goto_w (Branch op to) e = absurd cc
+is_goto_w (GotoW to) e = (to, refl)
+is_goto_w (NewArray kind) e = absurd cc
+is_goto_w (Table other low targets) e = absurd cc
+is_goto_w (Lookup other keys targets) e = absurd cc
+
+pub is_new_array : (a : Insn) → form_of a ≡ ops.NewArray → (n : ℕ) × (NewArray n ≡ a)
+is_new_array (Plain op) e = absurd cc
+is_new_array (Byte n) e = absurd cc
+is_new_array (Short n) e = absurd cc
+is_new_array (Ldc index) e = absurd cc
+is_new_array (Pool op index) e = absurd cc
+is_new_array (Iface index count) e = absurd cc
+is_new_array (Local op slot false) e = absurd cc
+is_new_array (Local op slot true) e = absurd cc
+is_new_array (Inc slot by false) e = absurd cc
+is_new_array (Inc slot by true) e = absurd cc
+is_new_array (Branch op to) e = absurd cc
+is_new_array (GotoW to) e = absurd cc
+is_new_array (NewArray kind) e = (kind, refl)
+is_new_array (Table other low targets) e = absurd cc
+is_new_array (Lookup other keys targets) e = absurd cc
+
+pub table_form : (a : Insn) → form_of a ≡ ops.Table → is_table a ≡ true
+table_form (Plain op) e = absurd cc
+table_form (Byte n) e = absurd cc
+table_form (Short n) e = absurd cc
+table_form (Ldc index) e = absurd cc
+table_form (Pool op index) e = absurd cc
+table_form (Iface index count) e = absurd cc
+table_form (Local op slot false) e = absurd cc
+table_form (Local op slot true) e = absurd cc
+table_form (Inc slot by false) e = absurd cc
+table_form (Inc slot by true) e = absurd cc
+table_form (Branch op to) e = absurd cc
+table_form (GotoW to) e = absurd cc
+table_form (NewArray kind) e = absurd cc
+table_form (Table other low targets) e = refl
+table_form (Lookup other keys targets) e = absurd cc
+
+pub lookup_form : (a : Insn) → form_of a ≡ ops.Lookup → is_lookup a ≡ true
+lookup_form (Plain op) e = absurd cc
+lookup_form (Byte n) e = absurd cc
+lookup_form (Short n) e = absurd cc
+lookup_form (Ldc index) e = absurd cc
+lookup_form (Pool op index) e = absurd cc
+lookup_form (Iface index count) e = absurd cc
+lookup_form (Local op slot false) e = absurd cc
+lookup_form (Local op slot true) e = absurd cc
+lookup_form (Inc slot by false) e = absurd cc
+lookup_form (Inc slot by true) e = absurd cc
+lookup_form (Branch op to) e = absurd cc
+lookup_form (GotoW to) e = absurd cc
+lookup_form (NewArray kind) e = absurd cc
+lookup_form (Table other low targets) e = absurd cc
+lookup_form (Lookup other keys targets) e = refl
+
+pub none_left_out : (a : Insn) → form_of a ≡ ops.LeftOut → ⊥
+none_left_out (Plain op) e = absurd cc
+none_left_out (Byte n) e = absurd cc
+none_left_out (Short n) e = absurd cc
+none_left_out (Ldc index) e = absurd cc
+none_left_out (Pool op index) e = absurd cc
+none_left_out (Iface index count) e = absurd cc
+none_left_out (Local op slot false) e = absurd cc
+none_left_out (Local op slot true) e = absurd cc
+none_left_out (Inc slot by false) e = absurd cc
+none_left_out (Inc slot by true) e = absurd cc
+none_left_out (Branch op to) e = absurd cc
+none_left_out (GotoW to) e = absurd cc
+none_left_out (NewArray kind) e = absurd cc
+none_left_out (Table other low targets) e = absurd cc
+none_left_out (Lookup other keys targets) e = absurd cc
+
+pub none_unknown : (a : Insn) → form_of a ≡ ops.Unknown → ⊥
+none_unknown (Plain op) e = absurd cc
+none_unknown (Byte n) e = absurd cc
+none_unknown (Short n) e = absurd cc
+none_unknown (Ldc index) e = absurd cc
+none_unknown (Pool op index) e = absurd cc
+none_unknown (Iface index count) e = absurd cc
+none_unknown (Local op slot false) e = absurd cc
+none_unknown (Local op slot true) e = absurd cc
+none_unknown (Inc slot by false) e = absurd cc
+none_unknown (Inc slot by true) e = absurd cc
+none_unknown (Branch op to) e = absurd cc
+none_unknown (GotoW to) e = absurd cc
+none_unknown (NewArray kind) e = absurd cc
+none_unknown (Table other low targets) e = absurd cc
+none_unknown (Lookup other keys targets) e = absurd cc
+
+-- ---- fields
+
+abbrev pub slot_of : Insn → ℕ
+slot_of (Local op slot wide) = slot
+slot_of (Inc slot by wide) = slot
+slot_of a = 0
+
+abbrev pub by_of : Insn → ℤ
+by_of (Inc slot by wide) = by
+by_of a = pos 0
+
+abbrev pub index_of : Insn → ℕ
+index_of (Iface index count) = index
+index_of a = 0
+
+abbrev pub count_of : Insn → ℕ
+count_of (Iface index count) = count
+count_of a = 0
+
+-- the opcode after wide
+abbrev pub inner_of : Insn → ℕ
+inner_of (Local op slot wide) = op
+inner_of (Inc slot by wide) = 0x84
+inner_of a = 0
+
+-- what follows it
+abbrev pub after_inner : Insn → List ℕ
+after_inner (Local op slot wide) = u2 slot
+after_inner (Inc slot by wide) = u2 slot ++ i2 by
+after_inner a = []
+
+pub inc_made : (a : Insn) → form_of a ≡ ops.Inc → Inc (slot_of a) (by_of a) false ≡ a
+inc_made (Plain op) e = absurd cc
+inc_made (Byte n) e = absurd cc
+inc_made (Short n) e = absurd cc
+inc_made (Ldc index) e = absurd cc
+inc_made (Pool op index) e = absurd cc
+inc_made (Iface index count) e = absurd cc
+inc_made (Local op slot false) e = absurd cc
+inc_made (Local op slot true) e = absurd cc
+inc_made (Inc slot by false) e = refl
+inc_made (Inc slot by true) e = absurd cc
+inc_made (Branch op to) e = absurd cc
+inc_made (GotoW to) e = absurd cc
+inc_made (NewArray kind) e = absurd cc
+inc_made (Table other low targets) e = absurd cc
+inc_made (Lookup other keys targets) e = absurd cc
+
+pub iface_made : (a : Insn) → form_of a ≡ ops.Iface → Iface (index_of a) (count_of a) ≡ a
+iface_made (Plain op) e = absurd cc
+iface_made (Byte n) e = absurd cc
+iface_made (Short n) e = absurd cc
+iface_made (Ldc index) e = absurd cc
+iface_made (Pool op index) e = absurd cc
+iface_made (Iface index count) e = refl
+iface_made (Local op slot false) e = absurd cc
+iface_made (Local op slot true) e = absurd cc
+iface_made (Inc slot by false) e = absurd cc
+iface_made (Inc slot by true) e = absurd cc
+iface_made (Branch op to) e = absurd cc
+iface_made (GotoW to) e = absurd cc
+iface_made (NewArray kind) e = absurd cc
+iface_made (Table other low targets) e = absurd cc
+iface_made (Lookup other keys targets) e = absurd cc

@@ -1,0 +1,15 @@
+pub mod Ascend
+pub mod CodeLaws
+pub mod Finding
+pub mod Forms
+pub mod InsnLaws
+pub mod Instruction
+pub mod Laws
+pub mod Loop
+pub mod Marks
+pub mod Opcodes
+pub mod Putting
+pub mod Sequence
+pub mod Standing
+pub mod SwitchLaws
+pub mod WriteLaws

@@ -1,0 +1,32 @@
+-- The tables of the code are the table of the opcodes.
+use Rattle.std.proofs.Common.{◌≡◌, ℕ, zero, suc, ◌<◌, ◌≤◌, Bool, List, [], ◌∷◌, length, map, refl, ap, ◌∙◌, arith}
+use Rattle.std.specs.Prelude.{slice_index_or}
+use Rattle.insn_codec.specs.declared.opcode.Operands.{Operands}
+use Rattle.insn_codec.specs.declared.opcode.TheConstants.{OPCODES}
+use Rattle.insn_codec.specs.Opcodes.{Opcode, opcodes, opcode_at, operands_of, is_frame_only, goes_on, unknown}
+
+abbrev columns : Opcode → Operands × Bool × Bool
+columns o = (o.operands, o.is_frame_only, o.goes_on)
+
+index_of_map : {X Y : Type 0} (f : X → Y) (xs : List X) (i : ℕ) (d : X) (e : Y) → i < length xs
+    → slice_index_or (map f xs) i e ≡ f (slice_index_or xs i d)
+index_of_map f [] i d e lt = absurd (omega arith)
+index_of_map f (x ∷ xs) zero d e lt = refl
+index_of_map f (x ∷ xs) (suc i) d e lt = index_of_map f xs i d e (omega arith)
+
+index_past : {X : Type 0} (xs : List X) (i : ℕ) (d : X) → length xs ≤ i → slice_index_or xs i d ≡ d
+index_past [] i d le = refl
+index_past (x ∷ xs) zero d le = absurd (omega arith)
+index_past (x ∷ xs) (suc i) d le = index_past xs i d (omega arith)
+
+the_columns : OPCODES ≡ map columns opcodes
+the_columns = refl
+
+pub columns_of : (op : ℕ) (e : Operands × Bool × Bool) → op < 202
+    → slice_index_or OPCODES op e ≡ (operands_of op, is_frame_only op, goes_on op)
+unfolding opcode_at
+columns_of op e lt = ap (λ (xs : List (Operands × Bool × Bool)). slice_index_or xs op e) the_columns ∙ index_of_map columns opcodes op (unknown []) e lt
+
+pub no_opcode : (op : ℕ) → 202 ≤ op → opcode_at op ≡ unknown []
+unfolding opcode_at
+no_opcode op le = index_past opcodes op (unknown []) le
