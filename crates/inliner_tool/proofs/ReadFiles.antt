@@ -1,9 +1,8 @@
 -- Reading the inputs of a check, one after the other.
 use Rattle.std.proofs.Common.{◌≡◌, ◌≢◌, ℕ, ◌+◌, ◌≤◌, ◌<◌, ◌^◌, ◌⊎◌, List, [], ◌∷◌, ◌++◌, length, get_or, take, take_all, drop, suc, ◌-◌, Result, Ok, Err, refl, sym, ap, subst, ◌∙◌, append_assoc, arith, inl, inr, ⊎_elim}
-use Rattle.std.specs.Prelude.{Contains, IfOk, MatchResult}
+use Rattle.std.specs.Prelude.{IfOk, MatchResult}
 use Rattle.std.specs.List.{AllByRecursion}
 use Rattle.std.proofs.lemmas.List.{append-nil}
-use Rattle.std.proofs.lemmas.List.Elements.{Contains-append_right}
 use Rattle.mon_store.specs.Store.{Files}
 use Rattle.mon_store.proofs.StoreLaws.{Caused-since}
 use Rattle.inliner_tool.specs.declared.fault.FormFault.{FormFault}
@@ -13,7 +12,7 @@ use Rattle.inliner_tool.specs.declared.inputs.Stop.TheVariants.{Input, Unread, M
 use Rattle.inliner_tool.specs.declared.listing.Listing.{Listing}
 use Rattle.inliner_tool.specs.declared.program.LinkedClass.{LinkedClass}
 use Rattle.inliner_tool.specs.Forms.{limit, Count, HasText, IsOfForm, IsOfNoForm, IsUnread, ReadsForm, BuildsForm}
-use Rattle.inliner_tool.specs.Inputs.{ClassOf, AreClasses, AreBefore, ReadsClasses}
+use Rattle.inliner_tool.specs.Inputs.{ClassOf, AreClasses, StopsAmong, ReadsClasses}
 
 -- the classes that were read, and the names that are left
 pub record HaveRead (files : Files) (listing : Listing) (main : List ℕ) (names : List (List ℕ)) (classes : List LinkedClass) (left : List (List ℕ)) : Type 0 where
@@ -50,27 +49,27 @@ pub unread_before : (files : Files) (first begun now : ℕ) (last name : List �
 unread_before files first begun now last name le unread =
     ⊎_elim (λ h. inl (Caused-since first begun now last name le h)) (λ h. inr h) unread
 
-contains_there : (before : List (List ℕ)) (name : List ℕ) (left : List (List ℕ)) → Contains (before ++ name ∷ left) name
-contains_there before name left = Contains-append_right before (name ∷ left) name (0, omega arith, refl)
-
 -- the class at which the reading of the classes ends
+stops_among : (files : Files) (listing : Listing) (main : List ℕ) (names : List (List ℕ)) (classes : List LinkedClass) (name : List ℕ) (left : List (List ℕ)) (count : Count) (stop : Stop)
+    → HaveRead files listing main names classes (name ∷ left) → ReadsForm files count name (ClassOf listing main) (Err stop) → StopsAmong files count listing main names stop
+stops_among files listing main names classes name left count stop had stops = record {
+  before = had.before;
+  name = name;
+  later = left;
+  classes = classes;
+  whole = had.whole;
+  read = had.read;
+  stops = stops;
+}
+
 pub class_stops : (files : Files) (listing : Listing) (main : List ℕ) (names : List (List ℕ)) (classes : List LinkedClass) (name : List ℕ) (left : List (List ℕ)) (first begun now : ℕ) (last : List ℕ) (stop : Stop)
     → first ≤ begun → HaveRead files listing main names classes (name ∷ left)
     → ReadsForm files (record { before = begun; now = now; last = last }) name (ClassOf listing main) (Err stop)
     → ReadsClasses files (record { before = first; now = now; last = last }) listing main names (Err stop)
-class_stops files listing main names classes name left first begun now last (Input bad) le had stops = (
-  record {
-    before = had.before;
-    later = left;
-    classes = classes;
-    whole = had.whole ∙ ap (λ (n : List ℕ). had.before ++ n ∷ left) (sym stops.0);
-    read = had.read;
-  },
-  subst (λ (n : List ℕ). IsOfNoForm files n (ClassOf listing main)) (sym stops.0) stops.1,
-)
+class_stops files listing main names classes name left first begun now last (Input bad) le had stops =
+    stops_among files listing main names classes name left (record { before = first; now = now; last = last }) (Input bad) had stops
 class_stops files listing main names classes name left first begun now last (Unread bad) le had stops =
-    let named : Contains names name = subst (λ (ns : List (List ℕ)). Contains ns name) (sym had.whole) (contains_there had.before name left) in
-    (subst (λ (n : List ℕ). Contains names n) (sym stops.0) named, subst (λ (n : List ℕ). IsUnread files (record { before = first; now = now; last = last }) n) (sym stops.0) (unread_before files first begun now last name le stops.1))
+    stops_among files listing main names classes name left (record { before = first; now = now; last = last }) (Unread bad) had (stops.0, unread_before files first begun now last name le stops.1)
 class_stops files listing main names classes name left first begun now last Memory le had stops = tt
 
 -- What a text was read as, or why it was not, is the answer for its file.

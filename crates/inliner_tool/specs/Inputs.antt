@@ -1,16 +1,16 @@
 -- What the files of a check are, and the first of them that is wrong.
-use Rattle.std.specs.Prelude.{◌≡◌, ◌⊎◌, ℕ, List, [], ◌∷◌, ◌++◌, Contains, Result, Ok, Err}
+use Rattle.std.specs.Prelude.{◌≡◌, ◌⊎◌, ℕ, List, [], ◌∷◌, ◌++◌, Result, Ok, Err}
 use Rattle.mon_store.specs.Store.{Files}
 use Rattle.inliner_tool.specs.declared.certificate.Certificate.{Certificate}
 use Rattle.inliner_tool.specs.declared.inputs.CheckWords.{CheckWords}
 use Rattle.inliner_tool.specs.declared.inputs.Inputs.{Inputs}
 use Rattle.inliner_tool.specs.declared.inputs.Stop.{Stop}
-use Rattle.inliner_tool.specs.declared.inputs.Stop.TheVariants.{Input, Unread, Memory}
+use Rattle.inliner_tool.specs.declared.inputs.Stop.TheVariants.{Memory}
 use Rattle.inliner_tool.specs.declared.listing.Listing.{Listing}
 use Rattle.inliner_tool.specs.declared.policy.DeniedPolicy.{DeniedPolicy}
 use Rattle.inliner_tool.specs.declared.program.LinkedClass.{LinkedClass}
 use Rattle.inliner_tool.specs.Certificate.{SpellsCertificate}
-use Rattle.inliner_tool.specs.Forms.{Count, IsOfForm, IsOfNoForm, IsUnread}
+use Rattle.inliner_tool.specs.Forms.{Count, IsOfForm, ReadsForm}
 use Rattle.inliner_tool.specs.Linking.{IsClassOf, state_text}
 use Rattle.inliner_tool.specs.Listing.{SpellsListing}
 use Rattle.inliner_tool.specs.Policy.{SpellsPolicy}
@@ -34,10 +34,6 @@ named_by words = record {
   state = words.state.now;
 }
 
--- the files that a check may read
-abbrev pub files_of : Named → List (List ℕ)
-files_of named = named.listing ∷ named.policy ∷ named.certificate ∷ (named.others ++ named.state ∷ [])
-
 -- ---- the forms
 
 abbrev pub PolicyOver : Listing → List ℕ → DeniedPolicy → Type 0
@@ -60,19 +56,20 @@ AreClasses files listing main (name ∷ names) [] = ⊥
 AreClasses files listing main (name ∷ names) (class ∷ classes) =
     IsOfForm files name (ClassOf listing main) class × AreClasses files listing main names classes
 
--- the names before this one are of classes
-pub record AreBefore (files : Files) (listing : Listing) (main : List ℕ) (names : List (List ℕ)) (name : List ℕ) : Type 0 where
+-- The first file at which the reading of classes stops: those before it are classes of the name `main`.
+pub record StopsAmong (files : Files) (count : Count) (listing : Listing) (main : List ℕ) (names : List (List ℕ)) (stop : Stop) : Type 0 where
   pub before : List (List ℕ)
+  pub name : List ℕ
   pub later : List (List ℕ)
   pub classes : List LinkedClass
   pub whole : names ≡ before ++ name ∷ later
   pub read : AreClasses files listing main before classes
+  pub stops : ReadsForm files count name (ClassOf listing main) (Err stop)
 
 abbrev pub ReadsClasses : Files → Count → Listing → List ℕ → List (List ℕ) → Result (List LinkedClass) Stop → Type 0
 ReadsClasses files count listing main names (Ok classes) = AreClasses files listing main names classes
-ReadsClasses files count listing main names (Err (Input bad)) = AreBefore files listing main names bad × IsOfNoForm files bad (ClassOf listing main)
-ReadsClasses files count listing main names (Err (Unread bad)) = Contains names bad × IsUnread files count bad
 ReadsClasses files count listing main names (Err Memory) = Unit {0}
+ReadsClasses files count listing main names (Err stop) = StopsAmong files count listing main names stop
 
 -- ---- all files
 
@@ -83,33 +80,31 @@ pub record AreInputs (files : Files) (named : Named) (inputs : Inputs) : Type 0 
   pub classes : AreClasses files inputs.listing named.main named.others inputs.classes
   pub state : IsOfForm files named.state StateClass tt
 
--- The first file that is of no form is a class.
-abbrev pub BadClass : Files → Named → Listing → List ℕ → Type 0
-BadClass files named listing bad =
-    (AreBefore files listing named.main named.others bad × IsOfNoForm files bad (ClassOf listing named.main))
-    ⊎ ((classes : List LinkedClass) × AreClasses files listing named.main named.others classes × (bad ≡ named.state) × IsOfNoForm files bad StateClass)
+-- The reading stops at a class, or at the class that holds the state.
+abbrev pub StopsAtClass : Files → Count → Named → Listing → Stop → Type 0
+StopsAtClass files count named listing stop =
+    StopsAmong files count listing named.main named.others stop
+    ⊎ ((classes : List LinkedClass) × AreClasses files listing named.main named.others classes × ReadsForm files count named.state StateClass (Err stop))
 
--- It is the certificate, or a class after it.
-abbrev pub BadCertificate : Files → Named → Listing → List ℕ → Type 0
-BadCertificate files named listing bad =
-    ((bad ≡ named.certificate) × IsOfNoForm files bad SpellsCertificate)
-    ⊎ ((certificate : Certificate) × IsOfForm files named.certificate SpellsCertificate certificate × BadClass files named listing bad)
+-- It stops at the certificate, or at a file after it.
+abbrev pub StopsAtCertificate : Files → Count → Named → Listing → Stop → Type 0
+StopsAtCertificate files count named listing stop =
+    ReadsForm files count named.certificate SpellsCertificate (Err stop)
+    ⊎ ((certificate : Certificate) × IsOfForm files named.certificate SpellsCertificate certificate × StopsAtClass files count named listing stop)
 
--- It is the policy, or one after it.
-abbrev pub BadPolicy : Files → Named → Listing → List ℕ → Type 0
-BadPolicy files named listing bad =
-    ((bad ≡ named.policy) × IsOfNoForm files bad (PolicyOver listing))
-    ⊎ ((policy : DeniedPolicy) × IsOfForm files named.policy (PolicyOver listing) policy × BadCertificate files named listing bad)
+-- It stops at the policy, or at a file after it.
+abbrev pub StopsAtPolicy : Files → Count → Named → Listing → Stop → Type 0
+StopsAtPolicy files count named listing stop =
+    ReadsForm files count named.policy (PolicyOver listing) (Err stop)
+    ⊎ ((policy : DeniedPolicy) × IsOfForm files named.policy (PolicyOver listing) policy × StopsAtCertificate files count named listing stop)
 
--- It is the listing, or one after it: those before it are of their forms.
-abbrev pub FirstBad : Files → Named → List ℕ → Type 0
-FirstBad files named bad =
-    ((bad ≡ named.listing) × IsOfNoForm files bad SpellsListing)
-    ⊎ ((listing : Listing) × IsOfForm files named.listing SpellsListing listing × BadPolicy files named listing bad)
+-- The first file at which the reading stops: it is of no form, or could not be read, and those before it are of their forms.
+abbrev pub StopsAt : Files → Count → Named → Stop → Type 0
+StopsAt files count named stop =
+    ReadsForm files count named.listing SpellsListing (Err stop)
+    ⊎ ((listing : Listing) × IsOfForm files named.listing SpellsListing listing × StopsAtPolicy files count named listing stop)
 
 -- What reading the files of a check answers.
 abbrev pub ReadsInputs : Files → Count → Named → Result Inputs Stop → Type 0
 ReadsInputs files count named (Ok inputs) = AreInputs files named inputs
-ReadsInputs files count named (Err (Input bad)) = FirstBad files named bad
-ReadsInputs files count named (Err (Unread bad)) = Contains (files_of named) bad × IsUnread files count bad
-ReadsInputs files count named (Err Memory) = Unit {0}
+ReadsInputs files count named (Err stop) = StopsAt files count named stop

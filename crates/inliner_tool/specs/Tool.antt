@@ -1,11 +1,13 @@
 -- What the top call answers, and what it prints.
-use Rattle.std.specs.Prelude.{◌≡◌, ◌≢◌, ℕ, List, [], ◌∷◌, ◌++◌, length, codes, decimal, slice_get, Contains, Option, Some, None, Err}
+use Rattle.std.specs.Prelude.{◌≡◌, ◌≢◌, ℕ, List, [], ◌∷◌, ◌++◌, length, codes, decimal, slice_get, Option, Some, None, Err}
 use Rattle.std.specs.Option.{option_map_or}
 use Rattle.std.specs.List.{AllByRecursion}
 use Rattle.mon_store.specs.Store.{Files}
 use Rattle.inliner_tool.specs.declared.checker.CheckFault.{CheckFault}
 use Rattle.inliner_tool.specs.declared.checker.CheckFault.TheVariants.{Shape, Typing, Local}
 use Rattle.inliner_tool.specs.declared.inputs.Inputs.{Inputs}
+use Rattle.inliner_tool.specs.declared.inputs.Stop.{Stop}
+use Rattle.inliner_tool.specs.declared.inputs.Stop.TheVariants.{Input, Unread}
 use Rattle.inliner_tool.specs.declared.listing.Listing.{Listing}
 use Rattle.inliner_tool.specs.declared.program.LinkedClass.{LinkedClass}
 use Rattle.inliner_tool.specs.declared.program.Program.{Program}
@@ -16,8 +18,8 @@ use Rattle.inliner_tool.specs.declared.tool.Status.TheVariants as statuses
 use Rattle.mon_store.specs.Sink.{Appends, AppendsFront}
 use Rattle.inliner_tool.specs.Acceptance.{IsAccepted, IsClass, verdict, sites_of}
 use Rattle.inliner_tool.specs.Listing.{IsSound}
-use Rattle.inliner_tool.specs.Forms.{Count, IsUnread}
-use Rattle.inliner_tool.specs.Inputs.{Named, files_of, AreInputs, FirstBad}
+use Rattle.inliner_tool.specs.Forms.{Count}
+use Rattle.inliner_tool.specs.Inputs.{Named, AreInputs, StopsAt}
 use Rattle.inliner_tool.specs.Linking.{object, state_name}
 use Rattle.inliner_tool.specs.Secure.{Secure}
 
@@ -76,11 +78,11 @@ pub record SaysDenied (files : Files) (words : List (List ℕ)) (fault : CheckFa
   pub fails : verdict (program_of inputs) inputs.policy inputs.certificate ≡ Err fault
   pub labelled : label ≡ label_of (program_of inputs) (number_of_class fault)
 
--- This is the first file that is of no form.
-pub record SaysInput (files : Files) (words : List (List ℕ)) (name : List ℕ) : Type 0 where
+-- The reading stops at a file that is of no form, or could not be read: those before it are of their forms.
+pub record Stops (files : Files) (count : Count) (words : List (List ℕ)) (stop : Stop) : Type 0 where
   pub named : Named
   pub spelled : IsCheck words named
-  pub first : FirstBad files named name
+  pub first : StopsAt files count named stop
 
 -- All files are of their forms, and there are not two class words.
 pub record SaysNotBuilt (files : Files) (words : List (List ℕ)) : Type 0 where
@@ -90,20 +92,13 @@ pub record SaysNotBuilt (files : Files) (words : List (List ℕ)) : Type 0 where
   pub read : AreInputs files named inputs
   pub others : length inputs.classes ≢ 1
 
--- A named file could not be read.
-pub record SaysStore (files : Files) (count : Count) (words : List (List ℕ)) (name : List ℕ) : Type 0 where
-  pub named : Named
-  pub spelled : IsCheck words named
-  pub input : Contains (files_of named) name
-  pub unread : IsUnread files count name
-
 -- When the top call gives an answer: each comes where, and only where, its own case holds; but want of memory is free.
 abbrev pub Says : Files → Count → List (List ℕ) → Answer → Type 0
 Says files count words (answers.Accepted sites) = SaysAccepted files words sites
 Says files count words (answers.Denied fault label) = SaysDenied files words fault label
-Says files count words (answers.Input name) = SaysInput files words name
+Says files count words (answers.Input name) = Stops files count words (Input name)
 Says files count words answers.NotBuilt = SaysNotBuilt files words
-Says files count words (answers.Unread name) = SaysStore files count words name
+Says files count words (answers.Unread name) = Stops files count words (Unread name)
 Says files count words answers.Usage = (named : Named) → IsCheck words named → ⊥
 Says files count words answers.Memory = Unit {0}
 

@@ -2,18 +2,43 @@
 
 use super::files::{Edit, QUIET, SENDS, files_with, run};
 use crate::Status;
+use std::alloc::Global;
+use std::process::Abort;
 use std::test::Fail;
 
 const USAGE: &str = "usage: conspecj COMMAND WORD..\n";
 
 const ACCEPTED: &str = "accepted release sites 0\n";
 
+/// Each list of words is answered with its status and line.
+fn each_says(
+    rt: &impl Abort,
+    alloc: Global,
+    table: &[(&[&str], Status, &str)],
+) -> Result<(), Fail> {
+    for (words, status, printed) in table {
+        let ended = run(alloc, words, files_with(alloc, &[])?, &[], &[])?;
+        assert_eq!(rt; ended.printed.as_slice(), printed.as_bytes(), "{words:?}");
+        assert_eq!(rt; ended.status, *status, "{words:?}");
+    }
+    Ok(())
+}
+
 #[test]
-fn words(rt: HostRuntime) -> Result<(), Fail> {
-    let alloc = rt.alloc();
-    let table: [(&[&str], Status, &str); 16] = [
-        (&QUIET, Status::Done, ACCEPTED),
-        (&SENDS, Status::Denied, "denied 243 a/S 0 0 2\n"),
+fn the_two_checks(rt: HostRuntime) -> Result<(), Fail> {
+    each_says(
+        &rt,
+        rt.alloc(),
+        &[
+            (&QUIET, Status::Done, ACCEPTED),
+            (&SENDS, Status::Denied, "denied 243 a/S 0 0 2\n"),
+        ],
+    )
+}
+
+#[test]
+fn too_few_words(rt: HostRuntime) -> Result<(), Fail> {
+    let table: [(&[&str], Status, &str); 4] = [
         (&[], Status::Usage, USAGE),
         (&["check"], Status::Usage, USAGE),
         (&["check", "POLICY"], Status::Usage, USAGE),
@@ -22,6 +47,13 @@ fn words(rt: HostRuntime) -> Result<(), Fail> {
             Status::Usage,
             USAGE,
         ),
+    ];
+    each_says(&rt, rt.alloc(), &table)
+}
+
+#[test]
+fn words_of_no_command(rt: HostRuntime) -> Result<(), Fail> {
+    let table: [(&[&str], Status, &str); 4] = [
         (
             &[
                 "show",
@@ -66,6 +98,13 @@ fn words(rt: HostRuntime) -> Result<(), Fail> {
             Status::Usage,
             USAGE,
         ),
+    ];
+    each_says(&rt, rt.alloc(), &table)
+}
+
+#[test]
+fn words_in_another_order(rt: HostRuntime) -> Result<(), Fail> {
+    let table: [(&[&str], Status, &str); 3] = [
         // The listing is read first.
         (
             &[
@@ -107,6 +146,13 @@ fn words(rt: HostRuntime) -> Result<(), Fail> {
             Status::Input,
             "input 199 State.class\n",
         ),
+    ];
+    each_says(&rt, rt.alloc(), &table)
+}
+
+#[test]
+fn other_numbers_of_classes(rt: HostRuntime) -> Result<(), Fail> {
+    let table: [(&[&str], Status, &str); 3] = [
         (
             &["check", "POLICY", "LISTING", "CERT", "a/E", "E.class"],
             Status::Input,
@@ -132,12 +178,7 @@ fn words(rt: HostRuntime) -> Result<(), Fail> {
             "input 199 -\n",
         ),
     ];
-    for (words, status, printed) in table {
-        let ended = run(alloc, words, files_with(alloc, &[])?, &[], &[])?;
-        assert_eq!(rt; ended.printed.as_slice(), printed.as_bytes(), "{words:?}");
-        assert_eq!(rt; ended.status, status, "{words:?}");
-    }
-    Ok(())
+    each_says(&rt, rt.alloc(), &table)
 }
 
 /// In the stead of `return`: `return; return`.
@@ -173,11 +214,24 @@ const TWO_LOCALS: Edit = (
     b"\x01\x00\x02\x00\x03\x00\x00\x00\x00\x00\x00\x00",
 );
 
+/// The check of these words prints each line once the files have its changes.
+fn each_prints(
+    rt: &impl Abort,
+    alloc: Global,
+    words: &[&str],
+    table: &[(&[Edit], &str)],
+) -> Result<(), Fail> {
+    for (edits, printed) in table {
+        let ended = run(alloc, words, files_with(alloc, edits)?, &[], &[])?;
+        assert_eq!(rt; ended.printed.as_slice(), printed.as_bytes(), "{edits:?}");
+        assert_eq!(rt; ended.status, status_of(printed), "{edits:?}");
+    }
+    Ok(())
+}
+
 #[test]
-fn certificates_of_a_quiet_class(rt: HostRuntime) -> Result<(), Fail> {
-    let alloc = rt.alloc();
-    let table: [(&[Edit], &str); 17] = [
-        // The shape comes first.
+fn certificates_of_another_shape(rt: HostRuntime) -> Result<(), Fail> {
+    let table: [(&[Edit], &str); 5] = [
         (&[EMPTY_FRAME, TWO_FRAMES], "denied 242 a/E 0\n"),
         (&[NOP_RETURN], "denied 242 a/E 0\n"),
         (
@@ -195,7 +249,13 @@ fn certificates_of_a_quiet_class(rt: HostRuntime) -> Result<(), Fail> {
             &[("CERT", 53, 0, b"\x00\x00"), ("CERT", 33, 1, b"\x03")],
             "denied 242 - 0\n",
         ),
-        // Then the types.
+    ];
+    each_prints(&rt, rt.alloc(), &QUIET, &table)
+}
+
+#[test]
+fn certificates_with_other_types(rt: HostRuntime) -> Result<(), Fail> {
+    let table: [(&[Edit], &str); 12] = [
         (&[("E.class", 109, 1, b"\x00")], "denied 202 a/E 0 0 1\n"),
         (&[("CERT", 49, 1, b"\x01\x00")], "denied 202 a/E 0 0 1\n"),
         (&[("CERT", 30, 1, b"x")], "denied 202 a/E 0 0 1\n"),
@@ -230,12 +290,7 @@ fn certificates_of_a_quiet_class(rt: HostRuntime) -> Result<(), Fail> {
             "input 199 E.class\n",
         ),
     ];
-    for (edits, printed) in table {
-        let ended = run(alloc, &QUIET, files_with(alloc, edits)?, &[], &[])?;
-        assert_eq!(rt; ended.printed.as_slice(), printed.as_bytes(), "{edits:?}");
-        assert_eq!(rt; ended.status, status_of(printed), "{edits:?}");
-    }
-    Ok(())
+    each_prints(&rt, rt.alloc(), &QUIET, &table)
 }
 
 /// How a command ends that prints this line of a check whose files could be read.
@@ -255,8 +310,7 @@ const DENY_SEND_OF_OBJECT: Edit = ("POLICY", 50, 7, b"java.lang.Object");
 
 #[test]
 fn calls(rt: HostRuntime) -> Result<(), Fail> {
-    let alloc = rt.alloc();
-    let table: [(&[Edit], &str); 10] = [
+    let table: [(&[Edit], &str); 5] = [
         // No clause, or the clause of another method.
         (&[("POLICY", 37, 35, b"")], ACCEPTED),
         (
@@ -287,6 +341,13 @@ fn calls(rt: HostRuntime) -> Result<(), Fail> {
             ],
             "denied 243 a/S 0 0 2\n",
         ),
+    ];
+    each_prints(&rt, rt.alloc(), &SENDS, &table)
+}
+
+#[test]
+fn calls_among_other_faults(rt: HostRuntime) -> Result<(), Fail> {
+    let table: [(&[Edit], &str); 5] = [
         // A later instruction.
         (
             &[
@@ -313,10 +374,5 @@ fn calls(rt: HostRuntime) -> Result<(), Fail> {
         (&[("S.class", 99, 1, b"t")], "input 199 S.class\n"),
         (&[("S.class", 89, 1, b"x")], "input 199 S.class\n"),
     ];
-    for (edits, printed) in table {
-        let ended = run(alloc, &SENDS, files_with(alloc, edits)?, &[], &[])?;
-        assert_eq!(rt; ended.printed.as_slice(), printed.as_bytes(), "{edits:?}");
-        assert_eq!(rt; ended.status, status_of(printed), "{edits:?}");
-    }
-    Ok(())
+    each_prints(&rt, rt.alloc(), &SENDS, &table)
 }

@@ -13,8 +13,8 @@ const SEND_LINE: &[u8] = b"static api/Net send ()V\n";
 const CLAUSE: &[u8] = b" BEFORE void api.Net.send() PERFORM";
 
 #[test]
-fn texts(rt: HostRuntime) -> Result<(), Fail> {
-    let table: [(&str, &[Edit]); 21] = [
+fn listings_and_policies(rt: HostRuntime) -> Result<(), Fail> {
+    let table: [(&str, &[Edit]); 13] = [
         (
             "a line of an instance method",
             &[("LISTING", 63, 0, b"method api/Net push ()V\n")],
@@ -37,6 +37,13 @@ fn texts(rt: HostRuntime) -> Result<(), Fail> {
         ("a clause twice", &[("POLICY", 72, 0, CLAUSE)]),
         ("the greatest number 0", &[("POLICY", 7, 1, b"0")]),
         ("a text that goes on", &[("POLICY", 72, 0, b" }")]),
+    ];
+    each_is_refused(&rt, rt.alloc(), &table)
+}
+
+#[test]
+fn certificates(rt: HostRuntime) -> Result<(), Fail> {
+    let table: [(&str, &[Edit]); 8] = [
         ("mode hold", &[("CERT", 6, 1, b"\x00")]),
         ("one byte less", &[("CERT", 52, 1, b"")]),
         ("one byte more", &[("CERT", 53, 0, b"\x00")]),
@@ -61,15 +68,12 @@ fn texts(rt: HostRuntime) -> Result<(), Fail> {
         ),
         ("a name that is not there", &[("CERT", 47, 1, b"\x01")]),
     ];
-    for (what, edits) in table {
-        is_refused(&rt, rt.alloc(), what, edits)?;
-    }
-    Ok(())
+    each_is_refused(&rt, rt.alloc(), &table)
 }
 
 #[test]
 fn classes(rt: HostRuntime) -> Result<(), Fail> {
-    let table: [(&str, &[Edit]); 25] = [
+    let table: [(&str, &[Edit]); 8] = [
         ("version 50", &[("E.class", 7, 1, b"\x32")]),
         ("one byte less", &[("E.class", 120, 1, b"")]),
         ("one byte more", &[("E.class", 121, 0, b"\x00")]),
@@ -92,6 +96,13 @@ fn classes(rt: HostRuntime) -> Result<(), Fail> {
                 b"\x00\x01\x00\x08\x00\x05\x00\x06\x00\x00",
             )],
         ),
+    ];
+    each_is_refused(&rt, rt.alloc(), &table)
+}
+
+#[test]
+fn methods(rt: HostRuntime) -> Result<(), Fail> {
+    let table: [(&str, &[Edit]); 9] = [
         (
             "a second method",
             &[(
@@ -115,6 +126,13 @@ fn classes(rt: HostRuntime) -> Result<(), Fail> {
                 ("E.class", 99, 1, b"\x02"),
             ],
         ),
+    ];
+    each_is_refused(&rt, rt.alloc(), &table)
+}
+
+#[test]
+fn codes(rt: HostRuntime) -> Result<(), Fail> {
+    let table: [(&str, &[Edit]); 8] = [
         (
             "a handler",
             &[
@@ -161,10 +179,7 @@ fn classes(rt: HostRuntime) -> Result<(), Fail> {
             &[("S.class", 152, 1, b"\x0c")],
         ),
     ];
-    for (what, edits) in table {
-        is_refused(&rt, rt.alloc(), what, edits)?;
-    }
-    Ok(())
+    each_is_refused(&rt, rt.alloc(), &table)
 }
 
 #[test]
@@ -176,8 +191,12 @@ fn state_class(rt: HostRuntime) -> Result<(), Fail> {
         ("one byte less", &[("State.class", 88, 1, b"")]),
         ("one byte more", &[("State.class", 89, 0, b"\x00")]),
     ];
+    each_is_refused(&rt, rt.alloc(), &table)
+}
+
+fn each_is_refused(rt: &impl Abort, alloc: Global, table: &[(&str, &[Edit])]) -> Result<(), Fail> {
     for (what, edits) in table {
-        is_refused(&rt, rt.alloc(), what, edits)?;
+        is_refused(rt, alloc, what, edits)?;
     }
     Ok(())
 }

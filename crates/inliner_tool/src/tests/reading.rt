@@ -1,6 +1,6 @@
 //! A store that lacks a file or fails, and a sink that fails.
 
-use super::files::{QUIET, SENDS, files_with, line_of, run};
+use super::files::{Edit, QUIET, SENDS, files_with, line_of, run};
 use crate::Status;
 use std::test::Fail;
 
@@ -52,6 +52,46 @@ fn a_file_is_not_there(rt: HostRuntime) -> Result<(), Fail> {
         );
         assert_eq!(rt; ended.status, Status::StoreFault, "{name}");
     }
+    Ok(())
+}
+
+/// The words of a check whose policy is not there.
+const NO_POLICY: [&str; 7] = [
+    "check",
+    "none",
+    "LISTING",
+    "CERT",
+    "a/E",
+    "E.class",
+    "State.class",
+];
+
+#[test]
+fn the_first_of_two_bad_files_is_named(rt: HostRuntime) -> Result<(), Fail> {
+    let alloc = rt.alloc();
+    let bad_listing: [Edit; 1] = [("LISTING", 62, 1, b"")];
+    let ended = run(
+        alloc,
+        &NO_POLICY,
+        files_with(alloc, &bad_listing)?,
+        &[],
+        &[],
+    )?;
+    assert_eq!(rt;
+        ended.printed.as_slice(),
+        b"input 199 LISTING\n".as_slice()
+    );
+    assert_eq!(rt; ended.status, Status::Input);
+    let bad_certificate: [Edit; 1] = [("CERT", 52, 1, b"")];
+    let ended = run(
+        alloc,
+        &NO_POLICY,
+        files_with(alloc, &bad_certificate)?,
+        &[],
+        &[],
+    )?;
+    assert_eq!(rt; ended.printed.as_slice(), b"store none\n".as_slice());
+    assert_eq!(rt; ended.status, Status::StoreFault);
     Ok(())
 }
 
