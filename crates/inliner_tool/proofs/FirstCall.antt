@@ -1,6 +1,6 @@
 -- A denied call at the first instruction is made, and seen.
-use Rattle.std.proofs.Common.{◌≡◌, ℕ, Bool, true, false, List, [], ◌∷◌, ◌++◌, Option, Some, None, refl, sym, ap, subst, ◌∙◌, IsTrue, ◌⊎◌, inl, inr, ⊎_elim, filter, length}
-use Rattle.std.specs.Prelude.{IsSome, option_and_then}
+use Rattle.std.proofs.Common.{◌≡◌, ℕ, true, List, [], ◌∷◌, ◌++◌, Some, None, refl, sym, subst, IsTrue, ⊎_elim, filter}
+use Rattle.std.specs.Prelude.{IsSome}
 use Rattle.std.proofs.lemmas.Bool.{false≢true}
 use Rattle.inliner_tool.specs.declared.code.Insn.TheVariants.{Pool}
 use Rattle.inliner_tool.specs.declared.policy.DeniedPolicy.{DeniedPolicy}

@@ -1,7 +1,6 @@
 -- Steps of the tests of types.
-use Rattle.std.proofs.Common.{ne_eqb, ◌≡◌, ℕ, zero, suc, ◌+◌, ◌-◌, ◌<◌, Bool, true, false, cond, eqb, List, [], ◌∷◌, length, Option, Some, None, refl, sym, ap, subst, ◌∙◌, arith}
-use Rattle.std.specs.Prelude.{◌||◌, bytes_eq}
-use Rattle.std.specs.Option.{option_map, option_map_or}
+use Rattle.std.proofs.Common.{ne_eqb, ◌≡◌, ℕ, zero, suc, ◌-◌, ◌<◌, false, eqb, List, [], ◌∷◌, length, Option, Some, refl, sym, arith}
+use Rattle.std.specs.Prelude.{bytes_eq}
 use Rattle.inliner_tool.specs.Classes.{reaches}
 use Rattle.inliner_tool.specs.declared.certificate.VType.{VType}
 use Rattle.inliner_tool.specs.declared.program.Program.{Program}

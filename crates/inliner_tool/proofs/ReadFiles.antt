@@ -1,5 +1,5 @@
 -- Reading the inputs of a check, one after the other.
-use Rattle.std.proofs.Common.{◌≡◌, ◌≢◌, ℕ, ◌+◌, ◌≤◌, ◌<◌, ◌^◌, ◌⊎◌, List, [], ◌∷◌, ◌++◌, length, get_or, take, take_all, drop, suc, ◌-◌, Result, Ok, Err, refl, sym, ap, subst, ◌∙◌, append_assoc, arith, inl, inr, ⊎_elim}
+use Rattle.std.proofs.Common.{◌≡◌, ℕ, ◌≤◌, ◌<◌, ◌⊎◌, List, [], ◌∷◌, ◌++◌, length, get_or, take, take_all, drop, suc, ◌-◌, Result, Ok, Err, refl, sym, ap, subst, ◌∙◌, append_assoc, arith, inl, inr, ⊎_elim}
 use Rattle.std.specs.Prelude.{IfOk, MatchResult}
 use Rattle.std.specs.List.{AllByRecursion}
 use Rattle.std.proofs.lemmas.List.{append-nil}
@@ -11,7 +11,7 @@ use Rattle.inliner_tool.specs.declared.inputs.Stop.{Stop}
 use Rattle.inliner_tool.specs.declared.inputs.Stop.TheVariants.{Input, Unread, Memory}
 use Rattle.inliner_tool.specs.declared.listing.Listing.{Listing}
 use Rattle.inliner_tool.specs.declared.program.LinkedClass.{LinkedClass}
-use Rattle.inliner_tool.specs.Forms.{limit, Count, HasText, IsOfForm, IsOfNoForm, IsUnread, ReadsForm, BuildsForm}
+use Rattle.inliner_tool.specs.Forms.{limit, Count, HasText, IsOfForm, IsUnread, ReadsForm, BuildsForm}
 use Rattle.inliner_tool.specs.Inputs.{ClassOf, AreClasses, StopsAmong, ReadsClasses}
 
 -- the classes that were read, and the names that are left

@@ -1,6 +1,6 @@
 -- Where no call of a denied method stands in the code, no step has an event that the policy has a clause for: so
 -- the events of every list of steps obey.
-use Rattle.std.proofs.Common.{◌≡◌, ℕ, ◌+◌, Bool, true, false, cond, eqb, List, [], ◌∷◌, ◌++◌, Option, Some, None, refl, sym, ap, subst, ◌∙◌, inl, filter}
+use Rattle.std.proofs.Common.{◌≡◌, ℕ, Bool, true, false, cond, eqb, List, [], ◌∷◌, ◌++◌, Option, Some, None, refl, ap, ◌∙◌, inl, filter}
 use Rattle.std.specs.Prelude.{option_and_then, slice_get, slice_set}
 use Rattle.std.specs.Option.{option_map, option_map_or, option_to_list}
 use Rattle.std.proofs.lemmas.List.Elements.{filter-append}
@@ -11,8 +11,8 @@ use Rattle.inliner_tool.specs.declared.program.Target.TheVariants as target
 use Rattle.inliner_tool.specs.declared.program.Program.{Program}
 use Rattle.inliner_tool.specs.declared.policy.DeniedPolicy.{DeniedPolicy}
 use Rattle.inliner_tool.specs.Acceptance.{CallsNone}
-use Rattle.inliner_tool.specs.Machine.{Frame, Thread, Machine, Doing, Running, InCall, Ended, Answer, Nothing, Throws, Choice, Alone, Answered, Step, Event, Call, Return, Except, insn_at, advanced, returned, resting, thrown, executed, is_thrown, answered, thread_stepped, stepped, start, trace_from, trace}
-use Rattle.inliner_tool.specs.Secure.{State, initial, is_denied, has_clause, next, is_return, Obeys, Secure}
+use Rattle.inliner_tool.specs.Machine.{Frame, Thread, Machine, Doing, Running, InCall, Ended, Answer, Nothing, Throws, Choice, Alone, Answered, Step, Event, insn_at, executed, is_thrown, answered, thread_stepped, stepped, start, trace_from}
+use Rattle.inliner_tool.specs.Secure.{is_denied, has_clause, Secure}
 
 -- no event, or one without a clause
 abbrev IsQuiet : DeniedPolicy → Option Event → Type 0

@@ -1,5 +1,5 @@
 -- When a program is accepted with a certificate, and the first thing that is wrong where it is not.
-use Rattle.std.specs.Prelude.{◌≡◌, ℕ, ◌+◌, ◌^◌, ◌<◌, Bool, true, false, ◌==◌, if◌then◌else◌, List, [], ◌∷◌, length, sum_by, count_by, Option, Some, None, Result, Ok, Err}
+use Rattle.std.specs.Prelude.{◌≡◌, ℕ, ◌+◌, ◌^◌, ◌<◌, Bool, false, ◌==◌, if◌then◌else◌, List, [], ◌∷◌, length, sum_by, count_by, Option, Some, None, Result, Ok, Err}
 use Rattle.std.specs.Option.{option_map_or}
 use Rattle.std.specs.List.{AllByRecursion}
 use Rattle.inliner_tool.specs.declared.code.Insn.{Insn}
@@ -15,7 +15,7 @@ use Rattle.inliner_tool.specs.declared.checker.Accepted.{Accepted}
 use Rattle.inliner_tool.specs.declared.checker.CheckFault.{CheckFault}
 use Rattle.inliner_tool.specs.declared.checker.CheckFault.TheVariants.{Shape, Typing, Local}
 use Rattle.inliner_tool.specs.Machine.{Frame, insn_at}
-use Rattle.inliner_tool.specs.Places.{or_else, placed, first_place, first_pair}
+use Rattle.inliner_tool.specs.Places.{or_else, placed, first_place}
 use Rattle.inliner_tool.specs.Secure.{is_denied}
 use Rattle.inliner_tool.specs.Typing.{typing_fault}
 

@@ -1,5 +1,5 @@
 -- Security automata over any states and events, and what it is for a list of events to obey one.
-use Rattle.std.specs.Prelude.{◌≡◌, Bool, List, [], ◌∷◌, ◌++◌, Option, Some, None, option_and_then, IsTrue, IsSome, IsNone, filter, ◌⊎◌}
+use Rattle.std.specs.Prelude.{◌≡◌, Bool, List, [], ◌∷◌, ◌++◌, Option, Some, option_and_then, IsTrue, IsSome, ◌⊎◌}
 
 -- the state after the events, where none of them is refused
 abbrev pub after : {S E : Type 0} → (S → E → Option S) → S → List E → Option S

@@ -1,5 +1,5 @@
 -- Superclasses, by name (JVM specification, section 4.1).
-use Rattle.std.specs.Prelude.{ℕ, zero, suc, Bool, true, false, ◌||◌, bytes_eq, List, Option, Some, None, find}
+use Rattle.std.specs.Prelude.{ℕ, zero, suc, Bool, false, ◌||◌, bytes_eq, List, Option, Some, find}
 use Rattle.std.specs.Option.{option_map, option_map_or}
 use Rattle.inliner_tool.specs.declared.listing.ListedClass.{ListedClass}
 use Rattle.inliner_tool.specs.declared.listing.Listing.{Listing}

@@ -1,6 +1,6 @@
 -- The bytes of a method's code (JVM specification, chapter 6): each instruction is its opcode and its operand, one
 -- after the other, and control does not go on after the last. The first built form has three opcodes.
-use Rattle.std.specs.Prelude.{◌≡◌, ℕ, ◌<◌, ◌^◌, Bool, true, false, ◌==◌, ◌||◌, List, [], ◌∷◌, ◌++◌, IsTrue}
+use Rattle.std.specs.Prelude.{◌≡◌, ℕ, ◌<◌, ◌^◌, Bool, true, false, ◌==◌, ◌||◌, List, [], ◌∷◌, IsTrue}
 use Rattle.std.specs.List.{flat_map, AllByRecursion}
 use Rattle.byteorder.specs.Endian.{big_bytes}
 use Rattle.inliner_tool.specs.declared.code.Insn.{Insn}

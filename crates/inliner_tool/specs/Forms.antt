@@ -1,5 +1,5 @@
 -- What the files of a store are, as inputs: a text of a form, or the first that is of none.
-use Rattle.std.specs.Prelude.{◌≡◌, ◌⊎◌, ℕ, ◌<◌, ◌≤◌, List, [], ◌∷◌, ◌++◌, length, Result, Ok, Err}
+use Rattle.std.specs.Prelude.{◌≡◌, ◌⊎◌, ℕ, ◌<◌, ◌≤◌, List, length, Result, Ok, Err}
 use Rattle.mon_store.specs.Store.{Files, HasFile, Caused, Lacks}
 use Rattle.inliner_tool.specs.declared.fault.FormFault.{FormFault}
 use Rattle.inliner_tool.specs.declared.fault.FormFault.TheVariants.{NotBuilt}

@@ -1,8 +1,7 @@
 -- What a class file of the first built form links to. It has the one method `main`, whose calls go to listed static
 -- methods; a method is resolved as in the JVM specification, section 5.4.3.3.
-use Rattle.std.specs.Prelude.{◌≡◌, ℕ, Bool, true, false, not, ◌==◌, ◌&&◌, ◌||◌, bytes_eq, bit_and, if◌then◌else◌, List, [], ◌∷◌, length, codes, Option, Some, None, option_and_then, option_map, is_none, slice_get, slice_index}
+use Rattle.std.specs.Prelude.{◌≡◌, ℕ, Bool, true, false, not, ◌==◌, ◌&&◌, ◌||◌, bytes_eq, bit_and, if◌then◌else◌, List, [], ◌∷◌, length, codes, Option, Some, None, option_and_then, option_map, is_none, slice_get}
 use Rattle.std.specs.List.{list_all}
-use Rattle.std.specs.Option.{option_map_or}
 use Rattle.class_codec.specs.declared.fault.ClassFault.{ClassFault}
 use Rattle.class_codec.specs.declared.fault.ClassFault.TheVariants as classes
 use Rattle.inliner_tool.specs.declared.fault.FormFault.{FormFault}

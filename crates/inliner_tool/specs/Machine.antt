@@ -1,6 +1,6 @@
 -- The machine that runs a linked program. One guest instruction is one step, and so is one answer of the API;
 -- guest memory is sequentially consistent. A step that is not enabled changes nothing and emits nothing.
-use Rattle.std.specs.Prelude.{◌≡◌, ℕ, ℤ, ◌+◌, Bool, true, false, ◌==◌, if◌then◌else◌, ◌&&◌, List, [], ◌∷◌, ◌++◌, length, codes, Option, Some, None, is_some, option_and_then, slice_get, slice_set}
+use Rattle.std.specs.Prelude.{ℕ, ◌+◌, Bool, ◌==◌, if◌then◌else◌, ◌&&◌, List, [], ◌∷◌, ◌++◌, length, codes, Option, Some, None, is_some, option_and_then, slice_get, slice_set}
 use Rattle.std.specs.Option.{option_map, option_map_or, option_to_list}
 use Rattle.inliner_tool.specs.declared.code.Insn.{Insn}
 use Rattle.inliner_tool.specs.declared.code.Insn.TheVariants.{Plain, Pool}

@@ -1,6 +1,7 @@
 //! Files in memory.
 
-ghost use Rattle.std.specs.Prelude.{◌≡◌, ◌≤◌, ◌++◌, [], true, false, None, IsSomeAnd, bytes_eq, length, List, ℕ, Contains, Some, IfOk, OnOk, OnErr, IsErrOf};
+ghost use Rattle.std.specs.Prelude.{◌≡◌, ◌≤◌, ◌++◌, [], true, false, None, Some, List, ℕ, length};
+ghost use Rattle.std.specs.Prelude.{IsSomeAnd, Contains, IfOk, OnOk, OnErr, IsErrOf, bytes_eq};
 ghost use Rattle.std.specs.List.{position_from};
 ghost use Rattle.std.specs.Option.{option_copied};
 ghost use Rattle.mon_store.specs.Store.{Copies, written};

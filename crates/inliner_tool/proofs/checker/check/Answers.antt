@@ -1,4 +1,4 @@
-use Rattle.std.proofs.Common.{◌≡◌, Some, None, sym, ◌∙◌, refl, ap}
+use Rattle.std.proofs.Common.{sym, refl}
 use Rattle.inliner_tool.proofs.Notes.{none_denied, denied_none, no_sites}
 use Rattle.inliner_tool.proofs.Steps.{secure}
 use Rattle.inliner_tool.proofs.checker.check.Goals as goal

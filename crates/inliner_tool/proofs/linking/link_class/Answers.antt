@@ -1,7 +1,6 @@
-use Rattle.std.proofs.Common.{◌≡◌, ◌++◌, ◌∷◌, [], ◌≤◌, length, ap, sym, subst, ◌∙◌, arith, List, Some}
+use Rattle.std.proofs.Common.{◌++◌, ◌∷◌, [], ◌≤◌, length, ap, sym, ◌∙◌, arith, List}
 use Rattle.inliner_tool.specs.declared.code.Insn.{Insn}
 use Rattle.inliner_tool.specs.declared.program.Method.{Method}
-use Rattle.inliner_tool.specs.Linking.{targets_of}
 use Rattle.inliner_tool.proofs.LinkedCode.{as_many, is_short, is_code, is_class}
 use Rattle.inliner_tool.proofs.linking.link_class.Goals as goal
 

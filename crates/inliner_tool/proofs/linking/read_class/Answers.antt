@@ -1,7 +1,7 @@
-use Rattle.std.proofs.Common.{◌≡◌, ◌≤◌, ◌∙◌, length, sym, subst, arith}
+use Rattle.std.proofs.Common.{◌≤◌, length, subst, arith}
 use Rattle.class_codec.specs.declared.tree.ClassFile.{ClassFile}
 use Rattle.inliner_tool.specs.Linking.{LinksTo}
-use Rattle.inliner_tool.proofs.LinkedCode.{same_file, none_read}
+use Rattle.inliner_tool.proofs.LinkedCode.{same_file}
 use Rattle.inliner_tool.proofs.linking.read_class.Goals as goal
 
 pub returns-clause-refused : goal.returns-clause-refused

@@ -1,4 +1,4 @@
-use Rattle.std.proofs.Common.{◌≡◌, ◌+◌, ◌-◌, length}
+use Rattle.std.proofs.Common.{◌≡◌, ◌-◌}
 use Rattle.inliner_tool.specs.Classes.{reaches, parent_of}
 use Rattle.inliner_tool.proofs.typing.is_below.Given as goal
 
