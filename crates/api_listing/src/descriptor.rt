@@ -3,10 +3,43 @@
 //! The types of this subset are the five narrow number types, classes and arrays of these. `F`, `D` and `J` are
 //! refused. A method takes at most 255 places of arguments, its receiver not counted.
 
-ghost use Rattle.std.specs.Prelude.{◌≡◌, ◌++◌, ◌∷◌, [], ◌≤◌, ℕ, List, IsTrue, IfOk, IfSome, IfNone, MatchResult, length, drop, option_map, option_copied};
+ghost use Rattle.std.specs.Prelude.{
+  ◌≡◌,
+  ◌++◌,
+  ◌∷◌,
+  [],
+  ◌≤◌,
+  ℕ,
+  List,
+  IsTrue,
+  IfOk,
+  IfSome,
+  IfNone,
+  MatchResult,
+  length,
+  drop,
+  option_map,
+  option_copied,
+};
 ghost use Rattle.api_listing.specs.Fault.{Reads, ReadsAs};
 ghost use Rattle.api_listing.specs.Words.{IsClassName};
-ghost use Rattle.api_listing.specs.Descriptor.{until, name_at, element_at, type_at, whole_type, result_of, is_closed, arguments_at, method_type, class_described, class_behind, class_at, after_first, SpellsDescriptor, SpellsClass};
+ghost use Rattle.api_listing.specs.Descriptor.{
+  until,
+  name_at,
+  element_at,
+  type_at,
+  whole_type,
+  result_of,
+  is_closed,
+  arguments_at,
+  method_type,
+  class_described,
+  class_behind,
+  class_at,
+  after_first,
+  SpellsDescriptor,
+  SpellsClass,
+};
 ghost use Rattle.api_listing.specs.declared.descriptor.MethodType.{MethodType};
 ghost use Rattle.api_listing.specs.declared.fault.FormFault.TheVariants as forms;
 
@@ -48,7 +81,8 @@ pub fn parse_descriptor(alloc: Global, desc: &[u8]) -> Result<MethodType, FormFa
     // What is read is spelled so.
     ensures found { IfOk result (λ m. SpellsDescriptor desc.now m) }
     // What is spelled so is read, unless memory runs out.
-    ensures only { (m : MethodType) → SpellsDescriptor desc.now m → MatchResult result (λ r. r ≡ m) (λ e. e ≡ forms.Memory) }
+    ensures only { (m : MethodType) → SpellsDescriptor desc.now m
+        → MatchResult result (λ r. r ≡ m) (λ e. e ≡ forms.Memory) }
 {
     method_type(alloc, desc)
 }

@@ -4,7 +4,23 @@ ghost use Rattle.std.specs.Prelude.{◌≡◌, ◌≤◌, ℕ, List, IfOk, OnOk,
 ghost use Rattle.std.specs.List.{list_all};
 ghost use Rattle.api_listing.specs.Seen.{has_name, has_id, Agrees, Grows};
 ghost use Rattle.api_listing.specs.Fault.{Answers};
-ghost use Rattle.api_listing.specs.Listing.{stands_already, names_known, types_are_known, result_is_known, element_is_known, is_known, is_below, with_class, with_method, with_field, with_declaration, built_in_listing, declared, after_line, after_lines};
+ghost use Rattle.api_listing.specs.Listing.{
+  stands_already,
+  names_known,
+  types_are_known,
+  result_is_known,
+  element_is_known,
+  is_known,
+  is_below,
+  with_class,
+  with_method,
+  with_field,
+  with_declaration,
+  built_in_listing,
+  declared,
+  after_line,
+  after_lines,
+};
 
 use crate::built_in::{built_in_classes, is_built_in};
 use crate::descriptor::{Element, FieldType, MethodType};
@@ -180,7 +196,8 @@ fn element_is_known(known: &BTreeSet<Bytes>, element: &Element) -> bool
 
 fn add(alloc: Global, draft: &mut Draft, declaration: &Declaration) -> Result<(), NoMemory>
     requires { Agrees draft.old }
-    ensures { OnOk result (Agrees draft.new × (draft.new.listing ≡ with_declaration draft.old.listing declaration.now)) }
+    ensures { OnOk result (Agrees draft.new
+        × (draft.new.listing ≡ with_declaration draft.old.listing declaration.now)) }
 {
     match declaration {
         Declaration::Class(class) => add_class(alloc, draft, class),

@@ -3,7 +3,23 @@
 ghost use Rattle.std.specs.Prelude.{◌≡◌, ◌++◌, map, IfOk};
 ghost use Rattle.api_listing.specs.Fault.{Reads};
 ghost use Rattle.api_listing.specs.Words.{pieces};
-ghost use Rattle.api_listing.specs.Lines.{says_something, interface_named, class_of, member, ending, form_of, two_words, four_words, six_words, class_line, method_line, field_line, said, said_lines, are_class_names};
+ghost use Rattle.api_listing.specs.Lines.{
+  says_something,
+  interface_named,
+  class_of,
+  member,
+  ending,
+  form_of,
+  two_words,
+  four_words,
+  six_words,
+  class_line,
+  method_line,
+  field_line,
+  said,
+  said_lines,
+  are_class_names,
+};
 
 use crate::descriptor::{MethodType, parse_class_descriptor, parse_descriptor};
 use crate::fault::FormFault;

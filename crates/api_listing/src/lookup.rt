@@ -5,7 +5,17 @@ ghost use Rattle.std.specs.List.{position_from};
 ghost use Rattle.std.specs.Option.{option_copied};
 ghost use Rattle.api_listing.specs.Listing.{is_known};
 ghost use Rattle.api_listing.specs.BuiltIn.{is_method};
-ghost use Rattle.api_listing.specs.Nearest.{class_named, declared_in, first_declared, upwards, names_of, interfaces_of, nearest, IsMethodAt, HasNoMethod};
+ghost use Rattle.api_listing.specs.Nearest.{
+  class_named,
+  declared_in,
+  first_declared,
+  upwards,
+  names_of,
+  interfaces_of,
+  nearest,
+  IsMethodAt,
+  HasNoMethod,
+};
 
 use crate::types::{ListedClass, ListedMethod, Listing};
 use mon_base::{Bytes, MethodId};

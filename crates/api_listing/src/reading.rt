@@ -5,7 +5,15 @@ ghost use Rattle.api_listing.specs.declared.fault.ListFault.TheVariants as fault
 ghost use Rattle.api_listing.specs.declared.types.Listing.{Listing};
 ghost use Rattle.api_listing.specs.Fault.{Answers};
 ghost use Rattle.api_listing.specs.Seen.{has_name};
-ghost use Rattle.api_listing.specs.Listing.{is_known, is_named, class_said, classes_in, reading, SpellsListing, IsFew};
+ghost use Rattle.api_listing.specs.Listing.{
+  is_known,
+  is_named,
+  class_said,
+  classes_in,
+  reading,
+  SpellsListing,
+  IsFew,
+};
 
 use crate::built_in::built_in_classes;
 use crate::draft::listing_of;
@@ -24,7 +32,8 @@ pub fn read(alloc: Global, text: &[u8]) -> Result<Listing, ListFault>
     // What is read is spelled so.
     ensures found { IfOk result (λ l. SpellsListing text.now l) }
     // What is spelled so is read, unless memory runs out.
-    ensures only { (l : Listing) → SpellsListing text.now l → MatchResult result (λ r. r ≡ l) (λ e. e ≡ faults.Memory) }
+    ensures only { (l : Listing) → SpellsListing text.now l
+        → MatchResult result (λ r. r ≡ l) (λ e. e ≡ faults.Memory) }
     // It is few, so that an index of a method fits 32 bits.
     ensures few { IfOk result (λ l. IsFew l) }
 {
@@ -58,7 +67,8 @@ fn names_in(alloc: Global, lines: &[Said]) -> Result<BTreeSet<Bytes>, NoMemory>
 }
 
 fn add_class(alloc: Global, names: &mut BTreeSet<Bytes>, line: &Said) -> Result<(), NoMemory>
-    ensures { OnOk result ((q : List ℕ) → has_name names.new q ≡ (is_named q (class_said line.now) || has_name names.old q)) }
+    ensures { OnOk result ((q : List ℕ) → has_name names.new q
+        ≡ (is_named q (class_said line.now) || has_name names.old q)) }
 {
     match line {
         Said::Says(Declaration::Class(class)) => add_name(alloc, names, &class.name),

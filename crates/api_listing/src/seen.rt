@@ -32,7 +32,8 @@ pub fn add_name(alloc: Global, names: &mut BTreeSet<Bytes>, name: &Bytes) -> Res
 
 /// Adds the method or field.
 pub fn add_id(alloc: Global, ids: &mut BTreeSet<MethodId>, id: &MethodId) -> Result<(), NoMemory>
-    ensures { OnOk result ((q : MethodId) → has_id ids.new q ≡ (is_method q.class q.name q.desc id.now || has_id ids.old q)) }
+    ensures { OnOk result ((q : MethodId) → has_id ids.new q
+        ≡ (is_method q.class q.name q.desc id.now || has_id ids.old q)) }
 {
     ids.insert(id.copy(alloc)?)?;
     Ok(())
