@@ -1,10 +1,10 @@
 -- What is read of a descriptor is spelled so, and what is spelled so is read.
-use Rattle.std.proofs.Common.{◌≡◌, ℕ, suc, zero, ◌+◌, ◌-◌, ◌<◌, ◌≤◌, Bool, true, false, not, cond, ◌&&◌, ◌||◌, List, [], ◌∷◌, ◌++◌, length, drop, Option, Some, None, Result, Ok, Err, refl, sym, ap, ap₂, subst, ◌∙◌, append_assoc, arith, eq-eqb, length-append, inl, inr, eqb, ◌⊎◌, ◌≢◌}
-use Rattle.std.specs.Prelude.{option_map, ok_or, IfOk, IfSome, IfNone, MatchResult, IsTrue, bytes_eq, codes, replicate}
-use Rattle.std.specs.List.{list_all, list_any, flat_map, slice_split, onto_first}
+use Rattle.std.proofs.Common.{◌≡◌, ℕ, suc, zero, ◌+◌, ◌<◌, Bool, true, false, cond, ◌&&◌, List, [], ◌∷◌, ◌++◌, length, drop, Option, Some, None, Ok, Err, refl, sym, ap, subst, ◌∙◌, append_assoc, arith, inl, inr, eqb, ◌⊎◌, ◌≢◌}
+use Rattle.std.specs.Prelude.{option_map, ok_or, IfOk, IfSome, IfNone, MatchResult, bytes_eq, codes, replicate}
+use Rattle.std.specs.List.{list_all, list_any, flat_map, onto_first}
 use Rattle.std.proofs.lemmas.List.{append-nil}
 use Rattle.std.proofs.lemmas.Bool.{ne_eqb, false≢true}
-use Rattle.std.proofs.lemmas.Bool.Decides.{eqb_tells, Decides-and}
+use Rattle.std.proofs.lemmas.Bool.Decides.{eqb_tells}
 use Rattle.std.proofs.lemmas.List.Splits.{slice_split-cons_yes, slice_split-cons_no}
 use Rattle.std.proofs.lemmas.Slice.Eq.{bytes_eq-Decides}
 use Rattle.mon_base.specs.Reading.{◌>>=◌, need}
@@ -12,11 +12,10 @@ use Rattle.api_listing.specs.declared.descriptor.Element.{Element}
 use Rattle.api_listing.specs.declared.descriptor.Element.TheVariants.{Boolean, Byte, Char, Short, Int, Class}
 use Rattle.api_listing.specs.declared.descriptor.FieldType.{FieldType}
 use Rattle.api_listing.specs.declared.descriptor.MethodType.{MethodType}
-use Rattle.api_listing.specs.declared.fault.FormFault.{FormFault}
 use Rattle.api_listing.specs.declared.fault.FormFault.TheVariants.{NoForm, Memory}
 use Rattle.api_listing.specs.Words.{pieces, is_name_byte, is_segment, is_class_name}
-use Rattle.api_listing.specs.Fault.{Read, Reads, Fails}
-use Rattle.api_listing.specs.Descriptor.{class_spelled, element_spelled, type_spelled, result_spelled, method_spelled, is_element, is_type, is_result, SpellsDescriptor, SpellsClass, until, when_named, named_only, name_at, class_at, element_at, deeper, flat, type_at, whole_type, result_of, is_closed, arguments_at, after_first, method_type, ended, class_behind, class_described}
+use Rattle.api_listing.specs.Fault.{Read, Reads}
+use Rattle.api_listing.specs.Descriptor.{class_spelled, element_spelled, type_spelled, result_spelled, is_element, is_type, is_result, SpellsDescriptor, SpellsClass, until, named_only, name_at, class_at, element_at, deeper, flat, type_at, whole_type, result_of, is_closed, arguments_at, after_first, method_type, ended, class_described}
 
 pub both : (a b : Bool) → (a && b) ≡ true → (a ≡ true) × (b ≡ true)
 both true true e = (refl, refl)

@@ -1,5 +1,5 @@
 -- Types that are read one after the other, as loops do.
-use Rattle.std.proofs.Common.{◌≡◌, ℕ, suc, zero, ◌+◌, ◌-◌, ◌<◌, ◌≤◌, Bool, true, false, List, [], ◌∷◌, ◌++◌, length, take, drop, get_or, Option, Some, None, Result, Ok, Err, refl, sym, ap, ◌∙◌, append_assoc, arith, eq-eqb, length-append}
+use Rattle.std.proofs.Common.{◌≡◌, ℕ, suc, ◌+◌, ◌-◌, ◌<◌, ◌≤◌, true, false, List, [], ◌∷◌, ◌++◌, length, take, drop, get_or, Option, Some, None, Ok, Err, refl, sym, ap, ◌∙◌, append_assoc, arith, length-append}
 use Rattle.std.specs.Prelude.{option_map}
 use Rattle.std.proofs.lemmas.List.{take_all, append-nil}
 use Rattle.std.proofs.lemmas.Bool.{ne_eqb}
@@ -9,7 +9,7 @@ use Rattle.api_listing.specs.declared.descriptor.FieldType.{FieldType}
 use Rattle.api_listing.specs.declared.fault.FormFault.{FormFault}
 use Rattle.api_listing.specs.declared.fault.FormFault.TheVariants.{NoForm, Memory}
 use Rattle.api_listing.specs.Fault.{Read, Fails}
-use Rattle.api_listing.specs.Descriptor.{deeper, flat, type_at, element_at, arguments_at, is_closed, until}
+use Rattle.api_listing.specs.Descriptor.{deeper, type_at, element_at, arguments_at, is_closed, until}
 
 -- a list that is not empty is its first number and the others
 pub first_of_list : (xs : List ℕ) → 1 ≤ length xs → xs ≡ get_or xs 0 0 ∷ take (length xs - 1) (drop 1 xs)

@@ -1,20 +1,18 @@
 -- What is read of a line is spelled so, and what is spelled so is read.
-use Rattle.std.proofs.Common.{◌≡◌, ℕ, Bool, true, false, not, cond, ◌&&◌, List, [], ◌∷◌, ◌++◌, length, Option, Some, None, Result, Ok, Err, refl, sym, ap, subst, ◌∙◌, eqb}
+use Rattle.std.proofs.Common.{◌≡◌, ℕ, Bool, true, false, not, cond, ◌&&◌, List, [], ◌∷◌, length, Option, Some, None, Ok, Err, refl, ap, subst, ◌∙◌, eqb}
 use Rattle.std.specs.Prelude.{bytes_eq, codes, ok_or}
 use Rattle.std.specs.List.{onto_first}
-use Rattle.std.proofs.lemmas.Bool.{false≢true}
 use Rattle.std.proofs.lemmas.Slice.Eq.{bytes_eq-Decides}
 use Rattle.mon_base.specs.Reading.{◌>>=◌, need}
 use Rattle.mon_base.specs.declared.method.MethodId.{MethodId}
 use Rattle.api_listing.specs.declared.descriptor.MethodType.{MethodType}
-use Rattle.api_listing.specs.declared.fault.FormFault.TheVariants.{NoForm, Memory}
+use Rattle.api_listing.specs.declared.fault.FormFault.TheVariants.{NoForm}
 use Rattle.api_listing.specs.declared.types.ListedClass.{ListedClass}
-use Rattle.api_listing.specs.declared.types.ListedMethod.{ListedMethod}
 use Rattle.api_listing.specs.declared.lines.Declaration.{Declaration}
 use Rattle.api_listing.specs.declared.lines.Declaration.TheVariants.{Class, Method, Field}
 use Rattle.api_listing.specs.Words.{pieces, is_class_name}
 use Rattle.api_listing.specs.Fault.{Read}
-use Rattle.api_listing.specs.Descriptor.{method_type, class_described, SpellsDescriptor, SpellsClass}
+use Rattle.api_listing.specs.Descriptor.{method_type, class_described, SpellsDescriptor}
 use Rattle.api_listing.specs.Lines.{interface_named, member, are_class_names, SpellsAbove, SpellsInterface, SpellsBelow, SpellsKind, SpellsClassLine, verb_of, SpellsMember, SpellsLine, class_line, method_line, class_of, field_line, two_words, four_words, six_words, form_of}
 use Rattle.api_listing.proofs.DescriptorLaws.{both, method_found, method_again, class_descriptor_found, class_descriptor_again}
 

@@ -1,5 +1,5 @@
 -- Tests of names tell whether they are the same.
-use Rattle.std.proofs.Common.{◌≡◌, ℕ, Bool, true, false, List, sym, ap, refl, ◌∙◌, ap₂, ◌&&◌}
+use Rattle.std.proofs.Common.{◌≡◌, ℕ, true, List, ap, refl, ◌∙◌, ap₂, ◌&&◌}
 use Rattle.std.specs.Prelude.{bytes_eq}
 use Rattle.std.specs.Bool.{Decides}
 use Rattle.std.specs.declared.cmp.Ordering.{Ordering}

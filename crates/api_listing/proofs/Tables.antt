@@ -2,7 +2,7 @@
 use Rattle.std.proofs.Common.{◌≡◌, Bool, List, [], ◌∷◌, map, refl, ap, ◌||◌}
 use Rattle.std.specs.List.{list_any}
 use Rattle.api_listing.specs.declared.built_in.TheConstants.{CLASSES, METHODS}
-use Rattle.api_listing.specs.BuiltIn.{class_rows, method_rows, class_of_row, is_row, built_in_classes, is_built_in}
+use Rattle.api_listing.specs.BuiltIn.{class_rows, method_rows}
 
 pub list_any-map : {X Y : Type 0} (p : Y → Bool) (f : X → Y) (xs : List X) → list_any (λ x. p (f x)) xs ≡ list_any p (map f xs)
 list_any-map p f [] = refl

@@ -1,29 +1,25 @@
 -- What is read of a text is spelled so, and what is spelled so is read.
-use Rattle.std.proofs.Common.{◌≡◌, ℕ, ◌+◌, ◌-◌, ◌<◌, ◌≤◌, Bool, true, false, not, cond, ltb, ◌&&◌, List, [], ◌∷◌, ◌++◌, length, take, get_or, map, Option, Some, None, Result, Ok, Err, refl, sym, ap, subst, ◌∙◌, append_assoc, arith, length-append, eqb}
+use Rattle.std.proofs.Common.{◌≡◌, ℕ, ◌+◌, ◌-◌, ◌≤◌, Bool, true, false, not, cond, ltb, List, [], ◌∷◌, ◌++◌, length, take, map, Option, Some, None, Result, Ok, Err, refl, sym, ap, subst, ◌∙◌, append_assoc, arith, length-append, eqb}
 use Rattle.std.specs.Prelude.{filter, IfOk, MatchResult}
 use Rattle.std.specs.List.{list_all, filter_map, slice_index_or}
-use Rattle.std.proofs.Math.Path.{fun_ext}
 use Rattle.std.proofs.lemmas.Bool.{false≢true, le-ltb, ltb-false}
 use Rattle.std.proofs.lemmas.List.{append-nil, take_all, take_more}
 use Rattle.std.proofs.lemmas.List.Elements.{filter_map-append}
 use Rattle.std.proofs.lemmas.List.Splits.{length-slice_split}
 use Rattle.mon_base.specs.Reading.{◌>>=◌}
-use Rattle.mon_base.specs.declared.method.MethodId.{MethodId}
 use Rattle.api_listing.specs.declared.types.ListedClass.{ListedClass}
-use Rattle.api_listing.specs.declared.types.ListedMethod.{ListedMethod}
 use Rattle.api_listing.specs.declared.types.Listing.{Listing}
 use Rattle.api_listing.specs.declared.lines.Declaration.{Declaration}
 use Rattle.api_listing.specs.declared.lines.Declaration.TheVariants.{Class, Method, Field}
 use Rattle.api_listing.specs.declared.lines.Said.{Said}
 use Rattle.api_listing.specs.declared.lines.Said.TheVariants.{Nothing, NoForm, Says}
-use Rattle.api_listing.specs.declared.fault.FormFault.{FormFault}
 use Rattle.api_listing.specs.declared.fault.ListFault.{ListFault}
 use Rattle.api_listing.specs.declared.fault.ListFault.TheVariants as faults
 use Rattle.api_listing.specs.Words.{pieces}
 use Rattle.api_listing.specs.BuiltIn.{built_in_classes, class_rows}
 use Rattle.api_listing.specs.Fault.{Read, Answers, Refuses}
-use Rattle.api_listing.specs.Lines.{says_something, form_of, said_as, said, ending, said_lines, SpellsLine}
-use Rattle.api_listing.specs.Listing.{is_known, stands_already, names_known, with_declaration, built_in_listing, declared, after_line, after_lines, class_said, classes_in, read_lines, reading, class_declared, method_declared, field_declared, listing_of, AreSaid, AreOnce, AreNamed, SpellsListing, IsFew}
+use Rattle.api_listing.specs.Lines.{says_something, form_of, said_as, said, ending, said_lines}
+use Rattle.api_listing.specs.Listing.{is_known, stands_already, names_known, with_declaration, built_in_listing, declared, after_lines, class_said, classes_in, read_lines, reading, class_declared, method_declared, field_declared, listing_of, AreSaid, SpellsListing, IsFew}
 use Rattle.api_listing.proofs.Lists.{not_true}
 use Rattle.api_listing.proofs.DescriptorLaws.{both}
 use Rattle.api_listing.proofs.LineLaws.{line_found, line_again}

@@ -1,5 +1,5 @@
 -- The classes that every program has without declaring them, and their methods.
-use Rattle.std.specs.Prelude.{ℕ, Bool, true, false, List, [], ◌∷◌, ◌++◌, ◌&&◌, bytes_eq, codes, map, if◌then◌else◌}
+use Rattle.std.specs.Prelude.{ℕ, Bool, true, false, List, [], ◌∷◌, ◌&&◌, bytes_eq, codes, map, if◌then◌else◌}
 use Rattle.std.specs.List.{flat_map, list_any}
 use Rattle.mon_base.specs.declared.method.MethodId.{MethodId}
 use Rattle.api_listing.specs.declared.types.ListedClass.{ListedClass}

@@ -1,5 +1,5 @@
 -- Descriptors of methods and fields: how types are spelled, and how they are read from left to right.
-use Rattle.std.specs.Prelude.{◌≡◌, ℕ, zero, suc, ◌+◌, ◌≤◌, ◌==◌, Bool, true, false, ◌&&◌, List, [], ◌∷◌, ◌++◌, length, drop, replicate, Option, Some, None, option_map, Result, Ok, Err, ok_or, IsTrue, bytes_eq, codes, if◌then◌else◌}
+use Rattle.std.specs.Prelude.{◌≡◌, ℕ, zero, suc, ◌+◌, ◌≤◌, ◌==◌, Bool, true, false, List, [], ◌∷◌, ◌++◌, length, drop, replicate, Option, Some, None, option_map, Ok, Err, ok_or, IsTrue, bytes_eq, codes, if◌then◌else◌}
 use Rattle.std.specs.List.{flat_map, list_all}
 use Rattle.mon_base.specs.Reading.{◌>>=◌, need}
 use Rattle.api_listing.specs.declared.descriptor.Element.{Element}

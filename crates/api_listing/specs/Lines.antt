@@ -1,12 +1,10 @@
 -- The lines of a listing, each by itself: how a declaration is spelled, and how words are read.
-use Rattle.std.specs.Prelude.{◌≡◌, ℕ, ◌-◌, Bool, true, false, ◌&&◌, ◌==◌, not, List, [], ◌∷◌, ◌++◌, length, map, take, codes, bytes_eq, Option, Some, None, Result, Ok, Err, ok_or, IsTrue, if◌then◌else◌}
+use Rattle.std.specs.Prelude.{◌≡◌, ℕ, ◌-◌, Bool, true, false, ◌&&◌, ◌==◌, not, List, [], ◌∷◌, ◌++◌, length, map, take, codes, bytes_eq, Ok, Err, ok_or, IsTrue, if◌then◌else◌}
 use Rattle.std.specs.List.{list_all, slice_index_or}
 use Rattle.mon_base.specs.Reading.{◌>>=◌, need}
 use Rattle.mon_base.specs.declared.method.MethodId.{MethodId}
-use Rattle.api_listing.specs.declared.descriptor.MethodType.{MethodType}
 use Rattle.api_listing.specs.declared.fault.FormFault.TheVariants.{NoForm}
 use Rattle.api_listing.specs.declared.types.ListedClass.{ListedClass}
-use Rattle.api_listing.specs.declared.types.ListedMethod.{ListedMethod}
 use Rattle.api_listing.specs.declared.lines.Declaration.{Declaration}
 use Rattle.api_listing.specs.declared.lines.Declaration.TheVariants.{Class, Method, Field}
 use Rattle.api_listing.specs.declared.lines.Said.{Said}

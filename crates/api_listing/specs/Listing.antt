@@ -1,5 +1,5 @@
 -- What a listing is, which listing a text spells, and how a text is read.
-use Rattle.std.specs.Prelude.{◌≡◌, ◌≢◌, ℕ, ◌+◌, ◌≤◌, Bool, true, false, ◌&&◌, ◌||◌, not, List, [], ◌∷◌, ◌++◌, length, codes, AllPairs, bytes_eq, Option, Some, None, Result, Ok, Err, IsTrue, nat_lt, if◌then◌else◌, filter, map}
+use Rattle.std.specs.Prelude.{◌≡◌, ℕ, ◌+◌, ◌≤◌, Bool, true, false, ◌&&◌, ◌||◌, not, List, [], ◌∷◌, ◌++◌, length, codes, bytes_eq, Option, Some, None, Result, Ok, Err, IsTrue, nat_lt, if◌then◌else◌, filter}
 use Rattle.std.specs.List.{filter_map, list_any, list_all}
 use Rattle.mon_base.specs.Reading.{◌>>=◌}
 use Rattle.mon_base.specs.declared.method.MethodId.{MethodId}

@@ -1,4 +1,4 @@
-use Rattle.std.proofs.Common.{◌≡◌, ◌∙◌, ap, sym, subst, map}
+use Rattle.std.proofs.Common.{◌≡◌, ◌∙◌, ap, subst, map}
 use Rattle.std.specs.Prelude.{IfOk}
 use Rattle.api_listing.specs.BuiltIn.{class_of_row}
 use Rattle.api_listing.proofs.Tables.{map-map, classes_are}

@@ -1,4 +1,4 @@
-use Rattle.std.proofs.Common.{◌≡◌, take, false, true}
+use Rattle.std.proofs.Common.{◌≡◌, take, false}
 use Rattle.std.specs.List.{list_any}
 use Rattle.api_listing.specs.BuiltIn.{is_row}
 use Rattle.api_listing.proofs.built_in.is_among.Given as goal

@@ -1,4 +1,4 @@
-use Rattle.std.proofs.Common.{◌≡◌, ◌∙◌, ap, sym, map}
+use Rattle.std.proofs.Common.{◌∙◌, ap, map}
 use Rattle.std.specs.List.{list_any}
 use Rattle.api_listing.specs.BuiltIn.{is_row}
 use Rattle.api_listing.proofs.Tables.{list_any-map, methods_are}

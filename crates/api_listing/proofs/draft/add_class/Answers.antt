@@ -1,4 +1,4 @@
-use Rattle.std.proofs.Common.{◌≡◌, ◌∙◌, ap, sym, refl, ◌++◌, ◌∷◌, []}
+use Rattle.std.proofs.Common.{◌≡◌, ◌∙◌, ap, refl, ◌++◌, ◌∷◌, []}
 use Rattle.std.specs.Prelude.{bytes_eq}
 use Rattle.api_listing.specs.declared.types.ListedClass.{ListedClass}
 use Rattle.api_listing.proofs.Growing.{any_agrees}

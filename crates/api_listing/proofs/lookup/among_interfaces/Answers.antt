@@ -1,7 +1,6 @@
-use Rattle.std.proofs.Common.{◌≡◌, ◌∙◌, sym, ap, length, Some, None, arith}
-use Rattle.std.specs.Option.{option_copied, option_or}
-use Rattle.api_listing.specs.Nearest.{class_named, declared_in, first_declared, nearest, upwards, names_of, interfaces_of}
-use Rattle.api_listing.proofs.Climbing.{climbs, climbs_by_interfaces, ends_by_interfaces, first_declared-append}
+use Rattle.std.proofs.Common.{◌≡◌, ◌∙◌, sym, length, Some, None, arith}
+use Rattle.api_listing.specs.Nearest.{class_named, first_declared}
+use Rattle.api_listing.proofs.Climbing.{climbs_by_interfaces, ends_by_interfaces}
 use Rattle.api_listing.proofs.lookup.among_interfaces.Goals as goal
 
 pub loop-preserved : goal.loop-preserved

@@ -1,4 +1,4 @@
-use Rattle.std.proofs.Common.{◌≡◌, take, false, true}
+use Rattle.std.proofs.Common.{◌≡◌, take, false}
 use Rattle.api_listing.specs.Listing.{is_known}
 use Rattle.api_listing.proofs.lookup.is_known_class.Given as goal
 

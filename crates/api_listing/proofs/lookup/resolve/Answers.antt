@@ -1,4 +1,4 @@
-use Rattle.std.proofs.Common.{◌≡◌, ◌∙◌}
+use Rattle.std.proofs.Common.{◌∙◌}
 use Rattle.api_listing.proofs.Resolving.{is_found, is_none, same_nearest}
 use Rattle.api_listing.proofs.lookup.resolve.Goals as goal
 

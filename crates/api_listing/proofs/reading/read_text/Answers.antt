@@ -1,12 +1,10 @@
-use Rattle.std.proofs.Common.{◌≡◌, ◌∙◌, ℕ, List, sym, ap, subst, length, arith}
+use Rattle.std.proofs.Common.{◌∙◌, ap, subst, arith}
 use Rattle.std.specs.Prelude.{Result}
 use Rattle.api_listing.specs.declared.types.Listing.{Listing}
 use Rattle.api_listing.specs.declared.fault.ListFault.{ListFault}
-use Rattle.api_listing.specs.Words.{pieces}
-use Rattle.api_listing.specs.Lines.{said_lines}
 use Rattle.api_listing.specs.Seen.{has_name}
 use Rattle.api_listing.specs.Fault.{Answers}
-use Rattle.api_listing.specs.Listing.{reading, after_lines, built_in_listing, read_lines}
+use Rattle.api_listing.specs.Listing.{reading, read_lines}
 use Rattle.api_listing.proofs.Growing.{few_lines}
 use Rattle.api_listing.proofs.reading.read_text.Goals as goal
 

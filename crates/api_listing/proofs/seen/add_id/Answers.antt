@@ -1,7 +1,5 @@
-use Rattle.std.proofs.Common.{◌≡◌, ◌∙◌, ap, ◌||◌, sym}
-use Rattle.std.specs.Prelude.{bytes_eq}
+use Rattle.std.proofs.Common.{◌∙◌, ap, ◌||◌}
 use Rattle.std.specs.Ordering.{is_eq}
-use Rattle.std.proofs.lemmas.Map.Text.{is_eq-slice_cmp}
 use Rattle.api_listing.specs.BuiltIn.{is_method}
 use Rattle.api_listing.specs.Seen.{id_cmp, has_id}
 use Rattle.api_listing.proofs.Lists.{cond_or}

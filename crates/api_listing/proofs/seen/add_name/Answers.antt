@@ -1,12 +1,10 @@
-use Rattle.std.proofs.Common.{◌≡◌, ◌∙◌, ap, ◌||◌, sym}
+use Rattle.std.proofs.Common.{◌∙◌, ap, ◌||◌}
 use Rattle.std.specs.Prelude.{bytes_eq}
 use Rattle.std.specs.Ordering.{is_eq, nat_cmp}
 use Rattle.std.specs.Cmp.Lexicographic.{slice_cmp}
 use Rattle.std.proofs.lemmas.Map.Text.{is_eq-slice_cmp}
-use Rattle.api_listing.specs.BuiltIn.{is_method}
-use Rattle.api_listing.specs.Seen.{has_name, has_id}
+use Rattle.api_listing.specs.Seen.{has_name}
 use Rattle.api_listing.proofs.Lists.{cond_or}
-use Rattle.api_listing.proofs.Names.{id_cmp-is}
 use Rattle.api_listing.proofs.seen.add_name.Goals as goal
 
 pub returns : goal.returns

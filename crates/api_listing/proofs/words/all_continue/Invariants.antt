@@ -1,4 +1,4 @@
-use Rattle.std.proofs.Common.{◌≡◌, take, false, true}
+use Rattle.std.proofs.Common.{◌≡◌, take, true}
 use Rattle.std.specs.List.{list_all}
 use Rattle.api_listing.specs.Words.{is_name_byte}
 use Rattle.api_listing.proofs.words.all_continue.Given as goal
