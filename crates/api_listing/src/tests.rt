@@ -50,6 +50,11 @@ fn net(rt: HostRuntime) -> Result<(), Fail> {
         assert!(rt; method.id.desc.as_slice() == desc.as_bytes(), "{name}");
         assert_eq!(rt; method.is_static, *is_static, "{name}");
     }
+    let send = net.methods.as_slice()[0]
+        .copy(rt.alloc())
+        .ok()
+        .ok_or("memory")?;
+    assert!(rt; send == net.methods.as_slice()[0]);
     assert_eq!(rt; net.classes.len(), 22);
     let broken = &net.classes.as_slice()[21];
     assert!(rt; broken.name.as_slice() == b"api/Broken".as_slice());

@@ -42,7 +42,7 @@ fn of_no_form(rt: HostRuntime) {
     for (text, line) in OF_NO_FORM.iter() {
         assert_eq!(rt;
             fault_of(rt.alloc(), text.as_bytes()),
-            (161, *line),
+            Some((161, *line)),
             "{text}"
         );
     }
@@ -72,7 +72,7 @@ fn standing_already(rt: HostRuntime) {
     for (text, line) in STANDING.iter() {
         assert_eq!(rt;
             fault_of(rt.alloc(), text.as_bytes()),
-            (162, *line),
+            Some((162, *line)),
             "{text}"
         );
     }
@@ -100,7 +100,7 @@ fn unknown_classes(rt: HostRuntime) {
     for (text, line) in UNKNOWN.iter() {
         assert_eq!(rt;
             fault_of(rt.alloc(), text.as_bytes()),
-            (163, *line),
+            Some((163, *line)),
             "{text}"
         );
     }
@@ -117,7 +117,7 @@ static FAULTLESS: [&str; 4] = [
 #[test]
 fn faultless(rt: HostRuntime) {
     for text in FAULTLESS.iter() {
-        assert_eq!(rt; fault_of(rt.alloc(), text.as_bytes()), (0, 0), "{text}");
+        assert_eq!(rt; fault_of(rt.alloc(), text.as_bytes()), None, "{text}");
     }
 }
 
@@ -125,12 +125,12 @@ fn faultless(rt: HostRuntime) {
 fn counts_of_lines(rt: HostRuntime) -> Result<(), Fail> {
     // How many remarks, what stands behind them, and the fault's number and place.
     let rows = [
-        (20_000, "", (0, 0)),
-        (20_001, "", (164, 20_001)),
-        (20_000, "#", (164, 20_001)),
-        (20_000, "x\n", (164, 20_001)),
-        (19_999, "x", (161, 20_000)),
-        (19_999, "x\n", (161, 20_000)),
+        (20_000, "", None),
+        (20_001, "", Some((164, 20_001))),
+        (20_000, "#", Some((164, 20_001))),
+        (20_000, "x\n", Some((164, 20_001))),
+        (19_999, "x", Some((161, 20_000))),
+        (19_999, "x\n", Some((161, 20_000))),
     ];
     for (count, last, fault) in rows.iter() {
         let mut text = Bytes::new(rt.alloc());
@@ -147,11 +147,11 @@ fn counts_of_lines(rt: HostRuntime) -> Result<(), Fail> {
     Ok(())
 }
 
-/// The number of the fault, and its line or the count of lines; 0 and 0 where there is none.
-fn fault_of(alloc: Global, text: &[u8]) -> (u32, u64) {
+/// The number of the fault, and its line or the count of lines; `None` where the text is a listing.
+fn fault_of(alloc: Global, text: &[u8]) -> Option<(u32, u64)> {
     match read(alloc, text) {
-        Ok(_) => (0, 0),
-        Err(fault) => (fault.number(), place(fault)),
+        Ok(_) => None,
+        Err(fault) => Some((fault.number(), place(fault))),
     }
 }
 
