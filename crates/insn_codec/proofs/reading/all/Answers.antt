@@ -1,6 +1,5 @@
-use Rattle.std.proofs.Common.{◌≡◌, List, Result, Ok, subst, ap, ◌∙◌, sym}
+use Rattle.std.proofs.Common.{◌≡◌, List, Ok, subst, ap, ◌∙◌, sym}
 use Rattle.std.proofs.lemmas.Result.{err_from_is_err_and}
-use Rattle.insn_codec.specs.declared.fault.CodeFault.{CodeFault}
 use Rattle.insn_codec.specs.declared.insn.Insn.{Insn}
 use Rattle.insn_codec.specs.Reading.{Finder, Fails, among, insns_of, ended}
 use Rattle.insn_codec.specs.Targets.{marks_from}
