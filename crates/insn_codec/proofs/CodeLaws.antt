@@ -43,7 +43,7 @@ switch_len op zeros other rest four =
     omega (arith, four, length-append (u1 op ++ (zeros ++ other)) rest, length-append (u1 op) (zeros ++ other), length-append zeros other)
 
 sum_of : (front each n zeros pad rest : ℕ) → zeros ≡ pad → rest ≡ front + each * n → 5 + zeros + rest ≡ 5 + front + pad + each * n
-sum_of front each n zeros pad rest z r = omega (arith, z, r)
+sum_of front each n len pad rest z r = omega (arith, z, r)
 
 pub size_is : (starts : List ℕ) (at : ℕ) (a : Insn) → IsInsn a → length (bytes_of starts at a) ≡ size at a
 size_is starts at (Plain op) f = refl
