@@ -36,6 +36,15 @@ along (LeftOut at op) a b same h = sym same ∙ h
 along (Form at) a b same h = sym same ∙ h
 along (End at) a b same h = sym same ∙ h
 
+pub told : {Y : Type 0} (e : CodeFault) (answer : Result Y CodeFault) → Err e ≡ answer → Fails e answer
+told Memory answer is = tt
+told (Opcode at op) answer is = sym is
+told (Cut at) answer is = sym is
+told (Target at) answer is = sym is
+told (LeftOut at op) answer is = sym is
+told (Form at) answer is = sym is
+told (End at) answer is = sym is
+
 -- ---- items
 
 pub goes_on : {X : Type 0} (item : Place → Read X) (front : List X) (count i : ℕ) (place : Place) (x : X) (next : Place)
