@@ -1,26 +1,23 @@
 -- A code is read exactly as it is spelled.
-use Rattle.std.proofs.Common.{◌≡◌, ℕ, zero, suc, ℤ, pos, ◌+◌, ◌-◌, ◌*◌, ◌%◌, ◌≤◌, ◌<◌, Bool, true, false, not, List, [], ◌∷◌, ◌++◌, length, replicate, Result, Ok, Err, refl, sym, ap, subst, ◌∙◌, FitsSigned, inl, inr, arith}
-use Rattle.std.specs.Prelude.{◌==◌, IfOk}
-use Rattle.std.specs.Int.{w32}
+use Rattle.std.proofs.Common.{◌≡◌, ℕ, zero, suc, ℤ, ◌+◌, ◌*◌, ◌≤◌, Bool, true, false, not, List, [], ◌∷◌, ◌++◌, length, replicate, Result, Ok, Err, refl, sym, ap, subst, ◌∙◌, inl, inr, arith}
+use Rattle.std.specs.Prelude.{IfOk}
 use Rattle.std.specs.List.{flat_map, AllByRecursion}
 use Rattle.std.proofs.lemmas.Bool.{cases_lt, false≢true}
-use Rattle.std.proofs.lemmas.Bool.Decides.{nat_tests}
 use Rattle.std.proofs.lemmas.List.{length-append, length-replicate}
 use Rattle.mon_base.specs.Reading.{Place, IsBytes, ◌>>=◌, need}
-use Rattle.mon_base.proofs.Reading.{bind_ok, ok_is, need_ok, after, Took, IsReader}
+use Rattle.mon_base.proofs.Reading.{bind_ok, ok_is, after}
 use Rattle.insn_codec.specs.declared.fault.CodeFault.{CodeFault}
 use Rattle.insn_codec.specs.declared.fault.CodeFault.TheVariants as faults
-use Rattle.insn_codec.specs.declared.insn.Case.{Case}
 use Rattle.insn_codec.specs.declared.insn.Insn.{Insn}
 use Rattle.insn_codec.specs.declared.insn.Insn.TheVariants.{Plain, Byte, Short, Ldc, Pool, Iface, Local, Inc, Branch, GotoW, NewArray, Table, Lookup}
 use Rattle.insn_codec.specs.Opcodes.{goes_on}
-use Rattle.insn_codec.specs.Spelling.{u1, i4, range, keyed, opcode_of, padding, size, starts_from, starts_of, len_from, offset, case, cases, bytes_of, bytes_from, spelling}
-use Rattle.insn_codec.specs.Fits.{IsInsn, AimsWithin, Reaches, ReachFrom, Ends, CanSpell, SpellsCode}
-use Rattle.insn_codec.specs.Reading.{Finder, Read, Answers, AnswersAs, any, among, insn_at, insns_at, insns_of, ended, code_of}
+use Rattle.insn_codec.specs.Spelling.{u1, i4, range, keyed, opcode_of, padding, size, starts_of, offset, case, cases, bytes_of, bytes_from}
+use Rattle.insn_codec.specs.Fits.{IsInsn, AimsWithin, ReachFrom, Ends, SpellsCode}
+use Rattle.insn_codec.specs.Reading.{Finder, Answers, any, among, insn_at, insns_at, insns_of, ended, code_of}
 use Rattle.insn_codec.proofs.Laws.{Leads}
 use Rattle.insn_codec.proofs.Forms.{FitsInsn}
 use Rattle.insn_codec.proofs.InsnLaws.{insn_is}
-use Rattle.insn_codec.proofs.Finding.{leads, Alike, SameSize, same_finder, insn_any}
+use Rattle.insn_codec.proofs.Finding.{leads, Alike, same_finder, insn_any}
 use Rattle.insn_codec.proofs.Sequence.{first_of, none_left, none_asked, all_read, code_read}
 use Rattle.insn_codec.proofs.Standing.{size-some, nothing, ended_on}
 
@@ -46,7 +43,7 @@ switch_len op zeros other rest four =
     omega (arith, four, length-append (u1 op ++ (zeros ++ other)) rest, length-append (u1 op) (zeros ++ other), length-append zeros other)
 
 sum_of : (front each n zeros pad rest : ℕ) → zeros ≡ pad → rest ≡ front + each * n → 5 + zeros + rest ≡ 5 + front + pad + each * n
-sum_of front each n zeros pad rest z r = omega (arith, z, r)
+sum_of front each n len pad rest z r = omega (arith, z, r)
 
 pub size_is : (starts : List ℕ) (at : ℕ) (a : Insn) → IsInsn a → length (bytes_of starts at a) ≡ size at a
 size_is starts at (Plain op) f = refl

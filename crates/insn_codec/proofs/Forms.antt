@@ -1,9 +1,8 @@
 -- Which opcode an instruction has, and in what form it stands.
-use Rattle.std.proofs.Common.{◌≡◌, ℕ, zero, suc, ℤ, pos, ◌+◌, ◌<◌, Bool, true, false, not, List, [], ◌++◌, replicate, refl, sym, ap, subst, ◌∙◌, inl, inr, arith}
+use Rattle.std.proofs.Common.{◌≡◌, ℕ, zero, suc, ℤ, pos, ◌<◌, Bool, true, false, not, List, [], ◌++◌, replicate, refl, sym, ap, subst, ◌∙◌, inl, inr, arith}
 use Rattle.std.specs.Prelude.{◌==◌, ◌&&◌, ◌||◌}
 use Rattle.std.proofs.lemmas.Bool.{cases_lt, false≢true}
 use Rattle.std.proofs.lemmas.Bool.Decides.{nat_tests}
-use Rattle.mon_base.proofs.Reading.{after}
 use Rattle.insn_codec.specs.declared.opcode.Operands.{Operands}
 use Rattle.insn_codec.specs.declared.opcode.Operands.TheVariants as ops
 use Rattle.insn_codec.specs.declared.insn.Insn.{Insn}

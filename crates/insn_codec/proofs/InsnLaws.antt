@@ -1,5 +1,5 @@
 -- An instruction is read exactly as it is spelled.
-use Rattle.std.proofs.Common.{◌≡◌, ℕ, ◌+◌, ◌<◌, ◌^◌, true, false, List, [], ◌∷◌, ◌++◌, replicate, Ok, refl, sym, ap, subst, ◌∙◌, append_assoc, FitsSigned, inl, inr, arith}
+use Rattle.std.proofs.Common.{◌≡◌, ℕ, ◌<◌, ◌^◌, true, false, List, [], ◌∷◌, ◌++◌, replicate, Ok, refl, sym, ap, subst, ◌∙◌, append_assoc, FitsSigned, inl, inr, arith}
 use Rattle.std.specs.Prelude.{◌==◌, ◌&&◌, ◌⊎◌, nat_le}
 use Rattle.std.specs.Int.{w8, w16, w32}
 use Rattle.std.specs.List.{AllByRecursion}
@@ -13,7 +13,7 @@ use Rattle.insn_codec.specs.declared.opcode.Operands.{Operands}
 use Rattle.insn_codec.specs.declared.opcode.Operands.TheVariants as ops
 use Rattle.insn_codec.specs.declared.insn.Insn.{Insn}
 use Rattle.insn_codec.specs.declared.insn.Insn.TheVariants.{Plain, Byte, Short, Ldc, Pool, Iface, Local, Inc, Branch, GotoW, NewArray, Table, Lookup}
-use Rattle.insn_codec.specs.Opcodes.{Opcode, operands_of}
+use Rattle.insn_codec.specs.Opcodes.{operands_of}
 use Rattle.insn_codec.specs.Spelling.{u1, offset, padding, bytes_of}
 use Rattle.insn_codec.specs.Fits.{IsU1, is_item_type, IsInsn}
 use Rattle.insn_codec.specs.Reading.{Finder, u1_at, iface_at, new_array_at, inc_at, wide_inc_at, widened_at, wide_at, operands_at, insn_at}

@@ -1,18 +1,14 @@
 -- Numbers, targets and switches are read exactly as they are spelled.
-use Rattle.std.proofs.Common.{◌≡◌, ℕ, ℤ, pos, negsuc, ◌+ℤ◌, ◌-ℤ◌, ◌+◌, ◌-◌, ◌≤◌, ◌<◌, ◌^◌, Bool, true, false, List, [], ◌∷◌, ◌++◌, length, map, replicate, Option, Some, None, Result, Ok, Err, refl, sym, ap, subst, ◌∙◌, append_assoc, FitsSigned, arith}
-use Rattle.std.specs.Prelude.{◌==◌, ◌&&◌, int_le, int_lt, nat_abs, ok_or, slice_index}
+use Rattle.std.proofs.Common.{◌≡◌, ℕ, ℤ, pos, ◌+ℤ◌, ◌-ℤ◌, ◌<◌, ◌^◌, Bool, true, List, ◌++◌, Some, Result, Ok, refl, sym, ap, subst, ◌∙◌, FitsSigned, arith}
+use Rattle.std.specs.Prelude.{slice_index}
 use Rattle.std.specs.Int.{w8, w16, w32, cast_signed, cast_unsigned}
-use Rattle.std.specs.List.{flat_map, AllByRecursion, list_all}
 use Rattle.std.proofs.lemmas.Int.{of_z-to_z, to_z-of_z, ints}
-use Rattle.mon_base.specs.Reading.{Place, IsBytes, ◌>>=◌, need, counted}
-use Rattle.mon_base.proofs.Reading.{bind_ok, ok_is, need_ok, ok_or_ok, after, Took, IsTail, IsReader, then, said, items, number_is, bytes_is, one, two, four}
-use Rattle.insn_codec.specs.declared.fault.CodeFault.{CodeFault}
-use Rattle.insn_codec.specs.declared.fault.CodeFault.TheVariants.{Cut, Form, Target}
-use Rattle.insn_codec.specs.declared.insn.Case.{Case}
-use Rattle.insn_codec.specs.declared.insn.Insn.{Insn}
-use Rattle.insn_codec.specs.Spelling.{u1, u2, u4, i1, i2, i4, offset, case, cases, padding}
+use Rattle.mon_base.specs.Reading.{Place, ◌>>=◌, need}
+use Rattle.mon_base.proofs.Reading.{bind_ok, ok_is, need_ok, ok_or_ok, Took, IsTail, IsReader, number_is, one, two, four}
+use Rattle.insn_codec.specs.declared.fault.CodeFault.TheVariants.{Cut, Target}
+use Rattle.insn_codec.specs.Spelling.{u1, u2, u4, i1, i2, i4, offset}
 use Rattle.insn_codec.specs.Fits.{IsU1, IsU2}
-use Rattle.insn_codec.specs.Reading.{Finder, Read, u1_at, u2_at, i1_at, i2_at, i4_at, target_of, near_at, far_at, padding_at, all_zero, bounds_at, count_at, case_at, cases_at}
+use Rattle.insn_codec.specs.Reading.{Finder, u1_at, u2_at, i1_at, i2_at, i4_at, target_of, near_at, far_at}
 
 -- ---- readers made of others
 

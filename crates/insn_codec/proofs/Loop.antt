@@ -1,5 +1,5 @@
 -- Reading one after the other, as a loop does.
-use Rattle.std.proofs.Common.{◌≡◌, ℕ, suc, ◌-◌, ◌+◌, ◌*◌, ◌≤◌, ◌<◌, Bool, List, [], ◌∷◌, ◌++◌, length, Result, Ok, Err, refl, sym, ap, subst, ◌∙◌, append_assoc, add-one, arith}
+use Rattle.std.proofs.Common.{◌≡◌, ℕ, suc, ◌-◌, ◌+◌, ◌*◌, ◌≤◌, ◌<◌, List, [], ◌∷◌, ◌++◌, length, Result, Ok, Err, refl, sym, ap, subst, ◌∙◌, append_assoc, add-one, arith}
 use Rattle.std.proofs.Math.Nat.{mul-suc}
 use Rattle.std.proofs.lemmas.List.{append-nil, length-append}
 use Rattle.mon_base.specs.Reading.{Place, ◌>>=◌, counted}
@@ -35,6 +35,15 @@ along (Target at) a b same h = sym same ∙ h
 along (LeftOut at op) a b same h = sym same ∙ h
 along (Form at) a b same h = sym same ∙ h
 along (End at) a b same h = sym same ∙ h
+
+pub told : {Y : Type 0} (e : CodeFault) (answer : Result Y CodeFault) → Err e ≡ answer → Fails e answer
+told Memory answer is = tt
+told (Opcode at op) answer is = sym is
+told (Cut at) answer is = sym is
+told (Target at) answer is = sym is
+told (LeftOut at op) answer is = sym is
+told (Form at) answer is = sym is
+told (End at) answer is = sym is
 
 -- ---- items
 

@@ -1,5 +1,5 @@
 -- The instructions of a code, one after another.
-use Rattle.std.proofs.Common.{◌≡◌, ℕ, zero, suc, ◌+◌, ◌-◌, ◌≤◌, ◌<◌, Bool, true, false, List, [], ◌∷◌, ◌++◌, length, Result, Ok, Err, refl, sym, ap, subst, ◌∙◌, arith}
+use Rattle.std.proofs.Common.{◌≡◌, ℕ, zero, suc, ◌+◌, ◌-◌, ◌≤◌, ◌<◌, Bool, true, false, List, [], ◌∷◌, ◌++◌, length, Ok, Err, refl, sym, ap, subst, ◌∙◌, arith}
 use Rattle.std.specs.Prelude.{◌==◌, IsTrue, ◌↔◌}
 use Rattle.std.proofs.lemmas.List.{append-nil}
 use Rattle.std.proofs.lemmas.Bool.Decides.{nat_tests}
@@ -8,7 +8,7 @@ use Rattle.mon_base.specs.Reading.{Place, ◌>>=◌}
 use Rattle.insn_codec.specs.declared.fault.CodeFault.{CodeFault}
 use Rattle.insn_codec.specs.declared.insn.Insn.{Insn}
 use Rattle.insn_codec.specs.Spelling.{size, len_from}
-use Rattle.insn_codec.specs.Reading.{Finder, Read, Fails, any, among, end_of, insn_at, insns_at, insns_of, ended, code_of}
+use Rattle.insn_codec.specs.Reading.{Finder, Read, Fails, any, among, insn_at, insns_at, insns_of, ended, code_of}
 use Rattle.insn_codec.proofs.Loop.{with_front, regroup, failed, along}
 use Rattle.insn_codec.proofs.Standing.{size-some, len_push}
 

@@ -1,18 +1,17 @@
 -- Switches are read exactly as they are spelled.
-use Rattle.std.proofs.Common.{◌≡◌, ℕ, zero, suc, ℤ, pos, negsuc, ◌+ℤ◌, ◌-ℤ◌, ◌+◌, ◌-◌, ◌≤◌, ◌<◌, ◌^◌, Bool, true, false, List, [], ◌∷◌, ◌++◌, length, map, replicate, Ok, refl, sym, ap, subst, ◌∙◌, FitsSigned, arith}
-use Rattle.std.specs.Prelude.{◌==◌, ◌&&◌, ◌<ℤ◌, int_le, int_lt, nat_abs}
+use Rattle.std.proofs.Common.{◌≡◌, ℕ, zero, suc, ℤ, pos, negsuc, ◌+ℤ◌, ◌-ℤ◌, ◌+◌, ◌≤◌, ◌<◌, ◌^◌, Bool, true, false, List, [], ◌∷◌, ◌++◌, length, map, replicate, refl, sym, ap, subst, ◌∙◌, FitsSigned, arith}
+use Rattle.std.specs.Prelude.{◌==◌, ◌&&◌, ◌<ℤ◌, int_le, nat_abs}
 use Rattle.std.specs.Int.{w32, cast_unsigned}
 use Rattle.std.specs.List.{flat_map, AllByRecursion}
 use Rattle.std.proofs.lemmas.Bool.{false≢true}
 use Rattle.std.proofs.lemmas.Bool.Decides.{nat_tests}
 use Rattle.std.proofs.lemmas.Int.{ints}
 use Rattle.std.proofs.lemmas.List.{length-replicate, length-map}
-use Rattle.mon_base.specs.Reading.{◌>>=◌, need, counted}
 use Rattle.mon_base.proofs.Reading.{IsTail, IsReader, then, said, items, bytes_is}
 use Rattle.insn_codec.specs.declared.fault.CodeFault.TheVariants.{Cut, Form}
 use Rattle.insn_codec.specs.declared.insn.Case.{Case}
 use Rattle.insn_codec.specs.declared.insn.Insn.{Insn}
-use Rattle.insn_codec.specs.declared.insn.Insn.TheVariants.{Plain, Byte, Short, Ldc, Pool, Iface, Local, Inc, Branch, GotoW, NewArray, Table, Lookup}
+use Rattle.insn_codec.specs.declared.insn.Insn.TheVariants.{Table, Lookup}
 use Rattle.insn_codec.specs.Spelling.{u4, i4, offset, padding, case, cases, keyed}
 use Rattle.insn_codec.specs.Fits.{Ascend, FitsLookup}
 use Rattle.insn_codec.specs.Reading.{Finder, padding_at, all_zero, bounds_at, ranged_at, table_at, count_at, case_at, ascend_from, ascend, cases_at, keyed_at, lookup_at}

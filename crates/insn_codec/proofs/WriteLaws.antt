@@ -1,15 +1,13 @@
 -- What was read is written as it was.
-use Rattle.std.proofs.Common.{◌≡◌, ℕ, ℤ, pos, negsuc, ◌+◌, ◌≤◌, ◌<◌, Bool, true, false, List, [], ◌∷◌, ◌++◌, length, Result, Ok, refl, sym, ap, subst, ◌∙◌, FitsSigned, arith}
-use Rattle.std.specs.Prelude.{◌&&◌, int_le}
+use Rattle.std.proofs.Common.{◌≡◌, ℕ, ℤ, ◌+◌, ◌≤◌, true, List, [], ◌∷◌, length, Result, Ok, refl, sym, ap, subst, ◌∙◌, FitsSigned, arith}
 use Rattle.std.specs.Int.{w16, w32}
 use Rattle.std.specs.List.{AllByRecursion}
 use Rattle.std.proofs.lemmas.Int.{ints}
 use Rattle.std.proofs.lemmas.List.{length-append}
-use Rattle.mon_base.specs.Reading.{◌>>=◌, need}
 use Rattle.insn_codec.specs.declared.fault.CodeOverflow.{CodeOverflow}
 use Rattle.insn_codec.specs.declared.insn.Insn.{Insn}
-use Rattle.insn_codec.specs.declared.insn.Insn.TheVariants.{Plain, Byte, Short, Ldc, Pool, Iface, Local, Inc, Branch, GotoW, NewArray, Table, Lookup}
-use Rattle.insn_codec.specs.Spelling.{size, offset, starts_of, len_from, bytes_of, bytes_from, spelling}
+use Rattle.insn_codec.specs.declared.insn.Insn.TheVariants.{Branch, GotoW, Table, Lookup}
+use Rattle.insn_codec.specs.Spelling.{size, offset, starts_of, len_from, bytes_of, bytes_from}
 use Rattle.insn_codec.specs.Fits.{IsInsn, Reaches, ReachFrom, SpellsCode}
 use Rattle.insn_codec.specs.Writing.{held_by_2, held_by_4, near, far, all_far, reach, reach_from, written, Tells}
 use Rattle.insn_codec.proofs.Standing.{len_first, len_none}

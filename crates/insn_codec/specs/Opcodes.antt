@@ -1,4 +1,5 @@
--- The opcodes: what follows each, whether it works on its frame alone, and whether control can go on after it.
+-- The opcodes: the name of each, what follows it, whether it works on its frame alone, and whether control can go on
+-- after it.
 -- (The Java Virtual Machine Specification, chapter 6.)
 use Rattle.std.specs.Prelude.{ℕ, Bool, true, false, List, [], ◌∷◌, slice_index_or, codes}
 use Rattle.insn_codec.specs.declared.opcode.Operands.{Operands}

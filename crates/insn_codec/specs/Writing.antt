@@ -1,10 +1,10 @@
 -- Writing a code: its bytes, or why there are none.
-use Rattle.std.specs.Prelude.{◌≡◌, ℕ, ℤ, pos, negsuc, ◌+◌, ◌++◌, ◌&&◌, Bool, true, false, List, [], ◌∷◌, length, Result, Ok, Err, nat_le, int_le}
+use Rattle.std.specs.Prelude.{◌≡◌, ℕ, ℤ, pos, negsuc, ◌+◌, ◌++◌, ◌&&◌, Bool, List, [], ◌∷◌, Result, Ok, Err, nat_le, int_le}
 use Rattle.mon_base.specs.Reading.{◌>>=◌, need}
 use Rattle.insn_codec.specs.declared.fault.CodeOverflow.{CodeOverflow}
 use Rattle.insn_codec.specs.declared.fault.CodeOverflow.TheVariants as overflows
 use Rattle.insn_codec.specs.declared.insn.Insn.{Insn}
-use Rattle.insn_codec.specs.declared.insn.Insn.TheVariants.{Plain, Byte, Short, Ldc, Pool, Iface, Local, Inc, Branch, GotoW, NewArray, Table, Lookup}
+use Rattle.insn_codec.specs.declared.insn.Insn.TheVariants.{Branch, GotoW, Table, Lookup}
 use Rattle.insn_codec.specs.Spelling.{size, offset, starts_of, len_from, spelling}
 
 -- Whether two and four bytes hold a number.

@@ -2,7 +2,7 @@
 
 ghost use Rattle.std.specs.Prelude.{◌≡◌, ◌++◌, ◌∷◌, ◌-◌, ◌+◌, ◌<◌, ◌≤◌, ◌^◌, replicate, Some, None, IfOk, OnOk};
 ghost use Rattle.insn_codec.specs.Spelling.{padding, size, starts_of, len_from};
-ghost use Rattle.insn_codec.specs.Reading.{Answers, ended};
+ghost use Rattle.insn_codec.specs.Reading.{ended};
 ghost use Rattle.insn_codec.specs.Targets.{marks_from};
 
 use crate::fault::CodeFault;
@@ -77,10 +77,10 @@ pub fn marks(alloc: Global, insns: &[Insn]) -> Result<Vec<Option<u32>>, NoMemory
     Ok(marks)
 }
 
-/// Whether control cannot go on past the last instruction.
+/// Whether control cannot go on past the last instruction. Else the fault is `End`, at that instruction.
 pub fn check_end(insns: &[Insn]) -> Result<(), CodeFault>
     requires { len_from 0 insns.now < 2 ^ 32 }
-    ensures { Answers result (ended 0 insns.now) }
+    ensures { result ≡ ended 0 insns.now }
 {
     let mut at: u64 = 0;
     let mut left = insns;

@@ -7,6 +7,7 @@
 mod fault;
 mod insn;
 mod layout;
+mod name;
 mod opcode;
 mod place;
 mod reading;
@@ -17,6 +18,7 @@ mod writing;
 pub use fault::{CodeFault, CodeOverflow};
 pub use insn::{Case, Insn};
 pub use layout::starts;
+pub use name::name_of;
 pub use opcode::{Operands, goes_on, is_frame_only, operands_of};
 pub use reading::read_code;
 pub use writing::write_code;

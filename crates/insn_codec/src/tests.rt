@@ -1,6 +1,9 @@
 //! Codes both ways, and what is wrong with others.
 
-ghost use Rattle.std.specs.Prelude.{◌<◌};
+ghost use Rattle.std.specs.Prelude.{◌≡◌, ◌<◌, ◌+◌, ◌^◌, OnOk};
+ghost use Rattle.std.specs.List.{AllByRecursion};
+ghost use Rattle.insn_codec.specs.Fits.{IsInsn};
+ghost use Rattle.insn_codec.specs.Spelling.{size, len_from};
 
 use super::*;
 use mon_base::{Bytes, List};
@@ -16,8 +19,13 @@ const EVERY: [&str; 5] = [
     "b900070200bb0102bc0abd0102bebfc00102c10102c2c3c4150100c48401008000c60003c70003c800000005b1",
 ];
 
-/// Codes that a Java compiler wrote (ecj 3.32, version 49), a block before a call, and a switch at each padding.
-static CODES: [&str; 12] = [
+/// A check that is put before a call.
+const BLOCK: &str =
+    "13000fc2b2001305a30017b200131103e7a3000eb200130460b30013a7000a104db8001901bf13000fc3";
+
+/// Codes that a Java compiler wrote (ecj 3.32, version 49), a block in place of a call, a switch at each padding, and
+/// jumps to the first instruction and to the last.
+static CODES: [&str; 16] = [
     "2ab7001b2a1215b5001cb1",
     "bb000159b7002f4c2bb900300100b1",
     "2ab7000c2abb000e59b70010b50011b1",
@@ -30,12 +38,18 @@ static CODES: [&str; 12] = [
     "00aa0000000000130000000500000005ffffffffb1",
     "0000aa00000000120000000500000005fffffffeb1",
     "000000aa000000110000000500000005fffffffdb1",
+    "00a7ffff",
+    "a70003b1",
+    "00c8ffffffff",
+    "a7000610aab1c800000000",
 ];
 
 /// Codes that are none, the number of the fault, and its place.
-static REFUSED: [(&str, u32, u64); 28] = [
+static REFUSED: [(&str, u32, u64); 37] = [
     ("00ca", 121, 1),
     ("ba", 121, 0),
+    ("61ca", 124, 0),
+    ("ca61", 121, 0),
     ("0060610000", 124, 2),
     ("bc06", 124, 0),
     ("bc0b", 124, 0),
@@ -47,6 +61,8 @@ static REFUSED: [(&str, u32, u64); 28] = [
     ("c41500", 122, 0),
     ("c484000100", 122, 0),
     ("c460b1", 125, 0),
+    ("c4160001b1", 125, 0),
+    ("c4170001b1", 125, 0),
     ("c4c4c4c4", 125, 0),
     ("b900010101", 125, 0),
     ("00aa0000", 122, 1),
@@ -55,6 +71,7 @@ static REFUSED: [(&str, u32, u64); 28] = [
     ("aa010000000000000000000000000000", 122, 0),
     ("aa01000000000000000000000000000000000000", 125, 0),
     ("ab00000000000000ffffffff", 125, 0),
+    ("ab000000000000007fffffff", 122, 0),
     (
         "ab0000000000000000000002000000070000000000000007000000",
         122,
@@ -66,10 +83,26 @@ static REFUSED: [(&str, u32, u64); 28] = [
         0,
     ),
     ("a70001b1", 123, 0),
+    ("a7000100", 123, 0),
+    ("a7000110", 122, 3),
+    ("c800000006b1", 123, 0),
     ("a70004b1", 123, 0),
     ("00a7fffe00", 123, 1),
     ("a7000161", 124, 3),
     ("a7000310051000", 126, 5),
+    ("b100", 126, 1),
+];
+
+/// Opcodes and their names.
+static NAMES: [(u8, &str); 8] = [
+    (0, "nop"),
+    (2, "iconst_m1"),
+    (0x9F, "if_icmpeq"),
+    (0xB1, "return"),
+    (0xB9, "invokeinterface"),
+    (0xC9, "jsr_w"),
+    (0xCA, ""),
+    (0xFF, ""),
 ];
 
 fn digit(character: u8) -> u8
@@ -94,6 +127,16 @@ fn bytes_of(alloc: Global, lines: &[&str]) -> Result<Vec<u8>, AllocError> {
     for line in lines {
         push_line(&mut bytes, line.as_bytes())?;
     }
+    Ok(bytes)
+}
+
+/// The bytes of the lines, 32,719 instructions that do nothing, and a `return`.
+fn long_code(alloc: Global, lines: &[&str]) -> Result<Vec<u8>, AllocError> {
+    let mut bytes = bytes_of(alloc, lines)?;
+    for _ in 0..32_719 {
+        bytes.push(0)?;
+    }
+    bytes.push(0xB1)?;
     Ok(bytes)
 }
 
@@ -140,6 +183,79 @@ fn fault_of(alloc: Global, bytes: &[u8]) -> Option<CodeFault> {
     read_code(alloc, bytes).err()
 }
 
+/// Appends an instruction.
+fn add(insns: &mut Vec<Insn>, insn: Insn) -> Result<(), AllocError>
+    requires each { AllByRecursion IsInsn insns.old.items }
+    requires insn { IsInsn insn }
+    ensures each { OnOk result (AllByRecursion IsInsn insns.new.items) }
+    ensures len { OnOk result (len_from 0 insns.new.items
+        ≡ len_from 0 insns.old.items + size (len_from 0 insns.old.items) insn) }
+{
+    insns.push(insn)?;
+    Ok(())
+}
+
+/// Appends instructions that do nothing.
+#[tactic(auto, unfolding(crate::specs::Opcodes::opcode_at))]
+fn add_nops(insns: &mut Vec<Insn>, count: u32) -> Result<(), AllocError>
+    requires each { AllByRecursion IsInsn insns.old.items }
+    ensures each { OnOk result (AllByRecursion IsInsn insns.new.items) }
+    ensures len { OnOk result (len_from 0 insns.new.items ≡ len_from 0 insns.old.items + count) }
+{
+    for _ in 0..count {
+        add(insns, Insn::Plain(0))?;
+    }
+    Ok(())
+}
+
+/// How a code of `count` instructions that do nothing, and a `return`, is written.
+#[tactic(auto, unfolding(crate::specs::Opcodes::opcode_at, crate::specs::Spelling::len_from))]
+fn write_nops(alloc: Global, count: u32) -> Result<Result<Bytes, CodeOverflow>, AllocError>
+    requires { count < 2 ^ 17 }
+{
+    let mut insns = Vec::new(alloc);
+    add_nops(&mut insns, count)?;
+    add(&mut insns, Insn::Plain(0xB1))?;
+    Ok(write_code(alloc, &insns))
+}
+
+/// How a code is written that jumps twice over `count` instructions to its last.
+#[tactic(auto, unfolding(crate::specs::Opcodes::opcode_at, crate::specs::Spelling::len_from))]
+fn write_ahead(alloc: Global, count: u32) -> Result<Result<Bytes, CodeOverflow>, AllocError>
+    requires { count < 2 ^ 17 }
+{
+    let mut insns = Vec::new(alloc);
+    add(&mut insns, Insn::Plain(0x1A))?;
+    add(
+        &mut insns,
+        Insn::Branch {
+            op: 0x99,
+            to: count + 3,
+        },
+    )?;
+    add(
+        &mut insns,
+        Insn::Branch {
+            op: 0xA7,
+            to: count + 3,
+        },
+    )?;
+    add_nops(&mut insns, count)?;
+    add(&mut insns, Insn::Plain(0xB1))?;
+    Ok(write_code(alloc, &insns))
+}
+
+/// How a code is written that jumps back over `count` instructions to its first.
+#[tactic(auto, unfolding(crate::specs::Opcodes::opcode_at, crate::specs::Spelling::len_from))]
+fn write_back(alloc: Global, count: u32) -> Result<Result<Bytes, CodeOverflow>, AllocError>
+    requires { count < 2 ^ 17 }
+{
+    let mut insns = Vec::new(alloc);
+    add_nops(&mut insns, count)?;
+    add(&mut insns, Insn::Branch { op: 0xA7, to: 0 })?;
+    Ok(write_code(alloc, &insns))
+}
+
 #[test]
 fn known_codes_both_ways(rt: HostRuntime) -> Result<(), Fail> {
     let alloc = rt.alloc();
@@ -171,6 +287,101 @@ fn the_first_fault(rt: HostRuntime) -> Result<(), Fail> {
         let bytes = bytes_of(alloc, &[*line])?;
         let fault = fault_of(alloc, &bytes).ok_or("the bytes are no code")?;
         assert_eq!(rt; (fault.number(), place_of(fault)), (*number, *at));
+    }
+    Ok(())
+}
+
+#[test]
+fn the_opcode_of_a_fault(rt: HostRuntime) -> Result<(), Fail> {
+    let alloc = rt.alloc();
+    assert!(rt; fault_of(alloc, &[0, 0xCA]) == Some(CodeFault::Opcode { at: 1, op: 0xCA }));
+    assert!(rt; fault_of(alloc, &[0, 0x61]) == Some(CodeFault::LeftOut { at: 1, op: 0x61 }));
+    assert!(rt; fault_of(alloc, &[0xBC, 11]) == Some(CodeFault::LeftOut { at: 0, op: 0xBC }));
+    Ok(())
+}
+
+#[test]
+fn many_wides(rt: HostRuntime) -> Result<(), Fail> {
+    let alloc = rt.alloc();
+    let bytes = vec![in alloc; 0xC4; 65_535]?;
+    assert!(rt; fault_of(alloc, &bytes) == Some(CodeFault::Form { at: 0 }));
+    Ok(())
+}
+
+#[test]
+fn a_block_before_a_switch(rt: HostRuntime) -> Result<(), Fail> {
+    let alloc = rt.alloc();
+    let bytes = bytes_of(
+        alloc,
+        &[BLOCK, "b8000d1aaa00000000120000000000000000", "00000012b1"],
+    )?;
+    let written = again(alloc, &bytes).ok_or("the bytes are a code")?;
+    assert_eq!(rt; written.as_slice(), bytes.as_slice());
+    let starts = starts_in(alloc, &bytes).ok_or("the bytes are a code")?;
+    assert!(rt; starts.as_slice().ends_with(&[42, 45, 46, 64, 65]));
+    Ok(())
+}
+
+#[test]
+fn a_block_under_a_jump(rt: HostRuntime) -> Result<(), Fail> {
+    let alloc = rt.alloc();
+    let before = long_code(alloc, &["1a997fd5b8000d"])?;
+    let written = again(alloc, &before).ok_or("the bytes are a code")?;
+    assert!(rt; written.as_slice() == before.as_slice());
+    let after = long_code(alloc, &["1a997fff", BLOCK, "b8000d"])?;
+    let written = again(alloc, &after).ok_or("the bytes are a code")?;
+    assert!(rt; written.as_slice() == after.as_slice());
+    Ok(())
+}
+
+#[test]
+fn the_longest_code(rt: HostRuntime) -> Result<(), Fail> {
+    let alloc = rt.alloc();
+    let longest = write_nops(alloc, 65_534)?;
+    assert!(rt; longest.is_ok_and(|bytes| bytes.as_slice().len() == 65_535));
+    let longer = write_nops(alloc, 65_535)?;
+    assert!(rt; longer.err() == Some(CodeOverflow::Length { value: 65_536 }));
+    Ok(())
+}
+
+#[test]
+fn the_farthest_jump_ahead(rt: HostRuntime) -> Result<(), Fail> {
+    let alloc = rt.alloc();
+    let farthest = write_ahead(alloc, 32_761)?;
+    assert!(rt;
+        farthest.is_ok_and(|bytes| bytes
+            .as_slice()
+            .starts_with(&[0x1A, 0x99, 0x7F, 0xFF, 0xA7, 0x7F, 0xFC]))
+    );
+    let farther = write_ahead(alloc, 32_762)?;
+    assert!(rt; farther.err() == Some(CodeOverflow::Branch { value: 32_768 }));
+    Ok(())
+}
+
+#[test]
+fn the_first_overflow(rt: HostRuntime) -> Result<(), Fail> {
+    let alloc = rt.alloc();
+    let both = write_ahead(alloc, 65_527)?;
+    assert!(rt; both.err() == Some(CodeOverflow::Branch { value: 65_533 }));
+    let longer = write_ahead(alloc, 65_528)?;
+    assert!(rt; longer.err() == Some(CodeOverflow::Length { value: 65_536 }));
+    Ok(())
+}
+
+#[test]
+fn the_farthest_jump_back(rt: HostRuntime) -> Result<(), Fail> {
+    let alloc = rt.alloc();
+    let farthest = write_back(alloc, 32_768)?;
+    assert!(rt; farthest.is_ok_and(|bytes| bytes.as_slice().ends_with(&[0xA7, 0x80, 0x00])));
+    let farther = write_back(alloc, 32_769)?;
+    assert!(rt; farther.err() == Some(CodeOverflow::Branch { value: -32_769 }));
+    Ok(())
+}
+
+#[test]
+fn names(rt: HostRuntime) -> Result<(), Fail> {
+    for (op, name) in &NAMES {
+        assert_eq!(rt; name_of(*op), name.as_bytes());
     }
     Ok(())
 }

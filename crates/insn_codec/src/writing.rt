@@ -1,6 +1,7 @@
 //! Writing instructions. (The Java Virtual Machine Specification, section 6.5.)
 
-ghost use Rattle.std.specs.Prelude.{◌≡◌, ◌++◌, ◌<◌, ◌^◌, ◌-ℤ◌, ◌+ℤ◌, ◌≤ℤ◌, pos, [], length, slice_index, replicate, OnOk, IfOk, Ok, Err, ℕ, List, ◌≤◌};
+ghost use Rattle.std.specs.Prelude.{◌≡◌, ◌<◌, ◌≤◌, ◌^◌, ℕ, ◌-ℤ◌, ◌+ℤ◌, ◌≤ℤ◌, pos, OnOk, IfOk, Ok, Err};
+ghost use Rattle.std.specs.Prelude.{List, [], ◌++◌, length, slice_index, replicate};
 ghost use Rattle.std.specs.List.{flat_map, AllByRecursion};
 ghost use Rattle.insn_codec.specs.Spelling.{u1, u2, u4, i1, i2, i4, offset, padding, case, cases, bytes_of, bytes_from};
 ghost use Rattle.insn_codec.specs.Spelling.{range, keyed, len_from, size, starts_of, spelling};
@@ -113,7 +114,8 @@ fn put_all_far(
     targets: &[u32],
 ) -> Result<(), CodeOverflow>
     requires { at < 2 ^ 32 }
-    ensures { Puts result (all_far starts.now at targets.now) (flat_map (λ to. i4 (offset starts.now at to)) targets.now) out.old out.new }
+    ensures { Puts result (all_far starts.now at targets.now)
+        (flat_map (λ to. i4 (offset starts.now at to)) targets.now) out.old out.new }
 {
     let mut left = targets;
     while let [first, rest @ ..] = left {
@@ -132,7 +134,8 @@ fn put_switch(
     other: u32,
 ) -> Result<(), CodeOverflow>
     requires { at < 2 ^ 32 }
-    ensures { Puts result (far starts.now at other) (u1 op ++ (replicate (padding at) 0 ++ i4 (offset starts.now at other))) out.old out.new }
+    ensures { Puts result (far starts.now at other)
+        (u1 op ++ (replicate (padding at) 0 ++ i4 (offset starts.now at other))) out.old out.new }
 {
     out.push(op)?;
     put_zeros(out, 3 - at % 4)?;
@@ -174,7 +177,8 @@ fn put_cases(
 ) -> Result<(), CodeOverflow>
     requires place { at < 2 ^ 32 }
     requires same { length keys.now ≡ length targets.now }
-    ensures { Puts result (all_far starts.now at targets.now) (flat_map (case starts.now at) (cases keys.now targets.now)) out.old out.new }
+    ensures { Puts result (all_far starts.now at targets.now)
+        (flat_map (case starts.now at) (cases keys.now targets.now)) out.old out.new }
 {
     for i in 0..targets.len() {
         put_i4(out, keys[i])?;

@@ -1,4 +1,4 @@
-use Rattle.std.proofs.Common.{◌∙◌, arith}
+use Rattle.std.proofs.Common.{arith}
 use Rattle.insn_codec.specs.Spelling.{len_from}
 use Rattle.insn_codec.specs.Reading.{ended}
 use Rattle.insn_codec.proofs.Standing.{fits_size, two_left, len_step, ended_step}

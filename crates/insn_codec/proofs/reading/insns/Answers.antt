@@ -1,11 +1,7 @@
-use Rattle.std.proofs.Common.{ℕ, ◌≡◌, ◌≤◌, ◌<◌, ◌-◌, List, [], length, sym, ap, ◌∙◌, refl, arith}
+use Rattle.std.proofs.Common.{◌≡◌, [], length, sym, ◌∙◌, refl, arith}
 use Rattle.std.proofs.lemmas.Result.{err_from_is_err_and}
 use Rattle.mon_base.specs.Reading.{Place}
-use Rattle.insn_codec.specs.declared.insn.Insn.{Insn}
-use Rattle.insn_codec.specs.Spelling.{len_from}
-use Rattle.insn_codec.specs.Reading.{end_of, insns_at}
 use Rattle.insn_codec.specs.Targets.{finds}
-use Rattle.insn_codec.proofs.Loop.{with_front}
 use Rattle.insn_codec.proofs.Sequence.{goes_on, ends, whole, not_read, done, starts_off, len_on, moved_on, left_over, no_more}
 use Rattle.insn_codec.proofs.Standing.{len_none}
 use Rattle.insn_codec.proofs.reading.insns.Goals as goal

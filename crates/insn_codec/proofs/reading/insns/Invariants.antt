@@ -1,4 +1,4 @@
-use Rattle.std.proofs.Common.{◌≡◌, ◌≤◌, ◌-◌, ◌+◌, length}
+use Rattle.std.proofs.Common.{◌≡◌, ◌≤◌, ◌-◌, length}
 use Rattle.insn_codec.specs.Spelling.{len_from}
 use Rattle.insn_codec.specs.Reading.{end_of, insns_at}
 use Rattle.insn_codec.specs.Targets.{finds}

@@ -3,7 +3,7 @@ use Rattle.std.proofs.lemmas.Result.{err_from_is_err_and}
 use Rattle.insn_codec.specs.Spelling.{len_from, bytes_from}
 use Rattle.insn_codec.specs.Writing.{reach_from}
 use Rattle.insn_codec.proofs.Putting.{reach_ends, reach_on, bytes_on, reach_done, bytes_done, first_fits, others_fit}
-use Rattle.insn_codec.proofs.Standing.{fits_size, len_step, size-some}
+use Rattle.insn_codec.proofs.Standing.{fits_size, len_step}
 use Rattle.insn_codec.proofs.writing.put_all.Goals as goal
 
 pub put_insn-requires : goal.put_insn-requires

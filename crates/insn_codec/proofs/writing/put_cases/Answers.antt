@@ -1,6 +1,6 @@
 use Rattle.std.specs.Int.{w32}
 use Rattle.std.proofs.lemmas.Int.{to_z-of_z}
-use Rattle.std.proofs.Common.{ℕ, ℤ, pos, List, get_or, FitsSigned, rules, ◌≡◌, ◌<◌, ◌≤◌, length, ◌++◌, ap, ◌∙◌, arith}
+use Rattle.std.proofs.Common.{ℕ, ℤ, pos, List, get_or, FitsSigned, rules, ◌<◌, length, ◌++◌, ap, ◌∙◌, arith}
 use Rattle.std.proofs.lemmas.Result.{err_from_is_err_and}
 use Rattle.std.specs.List.{flat_map}
 use Rattle.insn_codec.specs.Spelling.{i4, offset, case, cases}

@@ -1,9 +1,8 @@
 use Rattle.std.proofs.Common.{ℕ, ◌≡◌, ◌≤◌, List, Ok, ◌++◌, ◌∙◌, ap, sym, subst}
 use Rattle.std.proofs.lemmas.Result.{err_from_is_err_and}
-use Rattle.insn_codec.specs.declared.fault.CodeOverflow.TheVariants.{Length}
 use Rattle.insn_codec.specs.Spelling.{starts_of, len_from, bytes_from, spelling}
-use Rattle.insn_codec.specs.Writing.{reach_from, written, FailsTo}
-use Rattle.insn_codec.proofs.Putting.{is_written, too_long, too_far, told_long}
+use Rattle.insn_codec.specs.Writing.{reach_from, FailsTo}
+use Rattle.insn_codec.proofs.Putting.{is_written, too_long, too_far}
 use Rattle.insn_codec.proofs.writing.written.Goals as goal
 
 pub returns-then-value-gt65535 : goal.returns-then-value-gt65535

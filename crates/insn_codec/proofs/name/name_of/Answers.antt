@@ -1,0 +1,7 @@
+use Rattle.std.proofs.Common.{sym, ap}
+use Rattle.insn_codec.specs.Opcodes.{Opcode}
+use Rattle.insn_codec.proofs.Opcodes.{no_opcode}
+use Rattle.insn_codec.proofs.name.name_of.Goals as goal
+
+pub returns-then-op-ge202 : goal.returns-then-op-ge202
+returns-then-op-ge202 c = ap (λ (o : Opcode). o.name) (sym (no_opcode c.args.op c.if-op-ge202.true))
