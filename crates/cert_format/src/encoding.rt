@@ -137,7 +137,7 @@ trait Paired {
     type Notes;
 
     /// Their bytes, with the table of names.
-    ghost spelled: { Items (Items ℕ) → Self × Notes → Items ℕ };
+    ghost spelled: { Items (Items ℕ) → Self × Self.Notes → Items ℕ };
 
     /// Appends them.
     fn put(&self, notes: &Self::Notes, index: &Index, out: &mut Bytes) -> Result<(), NoMemory>

@@ -1,7 +1,6 @@
 //! The names of a certificate that is written, and their places.
 
-ghost use Rattle.std.specs.Prelude.{◌≡◌, [], ◌++◌, length, OnOk};
-ghost use Rattle.std.specs.List.{map};
+ghost use Rattle.std.specs.Prelude.{◌≡◌, [], ◌++◌, length, map, OnOk};
 ghost use Rattle.cert_format.specs.Names.{place_of, with_name};
 ghost use Rattle.cert_format.specs.Spelling.{spell_names};
 
@@ -19,8 +18,7 @@ pub struct Index<'a> {
 }
 
 impl<'a> Model for Index<'a> {
-    ghost use Rattle.std.specs.Prelude.{ℕ, List};
-    ghost use Rattle.std.specs.List.{map};
+    ghost use Rattle.std.specs.Prelude.{ℕ, List, map};
     ghost use Rattle.cert_format.specs.Index.{HasPlaces};
 
     ghost Value = { List (List ℕ) };
