@@ -36,6 +36,11 @@ abbrev pub Reads : {X : Type 0} → Result X CertForm → Read X → Place → T
 Reads (Ok x) read new = read ≡ Ok (x, new)
 Reads (Err e) read new = Fails e read
 
+-- the same of an answer that is seen by view
+abbrev pub ReadsAs : {X Y : Type 0} → (X → Y) → Result X CertForm → Read Y → Place → Type 0
+ReadsAs view (Ok x) read new = read ≡ Ok (view x, new)
+ReadsAs view (Err e) read new = Fails e read
+
 -- the same, with how many names are used after it
 abbrev pub Uses : {X : Type 0} → Result X CertForm → Read (X × ℕ) → ℕ → Place → Type 0
 Uses (Ok x) read used new = read ≡ Ok ((x, used), new)
@@ -221,41 +226,28 @@ phase_at p = do
 
 unfoldable pub site_at : Place → Read Site
 site_at p = do
-  method ← u2_at p
-  phase ← phase_at method.1
-  base ← u2_at phase.1
-  Ok (record { method = method.0; phase = phase.0; base = base.0 }, base.1)
+  x ← pair_at u2_at (pair_at phase_at u2_at) p
+  Ok (record { method = x.0.0; phase = x.0.1.0; base = x.0.1.1 }, x.1)
 
 unfoldable pub held_at : ℕ → Place → Read Note
 held_at vars p = do
-  site ← site_at p
-  failed ← u1_at site.1
-  holding ← u1_at failed.1
-  stack ← terms_at holding.1
-  map ← counted term_at vars stack.1
-  Ok (notes.Held site.0 failed.0 holding.0 stack.0 map.0, map.1)
+  x ← pair_at site_at (pair_at u1_at (pair_at u1_at (pair_at terms_at (counted term_at vars)))) p
+  Ok (notes.Held x.0.0 x.0.1.0 x.0.1.1.0 x.0.1.1.1.0 x.0.1.1.1.1, x.1)
 
 unfoldable pub granted_at : Place → Read Note
 granted_at p = do
-  site ← site_at p
-  locked ← flag_at site.1
-  loaded ← u1_at locked.1
-  top ← flag_at loaded.1
-  Ok (notes.Granted site.0 locked.0 loaded.0 top.0, top.1)
+  x ← pair_at site_at (pair_at flag_at (pair_at u1_at flag_at)) p
+  Ok (notes.Granted x.0.0 x.0.1.0 x.0.1.1.0 x.0.1.1.1, x.1)
 
 unfoldable pub owed_at : Place → Read Note
 owed_at p = do
-  site ← site_at p
-  stage ← u1_at site.1
-  kept ← flag_at stage.1
-  top ← flag_at kept.1
-  Ok (notes.Owed site.0 stage.0 kept.0 top.0, top.1)
+  x ← pair_at site_at (pair_at u1_at (pair_at flag_at flag_at)) p
+  Ok (notes.Owed x.0.0 x.0.1.0 x.0.1.1.0 x.0.1.1.1, x.1)
 
 unfoldable pub stop_at : Place → Read Note
 stop_at p = do
-  site ← site_at p
-  place ← u1_at site.1
-  Ok (notes.Stop site.0 place.0, place.1)
+  x ← pair_at site_at u1_at p
+  Ok (notes.Stop x.0.0 x.0.1, x.1)
 
 -- a note that begins at `at`, after its kind
 unfoldable pub note_of_kind : ℕ → ℕ → ℕ → Place → Read Note

@@ -1,6 +1,6 @@
 //! Writing certificates.
 
-ghost use Rattle.std.specs.Prelude.{◌≡◌, ◌≤◌, ◌<◌, ◌++◌, ℕ, List, length, OnOk, IfOk, IfErr};
+ghost use Rattle.std.specs.Prelude.{◌≡◌, ◌≤◌, ◌<◌, ◌++◌, ℕ, List as Items, length, OnOk, IfOk, IfErr};
 ghost use Rattle.std.specs.List.{flat_map, zip};
 ghost use Rattle.cert_format.specs.declared.certificate.Certificate.{Certificate};
 ghost use Rattle.cert_format.specs.Names.{with_names, type_names, frame_names, method_names, class_names};
@@ -153,8 +153,8 @@ fn put_all<T: Paired>(
 ) -> Result<(), NoMemory>
     ensures { OnOk result (out.new ≡ out.old ++ flat_map (T.spelled index.now) (zip frames.now notes.now)) }
 {
-    for (frame, note) in frames.iter().zip(notes) {
-        frame.put(note, index, out)?;
+    for i in 0..frames.len().min(notes.len()) {
+        frames[i].put(&notes[i], index, out)?;
     }
     Ok(())
 }
@@ -247,6 +247,6 @@ pub fn encode(alloc: Global, cert: &Certificate) -> Result<Bytes, CertLong>
 
 /// A text is of one certificate, and a certificate has one text. (Nothing to run: the clauses are laws.)
 pub fn one_spelling()
-    ensures certificate { (bytes : List ℕ) (vars : ℕ) (c d : Certificate) → SpellsCertificate bytes vars c → SpellsCertificate bytes vars d → c ≡ d }
-    ensures bytes { (a b : List ℕ) (vars : ℕ) (c : Certificate) → SpellsCertificate a vars c → SpellsCertificate b vars c → a ≡ b }
+    ensures certificate { (bytes : Items ℕ) (vars : ℕ) (c d : Certificate) → SpellsCertificate bytes vars c → SpellsCertificate bytes vars d → c ≡ d }
+    ensures bytes { (a b : Items ℕ) (vars : ℕ) (c : Certificate) → SpellsCertificate a vars c → SpellsCertificate b vars c → a ≡ b }
 {}

@@ -74,7 +74,7 @@ fn phase(from: &mut Cursor) -> Result<Phase8, CertForm>
 }
 
 /// A site.
-#[tactic(auto, unfolding(crate::specs::Reading::site_at))]
+#[tactic(auto, unfolding(crate::specs::Reading::site_at, crate::specs::Reading::pair_at))]
 fn site(from: &mut Cursor) -> Result<Site, CertForm>
     ensures { Reads result (site_at from.old) from.new }
 {
@@ -89,7 +89,7 @@ fn site(from: &mut Cursor) -> Result<Site, CertForm>
 }
 
 /// What follows the kind of Held, with a map of so many variables.
-#[tactic(auto, unfolding(crate::specs::Reading::held_at))]
+#[tactic(auto, unfolding(crate::specs::Reading::held_at, crate::specs::Reading::pair_at))]
 fn held(alloc: Global, vars: u32, from: &mut Cursor) -> Result<Note, CertForm>
     ensures { Reads result (held_at vars from.old) from.new }
 {
@@ -108,7 +108,7 @@ fn held(alloc: Global, vars: u32, from: &mut Cursor) -> Result<Note, CertForm>
 }
 
 /// What follows the kind of Granted.
-#[tactic(auto, unfolding(crate::specs::Reading::granted_at))]
+#[tactic(auto, unfolding(crate::specs::Reading::granted_at, crate::specs::Reading::pair_at))]
 fn granted(from: &mut Cursor) -> Result<Note, CertForm>
     ensures { Reads result (granted_at from.old) from.new }
 {
@@ -125,7 +125,7 @@ fn granted(from: &mut Cursor) -> Result<Note, CertForm>
 }
 
 /// What follows the kind of Owed.
-#[tactic(auto, unfolding(crate::specs::Reading::owed_at))]
+#[tactic(auto, unfolding(crate::specs::Reading::owed_at, crate::specs::Reading::pair_at))]
 fn owed(from: &mut Cursor) -> Result<Note, CertForm>
     ensures { Reads result (owed_at from.old) from.new }
 {
@@ -142,7 +142,7 @@ fn owed(from: &mut Cursor) -> Result<Note, CertForm>
 }
 
 /// What follows the kind of Stop.
-#[tactic(auto, unfolding(crate::specs::Reading::stop_at))]
+#[tactic(auto, unfolding(crate::specs::Reading::stop_at, crate::specs::Reading::pair_at))]
 fn stop(from: &mut Cursor) -> Result<Note, CertForm>
     ensures { Reads result (stop_at from.old) from.new }
 {

@@ -5,7 +5,7 @@ ghost use Rattle.std.specs.List.{flat_map};
 ghost use Rattle.cert_format.specs.Spelling.{u1, u2, spell_term, spell_terms, spell_phase, spell_site, spell_note};
 
 use crate::note::{Note, Phase8, Site, Term};
-use crate::writing::{put_flag, put_i4, put_u2};
+use crate::writing::{put_flag, put_i4, put_u1, put_u2};
 use mon_base::{Bytes, NoMemory};
 
 /// Appends a term.
@@ -42,7 +42,7 @@ fn put_map(out: &mut Bytes, terms: &[Term]) -> Result<(), NoMemory>
 fn put_terms(out: &mut Bytes, terms: &[Term]) -> Result<(), NoMemory>
     ensures { OnOk result (out.new ≡ out.old ++ spell_terms terms.now) }
 {
-    out.push(terms.len() as u8)?;
+    put_u1(out, terms.len())?;
     put_map(out, terms)
 }
 

@@ -1,7 +1,6 @@
 //! Numbers and byte strings at a place of the certificate.
 
-ghost use Rattle.std.specs.Prelude.{IfOk};
-ghost use Rattle.cert_format.specs.Reading.{Reads, u1_at, u2_at, u4_at, i4_at, taken_at, flag_at};
+ghost use Rattle.cert_format.specs.Reading.{Reads, ReadsAs, u1_at, u2_at, u4_at, i4_at, taken_at, flag_at};
 
 use crate::fault::CertForm;
 use mon_base::Cursor;
@@ -40,6 +39,15 @@ pub fn i4(from: &mut Cursor) -> Result<i32, CertForm>
 {
     let at = from.position();
     from.i4().ok_or(CertForm::Form { at })
+}
+
+/// The next `n` bytes.
+#[tactic(auto, unfolding(crate::specs::Reading::taken_at))]
+pub fn taken<'a>(n: usize, from: &mut Cursor<'a>) -> Result<&'a [u8], CertForm>
+    ensures { ReadsAs (λ b. b.now) result (taken_at n from.old) from.new }
+{
+    let at = from.position();
+    from.take(n).ok_or(CertForm::Form { at })
 }
 
 /// A flag: a byte that is 0 or 1.

@@ -1,10 +1,19 @@
 //! Numbers and lists of bytes, the highest byte first.
 
 ghost use Rattle.std.specs.Prelude.{◌≡◌, ◌++◌, OnOk};
-ghost use Rattle.cert_format.specs.Spelling.{u2, u4, i4, flag};
+ghost use Rattle.cert_format.specs.Spelling.{u1, u2, u4, i4, flag};
 
 use byteorder::{BigEndian, ByteOrder};
 use mon_base::{Bytes, NoMemory};
+
+/// Appends the lowest byte of the number.
+pub fn put_u1(out: &mut Bytes, n: usize) -> Result<(), NoMemory>
+    ensures { OnOk result (out.new ≡ out.old ++ u1 n) }
+{
+    let mut bytes = [0u8; 8];
+    BigEndian::write_u64(&mut bytes, n as u64);
+    out.extend(&bytes[7..])
+}
 
 /// Appends the lowest two bytes of the number.
 pub fn put_u2(out: &mut Bytes, n: usize) -> Result<(), NoMemory>
