@@ -1,12 +1,18 @@
 -- The places of names.
-use Rattle.std.proofs.Common.{◌≡◌, ℕ, zero, suc, ◌+◌, ◌<◌, ◌≤◌, Bool, true, false, cond, ltb, List, [], ◌∷◌, ◌++◌, length, map, get_or, Option, Some, None, inl, inr, refl, sym, ap, ◌∙◌, Bor, arith}
-use Rattle.std.specs.Prelude.{bytes_eq}
+use Rattle.std.proofs.Common.{◌≡◌, ℕ, zero, suc, ◌+◌, ◌<◌, ◌≤◌, Bool, true, false, cond, ltb, List, [], ◌∷◌, ◌++◌, length, map, take, get_or, ◌-◌, Option, Some, None, Result, Ok, Err, OnOk, inl, inr, refl, sym, ap, ◌∙◌, Bor, arith}
+use Rattle.std.specs.Prelude.{bytes_eq, is_some, is_err}
+use Rattle.std.specs.BTreeMap.{BTreeMap, get_by}
+use Rattle.std.specs.BTreeSet.{BTreeSet, contains_by}
+use Rattle.std.specs.Ordering.{nat_cmp, is_eq}
+use Rattle.std.specs.Cmp.Lexicographic.{slice_cmp}
+use Rattle.std.proofs.lemmas.Map.Text.{is_eq-slice_cmp}
 use Rattle.std.specs.List.{flat_map}
 use Rattle.std.proofs.lemmas.Bool.{cases_lt, le-ltb, lt-ltb, ltb-true, ltb-false, false≢true}
-use Rattle.std.proofs.lemmas.List.{length-append}
+use Rattle.std.proofs.lemmas.List.{length-append, take_all}
 use Rattle.std.proofs.lemmas.Slice.Eq.{bytes_eq-Decides}
 use Rattle.cert_format.specs.Names.{Name, place_of, with_name}
-use Rattle.cert_format.specs.Index.{found, stands}
+use Rattle.cert_format.specs.Index.{found, stands, HasNames, HasPlaces}
+use Rattle.cert_format.specs.Spelling.{u4, spell_name, spell_names}
 
 -- where the name stands it is found no later
 pub place-le : (names : List Name) (i : ℕ) → i < length names → place_of names (get_or names i []) ≤ i
@@ -133,3 +139,44 @@ not_there names name e = by (stands names name) e where
   by : (s : Bool) → cond s (Some (place_of names name)) None ≡ None → s ≡ false
   by true e = absurd cc
   by false e = refl
+
+-- ---- sets and maps of names
+
+pub has_next : (before : List Name) (old new : BTreeSet (Bor Name)) (x : Name) → HasNames before old
+    → ((q : Bor Name) → contains_by (λ key. slice_cmp nat_cmp q.now key.now) new ≡ cond (is_eq (slice_cmp nat_cmp x q.now)) true (contains_by (λ key. slice_cmp nat_cmp q.now key.now) old))
+    → HasNames (before ++ x ∷ []) new
+has_next before old new x has updates name =
+    let q : Bor Name = record { ref_ptr = (0, 0); now = name } in
+    updates q ∙ rw (is_eq-slice_cmp x name, has name) (sym (stands-more before x name))
+
+now-more : (names : List (Bor Name)) (x : Bor Name) → map (λ name. name.now) (names ++ x ∷ []) ≡ map (λ name. name.now) names ++ x.now ∷ []
+now-more [] x = refl
+now-more (y ∷ names) x = ap (λ (t : List Name). y.now ∷ t) (now-more names x)
+
+none_is : {A : Type 0} (r : Option A) → is_some r ≡ false → r ≡ None
+none_is None e = refl
+none_is (Some x) e = absurd (false≢true (sym e))
+
+pub places_next : (names all : List (Bor Name)) (old new : BTreeMap (Bor Name) ℕ) (x : Bor Name) (len : ℕ)
+    → HasPlaces (map (λ name. name.now) names) old → is_some (get_by (λ key. slice_cmp nat_cmp x.now key.now) old) ≡ false
+    → all ≡ names ++ x ∷ [] → len ≡ length all
+    → ((q : Bor Name) → get_by (λ key. slice_cmp nat_cmp q.now key.now) new ≡ cond (is_eq (slice_cmp nat_cmp x.now q.now)) (Some (len - 1)) (get_by (λ key. slice_cmp nat_cmp q.now key.now) old))
+    → HasPlaces (map (λ name. name.now) all) new
+places_next names all old new x len has absent is len_is updates name =
+    let ns : List Name = map (λ name. name.now) names in
+    let q : Bor Name = record { ref_ptr = (0, 0); now = name } in
+    let new_one : stands ns x.now ≡ false = not_there ns x.now (sym (has x.now) ∙ none_is _ absent) in
+    let place : len - 1 ≡ length ns = omega (arith, len_is, ap length is, length-append names (x ∷ []), length-now names) in
+    updates q ∙ rw (is_eq-slice_cmp x.now name, has name, place) (rw (is, now-more names x) (sym (found-more ns x.now name new_one)))
+
+pub on_ok : {A E : Type 0} (r : Result A E) (P : Type 0) → is_err r ≡ false → OnOk r P → P
+on_ok (Ok x) P e h = h
+on_ok (Err x) P e h = absurd (false≢true (sym e))
+
+-- ---- tables that are written
+
+pub table_is : (out old : List ℕ) (names : List (Bor Name)) (i : ℕ) → length names ≤ i
+    → out ≡ old ++ (u4 (length names) ++ flat_map (λ name. spell_name name.now) (take i names))
+    → out ≡ old ++ spell_names (map (λ name. name.now) names)
+table_is out old names i le so_far =
+    rw (length-now names, spelled-now spell_name names) (so_far ∙ ap (λ (ns : List (Bor Name)). old ++ (u4 (length names) ++ flat_map (λ name. spell_name name.now) ns)) (take_all i names le))
