@@ -1,8 +1,11 @@
 -- Loops that read items, one after another.
-use Rattle.std.proofs.Common.{◌≡◌, ℕ, suc, ◌-◌, ◌+◌, ◌≤◌, ◌<◌, List, [], ◌∷◌, ◌++◌, Result, Ok, Err, refl, sym, ap, subst, ◌∙◌, append_assoc, arith}
-use Rattle.std.proofs.lemmas.List.{append-nil}
+use Rattle.std.proofs.Common.{◌≡◌, ℕ, suc, ◌-◌, ◌+◌, ◌≤◌, ◌<◌, List, [], ◌∷◌, ◌++◌, length, get_or, take, min, Result, Ok, Err, refl, sym, ap, subst, ◌∙◌, append_assoc, arith}
+use Rattle.std.specs.List.{flat_map, zip}
+use Rattle.std.proofs.lemmas.List.{append-nil, take_all, take_more}
+use Rattle.std.proofs.lemmas.Grind.{flat_map-append}
+use Rattle.std.proofs.lemmas.Slice.Zip.{length-zip, get_or-zip}
 use Rattle.mon_base.specs.Reading.{Place, ◌>>=◌, counted}
-use Rattle.mon_base.proofs.Reading.{stops} 
+use Rattle.mon_base.proofs.Reading.{stops}
 use Rattle.mon_base.proofs.Reading as base
 use Rattle.cert_format.specs.declared.fault.CertForm.{CertForm}
 use Rattle.cert_format.specs.declared.fault.CertForm.TheVariants.{Form, Memory}
@@ -92,3 +95,20 @@ names_done names count i place total le so_far =
     let k : count - i ≡ 0 = omega arith in
     let one : more_names_at (count - i) names place ≡ Ok (names, place) = rw k refl in
     sym so_far ∙ one
+
+-- ---- two lists at once
+
+pub put_more : {A B : Type 0} (f : A × B → List ℕ) (xs : List A) (ys : List B) (i : ℕ) (x : A) (y : B) (out old new : List ℕ) → i < min (length xs) (length ys)
+    → x ≡ get_or xs i x → y ≡ get_or ys i y
+    → out ≡ old ++ flat_map f (take i (zip xs ys)) → new ≡ out ++ f (x, y) → new ≡ old ++ flat_map f (take (i + 1) (zip xs ys))
+put_more {A = A} {B = B} f xs ys i x y out old new lt x_is y_is so_far more =
+    let long : i < length (zip xs ys) = omega (arith, length-zip xs ys) in
+    let at : get_or (zip xs ys) i (x, y) ≡ (x, y) = get_or-zip xs ys i (x, y) (omega arith) (omega arith) ∙ ap (λ (a : A). (a, get_or ys i y)) (sym x_is) ∙ ap (λ (b : B). (x, b)) (sym y_is) in
+    let step : take (i + 1) (zip xs ys) ≡ take i (zip xs ys) ++ (x, y) ∷ [] = take_more (zip xs ys) i (x, y) long ∙ ap (λ (p : A × B). take i (zip xs ys) ++ p ∷ []) at in
+    let all : flat_map f (take (i + 1) (zip xs ys)) ≡ flat_map f (take i (zip xs ys)) ++ f (x, y) = ap (flat_map f) step ∙ flat_map-append f (take i (zip xs ys)) ((x, y) ∷ []) ∙ ap (λ (t : List ℕ). flat_map f (take i (zip xs ys)) ++ t) (append-nil (f (x, y))) in
+    more ∙ ap (λ (t : List ℕ). t ++ f (x, y)) so_far ∙ append_assoc old (flat_map f (take i (zip xs ys))) (f (x, y)) ∙ ap (λ (t : List ℕ). old ++ t) (sym all)
+
+pub put_done : {A B : Type 0} (f : A × B → List ℕ) (xs : List A) (ys : List B) (i : ℕ) (out old : List ℕ) → min (length xs) (length ys) ≤ i
+    → out ≡ old ++ flat_map f (take i (zip xs ys)) → out ≡ old ++ flat_map f (zip xs ys)
+put_done f xs ys i out old le so_far =
+    so_far ∙ ap (λ t. old ++ flat_map f t) (take_all i (zip xs ys) (omega (arith, length-zip xs ys)))

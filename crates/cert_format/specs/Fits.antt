@@ -64,7 +64,7 @@ abbrev pub FitsNote : ℕ → Note → Type 0
 FitsNote vars notes.Free = ⊤
 FitsNote vars (notes.Taking site) = FitsSite site
 FitsNote vars (notes.Held site failed holding stack map) =
-    FitsSite site × IsU1 failed × IsU1 holding × (IsU1 (length stack) × AllByRecursion FitsTerm stack) × ((length map ≡ vars) × AllByRecursion FitsTerm map)
+    FitsSite site × (IsU1 failed × (IsU1 holding × ((IsU1 (length stack) × AllByRecursion FitsTerm stack) × ((length map ≡ vars) × AllByRecursion FitsTerm map))))
 FitsNote vars (notes.Granted site locked loaded top) = FitsSite site × IsU1 loaded
 FitsNote vars (notes.Owed site stage kept top) = FitsSite site × IsU1 stage
 FitsNote vars (notes.Stop site place) = FitsSite site × IsU1 place

@@ -4,7 +4,8 @@
 -- The types have to use the names of the table in its order. So what reads types is given how many names were used
 -- before, and answers beside the value how many are used after it: a type may use one of these, or the next.
 use Rattle.std.specs.Prelude.{◌≡◌, ℕ, ℤ, zero, suc, ◌+◌, ◌-◌, ◌==◌, ◌&&◌, not, Bool, true, false, List, [], ◌∷◌, ◌++◌, length, get_or, map, Option, Some, None, Result, Ok, Err, ok_or, nat_lt, nat_le, if◌then◌else◌}
-use Rattle.mon_base.specs.Reading.{Place, ◌>>=◌, need, bytes_at, number_at, int_at, counted, whole}
+use Rattle.std.specs.Int.{w32, cast_signed}
+use Rattle.mon_base.specs.Reading.{Place, ◌>>=◌, need, bytes_at, number_at, counted, whole}
 use Rattle.cert_format.specs.declared.fault.CertForm.{CertForm}
 use Rattle.cert_format.specs.declared.fault.CertForm.TheVariants.{Form, Memory}
 use Rattle.cert_format.specs.declared.typing.VType.{VType}
@@ -62,7 +63,9 @@ unfoldable pub u4_at : Place → Read ℕ
 u4_at p = ok_or (number_at 4 p) p.at
 
 unfoldable pub i4_at : Place → Read ℤ
-i4_at p = ok_or (int_at p) p.at
+i4_at p = do
+  n ← u4_at p
+  Ok (cast_signed w32 n.0, n.1)
 
 unfoldable pub taken_at : ℕ → Place → Read (List ℕ)
 taken_at n p = ok_or (bytes_at n p) p.at
@@ -287,9 +290,8 @@ reached_at vars names used p = do
 
 unfoldable pub instruction_at : ℕ → List Name → ℕ → Place → Read ((Option FrameType × Note) × ℕ)
 instruction_at vars names used p = do
-  number ← u1_at p
-  reached ← flag_of p.at number.0
-  if reached then reached_at vars names used number.1 else not_reached_at used number.1
+  reached ← flag_at p
+  if reached.0 then reached_at vars names used reached.1 else not_reached_at used reached.1
 
 unfoldable pub method_at : ℕ → List Name → ℕ → Place → Read ((List (Option FrameType) × List Note) × ℕ)
 method_at vars names used p = do

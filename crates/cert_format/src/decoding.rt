@@ -159,7 +159,7 @@ fn reached(
 impl Item for (Option<FrameType>, Note) {
     ghost item_at = { instruction_at };
 
-    #[tactic(auto, unfolding(crate::specs::Reading::instruction_at, crate::specs::Reading::not_reached_at, crate::specs::Reading::flag_at))]
+    #[tactic(auto, unfolding(crate::specs::Reading::instruction_at, crate::specs::Reading::not_reached_at))]
     fn read(
         alloc: Global,
         table: &Table,

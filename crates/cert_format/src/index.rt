@@ -47,7 +47,7 @@ impl<'a> Index<'a> {
             return Ok(());
         }
         self.names.push(name)?;
-        if self.places.insert(name, self.names.len() - 1).is_err() {
+        if self.places.insert(name, self.names.as_slice().len() - 1).is_err() {
             self.names.pop();
             return Err(NoMemory);
         }
@@ -60,7 +60,7 @@ impl<'a> Index<'a> {
     {
         match self.places.get(name) {
             Some(place) => *place,
-            None => self.names.len(),
+            None => self.names.as_slice().len(),
         }
     }
 

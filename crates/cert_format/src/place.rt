@@ -37,8 +37,7 @@ pub fn u4(from: &mut Cursor) -> Result<u32, CertForm>
 pub fn i4(from: &mut Cursor) -> Result<i32, CertForm>
     ensures { Reads result (i4_at from.old) from.new }
 {
-    let at = from.position();
-    from.i4().ok_or(CertForm::Form { at })
+    Ok(u4(from)?.cast_signed())
 }
 
 /// The next `n` bytes.
