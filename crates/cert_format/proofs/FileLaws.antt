@@ -60,6 +60,7 @@ mode_codes = record {
   back : (at : ℕ) (x : Mode) → mode_of at (mode_code x) ≡ Ok x
   back at modes.Hold = refl
   back at modes.Release = refl
+
   small : (x : Mode) → mode_code x < 256
   small modes.Hold = omega arith
   small modes.Release = omega arith
@@ -187,8 +188,7 @@ names_is = record {
       let c = bind_ok (u4_at place) (λ count. more_names_at count.0 [] count.1) (names, next) e in
       let t = u4_is.takes place c.0.0 c.0.1 fits c.1 in
       let m = more_takes c.0.0 [] c.0.1 names next t.0.fits once-none c.2 in
-      let len : length names ≡ c.0.0 = ap length m.parts ∙ m.count in
-      (
+      let len : length names ≡ c.0.0 = ap length m.parts ∙ m.count in (
         subst (λ (k : ℕ). Took place (u4 k ++ flat_map spell_name names) next) (sym len) (Took-then place (u4 c.0.0) c.0.1 (flat_map spell_name names) next t.0 (subst (λ (ns : List Name). Took c.0.1 (flat_map spell_name ns) next) (sym m.parts) m.took)),
         ((subst IsU4 (sym len) t.1, subst (AllByRecursion FitsName) (sym m.parts) m.fits), m.once),
         tt,
@@ -246,8 +246,7 @@ certificate_is vars = record {
       let t = head_is.takes place m.0.0 m.0.1 fits m.1 in
       let u = names_is.takes m.0.1 n.0.0 n.0.1 t.0.fits n.1 in
       let v = (body_is vars m.0.0 n.0.0 u.1.1 u.1.0.0).takes n.0.1 c next u.0.fits n.2 in
-      let text : spell_head m.0.0 ++ (spell_names n.0.0 ++ spell_body n.0.0 c) ≡ spell_certificate c = ap (λ (x : Mode). spell_head x ++ (spell_names n.0.0 ++ spell_body n.0.0 c)) (sym v.1.mode_is) ∙ ap (λ (ns : List Name). spell_both ns c) (sym v.1.table) in
-      (
+      let text : spell_head m.0.0 ++ (spell_names n.0.0 ++ spell_body n.0.0 c) ≡ spell_certificate c = ap (λ (x : Mode). spell_head x ++ (spell_names n.0.0 ++ spell_body n.0.0 c)) (sym v.1.mode_is) ∙ ap (λ (ns : List Name). spell_both ns c) (sym v.1.table) in (
         subst (λ (w : List ℕ). Took place w next) text (Took-then place (spell_head m.0.0) m.0.1 (spell_names n.0.0 ++ spell_body n.0.0 c) next t.0 (Took-then m.0.1 (spell_names n.0.0) n.0.1 (spell_body n.0.0 c) next u.0 v.0)),
         record { names = subst FitNames (sym v.1.table) u.1.0; classes = v.1.classes },
         tt,

@@ -35,6 +35,7 @@ flag_codes = record {
   back : (at : ℕ) (x : Bool) → flag_of at (flag_code x) ≡ Ok x
   back at false = refl
   back at true = refl
+
   small : (x : Bool) → flag_code x < 256
   small false = omega arith
   small true = omega arith
@@ -67,6 +68,7 @@ phase_codes = record {
   back at phases.Before = refl
   back at phases.After = refl
   back at phases.Exceptional = refl
+
   small : (x : Phase8) → phase_code x < 256
   small phases.Before = omega arith
   small phases.After = omega arith

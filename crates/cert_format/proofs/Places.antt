@@ -86,6 +86,7 @@ stands-more names x name =
     rw (place-more names x name) (by (stands names name) (bytes_eq x name) refl) where
       len : length (names ++ x ∷ []) ≡ suc (length names)
       len = length-append names (x ∷ []) ∙ omega arith
+
       by : (s b : Bool) → stands names name ≡ s
           → ltb (cond s (place_of names name) (cond b (length names) (suc (length names)))) (length (names ++ x ∷ [])) ≡ cond b true s
       by true true e = lt-ltb _ _ (let lt : place_of names name < length names = ltb-true _ _ e in omega (arith, lt, len))

@@ -66,8 +66,10 @@ paired_is {F = F} {N = N} names {lists = lists} count FitsCount spell Fits g is 
         Took place (count (length y.0.0.0) ++ flat_map spell (zip y.0.0.0 y.0.0.1)) y.1
         × ((FitsCount (length y.0.0.0) × ((length y.0.0.1 ≡ length y.0.0.0) × AllByRecursion Fits (zip y.0.0.0 y.0.0.1))) × InOrder names used (flat_map g y.0.0.0) y.0.1) × Unit {0}) (ok_is ℕ made (a, next) b.2) (
           subst (λ (w : List ℕ). Took place w b.0.1) (sym text) t.0,
-          ((subst FitsCount (sym (length-firsts xs)) t.1.0.0, (length-seconds xs ∙ sym (length-firsts xs), subst (AllByRecursion Fits) (sym (zip-unzip xs)) t.1.0.1)),
-          subst (λ (ns : List Name). InOrder names used ns b.0.0.1) (sym (names-firsts g xs)) t.1.1),
+          (
+            (subst FitsCount (sym (length-firsts xs)) t.1.0.0, (length-seconds xs ∙ sym (length-firsts xs), subst (AllByRecursion Fits) (sym (zip-unzip xs)) t.1.0.1)),
+            subst (λ (ns : List Name). InOrder names used ns b.0.0.1) (sym (names-firsts g xs)) t.1.1,
+          ),
           tt,
         );
     again = λ place a rest fits h e.

@@ -47,7 +47,11 @@ impl<'a> Index<'a> {
             return Ok(());
         }
         self.names.push(name)?;
-        if self.places.insert(name, self.names.as_slice().len() - 1).is_err() {
+        if self
+            .places
+            .insert(name, self.names.as_slice().len() - 1)
+            .is_err()
+        {
             self.names.pop();
             return Err(NoMemory);
         }

@@ -35,10 +35,7 @@ fn several_names(alloc: Global, count: u32, from: &mut Cursor) -> Result<List<By
 
 /// The next name, which is none of those that were seen. It is one of them then.
 #[tactic(auto, unfolding(crate::specs::Reading::name_at))]
-fn next_name<'a>(
-    seen: &mut BTreeSet<&'a [u8]>,
-    from: &mut Cursor<'a>,
-) -> Result<&'a [u8], CertForm>
+fn next_name<'a>(seen: &mut BTreeSet<&'a [u8]>, from: &mut Cursor<'a>) -> Result<&'a [u8], CertForm>
     ensures reads { (before : Items Name) → HasNames before seen.old → ReadsAs (λ b. b.now) result (name_at before from.old) from.new }
     ensures seen { (before : Items Name) → HasNames before seen.old → IfOk result (λ name. HasNames (before ++ name.now ∷ []) seen.new) }
 {

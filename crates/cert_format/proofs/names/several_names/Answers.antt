@@ -17,7 +17,7 @@ loop-preserved c =
     let total = more_names_at c.args.count [] c.args.from.now in
     record {
       read = rw (c.in_ok-push.ensures.ok, c.in_ok-from_slice.ensures) (names_go_on c.loop.names c.args.count c.loop.counter c.loop.from c.in_ok-name.name.now c.next_name.new.from total
-      c.loop-test.true (c.in_ok-name.ensures.reads c.loop.names c.loop.invariant.seen) c.loop.invariant.read);
+          c.loop-test.true (c.in_ok-name.ensures.reads c.loop.names c.loop.invariant.seen) c.loop.invariant.read);
       seen = rw (c.in_ok-push.ensures.ok, c.in_ok-from_slice.ensures) (c.in_ok-name.ensures.seen c.loop.names c.loop.invariant.seen);
     }
 
