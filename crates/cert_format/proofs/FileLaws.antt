@@ -1,8 +1,8 @@
 -- Certificates are read exactly as they are spelled.
-use Rattle.std.proofs.Common.{◌≡◌, ℕ, zero, suc, ◌+◌, ◌<◌, ◌≤◌, ◌^◌, Bool, true, false, not, eqb, List, [], ◌∷◌, ◌++◌, length, get_or, Option, Result, Ok, Err, refl, sym, ap, subst, ◌∙◌, append_assoc, IfOk, inl, inr, arith}
+use Rattle.std.proofs.Common.{◌≡◌, ℕ, zero, suc, ◌+◌, ◌<◌, Bool, true, false, not, eqb, List, [], ◌∷◌, ◌++◌, length, get_or, Option, Result, Ok, Err, refl, sym, ap, subst, ◌∙◌, append_assoc, IfOk, arith}
 use Rattle.std.specs.Prelude.{◌==◌}
 use Rattle.std.specs.List.{flat_map, AllByRecursion}
-use Rattle.std.proofs.lemmas.Bool.{eqb-true, eq-eqb, ltb-true, ltb-false, lt-ltb, false≢true}
+use Rattle.std.proofs.lemmas.Bool.{eqb-true, eq-eqb, ltb-true, ltb-false, false≢true}
 use Rattle.std.proofs.lemmas.List.{append-nil, length-append}
 use Rattle.mon_base.specs.Reading.{Place, IsBytes, ◌>>=◌, need, whole}
 use Rattle.mon_base.proofs.Reading.{bind_ok, need_ok, ok_is, after, Took, Took-then, IsTail, IsReader, bytes_is, spelled, whole_takes, whole_again}
@@ -12,14 +12,14 @@ use Rattle.cert_format.specs.declared.note.Note.{Note}
 use Rattle.cert_format.specs.declared.certificate.Mode.{Mode}
 use Rattle.cert_format.specs.declared.certificate.Mode.TheVariants as modes
 use Rattle.cert_format.specs.declared.certificate.Certificate.{Certificate}
-use Rattle.cert_format.specs.Names.{Name, place_of, StandOnce, with_names, class_names, typing_names, names_of}
+use Rattle.cert_format.specs.Names.{Name, place_of, StandOnce, class_names, typing_names, names_of}
 use Rattle.cert_format.specs.Index.{stands}
 use Rattle.cert_format.specs.Spelling.{u1, u2, u4, spell_name, spell_names, spell_mode, spell_head, spell_classes, spell_certificate}
 use Rattle.cert_format.specs.Fits.{IsU2, IsU4, FitNames, FitClasses, CanSpell, SpellsCertificate}
 use Rattle.cert_format.specs.Reading.{Read, Answers, u1_at, u2_at, u4_at, taken_at, mode_of, head_at, name_at, more_names_at, names_at, classes_at, body_at, certificate_at, certificate_of}
-use Rattle.cert_format.proofs.Places.{place-append, place-le}
+use Rattle.cert_format.proofs.Places.{place-append}
 use Rattle.cert_format.proofs.Order.{InOrder, once-push, once-all, once-none, makes_order, table_of}
-use Rattle.cert_format.proofs.Readers.{u1_is, u2_is, u4_is, IsCode, coded, chosen}
+use Rattle.cert_format.proofs.Readers.{u2_is, u4_is, IsCode, coded, chosen}
 use Rattle.cert_format.proofs.TypeLaws.{classes_is}
 
 -- ---- the head

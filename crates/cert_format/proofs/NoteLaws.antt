@@ -1,5 +1,5 @@
 -- Notes are read exactly as they are spelled.
-use Rattle.std.proofs.Common.{◌≡◌, ℕ, ℤ, ◌+◌, ◌<◌, ◌^◌, Bool, true, false, cond, eqb, List, [], ◌∷◌, ◌++◌, length, Result, Ok, Err, refl, sym, ap, subst, ◌∙◌, FitsSigned, arith}
+use Rattle.std.proofs.Common.{◌≡◌, ℕ, ◌+◌, ◌<◌, Bool, true, false, eqb, List, [], ◌++◌, length, Result, Ok, refl, sym, ap, subst, ◌∙◌, FitsSigned, arith}
 use Rattle.std.specs.List.{flat_map, AllByRecursion}
 use Rattle.std.specs.Int.{w32}
 use Rattle.std.proofs.lemmas.Bool.{eqb-true}
@@ -12,10 +12,10 @@ use Rattle.cert_format.specs.declared.note.Term.{Term}
 use Rattle.cert_format.specs.declared.note.Term.TheVariants as terms
 use Rattle.cert_format.specs.declared.note.Note.{Note}
 use Rattle.cert_format.specs.declared.note.Note.TheVariants as notes
-use Rattle.cert_format.specs.Spelling.{u1, u2, u4, i4, flag, spell_term, spell_terms, spell_phase, spell_site, spell_note}
-use Rattle.cert_format.specs.Fits.{IsU1, IsU2, IsU4, FitsTerm, FitsSite, FitsNote}
-use Rattle.cert_format.specs.Reading.{Read, u1_at, u2_at, u4_at, i4_at, flag_of, flag_at, pair_at, term_of_kind, term_at, terms_at, phase_of, phase_at, site_at, held_at, granted_at, owed_at, stop_at, note_of_kind, note_at, free_at}
-use Rattle.cert_format.proofs.Readers.{u1_is, u2_is, u4_is, i4_is, pair_is, IsCode, coded, chosen, Takes, form, plain, never, kind_or, tagged, kind_again, plain_again}
+use Rattle.cert_format.specs.Spelling.{u1, i4, flag, spell_term, spell_terms, spell_phase, spell_site, spell_note}
+use Rattle.cert_format.specs.Fits.{IsU1, FitsTerm, FitsSite, FitsNote}
+use Rattle.cert_format.specs.Reading.{u1_at, u2_at, i4_at, flag_of, flag_at, pair_at, term_of_kind, term_at, terms_at, phase_of, phase_at, site_at, held_at, granted_at, owed_at, stop_at, note_of_kind, note_at, free_at}
+use Rattle.cert_format.proofs.Readers.{u1_is, u2_is, i4_is, pair_is, IsCode, coded, chosen, Takes, form, plain, never, kind_or, tagged, kind_again, plain_again}
 
 -- ---- flags and phases
 

@@ -1,17 +1,16 @@
 -- Readers made of others, beside those of mon_base.
-use Rattle.std.proofs.Common.{◌≡◌, ℕ, ℤ, zero, suc, ◌+◌, ◌<◌, ◌^◌, Bool, true, false, not, cond, eqb, List, [], ◌∷◌, ◌++◌, length, Some, None, Option, Result, Ok, Err, refl, sym, ap, subst, ◌∙◌, append_assoc, FitsSigned, arith}
-use Rattle.std.specs.Prelude.{ok_or, option_map, ◌==◌}
+use Rattle.std.proofs.Common.{◌≡◌, ℕ, ℤ, zero, suc, ◌+◌, ◌<◌, ◌^◌, Bool, true, false, cond, eqb, List, [], ◌∷◌, ◌++◌, length, Result, Ok, Err, refl, sym, ap, subst, ◌∙◌, append_assoc, FitsSigned, arith}
 use Rattle.std.specs.List.{flat_map, AllByRecursion}
 use Rattle.std.specs.Int.{w32, cast_signed, cast_unsigned}
 use Rattle.std.proofs.lemmas.Int.{of_z-to_z, to_z-of_z, ints}
-use Rattle.std.proofs.lemmas.Bool.{eqb-true, eq-eqb}
+use Rattle.std.proofs.lemmas.Bool.{eqb-true}
 use Rattle.std.proofs.lemmas.List.{append-nil, length-append}
-use Rattle.mon_base.specs.Reading.{Place, IsBytes, bytes_at, number_at, int_at, ◌>>=◌, need, counted, big_number, big_bytes}
-use Rattle.mon_base.proofs.Reading.{bind_ok, ok_is, need_ok, after, Took, Took-then, IsTail, IsReader, then, said, spelled, items, list_is, number_is, bytes_is, one, two, four}
+use Rattle.mon_base.specs.Reading.{Place, IsBytes, ◌>>=◌}
+use Rattle.mon_base.proofs.Reading.{bind_ok, ok_is, after, Took, Took-then, IsTail, IsReader, then, said, number_is, one, two, four}
 use Rattle.cert_format.specs.Names.{Name}
 use Rattle.cert_format.specs.Spelling.{u1, u2, u4, i4}
 use Rattle.cert_format.specs.Fits.{IsU1, IsU2, IsU4}
-use Rattle.cert_format.specs.Reading.{Read, u1_at, u2_at, u4_at, i4_at, taken_at, pair_at, several_at, short_list_at, long_list_at}
+use Rattle.cert_format.specs.Reading.{Read, u1_at, u2_at, u4_at, i4_at, pair_at, several_at, short_list_at, long_list_at}
 use Rattle.cert_format.proofs.Order.{InOrder, join, split}
 
 -- ---- numbers

@@ -1,24 +1,23 @@
 -- Frame types, and all that uses names, are read exactly as they are spelled.
-use Rattle.std.proofs.Common.{◌≡◌, ℕ, suc, ◌+◌, ◌-◌, ◌<◌, ◌≤◌, ◌^◌, Bool, true, false, not, cond, List, [], ◌∷◌, ◌++◌, length, map, get_or, Option, Some, None, Result, Ok, Err, refl, sym, ap, subst, ◌∙◌, append_assoc, arith}
+use Rattle.std.proofs.Common.{◌≡◌, ℕ, suc, ◌+◌, ◌-◌, ◌<◌, ◌≤◌, ◌^◌, Bool, true, false, not, cond, List, [], ◌∷◌, ◌++◌, length, get_or, Option, Some, None, Ok, refl, sym, ap, subst, ◌∙◌, append_assoc, arith}
 use Rattle.std.specs.Prelude.{nat_le, nat_lt, ◌&&◌}
 use Rattle.std.specs.List.{flat_map, zip, AllByRecursion}
 use Rattle.std.proofs.lemmas.Bool.Decides.{nat_tests}
 use Rattle.std.proofs.lemmas.List.{length-append}
-use Rattle.std.proofs.lemmas.Slice.Zip.{firsts-zip, seconds-zip, length-zip}
+use Rattle.std.proofs.lemmas.Slice.Zip.{firsts-zip, seconds-zip}
 use Rattle.mon_base.specs.Reading.{Place, ◌>>=◌, need}
-use Rattle.mon_base.proofs.Reading.{bind_ok, need_ok, ok_is, after, Took, Took-then, IsReader}
+use Rattle.mon_base.proofs.Reading.{bind_ok, need_ok, ok_is, after, Took, Took-then}
 use Rattle.cert_format.specs.declared.typing.VType.{VType}
 use Rattle.cert_format.specs.declared.typing.VType.TheVariants as types
 use Rattle.cert_format.specs.declared.typing.FrameType.{FrameType}
 use Rattle.cert_format.specs.declared.note.Note.{Note}
-use Rattle.cert_format.specs.declared.note.Note.TheVariants as notes
 use Rattle.cert_format.specs.Names.{Name, place_of, StandOnce, type_names, frame_names, method_names, class_names}
-use Rattle.cert_format.specs.Spelling.{u1, u2, u4, flag, spell_type, spell_types, spell_frame, spell_note, spell_instruction, spell_method, spell_class, spell_classes}
-use Rattle.cert_format.specs.Fits.{IsU2, IsU4, FitsType, FitTypes, ends_with_top, FitsFrame, FitsNote, FitsInstruction, FitsMethod, FitsClass, FitClasses}
-use Rattle.cert_format.specs.Reading.{Read, u1_at, u2_at, u4_at, flag_at, used_with, reference_at, type_of_kind, type_at, types_at, locals_at, frame_at, note_at, free_at, not_reached_at, reached_at, instruction_at, short_list_at, long_list_at, unzipped, method_at, class_at, classes_at}
+use Rattle.cert_format.specs.Spelling.{u1, u2, u4, flag, spell_type, spell_types, spell_note, spell_instruction, spell_method, spell_class, spell_classes}
+use Rattle.cert_format.specs.Fits.{IsU2, IsU4, FitsType, FitTypes, ends_with_top, FitsFrame, FitsInstruction, FitsMethod, FitsClass, FitClasses}
+use Rattle.cert_format.specs.Reading.{Read, u1_at, u4_at, flag_at, used_with, reference_at, type_of_kind, type_at, types_at, locals_at, frame_at, note_at, not_reached_at, reached_at, instruction_at, unzipped, method_at, class_at, classes_at}
 use Rattle.cert_format.proofs.Places.{get_or-place}
 use Rattle.cert_format.proofs.Order.{IsTurn, InOrder, join, split}
-use Rattle.cert_format.proofs.Readers.{u1_is, u2_is, u4_is, Takes, form, plain, never, kind_or, tagged, kind_again, plain_again, IsItem, short_list_is, long_list_is}
+use Rattle.cert_format.proofs.Readers.{u1_is, u4_is, Takes, form, plain, never, kind_or, tagged, kind_again, plain_again, IsItem, short_list_is, long_list_is}
 use Rattle.cert_format.proofs.NoteLaws.{flag_is, note_is, free_is}
 
 not_true : (b : Bool) → not b ≡ true → b ≡ false

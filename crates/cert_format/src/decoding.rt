@@ -1,6 +1,6 @@
 //! Reading certificates.
 
-ghost use Rattle.std.specs.Prelude.{◌≡◌, length, not, Ok, Err, IfOk};
+ghost use Rattle.std.specs.Prelude.{◌≡◌, Ok, Err, IfOk};
 ghost use Rattle.cert_format.specs.declared.certificate.Certificate.{Certificate};
 ghost use Rattle.cert_format.specs.Fits as fits;
 ghost use Rattle.cert_format.specs.Fits.{SpellsCertificate};

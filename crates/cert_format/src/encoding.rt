@@ -5,7 +5,7 @@ ghost use Rattle.std.specs.List.{flat_map, zip};
 ghost use Rattle.cert_format.specs.declared.certificate.Certificate.{Certificate};
 ghost use Rattle.cert_format.specs.Names.{with_names, type_names, frame_names, method_names, class_names};
 ghost use Rattle.cert_format.specs.Spelling.{spell_type, spell_types, spell_frame, spell_instruction, spell_method};
-ghost use Rattle.cert_format.specs.Spelling.{spell_class, spell_classes, spell_head, spell_certificate};
+ghost use Rattle.cert_format.specs.Spelling.{spell_class, spell_head, spell_certificate};
 ghost use Rattle.cert_format.specs.Fits.{CanSpell, SpellsCertificate};
 ghost use Rattle.cert_format.specs.Writing.{IsTooLong};
 

@@ -1,6 +1,6 @@
 //! The names of a certificate that is written, and their places.
 
-ghost use Rattle.std.specs.Prelude.{◌≡◌, [], ◌++◌, length, map, OnOk};
+ghost use Rattle.std.specs.Prelude.{◌≡◌, [], ◌++◌, map, OnOk};
 ghost use Rattle.cert_format.specs.Names.{place_of, with_name};
 ghost use Rattle.cert_format.specs.Spelling.{spell_names};
 

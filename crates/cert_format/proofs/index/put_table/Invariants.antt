@@ -1,4 +1,4 @@
-use Rattle.std.proofs.Common.{◌≡◌, ◌++◌, length, map, take}
+use Rattle.std.proofs.Common.{◌≡◌, ◌++◌, length, take}
 use Rattle.std.specs.List.{flat_map}
 use Rattle.cert_format.specs.Spelling.{u4, spell_name}
 use Rattle.cert_format.proofs.index.put_table.Given as goal

@@ -1,6 +1,5 @@
-use Rattle.std.proofs.Common.{[], subst, List, ℕ}
+use Rattle.std.proofs.Common.{[]}
 use Rattle.std.proofs.lemmas.Result.{err_from_is_err_and}
-use Rattle.cert_format.specs.Index.{HasNames}
 use Rattle.cert_format.specs.Reading.{more_names_at}
 use Rattle.cert_format.proofs.Loops.{names_go_on, names_end, names_done}
 use Rattle.cert_format.proofs.names.several_names.Goals as goal

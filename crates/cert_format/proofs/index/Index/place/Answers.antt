@@ -1,4 +1,4 @@
-use Rattle.std.proofs.Common.{◌≡◌, ◌∙◌, sym, ap, length, map}
+use Rattle.std.proofs.Common.{◌∙◌, sym, ap, length, map}
 use Rattle.cert_format.proofs.Places.{is_new, length-now}
 use Rattle.cert_format.proofs.index.Index.place.Goals as goal
 
