@@ -1,0 +1,289 @@
+-- Certificates are read exactly as they are spelled.
+use Rattle.std.proofs.Common.{◌≡◌, ℕ, zero, suc, ◌+◌, ◌<◌, Bool, true, false, not, eqb, List, [], ◌∷◌, ◌++◌, length, get_or, Option, Result, Ok, Err, refl, sym, ap, subst, ◌∙◌, append_assoc, IfOk, arith}
+use Rattle.std.specs.Prelude.{◌==◌}
+use Rattle.std.specs.List.{flat_map, AllByRecursion}
+use Rattle.std.proofs.lemmas.Bool.{eqb-true, eq-eqb, ltb-true, ltb-false, false≢true}
+use Rattle.std.proofs.lemmas.List.{append-nil, length-append}
+use Rattle.mon_base.specs.Reading.{Place, IsBytes, ◌>>=◌, need, whole}
+use Rattle.mon_base.proofs.Reading.{bind_ok, need_ok, ok_is, after, Took, Took-then, IsTail, IsReader, bytes_is, spelled, whole_takes, whole_again}
+use Rattle.cert_format.specs.declared.fault.CertForm.{CertForm}
+use Rattle.cert_format.specs.declared.typing.FrameType.{FrameType}
+use Rattle.cert_format.specs.declared.note.Note.{Note}
+use Rattle.cert_format.specs.declared.certificate.Mode.{Mode}
+use Rattle.cert_format.specs.declared.certificate.Mode.TheVariants as modes
+use Rattle.cert_format.specs.declared.certificate.Certificate.{Certificate}
+use Rattle.cert_format.specs.Names.{Name, place_of, StandOnce, class_names, typing_names, names_of}
+use Rattle.cert_format.specs.Index.{stands}
+use Rattle.cert_format.specs.Spelling.{u1, u2, u4, spell_name, spell_names, spell_mode, spell_head, spell_classes, spell_certificate}
+use Rattle.cert_format.specs.Fits.{IsU2, IsU4, FitNames, FitClasses, CanSpell, SpellsCertificate}
+use Rattle.cert_format.specs.Reading.{Read, Answers, u1_at, u2_at, u4_at, taken_at, mode_of, head_at, name_at, more_names_at, names_at, classes_at, body_at, certificate_at, certificate_of}
+use Rattle.cert_format.proofs.Places.{place-append}
+use Rattle.cert_format.proofs.Order.{InOrder, once-push, once-all, once-none, makes_order, table_of}
+use Rattle.cert_format.proofs.Readers.{u2_is, u4_is, IsCode, coded, chosen}
+use Rattle.cert_format.proofs.TypeLaws.{classes_is}
+
+-- ---- the head
+
+-- a number that is always the same, whose fault is at its own place, and then the others
+then_known : {A : Type 0} {reader : Place → Read ℕ} {spell_x : ℕ → List ℕ} {Fits_x : ℕ → Type 0} {others : Place → Read A} {spell : A → List ℕ} {Fits : A → Type 0}
+    → IsReader reader spell_x Fits_x → (same : ℕ) → Fits_x same → IsReader others spell Fits
+    → IsReader (λ place. reader place >>= λ x. need (x.0 == same) place.at >>= λ _. others x.1) (λ a. spell_x same ++ spell a) Fits
+then_known {reader = reader} {spell_x = spell_x} {others = others} {spell = spell} first same fits_same is = record {
+  takes = λ place a next fits e.
+      let b = bind_ok (reader place) (λ x. need (x.0 == same) place.at >>= λ _. others x.1) (a, next) e in
+      let g = need_ok (b.0.0 == same) place.at (λ _. others b.0.1) (a, next) b.2 in
+      let one = first.takes place b.0.0 b.0.1 fits b.1 in
+      let two = is.takes b.0.1 a next one.0.fits g.1 in
+      let is_same : b.0.0 ≡ same = eqb-true _ _ g.0 in
+      (rw (← is_same) (Took-then place (spell_x b.0.0) b.0.1 (spell a) next one.0 two.0), two.1, two.2);
+  again = λ place a rest fits h e.
+      let mid = after place (spell_x same) (spell a ++ rest) in
+      let one = first.again place same (spell a ++ rest) fits_same tt (e ∙ append_assoc (spell_x same) (spell a) rest) in
+      let two = is.again mid a rest fits h refl in
+      let far : place.at + length (spell_x same) + length (spell a) ≡ place.at + length (spell_x same ++ spell a) = omega (arith, length-append (spell_x same) (spell a)) in
+      rw (one, eq-eqb same same refl, two, far) refl;
+}
+
+mode_code : Mode → ℕ
+mode_code modes.Hold = 0
+mode_code modes.Release = 1
+
+mode_codes : IsCode mode_of mode_code
+unfolding mode_of mode_code
+mode_codes = record {
+  told = λ at n x e.
+      chosen (eqb n 0) modes.Hold x _ (mode_code x ≡ n) e (λ is same. ap mode_code (sym same) ∙ sym (eqb-true n 0 is)) (λ e1.
+      chosen (eqb n 1) modes.Release x _ (mode_code x ≡ n) e1 (λ is same. ap mode_code (sym same) ∙ sym (eqb-true n 1 is)) (λ e2. absurd cc));
+  back = λ at x. back at x;
+  small = λ x. small x;
+} where
+  back : (at : ℕ) (x : Mode) → mode_of at (mode_code x) ≡ Ok x
+  back at modes.Hold = refl
+  back at modes.Release = refl
+
+  small : (x : Mode) → mode_code x < 256
+  small modes.Hold = omega arith
+  small modes.Release = omega arith
+
+mode_spelled : (x : Mode) → u1 (mode_code x) ≡ spell_mode x
+unfolding mode_code
+mode_spelled modes.Hold = refl
+mode_spelled modes.Release = refl
+
+mode_is : IsReader (λ p. u1_at p >>= λ n. mode_of p.at n.0 >>= λ x. Ok (x, n.1)) spell_mode (λ x. Unit {0})
+mode_is = spelled (coded mode_of mode_code mode_codes) (λ x k. mode_spelled x)
+
+head_is : IsReader head_at spell_head (λ m. Unit {0})
+unfolding head_at
+head_is = then_known u4_is 0x43535043 (omega arith) (then_known u2_is 1 (omega arith) mode_is)
+
+-- ---- names
+
+not_true : (b : Bool) → not b ≡ true → b ≡ false
+not_true true h = sym h
+not_true false h = refl
+
+taken_is : (n : ℕ) → IsTail (taken_at n) (λ bytes. bytes) (λ bytes. Unit {0}) (λ bytes. length bytes ≡ n)
+unfolding taken_at
+taken_is n = bytes_is n (λ p. p.at)
+
+abbrev FitsName : Name → Type 0
+FitsName name = IsU2 (length name)
+
+name_is : (before : List Name) → IsReader (name_at before) spell_name (λ name. FitsName name × (stands before name ≡ false))
+unfolding name_at
+name_is before = record {
+  takes = λ place name next fits e.
+      let l = bind_ok (u2_at place) (λ len. taken_at len.0 len.1 >>= λ name. need (not (stands before name.0)) len.1.at >>= λ _. Ok name) (name, next) e in
+      let n = bind_ok (taken_at l.0.0 l.0.1) (λ name. need (not (stands before name.0)) l.0.1.at >>= λ _. Ok name) (name, next) l.2 in
+      let g = need_ok (not (stands before n.0.0)) l.0.1.at (λ _. Ok n.0) (name, next) n.2 in
+      let t = u2_is.takes place l.0.0 l.0.1 fits l.1 in
+      let u = (taken_is l.0.0).takes l.0.1 n.0.0 n.0.1 t.0.fits n.1 in
+      subst (λ (y : Name × Place). Took place (spell_name y.0) y.1 × (FitsName y.0 × (stands before y.0 ≡ false)) × Unit {0}) (ok_is ℕ n.0 (name, next) g.1) (
+        subst (λ (k : ℕ). Took place (u2 k ++ n.0.0) n.0.1) (sym u.2) (Took-then place (u2 l.0.0) l.0.1 n.0.0 n.0.1 t.0 u.0),
+        (subst IsU2 (sym u.2) t.1, not_true _ g.0),
+        tt,
+      );
+  again = λ place name rest fits h e.
+      let x = u2 (length name) in
+      let mid = after place x (name ++ rest) in
+      let first = u2_is.again place (length name) (name ++ rest) fits.0 tt (e ∙ append_assoc x name rest) in
+      let second = (taken_is (length name)).again mid name rest tt refl refl in
+      let far : place.at + length x + length name ≡ place.at + length (x ++ name) = omega (arith, length-append x name) in
+      rw (first, second, fits.1, far) refl;
+}
+
+-- what is read after the names of before
+record More (before : List Name) (n : ℕ) (place : Place) (all : List Name) (next : Place) : Type 0 where
+  names : List Name
+  parts : all ≡ before ++ names
+  took : Took place (flat_map spell_name names) next
+  fits : AllByRecursion FitsName names
+  once : StandOnce all
+  count : length names ≡ n
+
+more_takes : (n : ℕ) (before : List Name) (place : Place) (all : List Name) (next : Place) → IsBytes place.rest → StandOnce before
+    → more_names_at n before place ≡ Ok (all, next) → More before n place all next
+unfolding more_names_at
+more_takes zero before place all next fits once e =
+    let made : List Name × Place = (before, place) in
+    subst (λ (y : List Name × Place). More before 0 place y.0 y.1) (ok_is ℕ made (all, next) e) (record {
+      names = [];
+      parts = sym (append-nil before);
+      took = record { parts = refl; moved = omega arith; fits = fits };
+      fits = tt;
+      once = once;
+      count = refl;
+    })
+more_takes (suc n) before place all next fits once e =
+    let b = bind_ok (name_at before place) (λ name. more_names_at n (before ++ name.0 ∷ []) name.1) (all, next) e in
+    let x = b.0.0 in
+    let t = (name_is before).takes place x b.0.1 fits b.1 in
+    let later = more_takes n (before ++ x ∷ []) b.0.1 all next t.0.fits (once-push before x (ltb-false _ _ t.1.1) once) b.2 in
+    record {
+      names = x ∷ later.names;
+      parts = later.parts ∙ append_assoc before (x ∷ []) later.names;
+      took = Took-then place (spell_name x) b.0.1 (flat_map spell_name later.names) next t.0 later.took;
+      fits = (t.1.0, later.fits);
+      once = later.once;
+      count = ap suc later.count;
+    }
+
+at_length : (a : List Name) (x : Name) (b : List Name) → get_or (a ++ x ∷ b) (length a) [] ≡ x
+at_length [] x b = refl
+at_length (y ∷ a) x b = at_length a x b
+
+-- what stands after these names is none of them, where none stands twice
+is_new : (before : List Name) (x : Name) (others : List Name) → StandOnce (before ++ x ∷ others) → stands before x ≡ false
+is_new before x others once = by (stands before x) refl where
+  by : (b : Bool) → stands before x ≡ b → stands before x ≡ false
+  by false e = e
+  by true e =
+      let lt : place_of before x < length before = ltb-true _ _ e in
+      let here = place-append before (x ∷ others) x lt in
+      let own : place_of (before ++ x ∷ others) (get_or (before ++ x ∷ others) (length before) []) ≡ length before = once (length before) (omega (arith, length-append before (x ∷ others))) in
+      let same : place_of (before ++ x ∷ others) x ≡ length before = ap (place_of (before ++ x ∷ others)) (sym (at_length before x others)) ∙ own in
+      absurd (omega (arith, here, same, lt))
+
+more_again : (names before : List Name) (place : Place) (rest : List ℕ) → AllByRecursion FitsName names → StandOnce (before ++ names)
+    → place.rest ≡ flat_map spell_name names ++ rest
+    → more_names_at (length names) before place ≡ Ok (before ++ names, after place (flat_map spell_name names) rest)
+unfolding more_names_at
+more_again [] before place rest fits once e =
+    let n : place.at + 0 ≡ place.at = omega arith in
+    rw (n, append-nil before, ← e) refl
+more_again (x ∷ names) before place rest fits once e =
+    let s = spell_name x in
+    let t = flat_map spell_name names in
+    let mid = after place s (t ++ rest) in
+    let first = (name_is before).again place x (t ++ rest) (fits.0, is_new before x names once) tt (e ∙ append_assoc s t rest) in
+    let second = more_again names (before ++ x ∷ []) mid rest fits.1 (subst StandOnce (sym (append_assoc before (x ∷ []) names)) once) refl in
+    let far : place.at + length s + length t ≡ place.at + length (s ++ t) = omega (arith, length-append s t) in
+    rw (first, second, append_assoc before (x ∷ []) names, far) refl
+
+names_is : IsReader names_at spell_names (λ names. FitNames names × StandOnce names)
+unfolding names_at
+names_is = record {
+  takes = λ place names next fits e.
+      let c = bind_ok (u4_at place) (λ count. more_names_at count.0 [] count.1) (names, next) e in
+      let t = u4_is.takes place c.0.0 c.0.1 fits c.1 in
+      let m = more_takes c.0.0 [] c.0.1 names next t.0.fits once-none c.2 in
+      let len : length names ≡ c.0.0 = ap length m.parts ∙ m.count in (
+        subst (λ (k : ℕ). Took place (u4 k ++ flat_map spell_name names) next) (sym len) (Took-then place (u4 c.0.0) c.0.1 (flat_map spell_name names) next t.0 (subst (λ (ns : List Name). Took c.0.1 (flat_map spell_name ns) next) (sym m.parts) m.took)),
+        ((subst IsU4 (sym len) t.1, subst (AllByRecursion FitsName) (sym m.parts) m.fits), m.once),
+        tt,
+      );
+  again = λ place names rest fits h e.
+      let x = u4 (length names) in
+      let y = flat_map spell_name names in
+      let first = u4_is.again place (length names) (y ++ rest) fits.0.0 tt (e ∙ append_assoc x y rest) in
+      let second = more_again names [] (after place x (y ++ rest)) rest fits.0.1 fits.1 refl in
+      let far : place.at + length x + length y ≡ place.at + length (x ++ y) = omega (arith, length-append x y) in
+      rw (first, second, far) refl;
+}
+
+-- ---- the whole
+
+abbrev made : Mode → List (List (List (Option FrameType))) → List (List (List Note)) → Certificate
+made mode frames all_notes = record { mode = mode; typing = record { frames = frames }; notes = all_notes }
+
+-- what stands after the names, with the table of names
+abbrev spell_body : List Name → Certificate → List ℕ
+spell_body names c = spell_classes names (c.typing.frames, c.notes)
+
+record FitsBody (vars : ℕ) (mode : Mode) (names : List Name) (c : Certificate) : Type 0 where
+  classes : FitClasses vars (c.typing.frames, c.notes)
+  mode_is : c.mode ≡ mode
+  table : names_of c.typing ≡ names
+
+body_is : (vars : ℕ) (mode : Mode) (names : List Name) → StandOnce names → IsU4 (length names) → IsReader (body_at vars mode names) (spell_body names) (FitsBody vars mode names)
+unfolding body_at
+body_is vars mode names once small = record {
+  takes = λ place c next fits e.
+      let k = bind_ok (classes_at vars names 0 place) (λ classes. need (classes.0.1 == length names) classes.1.at >>= λ _. Ok (made mode classes.0.0.0 classes.0.0.1, classes.1)) (c, next) e in
+      let g = need_ok (k.0.0.1 == length names) k.0.1.at (λ _. Ok (made mode k.0.0.0.0 k.0.0.0.1, k.0.1)) (c, next) k.2 in
+      let t = ((classes_is names once small vars).reads 0).takes place k.0.0 k.0.1 fits k.1 in
+      let all : k.0.0.1 ≡ length names = eqb-true _ _ g.0 in
+      let order : InOrder names 0 (flat_map class_names k.0.0.0.0) (length names) = subst (λ (n : ℕ). InOrder names 0 (flat_map class_names k.0.0.0.0) n) all t.1.1 in
+      let whole : Certificate × Place = (made mode k.0.0.0.0 k.0.0.0.1, k.0.1) in
+      subst (λ (y : Certificate × Place). Took place (spell_body names y.0) y.1 × FitsBody vars mode names y.0 × Unit {0}) (ok_is ℕ whole (c, next) g.1)
+      (t.0, record { classes = t.1.0; mode_is = refl; table = table_of names (flat_map class_names k.0.0.0.0) order }, tt);
+  again = λ place c rest fits h e.
+      let order = makes_order names (typing_names c.typing) 0 (omega arith) fits.table in
+      let one = ((classes_is names once small vars).reads 0).again place ((c.typing.frames, c.notes), length names) rest (fits.classes, order) tt e in
+      rw (one, eq-eqb (length names) (length names) refl, ← fits.mode_is) refl;
+}
+
+abbrev spell_both : List Name → Certificate → List ℕ
+spell_both names c = spell_head c.mode ++ (spell_names names ++ spell_body names c)
+
+certificate_is : (vars : ℕ) → IsReader (certificate_at vars) spell_certificate (CanSpell vars)
+unfolding certificate_at
+certificate_is vars = record {
+  takes = λ place c next fits e.
+      let m = bind_ok (head_at place) (λ mode. names_at mode.1 >>= λ names. body_at vars mode.0 names.0 names.1) (c, next) e in
+      let n = bind_ok (names_at m.0.1) (λ names. body_at vars m.0.0 names.0 names.1) (c, next) m.2 in
+      let t = head_is.takes place m.0.0 m.0.1 fits m.1 in
+      let u = names_is.takes m.0.1 n.0.0 n.0.1 t.0.fits n.1 in
+      let v = (body_is vars m.0.0 n.0.0 u.1.1 u.1.0.0).takes n.0.1 c next u.0.fits n.2 in
+      let text : spell_head m.0.0 ++ (spell_names n.0.0 ++ spell_body n.0.0 c) ≡ spell_certificate c = ap (λ (x : Mode). spell_head x ++ (spell_names n.0.0 ++ spell_body n.0.0 c)) (sym v.1.mode_is) ∙ ap (λ (ns : List Name). spell_both ns c) (sym v.1.table) in (
+        subst (λ (w : List ℕ). Took place w next) text (Took-then place (spell_head m.0.0) m.0.1 (spell_names n.0.0 ++ spell_body n.0.0 c) next t.0 (Took-then m.0.1 (spell_names n.0.0) n.0.1 (spell_body n.0.0 c) next u.0 v.0)),
+        record { names = subst FitNames (sym v.1.table) u.1.0; classes = v.1.classes },
+        tt,
+      );
+  again = λ place c rest fits h e.
+      let names = names_of c.typing in
+      let x = spell_head c.mode in
+      let y = spell_names names in
+      let z = spell_body names c in
+      let once : StandOnce names = once-all (typing_names c.typing) [] once-none in
+      let start : place.rest ≡ x ++ (y ++ (z ++ rest)) = e ∙ append_assoc x (y ++ z) rest ∙ ap (λ (w : List ℕ). x ++ w) (append_assoc y z rest) in
+      let first = head_is.again place c.mode (y ++ (z ++ rest)) tt tt start in
+      let second = names_is.again (after place x (y ++ (z ++ rest))) names (z ++ rest) (fits.names, once) tt refl in
+      let third = (body_is vars c.mode names once fits.names.0).again (after (after place x (y ++ (z ++ rest))) y (z ++ rest)) c rest (record { classes = fits.classes; mode_is = refl; table = refl }) tt refl in
+      let far : place.at + length x + length y + length z ≡ place.at + length (x ++ (y ++ z)) = omega (arith, length-append x (y ++ z), length-append y z) in
+      rw (first, second, third, far) refl;
+}
+
+-- ---- what the calls promise
+
+pub is_found : (vars : ℕ) (bytes : List ℕ) (r : Result Certificate CertForm) → IsBytes bytes → Answers r (certificate_of vars bytes)
+    → IfOk r (λ c. SpellsCertificate bytes vars c)
+unfolding certificate_of
+is_found vars bytes (Ok c) fits given =
+    let t = whole_takes (certificate_is vars) (λ p. p.at) bytes c fits given in
+    record { is = t.0; fits = t.1 }
+is_found vars bytes (Err e) fits given = tt
+
+spelled_is_read : (vars : ℕ) (bytes : List ℕ) (c : Certificate) → SpellsCertificate bytes vars c → certificate_of vars bytes ≡ Ok c
+unfolding certificate_of
+spelled_is_read vars bytes c h =
+    let t = whole_again (certificate_is vars) (λ p. p.at) c h.fits in
+    rw h.is t
+
+pub is_only : (vars : ℕ) (bytes : List ℕ) (r : Result Certificate CertForm) (c : Certificate) → Answers r (certificate_of vars bytes) → SpellsCertificate bytes vars c
+    → Answers r (Ok c)
+is_only vars bytes r c given h = subst (λ (read : Result Certificate ℕ). Answers r read) (spelled_is_read vars bytes c h) given
+
+pub same_certificate : (bytes : List ℕ) (vars : ℕ) (c d : Certificate) → SpellsCertificate bytes vars c → SpellsCertificate bytes vars d → c ≡ d
+same_certificate bytes vars c d h k = ok_is ℕ c d (sym (spelled_is_read vars bytes c h) ∙ spelled_is_read vars bytes d k)

@@ -1,0 +1,114 @@
+-- Loops that read items, one after another.
+use Rattle.std.proofs.Common.{◌≡◌, ℕ, suc, ◌-◌, ◌+◌, ◌≤◌, ◌<◌, List, [], ◌∷◌, ◌++◌, length, get_or, take, min, Result, Ok, Err, refl, sym, ap, subst, ◌∙◌, append_assoc, arith}
+use Rattle.std.specs.List.{flat_map, zip}
+use Rattle.std.proofs.lemmas.List.{append-nil, take_all, take_more}
+use Rattle.std.proofs.lemmas.Grind.{flat_map-append}
+use Rattle.std.proofs.lemmas.Slice.Zip.{length-zip, get_or-zip}
+use Rattle.mon_base.specs.Reading.{Place, ◌>>=◌, counted}
+use Rattle.mon_base.proofs.Reading.{stops}
+use Rattle.mon_base.proofs.Reading as base
+use Rattle.cert_format.specs.declared.fault.CertForm.{CertForm}
+use Rattle.cert_format.specs.declared.fault.CertForm.TheVariants.{Form, Memory}
+use Rattle.cert_format.specs.Names.{Name}
+use Rattle.cert_format.specs.Reading.{Read, Fails, several_at, name_at, more_names_at}
+
+-- A fault at an item is the answer.
+failed : {Y Z : Type 0} (e : CertForm) (first : Result Y ℕ) (others : Y → Result Z ℕ) → Fails e first → Fails e (first >>= others)
+failed Memory first others h = tt
+failed (Form at) first others h = rw h refl
+
+along : {Y : Type 0} (e : CertForm) (a b : Result Y ℕ) → a ≡ b → Fails e a → Fails e b
+along Memory a b same h = tt
+along (Form at) a b same h = sym same ∙ h
+
+-- ---- items that use names
+
+-- what was read before, and what is still read
+abbrev pub with_front : {X : Type 0} → List X → Read (List X × ℕ) → Read (List X × ℕ)
+with_front front read = read >>= λ x. Ok ((front ++ x.0.0, x.0.1), x.1)
+
+abbrev answer : {A : Type 0} → A → Result A ℕ
+answer x = Ok x
+
+regroup : {X : Type 0} (front : List X) (first : X) (read : Read (List X × ℕ))
+    → with_front front (read >>= λ x. Ok ((first ∷ x.0.0, x.0.1), x.1)) ≡ with_front (front ++ first ∷ []) read
+regroup {X = X} front first (Ok x) = ap (λ (xs : List X). answer ((xs, x.0.1), x.1)) (sym (append_assoc front (first ∷ []) x.0.0))
+regroup front first (Err e) = refl
+
+pub goes_on : {X : Type 0} (item : ℕ → Place → Read (X × ℕ)) (front : List X) (count i used : ℕ) (place : Place) (x : X) (after : ℕ) (next : Place)
+    (total : Read (List X × ℕ)) → i < count → item used place ≡ Ok ((x, after), next)
+    → with_front front (several_at item (count - i) used place) ≡ total
+    → with_front (front ++ x ∷ []) (several_at item (count - (i + 1)) after next) ≡ total
+unfolding several_at
+goes_on item front count i used place x after next total lt h so_far =
+    let k : count - i ≡ suc (count - (i + 1)) = omega arith in
+    let one : with_front front (several_at item (count - i) used place) ≡ with_front (front ++ x ∷ []) (several_at item (count - (i + 1)) after next) = rw (k, h) (regroup front x (several_at item (count - (i + 1)) after next)) in
+    sym one ∙ so_far
+
+pub ends : {X : Type 0} (item : ℕ → Place → Read (X × ℕ)) (e : CertForm) (front : List X) (count i used : ℕ) (place : Place)
+    (total : Read (List X × ℕ)) → i < count → Fails e (item used place)
+    → with_front front (several_at item (count - i) used place) ≡ total → Fails e total
+unfolding several_at
+ends item e front count i used place total lt h so_far =
+    let k : count - i ≡ suc (count - (i + 1)) = omega arith in
+    let one = failed e (several_at item (suc (count - (i + 1))) used place) (λ x. Ok ((front ++ x.0.0, x.0.1), x.1)) (failed e (item used place) (λ first. several_at item (count - (i + 1)) first.0.1 first.1 >>= λ others. Ok ((first.0.0 ∷ others.0.0, others.0.1), others.1)) h) in
+    along e (with_front front (several_at item (suc (count - (i + 1))) used place)) total (subst (λ (n : ℕ). with_front front (several_at item n used place) ≡ total) k so_far) one
+
+pub is_done : {X : Type 0} (item : ℕ → Place → Read (X × ℕ)) (front : List X) (count i used : ℕ) (place : Place) (total : Read (List X × ℕ))
+    → count ≤ i → with_front front (several_at item (count - i) used place) ≡ total → total ≡ Ok ((front, used), place)
+unfolding several_at
+is_done {X = X} item front count i used place total le so_far =
+    let k : count - i ≡ 0 = omega arith in
+    let one : with_front front (several_at item (count - i) used place) ≡ Ok ((front, used), place) = rw k (ap (λ (xs : List X). answer ((xs, used), place)) (append-nil front)) in
+    sym so_far ∙ one
+
+-- ---- items that use none
+
+pub counted_ends : {X : Type 0} (item : Place → Read X) (e : CertForm) (front : List X) (count i : ℕ) (place : Place) (total : Read (List X))
+    → i < count → Fails e (item place) → base.with_front front (counted item (count - i) place) ≡ total → Fails e total
+counted_ends item Memory front count i place total lt h so_far = tt
+counted_ends item (Form at) front count i place total lt h so_far = stops item front count i place at total lt h so_far
+
+-- ---- names
+
+pub names_go_on : (names : List Name) (count i : ℕ) (place : Place) (name : Name) (next : Place) (total : Read (List Name)) → i < count
+    → name_at names place ≡ Ok (name, next)
+    → more_names_at (count - i) names place ≡ total → more_names_at (count - (i + 1)) (names ++ name ∷ []) next ≡ total
+unfolding more_names_at
+names_go_on names count i place name next total lt h so_far =
+    let k : count - i ≡ suc (count - (i + 1)) = omega arith in
+    let one : more_names_at (count - i) names place ≡ more_names_at (count - (i + 1)) (names ++ name ∷ []) next = rw (k, h) refl in
+    sym one ∙ so_far
+
+pub names_end : (e : CertForm) (names : List Name) (count i : ℕ) (place : Place) (total : Read (List Name)) → i < count
+    → Fails e (name_at names place) → more_names_at (count - i) names place ≡ total → Fails e total
+unfolding more_names_at
+names_end e names count i place total lt h so_far =
+    let k : count - i ≡ suc (count - (i + 1)) = omega arith in
+    let one = failed e (name_at names place) (λ name. more_names_at (count - (i + 1)) (names ++ name.0 ∷ []) name.1) h in
+    along e (more_names_at (suc (count - (i + 1))) names place) total (subst (λ (n : ℕ). more_names_at n names place ≡ total) k so_far) one
+
+pub names_done : (names : List Name) (count i : ℕ) (place : Place) (total : Read (List Name)) → count ≤ i
+    → more_names_at (count - i) names place ≡ total → total ≡ Ok (names, place)
+unfolding more_names_at
+names_done names count i place total le so_far =
+    let k : count - i ≡ 0 = omega arith in
+    let one : more_names_at (count - i) names place ≡ Ok (names, place) = rw k refl in
+    sym so_far ∙ one
+
+-- ---- two lists at once
+
+pub put_more : {A B : Type 0} (f : A × B → List ℕ) (xs : List A) (ys : List B) (i : ℕ) (x : A) (y : B) (out old new : List ℕ) → i < min (length xs) (length ys)
+    → x ≡ get_or xs i x → y ≡ get_or ys i y
+    → out ≡ old ++ flat_map f (take i (zip xs ys)) → new ≡ out ++ f (x, y) → new ≡ old ++ flat_map f (take (i + 1) (zip xs ys))
+put_more {A = A} {B = B} f xs ys i x y out old new lt x_is y_is so_far more =
+    let long : i < length (zip xs ys) = omega (arith, length-zip xs ys) in
+    let at : get_or (zip xs ys) i (x, y) ≡ (x, y) = get_or-zip xs ys i (x, y) (omega arith) (omega arith) ∙ ap (λ (a : A). (a, get_or ys i y)) (sym x_is) ∙ ap (λ (b : B). (x, b)) (sym y_is) in
+    let step : take (i + 1) (zip xs ys) ≡ take i (zip xs ys) ++ (x, y) ∷ [] = take_more (zip xs ys) i (x, y) long ∙ ap (λ (p : A × B). take i (zip xs ys) ++ p ∷ []) at in
+    let all : flat_map f (take (i + 1) (zip xs ys)) ≡ flat_map f (take i (zip xs ys)) ++ f (x, y) = ap (flat_map f) step ∙ flat_map-append f (take i (zip xs ys)) ((x, y) ∷ []) ∙ ap (λ (t : List ℕ). flat_map f (take i (zip xs ys)) ++ t) (append-nil (f (x, y))) in
+    more ∙ ap (λ (t : List ℕ). t ++ f (x, y)) so_far ∙ append_assoc old (flat_map f (take i (zip xs ys))) (f (x, y)) ∙ ap (λ (t : List ℕ). old ++ t) (sym all)
+
+pub put_done : {A B : Type 0} (f : A × B → List ℕ) (xs : List A) (ys : List B) (i : ℕ) (out old : List ℕ) → min (length xs) (length ys) ≤ i
+    → out ≡ old ++ flat_map f (take i (zip xs ys)) → out ≡ old ++ flat_map f (zip xs ys)
+put_done f xs ys i out old le so_far =
+    so_far ∙ ap (λ t. old ++ flat_map f t) (take_all i (zip xs ys) (omega (arith, length-zip xs ys)))

@@ -1,0 +1,183 @@
+-- The places of names.
+use Rattle.std.proofs.Common.{◌≡◌, ℕ, zero, suc, ◌+◌, ◌<◌, ◌≤◌, Bool, true, false, cond, ltb, List, [], ◌∷◌, ◌++◌, length, map, take, get_or, ◌-◌, Option, Some, None, Result, Ok, Err, OnOk, inl, inr, refl, sym, ap, ◌∙◌, Bor, arith}
+use Rattle.std.specs.Prelude.{bytes_eq, is_some, is_err}
+use Rattle.std.specs.BTreeMap.{BTreeMap, get_by}
+use Rattle.std.specs.BTreeSet.{BTreeSet, contains_by}
+use Rattle.std.specs.Ordering.{nat_cmp, is_eq}
+use Rattle.std.specs.Cmp.Lexicographic.{slice_cmp}
+use Rattle.std.proofs.lemmas.Map.Text.{is_eq-slice_cmp}
+use Rattle.std.specs.List.{flat_map}
+use Rattle.std.proofs.lemmas.Bool.{cases_lt, le-ltb, lt-ltb, ltb-true, ltb-false, false≢true}
+use Rattle.std.proofs.lemmas.List.{length-append, take_all}
+use Rattle.std.proofs.lemmas.Slice.Eq.{bytes_eq-Decides}
+use Rattle.cert_format.specs.Names.{Name, place_of, with_name}
+use Rattle.cert_format.specs.Index.{found, stands, HasNames, HasPlaces}
+use Rattle.cert_format.specs.Spelling.{u4, spell_name, spell_names}
+
+-- where the name stands it is found no later
+pub place-le : (names : List Name) (i : ℕ) → i < length names → place_of names (get_or names i []) ≤ i
+place-le [] i lt = absurd (omega arith)
+place-le (first ∷ names) zero lt = rw ((bytes_eq-Decides first first).1 refl) (omega arith)
+place-le (first ∷ names) (suc i) lt =
+    let h = place-le names i (omega arith) in
+    by (bytes_eq first (get_or names i [])) h where
+      by : (b : Bool) → place_of names (get_or names i []) ≤ i → cond b 0 (suc (place_of names (get_or names i []))) ≤ suc i
+      by true h = omega arith
+      by false h = omega arith
+
+-- what is found is the name
+pub get_or-place : (names : List Name) (name : Name) → place_of names name < length names → get_or names (place_of names name) [] ≡ name
+get_or-place [] name lt = absurd (omega arith)
+get_or-place (first ∷ names) name lt = by (bytes_eq first name) refl lt (get_or-place names name) where
+  by : (b : Bool) → bytes_eq first name ≡ b → cond b 0 (suc (place_of names name)) < suc (length names)
+      → (place_of names name < length names → get_or names (place_of names name) [] ≡ name)
+      → get_or (first ∷ names) (cond b 0 (suc (place_of names name))) [] ≡ name
+  by true e lt later = (bytes_eq-Decides first name).0 e
+  by false e lt later = later (omega arith)
+
+pub place-within : (names : List Name) (name : Name) → place_of names name ≤ length names
+place-within [] name = omega arith
+place-within (x ∷ names) name = by (bytes_eq x name) (place-within names name) where
+  by : (b : Bool) → place_of names name ≤ length names → cond b 0 (suc (place_of names name)) ≤ suc (length names)
+  by true h = omega arith
+  by false h = omega arith
+
+-- what stands in the first names stands there in all
+pub place-append : (a b : List Name) (name : Name) → place_of a name < length a → place_of (a ++ b) name ≡ place_of a name
+place-append [] b name lt = absurd (omega arith)
+place-append (x ∷ a) b name lt = by (bytes_eq x name) (place-append a b name) lt where
+  by : (t : Bool) → (place_of a name < length a → place_of (a ++ b) name ≡ place_of a name)
+      → cond t 0 (suc (place_of a name)) < suc (length a)
+      → cond t 0 (suc (place_of (a ++ b) name)) ≡ cond t 0 (suc (place_of a name))
+  by true h lt = refl
+  by false h lt = ap suc (h (omega arith))
+
+-- and what does not stand there stands among the others
+pub place-past : (a b : List Name) (name : Name) → length a ≤ place_of a name → place_of (a ++ b) name ≡ length a + place_of b name
+place-past [] b name le = omega arith
+place-past (x ∷ a) b name le = by (bytes_eq x name) (place-past a b name) le where
+  by : (t : Bool) → (length a ≤ place_of a name → place_of (a ++ b) name ≡ length a + place_of b name)
+      → suc (length a) ≤ cond t 0 (suc (place_of a name))
+      → cond t 0 (suc (place_of (a ++ b) name)) ≡ suc (length a) + place_of b name
+  by true h le = absurd (omega arith)
+  by false h le = let e = h (omega arith) in omega (arith, e)
+
+pub place-own : (name : Name) (names : List Name) → place_of (name ∷ names) name ≡ 0
+place-own name names = rw ((bytes_eq-Decides name name).1 refl) refl
+
+-- ---- one name more
+
+place-one : (x name : Name) → place_of (x ∷ []) name ≡ cond (bytes_eq x name) 0 1
+place-one x name = refl
+
+pub place-more : (names : List Name) (x name : Name)
+    → place_of (names ++ x ∷ []) name ≡ cond (stands names name) (place_of names name) (cond (bytes_eq x name) (length names) (suc (length names)))
+place-more names x name =
+    elim (cases_lt (place_of names name) (length names)) [
+      | inl lt ↦ rw (lt-ltb _ _ lt) (place-append names (x ∷ []) name lt)
+      | inr le ↦ rw (le-ltb _ _ le) (place-past names (x ∷ []) name le ∙ by (bytes_eq x name))
+    ] where
+      by : (b : Bool) → length names + cond b 0 1 ≡ cond b (length names) (suc (length names))
+      by true = omega arith
+      by false = omega arith
+
+pub stands-more : (names : List Name) (x name : Name) → stands (names ++ x ∷ []) name ≡ cond (bytes_eq x name) true (stands names name)
+stands-more names x name =
+    rw (place-more names x name) (by (stands names name) (bytes_eq x name) refl) where
+      len : length (names ++ x ∷ []) ≡ suc (length names)
+      len = length-append names (x ∷ []) ∙ omega arith
+
+      by : (s b : Bool) → stands names name ≡ s
+          → ltb (cond s (place_of names name) (cond b (length names) (suc (length names)))) (length (names ++ x ∷ [])) ≡ cond b true s
+      by true true e = lt-ltb _ _ (let lt : place_of names name < length names = ltb-true _ _ e in omega (arith, lt, len))
+      by true false e = lt-ltb _ _ (let lt : place_of names name < length names = ltb-true _ _ e in omega (arith, lt, len))
+      by false true e = lt-ltb _ _ (omega (arith, len))
+      by false false e = le-ltb _ _ (omega (arith, len))
+
+-- the places, where the name is new
+pub found-more : (names : List Name) (x name : Name) → stands names x ≡ false
+    → found (names ++ x ∷ []) name ≡ cond (bytes_eq x name) (Some (length names)) (found names name)
+found-more names x name new =
+    by (bytes_eq x name) (stands names name) refl refl where
+      by : (b s : Bool) → bytes_eq x name ≡ b → stands names name ≡ s
+          → cond (stands (names ++ x ∷ []) name) (Some (place_of (names ++ x ∷ []) name)) None ≡ cond b (Some (length names)) (cond s (Some (place_of names name)) None)
+      by true true e t = absurd (false≢true (sym new ∙ ap (stands names) ((bytes_eq-Decides x name).0 e) ∙ t))
+      by true false e t = rw (stands-more names x name, place-more names x name, e, t) refl
+      by false true e t = rw (stands-more names x name, place-more names x name, e, t) refl
+      by false false e t = rw (stands-more names x name, e, t) refl
+
+pub with-old : (names : List Name) (name : Name) → stands names name ≡ true → with_name names name ≡ names
+with-old names name e = rw e refl
+
+pub with-new : (names : List Name) (name : Name) → stands names name ≡ false → with_name names name ≡ names ++ name ∷ []
+with-new names name e = rw e refl
+
+-- ---- names behind references
+
+pub length-now : (names : List (Bor Name)) → length (map (λ name. name.now) names) ≡ length names
+length-now [] = refl
+length-now (x ∷ names) = ap suc (length-now names)
+
+pub spelled-now : (spell : Name → List ℕ) (names : List (Bor Name)) → flat_map spell (map (λ name. name.now) names) ≡ flat_map (λ name. spell name.now) names
+spelled-now spell [] = refl
+spelled-now spell (x ∷ names) = ap (λ (t : List ℕ). spell x.now ++ t) (spelled-now spell names)
+
+some_is : {A : Type 0} (x y : A) → Some x ≡ Some y → x ≡ y
+some_is x y e = cc
+
+-- what the map of places answers
+pub is_new : (names : List Name) (name : Name) → found names name ≡ None → place_of names name ≡ length names
+is_new names name e = by (stands names name) refl e where
+  by : (s : Bool) → stands names name ≡ s → cond s (Some (place_of names name)) None ≡ None → place_of names name ≡ length names
+  by true t e = absurd cc
+  by false t e =
+      let le : length names ≤ place_of names name = ltb-false _ _ t in
+      let no_more = place-within names name in
+      omega (arith, le, no_more)
+
+pub not_there : (names : List Name) (name : Name) → found names name ≡ None → stands names name ≡ false
+not_there names name e = by (stands names name) e where
+  by : (s : Bool) → cond s (Some (place_of names name)) None ≡ None → s ≡ false
+  by true e = absurd cc
+  by false e = refl
+
+-- ---- sets and maps of names
+
+pub has_next : (before : List Name) (old new : BTreeSet (Bor Name)) (x : Name) → HasNames before old
+    → ((q : Bor Name) → contains_by (λ key. slice_cmp nat_cmp q.now key.now) new ≡ cond (is_eq (slice_cmp nat_cmp x q.now)) true (contains_by (λ key. slice_cmp nat_cmp q.now key.now) old))
+    → HasNames (before ++ x ∷ []) new
+has_next before old new x has updates name =
+    let q : Bor Name = record { ref_ptr = (0, 0); now = name } in
+    updates q ∙ rw (is_eq-slice_cmp x name, has name) (sym (stands-more before x name))
+
+now-more : (names : List (Bor Name)) (x : Bor Name) → map (λ name. name.now) (names ++ x ∷ []) ≡ map (λ name. name.now) names ++ x.now ∷ []
+now-more [] x = refl
+now-more (y ∷ names) x = ap (λ (t : List Name). y.now ∷ t) (now-more names x)
+
+none_is : {A : Type 0} (r : Option A) → is_some r ≡ false → r ≡ None
+none_is None e = refl
+none_is (Some x) e = absurd (false≢true (sym e))
+
+pub places_next : (names all : List (Bor Name)) (old new : BTreeMap (Bor Name) ℕ) (x : Bor Name) (len : ℕ)
+    → HasPlaces (map (λ name. name.now) names) old → is_some (get_by (λ key. slice_cmp nat_cmp x.now key.now) old) ≡ false
+    → all ≡ names ++ x ∷ [] → len ≡ length all
+    → ((q : Bor Name) → get_by (λ key. slice_cmp nat_cmp q.now key.now) new ≡ cond (is_eq (slice_cmp nat_cmp x.now q.now)) (Some (len - 1)) (get_by (λ key. slice_cmp nat_cmp q.now key.now) old))
+    → HasPlaces (map (λ name. name.now) all) new
+places_next names all old new x len has absent is len_is updates name =
+    let ns : List Name = map (λ name. name.now) names in
+    let q : Bor Name = record { ref_ptr = (0, 0); now = name } in
+    let new_one : stands ns x.now ≡ false = not_there ns x.now (sym (has x.now) ∙ none_is _ absent) in
+    let place : len - 1 ≡ length ns = omega (arith, len_is, ap length is, length-append names (x ∷ []), length-now names) in
+    updates q ∙ rw (is_eq-slice_cmp x.now name, has name, place) (rw (is, now-more names x) (sym (found-more ns x.now name new_one)))
+
+pub on_ok : {A E : Type 0} (r : Result A E) (P : Type 0) → is_err r ≡ false → OnOk r P → P
+on_ok (Ok x) P e h = h
+on_ok (Err x) P e h = absurd (false≢true (sym e))
+
+-- ---- tables that are written
+
+pub table_is : (out old : List ℕ) (names : List (Bor Name)) (i : ℕ) → length names ≤ i
+    → out ≡ old ++ (u4 (length names) ++ flat_map (λ name. spell_name name.now) (take i names))
+    → out ≡ old ++ spell_names (map (λ name. name.now) names)
+table_is out old names i le so_far =
+    rw (length-now names, spelled-now spell_name names) (so_far ∙ ap (λ (ns : List (Bor Name)). old ++ (u4 (length names) ++ flat_map (λ name. spell_name name.now) ns)) (take_all i names le))

@@ -1,0 +1,9 @@
+use Rattle.std.proofs.Common.{◌∙◌, sym, ap, length, map}
+use Rattle.cert_format.proofs.Places.{is_new, length-now}
+use Rattle.cert_format.proofs.index.Index.place.Goals as goal
+
+pub returns-in-None : goal.returns-in-None
+returns-in-None c =
+    let names = c.self.inside.names.items in
+    let new = is_new (map (λ name. name.now) names) c.args.name.now (sym (c.self.invariant c.args.name.now) ∙ sym c.in-None.ensures.value) in
+    rw (← c.self.view_is) (ap length c.as_slice.ensures.value ∙ sym (length-now names) ∙ sym new)

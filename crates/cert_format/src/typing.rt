@@ -1,0 +1,34 @@
+//! The types of what locals and stack places hold before each instruction.
+
+use mon_base::{Bytes, List};
+
+/// What a local or a stack place holds, as the verifier sees it. (The Java Virtual Machine Specification, section
+/// 4.10.1.2.)
+#[derive(Debug, Drop, PartialEq, Eq)]
+pub enum VType {
+    /// Anything.
+    Top,
+    /// A number of 32 bits.
+    Int,
+    /// The null reference.
+    Null,
+    /// A reference to an object of this class, or of this array type, whose name is its descriptor.
+    Ref(Bytes),
+    /// The object that this constructor makes, before the constructor of its superclass is called.
+    UninitThis,
+    /// What the `new` of this index, counted in instructions, made, before its constructor is called.
+    Uninit(u32),
+}
+
+/// The types before an instruction: of the locals, and of the operand stack from its bottom.
+#[derive(Debug, Drop, PartialEq, Eq)]
+pub struct FrameType {
+    pub locals: List<VType>,
+    pub stack: List<VType>,
+}
+
+/// The frame types of a program by class, method with code, and instruction. `None`: it is not reached.
+#[derive(Debug, Drop, PartialEq, Eq)]
+pub struct Typing {
+    pub frames: List<List<List<Option<FrameType>>>>,
+}
