@@ -1,0 +1,4 @@
+pub mod Forms
+pub mod Shapes
+pub mod Effect
+pub mod Following
