@@ -10,5 +10,8 @@ mod laws;
 mod shape;
 
 pub use forms::{StackForm, depth_of};
-pub use laws::effect_follows;
+pub use laws::{control_goes_to_successor, effect_follows, operands_move, shapes_are_the_tables};
 pub use shape::{Heap, Item, Kind, One, Relation, Shape, Two, shape_of};
+
+#[cfg(test)]
+mod tests;
