@@ -1,0 +1,5 @@
+mod Pairs
+mod Moving
+pub mod Following
+mod OpcodeTests
+pub mod Table
