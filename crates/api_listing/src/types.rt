@@ -1,0 +1,66 @@
+//! What a listing tells.
+
+ghost use Rattle.std.specs.Prelude.{◌≡◌, IfOk};
+
+use mon_base::{Bytes, List, MethodId, NoMemory};
+use std::alloc::Global;
+
+/// A method that a listing declares.
+#[derive(Debug, Drop, PartialEq, Eq)]
+pub struct ListedMethod {
+    pub id: MethodId,
+    pub is_static: bool,
+}
+
+/// A class or an interface that is built in or that a listing declares. `java/lang/Object` alone has an empty parent.
+#[derive(Debug, Drop, PartialEq, Eq)]
+pub struct ListedClass {
+    pub name: Bytes,
+    pub parent: Bytes,
+    pub interfaces: List<Bytes>,
+    pub is_interface: bool,
+}
+
+/// What a listing tells: the built-in classes and then its own, its methods and its fields, each in order of lines.
+#[derive(Debug, Drop, PartialEq, Eq)]
+pub struct Listing {
+    pub classes: List<ListedClass>,
+    pub methods: List<ListedMethod>,
+    pub fields: List<MethodId>,
+}
+
+impl ListedClass {
+    /// An equal class.
+    pub fn copy(&self, alloc: Global) -> Result<ListedClass, NoMemory>
+        ensures { IfOk result (λ c. c ≡ self.now) }
+    {
+        Ok(ListedClass {
+            name: self.name.copy(alloc)?,
+            parent: self.parent.copy(alloc)?,
+            interfaces: copies(alloc, self.interfaces.as_slice())?,
+            is_interface: self.is_interface,
+        })
+    }
+}
+
+impl ListedMethod {
+    /// An equal method.
+    pub fn copy(&self, alloc: Global) -> Result<ListedMethod, NoMemory>
+        ensures { IfOk result (λ m. m ≡ self.now) }
+    {
+        Ok(ListedMethod {
+            id: self.id.copy(alloc)?,
+            is_static: self.is_static,
+        })
+    }
+}
+
+fn copies(alloc: Global, names: &[Bytes]) -> Result<List<Bytes>, NoMemory>
+    ensures { IfOk result (λ l. l ≡ names.now) }
+{
+    let mut made = List::new(alloc);
+    for name in names {
+        made.push(name.copy(alloc)?)?;
+    }
+    Ok(made)
+}
