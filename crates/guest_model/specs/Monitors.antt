@@ -1,5 +1,6 @@
 -- Monitors: each is held by one thread, which may enter it again. (The Java Virtual Machine Specification, section 2.11.10.)
 use Rattle.std.specs.Prelude.{ℕ, ◌+◌, ◌-◌, ◌==◌, Bool, true, false, if◌then◌else◌, List, [], ◌∷◌, ◌++◌, Option, Some, None, option_map}
+use Rattle.std.specs.Option.{option_map_or}
 use Rattle.guest_heap.specs.declared.object.Monitor.{Monitor}
 use Rattle.guest_heap.specs.declared.value.Value.{Value}
 use Rattle.guest_model.specs.Values.{are_one}
@@ -26,10 +27,7 @@ left (m ∷ others) thread on =
 
 -- the same, where nothing is given up that is not held
 abbrev pub given_up : List Monitor → ℕ → Value → List Monitor
-given_up monitors thread on = or_same (left monitors thread on) monitors where
-  abbrev or_same : Option (List Monitor) → List Monitor → List Monitor
-  or_same None same = same
-  or_same (Some new) same = new
+given_up monitors thread on = option_map_or (λ (new : List Monitor). new) (left monitors thread on) monitors
 
 abbrev pub all_given_up : List Monitor → ℕ → List Value → List Monitor
 all_given_up monitors thread [] = monitors

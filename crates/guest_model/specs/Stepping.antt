@@ -1,5 +1,5 @@
 -- One step of a program: a case for each group of instructions. A step that is not enabled has no value.
-use Rattle.std.specs.Prelude.{◌≡◌, ℕ, ℤ, ◌+◌, ◌==◌, ◌&&◌, Bool, true, false, not, bytes_eq, codes, if◌then◌else◌, List, [], ◌∷◌, ◌++◌, length, drop, replicate, Option, Some, None, is_some, option_map, option_and_then, slice_get, slice_set}
+use Rattle.std.specs.Prelude.{◌≡◌, ℕ, ℤ, ◌+◌, ◌-◌, ◌==◌, ◌&&◌, Bool, true, false, not, bytes_eq, codes, if◌then◌else◌, List, [], ◌∷◌, ◌++◌, length, drop, replicate, Option, Some, None, is_some, option_map, option_and_then, slice_get, slice_set}
 use Rattle.std.specs.Option.{option_map_or, option_to_list}
 use Rattle.api_listing.specs.declared.events.ApiAnswer.{ApiAnswer}
 use Rattle.api_listing.specs.declared.events.ApiAnswer.TheVariants as answers
@@ -23,6 +23,7 @@ use Rattle.bytecode_model.specs.declared.program.Target.{Target}
 use Rattle.bytecode_model.specs.declared.program.Target.TheVariants as target
 use Rattle.bytecode_model.specs.Heads.{is_synchronized, is_static}
 use Rattle.guest_heap.specs.declared.frame.Frame.{Frame}
+use Rattle.guest_heap.specs.declared.object.Monitor.{Monitor}
 use Rattle.guest_heap.specs.declared.object.Object.{Object}
 use Rattle.guest_heap.specs.declared.object.Object.TheVariants as objects
 use Rattle.guest_heap.specs.declared.thread.Doing.{Doing}
@@ -35,7 +36,7 @@ use Rattle.guest_model.specs.declared.machine.Choice.TheVariants as choices
 use Rattle.guest_model.specs.declared.machine.Machine.{Machine}
 use Rattle.guest_model.specs.declared.machine.Step.{Step}
 use Rattle.guest_model.specs.Answers.{fits_number, may_throw}
-use Rattle.guest_model.specs.Calls.{types_of, arity, Taken, taken, values_seen_by}
+use Rattle.guest_model.specs.Calls.{types_of, arity, Taken, taken, value_seen, values_seen_by}
 use Rattle.guest_model.specs.Monitors.{entered, left, all_given_up}
 use Rattle.guest_model.specs.Places.{classes_of, class_index, method_at, insn_at, moved_to, fitted, after}
 use Rattle.guest_model.specs.Throwing.{unwound, locks_left, bare_object}
@@ -126,12 +127,13 @@ null_pointer = codes "java/lang/NullPointerException"
 abbrev pub bad_monitor : List ℕ
 bad_monitor = codes "java/lang/IllegalMonitorStateException"
 
+abbrev pub plain_class : Object → Option (List ℕ)
+plain_class (objects.Plain class fields target thread) = Some class
+plain_class other = None
+
 -- the class of an object that can be thrown
 abbrev pub thrown_class : List Object → Value → Option (List ℕ)
-thrown_class objects (values.Ref at) = option_and_then plain_class (slice_get objects at) where
-  abbrev plain_class : Object → Option (List ℕ)
-  plain_class (objects.Plain class fields target thread) = Some class
-  plain_class other = None
+thrown_class objects (values.Ref at) = option_and_then plain_class (slice_get objects at)
 thrown_class objects other = None
 
 -- ---- instructions
@@ -149,7 +151,7 @@ constant_value program (target.Literal index) = Some (values.Lit index)
 constant_value program (target.ClassName name) = option_map values.Class (class_index program name)
 constant_value program other = None
 
-abbrev pub with_held : Machine → List _ → Machine
+abbrev pub with_held : Machine → List Monitor → Machine
 with_held machine monitors = record {
   heap = machine.heap;
   statics = machine.statics;
@@ -164,13 +166,16 @@ enters program machine number thread frame below on =
     if is_null on then Some (throws_new program machine number (frame ∷ below) thread.todo null_pointer None)
     else option_and_then (λ held. goes_on (with_held machine held) thread below (after frame (drop 1 frame.stack.items))) (entered machine.monitors number on)
 
+-- going on with these monitors, or throwing where the monitor is not held
+abbrev pub left_with : Program → Machine → ℕ → Thread → Frame → List Frame → Option (List Monitor) → Option Made
+left_with program machine number thread frame below None = Some (throws_new program machine number (frame ∷ below) thread.todo bad_monitor None)
+left_with program machine number thread frame below (Some held) = goes_on (with_held machine held) thread below (after frame (drop 1 frame.stack.items))
+
+-- leaving a monitor
 abbrev pub leaves : Program → Machine → ℕ → Thread → Frame → List Frame → Value → Option Made
 leaves program machine number thread frame below on =
     if is_null on then Some (throws_new program machine number (frame ∷ below) thread.todo null_pointer None)
-    else by_holding (left machine.monitors number on) where
-  abbrev by_holding : Option (List _) → Option Made
-  by_holding None = Some (throws_new program machine number (frame ∷ below) thread.todo bad_monitor None)
-  by_holding (Some held) = goes_on (with_held machine held) thread below (after frame (drop 1 frame.stack.items))
+    else left_with program machine number thread frame below (left machine.monitors number on)
 
 -- throwing what is on top
 abbrev pub throws_top : Program → Machine → ℕ → Thread → Frame → List Frame → Value → Option Made
