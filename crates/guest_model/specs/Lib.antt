@@ -6,3 +6,4 @@ pub mod Calls
 pub mod Answers
 pub mod Stepping
 pub mod Runs
+pub mod Standing

@@ -4,6 +4,8 @@
 //! What a step does stands in specs/, in one case for each group of instructions. (docs/MACHINE.md)
 #![tactic(auto)]
 
+mod laws;
 mod machine;
 
+pub use laws::sees_only_what_is_called;
 pub use machine::{Choice, End, Machine, Step};
