@@ -9,16 +9,11 @@ use Rattle.insn_codec.specs.Opcodes.{opcode_at, operands_of, is_frame_only, goes
 use Rattle.insn_effect.specs.declared.shape.Shape.{Shape}
 use Rattle.insn_effect.specs.declared.shape.Shape.TheVariants as shapes
 use Rattle.insn_effect.specs.Shapes.{plain_shape, pool_shape, local_shape, branch_shape}
-use Rattle.insn_effect.specs.Table.{is_heap}
+use Rattle.insn_effect.specs.Table.{is_heap, ends}
 
 abbrev pub is_nothing : Shape → Bool
 is_nothing shapes.Nothing = true
 is_nothing other = false
-
-abbrev pub is_goto : Shape → Bool
-is_goto (shapes.Goto to) = true
-is_goto shapes.Switch = true
-is_goto other = false
 
 abbrev is_plain : Operands → Bool
 is_plain ops.Plain = true
@@ -54,7 +49,7 @@ jumps_nowhere shape = (length (jumps_of shape) == 0) && not (is_switch shape)
 
 -- The table marks the opcode as the shape says, control goes on after it but after a jump, and it does something.
 abbrev agrees : ℕ → Shape → Bool
-agrees op shape = beq (is_frame_only op) (not (is_heap shape)) && ((is_heap shape || beq (goes_on op) (not (is_goto shape))) && (not (is_nothing shape) || (op == 0)))
+agrees op shape = beq (is_frame_only op) (not (is_heap shape)) && (beq (goes_on op) (not (ends shape)) && (not (is_nothing shape) || (op == 0)))
 
 abbrev below : ℕ → (ℕ → Bool) → Bool
 below zero test = true
@@ -72,7 +67,7 @@ tried test (suc n) i h lt =
 -- what the agreement of an opcode and a shape says
 pub record Agreement (op : ℕ) (shape : Shape) : Type 0 where
   pub marked : is_frame_only op ≡ not (is_heap shape)
-  pub goes : is_heap shape ≡ false → goes_on op ≡ not (is_goto shape)
+  pub goes : goes_on op ≡ not (ends shape)
   pub something : is_nothing shape ≡ true → op ≡ 0
 
 same_of : (a b : Bool) → beq a b ≡ true → a ≡ b
@@ -88,10 +83,10 @@ or_of false b h e = h
 agreement_of : (op : ℕ) (shape : Shape) → agrees op shape ≡ true → Agreement op shape
 agreement_of op shape h =
     let a = and_parts (beq (is_frame_only op) (not (is_heap shape))) _ h in
-    let b = and_parts (is_heap shape || beq (goes_on op) (not (is_goto shape))) _ a.1 in
+    let b = and_parts (beq (goes_on op) (not (ends shape))) _ a.1 in
     record {
       marked = same_of (is_frame_only op) (not (is_heap shape)) a.0;
-      goes = λ frame. same_of (goes_on op) (not (is_goto shape)) (or_of (is_heap shape) _ b.0 frame);
+      goes = same_of (goes_on op) (not (ends shape)) b.0;
       something = λ none. eqb-true op 0 (or_of (not (is_nothing shape)) (op == 0) b.1 (ap not none));
     }
 

@@ -16,8 +16,8 @@ use Rattle.insn_effect.specs.declared.shape.Shape.{Shape}
 use Rattle.insn_effect.specs.declared.shape.Shape.TheVariants as shapes
 use Rattle.insn_effect.specs.Control.{View, next_of, goes_to, in_range, by_key, jump_targets, successors}
 use Rattle.insn_effect.specs.Shapes.{shape_of, plain_shape, pool_shape, local_shape, branch_shape, test_shape, comparing_shape}
-use Rattle.insn_effect.specs.Table.{is_heap, MarkedAlike, NopAlone, GoesToSuccessor}
-use Rattle.insn_effect.proofs.OpcodeTests.{Agreement, is_nothing, is_goto, is_switch, jumps_of, jumps_nowhere, plain_agrees, plain_stays, pool_agrees, pool_is_heap, local_agrees, local_stays, branch_agrees}
+use Rattle.insn_effect.specs.Table.{is_heap, ends, MarkedAlike, GoesOnAlike, NopAlone, GoesToSuccessor}
+use Rattle.insn_effect.proofs.OpcodeTests.{Agreement, is_nothing, is_switch, jumps_of, jumps_nowhere, plain_agrees, plain_stays, pool_agrees, pool_is_heap, local_agrees, local_stays, branch_agrees}
 
 pub marked_alike : MarkedAlike
 unfolding opcode_at
@@ -34,6 +34,22 @@ marked_alike (insns.GotoW to) is = refl
 marked_alike (insns.NewArray kind) is = refl
 marked_alike (insns.Table other low targets) is = refl
 marked_alike (insns.Lookup other keys targets) is = refl
+
+pub goes_on_alike : GoesOnAlike
+unfolding opcode_at
+goes_on_alike (insns.Plain op) is = (plain_agrees op is.0 is.1).goes
+goes_on_alike (insns.Byte n) is = refl
+goes_on_alike (insns.Short n) is = refl
+goes_on_alike (insns.Ldc index) is = refl
+goes_on_alike (insns.Pool op index) is = (pool_agrees op is.0 is.1).goes
+goes_on_alike (insns.Iface index count) is = refl
+goes_on_alike (insns.Local op slot wide) is = (local_agrees op slot is.0 is.1).goes
+goes_on_alike (insns.Inc slot by wide) is = refl
+goes_on_alike (insns.Branch op to) is = (branch_agrees op to is.0 is.1).goes
+goes_on_alike (insns.GotoW to) is = refl
+goes_on_alike (insns.NewArray kind) is = refl
+goes_on_alike (insns.Table other low targets) is = refl
+goes_on_alike (insns.Lookup other keys targets) is = refl
 
 not_true : (b : Bool) → not b ≡ true → b ≡ false
 not_true true h = absurd cc
@@ -132,30 +148,30 @@ stays_parts shape h =
 
 -- a shape that is no switch leads on, or to its target
 abbrev Leads : Shape → ℕ → ℕ → Type 0
-Leads shape next to = ((to ≡ next) × (is_goto shape ≡ false)) ⊎ Contains (jumps_of shape) to
+Leads shape next to = ((to ≡ next) × (ends shape ≡ false)) ⊎ Contains (jumps_of shape) to
 
-if_taken : (shape : Shape) (b : Bool) (to next : ℕ) → is_goto shape ≡ false → jumps_of shape ≡ to ∷ [] → Leads shape next (cond b to next)
+if_taken : (shape : Shape) (b : Bool) (to next : ℕ) → ends shape ≡ false → jumps_of shape ≡ to ∷ [] → Leads shape next (cond b to next)
 if_taken shape true to next stays jumps = inr (rw jumps (first_of to []))
 if_taken shape false to next stays jumps = inl (refl, stays)
 
 module _ {V : Type 0} (view : View V) where
-  leads : (insn : Insn) (shape : Shape) (next : ℕ) (stack : List V) → is_switch shape ≡ false → Leads shape next (goes_to view insn shape next stack)
-  leads insn shapes.Nothing next stack plain = inl (refl, refl)
-  leads insn (shapes.Push n) next stack plain = inl (refl, refl)
-  leads insn shapes.PushNull next stack plain = inl (refl, refl)
-  leads insn (shapes.Load kind slot) next stack plain = inl (refl, refl)
-  leads insn (shapes.Store kind slot) next stack plain = inl (refl, refl)
-  leads insn (shapes.Move form) next stack plain = inl (refl, refl)
-  leads insn (shapes.Two op) next stack plain = inl (refl, refl)
-  leads insn (shapes.One op) next stack plain = inl (refl, refl)
-  leads insn (shapes.Increment slot by) next stack plain = inl (refl, refl)
-  leads insn (shapes.Test relation to) next stack plain = if_taken (shapes.Test relation to) _ to next refl refl
-  leads insn (shapes.Compare relation to) next stack plain = if_taken (shapes.Compare relation to) _ to next refl refl
-  leads insn (shapes.CompareReferences same to) next stack plain = if_taken (shapes.CompareReferences same to) _ to next refl refl
-  leads insn (shapes.TestNull null to) next stack plain = if_taken (shapes.TestNull null to) _ to next refl refl
-  leads insn (shapes.Goto to) next stack plain = inr (first_of to [])
-  leads insn shapes.Switch next stack plain = absurd cc
-  leads insn (shapes.Heap what) next stack plain = inl (refl, refl)
+  leads : (insn : Insn) (shape : Shape) (next : ℕ) (stack : List V) → is_switch shape ≡ false → is_heap shape ≡ false → Leads shape next (goes_to view insn shape next stack)
+  leads insn shapes.Nothing next stack plain frame = inl (refl, refl)
+  leads insn (shapes.Push n) next stack plain frame = inl (refl, refl)
+  leads insn shapes.PushNull next stack plain frame = inl (refl, refl)
+  leads insn (shapes.Load kind slot) next stack plain frame = inl (refl, refl)
+  leads insn (shapes.Store kind slot) next stack plain frame = inl (refl, refl)
+  leads insn (shapes.Move form) next stack plain frame = inl (refl, refl)
+  leads insn (shapes.Two op) next stack plain frame = inl (refl, refl)
+  leads insn (shapes.One op) next stack plain frame = inl (refl, refl)
+  leads insn (shapes.Increment slot by) next stack plain frame = inl (refl, refl)
+  leads insn (shapes.Test relation to) next stack plain frame = if_taken (shapes.Test relation to) _ to next refl refl
+  leads insn (shapes.Compare relation to) next stack plain frame = if_taken (shapes.Compare relation to) _ to next refl refl
+  leads insn (shapes.CompareReferences same to) next stack plain frame = if_taken (shapes.CompareReferences same to) _ to next refl refl
+  leads insn (shapes.TestNull null to) next stack plain frame = if_taken (shapes.TestNull null to) _ to next refl refl
+  leads insn (shapes.Goto to) next stack plain frame = inr (first_of to [])
+  leads insn shapes.Switch next stack plain frame = absurd cc
+  leads insn (shapes.Heap what) next stack plain frame = absurd cc
 
   in_range_is : (other : ℕ) (low : ℤ) (targets : List ℕ) (n : ℤ) → Contains (other ∷ targets) (in_range other low targets n)
   in_range_is other low [] n = first_of other []
@@ -170,7 +186,7 @@ module _ {V : Type 0} (view : View V) where
   goes_on_or : (op at : ℕ) (shape : Shape) (jumps : List ℕ) (to : ℕ) → Agreement op shape → is_heap shape ≡ false → Leads shape (at + 1) to
       → (Contains (jumps_of shape) to → Contains jumps to) → Contains (cond (goes_on op) ((at + 1) ∷ []) [] ++ jumps) to
   goes_on_or op at shape jumps to agreement frame (inl on) there =
-      let goes : goes_on op ≡ true = agreement.goes frame ∙ ap not on.1 in
+      let goes : goes_on op ≡ true = agreement.goes ∙ ap not on.1 in
       rw (goes, on.0) (first_of (at + 1) jumps)
   goes_on_or op at shape jumps to agreement frame (inr jump) there =
       Contains-append_right (cond (goes_on op) ((at + 1) ∷ []) []) jumps to (there jump)
@@ -182,7 +198,7 @@ module _ {V : Type 0} (view : View V) where
   unfolding opcode_at
   goes_to_successor (insns.Plain op) at stack is frame =
       let stays = stays_parts (plain_shape op) (plain_stays op is.0 is.1) in
-      goes_on_or op at (plain_shape op) [] _ (plain_agrees op is.0 is.1) frame (leads (insns.Plain op) (plain_shape op) (at + 1) stack stays.1) (nowhere (plain_shape op) _ [] stays.0)
+      goes_on_or op at (plain_shape op) [] _ (plain_agrees op is.0 is.1) frame (leads (insns.Plain op) (plain_shape op) (at + 1) stack stays.1 frame) (nowhere (plain_shape op) _ [] stays.0)
   goes_to_successor (insns.Byte n) at stack is frame = first_of (at + 1) []
   goes_to_successor (insns.Short n) at stack is frame = first_of (at + 1) []
   goes_to_successor (insns.Ldc index) at stack is frame = absurd cc
@@ -190,11 +206,11 @@ module _ {V : Type 0} (view : View V) where
   goes_to_successor (insns.Iface index count) at stack is frame = absurd cc
   goes_to_successor (insns.Local op slot wide) at stack is frame =
       let stays = stays_parts (local_shape op slot) (local_stays op slot is.0 is.1) in
-      goes_on_or op at (local_shape op slot) [] _ (local_agrees op slot is.0 is.1) frame (leads (insns.Local op slot wide) (local_shape op slot) (at + 1) stack stays.1) (nowhere (local_shape op slot) _ [] stays.0)
+      goes_on_or op at (local_shape op slot) [] _ (local_agrees op slot is.0 is.1) frame (leads (insns.Local op slot wide) (local_shape op slot) (at + 1) stack stays.1 frame) (nowhere (local_shape op slot) _ [] stays.0)
   goes_to_successor (insns.Inc slot by wide) at stack is frame = first_of (at + 1) []
   goes_to_successor (insns.Branch op to) at stack is frame =
       let only = branches_only op to in
-      goes_on_or op at (branch_shape op to) (to ∷ []) _ (branch_agrees op to is.0 is.1) frame (leads (insns.Branch op to) (branch_shape op to) (at + 1) stack only.plain)
+      goes_on_or op at (branch_shape op to) (to ∷ []) _ (branch_agrees op to is.0 is.1) frame (leads (insns.Branch op to) (branch_shape op to) (at + 1) stack only.plain frame)
       (λ c. elim only.target [
         | inl e ↦ nowhere (branch_shape op to) _ (to ∷ []) e c
         | inr e ↦ subst (λ (xs : List ℕ). Contains xs (goes_to view (insns.Branch op to) (branch_shape op to) (at + 1) stack)) e c

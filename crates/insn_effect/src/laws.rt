@@ -5,7 +5,7 @@ ghost use Rattle.insn_effect.specs.Control.{View};
 ghost use Rattle.insn_effect.specs.declared.forms.StackForm.TheVariants.{Pop, Pop2, Dup, DupX1, DupX2, Dup2, Dup2X1, Dup2X2, Swap};
 ghost use Rattle.insn_effect.specs.Effect.{Domain, moved_by};
 ghost use Rattle.insn_effect.specs.Following.{Respects, Follows};
-ghost use Rattle.insn_effect.specs.Table.{MarkedAlike, NopAlone, GoesToSuccessor};
+ghost use Rattle.insn_effect.specs.Table.{MarkedAlike, GoesOnAlike, NopAlone, GoesToSuccessor};
 
 /// Where values respect their types, an instruction that works on its frame alone and that the types allow works on
 /// the values too, and leaves values of the types that it leaves: no operand is missing or of another kind.
@@ -13,10 +13,11 @@ pub fn effect_follows<V, T>()
     ensures follows { (values : Domain V) (types : Domain T) (of : V → T → Bool) → Respects values types of → Follows values types of }
 {}
 
-/// The instructions that the table of opcodes marks as working on their frame alone are those whose shape does, and
-/// `nop` alone does nothing: no opcode is forgotten.
+/// The instructions that the table of opcodes marks as working on their frame alone are those whose shape does, control
+/// can go on after those whose shape says so, and `nop` alone does nothing: no opcode is forgotten.
 pub fn shapes_are_the_tables()
     ensures marked { MarkedAlike }
+    ensures goes_on { GoesOnAlike }
     ensures nop { NopAlone }
 {}
 

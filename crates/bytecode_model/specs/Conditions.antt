@@ -1,0 +1,152 @@
+-- The conditions that each class and each method of a program meets, one definition for each refusal.
+use Rattle.std.specs.Prelude.{ℕ, zero, suc, Bool, true, false, not, ◌==◌, ◌&&◌, ◌||◌, bytes_eq, codes, if◌then◌else◌, List, [], ◌∷◌, ◌++◌, length, take, Option, Some, None, is_some, Result, Ok, Err, is_ok}
+use Rattle.std.specs.List.{list_all, list_any, filter_map}
+use Rattle.std.specs.Option.{option_map_or}
+use Rattle.mon_base.specs.Reading.{◌>>=◌, need}
+use Rattle.class_codec.specs.declared.tree.Const.{Const}
+use Rattle.class_codec.specs.declared.tree.Const.TheVariants as constants
+use Rattle.class_codec.specs.declared.tree.Code.{Code}
+use Rattle.class_codec.specs.declared.tree.Attr.{Attr}
+use Rattle.class_codec.specs.declared.tree.Attr.TheVariants as attributes
+use Rattle.class_codec.specs.declared.tree.Member.{Member}
+use Rattle.class_codec.specs.declared.tree.ClassFile.{ClassFile}
+use Rattle.api_listing.specs.declared.types.ListedClass.{ListedClass}
+use Rattle.api_listing.specs.declared.types.Listing.{Listing}
+use Rattle.api_listing.specs.BuiltIn.{object, thread, runnable, throwables, is_built_in}
+use Rattle.api_listing.specs.Listing.{is_known, own_class}
+use Rattle.api_listing.specs.Nearest.{class_named, declared_in}
+use Rattle.api_listing.specs.Descriptor.{method_type}
+use Rattle.api_listing.specs.Words.{is_class_name}
+use Rattle.bytecode_model.specs.declared.fault.LinkFault.TheVariants as faults
+use Rattle.bytecode_model.specs.declared.program.Side.{Side}
+use Rattle.bytecode_model.specs.declared.program.Side.TheVariants as sides
+use Rattle.bytecode_model.specs.Fault.{Linked}
+use Rattle.bytecode_model.specs.Heads.{is_static, is_synchronized, is_native, is_abstract, head_of, heads_of, all_classes, name_of, desc_of, main_name, main_desc, maker, initialiser, takes_nothing, run_name}
+use Rattle.bytecode_model.specs.SearchOrder.{Name, is_one_of, search_order}
+
+-- ---- the constant pool (145)
+
+-- the text begins with these bytes
+abbrev pub begins_with : List ℕ → List ℕ → Bool
+begins_with front text = bytes_eq (take (length front) text) front
+
+-- the bytes stand somewhere in the text
+abbrev pub holds : List ℕ → List ℕ → Bool
+holds part [] = begins_with part []
+holds part (b ∷ text) = begins_with part (b ∷ text) || holds part text
+
+abbrev pub names_own_class : Const → Bool
+names_own_class (constants.Utf8 text) = holds own_class text
+names_own_class other = false
+
+-- A file from a compiler names nothing of this tool's own class.
+abbrev pub is_free : Side → ClassFile → Bool
+is_free sides.Original file = not (list_any names_own_class file.pool)
+is_free sides.Inlined file = true
+
+-- ---- superclasses and interfaces (144)
+
+-- a built-in class that a given one may be below
+abbrev pub may_be_extended : Name → Bool
+may_be_extended name = bytes_eq name object || (bytes_eq name thread || is_one_of throwables name)
+
+abbrev pub is_super : List ListedClass → Name → Bool
+is_super heads name = is_known heads name || may_be_extended name
+
+abbrev pub is_above : List ListedClass → Name → Bool
+is_above heads name = is_known heads name || bytes_eq name runnable
+
+-- after n superclasses the way up is still among the given classes
+abbrev pub stays_within : ℕ → List ListedClass → Name → Bool
+stays_within zero heads name = true
+stays_within (suc n) heads name = option_map_or (λ (c : ListedClass). stays_within n heads c.parent) (class_named heads name) false
+
+-- the way up from the class never leaves the given classes
+abbrev pub runs_in_circle : List ListedClass → Name → Bool
+runs_in_circle heads name = stays_within (suc (length heads)) heads name
+
+-- an interface is below Object, and its fields are static
+abbrev pub is_good_interface : ClassFile → Bool
+is_good_interface file =
+    not (head_of file).is_interface
+    || (bytes_eq (head_of file).parent object && list_all (λ (m : Member). is_static m.flags) file.fields)
+
+abbrev pub has_supers : List ListedClass → ClassFile → Bool
+has_supers heads file =
+    is_super heads (head_of file).parent && (list_all (is_above heads) (head_of file).interfaces
+    && (not (runs_in_circle heads (head_of file).name) && is_good_interface file))
+
+-- ---- classes, in order (150, 142, 145, 144)
+
+-- the conditions of a class behind some others
+abbrev pub class_linked : Side → List ListedClass → Listing → List ListedClass → ClassFile → Linked (Unit {0})
+class_linked side heads listing earlier file = do
+  named ← need (is_class_name (head_of file).name) (faults.Name (head_of file).name)
+  once ← need (not (is_known earlier (head_of file).name || is_known listing.classes (head_of file).name)) (faults.Twice (head_of file).name)
+  free ← need (is_free side file) (faults.NameTaken (head_of file).name)
+  need (has_supers heads file) (faults.SuperLeftOut (head_of file).name)
+
+-- those of the classes behind some others
+abbrev pub classes_linked : Side → List ListedClass → Listing → List ListedClass → List ClassFile → Linked (Unit {0})
+classes_linked side heads listing earlier [] = Ok tt
+classes_linked side heads listing earlier (file ∷ files) = do
+  first ← class_linked side heads listing earlier file
+  classes_linked side heads listing (earlier ++ head_of file ∷ []) files
+
+-- ---- methods (146)
+
+abbrev pub code_in : Attr → Option Code
+code_in (attributes.Code code) = Some code
+code_in (attributes.Other other) = None
+
+abbrev pub codes_of : Member → List Code
+codes_of member = filter_map code_in member.attrs
+
+abbrev pub is_named : Name → Name → List Const → Member → Bool
+is_named name desc pool member = bytes_eq (name_of pool member) name && bytes_eq (desc_of pool member) desc
+
+-- neither native, nor abstract and static, nor an abstract maker
+abbrev pub has_good_flags : List Const → Member → Bool
+has_good_flags pool member =
+    not (is_native member.flags)
+    && not (is_abstract member.flags && (is_static member.flags || bytes_eq (name_of pool member) maker))
+
+-- An initialiser is static and takes nothing.
+abbrev pub is_good_initialiser : List Const → Member → Bool
+is_good_initialiser pool member =
+    not (bytes_eq (name_of pool member) initialiser) || (is_static member.flags && bytes_eq (desc_of pool member) takes_nothing)
+
+-- A method that is begun without a call is not synchronized.
+abbrev pub is_begun_unlocked : List Const → Member → Bool
+is_begun_unlocked pool member =
+    not (is_synchronized member.flags
+    && (is_named main_name main_desc pool member || (bytes_eq (name_of pool member) initialiser || is_named run_name takes_nothing pool member)))
+
+-- whether the text is the descriptor of a method
+abbrev pub describes_method : List ℕ → Bool
+describes_method desc = is_ok (method_type desc)
+
+-- A method has one code, or none where it is abstract.
+abbrev pub has_its_code : Member → Bool
+has_its_code member = length (codes_of member) == (if is_abstract member.flags then 0 else 1)
+
+abbrev pub is_allowed : List Const → Member → Bool
+is_allowed pool member =
+    has_good_flags pool member && (is_good_initialiser pool member && (is_begun_unlocked pool member
+    && (describes_method (desc_of pool member) && has_its_code member)))
+
+-- ---- methods of the library (149)
+
+abbrev pub is_run : Name → Name → Bool
+is_run name desc = bytes_eq name run_name && bytes_eq desc takes_nothing
+
+-- The library declares the method in the very class; that a Thread or Runnable runs counts for nothing.
+abbrev pub is_of_library : Listing → Name → Name → Name → Bool
+is_of_library listing name desc class =
+    is_some (declared_in listing.methods name desc class) || (is_built_in class name desc && not (is_run name desc))
+
+-- An instance method other than a maker has the name and descriptor of a method of the library above its class.
+abbrev pub overrides : List ListedClass → Listing → Name → List Const → Member → Bool
+overrides classes listing class pool member =
+    not (is_static member.flags) && (not (bytes_eq (name_of pool member) maker)
+    && list_any (is_of_library listing (name_of pool member) (desc_of pool member)) (search_order classes class))

@@ -1,0 +1,31 @@
+-- The numbers under which faults are reported, and how calls answer what the definition of linking gives.
+use Rattle.std.specs.Prelude.{◌≡◌, ℕ, Result, Ok, Err}
+use Rattle.bytecode_model.specs.declared.fault.LinkFault.{LinkFault}
+use Rattle.bytecode_model.specs.declared.fault.LinkFault.TheVariants as faults
+
+abbrev pub number_of : LinkFault → ℕ
+number_of faults.NoMain = 141
+number_of (faults.Twice class) = 142
+number_of (faults.Unresolved class name) = 143
+number_of (faults.SuperLeftOut class) = 144
+number_of (faults.NameTaken class) = 145
+number_of (faults.Method class name) = 146
+number_of (faults.TooMany count) = 147
+number_of (faults.Code class method fault) = 148
+number_of (faults.Overrides class name) = 149
+number_of (faults.Name class) = 150
+number_of (faults.Operand class method at) = 151
+number_of faults.Memory = 0
+
+-- what linking gives: a value, or the first condition that fails
+abbrev pub Linked : Type 0 → Type 0
+Linked X = Result X LinkFault
+
+abbrev pub Fails : {X : Type 0} → LinkFault → Linked X → Type 0
+Fails faults.Memory linked = Unit {0}
+Fails fault linked = linked ≡ Err fault
+
+-- A call answered what linking gives, unless memory ran out.
+abbrev pub Answers : {X : Type 0} → Linked X → Linked X → Type 0
+Answers (Ok x) linked = linked ≡ Ok x
+Answers (Err fault) linked = Fails fault linked

@@ -1,0 +1,44 @@
+-- The exception table of a method, by indices of instructions. (The Java Virtual Machine Specification, section 4.7.3.)
+use Rattle.std.specs.Prelude.{ℕ, ◌+◌, Bool, true, false, ◌==◌, nat_lt, if◌then◌else◌, List, [], ◌∷◌, length, map, Option, Some, None, ok_or, option_and_then, Result, Ok, Err}
+use Rattle.std.specs.List.{position_from}
+use Rattle.mon_base.specs.Reading.{◌>>=◌, need}
+use Rattle.class_codec.specs.declared.tree.Const.{Const}
+use Rattle.class_codec.specs.declared.tree.ClassFile.{ClassFile}
+use Rattle.class_codec.specs.declared.tree.TableEntry.{TableEntry}
+use Rattle.api_listing.specs.declared.types.Listing.{Listing}
+use Rattle.bytecode_model.specs.declared.fault.LinkFault.TheVariants as faults
+use Rattle.bytecode_model.specs.declared.program.Handler.{Handler}
+use Rattle.bytecode_model.specs.declared.program.Target.{Target}
+use Rattle.bytecode_model.specs.Fault.{Linked}
+use Rattle.bytecode_model.specs.Heads.{class_at}
+use Rattle.bytecode_model.specs.Operands.{class_linked, known_in, told_at}
+
+-- the index of the instruction that begins at the byte, or the number of instructions for the end of the code
+abbrev pub index_at : List ℕ → ℕ → Option ℕ
+index_at starts byte = position_from (λ start. start == byte) 0 starts
+
+-- the index of the instruction that begins at the byte; `starts` has the end of the code, too
+abbrev pub insn_at : List ℕ → ℕ → Option ℕ
+insn_at starts byte = option_and_then (λ index. if nat_lt (index + 1) (length starts) then Some index else None) (index_at starts byte)
+
+-- the class that is caught, or nothing for any
+abbrev pub caught : List ClassFile → Listing → List ℕ → List Const → ℕ → ℕ → ℕ → Linked (Option (List ℕ))
+caught files listing class pool method at index =
+    if index == 0 then Ok None
+    else (told_at class method at (class_linked true (known_in files listing) (class_at pool index)) >>= λ (t : Target). Ok (Some (class_at pool index)))
+
+-- an entry of the exception table of a method whose instructions begin at these bytes; it is told behind them
+abbrev pub handler_linked : List ClassFile → Listing → List ℕ → List Const → ℕ → ℕ → List ℕ → TableEntry → Linked Handler
+handler_linked files listing class pool method end starts entry = do
+  from ← ok_or (insn_at starts entry.from) (faults.Operand class method end)
+  to ← ok_or (index_at starts entry.to) (faults.Operand class method end)
+  at ← ok_or (insn_at starts entry.at) (faults.Operand class method end)
+  catches ← caught files listing class pool method end entry.class
+  Ok (record { from = from; to = to; at = at; class = catches })
+
+abbrev pub handlers_linked : List ClassFile → Listing → List ℕ → List Const → ℕ → ℕ → List ℕ → List TableEntry → Linked (List Handler)
+handlers_linked files listing class pool method end starts [] = Ok []
+handlers_linked files listing class pool method end starts (entry ∷ entries) = do
+  first ← handler_linked files listing class pool method end starts entry
+  others ← handlers_linked files listing class pool method end starts entries
+  Ok (first ∷ others)

@@ -1,0 +1,192 @@
+-- What an instruction's operand names. (The Java Virtual Machine Specification, sections 4.4, 5.4.3 and 6.5.)
+use Rattle.std.specs.Prelude.{ℕ, ◌+◌, Bool, true, false, not, ◌==◌, ◌&&◌, ◌||◌, bytes_eq, if◌then◌else◌, List, [], ◌∷◌, ◌++◌, length, Option, Some, None, slice_get, ok_or, Result, Ok, Err, is_ok}
+use Rattle.std.specs.Bool.{beq}
+use Rattle.std.specs.List.{flat_map, filter_map, fold, list_any, position_from}
+use Rattle.std.specs.Option.{option_map_or}
+use Rattle.mon_base.specs.Reading.{◌>>=◌, need}
+use Rattle.mon_base.specs.declared.method.MethodId.{MethodId}
+use Rattle.class_codec.specs.declared.tree.Const.{Const}
+use Rattle.class_codec.specs.declared.tree.Const.TheVariants as constants
+use Rattle.class_codec.specs.declared.tree.ClassFile.{ClassFile}
+use Rattle.class_codec.specs.Pool.{utf8_at, name_and_type_at}
+use Rattle.insn_codec.specs.declared.insn.Insn.{Insn}
+use Rattle.insn_codec.specs.declared.insn.Insn.TheVariants as insns
+use Rattle.api_listing.specs.declared.descriptor.Element.{Element}
+use Rattle.api_listing.specs.declared.descriptor.Element.TheVariants as elements
+use Rattle.api_listing.specs.declared.descriptor.FieldType.{FieldType}
+use Rattle.api_listing.specs.declared.types.Listing.{Listing}
+use Rattle.api_listing.specs.Descriptor.{method_type, whole_type}
+use Rattle.api_listing.specs.Fault.{Read}
+use Rattle.api_listing.specs.Listing.{is_known}
+use Rattle.bytecode_model.specs.declared.fault.LinkFault.TheVariants as faults
+use Rattle.bytecode_model.specs.declared.operand.OperandFault.{OperandFault}
+use Rattle.bytecode_model.specs.declared.operand.OperandFault.TheVariants as operand
+use Rattle.bytecode_model.specs.declared.operand.Use.{Use}
+use Rattle.bytecode_model.specs.declared.operand.Use.TheVariants as uses
+use Rattle.bytecode_model.specs.declared.program.Target.{Target}
+use Rattle.bytecode_model.specs.declared.program.Target.TheVariants as target
+use Rattle.bytecode_model.specs.Fault.{Linked}
+use Rattle.bytecode_model.specs.Heads.{all_classes, text_at, class_at}
+use Rattle.bytecode_model.specs.SearchOrder.{Name, is_one_of}
+use Rattle.bytecode_model.specs.Members.{Found, method_of, field_of}
+
+-- ---- how instructions use constants
+
+abbrev pub use_of_opcode : ℕ → Use
+use_of_opcode op =
+    if op == 19 then uses.Load
+    else if op == 178 then uses.Field true false
+    else if op == 179 then uses.Field true true
+    else if op == 180 then uses.Field false false
+    else if op == 181 then uses.Field false true
+    else if (op == 182) || (op == 183) then uses.Call false false
+    else if op == 184 then uses.Call true false
+    else if op == 187 then uses.New
+    else if (op == 189) || ((op == 192) || (op == 193)) then uses.Type
+    else uses.Nothing
+
+abbrev pub use_of : Insn → Use
+use_of (insns.Ldc index) = uses.Load
+use_of (insns.Iface index count) = uses.Call false true
+use_of (insns.Pool op index) = use_of_opcode op
+use_of other = uses.Nothing
+
+-- the index of the constant that an instruction names, or 0, which names none
+abbrev pub index_of : Insn → ℕ
+index_of (insns.Ldc index) = index
+index_of (insns.Iface index count) = index
+index_of (insns.Pool op index) = index
+index_of other = 0
+
+-- ---- literals
+
+abbrev pub text_of_string : List Const → Const → Option (List ℕ)
+text_of_string pool (constants.Str text) = utf8_at pool text
+text_of_string pool other = None
+
+abbrev pub strings_in : ClassFile → List (List ℕ)
+strings_in file = filter_map (text_of_string file.pool) file.pool
+
+-- the names, and then this one if it is new
+abbrev pub with_name : List Name → Name → List Name
+with_name names name = if is_one_of names name then names else names ++ name ∷ []
+
+-- the texts of the string constants of the classes, each once, in order
+abbrev pub literals_of : List ClassFile → List (List ℕ)
+literals_of files = fold with_name [] (flat_map strings_in files)
+
+-- the place of a text among them
+abbrev pub place_of : List Name → Name → ℕ
+place_of names name = option_map_or (λ (i : ℕ). i) (position_from (λ other. bytes_eq other name) 0 names) 0
+
+-- ---- classes
+
+abbrev pub is_array : List ℕ → Bool
+is_array [] = false
+is_array (b ∷ text) = b == 91
+
+abbrev pub element_is_known : (Name → Bool) → Element → Bool
+element_is_known known (elements.Class name) = known name
+element_is_known known other = true
+
+-- The name of a class, or the descriptor of an array where one may stand, whose class is known.
+abbrev pub array_linked : Bool → (Name → Bool) → List ℕ → Read FieldType → Result Target OperandFault
+array_linked arrays known text (Err e) = Err operand.Wrong
+array_linked arrays known text (Ok t) =
+    if arrays && element_is_known known t.element then Ok (target.ClassName text) else Err (operand.Missing text)
+
+abbrev pub class_linked : Bool → (Name → Bool) → List ℕ → Result Target OperandFault
+class_linked arrays known text =
+    if is_array text then array_linked arrays known text (whole_type text)
+    else if known text then Ok (target.ClassName text)
+    else Err (operand.Missing text)
+
+-- ---- fields and methods
+
+abbrev pub is_api_field : Target → Bool
+is_api_field (target.ApiField index) = true
+is_api_field other = false
+
+-- A field is static where its instruction says so, and one of the library is not written.
+abbrev pub field_fits : Bool → Bool → Found → Bool
+field_fits static writes found = beq found.1 static && not (writes && is_api_field found.0)
+
+abbrev pub field_linked : List ClassFile → Listing → Bool → Bool → MethodId → Result Target OperandFault
+field_linked files listing static writes id = do
+  described ← need (is_ok (whole_type id.desc)) operand.Wrong
+  found ← ok_or (field_of files listing id) (operand.Missing id.name)
+  fits ← need (field_fits static writes found) (operand.Missing id.name)
+  Ok found.0
+
+abbrev pub call_linked : List ClassFile → Listing → Bool → MethodId → Result Target OperandFault
+call_linked files listing static id = do
+  described ← need (is_ok (method_type id.desc)) operand.Wrong
+  found ← ok_or (method_of files listing id) (operand.Missing id.name)
+  fits ← need (beq found.1 static) (operand.Missing id.name)
+  Ok found.0
+
+-- what a reference tells, whose indices name what they should
+abbrev pub id_at : List Const → ℕ → ℕ → MethodId
+id_at pool class member = record {
+  class = class_at pool class;
+  name = option_map_or (λ (m : List ℕ × List ℕ). m.0) (name_and_type_at pool member) [];
+  desc = option_map_or (λ (m : List ℕ × List ℕ). m.1) (name_and_type_at pool member) [];
+}
+
+-- ---- the constant that an instruction names
+
+abbrev pub known_in : List ClassFile → Listing → Name → Bool
+known_in files listing name = is_known (all_classes listing files) name
+
+abbrev pub loaded : List ClassFile → Listing → List Const → Const → Result Target OperandFault
+loaded files listing pool (constants.Integer n) = Ok (target.Number n)
+loaded files listing pool (constants.Str text) = Ok (target.Literal (place_of (literals_of files) (text_at pool text)))
+loaded files listing pool (constants.Class name) = class_linked false (known_in files listing) (text_at pool name)
+loaded files listing pool other = Err operand.Wrong
+
+abbrev pub typed : List ClassFile → Listing → Bool → List Const → Const → Result Target OperandFault
+typed files listing arrays pool (constants.Class name) = class_linked arrays (known_in files listing) (text_at pool name)
+typed files listing arrays pool other = Err operand.Wrong
+
+abbrev pub field_used : List ClassFile → Listing → Bool → Bool → List Const → Const → Result Target OperandFault
+field_used files listing static writes pool (constants.Field class member) = field_linked files listing static writes (id_at pool class member)
+field_used files listing static writes pool other = Err operand.Wrong
+
+-- A method of a class is called by its reference, and one of an interface by that of an interface.
+abbrev pub called : List ClassFile → Listing → Bool → Bool → List Const → Const → Result Target OperandFault
+called files listing static false pool (constants.Method class member) = call_linked files listing static (id_at pool class member)
+called files listing static true pool (constants.IMethod class member) = call_linked files listing static (id_at pool class member)
+called files listing static of_interface pool other = Err operand.Wrong
+
+abbrev pub used : List ClassFile → Listing → List Const → Use → Const → Result Target OperandFault
+used files listing pool uses.Nothing constant = Ok target.None
+used files listing pool uses.Load constant = loaded files listing pool constant
+used files listing pool (uses.Field static writes) constant = field_used files listing static writes pool constant
+used files listing pool (uses.Call static of_interface) constant = called files listing static of_interface pool constant
+used files listing pool uses.New constant = typed files listing false pool constant
+used files listing pool uses.Type constant = typed files listing true pool constant
+
+abbrev pub is_nothing : Use → Bool
+is_nothing uses.Nothing = true
+is_nothing other = false
+
+-- what the operand of an instruction names, in code of a class with this constant pool
+abbrev pub operand_linked : List ClassFile → Listing → List Const → Insn → Result Target OperandFault
+operand_linked files listing pool insn =
+    if is_nothing (use_of insn) then Ok target.None
+    else (ok_or (slice_get pool (index_of insn)) operand.Wrong >>= used files listing pool (use_of insn))
+
+-- An operand that its instruction does not take is told by its place, and one that has no target by its name.
+abbrev pub told_at : {X : Type 0} → List ℕ → ℕ → ℕ → Result X OperandFault → Linked X
+told_at class method at (Ok x) = Ok x
+told_at class method at (Err operand.Wrong) = Err (faults.Operand class method at)
+told_at class method at (Err (operand.Missing name)) = Err (faults.Unresolved class name)
+told_at class method at (Err operand.Memory) = Err faults.Memory
+
+-- the operands of the instructions of a method, of which the first has this index
+abbrev pub operands_linked : List ClassFile → Listing → List ℕ → List Const → ℕ → ℕ → List Insn → Linked (List Target)
+operands_linked files listing class pool method at [] = Ok []
+operands_linked files listing class pool method at (insn ∷ insns) = do
+  first ← told_at class method at (operand_linked files listing pool insn)
+  others ← operands_linked files listing class pool method (at + 1) insns
+  Ok (first ∷ others)

@@ -1,0 +1,41 @@
+-- The classes in which a field or a method is looked for, the nearest first: the class, its superclasses, and then their
+-- interfaces and the interfaces of these, level by level. (The Java Virtual Machine Specification, section 5.4.3.)
+use Rattle.std.specs.Prelude.{ℕ, zero, suc, ◌+◌, Bool, true, false, bytes_eq, if◌then◌else◌, List, [], ◌∷◌, ◌++◌, length, Option, Some, None}
+use Rattle.std.specs.List.{flat_map, list_any}
+use Rattle.std.specs.Option.{option_map_or}
+use Rattle.api_listing.specs.declared.types.ListedClass.{ListedClass}
+use Rattle.api_listing.specs.Nearest.{class_named, upwards, names_of, interfaces_of}
+
+abbrev pub Name : Type 0
+Name = List ℕ
+
+-- whether the name is one of these
+abbrev pub is_one_of : List Name → Name → Bool
+is_one_of names name = list_any (λ other. bytes_eq other name) names
+
+-- the interfaces that the class of the name has itself
+abbrev pub interfaces_above : List ListedClass → Name → List Name
+interfaces_above classes name = option_map_or (λ (c : ListedClass). c.interfaces) (class_named classes name) []
+
+-- The names that are reached, each once: those that wait are taken in order, and a new one's interfaces wait behind
+-- the others. At most n are taken.
+abbrev pub reached : ℕ → List ListedClass → List Name → List Name → List Name
+reached zero classes found waiting = found
+reached (suc n) classes found [] = found
+reached (suc n) classes found (name ∷ waiting) =
+    if is_one_of found name then reached n classes found waiting
+    else reached n classes (found ++ name ∷ []) (waiting ++ interfaces_above classes name)
+
+-- how many names can come to wait behind these
+abbrev pub most : List ListedClass → List Name → ℕ
+most classes waiting = length waiting + length (interfaces_of classes)
+
+abbrev pub interfaces_from : List ListedClass → List Name → List Name
+interfaces_from classes names = reached (most classes names) classes [] names
+
+-- the class and its superclasses
+abbrev pub superclasses : List ListedClass → Name → List ListedClass
+superclasses classes name = upwards (length classes) classes name
+
+abbrev pub search_order : List ListedClass → Name → List Name
+search_order classes name = names_of (superclasses classes name) ++ interfaces_from classes (interfaces_of (superclasses classes name))

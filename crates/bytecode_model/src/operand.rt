@@ -1,0 +1,91 @@
+//! How an instruction uses the constant that it names. (The Java Virtual Machine Specification, section 6.5.)
+
+ghost use Rattle.std.specs.Prelude.{◌≡◌};
+ghost use Rattle.bytecode_model.specs.Operands.{use_of, use_of_opcode};
+
+use insn_codec::Insn;
+use mon_base::Bytes;
+
+/// How an instruction uses a constant.
+#[derive(Clone, Copy, Debug, PartialEq, Eq)]
+pub enum Use {
+    /// It names none.
+    Nothing,
+    /// It pushes a number, a string or a class.
+    Load,
+    /// It reads or writes a field.
+    Field {
+        is_static: bool,
+        writes: bool,
+    },
+    /// It calls a method of a class, or of an interface.
+    Call {
+        is_static: bool,
+        of_interface: bool,
+    },
+    /// It makes an object of a class.
+    New,
+    /// It names a class or an array type.
+    Type,
+}
+
+/// Why an operand has no target.
+#[derive(Debug, Drop, PartialEq, Eq)]
+pub enum OperandFault {
+    /// The instruction does not take such a constant.
+    Wrong,
+    /// There is no field, method or class of this name, or not as the instruction wants it.
+    Missing(Bytes),
+    /// Memory ran out.
+    Memory,
+}
+
+/// How the instruction uses the constant that it names.
+pub fn use_of(insn: &Insn) -> Use
+    ensures { result ≡ use_of insn.now }
+{
+    match insn {
+        Insn::Ldc(_) => Use::Load,
+        Insn::Iface { .. } => Use::Call {
+            is_static: false,
+            of_interface: true,
+        },
+        Insn::Pool { op, .. } => use_of_opcode(*op),
+        _ => Use::Nothing,
+    }
+}
+
+fn use_of_opcode(op: u8) -> Use
+    ensures { result ≡ use_of_opcode op }
+{
+    match op {
+        0x13 => Use::Load,
+        0xB2 => Use::Field {
+            is_static: true,
+            writes: false,
+        },
+        0xB3 => Use::Field {
+            is_static: true,
+            writes: true,
+        },
+        0xB4 => Use::Field {
+            is_static: false,
+            writes: false,
+        },
+        0xB5 => Use::Field {
+            is_static: false,
+            writes: true,
+        },
+        0xB6 | 0xB7 => Use::Call {
+            is_static: false,
+            of_interface: false,
+        },
+        0xB8 => Use::Call {
+            is_static: true,
+            of_interface: false,
+        },
+        0xBB => Use::New,
+        0xBD | 0xC0 | 0xC1 => Use::Type,
+        _ => Use::Nothing,
+    }
+}

@@ -1,0 +1,5 @@
+mod Options
+mod Going
+mod Throwing
+mod Stepping
+pub mod Standing

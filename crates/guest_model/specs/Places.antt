@@ -1,0 +1,63 @@
+-- Where a frame stands in a program.
+use Rattle.std.specs.Prelude.{◌≡◌, ℕ, ◌+◌, Bool, true, false, bytes_eq, nat_lt, if◌then◌else◌, List, [], ◌∷◌, ◌++◌, length, map, Option, Some, None, option_map, option_and_then, slice_get}
+use Rattle.std.specs.List.{position_from, list_any}
+use Rattle.std.specs.Option.{option_map_or, option_or}
+use Rattle.api_listing.specs.declared.types.ListedClass.{ListedClass}
+use Rattle.api_listing.specs.Nearest.{class_named, upwards}
+use Rattle.insn_codec.specs.declared.insn.Insn.{Insn}
+use Rattle.bytecode_model.specs.declared.program.LinkedClass.{LinkedClass}
+use Rattle.bytecode_model.specs.declared.program.Method.{Method}
+use Rattle.bytecode_model.specs.declared.program.Program.{Program}
+use Rattle.bytecode_model.specs.declared.program.Target.{Target}
+use Rattle.bytecode_model.specs.Heads.{head_of}
+use Rattle.guest_heap.specs.declared.frame.Frame.{Frame}
+use Rattle.guest_heap.specs.declared.value.Value.{Value}
+use Rattle.guest_heap.specs.Stack.{Operands}
+
+-- ---- classes
+
+-- the classes of the listing, and then the given ones
+abbrev pub classes_of : Program → List ListedClass
+classes_of program = program.listing.classes ++ map (λ (c : LinkedClass). head_of c.file) program.classes
+
+-- the index of a class among them
+abbrev pub class_index : Program → List ℕ → Option ℕ
+class_index program name = position_from (λ (c : ListedClass). bytes_eq c.name name) 0 (classes_of program)
+
+-- the class is of this name, or one of its superclasses is
+abbrev pub is_below : Program → List ℕ → List ℕ → Bool
+is_below program class above = list_any (λ (c : ListedClass). bytes_eq c.name above) (upwards (length (classes_of program)) (classes_of program) class)
+
+-- ---- methods and instructions
+
+abbrev pub method_at : Program → ℕ → ℕ → Option Method
+method_at program class method = option_and_then (λ (c : LinkedClass). slice_get c.methods method) (slice_get program.classes class)
+
+-- an instruction of a method, and what its operand names
+abbrev pub insn_in : Method → ℕ → Option (Insn × Target)
+insn_in method at = option_and_then (λ (insn : Insn). option_map (λ (ref : Target). (insn, ref)) (slice_get method.refs at)) (slice_get method.insns at)
+
+-- the instruction that comes next in a frame
+abbrev pub insn_at : Program → Frame → Option (Insn × Target)
+insn_at program frame = option_and_then (λ (method : Method). insn_in method frame.at) (method_at program frame.class frame.method)
+
+-- ---- frames
+
+-- the frame, gone on to this instruction with these locals and operands
+abbrev pub moved_to : Frame → ℕ → List Value → List Value → Frame
+moved_to frame at locals items = record {
+  class = frame.class;
+  method = frame.method;
+  at = at;
+  locals = locals;
+  stack = record { items = items; size = frame.stack.size };
+  lock = frame.lock;
+}
+
+-- the same, where the operands are at most the stack's size
+abbrev pub fitted : Frame → ℕ → List Value → List Value → Option Frame
+fitted frame at locals items = if nat_lt frame.stack.size (length items) then None else Some (moved_to frame at locals items)
+
+-- the frame after an instruction that left these operands
+abbrev pub after : Frame → List Value → Option Frame
+after frame items = fitted frame (frame.at + 1) frame.locals items
