@@ -1,0 +1,4 @@
+pub mod Declaring
+pub mod Lists
+pub mod Names
+pub mod Placing

@@ -1,8 +1,9 @@
 -- The conditions that each class and each method of a program meets, one definition for each refusal.
-use Rattle.std.specs.Prelude.{ℕ, zero, suc, Bool, true, false, not, ◌==◌, ◌&&◌, ◌||◌, bytes_eq, codes, if◌then◌else◌, List, [], ◌∷◌, ◌++◌, length, take, Option, Some, None, is_some, Result, Ok, Err, is_ok}
-use Rattle.std.specs.List.{list_all, list_any, filter_map}
+use Rattle.std.specs.Prelude.{ℕ, zero, suc, Bool, true, false, not, ◌==◌, ◌&&◌, ◌||◌, bytes_eq, codes, if◌then◌else◌, List, [], ◌∷◌, ◌++◌, length, nat_eq, Option, Some, None, is_some, Result, Ok, Err, is_ok}
+use Rattle.std.specs.List.{list_all, list_any, filter_map, starts_with}
 use Rattle.std.specs.Option.{option_map_or}
 use Rattle.mon_base.specs.Reading.{◌>>=◌, need}
+use Rattle.mon_base.specs.declared.method.MethodId.{MethodId}
 use Rattle.class_codec.specs.declared.tree.Const.{Const}
 use Rattle.class_codec.specs.declared.tree.Const.TheVariants as constants
 use Rattle.class_codec.specs.declared.tree.Code.{Code}
@@ -13,8 +14,8 @@ use Rattle.class_codec.specs.declared.tree.ClassFile.{ClassFile}
 use Rattle.api_listing.specs.declared.types.ListedClass.{ListedClass}
 use Rattle.api_listing.specs.declared.types.Listing.{Listing}
 use Rattle.api_listing.specs.BuiltIn.{object, thread, runnable, throwables, is_built_in}
-use Rattle.api_listing.specs.Listing.{is_known, own_class}
-use Rattle.api_listing.specs.Nearest.{class_named, declared_in}
+use Rattle.api_listing.specs.Listing.{is_known, has_method, own_class}
+use Rattle.api_listing.specs.Nearest.{class_named}
 use Rattle.api_listing.specs.Descriptor.{method_type}
 use Rattle.api_listing.specs.Words.{is_class_name}
 use Rattle.bytecode_model.specs.declared.fault.LinkFault.TheVariants as faults
@@ -22,18 +23,15 @@ use Rattle.bytecode_model.specs.declared.program.Side.{Side}
 use Rattle.bytecode_model.specs.declared.program.Side.TheVariants as sides
 use Rattle.bytecode_model.specs.Fault.{Linked}
 use Rattle.bytecode_model.specs.Heads.{is_static, is_synchronized, is_native, is_abstract, head_of, heads_of, all_classes, name_of, desc_of, main_name, main_desc, maker, initialiser, takes_nothing, run_name}
+use Rattle.bytecode_model.specs.Members.{in_class}
 use Rattle.bytecode_model.specs.SearchOrder.{Name, is_one_of, search_order}
 
 -- ---- the constant pool (145)
 
--- the text begins with these bytes
-abbrev pub begins_with : List ℕ → List ℕ → Bool
-begins_with front text = bytes_eq (take (length front) text) front
-
 -- the bytes stand somewhere in the text
 abbrev pub holds : List ℕ → List ℕ → Bool
-holds part [] = begins_with part []
-holds part (b ∷ text) = begins_with part (b ∷ text) || holds part text
+holds part [] = starts_with nat_eq [] part
+holds part (b ∷ text) = starts_with nat_eq (b ∷ text) part || holds part text
 
 abbrev pub names_own_class : Const → Bool
 names_own_class (constants.Utf8 text) = holds own_class text
@@ -141,12 +139,18 @@ abbrev pub is_run : Name → Name → Bool
 is_run name desc = bytes_eq name run_name && bytes_eq desc takes_nothing
 
 -- The library declares the method in the very class; that a Thread or Runnable runs counts for nothing.
-abbrev pub is_of_library : Listing → Name → Name → Name → Bool
-is_of_library listing name desc class =
-    is_some (declared_in listing.methods name desc class) || (is_built_in class name desc && not (is_run name desc))
+abbrev pub is_of_library : Listing → MethodId → Bool
+is_of_library listing id = has_method listing.methods id || (is_built_in id.class id.name id.desc && not (is_run id.name id.desc))
+
+-- one of the classes has it
+abbrev pub overrides_in : Listing → MethodId → List Name → Bool
+overrides_in listing id classes = list_any (λ class. is_of_library listing (in_class id class)) classes
+
+abbrev pub id_of : Name → List Const → Member → MethodId
+id_of class pool member = record { class = class; name = name_of pool member; desc = desc_of pool member }
 
 -- An instance method other than a maker has the name and descriptor of a method of the library above its class.
 abbrev pub overrides : List ListedClass → Listing → Name → List Const → Member → Bool
 overrides classes listing class pool member =
     not (is_static member.flags) && (not (bytes_eq (name_of pool member) maker)
-    && list_any (is_of_library listing (name_of pool member) (desc_of pool member)) (search_order classes class))
+    && overrides_in listing (id_of class pool member) (search_order classes class))

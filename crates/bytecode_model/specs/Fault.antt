@@ -2,6 +2,8 @@
 use Rattle.std.specs.Prelude.{◌≡◌, ℕ, Result, Ok, Err}
 use Rattle.bytecode_model.specs.declared.fault.LinkFault.{LinkFault}
 use Rattle.bytecode_model.specs.declared.fault.LinkFault.TheVariants as faults
+use Rattle.bytecode_model.specs.declared.operand.OperandFault.{OperandFault}
+use Rattle.bytecode_model.specs.declared.operand.OperandFault.TheVariants as operand
 
 abbrev pub number_of : LinkFault → ℕ
 number_of faults.NoMain = 141
@@ -29,3 +31,12 @@ Fails fault linked = linked ≡ Err fault
 abbrev pub Answers : {X : Type 0} → Linked X → Linked X → Type 0
 Answers (Ok x) linked = linked ≡ Ok x
 Answers (Err fault) linked = Fails fault linked
+
+-- the same of an operand
+abbrev pub Lacks : {X : Type 0} → OperandFault → Result X OperandFault → Type 0
+Lacks operand.Memory linked = Unit {0}
+Lacks fault linked = linked ≡ Err fault
+
+abbrev pub Names : {X : Type 0} → Result X OperandFault → Result X OperandFault → Type 0
+Names (Ok x) linked = linked ≡ Ok x
+Names (Err fault) linked = Lacks fault linked

@@ -1,7 +1,10 @@
 -- What class files, a listing and a main class link to, or the first condition that fails.
 -- (The Java Virtual Machine Specification, chapter 5.)
-use Rattle.std.specs.Prelude.{ℕ, ◌+◌, Bool, true, false, not, nat_lt, if◌then◌else◌, List, [], ◌∷◌, length, map, Option, Some, None, ok_or, option_and_then, slice_get, Result, Ok, Err}
+use Rattle.std.specs.Prelude.{ℕ, ◌+◌, Bool, true, false, not, nat_lt, bytes_eq, if◌then◌else◌, List, [], ◌∷◌, length, map, Option, Some, None, ok_or, option_and_then, slice_get, Result, Ok, Err}
+use Rattle.std.specs.List.{position_from}
+use Rattle.std.specs.Option.{option_map}
 use Rattle.mon_base.specs.Reading.{◌>>=◌, need}
+use Rattle.class_codec.specs.declared.tree.Const.{Const}
 use Rattle.class_codec.specs.declared.tree.Code.{Code}
 use Rattle.class_codec.specs.declared.tree.Member.{Member}
 use Rattle.class_codec.specs.declared.tree.ClassFile.{ClassFile}
@@ -19,8 +22,7 @@ use Rattle.bytecode_model.specs.declared.program.Program.{Program}
 use Rattle.bytecode_model.specs.declared.program.Side.{Side}
 use Rattle.bytecode_model.specs.declared.program.Target.{Target}
 use Rattle.bytecode_model.specs.Fault.{Linked}
-use Rattle.bytecode_model.specs.Heads.{head_of, heads_of, all_classes, name_of, desc_of, main_name, main_desc}
-use Rattle.bytecode_model.specs.Members.{file_of, member_in}
+use Rattle.bytecode_model.specs.Heads.{head_of, heads_of, all_classes, name_of, desc_of, is_member, is_static, main_name, main_desc}
 use Rattle.bytecode_model.specs.Conditions.{classes_linked, is_allowed, overrides, codes_of}
 use Rattle.bytecode_model.specs.Operands.{literals_of, operands_linked}
 use Rattle.bytecode_model.specs.Handlers.{handlers_linked}
@@ -97,6 +99,16 @@ each_linked files listing (file ∷ more) = do
   Ok (class_with file methods ∷ others)
 
 -- ---- the program
+
+-- the index of the file of the class
+abbrev pub file_of : List ClassFile → List ℕ → Option ℕ
+file_of files class = position_from (λ (f : ClassFile). bytes_eq (head_of f).name class) 0 files
+
+-- the first of the members with the name and the descriptor, its index and whether it is static
+abbrev pub member_in : List Const → List Member → List ℕ → List ℕ → Option (ℕ × Bool)
+member_in pool members name desc =
+    option_and_then (λ index. option_map (λ (m : Member). (index, is_static m.flags)) (slice_get members index))
+    (position_from (is_member pool name desc) 0 members)
 
 abbrev pub static_only : ℕ → Option (ℕ × Bool) → Option (ℕ × ℕ)
 static_only class None = None
