@@ -11,7 +11,7 @@ use Rattle.api_listing.specs.declared.built_in.TheConstants.{METHODS}
 use Rattle.api_listing.specs.Seen.{id_cmp}
 use Rattle.bytecode_model.specs.declared.declared.Found.{Found}
 use Rattle.bytecode_model.specs.Index.{found_in}
-use Rattle.bytecode_model.specs.Members.{Declared, first_of}
+use Rattle.bytecode_model.specs.Members.{Declared, first_of, first_found, in_class}
 use Rattle.bytecode_model.proofs.Lists.{or_none, or_or}
 use Rattle.bytecode_model.proofs.Names.{id_cmp-is, same_id}
 
@@ -79,3 +79,9 @@ from_empty found q x y empty is = is ∙ ap (λ o. option_or o x) (none_in found
 
 pub chain : (xs ys zs : List Declared) (o a b d : Option Found) (q : MethodId) → a ≡ option_or o (first_of xs q) → b ≡ option_or a (first_of ys q) → d ≡ option_or b (first_of zs q) → d ≡ option_or o (first_of (xs ++ (ys ++ zs)) q)
 chain xs ys zs o a b d q first second third = both xs (ys ++ zs) o a d q first (both ys zs a b d q second third)
+
+-- look-ups that give the same
+pub first_found_same : (f g : MethodId → Option Found) (id : MethodId) (names : List (List ℕ)) → ((q : MethodId) → f q ≡ g q) → first_found f id names ≡ first_found g id names
+first_found_same f g id [] same = refl
+first_found_same f g id (name ∷ names) same =
+    ap (λ o. option_or o (first_found f id names)) (same (in_class id name)) ∙ ap (option_or (g (in_class id name))) (first_found_same f g id names same)

@@ -1,4 +1,9 @@
+pub mod ClassLoop
+pub mod Climbing
 pub mod Declaring
 pub mod Lists
+pub mod Loop
 pub mod Names
 pub mod Placing
+pub mod Starting
+pub mod Telling

@@ -76,20 +76,19 @@ has_supers heads file =
 
 -- ---- classes, in order (150, 142, 145, 144)
 
--- the conditions of a class behind some others
-abbrev pub class_linked : Side → List ListedClass → Listing → List ListedClass → ClassFile → Linked (Unit {0})
-class_linked side heads listing earlier file = do
+-- the conditions of a class, whose name is taken or not
+abbrev pub class_linked : Side → List ListedClass → Bool → ClassFile → Linked (Unit {0})
+class_linked side heads is_taken file = do
   named ← need (is_class_name (head_of file).name) (faults.Name (head_of file).name)
-  once ← need (not (is_known earlier (head_of file).name || is_known listing.classes (head_of file).name)) (faults.Twice (head_of file).name)
+  once ← need (not is_taken) (faults.Twice (head_of file).name)
   free ← need (is_free side file) (faults.NameTaken (head_of file).name)
   need (has_supers heads file) (faults.SuperLeftOut (head_of file).name)
 
--- those of the classes behind some others
-abbrev pub classes_linked : Side → List ListedClass → Listing → List ListedClass → List ClassFile → Linked (Unit {0})
-classes_linked side heads listing earlier [] = Ok tt
-classes_linked side heads listing earlier (file ∷ files) = do
-  first ← class_linked side heads listing earlier file
-  classes_linked side heads listing (earlier ++ head_of file ∷ []) files
+-- those of some classes, where the names of others are taken
+abbrev pub classes_linked : Side → List ListedClass → List ListedClass → List ClassFile → Linked (Unit {0})
+classes_linked side heads taken [] = Ok tt
+classes_linked side heads taken (file ∷ files) =
+    class_linked side heads (is_known taken (head_of file).name) file >>= λ _. classes_linked side heads (head_of file ∷ taken) files
 
 -- ---- methods (146)
 

@@ -10,12 +10,14 @@ use Rattle.class_codec.specs.declared.tree.ClassFile.{ClassFile}
 use Rattle.api_listing.specs.declared.types.ListedClass.{ListedClass}
 use Rattle.api_listing.specs.declared.types.Listing.{Listing}
 use Rattle.api_listing.specs.Nearest.{interfaces_of}
-use Rattle.api_listing.specs.Seen.{id_cmp, has_id}
+use Rattle.api_listing.specs.Seen.{id_cmp, has_id, has_name}
 use Rattle.api_listing.specs.Listing.{has_method}
 use Rattle.bytecode_model.specs.declared.declared.Found.{Found}
 use Rattle.bytecode_model.specs.Heads.{all_classes}
 use Rattle.bytecode_model.specs.Members.{methods_declared, fields_declared, first_of}
 use Rattle.bytecode_model.specs.Operands.{literals_of}
+use Rattle.bytecode_model.specs.SearchOrder.{is_one_of}
+use Rattle.bytecode_model.specs.Handlers.{index_at}
 
 -- ---- maps
 
@@ -37,9 +39,25 @@ name_place names name = position_from (λ other. bytes_eq other name) 0 names
 abbrev pub ClassesPlaced : BTreeMap (List ℕ) ℕ → List ListedClass → Type 0
 ClassesPlaced places classes = (q : List ℕ) → place_in places q ≡ class_place classes q
 
+-- beside how many interfaces they name
+pub record AreClasses (places : BTreeMap (List ℕ) ℕ) (interfaces : ℕ) (classes : List ListedClass) : Type 0 where
+  pub placed : ClassesPlaced places classes
+  pub count : interfaces ≡ length (interfaces_of classes)
+
+-- The set has these names.
+abbrev pub NamesSeen : BTreeSet (List ℕ) → List (List ℕ) → Type 0
+NamesSeen seen names = (q : List ℕ) → has_name seen q ≡ is_one_of names q
+
 -- The map has the place of each name.
 abbrev pub NamesPlaced : BTreeMap (List ℕ) ℕ → List (List ℕ) → Type 0
 NamesPlaced places names = (q : List ℕ) → place_in places q ≡ name_place names q
+
+abbrev pub start_in : BTreeMap ℕ ℕ → ℕ → Option ℕ
+start_in places byte = get nat_cmp places byte
+
+-- The map has the first place of each byte.
+abbrev pub StartsPlaced : BTreeMap ℕ ℕ → List ℕ → Type 0
+StartsPlaced places starts = (q : ℕ) → start_in places q ≡ index_at starts q
 
 -- ---- the index of files and a listing
 

@@ -86,14 +86,14 @@ first_of declared id = lookup (is_method id.class id.name id.desc) declared
 abbrev pub in_class : MethodId → Name → MethodId
 in_class id class = record { class = class; name = id.name; desc = id.desc }
 
--- what the first of the classes that declares it has
-abbrev pub first_found : List Declared → MethodId → List Name → Option Found
-first_found declared id [] = None
-first_found declared id (class ∷ classes) = option_or (first_of declared (in_class id class)) (first_found declared id classes)
+-- what the first of the classes that declares it has, where each look-up gives what is declared
+abbrev pub first_found : (MethodId → Option Found) → MethodId → List Name → Option Found
+first_found look id [] = None
+first_found look id (class ∷ classes) = option_or (look (in_class id class)) (first_found look id classes)
 
 -- the method of this name and descriptor that a class has: its own, or the nearest one above it
 abbrev pub method_of : List ClassFile → Listing → MethodId → Option Found
-method_of files listing id = first_found (methods_declared files listing) id (search_order (all_classes listing files) id.class)
+method_of files listing id = first_found (first_of (methods_declared files listing)) id (search_order (all_classes listing files) id.class)
 
 abbrev pub field_of : List ClassFile → Listing → MethodId → Option Found
-field_of files listing id = first_found (fields_declared files listing) id (search_order (all_classes listing files) id.class)
+field_of files listing id = first_found (first_of (fields_declared files listing)) id (search_order (all_classes listing files) id.class)

@@ -26,9 +26,9 @@ use Rattle.bytecode_model.specs.declared.operand.Use.{Use}
 use Rattle.bytecode_model.specs.declared.operand.Use.TheVariants as uses
 use Rattle.bytecode_model.specs.declared.program.Target.{Target}
 use Rattle.bytecode_model.specs.declared.program.Target.TheVariants as target
-use Rattle.bytecode_model.specs.Fault.{Linked}
+use Rattle.bytecode_model.specs.Fault.{Linked, linked_from}
 use Rattle.bytecode_model.specs.Heads.{all_classes, text_at, class_at}
-use Rattle.bytecode_model.specs.SearchOrder.{Name, is_one_of}
+use Rattle.bytecode_model.specs.SearchOrder.{Name, with_name}
 use Rattle.bytecode_model.specs.declared.declared.Found.{Found}
 use Rattle.bytecode_model.specs.Members.{method_of, field_of}
 
@@ -68,10 +68,6 @@ text_of_string pool other = None
 
 abbrev pub strings_in : ClassFile → List (List ℕ)
 strings_in file = filter_map (text_of_string file.pool) file.pool
-
--- the names, and then this one if it is new
-abbrev pub with_name : List Name → Name → List Name
-with_name names name = if is_one_of names name then names else names ++ name ∷ []
 
 -- the texts of the string constants of the classes, each once, in order
 abbrev pub literals_of : List ClassFile → List (List ℕ)
@@ -188,10 +184,10 @@ abbrev pub told_at : {X : Type 0} → List ℕ → ℕ → ℕ → Result X Oper
 told_at class method at (Ok x) = Ok x
 told_at class method at (Err fault) = Err (told class method at fault)
 
--- the operands of the instructions of a method, of which the first has this index
-abbrev pub operands_linked : List ClassFile → Listing → List ℕ → List Const → ℕ → ℕ → List Insn → Linked (List Target)
-operands_linked files listing class pool method at [] = Ok []
-operands_linked files listing class pool method at (insn ∷ insns) = do
-  first ← told_at class method at (operand_linked files listing pool insn)
-  others ← operands_linked files listing class pool method (at + 1) insns
-  Ok (first ∷ others)
+-- the operand of the instruction of this index
+abbrev pub operand_at : List ClassFile → Listing → List ℕ → List Const → ℕ → ℕ → Insn → Linked Target
+operand_at files listing class pool method at insn = told_at class method at (operand_linked files listing pool insn)
+
+-- the operands of the instructions of a method
+abbrev pub operands_linked : List ClassFile → Listing → List ℕ → List Const → ℕ → List Insn → Linked (List Target)
+operands_linked files listing class pool method insns = linked_from (operand_at files listing class pool method) 0 insns

@@ -17,18 +17,19 @@ use std::marker::Model;
 pub struct Classes {
     list: List<ListedClass>,
     places: BTreeMap<Bytes, usize>,
+    interfaces: u64,
 }
 
 impl Model for Classes {
     ghost use Rattle.std.specs.Prelude.{List};
     ghost use Rattle.api_listing.specs.declared.types.ListedClass.{ListedClass};
-    ghost use Rattle.bytecode_model.specs.Index.{ClassesPlaced};
+    ghost use Rattle.bytecode_model.specs.Index.{AreClasses};
 
     ghost Value = { List ListedClass };
 
     ghost view = { λ c. c.list };
 
-    ghost invariant = { λ c. ClassesPlaced c.places c.list };
+    ghost invariant = { λ c. AreClasses c.places c.interfaces c.list };
 }
 
 impl Classes {
@@ -37,7 +38,12 @@ impl Classes {
         ensures { IfOk result (λ classes. classes ≡ list) }
     {
         let places = places_of(alloc, list.as_slice())?;
-        Ok(Classes { list, places })
+        let interfaces = count_interfaces(list.as_slice())?;
+        Ok(Classes {
+            list,
+            places,
+            interfaces,
+        })
     }
 
     /// The first class with the name.
@@ -64,11 +70,41 @@ impl Classes {
         self.list.as_slice()
     }
 
+    /// How many interfaces they name, each as often as it is named.
+    pub fn interfaces(&self) -> u64
+        ensures { result ≡ length (interfaces_of self.now) }
+    {
+        self.interfaces
+    }
+
     /// How many classes there are.
     pub fn len(&self) -> usize
         ensures { result ≡ length self.now }
     {
         self.list.len()
+    }
+}
+
+/// How many interfaces the classes name. No memory holds more than a number of 64 bits counts.
+fn count_interfaces(classes: &[ListedClass]) -> Result<u64, NoMemory>
+    ensures { IfOk result (λ count. count ≡ length (interfaces_of classes.now)) }
+{
+    let mut count: u64 = 0;
+    let mut left = classes;
+    while let [class, rest @ ..] = left {
+        count = add(count, class.interfaces.len())?;
+        left = rest;
+    }
+    Ok(count)
+}
+
+/// The sum, if a number of 64 bits holds it.
+pub fn add(count: u64, more: usize) -> Result<u64, NoMemory>
+    ensures { IfOk result (λ sum. sum ≡ count + more) }
+{
+    match count.checked_add(more as u64) {
+        Some(sum) => Ok(sum),
+        None => Err(NoMemory),
     }
 }
 

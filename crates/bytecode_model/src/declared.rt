@@ -14,7 +14,7 @@ ghost use Rattle.bytecode_model.specs.Members.{target_in, members_of, member_dec
 use crate::program::Target;
 use crate::text::{copy_class, copy_text, class_at, has_flag};
 use api_listing::{ListedMethod, Listing, METHODS};
-use class_codec::{ClassFile, Const, Member};
+use class_codec::{ClassFile, Const, Copied, Member};
 use mon_base::{Bytes, MethodId, NoMemory};
 use std::alloc::Global;
 use std::collections::{BTreeMap, BTreeSet};
@@ -24,6 +24,18 @@ use std::collections::{BTreeMap, BTreeSet};
 pub struct Found {
     pub target: Target,
     pub is_static: bool,
+}
+
+impl Found {
+    /// An equal declaration.
+    pub fn copy(&self, alloc: Global) -> Result<Found, NoMemory>
+        ensures { IfOk result (λ found. found ≡ self.now) }
+    {
+        Ok(Found {
+            target: self.target.copy(alloc)?,
+            is_static: self.is_static,
+        })
+    }
 }
 
 /// Which members of a class are meant.
