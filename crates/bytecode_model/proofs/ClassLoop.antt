@@ -16,18 +16,18 @@ use Rattle.bytecode_model.specs.Conditions.{class_linked, classes_linked, stays_
 use Rattle.bytecode_model.proofs.Loop.{through}
 
 pub class_goes_on : (side : Side) (heads taken : List ListedClass) (all rest : List ClassFile) (file : ClassFile) (total : Linked (Unit {0})) (b : Bool) → all ≡ file ∷ rest
-    → is_known taken (head_of file).name ≡ b → class_linked side heads b file ≡ Ok tt → classes_linked side heads taken all ≡ total
+    → is_known taken (head_of file).name ≡ b → class_linked side heads b (head_of file) file ≡ Ok tt → classes_linked side heads taken all ≡ total
     → classes_linked side heads (head_of file ∷ taken) rest ≡ total
 class_goes_on side heads taken all rest file total b split known ok so_far =
     let next : Linked (Unit {0}) → Linked (Unit {0}) = λ r. r >>= λ _. classes_linked side heads (head_of file ∷ taken) rest in
-    ap next (sym ok) ∙ ap (λ (x : Bool). next (class_linked side heads x file)) (sym known) ∙ ap (classes_linked side heads taken) (sym split) ∙ so_far
+    ap next (sym ok) ∙ ap (λ (x : Bool). next (class_linked side heads x (head_of file) file)) (sym known) ∙ ap (classes_linked side heads taken) (sym split) ∙ so_far
 
 pub class_ends : (e : LinkFault) (side : Side) (heads taken : List ListedClass) (all rest : List ClassFile) (file : ClassFile) (total : Linked (Unit {0})) (b : Bool) → all ≡ file ∷ rest
-    → is_known taken (head_of file).name ≡ b → Fails e (class_linked side heads b file) → classes_linked side heads taken all ≡ total → Fails e total
+    → is_known taken (head_of file).name ≡ b → Fails e (class_linked side heads b (head_of file) file) → classes_linked side heads taken all ≡ total → Fails e total
 class_ends e side heads taken all rest file total b split known fails so_far =
     let next : Linked (Unit {0}) → Linked (Unit {0}) = λ r. r >>= λ _. classes_linked side heads (head_of file ∷ taken) rest in
-    through e (class_linked side heads b file) total
-    (λ err. sym so_far ∙ ap (classes_linked side heads taken) split ∙ ap (λ (x : Bool). next (class_linked side heads x file)) known ∙ ap next err) fails
+    through e (class_linked side heads b (head_of file) file) total
+    (λ err. sym so_far ∙ ap (classes_linked side heads taken) split ∙ ap (λ (x : Bool). next (class_linked side heads x (head_of file) file)) known ∙ ap next err) fails
 
 pub class_done : (side : Side) (heads taken : List ListedClass) (all : List ClassFile) (total : Linked (Unit {0})) → all ≡ [] → classes_linked side heads taken all ≡ total → total ≡ Ok tt
 class_done side heads taken all total none so_far = sym so_far ∙ ap (classes_linked side heads taken) none

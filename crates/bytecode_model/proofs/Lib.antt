@@ -7,3 +7,4 @@ pub mod Names
 pub mod Placing
 pub mod Starting
 pub mod Telling
+pub mod Whole

@@ -63,32 +63,32 @@ stays_within (suc n) heads name = option_map_or (λ (c : ListedClass). stays_wit
 abbrev pub runs_in_circle : List ListedClass → Name → Bool
 runs_in_circle heads name = stays_within (suc (length heads)) heads name
 
--- an interface is below Object, and its fields are static
-abbrev pub is_good_interface : ClassFile → Bool
-is_good_interface file =
-    not (head_of file).is_interface
-    || (bytes_eq (head_of file).parent object && list_all (λ (m : Member). is_static m.flags) file.fields)
+-- the superclass and the interfaces of a class may stand above it
+abbrev pub stands_below : List ListedClass → ListedClass → Bool
+stands_below heads c = is_super heads c.parent && (list_all (is_above heads) c.interfaces && not (runs_in_circle heads c.name))
 
-abbrev pub has_supers : List ListedClass → ClassFile → Bool
-has_supers heads file =
-    is_super heads (head_of file).parent && (list_all (is_above heads) (head_of file).interfaces
-    && (not (runs_in_circle heads (head_of file).name) && is_good_interface file))
+-- an interface is below Object, and its fields are static
+abbrev pub is_good_interface : ListedClass → List Member → Bool
+is_good_interface c fields = not c.is_interface || (bytes_eq c.parent object && list_all (λ (m : Member). is_static m.flags) fields)
+
+abbrev pub has_supers : List ListedClass → ListedClass → List Member → Bool
+has_supers heads c fields = stands_below heads c && is_good_interface c fields
 
 -- ---- classes, in order (150, 142, 145, 144)
 
--- the conditions of a class, whose name is taken or not
-abbrev pub class_linked : Side → List ListedClass → Bool → ClassFile → Linked (Unit {0})
-class_linked side heads is_taken file = do
-  named ← need (is_class_name (head_of file).name) (faults.Name (head_of file).name)
-  once ← need (not is_taken) (faults.Twice (head_of file).name)
-  free ← need (is_free side file) (faults.NameTaken (head_of file).name)
-  need (has_supers heads file) (faults.SuperLeftOut (head_of file).name)
+-- the conditions of a class of a file, whose name is taken or not
+abbrev pub class_linked : Side → List ListedClass → Bool → ListedClass → ClassFile → Linked (Unit {0})
+class_linked side heads is_taken c file = do
+  named ← need (is_class_name c.name) (faults.Name c.name)
+  once ← need (not is_taken) (faults.Twice c.name)
+  free ← need (is_free side file) (faults.NameTaken c.name)
+  need (has_supers heads c file.fields) (faults.SuperLeftOut c.name)
 
 -- those of some classes, where the names of others are taken
 abbrev pub classes_linked : Side → List ListedClass → List ListedClass → List ClassFile → Linked (Unit {0})
 classes_linked side heads taken [] = Ok tt
 classes_linked side heads taken (file ∷ files) =
-    class_linked side heads (is_known taken (head_of file).name) file >>= λ _. classes_linked side heads (head_of file ∷ taken) files
+    class_linked side heads (is_known taken (head_of file).name) (head_of file) file >>= λ _. classes_linked side heads (head_of file ∷ taken) files
 
 -- ---- methods (146)
 

@@ -9,9 +9,9 @@ ghost use Rattle.api_listing.specs.Words.{is_class_name};
 ghost use Rattle.api_listing.specs.BuiltIn.{throwables};
 ghost use Rattle.bytecode_model.specs.SearchOrder.{is_one_of};
 ghost use Rattle.bytecode_model.specs.Fault.{Answers};
-ghost use Rattle.bytecode_model.specs.Heads.{head_of, is_static};
+ghost use Rattle.bytecode_model.specs.Heads.{is_static};
 ghost use Rattle.bytecode_model.specs.Conditions.{
-  holds, names_own_class, is_free, may_be_extended, is_super, is_above, runs_in_circle, is_good_interface, has_supers,
+  holds, names_own_class, is_free, may_be_extended, is_super, is_above, runs_in_circle, stands_below, is_good_interface, has_supers,
   class_linked, classes_linked,
 };
 
@@ -87,9 +87,8 @@ fn class_linked(
     file: &ClassFile,
     head: &ListedClass,
 ) -> Result<(), LinkFault>
-    requires is { head.now ≡ head_of file.now }
-    requires count { length heads.now ≤ 1000 }
-    ensures { Answers result (class_linked side heads.now is_taken file.now) }
+    requires { length heads.now ≤ 1000 }
+    ensures { Answers result (class_linked side heads.now is_taken head.now file.now) }
 {
     if !is_class_name(head.name.as_slice()) {
         return Err(LinkFault::Name {
@@ -106,7 +105,7 @@ fn class_linked(
             class: head.name.copy(alloc)?,
         });
     }
-    if !has_supers(heads, file, head) {
+    if !has_supers(heads, head, file.fields.as_slice()) {
         return Err(LinkFault::SuperLeftOut {
             class: head.name.copy(alloc)?,
         });
@@ -163,16 +162,22 @@ fn holds(part: &[u8], text: &[u8]) -> bool
     left.starts_with(part)
 }
 
-/// Whether a class may stand below these classes.
-fn has_supers(heads: &Classes, file: &ClassFile, head: &ListedClass) -> bool
-    requires is { head.now ≡ head_of file.now }
-    requires count { length heads.now ≤ 1000 }
-    ensures { result ≡ has_supers heads.now file.now }
+/// Whether the class may stand where it does.
+fn has_supers(heads: &Classes, head: &ListedClass, fields: &[Member]) -> bool
+    requires { length heads.now ≤ 1000 }
+    ensures { result ≡ has_supers heads.now head.now fields.now }
+{
+    stands_below(heads, head) && is_good_interface(head, fields)
+}
+
+/// Whether its superclass and its interfaces may stand above it.
+fn stands_below(heads: &Classes, head: &ListedClass) -> bool
+    requires { length heads.now ≤ 1000 }
+    ensures { result ≡ stands_below heads.now head.now }
 {
     is_super(heads, &head.parent)
         && are_above(heads, head.interfaces.as_slice())
         && !runs_in_circle(heads, &head.name)
-        && is_good_interface(file, head)
 }
 
 fn is_super(heads: &Classes, name: &Bytes) -> bool
@@ -241,12 +246,11 @@ fn runs_in_circle(heads: &Classes, name: &Bytes) -> bool
 }
 
 /// Whether an interface is below Object and has static fields alone.
-fn is_good_interface(file: &ClassFile, head: &ListedClass) -> bool
-    requires { head.now ≡ head_of file.now }
-    ensures { result ≡ is_good_interface file.now }
+fn is_good_interface(head: &ListedClass, fields: &[Member]) -> bool
+    ensures { result ≡ is_good_interface head.now fields.now }
 {
     !head.is_interface
-        || is_text(head.parent.as_slice(), "java/lang/Object") && are_static(file.fields.as_slice())
+        || is_text(head.parent.as_slice(), "java/lang/Object") && are_static(fields)
 }
 
 fn are_static(fields: &[Member]) -> bool

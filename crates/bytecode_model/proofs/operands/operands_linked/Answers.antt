@@ -11,7 +11,7 @@ loop-left-preserved c =
     let split = front_is c.loop-left.left.now c.insn-item.result c.in-len1-up.len_at_least c.insn-item.is in
     let one = operand_at c.args.index.now.files c.args.index.now.listing c.args.class.now c.args.pool.now c.args.method in
     record {
-      so_far = rw c.in_ok-push.ensures.ok (goes_on one c.loop-left.targets _ _ _ c.in_ok-target.field-0 c.loop-left.at _ split c.in_ok-target.ensures c.loop-left.invariant.so_far);
+      so_far = rw c.in_ok-push.ensures.ok (goes_on one c.loop-left.targets _ _ _ c.in_ok-target.target c.loop-left.at _ split c.in_ok-target.ensures c.loop-left.invariant.so_far);
       count = omega (arith, rest_length c.loop-left.left.now _ _ split);
     }
 
