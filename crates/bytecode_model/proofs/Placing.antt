@@ -53,9 +53,9 @@ pub place_goes_on : {X : Type 0} (test : X → Bool) (all rest : List X) (x : X)
 place_goes_on test all rest x index before after total is more so_far =
     ap (λ o. option_or o (position_from test (index + 1) rest)) more ∙ or_or before (cond (test x) (Some index) None) (position_from test (index + 1) rest)
     ∙ ap (option_or before) (front (test x)) ∙ ap (λ xs. option_or before (position_from test index xs)) (sym is) ∙ so_far where
-  front : (b : Bool) → option_or (cond b (Some index) None) (position_from test (index + 1) rest) ≡ cond b (Some index) (position_from test (index + 1) rest)
-  front true = refl
-  front false = refl
+      front : (b : Bool) → option_or (cond b (Some index) None) (position_from test (index + 1) rest) ≡ cond b (Some index) (position_from test (index + 1) rest)
+      front true = refl
+      front false = refl
 
 pub place_is_done : {X : Type 0} (test : X → Bool) (all : List X) (index : ℕ) (before total : Option ℕ) → all ≡ [] → option_or before (position_from test index all) ≡ total → before ≡ total
 place_is_done test all index before total is so_far = sym (or_none before) ∙ ap (λ xs. option_or before (position_from test index xs)) (sym is) ∙ so_far
@@ -107,9 +107,9 @@ place_pushed test [] i n x e =
 place_pushed test (y ∷ ys) i n x e =
     let more : n ≡ (i + 1) + length ys = omega arith in
     by (test y) _ _ _ (place_pushed test ys (i + 1) n x more) where
-  by : (b : Bool) (o p r : Option ℕ) → o ≡ option_or p r → cond b (Some i) o ≡ option_or (cond b (Some i) p) r
-  by true o p r e = refl
-  by false o p r e = e
+      by : (b : Bool) (o p r : Option ℕ) → o ≡ option_or p r → cond b (Some i) o ≡ option_or (cond b (Some i) p) r
+      by true o p r e = refl
+      by false o p r e = e
 
 -- a name that is there, and one that is new
 pub with_known : (names : List (List ℕ)) (name : List ℕ) → is_one_of names name ≡ true → names ≡ with_name names name

@@ -11,8 +11,18 @@ ghost use Rattle.bytecode_model.specs.SearchOrder.{is_one_of};
 ghost use Rattle.bytecode_model.specs.Fault.{Answers};
 ghost use Rattle.bytecode_model.specs.Heads.{is_static};
 ghost use Rattle.bytecode_model.specs.Conditions.{
-  holds, names_own_class, is_free, may_be_extended, is_super, is_above, runs_in_circle, stands_below, is_good_interface, has_supers,
-  class_linked, classes_linked,
+  holds,
+  names_own_class,
+  is_free,
+  may_be_extended,
+  is_super,
+  is_above,
+  runs_in_circle,
+  stands_below,
+  is_good_interface,
+  has_supers,
+  class_linked,
+  classes_linked,
 };
 
 use crate::classes::Classes;
@@ -190,9 +200,7 @@ fn is_super(heads: &Classes, name: &Bytes) -> bool
 fn may_be_extended(name: &[u8]) -> bool
     ensures { result ≡ may_be_extended name.now }
 {
-    is_text(name, "java/lang/Object")
-        || is_text(name, "java/lang/Thread")
-        || is_throwable(name)
+    is_text(name, "java/lang/Object") || is_text(name, "java/lang/Thread") || is_throwable(name)
 }
 
 /// Whether it is a built-in class whose objects can be thrown.
@@ -249,8 +257,7 @@ fn runs_in_circle(heads: &Classes, name: &Bytes) -> bool
 fn is_good_interface(head: &ListedClass, fields: &[Member]) -> bool
     ensures { result ≡ is_good_interface head.now fields.now }
 {
-    !head.is_interface
-        || is_text(head.parent.as_slice(), "java/lang/Object") && are_static(fields)
+    !head.is_interface || is_text(head.parent.as_slice(), "java/lang/Object") && are_static(fields)
 }
 
 fn are_static(fields: &[Member]) -> bool

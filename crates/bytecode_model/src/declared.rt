@@ -12,7 +12,7 @@ ghost use Rattle.bytecode_model.specs.Index.{found_in};
 ghost use Rattle.bytecode_model.specs.Members.{target_in, members_of, member_declared, members_from, file_members, given_from, listed_from, listed_fields_from, row_declared, rows_from, methods_declared, fields_declared, first_of};
 
 use crate::program::Target;
-use crate::text::{copy_class, copy_text, class_at, has_flag};
+use crate::text::{class_at, copy_class, copy_text, has_flag};
 use api_listing::{ListedMethod, Listing, METHODS};
 use class_codec::{ClassFile, Const, Copied, Member};
 use mon_base::{Bytes, MethodId, NoMemory};
@@ -270,7 +270,10 @@ fn add_row(
 }
 
 /// The methods of a listing.
-pub fn listed_methods(alloc: Global, methods: &[ListedMethod]) -> Result<BTreeSet<MethodId>, NoMemory>
+pub fn listed_methods(
+    alloc: Global,
+    methods: &[ListedMethod],
+) -> Result<BTreeSet<MethodId>, NoMemory>
     ensures { IfOk result (λ ids. (q : MethodId) → has_id ids q ≡ has_method methods.now q) }
 {
     let mut ids = BTreeSet::new(alloc);

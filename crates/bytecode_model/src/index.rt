@@ -150,11 +150,7 @@ impl<'a> Index<'a> {
 fn is_built_in_but_run(id: &MethodId) -> bool
     ensures { result ≡ (is_built_in id.now.class id.now.name id.now.desc && not (is_run id.now.name id.now.desc)) }
 {
-    is_built_in(
-        id.class.as_slice(),
-        id.name.as_slice(),
-        id.desc.as_slice(),
-    ) && !is_run(id)
+    is_built_in(id.class.as_slice(), id.name.as_slice(), id.desc.as_slice()) && !is_run(id)
 }
 
 fn is_run(id: &MethodId) -> bool

@@ -28,3 +28,6 @@ pub use fault::LinkFault;
 pub use linking::{MAX_FILES, link, unlink};
 pub use operand::{OperandFault, Use, use_of};
 pub use program::{Handler, LinkedClass, Method, Program, Side, Target};
+
+#[cfg(test)]
+mod tests;

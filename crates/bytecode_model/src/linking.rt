@@ -7,7 +7,15 @@ ghost use Rattle.api_listing.specs.Listing.{IsFew};
 ghost use Rattle.bytecode_model.specs.Fault.{Answers};
 ghost use Rattle.bytecode_model.specs.Heads.{heads_of, is_member, main_name, main_desc};
 ghost use Rattle.bytecode_model.specs.Linking.{
-  if_static, static_main, main_of, each_linked, class_with, classes_with, members_of, linked, unlinked,
+  if_static,
+  static_main,
+  main_of,
+  each_linked,
+  class_with,
+  classes_with,
+  members_of,
+  linked,
+  unlinked,
 };
 
 use crate::class_conditions::classes_linked;

@@ -6,8 +6,16 @@ ghost use Rattle.bytecode_model.specs.Fault.{Answers};
 ghost use Rattle.bytecode_model.specs.Heads.{all_classes};
 ghost use Rattle.bytecode_model.specs.SearchOrder.{search_order};
 ghost use Rattle.bytecode_model.specs.Conditions.{
-  code_in, has_good_flags, is_good_initialiser, is_begun_unlocked, describes_method, has_its_code,
-  is_allowed, overrides_in, overrides, id_of,
+  code_in,
+  has_good_flags,
+  is_good_initialiser,
+  is_begun_unlocked,
+  describes_method,
+  has_its_code,
+  is_allowed,
+  overrides_in,
+  overrides,
+  id_of,
 };
 
 use crate::index::{Index, in_class};
@@ -140,7 +148,12 @@ pub fn overrides(
     Ok(found)
 }
 
-fn id_of(alloc: Global, class: &Bytes, pool: &[Const], member: &Member) -> Result<MethodId, NoMemory>
+fn id_of(
+    alloc: Global,
+    class: &Bytes,
+    pool: &[Const],
+    member: &Member,
+) -> Result<MethodId, NoMemory>
     ensures { IfOk result (λ id. id ≡ id_of class.now pool.now member.now) }
 {
     Ok(MethodId {
@@ -150,7 +163,12 @@ fn id_of(alloc: Global, class: &Bytes, pool: &[Const], member: &Member) -> Resul
     })
 }
 
-fn overrides_in(alloc: Global, index: &Index, id: &MethodId, order: &[Bytes]) -> Result<bool, NoMemory>
+fn overrides_in(
+    alloc: Global,
+    index: &Index,
+    id: &MethodId,
+    order: &[Bytes],
+) -> Result<bool, NoMemory>
     ensures { IfOk result (λ b. b ≡ overrides_in index.now.listing id.now order.now) }
 {
     let mut left = order;

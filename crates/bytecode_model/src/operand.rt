@@ -15,15 +15,9 @@ pub enum Use {
     /// It pushes a number, a string or a class.
     Load,
     /// It reads or writes a field.
-    Field {
-        is_static: bool,
-        writes: bool,
-    },
+    Field { is_static: bool, writes: bool },
     /// It calls a method of a class, or of an interface.
-    Call {
-        is_static: bool,
-        of_interface: bool,
-    },
+    Call { is_static: bool, of_interface: bool },
     /// It makes an object of a class.
     New,
     /// It names a class or an array type.

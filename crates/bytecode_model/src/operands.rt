@@ -7,8 +7,27 @@ ghost use Rattle.api_listing.specs.Descriptor.{whole_type, method_type};
 ghost use Rattle.bytecode_model.specs.declared.operand.OperandFault.TheVariants.{Wrong, Missing};
 ghost use Rattle.bytecode_model.specs.Fault.{Answers, Names, Tells};
 ghost use Rattle.bytecode_model.specs.Operands.{
-  index_of, is_nothing, is_array, element_is_known, array_linked, class_linked, field_fits, field_linked, call_linked,
-  id_at, known_in, loaded, typed, field_used, called, used, operand_linked, told, told_at, operands_linked, operand_at,
+  index_of,
+  is_nothing,
+  is_array,
+  element_is_known,
+  array_linked,
+  class_linked,
+  field_fits,
+  field_linked,
+  call_linked,
+  id_at,
+  known_in,
+  loaded,
+  typed,
+  field_used,
+  called,
+  used,
+  operand_linked,
+  told,
+  told_at,
+  operands_linked,
+  operand_at,
 };
 
 use crate::declared::Found;

@@ -33,15 +33,9 @@ pub enum Target {
     /// A built-in method, by its index in the table of these.
     Builtin(u32),
     /// A method of a given class, by the indices of both.
-    Method {
-        class: u32,
-        method: u32,
-    },
+    Method { class: u32, method: u32 },
     /// A field of a given class, by the indices of both.
-    Field {
-        class: u32,
-        field: u32,
-    },
+    Field { class: u32, field: u32 },
     /// A field of the listing, by its index there.
     ApiField(u32),
     /// A class or an array type, by its name or its descriptor.

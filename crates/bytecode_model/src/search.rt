@@ -60,7 +60,11 @@ fn add_names(alloc: Global, names: &mut List<Bytes>, others: &[Bytes]) -> Result
 }
 
 /// The interfaces and those above them, each once, level by level.
-fn interfaces_from(alloc: Global, classes: &Classes, names: &[Bytes]) -> Result<List<Bytes>, NoMemory>
+fn interfaces_from(
+    alloc: Global,
+    classes: &Classes,
+    names: &[Bytes],
+) -> Result<List<Bytes>, NoMemory>
     ensures { IfOk result (λ found. found ≡ interfaces_from classes.now names.now) }
 {
     let most = add(classes.interfaces(), names.len())?;
@@ -114,7 +118,11 @@ fn add_above(
     }
 }
 
-fn add_waiting(alloc: Global, waiting: &mut VecDeque<Bytes>, names: &[Bytes]) -> Result<(), NoMemory>
+fn add_waiting(
+    alloc: Global,
+    waiting: &mut VecDeque<Bytes>,
+    names: &[Bytes],
+) -> Result<(), NoMemory>
     ensures { OnOk result (waiting.new.items ≡ waiting.old.items ++ names.now) }
 {
     for name in names {
