@@ -109,6 +109,13 @@ fn after_first(alloc: Global, first: u8, rest: &[u8]) -> Result<MethodType, Form
     Ok(MethodType { arguments, result })
 }
 
+/// The type that a field's descriptor spells.
+pub fn parse_field_descriptor(alloc: Global, desc: &[u8]) -> Result<FieldType, FormFault>
+    ensures { Reads result (whole_type desc.now) }
+{
+    whole_type(alloc, desc)
+}
+
 /// The class that a field's descriptor of class type names. It takes no memory.
 pub fn parse_class_descriptor<'a>(desc: &'a [u8]) -> Option<&'a [u8]>
     ensures exact { option_copied result ≡ class_described desc.now }

@@ -19,7 +19,10 @@ mod types;
 mod words;
 
 pub use built_in::{CLASSES, METHODS, built_in_classes, is_built_in};
-pub use descriptor::{Element, FieldType, MethodType, parse_class_descriptor, parse_descriptor};
+pub use descriptor::{
+    Element, FieldType, MethodType, parse_class_descriptor, parse_descriptor,
+    parse_field_descriptor,
+};
 pub use events::{ApiAnswer, ApiCall, ApiValue, Event};
 pub use fault::{FormFault, ListFault};
 pub use lookup::{find_class, index_of, is_known_class, resolve};

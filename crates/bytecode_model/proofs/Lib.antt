@@ -1,0 +1,10 @@
+pub mod ClassLoop
+pub mod Climbing
+pub mod Declaring
+pub mod Lists
+pub mod Loop
+pub mod Names
+pub mod Placing
+pub mod Starting
+pub mod Telling
+pub mod Whole

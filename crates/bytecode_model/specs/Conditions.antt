@@ -1,8 +1,9 @@
 -- The conditions that each class and each method of a program meets, one definition for each refusal.
-use Rattle.std.specs.Prelude.{ℕ, zero, suc, Bool, true, false, not, ◌==◌, ◌&&◌, ◌||◌, bytes_eq, codes, if◌then◌else◌, List, [], ◌∷◌, ◌++◌, length, take, Option, Some, None, is_some, Result, Ok, Err, is_ok}
-use Rattle.std.specs.List.{list_all, list_any, filter_map}
+use Rattle.std.specs.Prelude.{ℕ, zero, suc, Bool, true, false, not, ◌==◌, ◌&&◌, ◌||◌, bytes_eq, codes, if◌then◌else◌, List, [], ◌∷◌, ◌++◌, length, nat_eq, Option, Some, None, is_some, Result, Ok, Err, is_ok}
+use Rattle.std.specs.List.{list_all, list_any, filter_map, starts_with}
 use Rattle.std.specs.Option.{option_map_or}
 use Rattle.mon_base.specs.Reading.{◌>>=◌, need}
+use Rattle.mon_base.specs.declared.method.MethodId.{MethodId}
 use Rattle.class_codec.specs.declared.tree.Const.{Const}
 use Rattle.class_codec.specs.declared.tree.Const.TheVariants as constants
 use Rattle.class_codec.specs.declared.tree.Code.{Code}
@@ -13,8 +14,8 @@ use Rattle.class_codec.specs.declared.tree.ClassFile.{ClassFile}
 use Rattle.api_listing.specs.declared.types.ListedClass.{ListedClass}
 use Rattle.api_listing.specs.declared.types.Listing.{Listing}
 use Rattle.api_listing.specs.BuiltIn.{object, thread, runnable, throwables, is_built_in}
-use Rattle.api_listing.specs.Listing.{is_known, own_class}
-use Rattle.api_listing.specs.Nearest.{class_named, declared_in}
+use Rattle.api_listing.specs.Listing.{is_known, has_method, own_class}
+use Rattle.api_listing.specs.Nearest.{class_named}
 use Rattle.api_listing.specs.Descriptor.{method_type}
 use Rattle.api_listing.specs.Words.{is_class_name}
 use Rattle.bytecode_model.specs.declared.fault.LinkFault.TheVariants as faults
@@ -22,18 +23,15 @@ use Rattle.bytecode_model.specs.declared.program.Side.{Side}
 use Rattle.bytecode_model.specs.declared.program.Side.TheVariants as sides
 use Rattle.bytecode_model.specs.Fault.{Linked}
 use Rattle.bytecode_model.specs.Heads.{is_static, is_synchronized, is_native, is_abstract, head_of, heads_of, all_classes, name_of, desc_of, main_name, main_desc, maker, initialiser, takes_nothing, run_name}
+use Rattle.bytecode_model.specs.Members.{in_class}
 use Rattle.bytecode_model.specs.SearchOrder.{Name, is_one_of, search_order}
 
 -- ---- the constant pool (145)
 
--- the text begins with these bytes
-abbrev pub begins_with : List ℕ → List ℕ → Bool
-begins_with front text = bytes_eq (take (length front) text) front
-
 -- the bytes stand somewhere in the text
 abbrev pub holds : List ℕ → List ℕ → Bool
-holds part [] = begins_with part []
-holds part (b ∷ text) = begins_with part (b ∷ text) || holds part text
+holds part [] = starts_with nat_eq [] part
+holds part (b ∷ text) = starts_with nat_eq (b ∷ text) part || holds part text
 
 abbrev pub names_own_class : Const → Bool
 names_own_class (constants.Utf8 text) = holds own_class text
@@ -65,33 +63,32 @@ stays_within (suc n) heads name = option_map_or (λ (c : ListedClass). stays_wit
 abbrev pub runs_in_circle : List ListedClass → Name → Bool
 runs_in_circle heads name = stays_within (suc (length heads)) heads name
 
--- an interface is below Object, and its fields are static
-abbrev pub is_good_interface : ClassFile → Bool
-is_good_interface file =
-    not (head_of file).is_interface
-    || (bytes_eq (head_of file).parent object && list_all (λ (m : Member). is_static m.flags) file.fields)
+-- the superclass and the interfaces of a class may stand above it
+abbrev pub stands_below : List ListedClass → ListedClass → Bool
+stands_below heads c = is_super heads c.parent && (list_all (is_above heads) c.interfaces && not (runs_in_circle heads c.name))
 
-abbrev pub has_supers : List ListedClass → ClassFile → Bool
-has_supers heads file =
-    is_super heads (head_of file).parent && (list_all (is_above heads) (head_of file).interfaces
-    && (not (runs_in_circle heads (head_of file).name) && is_good_interface file))
+-- an interface is below Object, and its fields are static
+abbrev pub is_good_interface : ListedClass → List Member → Bool
+is_good_interface c fields = not c.is_interface || (bytes_eq c.parent object && list_all (λ (m : Member). is_static m.flags) fields)
+
+abbrev pub has_supers : List ListedClass → ListedClass → List Member → Bool
+has_supers heads c fields = stands_below heads c && is_good_interface c fields
 
 -- ---- classes, in order (150, 142, 145, 144)
 
--- the conditions of a class behind some others
-abbrev pub class_linked : Side → List ListedClass → Listing → List ListedClass → ClassFile → Linked (Unit {0})
-class_linked side heads listing earlier file = do
-  named ← need (is_class_name (head_of file).name) (faults.Name (head_of file).name)
-  once ← need (not (is_known earlier (head_of file).name || is_known listing.classes (head_of file).name)) (faults.Twice (head_of file).name)
-  free ← need (is_free side file) (faults.NameTaken (head_of file).name)
-  need (has_supers heads file) (faults.SuperLeftOut (head_of file).name)
+-- the conditions of a class of a file, whose name is taken or not
+abbrev pub class_linked : Side → List ListedClass → Bool → ListedClass → ClassFile → Linked (Unit {0})
+class_linked side heads is_taken c file = do
+  named ← need (is_class_name c.name) (faults.Name c.name)
+  once ← need (not is_taken) (faults.Twice c.name)
+  free ← need (is_free side file) (faults.NameTaken c.name)
+  need (has_supers heads c file.fields) (faults.SuperLeftOut c.name)
 
--- those of the classes behind some others
-abbrev pub classes_linked : Side → List ListedClass → Listing → List ListedClass → List ClassFile → Linked (Unit {0})
-classes_linked side heads listing earlier [] = Ok tt
-classes_linked side heads listing earlier (file ∷ files) = do
-  first ← class_linked side heads listing earlier file
-  classes_linked side heads listing (earlier ++ head_of file ∷ []) files
+-- those of some classes, where the names of others are taken
+abbrev pub classes_linked : Side → List ListedClass → List ListedClass → List ClassFile → Linked (Unit {0})
+classes_linked side heads taken [] = Ok tt
+classes_linked side heads taken (file ∷ files) =
+    class_linked side heads (is_known taken (head_of file).name) (head_of file) file >>= λ _. classes_linked side heads (head_of file ∷ taken) files
 
 -- ---- methods (146)
 
@@ -141,12 +138,18 @@ abbrev pub is_run : Name → Name → Bool
 is_run name desc = bytes_eq name run_name && bytes_eq desc takes_nothing
 
 -- The library declares the method in the very class; that a Thread or Runnable runs counts for nothing.
-abbrev pub is_of_library : Listing → Name → Name → Name → Bool
-is_of_library listing name desc class =
-    is_some (declared_in listing.methods name desc class) || (is_built_in class name desc && not (is_run name desc))
+abbrev pub is_of_library : Listing → MethodId → Bool
+is_of_library listing id = has_method listing.methods id || (is_built_in id.class id.name id.desc && not (is_run id.name id.desc))
+
+-- one of the classes has it
+abbrev pub overrides_in : Listing → MethodId → List Name → Bool
+overrides_in listing id classes = list_any (λ class. is_of_library listing (in_class id class)) classes
+
+abbrev pub id_of : Name → List Const → Member → MethodId
+id_of class pool member = record { class = class; name = name_of pool member; desc = desc_of pool member }
 
 -- An instance method other than a maker has the name and descriptor of a method of the library above its class.
 abbrev pub overrides : List ListedClass → Listing → Name → List Const → Member → Bool
 overrides classes listing class pool member =
     not (is_static member.flags) && (not (bytes_eq (name_of pool member) maker)
-    && list_any (is_of_library listing (name_of pool member) (desc_of pool member)) (search_order classes class))
+    && overrides_in listing (id_of class pool member) (search_order classes class))

@@ -9,7 +9,7 @@ use Rattle.api_listing.specs.declared.types.Listing.{Listing}
 use Rattle.bytecode_model.specs.declared.fault.LinkFault.TheVariants as faults
 use Rattle.bytecode_model.specs.declared.program.Handler.{Handler}
 use Rattle.bytecode_model.specs.declared.program.Target.{Target}
-use Rattle.bytecode_model.specs.Fault.{Linked}
+use Rattle.bytecode_model.specs.Fault.{Linked, linked_from}
 use Rattle.bytecode_model.specs.Heads.{class_at}
 use Rattle.bytecode_model.specs.Operands.{class_linked, known_in, told_at}
 
@@ -37,8 +37,4 @@ handler_linked files listing class pool method end starts entry = do
   Ok (record { from = from; to = to; at = at; class = catches })
 
 abbrev pub handlers_linked : List ClassFile → Listing → List ℕ → List Const → ℕ → ℕ → List ℕ → List TableEntry → Linked (List Handler)
-handlers_linked files listing class pool method end starts [] = Ok []
-handlers_linked files listing class pool method end starts (entry ∷ entries) = do
-  first ← handler_linked files listing class pool method end starts entry
-  others ← handlers_linked files listing class pool method end starts entries
-  Ok (first ∷ others)
+handlers_linked files listing class pool method end starts entries = linked_from (λ at. handler_linked files listing class pool method end starts) 0 entries

@@ -6,3 +6,4 @@ pub mod Conditions
 pub mod Operands
 pub mod Handlers
 pub mod Linking
+pub mod Index

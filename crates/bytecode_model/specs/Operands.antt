@@ -18,6 +18,7 @@ use Rattle.api_listing.specs.declared.types.Listing.{Listing}
 use Rattle.api_listing.specs.Descriptor.{method_type, whole_type}
 use Rattle.api_listing.specs.Fault.{Read}
 use Rattle.api_listing.specs.Listing.{is_known}
+use Rattle.bytecode_model.specs.declared.fault.LinkFault.{LinkFault}
 use Rattle.bytecode_model.specs.declared.fault.LinkFault.TheVariants as faults
 use Rattle.bytecode_model.specs.declared.operand.OperandFault.{OperandFault}
 use Rattle.bytecode_model.specs.declared.operand.OperandFault.TheVariants as operand
@@ -25,10 +26,11 @@ use Rattle.bytecode_model.specs.declared.operand.Use.{Use}
 use Rattle.bytecode_model.specs.declared.operand.Use.TheVariants as uses
 use Rattle.bytecode_model.specs.declared.program.Target.{Target}
 use Rattle.bytecode_model.specs.declared.program.Target.TheVariants as target
-use Rattle.bytecode_model.specs.Fault.{Linked}
+use Rattle.bytecode_model.specs.Fault.{Linked, linked_from}
 use Rattle.bytecode_model.specs.Heads.{all_classes, text_at, class_at}
-use Rattle.bytecode_model.specs.SearchOrder.{Name, is_one_of}
-use Rattle.bytecode_model.specs.Members.{Found, method_of, field_of}
+use Rattle.bytecode_model.specs.SearchOrder.{Name, with_name}
+use Rattle.bytecode_model.specs.declared.declared.Found.{Found}
+use Rattle.bytecode_model.specs.Members.{method_of, field_of}
 
 -- ---- how instructions use constants
 
@@ -66,10 +68,6 @@ text_of_string pool other = None
 
 abbrev pub strings_in : ClassFile → List (List ℕ)
 strings_in file = filter_map (text_of_string file.pool) file.pool
-
--- the names, and then this one if it is new
-abbrev pub with_name : List Name → Name → List Name
-with_name names name = if is_one_of names name then names else names ++ name ∷ []
 
 -- the texts of the string constants of the classes, each once, in order
 abbrev pub literals_of : List ClassFile → List (List ℕ)
@@ -109,21 +107,21 @@ is_api_field other = false
 
 -- A field is static where its instruction says so, and one of the library is not written.
 abbrev pub field_fits : Bool → Bool → Found → Bool
-field_fits static writes found = beq found.1 static && not (writes && is_api_field found.0)
+field_fits static writes found = beq found.is_static static && not (writes && is_api_field found.target)
 
 abbrev pub field_linked : List ClassFile → Listing → Bool → Bool → MethodId → Result Target OperandFault
 field_linked files listing static writes id = do
   described ← need (is_ok (whole_type id.desc)) operand.Wrong
   found ← ok_or (field_of files listing id) (operand.Missing id.name)
   fits ← need (field_fits static writes found) (operand.Missing id.name)
-  Ok found.0
+  Ok found.target
 
 abbrev pub call_linked : List ClassFile → Listing → Bool → MethodId → Result Target OperandFault
 call_linked files listing static id = do
   described ← need (is_ok (method_type id.desc)) operand.Wrong
   found ← ok_or (method_of files listing id) (operand.Missing id.name)
-  fits ← need (beq found.1 static) (operand.Missing id.name)
-  Ok found.0
+  fits ← need (beq found.is_static static) (operand.Missing id.name)
+  Ok found.target
 
 -- what a reference tells, whose indices name what they should
 abbrev pub id_at : List Const → ℕ → ℕ → MethodId
@@ -177,16 +175,19 @@ operand_linked files listing pool insn =
     else (ok_or (slice_get pool (index_of insn)) operand.Wrong >>= used files listing pool (use_of insn))
 
 -- An operand that its instruction does not take is told by its place, and one that has no target by its name.
+abbrev pub told : List ℕ → ℕ → ℕ → OperandFault → LinkFault
+told class method at operand.Wrong = faults.Operand class method at
+told class method at (operand.Missing name) = faults.Unresolved class name
+told class method at operand.Memory = faults.Memory
+
 abbrev pub told_at : {X : Type 0} → List ℕ → ℕ → ℕ → Result X OperandFault → Linked X
 told_at class method at (Ok x) = Ok x
-told_at class method at (Err operand.Wrong) = Err (faults.Operand class method at)
-told_at class method at (Err (operand.Missing name)) = Err (faults.Unresolved class name)
-told_at class method at (Err operand.Memory) = Err faults.Memory
+told_at class method at (Err fault) = Err (told class method at fault)
 
--- the operands of the instructions of a method, of which the first has this index
-abbrev pub operands_linked : List ClassFile → Listing → List ℕ → List Const → ℕ → ℕ → List Insn → Linked (List Target)
-operands_linked files listing class pool method at [] = Ok []
-operands_linked files listing class pool method at (insn ∷ insns) = do
-  first ← told_at class method at (operand_linked files listing pool insn)
-  others ← operands_linked files listing class pool method (at + 1) insns
-  Ok (first ∷ others)
+-- the operand of the instruction of this index
+abbrev pub operand_at : List ClassFile → Listing → List ℕ → List Const → ℕ → ℕ → Insn → Linked Target
+operand_at files listing class pool method at insn = told_at class method at (operand_linked files listing pool insn)
+
+-- the operands of the instructions of a method
+abbrev pub operands_linked : List ClassFile → Listing → List ℕ → List Const → ℕ → List Insn → Linked (List Target)
+operands_linked files listing class pool method insns = linked_from (operand_at files listing class pool method) 0 insns

@@ -17,14 +17,20 @@ is_one_of names name = list_any (λ other. bytes_eq other name) names
 abbrev pub interfaces_above : List ListedClass → Name → List Name
 interfaces_above classes name = option_map_or (λ (c : ListedClass). c.interfaces) (class_named classes name) []
 
+-- the names, and then this one if it is new
+abbrev pub with_name : List Name → Name → List Name
+with_name names name = if is_one_of names name then names else names ++ name ∷ []
+
+-- behind those that wait, the interfaces of a new name
+abbrev pub with_above : List ListedClass → List Name → Name → List Name → List Name
+with_above classes found name waiting = if is_one_of found name then waiting else waiting ++ interfaces_above classes name
+
 -- The names that are reached, each once: those that wait are taken in order, and a new one's interfaces wait behind
 -- the others. At most n are taken.
 abbrev pub reached : ℕ → List ListedClass → List Name → List Name → List Name
 reached zero classes found waiting = found
 reached (suc n) classes found [] = found
-reached (suc n) classes found (name ∷ waiting) =
-    if is_one_of found name then reached n classes found waiting
-    else reached n classes (found ++ name ∷ []) (waiting ++ interfaces_above classes name)
+reached (suc n) classes found (name ∷ waiting) = reached n classes (with_name found name) (with_above classes found name waiting)
 
 -- how many names can come to wait behind these
 abbrev pub most : List ListedClass → List Name → ℕ

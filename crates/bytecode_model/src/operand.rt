@@ -1,10 +1,11 @@
 //! How an instruction uses the constant that it names. (The Java Virtual Machine Specification, section 6.5.)
 
 ghost use Rattle.std.specs.Prelude.{◌≡◌};
+ghost use Rattle.bytecode_model.specs.declared.operand.OperandFault.TheVariants.{Memory};
 ghost use Rattle.bytecode_model.specs.Operands.{use_of, use_of_opcode};
 
 use insn_codec::Insn;
-use mon_base::Bytes;
+use mon_base::{Bytes, NoMemory};
 
 /// How an instruction uses a constant.
 #[derive(Clone, Copy, Debug, PartialEq, Eq)]
@@ -14,15 +15,9 @@ pub enum Use {
     /// It pushes a number, a string or a class.
     Load,
     /// It reads or writes a field.
-    Field {
-        is_static: bool,
-        writes: bool,
-    },
+    Field { is_static: bool, writes: bool },
     /// It calls a method of a class, or of an interface.
-    Call {
-        is_static: bool,
-        of_interface: bool,
-    },
+    Call { is_static: bool, of_interface: bool },
     /// It makes an object of a class.
     New,
     /// It names a class or an array type.
@@ -87,5 +82,13 @@ fn use_of_opcode(op: u8) -> Use
         0xBB => Use::New,
         0xBD | 0xC0 | 0xC1 => Use::Type,
         _ => Use::Nothing,
+    }
+}
+
+impl From<NoMemory> for OperandFault {
+    ghost from_gives = { λ _ e. e ≡ Memory };
+
+    fn from(_error: NoMemory) -> OperandFault {
+        OperandFault::Memory
     }
 }

@@ -1,9 +1,10 @@
 //! What a program is once it is linked.
 
 use api_listing::Listing;
-use class_codec::ClassFile;
+use class_codec::{ClassFile, Copied};
 use insn_codec::Insn;
-use mon_base::{Bytes, List};
+use mon_base::{Bytes, List, NoMemory};
+use std::alloc::Global;
 
 /// Whether the files come from a compiler, or were written by this tool.
 #[derive(Clone, Copy, Debug, PartialEq, Eq)]
@@ -32,15 +33,9 @@ pub enum Target {
     /// A built-in method, by its index in the table of these.
     Builtin(u32),
     /// A method of a given class, by the indices of both.
-    Method {
-        class: u32,
-        method: u32,
-    },
+    Method { class: u32, method: u32 },
     /// A field of a given class, by the indices of both.
-    Field {
-        class: u32,
-        field: u32,
-    },
+    Field { class: u32, field: u32 },
     /// A field of the listing, by its index there.
     ApiField(u32),
     /// A class or an array type, by its name or its descriptor.
@@ -49,6 +44,28 @@ pub enum Target {
     Number(i32),
     /// A string, by its index among the program's literals.
     Literal(u32),
+}
+
+impl Copied for Target {
+    fn copy(&self, alloc: Global) -> Result<Target, NoMemory> {
+        match self {
+            Target::None => Ok(Target::None),
+            Target::ApiMethod(index) => Ok(Target::ApiMethod(*index)),
+            Target::Builtin(index) => Ok(Target::Builtin(*index)),
+            Target::Method { class, method } => Ok(Target::Method {
+                class: *class,
+                method: *method,
+            }),
+            Target::Field { class, field } => Ok(Target::Field {
+                class: *class,
+                field: *field,
+            }),
+            Target::ApiField(index) => Ok(Target::ApiField(*index)),
+            Target::ClassName(name) => Ok(Target::ClassName(name.copy(alloc)?)),
+            Target::Number(n) => Ok(Target::Number(*n)),
+            Target::Literal(index) => Ok(Target::Literal(*index)),
+        }
+    }
 }
 
 /// A method of a given class. One without code has no instructions, and sizes of 0.

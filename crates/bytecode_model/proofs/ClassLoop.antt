@@ -1,0 +1,54 @@
+-- The conditions of classes, one class after the other.
+use Rattle.std.proofs.Common.{◌≡◌, ℕ, zero, suc, ◌+◌, ◌-◌, ◌<◌, Bool, true, false, List, [], ◌∷◌, map, Ok, Err, Some, None, refl, sym, ap, ◌∙◌, arith}
+use Rattle.std.specs.Prelude.{IsTrue, ◌↔◌}
+use Rattle.mon_base.specs.Reading.{◌>>=◌}
+use Rattle.class_codec.specs.declared.tree.ClassFile.{ClassFile}
+use Rattle.api_listing.specs.declared.types.ListedClass.{ListedClass}
+use Rattle.api_listing.specs.BuiltIn.{throwables}
+use Rattle.api_listing.specs.Listing.{is_known}
+use Rattle.api_listing.specs.Nearest.{class_named}
+use Rattle.bytecode_model.specs.declared.class_conditions.TheConstants.{THROWABLES}
+use Rattle.bytecode_model.specs.declared.fault.LinkFault.{LinkFault}
+use Rattle.bytecode_model.specs.declared.program.Side.{Side}
+use Rattle.bytecode_model.specs.Fault.{Linked, Fails}
+use Rattle.bytecode_model.specs.Heads.{head_of}
+use Rattle.bytecode_model.specs.Conditions.{class_linked, classes_linked, stays_within}
+use Rattle.bytecode_model.proofs.Loop.{through}
+
+pub class_goes_on : (side : Side) (heads taken : List ListedClass) (all rest : List ClassFile) (file : ClassFile) (total : Linked (Unit {0})) (b : Bool) → all ≡ file ∷ rest
+    → is_known taken (head_of file).name ≡ b → class_linked side heads b (head_of file) file ≡ Ok tt → classes_linked side heads taken all ≡ total
+    → classes_linked side heads (head_of file ∷ taken) rest ≡ total
+class_goes_on side heads taken all rest file total b split known ok so_far =
+    let next : Linked (Unit {0}) → Linked (Unit {0}) = λ r. r >>= λ _. classes_linked side heads (head_of file ∷ taken) rest in
+    ap next (sym ok) ∙ ap (λ (x : Bool). next (class_linked side heads x (head_of file) file)) (sym known) ∙ ap (classes_linked side heads taken) (sym split) ∙ so_far
+
+pub class_ends : (e : LinkFault) (side : Side) (heads taken : List ListedClass) (all rest : List ClassFile) (file : ClassFile) (total : Linked (Unit {0})) (b : Bool) → all ≡ file ∷ rest
+    → is_known taken (head_of file).name ≡ b → Fails e (class_linked side heads b (head_of file) file) → classes_linked side heads taken all ≡ total → Fails e total
+class_ends e side heads taken all rest file total b split known fails so_far =
+    let next : Linked (Unit {0}) → Linked (Unit {0}) = λ r. r >>= λ _. classes_linked side heads (head_of file ∷ taken) rest in
+    through e (class_linked side heads b (head_of file) file) total
+    (λ err. sym so_far ∙ ap (classes_linked side heads taken) split ∙ ap (λ (x : Bool). next (class_linked side heads x (head_of file) file)) known ∙ ap next err) fails
+
+pub class_done : (side : Side) (heads taken : List ListedClass) (all : List ClassFile) (total : Linked (Unit {0})) → all ≡ [] → classes_linked side heads taken all ≡ total → total ≡ Ok tt
+class_done side heads taken all total none so_far = sym so_far ∙ ap (classes_linked side heads taken) none
+
+-- one class further up
+pub stays_some : (n i : ℕ) (heads : List ListedClass) (name : List ℕ) (c : ListedClass) (total : Bool) → i < n → class_named heads name ≡ Some c → stays_within (n - i) heads name ≡ total → stays_within (n - (i + 1)) heads c.parent ≡ total
+stays_some n i heads name c total lt some so_far =
+    let k : n - i ≡ suc (n - (i + 1)) = omega arith in
+    let step : stays_within (n - i) heads name ≡ stays_within (n - (i + 1)) heads c.parent = rw (k, some) refl in
+    sym step ∙ so_far
+
+pub stays_none : (n i : ℕ) (heads : List ListedClass) (name : List ℕ) (total : Bool) → i < n → class_named heads name ≡ None → stays_within (n - i) heads name ≡ total → false ≡ total
+stays_none n i heads name total lt none so_far =
+    let k : n - i ≡ suc (n - (i + 1)) = omega arith in
+    let step : stays_within (n - i) heads name ≡ false = rw (k, none) refl in
+    sym step ∙ so_far
+
+pub throwables_are : map (λ t. t.now) THROWABLES ≡ throwables
+throwables_are = refl
+
+pub same_true : (a b : Bool) → (IsTrue a ↔ IsTrue b) → a ≡ b
+same_true true b e = sym (e.0 refl)
+same_true false true e = e.1 refl
+same_true false false e = refl

@@ -1,0 +1,59 @@
+-- Lists that are gone over from the front.
+use Rattle.std.proofs.Common.{◌≡◌, ◌≢◌, ℕ, suc, ◌+◌, ◌-◌, ◌<◌, ◌≤◌, Bool, true, false, cond, not, ◌||◌, List, [], ◌∷◌, ◌++◌, length, get_or, take, drop, Option, Some, None, refl, sym, ap, ◌∙◌, subst, arith}
+use Rattle.std.specs.List.{list_any, list_all, AllByRecursion}
+use Rattle.std.specs.Option.{option_or}
+use Rattle.std.proofs.lemmas.List.{take_all}
+
+-- a list that is not empty is its first item and the others
+pub front_is : {X : Type 0} (xs : List X) (x : X) → 1 ≤ length xs → x ≡ get_or xs 0 x → xs ≡ x ∷ take (length xs - 1) (drop 1 xs)
+front_is [] x long e = absurd (omega arith)
+front_is (y ∷ ys) x long e =
+    let all : take (length (y ∷ ys) - 1) ys ≡ ys = take_all (length (y ∷ ys) - 1) ys (omega arith) in
+    rw (e, all) refl
+
+pub none_left : {X : Type 0} (xs : List X) → length xs < 1 → xs ≡ []
+none_left [] short = refl
+none_left (x ∷ xs) short = absurd (omega arith)
+
+pub cond_or : (a b : Bool) → cond a true b ≡ (a || b)
+cond_or true b = refl
+cond_or false b = refl
+
+or_swap : (a b : Bool) → (a || b) ≡ (b || a)
+or_swap true true = refl
+or_swap true false = refl
+or_swap false true = refl
+or_swap false false = refl
+
+or_assoc : (a b c : Bool) → ((a || b) || c) ≡ (a || (b || c))
+or_assoc true b c = refl
+or_assoc false b c = refl
+
+pub or_none : {X : Type 0} (o : Option X) → option_or o None ≡ o
+or_none None = refl
+or_none (Some x) = refl
+
+pub or_or : {X : Type 0} (a b c : Option X) → option_or (option_or a b) c ≡ option_or a (option_or b c)
+or_or None b c = refl
+or_or (Some x) b c = refl
+
+-- what is said of each is said of the others
+pub others_fit : {X : Type 0} (P : X → Type 0) (xs : List X) (x : X) (rest : List X) → xs ≡ x ∷ rest → AllByRecursion P xs → P x × AllByRecursion P rest
+others_fit P xs x rest is all = subst (AllByRecursion P) is all
+
+pub rest_length : {X : Type 0} (xs : List X) (x : X) (rest : List X) → xs ≡ x ∷ rest → length xs ≡ length rest + 1
+rest_length xs x rest is = rw is (omega arith)
+
+pub not_true : (b : Bool) → not b ≡ true → b ≡ false
+not_true true e = sym e
+not_true false e = refl
+
+pub not_false : (b : Bool) → not b ≡ false → b ≡ true
+not_false true e = refl
+not_false false e = sym e
+
+pub front_at : {X : Type 0} (xs : List X) (d : X) → 1 ≤ length xs → xs ≡ get_or xs 0 d ∷ take (length xs - 1) (drop 1 xs)
+front_at [] d long = absurd (omega arith)
+front_at (y ∷ ys) d long =
+    let all : take (length (y ∷ ys) - 1) ys ≡ ys = take_all (length (y ∷ ys) - 1) ys (omega arith) in
+    rw all refl

@@ -1,0 +1,129 @@
+-- Places of names in a map: of each name the first counts.
+use Rattle.std.proofs.Common.{◌≡◌, ℕ, ◌+◌, Bool, true, false, cond, List, [], ◌∷◌, Option, Some, None, refl, sym, ap, ◌∙◌, subst, ◌||◌, ◌++◌, ◌<◌, ◌≤◌, length, get_or, arith, add-one}
+use denote.Ref.{Bor}
+use Rattle.std.specs.Prelude.{bytes_eq, find, MatchOption, IfSome}
+use Rattle.std.proofs.lemmas.Option.{slice_get_past, slice_get_read}
+use Rattle.std.specs.List.{position_from, list_any, slice_get, HoldsAt}
+use Rattle.std.specs.Option.{option_or, option_map, is_some, option_and_then, option_copied}
+use Rattle.std.specs.Ordering.{is_eq, nat_cmp}
+use Rattle.std.specs.Cmp.Lexicographic.{slice_cmp}
+use Rattle.std.specs.BTreeMap.{BTreeMap, is_at}
+use Rattle.std.specs.Map.{lookup}
+use Rattle.std.proofs.lemmas.Bool.{false≢true}
+use Rattle.std.proofs.lemmas.Map.Text.{is_eq-slice_cmp}
+use Rattle.std.proofs.lemmas.Slice.Eq.{bytes_eq-Decides}
+use Rattle.bytecode_model.specs.Index.{place_in, name_place, NamesPlaced}
+use Rattle.bytecode_model.specs.SearchOrder.{is_one_of, with_name}
+use Rattle.bytecode_model.proofs.Lists.{or_none, or_or}
+
+pub test_cases : (b : Bool) (P : Bool → Type 0) → (b ≡ true → P true) → (b ≡ false → P false) → P b
+test_cases true P f g = f refl
+test_cases false P f g = g refl
+
+same_name : (a b : List ℕ) → bytes_eq a b ≡ true → a ≡ b
+same_name a b t = (bytes_eq-Decides a b).0 t
+
+pub is_some_or : {X : Type 0} (o p : Option X) → is_some o ≡ true → o ≡ option_or o p
+is_some_or (Some x) p e = refl
+is_some_or None p e = absurd (false≢true e)
+
+pub none_or : {X : Type 0} (o p : Option X) → is_some o ≡ false → p ≡ option_or o p
+none_or None p e = refl
+none_or (Some x) p e = absurd (false≢true (sym e))
+
+-- a name that is there already
+pub keeps_place : (places : BTreeMap (List ℕ) ℕ) (name : List ℕ) (place : ℕ) → is_some (place_in places name) ≡ true → (q : List ℕ) → place_in places q ≡ option_or (place_in places q) (cond (bytes_eq name q) (Some place) None)
+keeps_place places name place there q =
+    test_cases (bytes_eq name q) (λ b. place_in places q ≡ option_or (place_in places q) (cond b (Some place) None))
+    (λ e. is_some_or (place_in places q) (Some place) (subst (λ (n : List ℕ). is_some (place_in places n) ≡ true) (same_name name q e) there))
+    (λ e. sym (or_none (place_in places q)))
+
+-- a new name
+pub adds_place : (old new : BTreeMap (List ℕ) ℕ) (name : List ℕ) (place : ℕ) → is_some (place_in old name) ≡ false
+    → ((q : List ℕ) → place_in new q ≡ cond (is_eq (slice_cmp nat_cmp name q)) (Some place) (place_in old q)) → (q : List ℕ) → place_in new q ≡ option_or (place_in old q) (cond (bytes_eq name q) (Some place) None)
+adds_place old new name place absent puts q =
+    puts q ∙ ap (λ b. cond b (Some place) (place_in old q)) (is_eq-slice_cmp name q)
+    ∙ test_cases (bytes_eq name q) (λ b. cond b (Some place) (place_in old q) ≡ option_or (place_in old q) (cond b (Some place) None))
+    (λ e. none_or (place_in old q) (Some place) (subst (λ (n : List ℕ). is_some (place_in old n) ≡ false) (same_name name q e) absent))
+    (λ e. sym (or_none (place_in old q)))
+
+-- one item more
+pub place_goes_on : {X : Type 0} (test : X → Bool) (all rest : List X) (x : X) (index : ℕ) (before after total : Option ℕ) → all ≡ x ∷ rest
+    → after ≡ option_or before (cond (test x) (Some index) None) → option_or before (position_from test index all) ≡ total → option_or after (position_from test (index + 1) rest) ≡ total
+place_goes_on test all rest x index before after total is more so_far =
+    ap (λ o. option_or o (position_from test (index + 1) rest)) more ∙ or_or before (cond (test x) (Some index) None) (position_from test (index + 1) rest)
+    ∙ ap (option_or before) (front (test x)) ∙ ap (λ xs. option_or before (position_from test index xs)) (sym is) ∙ so_far where
+      front : (b : Bool) → option_or (cond b (Some index) None) (position_from test (index + 1) rest) ≡ cond b (Some index) (position_from test (index + 1) rest)
+      front true = refl
+      front false = refl
+
+pub place_is_done : {X : Type 0} (test : X → Bool) (all : List X) (index : ℕ) (before total : Option ℕ) → all ≡ [] → option_or before (position_from test index all) ≡ total → before ≡ total
+place_is_done test all index before total is so_far = sym (or_none before) ∙ ap (λ xs. option_or before (position_from test index xs)) (sym is) ∙ so_far
+
+-- a map that is empty
+pub no_place : (places : BTreeMap (List ℕ) ℕ) (q : List ℕ) (o : Option ℕ) → places.entries ≡ [] → option_or (place_in places q) o ≡ o
+no_place places q o empty = ap (λ p. option_or p o) (none_in places.entries empty) where
+  none_in : (es : List (List ℕ × ℕ)) → es ≡ [] → lookup (is_at (slice_cmp nat_cmp q)) es ≡ None
+  none_in es e = ap (lookup (is_at (slice_cmp nat_cmp q))) e
+
+-- whether there is a place
+pub has_place : {X : Type 0} (test : X → Bool) (index : ℕ) (xs : List X) → is_some (position_from test index xs) ≡ list_any test xs
+has_place test index [] = refl
+has_place test index (x ∷ xs) = by (test x) (position_from test (index + 1) xs) (list_any test xs) (has_place test (index + 1) xs) where
+  by : (b : Bool) (o : Option ℕ) (rest : Bool) → is_some o ≡ rest → is_some (cond b (Some index) o) ≡ (b || rest)
+  by true o rest e = refl
+  by false o rest e = e
+
+shift : {X : Type 0} (test : X → Bool) (index : ℕ) (xs : List X) → position_from test (index + 1) xs ≡ option_map (λ n. n + 1) (position_from test index xs)
+shift test index [] = refl
+shift test index (x ∷ xs) = by (test x) _ _ (shift test (index + 1) xs) where
+  by : (b : Bool) (o p : Option ℕ) → o ≡ option_map (λ n. n + 1) p → cond b (Some (index + 1)) o ≡ option_map (λ n. n + 1) (cond b (Some index) p)
+  by true o p e = refl
+  by false o p e = e
+
+at_front : {X : Type 0} (x : X) (xs : List X) (o : Option ℕ) → option_and_then (slice_get (x ∷ xs)) (option_map (λ n. n + 1) o) ≡ option_and_then (slice_get xs) o
+at_front x xs None = refl
+at_front x xs (Some n) = ap (slice_get (x ∷ xs)) (add-one n)
+
+-- the first that passes stands at its place
+pub find_at : {X : Type 0} (test : X → Bool) (xs : List X) → find test xs ≡ option_and_then (slice_get xs) (position_from test 0 xs)
+find_at test [] = refl
+find_at test (x ∷ xs) = by (test x) (find_at test xs ∙ sym (at_front x xs (position_from test 0 xs)) ∙ ap (option_and_then (slice_get (x ∷ xs))) (sym (shift test 0 xs))) where
+  by : (b : Bool) → find test xs ≡ option_and_then (slice_get (x ∷ xs)) (position_from test 1 xs) → cond b (Some x) (find test xs) ≡ option_and_then (slice_get (x ∷ xs)) (cond b (Some 0) (position_from test 1 xs))
+  by true e = refl
+  by false e = e
+
+-- what a look-up by index gives
+pub got : {X : Type 0} (r : Option (Bor X)) (xs : List X) (i : ℕ) → MatchOption r (length xs ≤ i) (λ x. (i < length xs) × HoldsAt (λ y. x.now ≡ y) xs i) → IfSome r (λ x. x.now ≡ get_or xs i x.now) → option_copied r ≡ slice_get xs i
+got None xs i past h = sym (slice_get_past xs i past)
+got (Some x) xs i m h = sym (slice_get_read xs (length xs) i x.now refl m.0 h)
+
+-- one item behind the others
+pub place_pushed : {X : Type 0} (test : X → Bool) (xs : List X) (i n : ℕ) (x : X) → n ≡ i + length xs
+    → position_from test i (xs ++ x ∷ []) ≡ option_or (position_from test i xs) (cond (test x) (Some n) None)
+place_pushed test [] i n x e =
+    let same : i ≡ n = omega arith in
+    ap (λ k. cond (test x) (Some k) None) same
+place_pushed test (y ∷ ys) i n x e =
+    let more : n ≡ (i + 1) + length ys = omega arith in
+    by (test y) _ _ _ (place_pushed test ys (i + 1) n x more) where
+      by : (b : Bool) (o p r : Option ℕ) → o ≡ option_or p r → cond b (Some i) o ≡ option_or (cond b (Some i) p) r
+      by true o p r e = refl
+      by false o p r e = e
+
+-- a name that is there, and one that is new
+pub with_known : (names : List (List ℕ)) (name : List ℕ) → is_one_of names name ≡ true → names ≡ with_name names name
+with_known names name e = sym (ap (λ b. cond b names (names ++ name ∷ [])) e)
+
+pub with_new : (names : List (List ℕ)) (name : List ℕ) → is_one_of names name ≡ false → names ++ name ∷ [] ≡ with_name names name
+with_new names name e = sym (ap (λ b. cond b names (names ++ name ∷ [])) e)
+
+pub is_placed : (places : BTreeMap (List ℕ) ℕ) (names : List (List ℕ)) (name : List ℕ) (b : Bool) → NamesPlaced places names → b ≡ is_some (place_in places name) → is_one_of names name ≡ b
+is_placed places names name b placed e = sym (e ∙ ap is_some (placed name) ∙ has_place (λ other. bytes_eq other name) 0 names)
+
+pub text_pushed : (old new : BTreeMap (List ℕ) ℕ) (texts more : List (List ℕ)) (text copy : List ℕ) (n : ℕ) → copy ≡ text → more ≡ texts ++ copy ∷ [] → n ≡ length texts → NamesPlaced old texts
+    → ((q : List ℕ) → place_in new q ≡ option_or (place_in old q) (cond (bytes_eq text q) (Some n) None)) → NamesPlaced new more
+text_pushed old new texts more text copy n same is count placed puts q =
+    puts q ∙ ap (λ o. option_or o (cond (bytes_eq text q) (Some n) None)) (placed q)
+    ∙ sym (place_pushed (λ other. bytes_eq other q) texts 0 n text (omega arith))
+    ∙ ap (λ t. name_place (texts ++ t ∷ []) q) (sym same) ∙ ap (λ ts. name_place ts q) (sym is)

@@ -1,0 +1,11 @@
+use Rattle.std.proofs.Common.{◌≡◌, ◌-◌, ◌+◌, [], length}
+use Rattle.api_listing.specs.Nearest.{interfaces_of}
+use Rattle.bytecode_model.specs.Index.{NamesSeen}
+use Rattle.bytecode_model.specs.SearchOrder.{reached, most}
+use Rattle.bytecode_model.proofs.search.interfaces_from.Given as goal
+
+abbrev pub invariant-loop : goal.invariant-loop
+invariant-loop l = record {
+  seen : NamesSeen l.seen l.found;
+  so_far : reached (l.most - l.counter) l.classes l.found l.waiting.items ≡ reached l.most l.classes [] l.names;
+}

@@ -1,0 +1,195 @@
+//! Equal copies of programs and their parts.
+
+ghost use Rattle.std.specs.Prelude.{◌≡◌, IfOk};
+
+use crate::program::{Handler, LinkedClass, Method, Program};
+use api_listing::{ListedClass, ListedMethod, Listing};
+use class_codec::{Copied, copy_list};
+use insn_codec::Insn;
+use mon_base::{Bytes, List, MethodId, NoMemory};
+use std::alloc::Global;
+
+impl Program {
+    /// An equal program.
+    pub fn copy(&self, alloc: Global) -> Result<Program, NoMemory>
+        ensures { IfOk result (λ copy. copy ≡ self.now) }
+    {
+        Ok(Program {
+            classes: copy_list(alloc, &self.classes)?,
+            listing: copy_listing(alloc, &self.listing)?,
+            literals: copy_texts(alloc, self.literals.as_slice())?,
+            main_class: self.main_class,
+            main_method: self.main_method,
+        })
+    }
+}
+
+impl Copied for LinkedClass {
+    fn copy(&self, alloc: Global) -> Result<LinkedClass, NoMemory> {
+        Ok(LinkedClass {
+            name: self.name.copy(alloc)?,
+            parent: self.parent.copy(alloc)?,
+            file: self.file.copy(alloc)?,
+            methods: copy_list(alloc, &self.methods)?,
+        })
+    }
+}
+
+impl Copied for Method {
+    fn copy(&self, alloc: Global) -> Result<Method, NoMemory> {
+        Ok(Method {
+            flags: self.flags,
+            name: self.name.copy(alloc)?,
+            desc: self.desc.copy(alloc)?,
+            max_stack: self.max_stack,
+            max_locals: self.max_locals,
+            insns: copy_insns(alloc, self.insns.as_slice())?,
+            refs: copy_list(alloc, &self.refs)?,
+            handlers: copy_list(alloc, &self.handlers)?,
+        })
+    }
+}
+
+impl Copied for Handler {
+    fn copy(&self, alloc: Global) -> Result<Handler, NoMemory> {
+        Ok(Handler {
+            from: self.from,
+            to: self.to,
+            at: self.at,
+            class: copy_name(alloc, &self.class)?,
+        })
+    }
+}
+
+fn copy_name(alloc: Global, name: &Option<Bytes>) -> Result<Option<Bytes>, NoMemory>
+    ensures { IfOk result (λ copy. copy ≡ name.now) }
+{
+    match name {
+        Some(name) => Ok(Some(name.copy(alloc)?)),
+        None => Ok(None),
+    }
+}
+
+fn copy_insns(alloc: Global, insns: &[Insn]) -> Result<List<Insn>, NoMemory>
+    ensures { IfOk result (λ copy. copy ≡ insns.now) }
+{
+    let mut copy = List::new(alloc);
+    for insn in insns {
+        copy.push(copy_insn(alloc, insn)?)?;
+    }
+    Ok(copy)
+}
+
+fn copy_insn(alloc: Global, insn: &Insn) -> Result<Insn, NoMemory>
+    ensures { IfOk result (λ copy. copy ≡ insn.now) }
+{
+    match insn {
+        Insn::Plain(op) => Ok(Insn::Plain(*op)),
+        Insn::Byte(n) => Ok(Insn::Byte(*n)),
+        Insn::Short(n) => Ok(Insn::Short(*n)),
+        Insn::Ldc(index) => Ok(Insn::Ldc(*index)),
+        Insn::Pool { op, index } => Ok(Insn::Pool {
+            op: *op,
+            index: *index,
+        }),
+        Insn::Iface { index, count } => Ok(Insn::Iface {
+            index: *index,
+            count: *count,
+        }),
+        Insn::Local { op, slot, wide } => Ok(Insn::Local {
+            op: *op,
+            slot: *slot,
+            wide: *wide,
+        }),
+        Insn::Inc { slot, by, wide } => Ok(Insn::Inc {
+            slot: *slot,
+            by: *by,
+            wide: *wide,
+        }),
+        Insn::Branch { op, to } => Ok(Insn::Branch { op: *op, to: *to }),
+        Insn::GotoW { to } => Ok(Insn::GotoW { to: *to }),
+        Insn::NewArray(kind) => Ok(Insn::NewArray(*kind)),
+        Insn::Table {
+            other,
+            low,
+            targets,
+        } => Ok(Insn::Table {
+            other: *other,
+            low: *low,
+            targets: copy_targets(alloc, targets)?,
+        }),
+        Insn::Lookup {
+            other,
+            keys,
+            targets,
+        } => Ok(Insn::Lookup {
+            other: *other,
+            keys: copy_keys(alloc, keys)?,
+            targets: copy_targets(alloc, targets)?,
+        }),
+    }
+}
+
+fn copy_targets(alloc: Global, targets: &List<u32>) -> Result<List<u32>, NoMemory>
+    ensures { IfOk result (λ copy. copy ≡ targets.now) }
+{
+    let items = Vec::from_slice(alloc, targets.as_slice())?;
+    Ok(List::from_vec(items))
+}
+
+fn copy_keys(alloc: Global, keys: &List<i32>) -> Result<List<i32>, NoMemory>
+    ensures { IfOk result (λ copy. copy ≡ keys.now) }
+{
+    let items = Vec::from_slice(alloc, keys.as_slice())?;
+    Ok(List::from_vec(items))
+}
+
+fn copy_listing(alloc: Global, listing: &Listing) -> Result<Listing, NoMemory>
+    ensures { IfOk result (λ copy. copy ≡ listing.now) }
+{
+    Ok(Listing {
+        classes: copy_classes(alloc, listing.classes.as_slice())?,
+        methods: copy_methods(alloc, listing.methods.as_slice())?,
+        fields: copy_ids(alloc, listing.fields.as_slice())?,
+    })
+}
+
+fn copy_classes(alloc: Global, classes: &[ListedClass]) -> Result<List<ListedClass>, NoMemory>
+    ensures { IfOk result (λ copy. copy ≡ classes.now) }
+{
+    let mut copy = List::new(alloc);
+    for class in classes {
+        copy.push(class.copy(alloc)?)?;
+    }
+    Ok(copy)
+}
+
+fn copy_methods(alloc: Global, methods: &[ListedMethod]) -> Result<List<ListedMethod>, NoMemory>
+    ensures { IfOk result (λ copy. copy ≡ methods.now) }
+{
+    let mut copy = List::new(alloc);
+    for method in methods {
+        copy.push(method.copy(alloc)?)?;
+    }
+    Ok(copy)
+}
+
+fn copy_ids(alloc: Global, ids: &[MethodId]) -> Result<List<MethodId>, NoMemory>
+    ensures { IfOk result (λ copy. copy ≡ ids.now) }
+{
+    let mut copy = List::new(alloc);
+    for id in ids {
+        copy.push(id.copy(alloc)?)?;
+    }
+    Ok(copy)
+}
+
+fn copy_texts(alloc: Global, texts: &[Bytes]) -> Result<List<Bytes>, NoMemory>
+    ensures { IfOk result (λ copy. copy ≡ texts.now) }
+{
+    let mut copy = List::new(alloc);
+    for text in texts {
+        copy.push(text.copy(alloc)?)?;
+    }
+    Ok(copy)
+}

@@ -1,0 +1,56 @@
+//! Texts of a constant pool, and flags.
+
+ghost use Rattle.std.specs.Prelude.{◌≡◌, IfOk, bytes_eq};
+ghost use Rattle.bytecode_model.specs.Heads.{has_flag, text_at, class_at};
+
+use class_codec::{Const, class_name_at, utf8_at};
+use mon_base::{Bytes, NoMemory};
+use std::alloc::Global;
+
+/// Whether the flags have this one.
+pub fn has_flag(flags: u16, flag: u16) -> bool
+    ensures { result ≡ has_flag flag flags }
+{
+    flags & flag != 0
+}
+
+/// Whether the bytes are the text.
+pub fn is_text(bytes: &[u8], text: &str) -> bool
+    ensures { result ≡ bytes_eq bytes.now text.now }
+{
+    bytes == text.as_bytes()
+}
+
+/// The text that the index names, or none.
+pub fn text_at(pool: &[Const], index: u16) -> &[u8]
+    ensures { result.now ≡ text_at pool.now index }
+{
+    match utf8_at(pool, index) {
+        Some(text) => text.as_slice(),
+        None => b"".as_slice(),
+    }
+}
+
+/// A copy of the text that the index names.
+pub fn copy_text(alloc: Global, pool: &[Const], index: u16) -> Result<Bytes, NoMemory>
+    ensures { IfOk result (λ text. text ≡ text_at pool.now index) }
+{
+    Bytes::from_slice(alloc, text_at(pool, index))
+}
+
+/// The name of the class that the index names, or none.
+pub fn class_at(pool: &[Const], index: u16) -> &[u8]
+    ensures { result.now ≡ class_at pool.now index }
+{
+    match class_name_at(pool, index) {
+        Some(name) => name.as_slice(),
+        None => b"".as_slice(),
+    }
+}
+
+/// A copy of the name of the class that the index names.
+pub fn copy_class(alloc: Global, pool: &[Const], index: u16) -> Result<Bytes, NoMemory>
+    ensures { IfOk result (λ name. name ≡ class_at pool.now index) }
+{
+    Bytes::from_slice(alloc, class_at(pool, index))
+}
