@@ -17,3 +17,6 @@ pub use object::{Monitor, Object};
 pub use stack::Stack;
 pub use thread::{Doing, Thread};
 pub use value::Value;
+
+#[cfg(test)]
+mod tests;
