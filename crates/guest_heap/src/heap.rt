@@ -1,0 +1,38 @@
+//! The heap: a list of objects, which only grows.
+
+ghost use Rattle.std.specs.Prelude.{◌≡◌, ◌∷◌, [], ◌++◌, ◌<◌, ◌^◌, ◌-◌, length, IfOk, OnOk, OnErr};
+ghost use Rattle.guest_heap.specs.Heap.{HasPlace, value_at, with_value_at, places_of, with_value};
+
+use crate::object::Object;
+use crate::value::Value;
+use mon_base::{List, NoMemory};
+
+/// The field of an object, or the item of an array. It takes no memory.
+pub fn get(heap: &List<Object>, at: u32, place: u32) -> Value
+    requires { HasPlace heap.now at place }
+    ensures { result ≡ value_at heap.now at place }
+{
+    places(&heap.as_slice()[at as usize])[place as usize]
+}
+
+fn places(object: &Object) -> &[Value]
+    ensures { result.now ≡ places_of object.now }
+{
+    match object {
+        Object::Plain { fields, .. } => fields.as_slice(),
+        Object::Array { items, .. } => items.as_slice(),
+        Object::Text(_) => &[],
+    }
+}
+
+/// Appends the object, and answers its index. On refusal the heap stays.
+pub fn new_object(heap: &mut List<Object>, object: Object) -> Result<u32, NoMemory>
+    requires { length heap.old < 2 ^ 32 - 1 }
+    ensures index { IfOk result (λ at. at ≡ length heap.old) }
+    ensures ok { OnOk result (heap.new ≡ heap.old ++ object ∷ []) }
+    ensures err { OnErr result (heap.new ≡ heap.old) }
+{
+    let at = heap.len() as u32;
+    heap.push(object)?;
+    Ok(at)
+}

@@ -1,0 +1,55 @@
+//! Operand stacks.
+
+ghost use Rattle.std.specs.Prelude.{◌≡◌, ◌∷◌, [], ◌<◌, length, drop, slice_get, IfOk};
+
+use crate::value::Value;
+use mon_base::NoMemory;
+use std::alloc::Global;
+use std::marker::Model;
+
+/// An operand stack, whose memory is taken when it is made. A contract sees its operands, the top first, and its
+/// size: how many it holds at most. (The Java Virtual Machine Specification, section 2.6.2.)
+#[derive(Debug, Drop)]
+pub struct Stack {
+    items: Vec<Value>,
+    size: u16,
+}
+
+impl Model for Stack {
+    ghost use Rattle.std.specs.Prelude.{◌≤◌, reverse, vec_len, vec_capacity};
+    ghost use Rattle.guest_heap.specs.Stack.{Operands};
+
+    ghost Value = { Operands };
+
+    ghost view = { λ s. record { items = reverse s.items.items; size = s.size } };
+
+    ghost invariant = { λ s. (vec_len s.items ≤ s.size) × (s.size ≤ vec_capacity s.items) };
+}
+
+impl Stack {
+    /// A stack without operands, with all the memory that it will want.
+    pub fn new(alloc: Global, size: u16) -> Result<Stack, NoMemory>
+        ensures { IfOk result (λ s. s ≡ record { items = []; size = size }) }
+    {
+        Ok(Stack {
+            items: Vec::with_capacity(alloc, size as usize)?,
+            size,
+        })
+    }
+
+    /// Puts the value on top. It takes no memory.
+    pub fn push(&mut self, value: Value)
+        requires { length self.old.items < self.old.size }
+        ensures { self.new ≡ record { items = value ∷ self.old.items; size = self.old.size } }
+    {
+        self.items.push(value).unwrap()
+    }
+
+    /// Takes the top operand; `None` where there is none. It takes no memory.
+    pub fn pop(&mut self) -> Option<Value>
+        ensures top { result ≡ slice_get self.old.items 0 }
+        ensures left { self.new ≡ record { items = drop 1 self.old.items; size = self.old.size } }
+    {
+        self.items.pop()
+    }
+}
