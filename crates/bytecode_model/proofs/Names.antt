@@ -1,5 +1,5 @@
 -- Names of methods and fields in their order.
-use Rattle.std.proofs.Common.{◌≡◌, ℕ, Bool, true, false, List, sym, ap, refl, ◌∙◌, ap₂, ◌&&◌}
+use Rattle.std.proofs.Common.{◌≡◌, ℕ, true, List, ap, refl, ◌∙◌, ap₂, ◌&&◌}
 use Rattle.std.specs.Prelude.{bytes_eq}
 use Rattle.std.specs.declared.cmp.Ordering.{Ordering}
 use Rattle.std.specs.declared.cmp.Ordering.TheVariants.{Less, Equal, Greater}

@@ -1,5 +1,5 @@
 -- The program that files link to, step by step.
-use Rattle.std.proofs.Common.{◌≡◌, ℕ, ◌+◌, Bool, true, false, List, [], ◌∷◌, length, map, Option, Some, None, Result, Ok, Err, refl, sym, ap, ◌∙◌, suc, arith}
+use Rattle.std.proofs.Common.{◌≡◌, ℕ, ◌+◌, Bool, false, List, [], ◌∷◌, length, map, Option, Some, None, Ok, Err, refl, sym, ap, ◌∙◌, suc, arith}
 use Rattle.std.specs.Prelude.{ok_or, nat_lt, not}
 use Rattle.mon_base.specs.Reading.{◌>>=◌, need}
 use Rattle.mon_base.proofs.Reading.{bind_ok}

@@ -1,5 +1,5 @@
 -- The conditions that each class and each method of a program meets, one definition for each refusal.
-use Rattle.std.specs.Prelude.{ℕ, zero, suc, Bool, true, false, not, ◌==◌, ◌&&◌, ◌||◌, bytes_eq, codes, if◌then◌else◌, List, [], ◌∷◌, ◌++◌, length, nat_eq, Option, Some, None, is_some, Result, Ok, Err, is_ok}
+use Rattle.std.specs.Prelude.{ℕ, zero, suc, Bool, true, false, not, ◌==◌, ◌&&◌, ◌||◌, bytes_eq, if◌then◌else◌, List, [], ◌∷◌, length, nat_eq, Option, Some, None, Ok, is_ok}
 use Rattle.std.specs.List.{list_all, list_any, filter_map, starts_with}
 use Rattle.std.specs.Option.{option_map_or}
 use Rattle.mon_base.specs.Reading.{◌>>=◌, need}
@@ -22,7 +22,7 @@ use Rattle.bytecode_model.specs.declared.fault.LinkFault.TheVariants as faults
 use Rattle.bytecode_model.specs.declared.program.Side.{Side}
 use Rattle.bytecode_model.specs.declared.program.Side.TheVariants as sides
 use Rattle.bytecode_model.specs.Fault.{Linked}
-use Rattle.bytecode_model.specs.Heads.{is_static, is_synchronized, is_native, is_abstract, head_of, heads_of, all_classes, name_of, desc_of, main_name, main_desc, maker, initialiser, takes_nothing, run_name}
+use Rattle.bytecode_model.specs.Heads.{is_static, is_synchronized, is_native, is_abstract, head_of, name_of, desc_of, main_name, main_desc, maker, initialiser, takes_nothing, run_name}
 use Rattle.bytecode_model.specs.Members.{in_class}
 use Rattle.bytecode_model.specs.SearchOrder.{Name, is_one_of, search_order}
 

@@ -1,7 +1,7 @@
 -- The exception table of a method, by indices of instructions. (The Java Virtual Machine Specification, section 4.7.3.)
-use Rattle.std.specs.Prelude.{ℕ, ◌+◌, Bool, true, false, ◌==◌, nat_lt, if◌then◌else◌, List, [], ◌∷◌, length, map, Option, Some, None, ok_or, option_and_then, Result, Ok, Err}
+use Rattle.std.specs.Prelude.{ℕ, ◌+◌, true, ◌==◌, nat_lt, if◌then◌else◌, List, length, Option, Some, None, ok_or, option_and_then, Ok}
 use Rattle.std.specs.List.{position_from}
-use Rattle.mon_base.specs.Reading.{◌>>=◌, need}
+use Rattle.mon_base.specs.Reading.{◌>>=◌}
 use Rattle.class_codec.specs.declared.tree.Const.{Const}
 use Rattle.class_codec.specs.declared.tree.ClassFile.{ClassFile}
 use Rattle.class_codec.specs.declared.tree.TableEntry.{TableEntry}

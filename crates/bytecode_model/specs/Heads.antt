@@ -1,6 +1,6 @@
 -- What class files say of themselves and of their members, each index replaced by what it names.
 -- (The Java Virtual Machine Specification, sections 4.1, 4.5 and 4.6.)
-use Rattle.std.specs.Prelude.{ℕ, Bool, true, false, not, ◌==◌, ◌&&◌, bit_and, bytes_eq, codes, List, [], ◌∷◌, ◌++◌, map, Option, Some, None}
+use Rattle.std.specs.Prelude.{ℕ, Bool, not, ◌==◌, ◌&&◌, bit_and, bytes_eq, codes, List, [], ◌++◌, map}
 use Rattle.std.specs.Option.{option_map_or}
 use Rattle.class_codec.specs.declared.tree.Const.{Const}
 use Rattle.class_codec.specs.declared.tree.Member.{Member}

@@ -1,5 +1,5 @@
 -- Ordered maps made once, from which each look-up gives what a plain scan gives.
-use Rattle.std.specs.Prelude.{◌≡◌, ℕ, ◌<◌, ◌^◌, Bool, List, length, bytes_eq, Option}
+use Rattle.std.specs.Prelude.{◌≡◌, ℕ, List, length, bytes_eq, Option}
 use Rattle.std.specs.List.{position_from}
 use Rattle.std.specs.Ordering.{nat_cmp}
 use Rattle.std.specs.Cmp.Lexicographic.{slice_cmp}

@@ -1,6 +1,6 @@
 -- What class files, a listing and a main class link to, or the first condition that fails.
 -- (The Java Virtual Machine Specification, chapter 5.)
-use Rattle.std.specs.Prelude.{ℕ, ◌+◌, Bool, true, false, not, nat_lt, bytes_eq, if◌then◌else◌, List, [], ◌∷◌, length, map, Option, Some, None, ok_or, slice_get, Result, Ok, Err}
+use Rattle.std.specs.Prelude.{ℕ, ◌+◌, not, nat_lt, bytes_eq, if◌then◌else◌, List, [], ◌∷◌, length, map, Option, Some, None, ok_or, slice_get, Result, Ok, Err}
 use Rattle.mon_base.specs.Reading.{◌>>=◌, need}
 use Rattle.class_codec.specs.declared.tree.Const.{Const}
 use Rattle.class_codec.specs.declared.tree.Code.{Code}

@@ -1,7 +1,7 @@
 -- What an instruction's operand names. (The Java Virtual Machine Specification, sections 4.4, 5.4.3 and 6.5.)
-use Rattle.std.specs.Prelude.{ℕ, ◌+◌, Bool, true, false, not, ◌==◌, ◌&&◌, ◌||◌, bytes_eq, if◌then◌else◌, List, [], ◌∷◌, ◌++◌, length, Option, Some, None, slice_get, ok_or, Result, Ok, Err, is_ok}
+use Rattle.std.specs.Prelude.{ℕ, Bool, true, false, not, ◌==◌, ◌&&◌, ◌||◌, bytes_eq, if◌then◌else◌, List, [], ◌∷◌, Option, None, slice_get, ok_or, Result, Ok, Err, is_ok}
 use Rattle.std.specs.Bool.{beq}
-use Rattle.std.specs.List.{flat_map, filter_map, fold, list_any, position_from}
+use Rattle.std.specs.List.{flat_map, filter_map, fold, position_from}
 use Rattle.std.specs.Option.{option_map_or}
 use Rattle.mon_base.specs.Reading.{◌>>=◌, need}
 use Rattle.mon_base.specs.declared.method.MethodId.{MethodId}

@@ -1,4 +1,4 @@
-use Rattle.std.proofs.Common.{ℕ, arith, length}
+use Rattle.std.proofs.Common.{arith}
 use Rattle.std.specs.Prelude.{bytes_eq}
 use Rattle.api_listing.specs.declared.types.ListedClass.{ListedClass}
 use Rattle.bytecode_model.proofs.Lists.{front_is, rest_length, none_left}

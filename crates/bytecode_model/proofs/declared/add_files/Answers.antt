@@ -1,6 +1,5 @@
-use Rattle.std.proofs.Common.{◌≡◌, ◌+◌, ap, arith, length}
+use Rattle.std.proofs.Common.{ap, arith}
 use Rattle.class_codec.specs.Fits.{CanSpell}
-use Rattle.bytecode_model.specs.Index.{found_in}
 use Rattle.bytecode_model.specs.Members.{given_from, file_members}
 use Rattle.bytecode_model.proofs.Lists.{front_is, others_fit, rest_length, none_left}
 use Rattle.bytecode_model.proofs.Declaring.{goes_on, is_done}

@@ -1,10 +1,10 @@
-use Rattle.std.proofs.Common.{◌≡◌, ◌+◌, ◌<◌, length}
+use Rattle.std.proofs.Common.{◌≡◌, ◌+◌, length}
 use Rattle.std.specs.List.{AllByRecursion}
 use Rattle.std.specs.Option.{option_or}
 use Rattle.mon_base.specs.declared.method.MethodId.{MethodId}
 use Rattle.class_codec.specs.Fits.{CanSpell}
 use Rattle.bytecode_model.specs.Index.{found_in}
-use Rattle.bytecode_model.specs.Members.{first_of, given_from, members_from, members_of, listed_from, listed_fields_from}
+use Rattle.bytecode_model.specs.Members.{first_of, given_from}
 use Rattle.bytecode_model.proofs.declared.add_files.Given as goal
 
 abbrev pub invariant-loop-left : goal.invariant-loop-left

@@ -1,5 +1,5 @@
 use Rattle.std.proofs.Common.{◌∙◌, sym}
-use Rattle.bytecode_model.proofs.Declaring.{keeps, adds}
+use Rattle.bytecode_model.proofs.Declaring.{adds}
 use Rattle.bytecode_model.proofs.declared.add_first.Goals as goal
 
 pub returns-in_ok-insert : goal.returns-in_ok-insert

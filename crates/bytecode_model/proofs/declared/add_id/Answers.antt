@@ -1,4 +1,4 @@
-use Rattle.std.proofs.Common.{◌≡◌, ◌∙◌, ap, ◌||◌}
+use Rattle.std.proofs.Common.{◌∙◌, ap, ◌||◌}
 use Rattle.std.specs.Ordering.{is_eq}
 use Rattle.api_listing.specs.BuiltIn.{is_method}
 use Rattle.api_listing.specs.Seen.{id_cmp, has_id}

@@ -1,5 +1,4 @@
-use Rattle.std.proofs.Common.{◌∷◌, [], true, ap, arith}
-use Rattle.mon_base.specs.declared.method.MethodId.{MethodId}
+use Rattle.std.proofs.Common.{◌∷◌, [], ap, arith}
 use Rattle.bytecode_model.specs.declared.declared.Found.{Found}
 use Rattle.bytecode_model.specs.declared.program.Target.TheVariants as target
 use Rattle.bytecode_model.specs.Members.{Declared, listed_from}

@@ -1,8 +1,7 @@
 use Rattle.std.proofs.Common.{◌∙◌, ◌++◌, ap, map}
-use Rattle.api_listing.specs.BuiltIn.{method_rows}
 use Rattle.bytecode_model.specs.Members.{first_of, given_from, listed_from, rows_from}
 use Rattle.bytecode_model.specs.declared.declared.MemberKind.TheVariants as kinds
-use Rattle.bytecode_model.proofs.Declaring.{both, from_empty, methods_are, chain}
+use Rattle.bytecode_model.proofs.Declaring.{from_empty, methods_are, chain}
 use Rattle.bytecode_model.proofs.declared.methods_of.Goals as goal
 
 pub returns : goal.returns

@@ -1,6 +1,6 @@
-use Rattle.std.proofs.Common.{◌≡◌, ◌∙◌, ◌+◌, ℕ, true, ap, get_or, arith}
+use Rattle.std.proofs.Common.{◌+◌, ℕ}
 use Rattle.std.proofs.lemmas.Result.{err_from_is_err_and}
-use Rattle.bytecode_model.proofs.Lists.{front_is, front_at, others_fit, rest_length, none_left}
+use Rattle.bytecode_model.proofs.Lists.{front_at, none_left}
 use Rattle.bytecode_model.proofs.Loop.{goes_on, ends, is_done}
 use Rattle.class_codec.specs.declared.tree.TableEntry.{TableEntry}
 use Rattle.bytecode_model.specs.Handlers.{handler_linked}

@@ -1,7 +1,4 @@
-use Rattle.std.proofs.Common.{ℕ, eqb, get_or, ap, ◌∙◌, ◌+◌}
-use Rattle.std.specs.List.{position_from}
-use Rattle.std.specs.Option.{option_or}
-use Rattle.bytecode_model.specs.Index.{start_in}
+use Rattle.std.proofs.Common.{ℕ, eqb, get_or}
 use Rattle.bytecode_model.proofs.Lists.{front_at, none_left}
 use Rattle.bytecode_model.proofs.Placing.{place_goes_on, place_is_done}
 use Rattle.bytecode_model.proofs.Starting.{no_start}

@@ -1,4 +1,4 @@
-use Rattle.std.proofs.Common.{◌≡◌, ◌+◌, ℕ, eqb, length}
+use Rattle.std.proofs.Common.{◌≡◌, ℕ, eqb, length}
 use Rattle.std.specs.List.{position_from}
 use Rattle.std.specs.Option.{option_or}
 use Rattle.bytecode_model.specs.Index.{start_in}

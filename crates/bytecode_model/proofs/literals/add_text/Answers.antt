@@ -1,4 +1,4 @@
-use Rattle.std.proofs.Common.{◌∙◌, ◌++◌, ◌∷◌, [], sym, ap}
+use Rattle.std.proofs.Common.{◌∙◌, ◌++◌, ◌∷◌, [], ap}
 use Rattle.bytecode_model.proofs.Placing.{with_known, with_new, is_placed, text_pushed}
 use Rattle.bytecode_model.proofs.literals.add_text.Goals as goal
 

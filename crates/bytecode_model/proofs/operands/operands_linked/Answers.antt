@@ -1,6 +1,5 @@
-use Rattle.std.proofs.Common.{◌≡◌, ◌∙◌, ap, arith}
+use Rattle.std.proofs.Common.{arith}
 use Rattle.std.proofs.lemmas.Result.{err_from_is_err_and}
-use Rattle.bytecode_model.specs.Fault.{linked_from}
 use Rattle.bytecode_model.specs.Operands.{operand_at}
 use Rattle.bytecode_model.proofs.Lists.{front_is, rest_length, none_left}
 use Rattle.bytecode_model.proofs.Loop.{goes_on, ends, is_done}

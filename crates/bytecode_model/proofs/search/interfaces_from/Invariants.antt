@@ -1,7 +1,6 @@
-use Rattle.std.proofs.Common.{◌≡◌, ◌-◌, ◌+◌, [], length}
-use Rattle.api_listing.specs.Nearest.{interfaces_of}
+use Rattle.std.proofs.Common.{◌≡◌, ◌-◌, []}
 use Rattle.bytecode_model.specs.Index.{NamesSeen}
-use Rattle.bytecode_model.specs.SearchOrder.{reached, most}
+use Rattle.bytecode_model.specs.SearchOrder.{reached}
 use Rattle.bytecode_model.proofs.search.interfaces_from.Given as goal
 
 abbrev pub invariant-loop : goal.invariant-loop
