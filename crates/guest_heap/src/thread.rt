@@ -23,6 +23,6 @@ pub enum Doing {
 pub struct Thread {
     pub frames: Frames,
     /// The methods, by class and index, that are begun one after the other once the frames are left.
-    pub todo: List<(u32, u32)>,
+    pub to_begin: List<(u32, u32)>,
     pub doing: Doing,
 }

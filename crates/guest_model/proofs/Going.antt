@@ -59,7 +59,7 @@ module _ (program : Program) (reached : Places) where
   pub record Well (thread : Thread) : Type 0 where
     pub stand : AllByRecursion Inside thread.frames
     pub wait : AllByRecursion Waits (drop 1 thread.frames)
-    pub todo : AllByRecursion BeginsInside thread.todo
+    pub to_begin : AllByRecursion BeginsInside thread.to_begin
     pub does : DoesWell thread.doing thread.frames
 
   abbrev pub SeenWell : Option Event → Type 0
@@ -96,14 +96,14 @@ module _ (program : Program) (reached : Places) where
   -- ---- going on
 
   pub went_on : (machine new : Machine) (thread : Thread) (below : List Frame) (frame : Option Frame) → new.threads ≡ machine.threads
-      → ((f : Frame) → frame ≡ Some f → Inside f) → AllByRecursion Inside below → AllByRecursion Waits below → AllByRecursion BeginsInside thread.todo
+      → ((f : Frame) → frame ≡ Some f → Inside f) → AllByRecursion Inside below → AllByRecursion Waits below → AllByRecursion BeginsInside thread.to_begin
       → Good machine (goes_on new thread below frame)
   unfolding Good
-  went_on machine new thread below frame same inside stand wait todo m e =
-      let f = map_of (λ (f : Frame). (new, running (f ∷ below) thread.todo, None)) frame m e in
+  went_on machine new thread below frame same inside stand wait to_begin m e =
+      let f = map_of (λ (f : Frame). (new, running (f ∷ below) thread.to_begin, None)) frame m e in
       subst (GoodMade machine) f.2 (record {
         same = same;
-        well = record { stand = (inside f.0 f.1, stand); wait = wait; todo = todo; does = tt };
+        well = record { stand = (inside f.0 f.1, stand); wait = wait; to_begin = to_begin; does = tt };
         seen = tt;
       })
 
@@ -120,19 +120,19 @@ module _ (program : Program) (reached : Places) where
         let good = sound frame.class frame.method frame.at insn ref there in
         let goes : may_go_on (opcode_of insn) ≡ true = goes_on_alike insn good ∙ ap not stays in
         closed.next frame.class frame.method frame.at insn ref inside there (frame.at + 1)
-          (rw goes (0, omega arith, refl))
+        (rw goes (0, omega arith, refl))
 
     pub behind_call : (frame : Frame) → Inside frame → Waits frame → IsTrue (reached frame.class frame.method (frame.at + 1))
     behind_call frame inside waits =
         next_inside frame waits.at_call.insn waits.ref inside waits.at_call.there (ap ends waits.at_call.calls)
 
-    begun_well : (next : ℕ × ℕ) (todo : List (ℕ × ℕ)) (o : Option Frame) → begun program next ≡ o → BeginsInside next → AllByRecursion BeginsInside todo
-        → Well (running (option_to_list o) todo)
-    begun_well next todo None e h later = record { stand = tt; wait = tt; todo = later; does = tt }
-    begun_well next todo (Some f) e h later =
+    begun_well : (next : ℕ × ℕ) (to_begin : List (ℕ × ℕ)) (o : Option Frame) → begun program next ≡ o → BeginsInside next → AllByRecursion BeginsInside to_begin
+        → Well (running (option_to_list o) to_begin)
+    begun_well next to_begin None e h later = record { stand = tt; wait = tt; to_begin = later; does = tt }
+    begun_well next to_begin (Some f) e h later =
         let m = map_of _ (method_at program next.0 next.1) f e in
-        record { stand = (subst Inside m.2 h, tt); wait = tt; todo = later; does = tt }
+        record { stand = (subst Inside m.2 h, tt); wait = tt; to_begin = later; does = tt }
 
-    pub rests_well : (todo : List (ℕ × ℕ)) → AllByRecursion BeginsInside todo → Well (resting program todo)
-    rests_well [] all = record { stand = tt; wait = tt; todo = tt; does = tt }
-    rests_well (next ∷ todo) all = begun_well next todo (begun program next) refl all.0 all.1
+    pub rests_well : (to_begin : List (ℕ × ℕ)) → AllByRecursion BeginsInside to_begin → Well (resting program to_begin)
+    rests_well [] all = record { stand = tt; wait = tt; to_begin = tt; does = tt }
+    rests_well (next ∷ to_begin) all = begun_well next to_begin (begun program next) refl all.0 all.1

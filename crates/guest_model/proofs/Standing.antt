@@ -32,10 +32,10 @@ module _ (program : Program) (reached : Places) (sound : HasInsns program) (clos
   unfolding Good
   step_well machine step made well e =
       let a = and_then_of (λ (thread : Thread). option_map (put_back step.thread) (doing_stepped program machine step.thread thread thread.doing step.choice)) (slice_get machine.threads step.thread) made
-            (unless_some machine.stopped _ made e) in
+      (unless_some machine.stopped _ made e) in
       let m = map_of (put_back step.thread) (doing_stepped program machine step.thread a.0 a.0.doing step.choice) made a.2 in
       let was : Well program reached a.0 = all_get (Well program reached) machine.threads step.thread a.0 well a.1 in
-      let good : GoodMade program reached machine m.0 = thread_well program reached sound closed machine step.thread a.0.frames a.0.todo a.0.doing step.choice was m.0 m.1 in
+      let good : GoodMade program reached machine m.0 = thread_well program reached sound closed machine step.thread a.0.frames a.0.to_begin a.0.doing step.choice was m.0 m.1 in
       let others : AllByRecursion (Well program reached) m.0.0.threads = subst (AllByRecursion (Well program reached)) (sym good.same) well in
       subst After m.2 (record { well = all_set (Well program reached) m.0.0.threads step.thread m.0.1 others good.well; seen = good.seen })
 
@@ -57,7 +57,7 @@ module _ (program : Program) (reached : Places) (sound : HasInsns program) (clos
   trace_called (step ∷ steps) machine well =
       let s = same_or machine (stepped program machine step) well (λ m e. step_well machine step m well e) in
       all_append Called (seen program machine step) (trace_from program (stepped_or_same program machine step) steps) s.1
-        (trace_called steps (stepped_or_same program machine step) s.0)
+      (trace_called steps (stepped_or_same program machine step) s.0)
 
   pub sees_only_called : SeesOnlyCalled program reached
   sees_only_called steps = trace_called steps (start_of program) (rests_well program reached sound closed ((program.main_class, program.main_method) ∷ []) (closed.main, tt), tt)

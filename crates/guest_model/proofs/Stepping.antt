@@ -46,13 +46,13 @@ use Rattle.guest_model.proofs.Throwing.{Standing, throws_good, throws_new_good}
 
 module _ (program : Program) (reached : Places) (sound : HasInsns program) (closed : IsClosed program reached) where
   -- a thread that is running
-  module _ (machine : Machine) (number : ℕ) (thread : Thread) (frame : Frame) (below : List Frame) (stands : Standing program reached closed (frame ∷ below)) (todo : AllByRecursion (BeginsInside program reached) thread.todo) where
-    throws_here : (class : List ℕ) → Good program reached machine (Some (throws_new program machine number (frame ∷ below) thread.todo class None))
-    throws_here class = good_some program reached machine _ (throws_new_good program reached closed machine number (frame ∷ below) thread.todo class None stands todo tt)
+  module _ (machine : Machine) (number : ℕ) (thread : Thread) (frame : Frame) (below : List Frame) (stands : Standing program reached closed (frame ∷ below)) (to_begin : AllByRecursion (BeginsInside program reached) thread.to_begin) where
+    throws_here : (class : List ℕ) → Good program reached machine (Some (throws_new program machine number (frame ∷ below) thread.to_begin class None))
+    throws_here class = good_some program reached machine _ (throws_new_good program reached closed machine number (frame ∷ below) thread.to_begin class None stands to_begin tt)
 
     -- going on in the same frame
     goes_well : (new : Machine) (f : Option Frame) → new.threads ≡ machine.threads → ((g : Frame) → f ≡ Some g → Inside program reached g) → Good program reached machine (goes_on new thread below f)
-    goes_well new f same inside = went_on program reached machine new thread below f same inside stands.stand.1 stands.wait todo
+    goes_well new f same inside = went_on program reached machine new thread below f same inside stands.stand.1 stands.wait to_begin
 
     after_inside : (insn : Insn) (ref : Target) → IsAt program frame.class frame.method frame.at insn ref → ends (shape_of insn) ≡ false
         → (items : List Value) (g : Frame) → after frame items ≡ Some g → Inside program reached g
@@ -65,7 +65,7 @@ module _ (program : Program) (reached : Places) (sound : HasInsns program) (clos
 
       enters_well : shape_of insn ≡ shapes.Heap heap.Enter → (on : Value) → Good program reached machine (enters program machine number thread frame below on)
       enters_well shape on = good_if program reached machine (is_null on) _ _ (throws_here null_pointer)
-        (good_then program reached machine _ (entered machine.monitors number on) (λ held e. goes_well (with_held machine held) _ refl (after_inside insn ref there (ap ends shape) (drop 1 frame.stack.items))))
+          (good_then program reached machine _ (entered machine.monitors number on) (λ held e. goes_well (with_held machine held) _ refl (after_inside insn ref there (ap ends shape) (drop 1 frame.stack.items))))
 
       left_well : shape_of insn ≡ shapes.Heap heap.Exit → (held : Option (List Monitor)) → Good program reached machine (left_with program machine number thread frame below held)
       left_well shape None = throws_here bad_monitor
@@ -77,28 +77,28 @@ module _ (program : Program) (reached : Places) (sound : HasInsns program) (clos
       throws_top_well : (v : Value) → Good program reached machine (throws_top program machine number thread frame below v)
       unfolding Good
       throws_top_well v = good_if program reached machine (is_null v) _ _ (throws_here null_pointer)
-        (λ m e. let c = map_of _ (thrown_class machine.heap v) m e in
-                subst (GoodMade program reached machine) c.2 (throws_good program reached closed machine machine number (frame ∷ below) thread.todo v c.0 None refl stands todo tt))
+          (λ m e. let c = map_of _ (thrown_class machine.heap v) m e in
+          subst (GoodMade program reached machine) c.2 (throws_good program reached closed machine machine number (frame ∷ below) thread.to_begin v c.0 None refl stands to_begin tt))
 
       exits_well : shape_of insn ≡ shapes.Heap heap.Call → Good program reached machine (exits machine thread frame below)
       exits_well shape = good_then program reached machine _ (slice_get frame.stack.items 0) (λ v e. good_then program reached machine _ (number_in v)
-        (λ n f. goes_well (stopped_with machine n) _ refl (after_inside insn ref there (ap ends shape) (drop 1 frame.stack.items))))
+          (λ n f. goes_well (stopped_with machine n) _ refl (after_inside insn ref there (ap ends shape) (drop 1 frame.stack.items))))
 
     calls_well : (insn : Insn) (ref : Target) → IsAt program frame.class frame.method frame.at insn ref → shape_of insn ≡ shapes.Heap heap.Call → Good program reached machine (calls program machine number thread frame below ref)
     unfolding Good
     calls_well insn (target.ApiMethod listed) there shape =
         good_then program reached machine _ (slice_get program.listing.methods listed) (λ m e. λ made f.
-          let t = map_of (calls_api program machine number thread frame below listed) (taken m.is_static (arity m.id.desc) frame.stack.items) made f in
-          subst (GoodMade program reached machine) t.2 (record {
-            same = refl;
-            well = record {
-              stand = stands.stand;
-              wait = stands.wait;
-              todo = todo;
-              does = record { insn = insn; there = there; calls = shape };
-            };
-            seen = record { class = frame.class; method = frame.method; at = frame.at; insn = insn; inside = stands.stand.0; there = there; calls = shape };
-          }))
+        let t = map_of (calls_api program machine number thread frame below listed) (taken m.is_static (arity m.id.desc) frame.stack.items) made f in
+        subst (GoodMade program reached machine) t.2 (record {
+          same = refl;
+          well = record {
+            stand = stands.stand;
+            wait = stands.wait;
+            to_begin = to_begin;
+            does = record { insn = insn; there = there; calls = shape };
+          };
+          seen = record { class = frame.class; method = frame.method; at = frame.at; insn = insn; inside = stands.stand.0; there = there; calls = shape };
+        }))
     calls_well insn (target.Builtin index) there shape = good_if program reached machine (is_exit index) _ _ (exits_well insn (target.Builtin index) there shape) (good_none program reached machine)
     calls_well insn target.None there shape = good_none program reached machine
     calls_well insn (target.Method class method) there shape = good_none program reached machine
@@ -110,28 +110,28 @@ module _ (program : Program) (reached : Places) (sound : HasInsns program) (clos
 
   -- the frames below a frame that is left
   returned_well : (machine new : Machine) (thread : Thread) (frames : List Frame) (result : Option Value) → new.threads ≡ machine.threads
-      → AllByRecursion (Inside program reached) frames → AllByRecursion (Waits program reached) frames → AllByRecursion (BeginsInside program reached) thread.todo
+      → AllByRecursion (Inside program reached) frames → AllByRecursion (Waits program reached) frames → AllByRecursion (BeginsInside program reached) thread.to_begin
       → Good program reached machine (returned program new thread frames result)
-  returned_well machine new thread [] result same stand wait todo =
-      good_some program reached machine _ (record { same = same; well = rests_well program reached sound closed thread.todo todo; seen = tt })
-  returned_well machine new thread (caller ∷ below) result same stand wait todo =
+  returned_well machine new thread [] result same stand wait to_begin =
+      good_some program reached machine _ (record { same = same; well = rests_well program reached sound closed thread.to_begin to_begin; seen = tt })
+  returned_well machine new thread (caller ∷ below) result same stand wait to_begin =
       went_on program reached machine new thread below _ same
-        (λ f e. fitted_inside program reached caller (caller.at + 1) caller.locals (option_to_list result ++ caller.stack.items) f e (behind_call program reached sound closed caller stand.0 wait.0))
-        stand.1 wait.1 todo
+      (λ f e. fitted_inside program reached caller (caller.at + 1) caller.locals (option_to_list result ++ caller.stack.items) f e (behind_call program reached sound closed caller stand.0 wait.0))
+      stand.1 wait.1 to_begin
 
-  module _ (machine : Machine) (number : ℕ) (thread : Thread) (frame : Frame) (below : List Frame) (stands : Standing program reached closed (frame ∷ below)) (todo : AllByRecursion (BeginsInside program reached) thread.todo) where
+  module _ (machine : Machine) (number : ℕ) (thread : Thread) (frame : Frame) (below : List Frame) (stands : Standing program reached closed (frame ∷ below)) (to_begin : AllByRecursion (BeginsInside program reached) thread.to_begin) where
     returns_well : (kind : Option Kind) → Good program reached machine (returns program machine number thread frame below kind)
     returns_well kind = good_then program reached machine _ (result_of kind frame.stack.items)
-      (λ result e. returned_well machine (with_monitors machine number (option_to_list frame.lock)) thread below result refl stands.stand.1 stands.wait todo)
+        (λ result e. returned_well machine (with_monitors machine number (option_to_list frame.lock)) thread below result refl stands.stand.1 stands.wait to_begin)
 
     heap_well : (what : Heap) (insn : Insn) (ref : Target) → IsAt program frame.class frame.method frame.at insn ref → shape_of insn ≡ shapes.Heap what
         → Good program reached machine (heap_stepped program machine number thread frame below what ref)
-    heap_well heap.Constant insn ref there shape = constant_well machine number thread frame below stands todo insn ref there shape
-    heap_well heap.Enter insn ref there shape = good_then program reached machine _ (slice_get frame.stack.items 0) (λ on e. enters_well machine number thread frame below stands todo insn ref there shape on)
-    heap_well heap.Exit insn ref there shape = good_then program reached machine _ (slice_get frame.stack.items 0) (λ on e. leaves_well machine number thread frame below stands todo insn ref there shape on)
-    heap_well heap.Throw insn ref there shape = good_then program reached machine _ (slice_get frame.stack.items 0) (λ v e. throws_top_well machine number thread frame below stands todo insn ref there v)
+    heap_well heap.Constant insn ref there shape = constant_well machine number thread frame below stands to_begin insn ref there shape
+    heap_well heap.Enter insn ref there shape = good_then program reached machine _ (slice_get frame.stack.items 0) (λ on e. enters_well machine number thread frame below stands to_begin insn ref there shape on)
+    heap_well heap.Exit insn ref there shape = good_then program reached machine _ (slice_get frame.stack.items 0) (λ on e. leaves_well machine number thread frame below stands to_begin insn ref there shape on)
+    heap_well heap.Throw insn ref there shape = good_then program reached machine _ (slice_get frame.stack.items 0) (λ v e. throws_top_well machine number thread frame below stands to_begin insn ref there v)
     heap_well (heap.Return kind) insn ref there shape = returns_well kind
-    heap_well heap.Call insn ref there shape = calls_well machine number thread frame below stands todo insn ref there shape
+    heap_well heap.Call insn ref there shape = calls_well machine number thread frame below stands to_begin insn ref there shape
     heap_well (heap.ReadItem item) insn ref there shape = good_none program reached machine
     heap_well (heap.WriteItem item) insn ref there shape = good_none program reached machine
     heap_well (heap.Divide remainder) insn ref there shape = good_none program reached machine
@@ -151,12 +151,12 @@ module _ (program : Program) (reached : Places) (sound : HasInsns program) (clos
     frame_inside insn ref there alone g e =
         let m = and_then_of (λ (m : Moved Value). fitted frame (next_of values_seen insn frame.at frame.stack.items) m.0 m.1) (effect values_moved (shape_of insn) frame.locals frame.stack.items) g e in
         fitted_inside program reached frame (next_of values_seen insn frame.at frame.stack.items) m.0.0 m.0.1 g m.2
-          (closed.next frame.class frame.method frame.at insn ref stands.stand.0 there (next_of values_seen insn frame.at frame.stack.items)
-            (goes_to_successor values_seen insn frame.at frame.stack.items (sound frame.class frame.method frame.at insn ref there) alone))
+        (closed.next frame.class frame.method frame.at insn ref stands.stand.0 there (next_of values_seen insn frame.at frame.stack.items)
+        (goes_to_successor values_seen insn frame.at frame.stack.items (sound frame.class frame.method frame.at insn ref there) alone))
 
     alone_well : (insn : Insn) (ref : Target) → IsAt program frame.class frame.method frame.at insn ref → is_heap (shape_of insn) ≡ false
         → Good program reached machine (goes_on machine thread below (frame_stepped insn frame))
-    alone_well insn ref there alone = goes_well machine number thread frame below stands todo machine (frame_stepped insn frame) refl (frame_inside insn ref there alone)
+    alone_well insn ref there alone = goes_well machine number thread frame below stands to_begin machine (frame_stepped insn frame) refl (frame_inside insn ref there alone)
 
     shape_well : (shape : Shape) (insn : Insn) (ref : Target) → IsAt program frame.class frame.method frame.at insn ref → shape_of insn ≡ shape
         → Good program reached machine (shape_stepped program machine number thread frame below (insn, ref) shape)
@@ -188,7 +188,7 @@ module _ (program : Program) (reached : Places) (sound : HasInsns program) (clos
   called_from frame listed inside from =
       record { class = frame.class; method = frame.method; at = frame.at; insn = from.insn; inside = inside; there = from.there; calls = from.calls }
 
-  module _ (machine : Machine) (number : ℕ) (thread : Thread) (listed : ℕ) (frame : Frame) (below : List Frame) (stands : Standing program reached closed (frame ∷ below)) (todo : AllByRecursion (BeginsInside program reached) thread.todo) (from : CallsFrom program reached frame (target.ApiMethod listed)) where
+  module _ (machine : Machine) (number : ℕ) (thread : Thread) (listed : ℕ) (frame : Frame) (below : List Frame) (stands : Standing program reached closed (frame ∷ below)) (to_begin : AllByRecursion (BeginsInside program reached) thread.to_begin) (from : CallsFrom program reached frame (target.ApiMethod listed)) where
     seen_of : (event : Event) → method_of event ≡ listed → SeenWell program reached (Some event)
     seen_of event is = subst (IsCalled program reached) (sym is) (called_from frame listed stands.stand.0 from)
 
@@ -197,67 +197,67 @@ module _ (program : Program) (reached : Places) (sound : HasInsns program) (clos
     returned_here result event is made e =
         let m = map_of (λ (m : Made). (m.0, m.1, Some event)) (returned program machine thread (frame ∷ below) result) made e in
         let waits : Waits program reached frame = record { ref = target.ApiMethod listed; at_call = from } in
-        let g = returned_well machine machine thread (frame ∷ below) result refl stands.stand (waits, stands.wait) todo m.0 m.1 in
+        let g = returned_well machine machine thread (frame ∷ below) result refl stands.stand (waits, stands.wait) to_begin m.0 m.1 in
         subst (GoodMade program reached machine) m.2 (record { same = g.same; well = g.well; seen = seen_of event is })
 
-    throws_there : (class : List ℕ) → Good program reached machine (Some (throws_new program machine number (frame ∷ below) thread.todo class (Some (events.Except number listed))))
-    throws_there class = good_some program reached machine _ (throws_new_good program reached closed machine number (frame ∷ below) thread.todo class (Some (events.Except number listed)) stands todo (seen_of (events.Except number listed) refl))
+    throws_there : (class : List ℕ) → Good program reached machine (Some (throws_new program machine number (frame ∷ below) thread.to_begin class (Some (events.Except number listed))))
+    throws_there class = good_some program reached machine _ (throws_new_good program reached closed machine number (frame ∷ below) thread.to_begin class (Some (events.Except number listed)) stands to_begin (seen_of (events.Except number listed) refl))
 
   -- ---- a thread
 
   module _ (machine : Machine) (number : ℕ) where
     -- an answer, by the frames of the thread
-    answered_well : (frames : List Frame) (todo : List (ℕ × ℕ)) (doing : Doing) (listed : ℕ) (m : ListedMethod) (answer : ApiAnswer) → TopCalls program reached listed frames
-        → AllByRecursion (Inside program reached) frames → AllByRecursion (Waits program reached) (drop 1 frames) → AllByRecursion (BeginsInside program reached) todo
-        → Good program reached machine (answered program machine number (record { frames = frames; todo = todo; doing = doing }) listed m answer)
-    answered_well [] todo doing listed m answer top stand wait all = absurd top
-    answered_well (frame ∷ below) todo doing listed m answers.Nothing top stand wait all =
+    answered_well : (frames : List Frame) (to_begin : List (ℕ × ℕ)) (doing : Doing) (listed : ℕ) (m : ListedMethod) (answer : ApiAnswer) → TopCalls program reached listed frames
+        → AllByRecursion (Inside program reached) frames → AllByRecursion (Waits program reached) (drop 1 frames) → AllByRecursion (BeginsInside program reached) to_begin
+        → Good program reached machine (answered program machine number (record { frames = frames; to_begin = to_begin; doing = doing }) listed m answer)
+    answered_well [] to_begin doing listed m answer top stand wait all = absurd top
+    answered_well (frame ∷ below) to_begin doing listed m answers.Nothing top stand wait all =
         good_if program reached machine _ _ _ (good_none program reached machine)
-          (returned_here machine number (record { frames = frame ∷ below; todo = todo; doing = doing }) listed frame below (record { stand = stand; wait = wait }) all top None (events.Return number listed None) refl)
-    answered_well (frame ∷ below) todo doing listed m (answers.Int n) top stand wait all =
+        (returned_here machine number (record { frames = frame ∷ below; to_begin = to_begin; doing = doing }) listed frame below (record { stand = stand; wait = wait }) all top None (events.Return number listed None) refl)
+    answered_well (frame ∷ below) to_begin doing listed m (answers.Int n) top stand wait all =
         good_if program reached machine _ _ _
-          (returned_here machine number (record { frames = frame ∷ below; todo = todo; doing = doing }) listed frame below (record { stand = stand; wait = wait }) all top (Some (values.Int n)) (events.Return number listed (option_map (value_seen program machine.heap) (Some (values.Int n)))) refl)
-          (good_none program reached machine)
-    answered_well (frame ∷ below) todo doing listed m (answers.Throws class) top stand wait all =
+        (returned_here machine number (record { frames = frame ∷ below; to_begin = to_begin; doing = doing }) listed frame below (record { stand = stand; wait = wait }) all top (Some (values.Int n)) (events.Return number listed (option_map (value_seen program machine.heap) (Some (values.Int n)))) refl)
+        (good_none program reached machine)
+    answered_well (frame ∷ below) to_begin doing listed m (answers.Throws class) top stand wait all =
         good_if program reached machine _ _ _
-          (throws_there machine number (record { frames = frame ∷ below; todo = todo; doing = doing }) listed frame below (record { stand = stand; wait = wait }) all top class)
-          (good_none program reached machine)
-    answered_well (frame ∷ below) todo doing listed m answers.Null top stand wait all = good_none program reached machine
-    answered_well (frame ∷ below) todo doing listed m (answers.Text text) top stand wait all = good_none program reached machine
-    answered_well (frame ∷ below) todo doing listed m (answers.Fresh class) top stand wait all = good_none program reached machine
-    answered_well (frame ∷ below) todo doing listed m (answers.Arg i) top stand wait all = good_none program reached machine
-    answered_well (frame ∷ below) todo doing listed m answers.Receiver top stand wait all = good_none program reached machine
+        (throws_there machine number (record { frames = frame ∷ below; to_begin = to_begin; doing = doing }) listed frame below (record { stand = stand; wait = wait }) all top class)
+        (good_none program reached machine)
+    answered_well (frame ∷ below) to_begin doing listed m answers.Null top stand wait all = good_none program reached machine
+    answered_well (frame ∷ below) to_begin doing listed m (answers.Text text) top stand wait all = good_none program reached machine
+    answered_well (frame ∷ below) to_begin doing listed m (answers.Fresh class) top stand wait all = good_none program reached machine
+    answered_well (frame ∷ below) to_begin doing listed m (answers.Arg i) top stand wait all = good_none program reached machine
+    answered_well (frame ∷ below) to_begin doing listed m answers.Receiver top stand wait all = good_none program reached machine
 
-    null_well : (frames : List Frame) (todo : List (ℕ × ℕ)) (doing : Doing) (listed : ℕ) (choice : Choice) → TopCalls program reached listed frames
-        → AllByRecursion (Inside program reached) frames → AllByRecursion (Waits program reached) (drop 1 frames) → AllByRecursion (BeginsInside program reached) todo
-        → Good program reached machine (null_answered program machine number (record { frames = frames; todo = todo; doing = doing }) listed choice)
-    null_well [] todo doing listed choice top stand wait all = absurd top
-    null_well (frame ∷ below) todo doing listed choices.Plain top stand wait all =
-        throws_there machine number (record { frames = frame ∷ below; todo = todo; doing = doing }) listed frame below (record { stand = stand; wait = wait }) all top null_pointer
-    null_well (frame ∷ below) todo doing listed (choices.Answer answer) top stand wait all = good_none program reached machine
+    null_well : (frames : List Frame) (to_begin : List (ℕ × ℕ)) (doing : Doing) (listed : ℕ) (choice : Choice) → TopCalls program reached listed frames
+        → AllByRecursion (Inside program reached) frames → AllByRecursion (Waits program reached) (drop 1 frames) → AllByRecursion (BeginsInside program reached) to_begin
+        → Good program reached machine (null_answered program machine number (record { frames = frames; to_begin = to_begin; doing = doing }) listed choice)
+    null_well [] to_begin doing listed choice top stand wait all = absurd top
+    null_well (frame ∷ below) to_begin doing listed choices.Plain top stand wait all =
+        throws_there machine number (record { frames = frame ∷ below; to_begin = to_begin; doing = doing }) listed frame below (record { stand = stand; wait = wait }) all top null_pointer
+    null_well (frame ∷ below) to_begin doing listed (choices.Answer answer) top stand wait all = good_none program reached machine
 
-    call_well : (frames : List Frame) (todo : List (ℕ × ℕ)) (doing : Doing) (listed : ℕ) (choice : Choice) → TopCalls program reached listed frames
-        → AllByRecursion (Inside program reached) frames → AllByRecursion (Waits program reached) (drop 1 frames) → AllByRecursion (BeginsInside program reached) todo
-        → Good program reached machine (call_answered program machine number (record { frames = frames; todo = todo; doing = doing }) listed choice)
-    call_well frames todo doing listed choices.Plain top stand wait all = good_none program reached machine
-    call_well frames todo doing listed (choices.Answer answer) top stand wait all =
-        good_then program reached machine _ (slice_get program.listing.methods listed) (λ m e. answered_well frames todo doing listed m answer top stand wait all)
+    call_well : (frames : List Frame) (to_begin : List (ℕ × ℕ)) (doing : Doing) (listed : ℕ) (choice : Choice) → TopCalls program reached listed frames
+        → AllByRecursion (Inside program reached) frames → AllByRecursion (Waits program reached) (drop 1 frames) → AllByRecursion (BeginsInside program reached) to_begin
+        → Good program reached machine (call_answered program machine number (record { frames = frames; to_begin = to_begin; doing = doing }) listed choice)
+    call_well frames to_begin doing listed choices.Plain top stand wait all = good_none program reached machine
+    call_well frames to_begin doing listed (choices.Answer answer) top stand wait all =
+        good_then program reached machine _ (slice_get program.listing.methods listed) (λ m e. answered_well frames to_begin doing listed m answer top stand wait all)
 
-    run_well : (frames : List Frame) (todo : List (ℕ × ℕ)) (doing : Doing) (choice : Choice)
-        → AllByRecursion (Inside program reached) frames → AllByRecursion (Waits program reached) (drop 1 frames) → AllByRecursion (BeginsInside program reached) todo
-        → Good program reached machine (frames_stepped program machine number (record { frames = frames; todo = todo; doing = doing }) frames choice)
-    run_well [] todo doing choice stand wait all = good_none program reached machine
-    run_well (frame ∷ below) todo doing choices.Plain stand wait all =
+    run_well : (frames : List Frame) (to_begin : List (ℕ × ℕ)) (doing : Doing) (choice : Choice)
+        → AllByRecursion (Inside program reached) frames → AllByRecursion (Waits program reached) (drop 1 frames) → AllByRecursion (BeginsInside program reached) to_begin
+        → Good program reached machine (frames_stepped program machine number (record { frames = frames; to_begin = to_begin; doing = doing }) frames choice)
+    run_well [] to_begin doing choice stand wait all = good_none program reached machine
+    run_well (frame ∷ below) to_begin doing choices.Plain stand wait all =
         good_then program reached machine _ (insn_at program frame)
-          (λ next e. insn_well machine number (record { frames = frame ∷ below; todo = todo; doing = doing }) frame below (record { stand = stand; wait = wait }) all next e)
-    run_well (frame ∷ below) todo doing (choices.Answer answer) stand wait all = good_none program reached machine
+        (λ next e. insn_well machine number (record { frames = frame ∷ below; to_begin = to_begin; doing = doing }) frame below (record { stand = stand; wait = wait }) all next e)
+    run_well (frame ∷ below) to_begin doing (choices.Answer answer) stand wait all = good_none program reached machine
 
     -- a step of a thread that is well
-    pub thread_well : (frames : List Frame) (todo : List (ℕ × ℕ)) (doing : Doing) (choice : Choice) → Well program reached (record { frames = frames; todo = todo; doing = doing })
-        → Good program reached machine (doing_stepped program machine number (record { frames = frames; todo = todo; doing = doing }) doing choice)
-    thread_well frames todo doings.Running choice well = run_well frames todo doings.Running choice well.stand well.wait well.todo
-    thread_well frames todo (doings.InCall listed receiver arguments) choice well =
+    pub thread_well : (frames : List Frame) (to_begin : List (ℕ × ℕ)) (doing : Doing) (choice : Choice) → Well program reached (record { frames = frames; to_begin = to_begin; doing = doing })
+        → Good program reached machine (doing_stepped program machine number (record { frames = frames; to_begin = to_begin; doing = doing }) doing choice)
+    thread_well frames to_begin doings.Running choice well = run_well frames to_begin doings.Running choice well.stand well.wait well.to_begin
+    thread_well frames to_begin (doings.InCall listed receiver arguments) choice well =
         good_if program reached machine (is_on_null receiver) _ _
-          (null_well frames todo (doings.InCall listed receiver arguments) listed choice well.does well.stand well.wait well.todo)
-          (call_well frames todo (doings.InCall listed receiver arguments) listed choice well.does well.stand well.wait well.todo)
-    thread_well frames todo doings.Ended choice well = good_none program reached machine
+        (null_well frames to_begin (doings.InCall listed receiver arguments) listed choice well.does well.stand well.wait well.to_begin)
+        (call_well frames to_begin (doings.InCall listed receiver arguments) listed choice well.does well.stand well.wait well.to_begin)
+    thread_well frames to_begin doings.Ended choice well = good_none program reached machine

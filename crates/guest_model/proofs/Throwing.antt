@@ -30,7 +30,7 @@ module _ (program : Program) (reached : Places) (closed : IsClosed program reach
       let a = and_parts (nat_le h.0.from frame.at) (nat_lt frame.at h.0.to && option_map_or (λ (caught : List ℕ). is_below program class caught) h.0.class true) l.1 in
       let b = and_parts (nat_lt frame.at h.0.to) (option_map_or (λ (caught : List ℕ). is_below program class caught) h.0.class true) a.1 in
       subst (Inside program reached) c.1
-        (closed.caught frame.class frame.method frame.at m.0 h.0 inside m.1 l.0 (leb-true h.0.from frame.at a.0) (ltb-true frame.at h.0.to b.0))
+      (closed.caught frame.class frame.method frame.at m.0 h.0 inside m.1 l.0 (leb-true h.0.from frame.at a.0) (ltb-true frame.at h.0.to b.0))
 
   -- frames that stand in the set, of which all but the first wait for a call
   pub record Standing (frames : List Frame) : Type 0 where
@@ -50,23 +50,23 @@ module _ (program : Program) (reached : Places) (closed : IsClosed program reach
   unwound_stand thrown class [] s = s
   unwound_stand thrown class (frame ∷ below) s =
       caught_or (caught_in program thrown class frame) below (unwound program thrown class below)
-        (λ f e. caught_inside thrown class frame f s.stand.0 e) s.stand.1 s.wait
-        (unwound_stand thrown class below (record { stand = s.stand.1; wait = dropped below s.wait }))
+      (λ f e. caught_inside thrown class frame f s.stand.0 e) s.stand.1 s.wait
+      (unwound_stand thrown class below (record { stand = s.stand.1; wait = dropped below s.wait }))
 
-  thrown_well : (frames : List Frame) (todo : List (ℕ × ℕ)) → Standing frames → AllByRecursion (BeginsInside program reached) todo → Well program reached (thrown_thread frames todo)
-  thrown_well [] todo s all = record { stand = tt; wait = tt; todo = tt; does = tt }
-  thrown_well (frame ∷ below) todo s all = record { stand = s.stand; wait = s.wait; todo = all; does = tt }
+  thrown_well : (frames : List Frame) (to_begin : List (ℕ × ℕ)) → Standing frames → AllByRecursion (BeginsInside program reached) to_begin → Well program reached (thrown_thread frames to_begin)
+  thrown_well [] to_begin s all = record { stand = tt; wait = tt; to_begin = tt; does = tt }
+  thrown_well (frame ∷ below) to_begin s all = record { stand = s.stand; wait = s.wait; to_begin = all; does = tt }
 
-  pub throws_good : (machine new : Machine) (thread : ℕ) (frames : List Frame) (todo : List (ℕ × ℕ)) (thrown : Value) (class : List ℕ) (event : Option Event)
-      → new.threads ≡ machine.threads → Standing frames → AllByRecursion (BeginsInside program reached) todo → SeenWell program reached event
-      → GoodMade program reached machine (throws program new thread frames todo thrown class event)
-  throws_good machine new thread frames todo thrown class event same s all seen = record {
+  pub throws_good : (machine new : Machine) (thread : ℕ) (frames : List Frame) (to_begin : List (ℕ × ℕ)) (thrown : Value) (class : List ℕ) (event : Option Event)
+      → new.threads ≡ machine.threads → Standing frames → AllByRecursion (BeginsInside program reached) to_begin → SeenWell program reached event
+      → GoodMade program reached machine (throws program new thread frames to_begin thrown class event)
+  throws_good machine new thread frames to_begin thrown class event same s all seen = record {
     same = same;
-    well = thrown_well (unwound program thrown class frames) todo (unwound_stand thrown class frames s) all;
+    well = thrown_well (unwound program thrown class frames) to_begin (unwound_stand thrown class frames s) all;
     seen = seen;
   }
 
-  pub throws_new_good : (machine : Machine) (thread : ℕ) (frames : List Frame) (todo : List (ℕ × ℕ)) (class : List ℕ) (event : Option Event)
-      → Standing frames → AllByRecursion (BeginsInside program reached) todo → SeenWell program reached event
-      → GoodMade program reached machine (throws_new program machine thread frames todo class event)
-  throws_new_good machine thread frames todo class event s all seen = throws_good machine _ thread frames todo _ class event refl s all seen
+  pub throws_new_good : (machine : Machine) (thread : ℕ) (frames : List Frame) (to_begin : List (ℕ × ℕ)) (class : List ℕ) (event : Option Event)
+      → Standing frames → AllByRecursion (BeginsInside program reached) to_begin → SeenWell program reached event
+      → GoodMade program reached machine (throws_new program machine thread frames to_begin class event)
+  throws_new_good machine thread frames to_begin class event s all seen = throws_good machine _ thread frames to_begin _ class event refl s all seen

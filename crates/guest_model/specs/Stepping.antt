@@ -47,11 +47,11 @@ abbrev pub Made : Type 0
 Made = Machine × Thread × Option Event
 
 abbrev pub running : List Frame → List (ℕ × ℕ) → Thread
-running frames todo = record { frames = frames; todo = todo; doing = doings.Running }
+running frames to_begin = record { frames = frames; to_begin = to_begin; doing = doings.Running }
 
 -- the thread goes on with its top frame changed so, and nothing is seen
 abbrev pub goes_on : Machine → Thread → List Frame → Option Frame → Option Made
-goes_on machine thread below frame = option_map (λ (f : Frame). (machine, running (f ∷ below) thread.todo, None)) frame
+goes_on machine thread below frame = option_map (λ (f : Frame). (machine, running (f ∷ below) thread.to_begin, None)) frame
 
 -- ---- frames that begin
 
@@ -83,8 +83,8 @@ begun program next =
 
 -- the thread once its frames are left: it begins the next method, or has ended
 abbrev pub resting : Program → List (ℕ × ℕ) → Thread
-resting program [] = record { frames = []; todo = []; doing = doings.Ended }
-resting program (next ∷ todo) = running (option_to_list (begun program next)) todo
+resting program [] = record { frames = []; to_begin = []; doing = doings.Ended }
+resting program (next ∷ to_begin) = running (option_to_list (begun program next)) to_begin
 
 -- ---- throwing
 
@@ -108,18 +108,18 @@ with_object machine object = record {
 
 -- a thread that no handler saved has ended, and what it had still to begin is dropped
 abbrev pub thrown_thread : List Frame → List (ℕ × ℕ) → Thread
-thrown_thread [] todo = record { frames = []; todo = []; doing = doings.Ended }
-thrown_thread (frame ∷ below) todo = running (frame ∷ below) todo
+thrown_thread [] to_begin = record { frames = []; to_begin = []; doing = doings.Ended }
+thrown_thread (frame ∷ below) to_begin = running (frame ∷ below) to_begin
 
 -- an object of this class is thrown
 abbrev pub throws : Program → Machine → ℕ → List Frame → List (ℕ × ℕ) → Value → List ℕ → Option Event → Made
-throws program machine thread frames todo thrown class event =
-    (with_monitors machine thread (locks_left program thrown class frames), thrown_thread (unwound program thrown class frames) todo, event)
+throws program machine thread frames to_begin thrown class event =
+    (with_monitors machine thread (locks_left program thrown class frames), thrown_thread (unwound program thrown class frames) to_begin, event)
 
 -- a new object of this class is thrown
 abbrev pub throws_new : Program → Machine → ℕ → List Frame → List (ℕ × ℕ) → List ℕ → Option Event → Made
-throws_new program machine thread frames todo class event =
-    throws program (with_object machine (bare_object class)) thread frames todo (values.Ref (length machine.heap)) class event
+throws_new program machine thread frames to_begin class event =
+    throws program (with_object machine (bare_object class)) thread frames to_begin (values.Ref (length machine.heap)) class event
 
 abbrev pub null_pointer : List ℕ
 null_pointer = codes "java/lang/NullPointerException"
@@ -163,29 +163,29 @@ with_held machine monitors = record {
 -- entering a monitor; nothing while another thread holds it
 abbrev pub enters : Program → Machine → ℕ → Thread → Frame → List Frame → Value → Option Made
 enters program machine number thread frame below on =
-    if is_null on then Some (throws_new program machine number (frame ∷ below) thread.todo null_pointer None)
+    if is_null on then Some (throws_new program machine number (frame ∷ below) thread.to_begin null_pointer None)
     else option_and_then (λ held. goes_on (with_held machine held) thread below (after frame (drop 1 frame.stack.items))) (entered machine.monitors number on)
 
 -- going on with these monitors, or throwing where the monitor is not held
 abbrev pub left_with : Program → Machine → ℕ → Thread → Frame → List Frame → Option (List Monitor) → Option Made
-left_with program machine number thread frame below None = Some (throws_new program machine number (frame ∷ below) thread.todo bad_monitor None)
+left_with program machine number thread frame below None = Some (throws_new program machine number (frame ∷ below) thread.to_begin bad_monitor None)
 left_with program machine number thread frame below (Some held) = goes_on (with_held machine held) thread below (after frame (drop 1 frame.stack.items))
 
 -- leaving a monitor
 abbrev pub leaves : Program → Machine → ℕ → Thread → Frame → List Frame → Value → Option Made
 leaves program machine number thread frame below on =
-    if is_null on then Some (throws_new program machine number (frame ∷ below) thread.todo null_pointer None)
+    if is_null on then Some (throws_new program machine number (frame ∷ below) thread.to_begin null_pointer None)
     else left_with program machine number thread frame below (left machine.monitors number on)
 
 -- throwing what is on top
 abbrev pub throws_top : Program → Machine → ℕ → Thread → Frame → List Frame → Value → Option Made
 throws_top program machine number thread frame below v =
-    if is_null v then Some (throws_new program machine number (frame ∷ below) thread.todo null_pointer None)
-    else option_map (λ class. throws program machine number (frame ∷ below) thread.todo v class None) (thrown_class machine.heap v)
+    if is_null v then Some (throws_new program machine number (frame ∷ below) thread.to_begin null_pointer None)
+    else option_map (λ class. throws program machine number (frame ∷ below) thread.to_begin v class None) (thrown_class machine.heap v)
 
 -- the caller goes on behind its call with the result, or the thread rests
 abbrev pub returned : Program → Machine → Thread → List Frame → Option Value → Option Made
-returned program machine thread [] result = Some (machine, resting program thread.todo, None)
+returned program machine thread [] result = Some (machine, resting program thread.to_begin, None)
 returned program machine thread (caller ∷ below) result = goes_on machine thread below (after caller (option_to_list result ++ caller.stack.items))
 
 abbrev pub result_of : Option Kind → List Value → Option (Option Value)
@@ -200,7 +200,7 @@ returns program machine number thread frame below kind =
 abbrev pub calls_api : Program → Machine → ℕ → Thread → Frame → List Frame → ℕ → Taken → Made
 calls_api program machine number thread frame below method t = (
   machine,
-  record { frames = moved_to frame frame.at frame.locals t.beneath ∷ below; todo = thread.todo; doing = doings.InCall method t.receiver t.arguments },
+  record { frames = moved_to frame frame.at frame.locals t.beneath ∷ below; to_begin = thread.to_begin; doing = doings.InCall method t.receiver t.arguments },
   Some (events.Call number method (values_seen_by program machine.heap t.arguments)),
 )
 
@@ -271,7 +271,7 @@ answered program machine number thread method listed answers.Nothing =
 answered program machine number thread method listed (answers.Int n) =
     if fits_number (types_of listed.id.desc).result n then api_returned program machine number thread method (Some (values.Int n)) else None
 answered program machine number thread method listed (answers.Throws class) =
-    if may_throw program class then Some (throws_new program machine number thread.frames thread.todo class (Some (events.Except number method))) else None
+    if may_throw program class then Some (throws_new program machine number thread.frames thread.to_begin class (Some (events.Except number method))) else None
 answered program machine number thread method listed other = None
 
 -- A call on null throws.
@@ -280,7 +280,7 @@ is_on_null None = false
 is_on_null (Some v) = is_null v
 
 abbrev pub null_answered : Program → Machine → ℕ → Thread → ℕ → Choice → Option Made
-null_answered program machine number thread method choices.Plain = Some (throws_new program machine number thread.frames thread.todo null_pointer (Some (events.Except number method)))
+null_answered program machine number thread method choices.Plain = Some (throws_new program machine number thread.frames thread.to_begin null_pointer (Some (events.Except number method)))
 null_answered program machine number thread method (choices.Answer answer) = None
 
 abbrev pub call_answered : Program → Machine → ℕ → Thread → ℕ → Choice → Option Made
@@ -320,4 +320,4 @@ abbrev pub stepped : Program → Machine → Step → Option (Machine × Option 
 stepped program machine step =
     if is_some machine.stopped then None
     else option_and_then (λ (thread : Thread). option_map (put_back step.thread) (doing_stepped program machine step.thread thread thread.doing step.choice))
-      (slice_get machine.threads step.thread)
+    (slice_get machine.threads step.thread)
