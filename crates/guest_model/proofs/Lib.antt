@@ -3,3 +3,4 @@ mod Going
 mod Throwing
 mod Stepping
 pub mod Standing
+mod First

@@ -7,3 +7,4 @@ pub mod Answers
 pub mod Stepping
 pub mod Runs
 pub mod Standing
+pub mod First

@@ -7,5 +7,5 @@
 mod laws;
 mod machine;
 
-pub use laws::sees_only_what_is_called;
+pub use laws::{sees_only_what_is_called, sees_the_first_call};
 pub use machine::{Choice, End, Machine, Step};
