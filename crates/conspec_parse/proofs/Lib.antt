@@ -1,2 +1,0 @@
-mod Branches
-mod Repeating
