@@ -265,7 +265,8 @@ fn add_row(
     row: &(&str, &str, &str, bool),
 ) -> Result<(), NoMemory>
     ensures { OnOk result ((q : MethodId) → found_in found.new q
-        ≡ option_or (found_in found.old q) (first_of (row_declared index (row.now.0.now, row.now.1.now, row.now.2.now, row.now.3) ∷ []) q)) }
+        ≡ option_or (found_in found.old q)
+        (first_of (row_declared index (row.now.0.now, row.now.1.now, row.now.2.now, row.now.3) ∷ []) q)) }
 {
     let id = MethodId {
         class: Bytes::from_slice(alloc, row.0.as_bytes())?,
