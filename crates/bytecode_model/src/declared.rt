@@ -9,7 +9,9 @@ ghost use Rattle.api_listing.specs.BuiltIn.{is_method};
 ghost use Rattle.api_listing.specs.Seen.{has_id};
 ghost use Rattle.api_listing.specs.Listing.{has_method};
 ghost use Rattle.bytecode_model.specs.Index.{found_in};
-ghost use Rattle.bytecode_model.specs.Members.{target_in, members_of, member_declared, members_from, file_members, given_from, listed_from, listed_fields_from, row_declared, rows_from, methods_declared, fields_declared, first_of};
+ghost use Rattle.bytecode_model.specs.Members.{target_in, members_of, member_declared, members_from, file_members, given_from};
+ghost use Rattle.bytecode_model.specs.Members.{listed_from, listed_fields_from, row_declared, rows_from};
+ghost use Rattle.bytecode_model.specs.Members.{methods_declared, fields_declared, first_of};
 
 use crate::program::Target;
 use crate::text::{class_at, copy_class, copy_text, has_flag};
@@ -87,7 +89,8 @@ fn add_first(
     id: MethodId,
     first: Found,
 ) -> Result<(), NoMemory>
-    ensures { OnOk result ((q : MethodId) → found_in found.new q ≡ option_or (found_in found.old q) (first_of ((id, first) ∷ []) q)) }
+    ensures { OnOk result ((q : MethodId) → found_in found.new q
+        ≡ option_or (found_in found.old q) (first_of ((id, first) ∷ []) q)) }
 {
     if !found.contains_key(&id) {
         found.insert(id, first)?;
@@ -103,7 +106,8 @@ fn add_files(
 ) -> Result<(), NoMemory>
     requires count { length files.now ≤ 1000 }
     requires fits { AllByRecursion CanSpell files.now }
-    ensures { OnOk result ((q : MethodId) → found_in found.new q ≡ option_or (found_in found.old q) (first_of (given_from kind 0 files.now) q)) }
+    ensures { OnOk result ((q : MethodId) → found_in found.new q
+        ≡ option_or (found_in found.old q) (first_of (given_from kind 0 files.now) q)) }
 {
     let mut class: u32 = 0;
     let mut left = files;
@@ -134,7 +138,8 @@ fn add_file(
     file: &ClassFile,
 ) -> Result<(), NoMemory>
     requires { CanSpell file.now }
-    ensures { OnOk result ((q : MethodId) → found_in found.new q ≡ option_or (found_in found.old q) (first_of (file_members kind class file.now) q)) }
+    ensures { OnOk result ((q : MethodId) → found_in found.new q
+        ≡ option_or (found_in found.old q) (first_of (file_members kind class file.now) q)) }
 {
     let pool = file.pool.as_slice();
     let name = class_at(pool, file.this_class);
@@ -173,7 +178,8 @@ fn add_member(
     index: u32,
     member: &Member,
 ) -> Result<(), NoMemory>
-    ensures { OnOk result ((q : MethodId) → found_in found.new q ≡ option_or (found_in found.old q) (first_of (member_declared kind name.now pool.now class index member.now ∷ []) q)) }
+    ensures { OnOk result ((q : MethodId) → found_in found.new q
+        ≡ option_or (found_in found.old q) (first_of (member_declared kind name.now pool.now class index member.now ∷ []) q)) }
 {
     let id = MethodId {
         class: Bytes::from_slice(alloc, name)?,
@@ -193,7 +199,8 @@ fn add_listed(
     methods: &[ListedMethod],
 ) -> Result<(), NoMemory>
     requires { length methods.now ≤ 20000 }
-    ensures { OnOk result ((q : MethodId) → found_in found.new q ≡ option_or (found_in found.old q) (first_of (listed_from 0 methods.now) q)) }
+    ensures { OnOk result ((q : MethodId) → found_in found.new q
+        ≡ option_or (found_in found.old q) (first_of (listed_from 0 methods.now) q)) }
 {
     let mut index: u32 = 0;
     let mut left = methods;
@@ -215,7 +222,8 @@ fn add_listed_fields(
     fields: &[MethodId],
 ) -> Result<(), NoMemory>
     requires { length fields.now ≤ 20000 }
-    ensures { OnOk result ((q : MethodId) → found_in found.new q ≡ option_or (found_in found.old q) (first_of (listed_fields_from 0 fields.now) q)) }
+    ensures { OnOk result ((q : MethodId) → found_in found.new q
+        ≡ option_or (found_in found.old q) (first_of (listed_fields_from 0 fields.now) q)) }
 {
     let mut index: u32 = 0;
     let mut left = fields;
@@ -237,7 +245,8 @@ fn add_rows(
     rows: &[(&str, &str, &str, bool)],
 ) -> Result<(), NoMemory>
     requires { length rows.now ≤ 20000 }
-    ensures { OnOk result ((q : MethodId) → found_in found.new q ≡ option_or (found_in found.old q) (first_of (rows_from 0 (map (λ r. (r.0.now, r.1.now, r.2.now, r.3)) rows.now)) q)) }
+    ensures { OnOk result ((q : MethodId) → found_in found.new q
+        ≡ option_or (found_in found.old q) (first_of (rows_from 0 (map (λ r. (r.0.now, r.1.now, r.2.now, r.3)) rows.now)) q)) }
 {
     let mut index: u32 = 0;
     let mut left = rows;
@@ -255,7 +264,9 @@ fn add_row(
     index: u32,
     row: &(&str, &str, &str, bool),
 ) -> Result<(), NoMemory>
-    ensures { OnOk result ((q : MethodId) → found_in found.new q ≡ option_or (found_in found.old q) (first_of (row_declared index (row.now.0.now, row.now.1.now, row.now.2.now, row.now.3) ∷ []) q)) }
+    ensures { OnOk result ((q : MethodId) → found_in found.new q
+        ≡ option_or (found_in found.old q)
+        (first_of (row_declared index (row.now.0.now, row.now.1.now, row.now.2.now, row.now.3) ∷ []) q)) }
 {
     let id = MethodId {
         class: Bytes::from_slice(alloc, row.0.as_bytes())?,

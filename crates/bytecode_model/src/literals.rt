@@ -88,7 +88,8 @@ fn add_pool(
     constants: &[Const],
 ) -> Result<(), NoMemory>
     requires { NamesPlaced places.old texts.old }
-    ensures { OnOk result (NamesPlaced places.new texts.new × (texts.new ≡ fold with_name texts.old (filter_map (text_of_string pool.now) constants.now))) }
+    ensures { OnOk result (NamesPlaced places.new texts.new
+        × (texts.new ≡ fold with_name texts.old (filter_map (text_of_string pool.now) constants.now))) }
 {
     let mut left = constants;
     while let [constant, rest @ ..] = left {

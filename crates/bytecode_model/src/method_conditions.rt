@@ -37,7 +37,8 @@ pub fn is_allowed(alloc: Global, pool: &[Const], member: &Member) -> Result<bool
 }
 
 fn has_good_form(pool: &[Const], member: &Member) -> bool
-    ensures { result ≡ (has_good_flags pool.now member.now && (is_good_initialiser pool.now member.now && is_begun_unlocked pool.now member.now)) }
+    ensures { result ≡ (has_good_flags pool.now member.now
+        && (is_good_initialiser pool.now member.now && is_begun_unlocked pool.now member.now)) }
 {
     has_good_flags(pool, member)
         && is_good_initialiser(pool, member)
@@ -138,7 +139,8 @@ pub fn overrides(
     member: &Member,
 ) -> Result<bool, NoMemory>
     requires { order.now ≡ search_order (all_classes index.now.listing index.now.files) class.now }
-    ensures { IfOk result (λ b. b ≡ overrides (all_classes index.now.listing index.now.files) index.now.listing class.now pool.now member.now) }
+    ensures { IfOk result (λ b.
+        b ≡ overrides (all_classes index.now.listing index.now.files) index.now.listing class.now pool.now member.now) }
 {
     if has_flag(member.flags, 8) || is_text(text_at(pool, member.name), "<init>") {
         return Ok(false);

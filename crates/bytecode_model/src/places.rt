@@ -16,7 +16,8 @@ pub fn add_place(
     name: &Bytes,
     place: usize,
 ) -> Result<(), NoMemory>
-    ensures { OnOk result ((q : List ℕ) → place_in places.new q ≡ option_or (place_in places.old q) (if bytes_eq name.now q then Some place else None)) }
+    ensures { OnOk result ((q : List ℕ) → place_in places.new q
+        ≡ option_or (place_in places.old q) (if bytes_eq name.now q then Some place else None)) }
 {
     if !places.contains_key(name) {
         places.insert(name.copy(alloc)?, place)?;
