@@ -1,3 +1,4 @@
+pub mod Beginning
 pub mod ClassLoop
 pub mod Climbing
 pub mod Declaring
@@ -5,6 +6,7 @@ pub mod Lists
 pub mod Loop
 pub mod Names
 pub mod Placing
+pub mod Sound
 pub mod Starting
 pub mod Telling
 pub mod Whole

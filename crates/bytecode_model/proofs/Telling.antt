@@ -1,5 +1,5 @@
 -- Faults that are told as others.
-use Rattle.std.proofs.Common.{◌≡◌, ℕ, ◌+◌, ◌≤◌, List, [], ◌∷◌, true, length, Result, Err, Some, sym, ap, ◌∙◌, subst, arith}
+use Rattle.std.proofs.Common.{◌≡◌, ℕ, ◌+◌, ◌≤◌, ◌<◌, ◌^◌, List, [], ◌∷◌, true, length, Result, Err, Some, sym, ap, ◌∙◌, subst, arith}
 use Rattle.std.specs.List.{slice_get, filter_map, AllByRecursion}
 use Rattle.class_codec.specs.declared.tree.Const.{Const}
 use Rattle.class_codec.specs.declared.tree.Code.{Code}
@@ -80,3 +80,11 @@ code_short pool (attributes.Code c ∷ attrs) code fits e =
     let same : c ≡ code = cc in
     subst (λ (x : Code). length x.code ≤ 65535) same fits.0.1.short
 code_short pool (attributes.Other o ∷ attrs) code fits e = code_short pool attrs code fits.1 e
+
+-- and few handlers
+pub code_few : (pool : List Const) (attrs : List Attr) (code : Code) → AllByRecursion (FitsAttr pool true) attrs → slice_get (filter_map code_in attrs) 0 ≡ Some code → length code.table < 2 ^ 16
+code_few pool [] code fits e = absurd cc
+code_few pool (attributes.Code c ∷ attrs) code fits e =
+    let same : c ≡ code = cc in
+    subst (λ (x : Code). length x.table < 2 ^ 16) same fits.0.1.table.count
+code_few pool (attributes.Other o ∷ attrs) code fits e = code_few pool attrs code fits.1 e

@@ -16,7 +16,7 @@ use Rattle.bytecode_model.specs.Heads.{heads_of}
 use Rattle.bytecode_model.specs.Conditions.{classes_linked}
 use Rattle.bytecode_model.specs.Operands.{literals_of}
 use Rattle.bytecode_model.specs.Linking.{members_of, main_of, each_linked, classes_with, linked, max_files}
-use Rattle.bytecode_model.proofs.Loop.{through}
+use Rattle.bytecode_model.proofs.Loop.{through, same_length}
 
 abbrev Members : Type 0
 Members = List (List Method) × List (List ℕ)
@@ -56,17 +56,6 @@ module _ (files : List ClassFile) (listing : Listing) (main : List ℕ) (side : 
   pub is_program : (members : Members) (begin : ℕ × ℕ) → classes_linked side (heads_of files) listing.classes files ≡ Ok tt → members_of files listing ≡ Ok members → main_of files main ≡ Some begin
       → linked files listing main side ≡ Ok (program files listing members begin)
   is_program members begin ok made some = is_ending members ok made ∙ ap (λ (o : Option (ℕ × ℕ)). ok_or o faults.NoMain >>= λ b. Ok (program files listing members b)) some
-
--- as many are linked as there are items
-same_length : {X Y : Type 0} (one : ℕ → X → Linked Y) (at : ℕ) (xs : List X) (ys : List Y) → linked_from one at xs ≡ Ok ys → length ys ≡ length xs
-same_length one at [] [] e = refl
-same_length one at [] (y ∷ ys) e = absurd cc
-same_length one at (x ∷ xs) ys e =
-    let a = bind_ok (one at x) (λ first. linked_from one (at + 1) xs >>= λ others. Ok (first ∷ others)) ys e in
-    let b = bind_ok (linked_from one (at + 1) xs) (λ others. Ok (a.0 ∷ others)) ys a.2 in
-    let n = same_length one (at + 1) xs b.0 b.1 in
-    let is : ys ≡ a.0 ∷ b.0 = cc (b.2) in
-    ap length is ∙ ap suc n
 
 map_back : (files : List ClassFile) (methods : List (List Method)) → length methods ≡ length files → map (λ (c : LinkedClass). c.file) (classes_with files methods) ≡ files
 map_back [] methods e = refl

@@ -6,6 +6,7 @@ ghost use Rattle.class_codec.specs.Fits.{CanSpell};
 ghost use Rattle.api_listing.specs.Listing.{IsFew};
 ghost use Rattle.bytecode_model.specs.Fault.{Answers};
 ghost use Rattle.bytecode_model.specs.Heads.{heads_of, is_member, main_name, main_desc};
+ghost use Rattle.bytecode_model.specs.Sound.{IsSoundMethod, IsSound};
 ghost use Rattle.bytecode_model.specs.Linking.{
   if_static,
   static_main,
@@ -49,6 +50,7 @@ pub fn link(
     requires listed { IsFew listing }
     ensures exact { Answers result (linked files listing main.now side) }
     ensures back { IfOk result (λ program. unlinked program ≡ files) }
+    ensures sound { IfOk result IsSound }
 {
     let count = files.len();
     if count > MAX_FILES {
@@ -89,7 +91,8 @@ fn members(
     requires fits { AllByRecursion CanSpell files.now }
     requires heads { heads.now ≡ heads_of files.now }
     requires listed { IsFew listing.now }
-    ensures { Answers result (members_of files.now listing.now) }
+    ensures answers { Answers result (members_of files.now listing.now) }
+    ensures sound { IfOk result (λ members. AllByRecursion (AllByRecursion IsSoundMethod) members.0) }
 {
     let index = Index::new(alloc, files, heads, listing)?;
     let methods = each_linked(alloc, &index, files)?;
@@ -104,7 +107,8 @@ fn each_linked(
     files: &[ClassFile],
 ) -> Result<List<List<Method>>, LinkFault>
     requires { AllByRecursion CanSpell files.now }
-    ensures { Answers result (each_linked index.now.files index.now.listing files.now) }
+    ensures answers { Answers result (each_linked index.now.files index.now.listing files.now) }
+    ensures sound { IfOk result (AllByRecursion (AllByRecursion IsSoundMethod)) }
 {
     let mut classes = List::new(alloc);
     let mut left = files;

@@ -1,12 +1,15 @@
 //! What the methods of a class link to.
 
-ghost use Rattle.std.specs.Prelude.{◌≡◌, ◌≤◌, true, length, IfOk};
+ghost use Rattle.std.specs.Prelude.{◌≡◌, ◌≤◌, ◌<◌, ◌^◌, true, length, IfOk};
+ghost use Rattle.std.specs.List.{AllByRecursion};
 ghost use Rattle.class_codec.specs.Fits.{CanSpell, FitsMember};
+ghost use Rattle.insn_codec.specs.Fits as insns;
 ghost use Rattle.insn_codec.specs.Reading.{code_of};
 ghost use Rattle.insn_codec.specs.Spelling.{len_from};
 ghost use Rattle.bytecode_model.specs.Fault.{Answers, Tells};
 ghost use Rattle.bytecode_model.specs.Heads.{all_classes, head_of};
 ghost use Rattle.bytecode_model.specs.SearchOrder.{search_order};
+ghost use Rattle.bytecode_model.specs.Sound.{IsSoundMethod};
 ghost use Rattle.bytecode_model.specs.Linking.{bare, with_code, code_told, read_of, code_linked, method_linked, methods_linked};
 
 use crate::fault::LinkFault;
@@ -28,7 +31,8 @@ pub fn methods_linked(
     file: &ClassFile,
 ) -> Result<List<Method>, LinkFault>
     requires { CanSpell file.now }
-    ensures { Answers result (methods_linked index.now.files index.now.listing file.now) }
+    ensures answers { Answers result (methods_linked index.now.files index.now.listing file.now) }
+    ensures sound { IfOk result (AllByRecursion IsSoundMethod) }
 {
     let class = copy_class(alloc, file.pool.as_slice(), file.this_class)?;
     let order = index.search_order(alloc, &class)?;
@@ -56,7 +60,8 @@ fn method_linked(
     requires fits { FitsMember file.now.pool true member.now }
     requires name { class.now ≡ (head_of file.now).name }
     requires order { order.now ≡ search_order (all_classes index.now.listing index.now.files) class.now }
-    ensures { Answers result (method_linked index.now.files index.now.listing file.now method member.now) }
+    ensures answers { Answers result (method_linked index.now.files index.now.listing file.now method member.now) }
+    ensures sound { IfOk result IsSoundMethod }
 {
     let pool = file.pool.as_slice();
     if !is_allowed(alloc, pool, member)? {
@@ -82,7 +87,8 @@ fn method_linked(
 
 /// A method without code.
 fn bare(alloc: Global, file: &ClassFile, member: &Member) -> Result<Method, NoMemory>
-    ensures { IfOk result (λ method. method ≡ bare file.now member.now) }
+    ensures is { IfOk result (λ method. method ≡ bare file.now member.now) }
+    ensures sound { IfOk result IsSoundMethod }
 {
     Ok(Method {
         flags: member.flags,
@@ -106,8 +112,10 @@ fn code_linked(
     code: &Code,
 ) -> Result<Method, LinkFault>
     requires short { length code.now.code ≤ 65535 }
+    requires table { length code.now.table < 2 ^ 16 }
     requires name { class.now ≡ (head_of file.now).name }
-    ensures { Answers result (code_linked index.now.files index.now.listing file.now method member.now code.now) }
+    ensures answers { Answers result (code_linked index.now.files index.now.listing file.now method member.now code.now) }
+    ensures sound { IfOk result IsSoundMethod }
 {
     let pool = file.pool.as_slice();
     let insns = read_insns(alloc, class, method, code.code.as_slice())?;
@@ -151,6 +159,7 @@ fn read_insns(
 ) -> Result<List<Insn>, LinkFault>
     requires { length code.now ≤ 65535 }
     ensures answers { Answers result (read_of class.now method (code_of code.now)) }
+    ensures fits { IfOk result insns.CanSpell }
     ensures len { IfOk result (λ insns. len_from 0 insns ≡ length code.now) }
     ensures count { IfOk result (λ insns. length insns ≤ 65535) }
 {

@@ -8,6 +8,8 @@ use Rattle.bytecode_model.specs.Fault.{Linked, Fails}
 use Rattle.bytecode_model.specs.Heads.{heads_of}
 use Rattle.bytecode_model.specs.Conditions.{classes_linked}
 use Rattle.bytecode_model.specs.Linking.{members_of, main_of, max_files}
+use Rattle.bytecode_model.specs.Sound.{IsSound}
+use Rattle.bytecode_model.proofs.Sound.{is_sound}
 use Rattle.bytecode_model.proofs.Whole.{ends_members, no_main, is_program, files_back}
 use Rattle.bytecode_model.proofs.linking.link.Goals as goal
 
@@ -24,7 +26,7 @@ returns-in_err-methods-clause-exact c =
     ap (λ hs. classes_linked side hs listing.classes files) (sym heads_are) ∙ ap (λ ls. classes_linked side heads ls files) (sym c.as_slice-2.ensures)
     ∙ ap (λ fs. classes_linked side heads c.as_slice-2.result.now fs) (sym c.as_slice-3.ensures) ∙ c.in_ok-classes_linked.ensures in
     let e = c.in_err-methods.field-0.0 in
-    let fails : Fails e (members_of files listing) = subst (λ fs. Fails e (members_of fs listing)) c.as_slice-4.ensures c.in_err-methods.ensures in
+    let fails : Fails e (members_of files listing) = subst (λ fs. Fails e (members_of fs listing)) c.as_slice-4.ensures c.in_err-methods.ensures.answers in
     let p = err_from_is_err_and c.from_residual-in_err-methods.result c.from_residual-in_err-methods.ensures.1 in
     rw (p.1, p.2) (ends_members files listing c.args.main.now side few e sound fails)
 
@@ -40,7 +42,7 @@ returns-in_default-clause-exact c =
     let sound : classes_linked side (heads_of files) listing.classes files ≡ Ok tt =
     ap (λ hs. classes_linked side hs listing.classes files) (sym heads_are) ∙ ap (λ ls. classes_linked side heads ls files) (sym c.as_slice-2.ensures)
     ∙ ap (λ fs. classes_linked side heads c.as_slice-2.result.now fs) (sym c.as_slice-3.ensures) ∙ c.in_ok-classes_linked.ensures in
-    let made : members_of files listing ≡ Ok (c.in_ok-methods.methods, c.in_ok-methods.literals) = ap (λ fs. members_of fs listing) (sym c.as_slice-4.ensures) ∙ c.in_ok-methods.ensures in
+    let made : members_of files listing ≡ Ok (c.in_ok-methods.methods, c.in_ok-methods.literals) = ap (λ fs. members_of fs listing) (sym c.as_slice-4.ensures) ∙ c.in_ok-methods.ensures.answers in
     let same : main_of c.as_slice-6.result.now c.as_slice-7.result.now ≡ main_of files c.args.main.now = ap (λ fs. main_of fs c.as_slice-7.result.now) c.as_slice-6.ensures ∙ ap (main_of files) c.as_slice-7.ensures in
     let none : main_of files c.args.main.now ≡ None = sym same ∙ sym c.main_of.ensures ∙ c.in_default.is in
     no_main files listing c.args.main.now side few _ sound made none
@@ -57,7 +59,7 @@ returns-clause-exact c =
     let sound : classes_linked side (heads_of files) listing.classes files ≡ Ok tt =
     ap (λ hs. classes_linked side hs listing.classes files) (sym heads_are) ∙ ap (λ ls. classes_linked side heads ls files) (sym c.as_slice-2.ensures)
     ∙ ap (λ fs. classes_linked side heads c.as_slice-2.result.now fs) (sym c.as_slice-3.ensures) ∙ c.in_ok-classes_linked.ensures in
-    let made : members_of files listing ≡ Ok (c.in_ok-methods.methods, c.in_ok-methods.literals) = ap (λ fs. members_of fs listing) (sym c.as_slice-4.ensures) ∙ c.in_ok-methods.ensures in
+    let made : members_of files listing ≡ Ok (c.in_ok-methods.methods, c.in_ok-methods.literals) = ap (λ fs. members_of fs listing) (sym c.as_slice-4.ensures) ∙ c.in_ok-methods.ensures.answers in
     let same : main_of c.as_slice-6.result.now c.as_slice-7.result.now ≡ main_of files c.args.main.now = ap (λ fs. main_of fs c.as_slice-7.result.now) c.as_slice-6.ensures ∙ ap (main_of files) c.as_slice-7.ensures in
     let some : main_of files c.args.main.now ≡ Some (c.in-Some.main_class, c.in-Some.main_method) = sym same ∙ sym c.main_of.ensures ∙ c.in-Some.is in
     let program : List LinkedClass → Linked Program =
@@ -68,5 +70,18 @@ pub returns-clause-back : goal.returns-clause-back
 returns-clause-back c =
     let files = c.args.files in
     let listing = c.args.listing in
-    let made : members_of files listing ≡ Ok (c.in_ok-methods.methods, c.in_ok-methods.literals) = ap (λ fs. members_of fs listing) (sym c.as_slice-4.ensures) ∙ c.in_ok-methods.ensures in
+    let made : members_of files listing ≡ Ok (c.in_ok-methods.methods, c.in_ok-methods.literals) = ap (λ fs. members_of fs listing) (sym c.as_slice-4.ensures) ∙ c.in_ok-methods.ensures.answers in
     ap (map (λ (x : LinkedClass). x.file)) c.in_ok-classes.ensures ∙ files_back files listing _ made
+
+pub returns-clause-sound : goal.returns-clause-sound
+returns-clause-sound c =
+    let files = c.args.files in
+    let listing = c.args.listing in
+    let small : length files ≤ 1000 = omega (arith, c.len-count.ensures, c.if-count-gt-MAX_FILES.false) in
+    let made : members_of files listing ≡ Ok (c.in_ok-methods.methods, c.in_ok-methods.literals) = ap (λ fs. members_of fs listing) (sym c.as_slice-4.ensures) ∙ c.in_ok-methods.ensures.answers in
+    let same : main_of c.as_slice-6.result.now c.as_slice-7.result.now ≡ main_of files c.args.main.now = ap (λ fs. main_of fs c.as_slice-7.result.now) c.as_slice-6.ensures ∙ ap (main_of files) c.as_slice-7.ensures in
+    let some : main_of files c.args.main.now ≡ Some (c.in-Some.main_class, c.in-Some.main_method) = sym same ∙ sym c.main_of.ensures ∙ c.in-Some.is in
+    let program : List LinkedClass → Program =
+    λ cs. record { classes = cs; listing = listing; literals = c.in_ok-methods.literals; main_class = c.in-Some.main_class; main_method = c.in-Some.main_method } in
+    let sound = is_sound files listing c.args.main.now c.in_ok-methods.methods c.in_ok-methods.literals _ _ small c.requires.listed c.requires.fits made c.in_ok-methods.ensures.sound some in
+    subst (λ cs. IsSound (program cs)) (sym c.in_ok-classes.ensures) sound

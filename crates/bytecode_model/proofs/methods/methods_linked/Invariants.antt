@@ -3,6 +3,7 @@ use Rattle.std.specs.List.{AllByRecursion}
 use Rattle.class_codec.specs.Fits.{FitsMember}
 use Rattle.bytecode_model.specs.Fault.{linked_from}
 use Rattle.bytecode_model.specs.Linking.{method_linked}
+use Rattle.bytecode_model.specs.Sound.{IsSoundMethod}
 use Rattle.bytecode_model.proofs.Loop.{with_front}
 use Rattle.bytecode_model.proofs.methods.methods_linked.Given as goal
 
@@ -11,6 +12,7 @@ invariant-loop-left l = record {
   so_far : with_front l.methods (linked_from (method_linked l.index.files l.index.listing l.file) l.number l.left) ≡ linked_from (method_linked l.index.files l.index.listing l.file) 0 l.file.methods;
   count : l.number + length l.left ≡ length l.file.methods;
   fits : AllByRecursion (FitsMember l.file.pool true) l.left;
+  sound : AllByRecursion IsSoundMethod l.methods;
 }
 
 abbrev pub decreases-loop-left : goal.decreases-loop-left
