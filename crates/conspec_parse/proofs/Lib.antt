@@ -1,0 +1,2 @@
+mod Branches
+mod Repeating

@@ -1,0 +1,12 @@
+pub mod Clauses
+pub mod Fault
+pub mod Forms
+pub mod Guards
+pub mod Head
+pub mod Methods
+pub mod Policy
+pub mod Scope
+pub mod Tokens
+pub mod Types
+pub mod Updates
+pub mod Words
