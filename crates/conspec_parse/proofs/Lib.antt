@@ -1,2 +1,6 @@
 mod Branches
+mod Made
 mod Repeating
+mod Sound
+mod SoundClauses
+mod SoundUpdates

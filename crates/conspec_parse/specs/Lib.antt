@@ -7,6 +7,7 @@ pub mod Methods
 pub mod Policy
 pub mod Scope
 pub mod Tokens
+pub mod Tree
 pub mod Types
 pub mod Updates
 pub mod Words

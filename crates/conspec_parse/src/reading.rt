@@ -1,8 +1,9 @@
 //! A policy out of its text.
 
-ghost use Rattle.std.specs.Prelude.{◌≡◌, ◌<◌, ◌^◌, length};
+ghost use Rattle.std.specs.Prelude.{◌≡◌, ◌<◌, ◌^◌, length, IfOk};
 ghost use Rattle.conspec_parse.specs.Fault.{Reads};
 ghost use Rattle.conspec_parse.specs.Policy.{policy_at, reading};
+ghost use Rattle.conspec_parse.specs.Tree.{IsPolicyTree};
 
 use crate::clause::clauses_at;
 use crate::fault::PolicyFault;
@@ -20,6 +21,8 @@ pub fn parse(alloc: Global, text: &[u8], listing: &Listing) -> Result<PolicyTree
     requires { length listing.now.methods < 2 ^ 32 }
     // What is read decides the answer, and of several faults which one.
     ensures exact { Reads result (reading text.now listing.now) }
+    // It keeps the limits and ranges, and what its parts name is there.
+    ensures sound { IfOk result (λ t. IsPolicyTree listing.now t) }
 {
     let tokens = tokens_of(alloc, text)?;
     policy_at(alloc, listing.methods.as_slice(), tokens.as_slice())
