@@ -1,4 +1,9 @@
 mod Branches
+mod Found
+mod FoundGuards
+mod FoundMethods
+mod FoundPolicy
+mod Loose
 mod Made
 mod Repeating
 mod Sound

@@ -22,6 +22,7 @@ use Rattle.conspec_parse.specs.declared.signature.Param.{Param}
 use Rattle.conspec_parse.specs.declared.fault.PolicyFault.TheVariants.{Syntax, Name, Kind as WrongKind, Range, Twice, Limit}
 use Rattle.conspec_parse.specs.Forms.{front_at, is_next, is_name, behind, name_at, number_at, taken, is_short}
 use Rattle.conspec_parse.specs.Head.{header_at, truth_at, count_at, first_at, begins_variable, variable_from, is_variable, variable_at, variables_at}
+use Rattle.conspec_parse.specs.Methods.{is_named}
 use Rattle.conspec_parse.specs.Scope.{Scope, as_variable, argument_from, result_named, base_named}
 use Rattle.conspec_parse.specs.Guards.{is_truth, is_object, is_equality, next_rel, truth_value, negative_at, positive_at, constant_at, atom_at, next_atom, no_atoms, atoms_at, conj_at, next_conj, conjs_at}
 use Rattle.conspec_parse.specs.Updates.{target, is_updated, range_atoms, all_range_atoms, set_at, signed, sum_at, right_at, update_at, block_at}
@@ -168,7 +169,7 @@ base_of_variable vars args found lt = by found.1 where
 
 argument_there : (vars i : ℕ) (args : List Param) (name : List ℕ) (found : Base × Kind) → argument_from i args name ≡ Some found → IsBase vars (i + length args) found.0
 argument_there vars i [] name found e = absurd cc
-argument_there vars i (p ∷ args) name found e = by (bytes_eq p.name name) e (argument_there vars (i + 1) args name found) where
+argument_there vars i (p ∷ args) name found e = by (is_named p.name name) e (argument_there vars (i + 1) args name found) where
   by : (same : Bool) → cond same (Some (bases.Arg i, p.kind)) (argument_from (i + 1) args name) ≡ Some found
       → (argument_from (i + 1) args name ≡ Some found → IsBase vars (i + 1 + length args) found.0) → IsBase vars (i + length (p ∷ args)) found.0
   by true is others =
@@ -200,7 +201,7 @@ base_sound scope name found e = by (variable_from 0 scope.vars name) refl (argum
       let all : 0 + length scope.args ≡ length scope.args = omega arith in
       let there = argument_there (length scope.vars) 0 scope.args name a other in
       subst (IsFound scope) (some_is a found is) (subst (λ (n : ℕ). IsBase (length scope.vars) n a.0) all there)
-  by None read None other is = result (bytes_eq scope.returned name) is
+  by None read None other is = result (is_named scope.returned name) is
 
 -- ---- atoms and branches
 

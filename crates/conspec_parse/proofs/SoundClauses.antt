@@ -47,13 +47,13 @@ longest_grows most (c ∷ conjs) =
     let more = longest_grows (greater most (length c)) conjs in
     grind (arith, nat_tests)
 
-longest_low : (scope : Scope) (most : ℕ) (conjs : List (List Atom)) → AllByRecursion (IsConj scope) conjs → most ≤ 16 → longest_from most conjs ≤ 16
+pub longest_low : (scope : Scope) (most : ℕ) (conjs : List (List Atom)) → AllByRecursion (IsConj scope) conjs → most ≤ 16 → longest_from most conjs ≤ 16
 longest_low scope most [] are low = low
 longest_low scope most (c ∷ conjs) are low =
     let few = are.0.few in
     longest_low scope (greater most (length c)) conjs are.1 (grind (arith, nat_tests))
 
-all_short : (most more : ℕ) (conjs : List (List Atom)) → longest_from most conjs + more ≤ 16 → AllByRecursion (λ (conj : List Atom). length conj + more ≤ 16) conjs
+pub all_short : (most more : ℕ) (conjs : List (List Atom)) → longest_from most conjs + more ≤ 16 → AllByRecursion (λ (conj : List Atom). length conj + more ≤ 16) conjs
 all_short most more [] low = tt
 all_short most more (c ∷ conjs) low =
     let grown = longest_grows (greater most (length c)) conjs in
@@ -105,7 +105,7 @@ last_guard_sound scope maxint guards tokens are =
       guards = all_more (IsGuardIn scope.vars maxint (length scope.args)) guards g are.guards (guard_is scope maxint (branches guards) 0 g (record { few = omega arith; atoms = tt }, tt) us (us.short, tt));
     })
 
-body_sound : (scope : Scope) (maxint : ℤ) (tokens : List Token) → Makes (body_at scope maxint tokens) (λ r. AreGuards scope maxint r.0)
+pub body_sound : (scope : Scope) (maxint : ℤ) (tokens : List Token) → Makes (body_at scope maxint tokens) (λ r. AreGuards scope maxint r.0)
 unfolding body_at
 body_sound scope maxint tokens =
     then _ (each_makes begins_guard (guard_at scope maxint) (λ guards left. AreGuards scope maxint guards) (λ guards left goes are. guard_sound scope maxint guards left are)
@@ -126,7 +126,7 @@ pub record IsMethodOf (methods : List ListedMethod) (clauses : List TreeClause) 
   pub few : length params ≤ 255
   pub once : has_clause clauses phase method ≡ false
 
-index_sound : (methods : List ListedMethod) (clauses : List TreeClause) (phase : Phase) (at : ℕ) (signature : Signature) (desc : List ℕ)
+pub index_sound : (methods : List ListedMethod) (clauses : List TreeClause) (phase : Phase) (at : ℕ) (signature : Signature) (desc : List ℕ)
     → Makes (index_at methods clauses phase at signature desc) (λ method. IsMethodOf methods clauses phase method signature.params)
 unfolding index_at
 index_sound methods clauses phase at signature desc =
@@ -172,7 +172,7 @@ unclaimed (c ∷ clauses) new fails (suc k) d lt =
     unclaimed clauses new (neither (c.method == new.method && phase_number c.phase == phase_number new.phase) (has_clause clauses new.phase new.method) fails).1 k d (omega arith)
 
 clause_is : (methods : List ListedMethod) (vars : List Var) (maxint : ℤ) (clauses : List TreeClause) (phase : Phase) (method : ℕ) (params : List Param)
-    (result : List ℕ) (kind : Option Kind) (guards : List Guard) → nat_lt (length clauses) 64 ≡ true → IsMethodOf methods clauses phase method params
+    (result : Option (List ℕ)) (kind : Option Kind) (guards : List Guard) → nat_lt (length clauses) 64 ≡ true → IsMethodOf methods clauses phase method params
     → AreGuards (scope_of vars phase params result kind) maxint guards → AreClauses methods vars maxint clauses
     → AreClauses methods vars maxint (clauses ++ clause_of method phase params kind guards ∷ [])
 clause_is methods vars maxint clauses phase method params result kind guards few is gs are =
@@ -202,7 +202,7 @@ clause_sound methods vars maxint clauses tokens are =
     then _ (body_sound (scope_of vars phase method.0.1 result.0 type.0.kind) maxint performs) λ guards gs.
     done (clauses ++ clause_of method.0.0 phase method.0.1 type.0.kind guards.0 ∷ [], guards.1) (clause_is methods vars maxint clauses phase method.0.0 method.0.1 result.0 type.0.kind guards.0 few is gs are)
 
-policy_at_sound : (listing : Listing) (tokens : List Token) → Makes (policy_at listing.methods tokens) (IsPolicyTree listing)
+pub policy_at_sound : (listing : Listing) (tokens : List Token) → Makes (policy_at listing.methods tokens) (IsPolicyTree listing)
 unfolding policy_at
 policy_at_sound listing tokens =
     then _ (header_sound tokens) λ maxint ranged.

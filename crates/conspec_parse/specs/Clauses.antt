@@ -95,17 +95,20 @@ given_result_at vars kind tokens = do
   equals ← behind (codes "=") name.1
   Ok (name.0, equals)
 
--- the result's name, or no bytes where it has none
-abbrev pub result_name_at : List Var → Phase → Option Kind → List Token → Read (List ℕ)
+abbrev pub some_result_at : List Var → Option Kind → List Token → Read (Option (List ℕ))
+some_result_at vars kind tokens = given_result_at vars kind tokens >>= λ name. Ok (Some name.0, name.1)
+
+-- the result's name, where it has one
+abbrev pub result_name_at : List Var → Phase → Option Kind → List Token → Read (Option (List ℕ))
 result_name_at vars phase kind tokens =
-    if is_after phase && is_assigned tokens then given_result_at vars kind tokens else Ok ([], tokens)
+    if is_after phase && is_assigned tokens then some_result_at vars kind tokens else Ok (None, tokens)
 
 -- At a call the arguments may be asked, and at a return the result.
 abbrev pub asked_params : Phase → List Param → List Param
 asked_params Before params = params
 asked_params other params = []
 
-abbrev pub scope_of : List Var → Phase → List Param → List ℕ → Option Kind → Scope
+abbrev pub scope_of : List Var → Phase → List Param → Option (List ℕ) → Option Kind → Scope
 scope_of vars phase params result kind = record { vars = vars; args = asked_params phase params; returned = result; kind = kind_or_object kind }
 
 abbrev pub clause_of : ℕ → Phase → List Param → Option Kind → List Guard → TreeClause

@@ -3,6 +3,7 @@ pub mod Fault
 pub mod Forms
 pub mod Guards
 pub mod Head
+pub mod Meaning
 pub mod Methods
 pub mod Policy
 pub mod Scope
@@ -11,3 +12,4 @@ pub mod Tree
 pub mod Types
 pub mod Updates
 pub mod Words
+pub mod Written

@@ -15,6 +15,7 @@ use Rattle.conspec_parse.specs.declared.types.TreeClause.{TreeClause}
 use Rattle.conspec_parse.specs.declared.type_name.TypeName.{TypeName}
 use Rattle.conspec_parse.specs.declared.signature.Param.{Param}
 use Rattle.conspec_parse.specs.declared.signature.Path.{Path}
+use Rattle.conspec_parse.specs.declared.signature.Parts.{Parts}
 use Rattle.conspec_parse.specs.declared.signature.Signature.{Signature}
 use Rattle.conspec_parse.specs.declared.fault.PolicyFault.TheVariants.{Syntax, NoMethod, Twice, Limit, Builtin}
 use Rattle.conspec_parse.specs.Fault.{Judged}
@@ -29,9 +30,13 @@ abbrev pub kind_or_object : Option Kind → Kind
 kind_or_object None = Object
 kind_or_object (Some kind) = kind
 
+abbrev pub is_named : Option (List ℕ) → List ℕ → Bool
+is_named None name = false
+is_named (Some word) name = bytes_eq word name
+
 abbrev pub is_parameter : List Param → List ℕ → Bool
 is_parameter [] name = false
-is_parameter (p ∷ params) name = bytes_eq p.name name || is_parameter params name
+is_parameter (p ∷ params) name = is_named p.name name || is_parameter params name
 
 -- whether the name may be that of a further parameter
 abbrev pub is_free : List Var → List Param → List ℕ → Bool
@@ -44,10 +49,13 @@ given_name_at judged vars params tokens = do
   short ← need (not judged || is_short name.0) (Limit (front_at tokens))
   Ok name
 
--- a parameter's name, or no bytes where it has none
-abbrev pub parameter_name_at : Bool → List Var → List Param → List Token → Read (List ℕ)
+abbrev pub given_parameter_at : Bool → List Var → List Param → List Token → Read (Option (List ℕ))
+given_parameter_at judged vars params tokens = given_name_at judged vars params tokens >>= λ name. Ok (Some name.0, name.1)
+
+-- a parameter's name, where it has one
+abbrev pub parameter_name_at : Bool → List Var → List Param → List Token → Read (Option (List ℕ))
 parameter_name_at judged vars params tokens =
-    if is_name tokens then given_name_at judged vars params tokens else Ok ([], tokens)
+    if is_name tokens then given_parameter_at judged vars params tokens else Ok (None, tokens)
 
 -- a parameter more
 unfoldable pub parameter_at : Bool → List Var → List Param → List Token → Read (List Param)
@@ -79,24 +87,25 @@ abbrev pub part_at : Bool → List Token → Read (List ℕ)
 part_at judged tokens = if is_next init tokens then Ok (init, drop 1 tokens) else judged_name judged tokens
 
 -- the class with one part more
-abbrev pub class_under : Path → List ℕ
-class_under path = if length path.class == 0 then path.name else path.class ++ 47 ∷ path.name
+abbrev pub class_under : Option (List ℕ) → List ℕ → List ℕ
+class_under None name = name
+class_under (Some class) name = class ++ 47 ∷ name
 
 -- a dot and a further part. Nothing stands below a constructor.
-unfoldable pub next_step : Bool → Path → List Token → Read Path
-next_step judged path tokens = do
-  below ← need (not (bytes_eq path.name init)) (Syntax (front_at tokens))
+unfoldable pub next_step : Bool → Parts → List Token → Read Parts
+next_step judged parts tokens = do
+  below ← need (not parts.is_last) (Syntax (front_at tokens))
   dot ← behind (codes ".") tokens
   part ← part_at judged dot
-  Ok (record { class = class_under path; name = part.0 }, part.1)
+  Ok (record { class = Some (class_under parts.class parts.name); name = part.0; is_last = is_next init dot }, part.1)
 
 -- a class, a dot and a method's name
 unfoldable pub path_at : Bool → List Token → Read Path
 path_at judged tokens = do
   first ← judged_name judged tokens
-  path ← each (is_next (codes ".")) (next_step judged) (record { class = []; name = first.0 }) first.1
-  within ← need (not (length path.0.class == 0)) (Syntax (front_at path.1))
-  Ok path
+  parts ← each (is_next (codes ".")) (next_step judged) (record { class = None; name = first.0; is_last = false }) first.1
+  class ← ok_or parts.0.class (Syntax (front_at parts.1))
+  Ok (record { class = class; name = parts.0.name }, parts.1)
 
 unfoldable pub signature_at : Bool → List Var → List Token → Read Signature
 signature_at judged vars tokens = do

@@ -1,5 +1,5 @@
 -- What names mean in a clause.
-use Rattle.std.specs.Prelude.{ℕ, ◌+◌, ◌≤◌, Bool, true, false, List, [], ◌∷◌, length, bytes_eq, Option, Some, None, if◌then◌else◌}
+use Rattle.std.specs.Prelude.{ℕ, ◌+◌, ◌≤◌, Bool, true, false, List, [], ◌∷◌, length, Option, Some, None, if◌then◌else◌}
 use Rattle.std.specs.Option.{option_or, option_map}
 use Rattle.conspec_parse.specs.declared.types.Base.{Base}
 use Rattle.conspec_parse.specs.declared.types.Base.TheVariants as bases
@@ -8,12 +8,13 @@ use Rattle.conspec_parse.specs.declared.types.Kind.TheVariants as kinds
 use Rattle.conspec_parse.specs.declared.types.Var.{Var}
 use Rattle.conspec_parse.specs.declared.signature.Param.{Param}
 use Rattle.conspec_parse.specs.Head.{variable_from}
+use Rattle.conspec_parse.specs.Methods.{is_named}
 
--- the variables, the parameters that may be asked, and the result's name and kind: no bytes where it has no name
+-- the variables, the parameters that may be asked, and the result's name, where it has one, and its kind
 pub record Scope : Type 0 where
   pub vars : List Var
   pub args : List Param
-  pub returned : List ℕ
+  pub returned : Option (List ℕ)
   pub kind : Kind
 
 abbrev pub as_variable : ℕ × Bool → Base × Kind
@@ -22,10 +23,10 @@ as_variable (i, false) = (bases.Var i, kinds.Int)
 
 abbrev pub argument_from : ℕ → List Param → List ℕ → Option (Base × Kind)
 argument_from i [] name = None
-argument_from i (p ∷ params) name = if bytes_eq p.name name then Some (bases.Arg i, p.kind) else argument_from (i + 1) params name
+argument_from i (p ∷ params) name = if is_named p.name name then Some (bases.Arg i, p.kind) else argument_from (i + 1) params name
 
 abbrev pub result_named : Scope → List ℕ → Option (Base × Kind)
-result_named scope name = if bytes_eq scope.returned name then Some (bases.Result, scope.kind) else None
+result_named scope name = if is_named scope.returned name then Some (bases.Result, scope.kind) else None
 
 -- what the name means, and its kind
 abbrev pub base_named : Scope → List ℕ → Option (Base × Kind)

@@ -255,14 +255,14 @@ fn result_name_at<'a>(
     phase: Phase,
     kind: Option<Kind>,
     tokens: &'a [Token],
-) -> Result<(Bytes, &'a [Token]), PolicyFault>
+) -> Result<(Option<Bytes>, &'a [Token]), PolicyFault>
     ensures { ReadsAs (λ r. (r.0, r.1.now)) result (result_name_at vars.now phase kind tokens.now) }
 {
     if is_after(phase) && is_assigned(tokens) {
         let (name, rest) = given_result_at(vars, kind, tokens)?;
-        Ok((Bytes::from_slice(alloc, name)?, rest))
+        Ok((Some(Bytes::from_slice(alloc, name)?), rest))
     } else {
-        Ok((Bytes::new(alloc), tokens))
+        Ok((None, tokens))
     }
 }
 
@@ -323,7 +323,7 @@ fn clause_at<'a>(
     let names = Names {
         vars,
         args: asked_params(phase, params.as_slice()),
-        returned: name.as_slice(),
+        returned: &name,
         kind: kind_or_object(returned.kind),
     };
     let (guards, rest) = body_at(alloc, &names, maxint, body)?;

@@ -2,6 +2,7 @@
 
 ghost use Rattle.std.specs.Prelude.{◌≡◌, ◌<◌, ◌^◌, length, IfOk};
 ghost use Rattle.conspec_parse.specs.Fault.{Reads};
+ghost use Rattle.conspec_parse.specs.Meaning.{SpellsPolicy};
 ghost use Rattle.conspec_parse.specs.Policy.{policy_at, reading};
 ghost use Rattle.conspec_parse.specs.Tree.{IsPolicyTree};
 
@@ -21,6 +22,8 @@ pub fn parse(alloc: Global, text: &[u8], listing: &Listing) -> Result<PolicyTree
     requires { length listing.now.methods < 2 ^ 32 }
     // What is read decides the answer, and of several faults which one.
     ensures exact { Reads result (reading text.now listing.now) }
+    // What is read is spelled so.
+    ensures found { IfOk result (λ t. SpellsPolicy text.now listing.now t) }
     // It keeps the limits and ranges, and what its parts name is there.
     ensures sound { IfOk result (λ t. IsPolicyTree listing.now t) }
 {

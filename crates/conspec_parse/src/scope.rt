@@ -4,17 +4,18 @@ ghost use Rattle.std.specs.Prelude.{◌≡◌, ◌<◌, ◌^◌, length};
 ghost use Rattle.conspec_parse.specs.Scope.{HasFewNames, argument_from, base_named};
 
 use crate::head::variable_named;
-use crate::signature::Param;
+use crate::signature::{Param, is_named};
 use crate::types::{Base, Kind, Var};
+use mon_base::Bytes;
 use std::marker::Model;
 
-/// The names of a clause: the variables, the parameters that may be asked, and the result's name, of no bytes where
-/// it has none, with its kind.
+/// The names of a clause: the variables, the parameters that may be asked, and the result's name, where it has one,
+/// with its kind.
 #[derive(Debug, Drop)]
 pub struct Names<'a> {
     pub vars: &'a [Var],
     pub args: &'a [Param],
-    pub returned: &'a [u8],
+    pub returned: &'a Option<Bytes>,
     pub kind: Kind,
 }
 
@@ -39,7 +40,7 @@ impl<'a> Names<'a> {
         if let Some(found) = argument_named(self.args, name) {
             return Some(found);
         }
-        if self.returned == name {
+        if is_named(self.returned, name) {
             Some((Base::Result, self.kind))
         } else {
             None
@@ -54,7 +55,7 @@ fn argument_named(args: &[Param], name: &[u8]) -> Option<(Base, Kind)>
     let mut index: u32 = 0;
     let mut left = args;
     while let [first, others @ ..] = left {
-        if first.name.as_slice() == name {
+        if is_named(&first.name, name) {
             return Some((Base::Arg(index), first.kind));
         }
         index += 1;

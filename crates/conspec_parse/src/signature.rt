@@ -5,6 +5,7 @@ ghost use Rattle.conspec_parse.specs.Fault.{ReadsAs};
 ghost use Rattle.conspec_parse.specs.Forms.{is_next, each};
 ghost use Rattle.conspec_parse.specs.Methods.{
   kind_or_object,
+  is_named,
   is_parameter,
   is_free,
   given_name_at,
@@ -29,10 +30,10 @@ use crate::types::{Kind, Var};
 use mon_base::{Bytes, List, NoMemory};
 use std::alloc::Global;
 
-/// A parameter: its name, of no bytes where it has none, its descriptor and its kind.
+/// A parameter: its name, where it has one, its descriptor and its kind.
 #[derive(Debug, Drop)]
 pub struct Param {
-    pub name: Bytes,
+    pub name: Option<Bytes>,
     pub desc: Bytes,
     pub kind: Kind,
 }
@@ -42,6 +43,15 @@ pub struct Param {
 pub struct Path {
     pub class: Bytes,
     pub name: Bytes,
+}
+
+/// The parts of a path so far: the last, whether this is `<init>`, below which nothing stands, and those before it,
+/// with `/` between, where there are any.
+#[derive(Debug, Drop)]
+pub struct Parts {
+    pub class: Option<Bytes>,
+    pub name: Bytes,
+    pub is_last: bool,
 }
 
 /// A method as a clause names it.
@@ -61,12 +71,22 @@ pub fn kind_or_object(kind: Option<Kind>) -> Kind
     }
 }
 
+/// Whether the name is this one.
+pub fn is_named(given: &Option<Bytes>, name: &[u8]) -> bool
+    ensures { result ≡ is_named given.now name.now }
+{
+    match given {
+        Some(word) => word.as_slice() == name,
+        None => false,
+    }
+}
+
 fn is_parameter(params: &[Param], name: &[u8]) -> bool
     ensures { result ≡ is_parameter params.now name.now }
 {
     let mut left = params;
     while let [first, others @ ..] = left {
-        if first.name.as_slice() == name {
+        if is_named(&first.name, name) {
             return true;
         }
         left = others;
@@ -109,14 +129,14 @@ fn parameter_name_at<'a>(
     vars: &[Var],
     params: &[Param],
     tokens: &'a [Token],
-) -> Result<(Bytes, &'a [Token]), PolicyFault>
+) -> Result<(Option<Bytes>, &'a [Token]), PolicyFault>
     ensures { ReadsAs (λ r. (r.0, r.1.now)) result (parameter_name_at judged vars.now params.now tokens.now) }
 {
     if is_name(tokens) {
         let (name, rest) = given_name_at(judged, vars, params, tokens)?;
-        Ok((Bytes::from_slice(alloc, name)?, rest))
+        Ok((Some(Bytes::from_slice(alloc, name)?), rest))
     } else {
-        Ok((Bytes::new(alloc), tokens))
+        Ok((None, tokens))
     }
 }
 
@@ -220,58 +240,69 @@ fn part_at(alloc: Global, judged: bool, tokens: &[Token]) -> Result<(Bytes, &[To
     }
 }
 
-fn class_under(path: Path) -> Result<Bytes, NoMemory>
-    ensures { IfOk result (λ class. class ≡ class_under path) }
+fn class_under(parts: Parts) -> Result<Bytes, NoMemory>
+    ensures { IfOk result (λ class. class ≡ class_under parts.class parts.name) }
 {
-    let Path { class, name } = path;
-    if class.is_empty() {
-        return Ok(name);
+    let Parts { class, name, .. } = parts;
+    match class {
+        None => Ok(name),
+        Some(class) => {
+            let mut class = class;
+            class.push(b'/')?;
+            class.extend(name.as_slice())?;
+            Ok(class)
+        }
     }
-    let mut class = class;
-    class.push(b'/')?;
-    class.extend(name.as_slice())?;
-    Ok(class)
 }
 
-/// The path so far, and below it the part behind the dot. Nothing stands below a constructor.
+/// The parts so far, and below them the one behind the dot. Nothing stands below a constructor.
 #[tactic(auto, unfolding(crate::specs::Methods::next_step))]
 fn next_step<'a>(
     alloc: Global,
     judged: bool,
-    path: Path,
+    parts: Parts,
     tokens: &'a [Token],
-) -> Result<(Path, &'a [Token]), PolicyFault>
-    ensures { ReadsAs (λ r. (r.0, r.1.now)) result (next_step judged path tokens.now) }
+) -> Result<(Parts, &'a [Token]), PolicyFault>
+    ensures { ReadsAs (λ r. (r.0, r.1.now)) result (next_step judged parts tokens.now) }
 {
-    if path.name.as_slice() == b"<init>".as_slice() {
+    if parts.is_last {
         return Err(PolicyFault::Syntax {
             at: front_at(tokens),
         });
     }
-    let (name, rest) = part_at(alloc, judged, behind(".", tokens)?)?;
-    let class = class_under(path)?;
-    Ok((Path { class, name }, rest))
+    let part = behind(".", tokens)?;
+    let is_last = is_next("<init>", part);
+    let (name, rest) = part_at(alloc, judged, part)?;
+    let class = class_under(parts)?;
+    Ok((
+        Parts {
+            class: Some(class),
+            name,
+            is_last,
+        },
+        rest,
+    ))
 }
 
 fn path_from<'a>(
     alloc: Global,
     judged: bool,
-    first: Path,
+    first: Parts,
     tokens: &'a [Token],
-) -> Result<(Path, &'a [Token]), PolicyFault>
+) -> Result<(Parts, &'a [Token]), PolicyFault>
     ensures { ReadsAs (λ r. (r.0, r.1.now)) result (each (is_next (codes ".")) (next_step judged) first tokens.now) }
 {
-    let mut path = first;
+    let mut parts = first;
     let mut left = tokens;
     for _ in 0..tokens.len() {
         if !is_next(".", left) {
-            return Ok((path, left));
+            return Ok((parts, left));
         }
-        let (longer, rest) = next_step(alloc, judged, path, left)?;
-        path = longer;
+        let (longer, rest) = next_step(alloc, judged, parts, left)?;
+        parts = longer;
         left = rest;
     }
-    Ok((path, left))
+    Ok((parts, left))
 }
 
 #[tactic(auto, unfolding(crate::specs::Methods::path_at))]
@@ -279,15 +310,16 @@ fn path_at(alloc: Global, judged: bool, tokens: &[Token]) -> Result<(Path, &[Tok
     ensures { ReadsAs (λ r. (r.0, r.1.now)) result (path_at judged tokens.now) }
 {
     let (name, left) = judged_name(judged, tokens)?;
-    let first = Path {
-        class: Bytes::new(alloc),
+    let first = Parts {
+        class: None,
         name: Bytes::from_slice(alloc, name)?,
+        is_last: false,
     };
-    let (path, rest) = path_from(alloc, judged, first, left)?;
-    if path.class.is_empty() {
-        return Err(PolicyFault::Syntax { at: front_at(rest) });
+    let (Parts { class, name, .. }, rest) = path_from(alloc, judged, first, left)?;
+    match class {
+        Some(class) => Ok((Path { class, name }, rest)),
+        None => Err(PolicyFault::Syntax { at: front_at(rest) }),
     }
-    Ok((path, rest))
 }
 
 /// The method that has to stand first, with its parameters, and the tokens behind them. Where names are judged they

@@ -5,4 +5,4 @@ use Rattle.conspec_parse.specs.Methods.{next_step}
 use Rattle.conspec_parse.proofs.signature.path_from.Given as goal
 
 abbrev pub invariant-loop : goal.invariant-loop
-invariant-loop l = repeated (is_next (codes ".")) (next_step l.judged) (length l.tokens - l.counter) l.path l.left ≡ each (is_next (codes ".")) (next_step l.judged) l.fn.first l.tokens
+invariant-loop l = repeated (is_next (codes ".")) (next_step l.judged) (length l.tokens - l.counter) l.parts l.left ≡ each (is_next (codes ".")) (next_step l.judged) l.fn.first l.tokens
