@@ -1,0 +1,11 @@
+mod Branches
+mod Found
+mod FoundGuards
+mod FoundMethods
+mod FoundPolicy
+mod Loose
+mod Made
+mod Repeating
+mod Sound
+mod SoundClauses
+mod SoundUpdates

@@ -1,0 +1,52 @@
+-- Parts that are read as long as more of them stand there, as loops do.
+use Rattle.std.proofs.Common.{◌≡◌, ℕ, suc, ◌+◌, ◌-◌, ◌<◌, ◌≤◌, Bool, true, false, List, length, Ok, Err, refl, sym, ap, ◌∙◌, arith}
+use Rattle.mon_base.specs.Reading.{◌>>=◌}
+use Rattle.conspec_parse.specs.declared.token.Token.{Token}
+use Rattle.conspec_parse.specs.declared.fault.PolicyFault.{PolicyFault}
+use Rattle.conspec_parse.specs.declared.fault.PolicyFault.TheVariants as faults
+use Rattle.conspec_parse.specs.Fault.{Fails}
+use Rattle.conspec_parse.specs.Forms.{Read, repeated}
+
+pub again : {S : Type 0} (more : List Token → Bool) (part : S → List Token → Read S) (n i : ℕ) (done next : S) (left rest : List Token) (total : Read S)
+    → i < n → more left ≡ true → part done left ≡ Ok (next, rest) → repeated more part (n - i) done left ≡ total → repeated more part (n - (i + 1)) next rest ≡ total
+unfolding repeated
+again more part n i done next left rest total lt goes read so_far =
+    let k : n - i ≡ suc (n - (i + 1)) = omega arith in
+    let step : repeated more part (n - i) done left ≡ repeated more part (n - (i + 1)) next rest = rw (k, goes, read) refl in
+    sym step ∙ so_far
+
+pub stops : {S : Type 0} (more : List Token → Bool) (part : S → List Token → Read S) (n i : ℕ) (done : S) (left : List Token) (total : Read S)
+    → i < n → more left ≡ false → repeated more part (n - i) done left ≡ total → total ≡ Ok (done, left)
+unfolding repeated
+stops more part n i done left total lt ended so_far =
+    let k : n - i ≡ suc (n - (i + 1)) = omega arith in
+    let step : repeated more part (n - i) done left ≡ Ok (done, left) = rw (k, ended) refl in
+    sym so_far ∙ step
+
+pub all_read : {S : Type 0} (more : List Token → Bool) (part : S → List Token → Read S) (n i : ℕ) (done : S) (left : List Token) (total : Read S)
+    → n ≤ i → repeated more part (n - i) done left ≡ total → total ≡ Ok (done, left)
+unfolding repeated
+all_read more part n i done left total le so_far =
+    let k : n - i ≡ 0 = omega arith in
+    let step : repeated more part (n - i) done left ≡ Ok (done, left) = rw k refl in
+    sym so_far ∙ step
+
+failing : {S : Type 0} (more : List Token → Bool) (part : S → List Token → Read S) (n i : ℕ) (done : S) (left : List Token) (total : Read S) (e : PolicyFault)
+    → i < n → more left ≡ true → part done left ≡ Err e → repeated more part (n - i) done left ≡ total → total ≡ Err e
+unfolding repeated
+failing more part n i done left total e lt goes failed so_far =
+    let k : n - i ≡ suc (n - (i + 1)) = omega arith in
+    let step : repeated more part (n - i) done left ≡ Err e = rw (k, goes, failed) refl in
+    sym so_far ∙ step
+
+pub fails : {S : Type 0} (more : List Token → Bool) (part : S → List Token → Read S) (n i : ℕ) (done : S) (left : List Token) (total : Read S) (e : PolicyFault)
+    → i < n → more left ≡ true → Fails e (part done left) → repeated more part (n - i) done left ≡ total → Fails e total
+fails more part n i done left total faults.Memory lt goes failed so_far = tt
+fails more part n i done left total (faults.Syntax at) lt goes failed so_far = failing more part n i done left total _ lt goes failed so_far
+fails more part n i done left total (faults.Name at) lt goes failed so_far = failing more part n i done left total _ lt goes failed so_far
+fails more part n i done left total (faults.Kind at) lt goes failed so_far = failing more part n i done left total _ lt goes failed so_far
+fails more part n i done left total (faults.Range at) lt goes failed so_far = failing more part n i done left total _ lt goes failed so_far
+fails more part n i done left total (faults.NoMethod at) lt goes failed so_far = failing more part n i done left total _ lt goes failed so_far
+fails more part n i done left total (faults.Twice at) lt goes failed so_far = failing more part n i done left total _ lt goes failed so_far
+fails more part n i done left total (faults.Limit at) lt goes failed so_far = failing more part n i done left total _ lt goes failed so_far
+fails more part n i done left total (faults.Builtin at) lt goes failed so_far = failing more part n i done left total _ lt goes failed so_far

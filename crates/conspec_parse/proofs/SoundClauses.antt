@@ -1,0 +1,226 @@
+-- Every policy that is read keeps the limits and ranges, and what its parts name is there: clauses and the whole.
+use Rattle.std.proofs.Common.{◌≡◌, ◌≢◌, ℕ, zero, suc, ◌+◌, ◌<◌, ◌≤◌, ℤ, pos, Bool, true, false, cond, List, [], ◌∷◌, ◌++◌, length, map, drop, get_or, Option, Some, None, Result, Ok, Err, refl, sym, ap, subst, ◌∙◌, arith, length-append}
+use Rattle.std.specs.Prelude.{ok_or, not, codes, nat_lt, nat_le, AllPairs, ◌||◌, ◌&&◌, ◌==◌}
+use Rattle.std.specs.List.{AllByRecursion, position_from}
+use Rattle.std.proofs.lemmas.Bool.{ltb-true, leb-true, eq-eqb}
+use Rattle.std.proofs.lemmas.Bool.Decides.{nat_tests}
+use Rattle.std.proofs.lemmas.List.{length-map}
+use Rattle.std.proofs.lemmas.List.Quantifiers.{all_pairs_push}
+use Rattle.mon_base.specs.Reading.{◌>>=◌, need}
+use Rattle.api_listing.specs.declared.types.ListedMethod.{ListedMethod}
+use Rattle.api_listing.specs.declared.types.Listing.{Listing}
+use Rattle.conspec_parse.specs.declared.token.Token.{Token}
+use Rattle.conspec_parse.specs.declared.types.Atom.{Atom}
+use Rattle.conspec_parse.specs.declared.types.Guard.{Guard}
+use Rattle.conspec_parse.specs.declared.types.Kind.{Kind}
+use Rattle.conspec_parse.specs.declared.types.Phase.{Phase}
+use Rattle.conspec_parse.specs.declared.types.Phase.TheVariants.{Before, After, Exceptional}
+use Rattle.conspec_parse.specs.declared.types.TreeClause.{TreeClause}
+use Rattle.conspec_parse.specs.declared.types.Update.{Update}
+use Rattle.conspec_parse.specs.declared.types.Var.{Var}
+use Rattle.conspec_parse.specs.declared.types.PolicyTree.{PolicyTree}
+use Rattle.conspec_parse.specs.declared.signature.Param.{Param}
+use Rattle.conspec_parse.specs.declared.signature.Signature.{Signature}
+use Rattle.conspec_parse.specs.Fault.{Judged}
+use Rattle.conspec_parse.specs.declared.fault.PolicyFault.TheVariants.{Syntax, NoMethod, Twice, Limit, Builtin}
+use Rattle.conspec_parse.specs.Forms.{Read, front_at, is_next, is_end, behind}
+use Rattle.conspec_parse.specs.Types.{type_at}
+use Rattle.api_listing.specs.BuiltIn.{is_built_in, is_method}
+use Rattle.api_listing.specs.Nearest.{declared_in}
+use Rattle.conspec_parse.specs.Scope.{Scope}
+use Rattle.conspec_parse.specs.Updates.{all_range_atoms}
+use Rattle.conspec_parse.specs.Methods.{phase_number, has_clause, desc_of, index_at, method_of, method_at, signature_at}
+use Rattle.conspec_parse.specs.Clauses.{branches, greater, longest_from, longest, begins_guard, guard_at, last_guard, with_else, body_at, next_phase, begins_clause, result_name_at, asked_params, scope_of, clause_of, clause_at}
+use Rattle.conspec_parse.specs.Tokens.{tokens_of}
+use Rattle.conspec_parse.specs.Policy.{policy_at, reading}
+use Rattle.conspec_parse.specs.Tree.{asked, AreAtoms, IsGuardIn, IsClauseIn, Differ, IsPolicyTree}
+use Rattle.conspec_parse.proofs.Branches.{branches_more}
+use Rattle.conspec_parse.proofs.Made.{Makes, done, then, tested, either, failed, any, given, said, each_makes}
+use Rattle.conspec_parse.proofs.Sound.{all_more, no_pairs, neither, is_not, room_for_one, IsConj, AreConjs, conjs_sound, AreVars, variables_sound, header_sound}
+use Rattle.conspec_parse.proofs.SoundUpdates.{AreUpdates, block_sound}
+
+-- ---- the longest branch
+
+longest_grows : (most : ℕ) (conjs : List (List Atom)) → most ≤ longest_from most conjs
+longest_grows most [] = omega arith
+longest_grows most (c ∷ conjs) =
+    let more = longest_grows (greater most (length c)) conjs in
+    grind (arith, nat_tests)
+
+pub longest_low : (scope : Scope) (most : ℕ) (conjs : List (List Atom)) → AllByRecursion (IsConj scope) conjs → most ≤ 16 → longest_from most conjs ≤ 16
+longest_low scope most [] are low = low
+longest_low scope most (c ∷ conjs) are low =
+    let few = are.0.few in
+    longest_low scope (greater most (length c)) conjs are.1 (grind (arith, nat_tests))
+
+pub all_short : (most more : ℕ) (conjs : List (List Atom)) → longest_from most conjs + more ≤ 16 → AllByRecursion (λ (conj : List Atom). length conj + more ≤ 16) conjs
+all_short most more [] low = tt
+all_short most more (c ∷ conjs) low =
+    let grown = longest_grows (greater most (length c)) conjs in
+    (grind (arith, nat_tests), all_short (greater most (length c)) more conjs low)
+
+-- ---- guards
+
+pub record AreGuards (scope : Scope) (maxint : ℤ) (read : List Guard) : Type 0 where
+  pub few : branches read ≤ 64
+  pub guards : AllByRecursion (IsGuardIn scope.vars maxint (length scope.args)) read
+
+guard_is : (scope : Scope) (maxint : ℤ) (before atoms : ℕ) (g : Guard) → AllByRecursion (IsConj scope) g.conjs → AreUpdates scope.vars maxint atoms g.updates
+    → AllByRecursion (λ (conj : List Atom). length conj + all_range_atoms g.updates ≤ 16) g.conjs → IsGuardIn scope.vars maxint (length scope.args) g
+guard_is scope maxint before atoms g conjs updates short = record {
+  atoms = atoms_of g.conjs conjs;
+  updates = updates.updates;
+  once = updates.once;
+  short = short;
+} where
+  atoms_of : (cs : List (List Atom)) → AllByRecursion (IsConj scope) cs → AllByRecursion (AreAtoms (length scope.vars) (length scope.args)) cs
+  atoms_of [] are = tt
+  atoms_of (c ∷ cs) are = (are.0.atoms, atoms_of cs are.1)
+
+guard_sound : (scope : Scope) (maxint : ℤ) (guards : List Guard) (tokens : List Token) → AreGuards scope maxint guards
+    → Makes (guard_at scope maxint guards tokens) (λ r. AreGuards scope maxint r.0)
+unfolding guard_at
+guard_sound scope maxint guards tokens are =
+    then _ (conjs_sound scope (branches guards) tokens) λ conjs cs.
+    then _ (any (behind (codes "->") conjs.1)) λ arrow a.
+    then _ (block_sound scope.vars maxint (longest conjs.0) arrow (longest_low scope 0 conjs.0 cs.conjs (omega arith))) λ updates us.
+    let g : Guard = record { conjs = conjs.0; updates = updates.0 } in
+    let few = cs.few in
+    done (guards ++ (record { conjs = conjs.0; updates = updates.0 }) ∷ [], updates.1) (record {
+      few = omega (arith, branches_more guards g);
+      guards = all_more (IsGuardIn scope.vars maxint (length scope.args)) guards g are.guards (guard_is scope maxint (branches guards) (longest conjs.0) g cs.conjs us (all_short 0 (all_range_atoms updates.0) conjs.0 us.short));
+    })
+
+last_guard_sound : (scope : Scope) (maxint : ℤ) (guards : List Guard) (tokens : List Token) → AreGuards scope maxint guards
+    → Makes (last_guard scope maxint guards tokens) (λ r. AreGuards scope maxint r.0)
+unfolding last_guard
+last_guard_sound scope maxint guards tokens are =
+    tested (nat_lt (branches guards) 64) (Limit (front_at tokens)) _ λ few.
+    then _ (any (behind (codes "->") (drop 1 tokens))) λ arrow a.
+    then _ (block_sound scope.vars maxint 0 arrow (omega arith)) λ updates us.
+    let g : Guard = record { conjs = [] ∷ []; updates = updates.0 } in
+    let room : branches guards < 64 = ltb-true _ _ few in
+    done (guards ++ (record { conjs = [] ∷ []; updates = updates.0 }) ∷ [], updates.1) (record {
+      few = omega (arith, branches_more guards g);
+      guards = all_more (IsGuardIn scope.vars maxint (length scope.args)) guards g are.guards (guard_is scope maxint (branches guards) 0 g (record { few = omega arith; atoms = tt }, tt) us (us.short, tt));
+    })
+
+pub body_sound : (scope : Scope) (maxint : ℤ) (tokens : List Token) → Makes (body_at scope maxint tokens) (λ r. AreGuards scope maxint r.0)
+unfolding body_at
+body_sound scope maxint tokens =
+    then _ (each_makes begins_guard (guard_at scope maxint) (λ guards left. AreGuards scope maxint guards) (λ guards left goes are. guard_sound scope maxint guards left are)
+      [] tokens (record { few = omega arith; guards = tt })) λ guards are.
+    either (is_next (codes "ELSE") guards.1) _ _ (λ holds. last_guard_sound scope maxint guards.0 guards.1 are) (λ fails. done (guards.0, guards.1) are)
+
+-- ---- methods
+
+position_within : {X : Type 0} (test : X → Bool) (i : ℕ) (xs : List X) (r : ℕ) → position_from test i xs ≡ Some r → r < i + length xs
+position_within test i [] r e = absurd cc
+position_within test i (x ∷ xs) r e = by (test x) e (position_within test (i + 1) xs r) where
+  by : (b : Bool) → cond b (Some i) (position_from test (i + 1) xs) ≡ Some r → (position_from test (i + 1) xs ≡ Some r → r < i + 1 + length xs) → r < i + length (x ∷ xs)
+  by true is others = let same : i ≡ r = cc in omega arith
+  by false is others = let later = others is in omega arith
+
+pub record IsMethodOf (methods : List ListedMethod) (clauses : List TreeClause) (phase : Phase) (method : ℕ) (params : List Param) : Type 0 where
+  pub listed : method < length methods
+  pub few : length params ≤ 255
+  pub once : has_clause clauses phase method ≡ false
+
+pub index_sound : (methods : List ListedMethod) (clauses : List TreeClause) (phase : Phase) (at : ℕ) (signature : Signature) (desc : List ℕ)
+    → Makes (index_at methods clauses phase at signature desc) (λ method. IsMethodOf methods clauses phase method signature.params)
+unfolding index_at
+index_sound methods clauses phase at signature desc =
+    tested (not (is_built_in signature.path.class signature.path.name desc)) (Builtin at) _ λ client.
+    then _ (given (declared_in methods signature.path.name desc signature.path.class) (NoMethod at)) λ method found.
+    tested (nat_le (length signature.params) 255) (NoMethod at) _ λ narrow.
+    tested (not (has_clause clauses phase method)) (Twice at) _ λ once.
+    let within = position_within (λ (m : ListedMethod). is_method signature.path.class signature.path.name desc m.id) 0 methods method found in
+    done method (record { listed = omega arith; few = leb-true _ _ narrow; once = is_not _ once })
+
+method_sound : (methods : List ListedMethod) (vars : List Var) (clauses : List TreeClause) (phase : Phase) (result : List ℕ) (tokens : List Token)
+    → Makes (method_at methods vars clauses phase result tokens) (λ r. IsMethodOf methods clauses phase r.0.0 r.0.1)
+method_sound methods vars clauses phase result tokens = by (signature_at false vars tokens) where
+  by : (read : Read Signature) → Makes (method_of methods vars clauses phase result tokens read) (λ r. IsMethodOf methods clauses phase r.0.0 r.0.1)
+  by (Ok read) =
+      then _ (index_sound methods clauses phase (front_at tokens) read.0 (desc_of read.0.params result)) λ method is.
+      then _ (any (signature_at true vars tokens)) λ judged a.
+      done ((method, read.0.params), judged.1) is
+  by (Err fault) = then _ (any (signature_at true vars tokens)) λ read a. failed fault
+
+-- ---- clauses
+
+asked_count : (phase : Phase) (params : List Param) → length (asked_params phase params) ≡ asked phase (length (map (λ (p : Param). p.kind) params))
+asked_count Before params = sym (length-map params (λ (p : Param). p.kind))
+asked_count After params = refl
+asked_count Exceptional params = refl
+
+pub record AreClauses (methods : List ListedMethod) (vars : List Var) (maxint : ℤ) (read : List TreeClause) : Type 0 where
+  pub few : length read ≤ 64
+  pub clauses : AllByRecursion (IsClauseIn (length methods) vars maxint) read
+  pub once : AllPairs Differ read
+
+unclaimed : (clauses : List TreeClause) (new : TreeClause) → has_clause clauses new.phase new.method ≡ false
+    → (k : ℕ) (d : TreeClause) → k < length clauses → Differ (get_or clauses k d) new
+unclaimed [] new fails k d lt = absurd (omega arith)
+unclaimed (c ∷ clauses) new fails zero d lt = λ method phase.
+    let differs = (neither (c.method == new.method && phase_number c.phase == phase_number new.phase) (has_clause clauses new.phase new.method) fails).0 in
+    let m : (c.method == new.method) ≡ true = eq-eqb _ _ method in
+    let p : (phase_number c.phase == phase_number new.phase) ≡ true = eq-eqb _ _ (ap phase_number phase) in
+    let is : (c.method == new.method && phase_number c.phase == phase_number new.phase) ≡ true = rw (m, p) refl in
+    absurd cc
+unclaimed (c ∷ clauses) new fails (suc k) d lt =
+    unclaimed clauses new (neither (c.method == new.method && phase_number c.phase == phase_number new.phase) (has_clause clauses new.phase new.method) fails).1 k d (omega arith)
+
+clause_is : (methods : List ListedMethod) (vars : List Var) (maxint : ℤ) (clauses : List TreeClause) (phase : Phase) (method : ℕ) (params : List Param)
+    (result : Option (List ℕ)) (kind : Option Kind) (guards : List Guard) → nat_lt (length clauses) 64 ≡ true → IsMethodOf methods clauses phase method params
+    → AreGuards (scope_of vars phase params result kind) maxint guards → AreClauses methods vars maxint clauses
+    → AreClauses methods vars maxint (clauses ++ clause_of method phase params kind guards ∷ [])
+clause_is methods vars maxint clauses phase method params result kind guards few is gs are =
+    let new = clause_of method phase params kind guards in
+    let narrow = is.few in
+    record {
+      few = room_for_one clauses new 64 few;
+      clauses = all_more (IsClauseIn (length methods) vars maxint) clauses new are.clauses (record {
+        method = is.listed;
+        few_args = omega (arith, length-map params (λ (p : Param). p.kind));
+        few_branches = gs.few;
+        guards = subst (λ (n : ℕ). AllByRecursion (IsGuardIn vars maxint n) guards) (asked_count phase params) gs.guards;
+      });
+      once = all_pairs_push Differ clauses new are.once (unclaimed clauses new is.once);
+    }
+
+clause_sound : (methods : List ListedMethod) (vars : List Var) (maxint : ℤ) (clauses : List TreeClause) (tokens : List Token) → AreClauses methods vars maxint clauses
+    → Makes (clause_at methods vars maxint clauses tokens) (λ r. AreClauses methods vars maxint r.0)
+unfolding clause_at
+clause_sound methods vars maxint clauses tokens are =
+    tested (nat_lt (length clauses) 64) (Limit (front_at tokens)) _ λ few.
+    then _ (any (ok_or (next_phase tokens) (Syntax (front_at tokens)))) λ phase a.
+    then _ (any (type_at true (drop 1 tokens))) λ type b.
+    then _ (any (result_name_at vars phase type.0.kind type.1)) λ result c.
+    then _ (method_sound methods vars clauses phase type.0.desc result.1) λ method is.
+    then _ (any (behind (codes "PERFORM") method.1)) λ performs d.
+    then _ (body_sound (scope_of vars phase method.0.1 result.0 type.0.kind) maxint performs) λ guards gs.
+    done (clauses ++ clause_of method.0.0 phase method.0.1 type.0.kind guards.0 ∷ [], guards.1) (clause_is methods vars maxint clauses phase method.0.0 method.0.1 result.0 type.0.kind guards.0 few is gs are)
+
+pub policy_at_sound : (listing : Listing) (tokens : List Token) → Makes (policy_at listing.methods tokens) (IsPolicyTree listing)
+unfolding policy_at
+policy_at_sound listing tokens =
+    then _ (header_sound tokens) λ maxint ranged.
+    then _ (variables_sound maxint.0 maxint.1) λ vars vs.
+    then _ (each_makes begins_clause (clause_at listing.methods vars.0 maxint.0) (λ clauses left. AreClauses listing.methods vars.0 maxint.0 clauses)
+      (λ clauses left goes are. clause_sound listing.methods vars.0 maxint.0 clauses left are)
+      [] vars.1 (record { few = omega arith; clauses = tt; once = no_pairs Differ })) λ clauses cs.
+    tested (is_end clauses.1) (Syntax (front_at clauses.1)) _ λ ended.
+    done (record { maxint = maxint.0; vars = vars.0; clauses = clauses.0 }) (record {
+      maxint_low = ranged.0;
+      maxint_high = ranged.1;
+      few_vars = vs.few;
+      vars = vs.ranged;
+      var_names = vs.names;
+      few_clauses = cs.few;
+      clauses = cs.clauses;
+      once = cs.once;
+    })
+
+pub policy_sound : (text : List ℕ) (listing : Listing) → Makes (reading text listing) (IsPolicyTree listing)
+policy_sound text listing = policy_at_sound listing (tokens_of text)

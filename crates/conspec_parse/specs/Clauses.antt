@@ -1,0 +1,133 @@
+-- Clauses: the events of a method, and what is asked and done there.
+use Rattle.std.specs.Prelude.{◌||◌, ◌&&◌, not, ℕ, ◌+◌, ℤ, Bool, true, false, List, [], ◌∷◌, ◌++◌, length, map, drop, codes, nat_lt, Option, Some, None, ok_or, Ok, Err, if◌then◌else◌}
+use Rattle.mon_base.specs.Reading.{◌>>=◌, need}
+use Rattle.api_listing.specs.declared.types.ListedMethod.{ListedMethod}
+use Rattle.conspec_parse.specs.declared.token.Token.{Token}
+use Rattle.conspec_parse.specs.declared.types.Kind.{Kind}
+use Rattle.conspec_parse.specs.declared.types.Phase.{Phase}
+use Rattle.conspec_parse.specs.declared.types.Phase.TheVariants.{Before, After, Exceptional}
+use Rattle.conspec_parse.specs.declared.types.Atom.{Atom}
+use Rattle.conspec_parse.specs.declared.types.Var.{Var}
+use Rattle.conspec_parse.specs.declared.types.Guard.{Guard}
+use Rattle.conspec_parse.specs.declared.types.TreeClause.{TreeClause}
+use Rattle.conspec_parse.specs.declared.signature.Param.{Param}
+use Rattle.conspec_parse.specs.declared.fault.PolicyFault.TheVariants.{Syntax, Kind as WrongKind, Twice, Limit}
+use Rattle.conspec_parse.specs.Forms.{Read, front_at, is_next, is_name, is_some, behind, name_at, is_short, each}
+use Rattle.conspec_parse.specs.Head.{is_variable}
+use Rattle.conspec_parse.specs.Types.{type_at}
+use Rattle.conspec_parse.specs.Methods.{kind_or_object, method_at}
+use Rattle.conspec_parse.specs.Guards.{conjs_at}
+use Rattle.conspec_parse.specs.Scope.{Scope}
+use Rattle.conspec_parse.specs.Updates.{block_at}
+
+-- ---- bodies
+
+-- how many branches the guards have
+abbrev pub branches : List Guard → ℕ
+branches [] = 0
+branches (g ∷ guards) = length g.conjs + branches guards
+
+abbrev pub greater : ℕ → ℕ → ℕ
+greater m n = if nat_lt m n then n else m
+
+-- how many atoms the longest of the branches has
+abbrev pub longest_from : ℕ → List (List Atom) → ℕ
+longest_from most [] = most
+longest_from most (c ∷ conjs) = longest_from (greater most (length c)) conjs
+
+abbrev pub longest : List (List Atom) → ℕ
+longest conjs = longest_from 0 conjs
+
+abbrev pub begins_guard : List Token → Bool
+begins_guard tokens = is_next (codes "true") tokens || is_name tokens
+
+-- a guard more
+unfoldable pub guard_at : Scope → ℤ → List Guard → List Token → Read (List Guard)
+guard_at scope maxint guards tokens = do
+  conjs ← conjs_at scope (branches guards) tokens
+  arrow ← behind (codes "->") conjs.1
+  updates ← block_at scope.vars maxint (longest conjs.0) arrow
+  Ok (guards ++ (record { conjs = conjs.0; updates = updates.0 }) ∷ [], updates.1)
+
+-- the guard that always holds, as the last
+unfoldable pub last_guard : Scope → ℤ → List Guard → List Token → Read (List Guard)
+last_guard scope maxint guards tokens = do
+  few ← need (nat_lt (branches guards) 64) (Limit (front_at tokens))
+  arrow ← behind (codes "->") (drop 1 tokens)
+  updates ← block_at scope.vars maxint 0 arrow
+  Ok (guards ++ (record { conjs = [] ∷ []; updates = updates.0 }) ∷ [], updates.1)
+
+abbrev pub with_else : Scope → ℤ → List Guard → List Token → Read (List Guard)
+with_else scope maxint guards tokens = if is_next (codes "ELSE") tokens then last_guard scope maxint guards tokens else Ok (guards, tokens)
+
+unfoldable pub body_at : Scope → ℤ → List Token → Read (List Guard)
+body_at scope maxint tokens = do
+  guards ← each begins_guard (guard_at scope maxint) [] tokens
+  with_else scope maxint guards.0 guards.1
+
+-- ---- clauses
+
+abbrev pub next_phase : List Token → Option Phase
+next_phase tokens =
+    if is_next (codes "BEFORE") tokens then Some Before
+    else if is_next (codes "AFTER") tokens then Some After
+    else if is_next (codes "EXCEPTIONAL") tokens then Some Exceptional
+    else None
+
+abbrev pub begins_clause : List Token → Bool
+begins_clause tokens = is_some (next_phase tokens)
+
+abbrev pub is_after : Phase → Bool
+is_after After = true
+is_after other = false
+
+-- a name and `=`
+abbrev pub is_assigned : List Token → Bool
+is_assigned tokens = is_name tokens && is_next (codes "=") (drop 1 tokens)
+
+-- the name of a result of this kind
+unfoldable pub given_result_at : List Var → Option Kind → List Token → Read (List ℕ)
+given_result_at vars kind tokens = do
+  name ← name_at tokens
+  valued ← need (is_some kind) (WrongKind (front_at tokens))
+  once ← need (not (is_variable vars name.0)) (Twice (front_at tokens))
+  short ← need (is_short name.0) (Limit (front_at tokens))
+  equals ← behind (codes "=") name.1
+  Ok (name.0, equals)
+
+abbrev pub some_result_at : List Var → Option Kind → List Token → Read (Option (List ℕ))
+some_result_at vars kind tokens = given_result_at vars kind tokens >>= λ name. Ok (Some name.0, name.1)
+
+-- the result's name, where it has one
+abbrev pub result_name_at : List Var → Phase → Option Kind → List Token → Read (Option (List ℕ))
+result_name_at vars phase kind tokens =
+    if is_after phase && is_assigned tokens then some_result_at vars kind tokens else Ok (None, tokens)
+
+-- At a call the arguments may be asked, and at a return the result.
+abbrev pub asked_params : Phase → List Param → List Param
+asked_params Before params = params
+asked_params other params = []
+
+abbrev pub scope_of : List Var → Phase → List Param → Option (List ℕ) → Option Kind → Scope
+scope_of vars phase params result kind = record { vars = vars; args = asked_params phase params; returned = result; kind = kind_or_object kind }
+
+abbrev pub clause_of : ℕ → Phase → List Param → Option Kind → List Guard → TreeClause
+clause_of method phase params kind guards = record {
+  method = method;
+  phase = phase;
+  args = map (λ p. p.kind) params;
+  result = kind;
+  guards = guards;
+}
+
+-- another of at most 64 clauses
+unfoldable pub clause_at : List ListedMethod → List Var → ℤ → List TreeClause → List Token → Read (List TreeClause)
+clause_at methods vars maxint clauses tokens = do
+  few ← need (nat_lt (length clauses) 64) (Limit (front_at tokens))
+  phase ← ok_or (next_phase tokens) (Syntax (front_at tokens))
+  type ← type_at true (drop 1 tokens)
+  result ← result_name_at vars phase type.0.kind type.1
+  method ← method_at methods vars clauses phase type.0.desc result.1
+  performs ← behind (codes "PERFORM") method.1
+  guards ← body_at (scope_of vars phase method.0.1 result.0 type.0.kind) maxint performs
+  Ok (clauses ++ clause_of method.0.0 phase method.0.1 type.0.kind guards.0 ∷ [], guards.1)

@@ -1,0 +1,15 @@
+pub mod Clauses
+pub mod Fault
+pub mod Forms
+pub mod Guards
+pub mod Head
+pub mod Meaning
+pub mod Methods
+pub mod Policy
+pub mod Scope
+pub mod Tokens
+pub mod Tree
+pub mod Types
+pub mod Updates
+pub mod Words
+pub mod Written

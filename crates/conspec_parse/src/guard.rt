@@ -1,0 +1,349 @@
+//! Guards: atoms over the variables, the arguments and the result.
+
+ghost use Rattle.std.specs.Prelude.{◌≡◌, ◌+◌, ◌≤◌, length, codes, IfOk, IsTrue};
+ghost use Rattle.conspec_parse.specs.Fault.{ReadsAs};
+ghost use Rattle.conspec_parse.specs.Forms.{is_next, taken, each};
+ghost use Rattle.conspec_parse.specs.Scope.{HasFewNames};
+ghost use Rattle.conspec_parse.specs.Guards.{
+  is_truth,
+  is_object,
+  next_rel,
+  is_equality,
+  truth_value,
+  negative_at,
+  positive_at,
+  constant_at,
+  atom_at,
+  next_atom,
+  no_atoms,
+  atoms_at,
+  conj_at,
+  next_conj,
+  conjs_at,
+};
+
+use crate::fault::PolicyFault;
+use crate::forms::{behind, front_at, is_next, name_at, number_at, rest_of};
+use crate::scope::Names;
+use crate::token::Token;
+use crate::types::{Atom, Kind, Rel};
+use mon_base::List;
+use std::alloc::Global;
+
+fn is_truth(kind: Kind) -> bool
+    ensures { result ≡ is_truth kind }
+{
+    match kind {
+        Kind::Bool => true,
+        _ => false,
+    }
+}
+
+fn is_object(kind: Kind) -> bool
+    ensures { result ≡ is_object kind }
+{
+    match kind {
+        Kind::Object => true,
+        _ => false,
+    }
+}
+
+fn next_rel(tokens: &[Token]) -> Option<Rel>
+    ensures { result ≡ next_rel tokens.now }
+{
+    if is_next("==", tokens) {
+        Some(Rel::Eq)
+    } else if is_next("!=", tokens) {
+        Some(Rel::Ne)
+    } else if is_next("<", tokens) {
+        Some(Rel::Lt)
+    } else if is_next("<=", tokens) {
+        Some(Rel::Le)
+    } else if is_next(">", tokens) {
+        Some(Rel::Gt)
+    } else if is_next(">=", tokens) {
+        Some(Rel::Ge)
+    } else {
+        None
+    }
+}
+
+fn is_equality(rel: Rel) -> bool
+    ensures { result ≡ is_equality rel }
+{
+    match rel {
+        Rel::Eq | Rel::Ne => true,
+        _ => false,
+    }
+}
+
+#[tactic(auto, unfolding(crate::specs::Guards::truth_value))]
+fn truth_value(value: u8, truth: bool, tokens: &[Token]) -> Result<(i32, &[Token]), PolicyFault>
+    ensures { ReadsAs (λ r. (r.0, r.1.now)) result (truth_value value truth tokens.now) }
+{
+    if !truth {
+        return Err(PolicyFault::Kind {
+            at: front_at(tokens),
+        });
+    }
+    Ok((value as i32, rest_of(tokens)))
+}
+
+#[tactic(auto, unfolding(crate::specs::Guards::negative_at))]
+fn negative_at(truth: bool, tokens: &[Token]) -> Result<(i32, &[Token]), PolicyFault>
+    ensures { ReadsAs (λ r. (r.0, r.1.now)) result (negative_at truth tokens.now) }
+{
+    if truth {
+        return Err(PolicyFault::Kind {
+            at: front_at(tokens),
+        });
+    }
+    let (number, rest) = number_at(rest_of(tokens))?;
+    if number > 2_147_483_648 {
+        return Err(PolicyFault::Range {
+            at: front_at(tokens),
+        });
+    }
+    Ok(((-(number as i64)) as i32, rest))
+}
+
+#[tactic(auto, unfolding(crate::specs::Guards::positive_at))]
+fn positive_at(truth: bool, tokens: &[Token]) -> Result<(i32, &[Token]), PolicyFault>
+    ensures { ReadsAs (λ r. (r.0, r.1.now)) result (positive_at truth tokens.now) }
+{
+    let (number, rest) = number_at(tokens)?;
+    if truth {
+        return Err(PolicyFault::Kind {
+            at: front_at(tokens),
+        });
+    }
+    if number >= 2_147_483_648 {
+        return Err(PolicyFault::Range {
+            at: front_at(tokens),
+        });
+    }
+    Ok((number as i32, rest))
+}
+
+/// The constant, for a bool or for a number, that has to stand first, and the tokens behind it.
+pub fn constant_at(truth: bool, tokens: &[Token]) -> Result<(i32, &[Token]), PolicyFault>
+    ensures { ReadsAs (λ r. (r.0, r.1.now)) result (constant_at truth tokens.now) }
+{
+    if is_next("true", tokens) {
+        truth_value(1, truth, tokens)
+    } else if is_next("false", tokens) {
+        truth_value(0, truth, tokens)
+    } else if is_next("-", tokens) {
+        negative_at(truth, tokens)
+    } else {
+        positive_at(truth, tokens)
+    }
+}
+
+/// The relation that has to stand first, and the tokens behind it.
+fn rel_at(tokens: &[Token]) -> Result<(Rel, &[Token]), PolicyFault>
+    ensures { ReadsAs (λ r. (r.0, r.1.now)) result (taken (next_rel tokens.now) tokens.now) }
+{
+    match next_rel(tokens) {
+        Some(rel) => Ok((rel, rest_of(tokens))),
+        None => Err(PolicyFault::Syntax {
+            at: front_at(tokens),
+        }),
+    }
+}
+
+/// The atom that has to stand first, where there is room for one, and the tokens behind it.
+#[tactic(auto, unfolding(crate::specs::Guards::atom_at))]
+fn atom_at<'a>(
+    names: &Names<'_>,
+    room: bool,
+    tokens: &'a [Token],
+) -> Result<(Atom, &'a [Token]), PolicyFault>
+    requires { HasFewNames names.now }
+    ensures exact { ReadsAs (λ r. (r.0, r.1.now)) result (atom_at names.now room tokens.now) }
+    ensures room { IfOk result (λ r. IsTrue room) }
+{
+    let (name, compared) = name_at(tokens)?;
+    let (base, kind) = match names.base_named(name) {
+        Some(found) => found,
+        None => {
+            return Err(PolicyFault::Name {
+                at: front_at(tokens),
+            });
+        }
+    };
+    if is_object(kind) {
+        return Err(PolicyFault::Kind {
+            at: front_at(tokens),
+        });
+    }
+    if !room {
+        return Err(PolicyFault::Limit {
+            at: front_at(tokens),
+        });
+    }
+    let truth = is_truth(kind);
+    let (rel, left) = rel_at(compared)?;
+    if truth && !is_equality(rel) {
+        return Err(PolicyFault::Kind {
+            at: front_at(compared),
+        });
+    }
+    let (value, rest) = constant_at(truth, left)?;
+    Ok((Atom { base, rel, value }, rest))
+}
+
+/// The atoms of a branch, at most 16, and behind them the one that stands behind `&&`.
+#[tactic(auto, unfolding(crate::specs::Guards::next_atom))]
+fn next_atom<'a>(
+    names: &Names<'_>,
+    atoms: List<Atom>,
+    tokens: &'a [Token],
+) -> Result<(List<Atom>, &'a [Token]), PolicyFault>
+    requires { HasFewNames names.now }
+    ensures { ReadsAs (λ r. (r.0, r.1.now)) result (next_atom names.now atoms tokens.now) }
+{
+    let room = atoms.len() < 16;
+    let (atom, rest) = atom_at(names, room, behind("&&", tokens)?)?;
+    let mut atoms = atoms;
+    atoms.push(atom)?;
+    Ok((atoms, rest))
+}
+
+fn atoms_from<'a>(
+    names: &Names<'_>,
+    first: List<Atom>,
+    tokens: &'a [Token],
+) -> Result<(List<Atom>, &'a [Token]), PolicyFault>
+    requires { HasFewNames names.now }
+    ensures { ReadsAs (λ r. (r.0, r.1.now)) result (each (is_next (codes "&&")) (next_atom names.now) first tokens.now) }
+{
+    let mut atoms = first;
+    let mut left = tokens;
+    for _ in 0..tokens.len() {
+        if !is_next("&&", left) {
+            return Ok((atoms, left));
+        }
+        let (more, rest) = next_atom(names, atoms, left)?;
+        atoms = more;
+        left = rest;
+    }
+    Ok((atoms, left))
+}
+
+#[tactic(auto, unfolding(crate::specs::Guards::no_atoms))]
+fn no_atoms(
+    alloc: Global,
+    room: bool,
+    tokens: &[Token],
+) -> Result<(List<Atom>, &[Token]), PolicyFault>
+    ensures exact { ReadsAs (λ r. (r.0, r.1.now)) result (no_atoms room tokens.now) }
+    ensures room { IfOk result (λ r. IsTrue room) }
+{
+    if !room {
+        return Err(PolicyFault::Limit {
+            at: front_at(tokens),
+        });
+    }
+    Ok((List::new(alloc), rest_of(tokens)))
+}
+
+#[tactic(auto, unfolding(crate::specs::Guards::atoms_at))]
+fn atoms_at<'a>(
+    alloc: Global,
+    names: &Names<'_>,
+    room: bool,
+    tokens: &'a [Token],
+) -> Result<(List<Atom>, &'a [Token]), PolicyFault>
+    requires { HasFewNames names.now }
+    ensures exact { ReadsAs (λ r. (r.0, r.1.now)) result (atoms_at names.now room tokens.now) }
+    ensures room { IfOk result (λ r. IsTrue room) }
+{
+    let (atom, rest) = atom_at(names, room, tokens)?;
+    let mut first = List::new(alloc);
+    first.push(atom)?;
+    atoms_from(names, first, rest)
+}
+
+fn conj_at<'a>(
+    alloc: Global,
+    names: &Names<'_>,
+    room: bool,
+    tokens: &'a [Token],
+) -> Result<(List<Atom>, &'a [Token]), PolicyFault>
+    requires { HasFewNames names.now }
+    ensures exact { ReadsAs (λ r. (r.0, r.1.now)) result (conj_at names.now room tokens.now) }
+    ensures room { IfOk result (λ r. IsTrue room) }
+{
+    if is_next("true", tokens) {
+        no_atoms(alloc, room, tokens)
+    } else {
+        atoms_at(alloc, names, room, tokens)
+    }
+}
+
+/// The branches of a guard, and behind them the one that stands behind `||`. So many stand before the guard.
+#[tactic(auto, unfolding(crate::specs::Guards::next_conj))]
+fn next_conj<'a>(
+    alloc: Global,
+    names: &Names<'_>,
+    before: usize,
+    conjs: List<List<Atom>>,
+    tokens: &'a [Token],
+) -> Result<(List<List<Atom>>, &'a [Token]), PolicyFault>
+    requires few { HasFewNames names.now }
+    requires within { before + length conjs ≤ 64 }
+    ensures exact { ReadsAs (λ r. (r.0, r.1.now)) result (next_conj names.now before conjs tokens.now) }
+    ensures within { IfOk result (λ r. before + length r.0 ≤ 64) }
+{
+    let room = before + conjs.len() < 64;
+    let (conj, rest) = conj_at(alloc, names, room, behind("||", tokens)?)?;
+    let mut conjs = conjs;
+    conjs.push(conj)?;
+    Ok((conjs, rest))
+}
+
+fn conjs_from<'a>(
+    alloc: Global,
+    names: &Names<'_>,
+    before: usize,
+    first: List<List<Atom>>,
+    tokens: &'a [Token],
+) -> Result<(List<List<Atom>>, &'a [Token]), PolicyFault>
+    requires few { HasFewNames names.now }
+    requires within { before + length first ≤ 64 }
+    ensures exact { ReadsAs (λ r. (r.0, r.1.now)) result
+        (each (is_next (codes "||")) (next_conj names.now before) first tokens.now) }
+    ensures within { IfOk result (λ r. before + length r.0 ≤ 64) }
+{
+    let mut conjs = first;
+    let mut left = tokens;
+    for _ in 0..tokens.len() {
+        if !is_next("||", left) {
+            return Ok((conjs, left));
+        }
+        let (more, rest) = next_conj(alloc, names, before, conjs, left)?;
+        conjs = more;
+        left = rest;
+    }
+    Ok((conjs, left))
+}
+
+/// The branches of the guard that has to stand first, and the tokens behind them. So many branches stand before it.
+#[tactic(auto, unfolding(crate::specs::Guards::conjs_at))]
+pub fn conjs_at<'a>(
+    alloc: Global,
+    names: &Names<'_>,
+    before: usize,
+    tokens: &'a [Token],
+) -> Result<(List<List<Atom>>, &'a [Token]), PolicyFault>
+    requires few { HasFewNames names.now }
+    requires within { before ≤ 64 }
+    ensures exact { ReadsAs (λ r. (r.0, r.1.now)) result (conjs_at names.now before tokens.now) }
+    ensures within { IfOk result (λ r. before + length r.0 ≤ 64) }
+{
+    let (conj, rest) = conj_at(alloc, names, before < 64, tokens)?;
+    let mut first = List::new(alloc);
+    first.push(conj)?;
+    conjs_from(alloc, names, before, first, rest)
+}

@@ -1,0 +1,178 @@
+//! The head of a policy and its state variables.
+
+ghost use Rattle.std.specs.Prelude.{◌≡◌, ◌+◌, ◌≤◌, ◌<◌, ◌^◌, ◌≤ℤ◌, pos, length, IfOk};
+ghost use Rattle.conspec_parse.specs.Fault.{ReadsAs};
+ghost use Rattle.conspec_parse.specs.Head.{
+  header_at,
+  variable_from,
+  is_variable,
+  truth_at,
+  count_at,
+  first_at,
+  begins_variable,
+  variable_at,
+  variables_at,
+};
+
+use crate::fault::PolicyFault;
+use crate::forms::{behind, front_at, is_next, is_short, name_at, number_at, rest_of};
+use crate::token::Token;
+use crate::types::Var;
+use mon_base::{Bytes, List};
+use std::alloc::Global;
+
+/// The number behind `MAXINT`, from 1 to 1,000,000,000, and the tokens behind `STATE`.
+#[tactic(auto, unfolding(crate::specs::Head::header_at))]
+pub fn header_at(tokens: &[Token]) -> Result<(i32, &[Token]), PolicyFault>
+    ensures { ReadsAs (λ r. (r.0, r.1.now)) result (header_at tokens.now) }
+{
+    let number = behind("MAXINT", tokens)?;
+    let (maxint, scope) = number_at(number)?;
+    if maxint < 1 || maxint > 1_000_000_000 {
+        return Err(PolicyFault::Range {
+            at: front_at(number),
+        });
+    }
+    let session = behind("SCOPE", scope)?;
+    let security = behind("Session", session)?;
+    let state = behind("SECURITY", security)?;
+    let rest = behind("STATE", state)?;
+    Ok((maxint as i32, rest))
+}
+
+/// The index of the variable with the name, and whether it is a bool.
+pub fn variable_named(vars: &[Var], name: &[u8]) -> Option<(u32, bool)>
+    requires { length vars.now < 2 ^ 32 }
+    ensures { result ≡ variable_from 0 vars.now name.now }
+{
+    let mut index: u32 = 0;
+    let mut left = vars;
+    while let [first, others @ ..] = left {
+        if first.name.as_slice() == name {
+            return Some((index, first.is_bool));
+        }
+        index += 1;
+        left = others;
+    }
+    None
+}
+
+/// Whether a variable has the name.
+pub fn is_variable(vars: &[Var], name: &[u8]) -> bool
+    ensures { result ≡ is_variable vars.now name.now }
+{
+    let mut left = vars;
+    while let [first, others @ ..] = left {
+        if first.name.as_slice() == name {
+            return true;
+        }
+        left = others;
+    }
+    false
+}
+
+#[tactic(auto, unfolding(crate::specs::Head::truth_at))]
+fn truth_at(tokens: &[Token]) -> Result<(i32, &[Token]), PolicyFault>
+    ensures { ReadsAs (λ r. (r.0, r.1.now)) result (truth_at tokens.now) }
+{
+    if is_next("true", tokens) {
+        Ok((1, rest_of(tokens)))
+    } else if is_next("false", tokens) {
+        Ok((0, rest_of(tokens)))
+    } else {
+        Err(PolicyFault::Syntax {
+            at: front_at(tokens),
+        })
+    }
+}
+
+#[tactic(auto, unfolding(crate::specs::Head::count_at))]
+fn count_at(maxint: i32, tokens: &[Token]) -> Result<(i32, &[Token]), PolicyFault>
+    ensures { ReadsAs (λ r. (r.0, r.1.now)) result (count_at maxint tokens.now) }
+{
+    let (number, rest) = number_at(tokens)?;
+    match i32::try_from(number) {
+        Ok(value) if value <= maxint => Ok((value, rest)),
+        _ => Err(PolicyFault::Range {
+            at: front_at(tokens),
+        }),
+    }
+}
+
+fn first_at(maxint: i32, is_bool: bool, tokens: &[Token]) -> Result<(i32, &[Token]), PolicyFault>
+    ensures { ReadsAs (λ r. (r.0, r.1.now)) result (first_at maxint is_bool tokens.now) }
+{
+    if is_bool {
+        truth_at(tokens)
+    } else {
+        count_at(maxint, tokens)
+    }
+}
+
+fn begins_variable(tokens: &[Token]) -> bool
+    ensures { result ≡ begins_variable tokens.now }
+{
+    is_next("int", tokens) || is_next("bool", tokens)
+}
+
+/// The variables and, behind them, the one that stands first.
+#[tactic(auto, unfolding(crate::specs::Head::variable_at))]
+fn variable_at<'a>(
+    alloc: Global,
+    maxint: i32,
+    vars: List<Var>,
+    tokens: &'a [Token],
+) -> Result<(List<Var>, &'a [Token]), PolicyFault>
+    ensures exact { ReadsAs (λ r. (r.0, r.1.now)) result (variable_at maxint vars tokens.now) }
+    ensures few { IfOk result (λ r. length r.0 ≤ 16) }
+{
+    if vars.len() >= 16 {
+        return Err(PolicyFault::Limit {
+            at: front_at(tokens),
+        });
+    }
+    let named = rest_of(tokens);
+    let (name, equals) = name_at(named)?;
+    if is_variable(vars.as_slice(), name) {
+        return Err(PolicyFault::Twice {
+            at: front_at(named),
+        });
+    }
+    if !is_short(name) {
+        return Err(PolicyFault::Limit {
+            at: front_at(named),
+        });
+    }
+    let is_bool = is_next("bool", tokens);
+    let (first, end) = first_at(maxint, is_bool, behind("=", equals)?)?;
+    let rest = behind(";", end)?;
+    let mut vars = vars;
+    vars.push(Var {
+        name: Bytes::from_slice(alloc, name)?,
+        is_bool,
+        first,
+    })?;
+    Ok((vars, rest))
+}
+
+/// The state variables, at most 16, and the tokens behind them.
+pub fn variables_at(
+    alloc: Global,
+    maxint: i32,
+    tokens: &[Token],
+) -> Result<(List<Var>, &[Token]), PolicyFault>
+    ensures exact { ReadsAs (λ r. (r.0, r.1.now)) result (variables_at maxint tokens.now) }
+    ensures few { IfOk result (λ r. length r.0 ≤ 16) }
+{
+    let mut vars = List::new(alloc);
+    let mut left = tokens;
+    for _ in 0..tokens.len() {
+        if !begins_variable(left) {
+            return Ok((vars, left));
+        }
+        let (more, rest) = variable_at(alloc, maxint, vars, left)?;
+        vars = more;
+        left = rest;
+    }
+    Ok((vars, left))
+}

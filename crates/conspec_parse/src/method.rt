@@ -1,0 +1,131 @@
+//! Which listed method a clause is for.
+
+ghost use Rattle.std.specs.Prelude.{◌≡◌, ◌<◌, ◌≤◌, ◌^◌, ◌++◌, length, IfOk, OnOk};
+ghost use Rattle.conspec_parse.specs.Fault.{Reads, ReadsAs};
+ghost use Rattle.conspec_parse.specs.Methods.{
+  desc_of,
+  phase_number,
+  has_clause,
+  index_at,
+  method_at,
+};
+ghost use Rattle.std.specs.List.{flat_map};
+
+use crate::fault::PolicyFault;
+use crate::forms::front_at;
+use crate::signature::{Param, Signature, signature_at};
+use crate::token::Token;
+use crate::types::{Phase, TreeClause, Var};
+use api_listing::{ListedMethod, index_of, is_built_in};
+use mon_base::{Bytes, List, NoMemory};
+use std::alloc::Global;
+
+/// The descriptor of a method with the parameters and the result.
+fn desc_of(alloc: Global, params: &[Param], returned: &[u8]) -> Result<Bytes, NoMemory>
+    ensures { IfOk result (λ desc. desc ≡ desc_of params.now returned.now) }
+{
+    let mut desc = Bytes::new(alloc);
+    desc.push(b'(')?;
+    push_params(&mut desc, params)?;
+    desc.push(b')')?;
+    desc.extend(returned)?;
+    Ok(desc)
+}
+
+fn push_params(desc: &mut Bytes, params: &[Param]) -> Result<(), NoMemory>
+    ensures { OnOk result (desc.new ≡ desc.old ++ flat_map (λ p. p.desc) params.now) }
+{
+    let mut left = params;
+    while let [first, others @ ..] = left {
+        desc.extend(first.desc.as_slice())?;
+        left = others;
+    }
+    Ok(())
+}
+
+fn phase_number(phase: Phase) -> u8
+    ensures { result ≡ phase_number phase }
+{
+    match phase {
+        Phase::Before => 0,
+        Phase::After => 1,
+        Phase::Exceptional => 2,
+    }
+}
+
+fn has_clause(clauses: &[TreeClause], phase: Phase, method: u32) -> bool
+    ensures { result ≡ has_clause clauses.now phase method }
+{
+    let mut left = clauses;
+    while let [first, others @ ..] = left {
+        if first.method == method && phase_number(first.phase) == phase_number(phase) {
+            return true;
+        }
+        left = others;
+    }
+    false
+}
+
+/// The index of the listed method that the signature, which stands at a token, names with the result. It has no
+/// clause of the phase yet.
+#[tactic(auto, unfolding(crate::specs::Methods::index_at))]
+fn index_at(
+    methods: &[ListedMethod],
+    clauses: &[TreeClause],
+    phase: Phase,
+    at: u64,
+    signature: &Signature,
+    desc: &Bytes,
+) -> Result<u32, PolicyFault>
+    requires { length methods.now < 2 ^ 32 }
+    ensures exact { Reads result (index_at methods.now clauses.now phase at signature.now desc.now) }
+    ensures few { IfOk result (λ m. length signature.now.params ≤ 255) }
+{
+    let class = signature.path.class.as_slice();
+    let name = signature.path.name.as_slice();
+    if is_built_in(class, name, desc.as_slice()) {
+        return Err(PolicyFault::Builtin { at });
+    }
+    match index_of(methods, class, name, desc.as_slice()) {
+        None => Err(PolicyFault::NoMethod { at }),
+        Some(method) => {
+            if signature.params.len() > 255 {
+                Err(PolicyFault::NoMethod { at })
+            } else if has_clause(clauses, phase, method) {
+                Err(PolicyFault::Twice { at })
+            } else {
+                Ok(method)
+            }
+        }
+    }
+}
+
+/// The method that has to stand first, by its index among the listed, its parameters, and the tokens behind it.
+pub fn method_at<'a>(
+    alloc: Global,
+    methods: &[ListedMethod],
+    vars: &[Var],
+    clauses: &[TreeClause],
+    phase: Phase,
+    returned: &[u8],
+    tokens: &'a [Token],
+) -> Result<((u32, List<Param>), &'a [Token]), PolicyFault>
+    requires { length methods.now < 2 ^ 32 }
+    ensures exact { ReadsAs (λ r. (r.0, r.1.now)) result
+        (method_at methods.now vars.now clauses.now phase returned.now tokens.now) }
+    ensures few { IfOk result (λ r. length r.0.1 ≤ 255) }
+{
+    match signature_at(alloc, false, vars, tokens) {
+        Ok((loose, _)) => {
+            let desc = desc_of(alloc, loose.params.as_slice(), returned)?;
+            let method = index_at(methods, clauses, phase, front_at(tokens), &loose, &desc)?;
+            let (_, rest) = signature_at(alloc, true, vars, tokens)?;
+            Ok(((method, loose.params), rest))
+        }
+        Err(PolicyFault::Memory) => Err(PolicyFault::Memory),
+        Err(fault) => {
+            signature_at(alloc, true, vars, tokens)?;
+            Err(fault)
+        }
+    }
+}

@@ -1,0 +1,54 @@
+//! A policy out of its text.
+
+ghost use Rattle.std.specs.Prelude.{◌≡◌, ◌<◌, ◌^◌, length, IfOk};
+ghost use Rattle.conspec_parse.specs.Fault.{Reads};
+ghost use Rattle.conspec_parse.specs.Meaning.{SpellsPolicy};
+ghost use Rattle.conspec_parse.specs.Policy.{policy_at, reading};
+ghost use Rattle.conspec_parse.specs.Tree.{IsPolicyTree};
+
+use crate::clause::clauses_at;
+use crate::fault::PolicyFault;
+use crate::forms::{front_at, is_end};
+use crate::head::{header_at, variables_at};
+use crate::scanning::tokens_of;
+use crate::token::Token;
+use crate::types::PolicyTree;
+use api_listing::{ListedMethod, Listing};
+use mon_base::List;
+use std::alloc::Global;
+
+/// The policy that the text is over the methods of the listing, or the fault that stands first in the text.
+pub fn parse(alloc: Global, text: &[u8], listing: &Listing) -> Result<PolicyTree, PolicyFault>
+    requires { length listing.now.methods < 2 ^ 32 }
+    // What is read decides the answer, and of several faults which one.
+    ensures exact { Reads result (reading text.now listing.now) }
+    // What is read is spelled so.
+    ensures found { IfOk result (λ t. SpellsPolicy text.now listing.now t) }
+    // It keeps the limits and ranges, and what its parts name is there.
+    ensures sound { IfOk result (λ t. IsPolicyTree listing.now t) }
+{
+    let tokens = tokens_of(alloc, text)?;
+    policy_at(alloc, listing.methods.as_slice(), tokens.as_slice())
+}
+
+#[tactic(auto, unfolding(crate::specs::Policy::policy_at))]
+fn policy_at(
+    alloc: Global,
+    methods: &[ListedMethod],
+    tokens: &[Token],
+) -> Result<PolicyTree, PolicyFault>
+    requires { length methods.now < 2 ^ 32 }
+    ensures { Reads result (policy_at methods.now tokens.now) }
+{
+    let (maxint, left) = header_at(tokens)?;
+    let (vars, left) = variables_at(alloc, maxint, left)?;
+    let (clauses, left) = clauses_at(alloc, methods, vars.as_slice(), maxint, left)?;
+    if !is_end(left) {
+        return Err(PolicyFault::Syntax { at: front_at(left) });
+    }
+    Ok(PolicyTree {
+        maxint,
+        vars,
+        clauses,
+    })
+}

@@ -1,0 +1,341 @@
+//! The method of a clause as it is written: its class and name, and its parameters.
+
+ghost use Rattle.std.specs.Prelude.{◌≡◌, codes, IfOk};
+ghost use Rattle.conspec_parse.specs.Fault.{ReadsAs};
+ghost use Rattle.conspec_parse.specs.Forms.{is_next, each};
+ghost use Rattle.conspec_parse.specs.Methods.{
+  kind_or_object,
+  is_named,
+  is_parameter,
+  is_free,
+  given_name_at,
+  parameter_name_at,
+  parameter_at,
+  next_parameter,
+  some_parameters,
+  parameters_at,
+  part_at,
+  class_under,
+  next_step,
+  path_at,
+  signature_at,
+};
+
+use crate::fault::PolicyFault;
+use crate::forms::{behind, front_at, is_name, is_next, is_short, name_at, rest_of};
+use crate::head::is_variable;
+use crate::token::Token;
+use crate::type_name::{judged_name, type_at};
+use crate::types::{Kind, Var};
+use mon_base::{Bytes, List, NoMemory};
+use std::alloc::Global;
+
+/// A parameter: its name, where it has one, its descriptor and its kind.
+#[derive(Debug, Drop)]
+pub struct Param {
+    pub name: Option<Bytes>,
+    pub desc: Bytes,
+    pub kind: Kind,
+}
+
+/// A method's class, with `/` between its parts, and its name.
+#[derive(Debug, Drop)]
+pub struct Path {
+    pub class: Bytes,
+    pub name: Bytes,
+}
+
+/// The parts of a path so far: the last, whether this is `<init>`, below which nothing stands, and those before it,
+/// with `/` between, where there are any.
+#[derive(Debug, Drop)]
+pub struct Parts {
+    pub class: Option<Bytes>,
+    pub name: Bytes,
+    pub is_last: bool,
+}
+
+/// A method as a clause names it.
+#[derive(Debug, Drop)]
+pub struct Signature {
+    pub path: Path,
+    pub params: List<Param>,
+}
+
+/// The kind, or that of a class where there is none.
+pub fn kind_or_object(kind: Option<Kind>) -> Kind
+    ensures { result ≡ kind_or_object kind }
+{
+    match kind {
+        Some(kind) => kind,
+        None => Kind::Object,
+    }
+}
+
+/// Whether the name is this one.
+pub fn is_named(given: &Option<Bytes>, name: &[u8]) -> bool
+    ensures { result ≡ is_named given.now name.now }
+{
+    match given {
+        Some(word) => word.as_slice() == name,
+        None => false,
+    }
+}
+
+fn is_parameter(params: &[Param], name: &[u8]) -> bool
+    ensures { result ≡ is_parameter params.now name.now }
+{
+    let mut left = params;
+    while let [first, others @ ..] = left {
+        if is_named(&first.name, name) {
+            return true;
+        }
+        left = others;
+    }
+    false
+}
+
+fn is_free(vars: &[Var], params: &[Param], name: &[u8]) -> bool
+    ensures { result ≡ is_free vars.now params.now name.now }
+{
+    !(is_variable(vars, name) || is_parameter(params, name))
+}
+
+#[tactic(auto, unfolding(crate::specs::Methods::given_name_at))]
+fn given_name_at<'a>(
+    judged: bool,
+    vars: &[Var],
+    params: &[Param],
+    tokens: &'a [Token],
+) -> Result<(&'a [u8], &'a [Token]), PolicyFault>
+    ensures { ReadsAs (λ r. (r.0.now, r.1.now)) result (given_name_at judged vars.now params.now tokens.now) }
+{
+    let (name, rest) = name_at(tokens)?;
+    if judged && !is_free(vars, params, name) {
+        return Err(PolicyFault::Twice {
+            at: front_at(tokens),
+        });
+    }
+    if judged && !is_short(name) {
+        return Err(PolicyFault::Limit {
+            at: front_at(tokens),
+        });
+    }
+    Ok((name, rest))
+}
+
+fn parameter_name_at<'a>(
+    alloc: Global,
+    judged: bool,
+    vars: &[Var],
+    params: &[Param],
+    tokens: &'a [Token],
+) -> Result<(Option<Bytes>, &'a [Token]), PolicyFault>
+    ensures { ReadsAs (λ r. (r.0, r.1.now)) result (parameter_name_at judged vars.now params.now tokens.now) }
+{
+    if is_name(tokens) {
+        let (name, rest) = given_name_at(judged, vars, params, tokens)?;
+        Ok((Some(Bytes::from_slice(alloc, name)?), rest))
+    } else {
+        Ok((None, tokens))
+    }
+}
+
+/// The parameters and, behind them, the one that stands first.
+#[tactic(auto, unfolding(crate::specs::Methods::parameter_at))]
+fn parameter_at<'a>(
+    alloc: Global,
+    judged: bool,
+    vars: &[Var],
+    params: List<Param>,
+    tokens: &'a [Token],
+) -> Result<(List<Param>, &'a [Token]), PolicyFault>
+    ensures { ReadsAs (λ r. (r.0, r.1.now)) result (parameter_at judged vars.now params tokens.now) }
+{
+    let (named, left) = type_at(alloc, judged, tokens)?;
+    let (name, rest) = parameter_name_at(alloc, judged, vars, params.as_slice(), left)?;
+    let kind = kind_or_object(named.kind);
+    let mut params = params;
+    params.push(Param {
+        name,
+        desc: named.desc,
+        kind,
+    })?;
+    Ok((params, rest))
+}
+
+#[tactic(auto, unfolding(crate::specs::Methods::next_parameter))]
+fn next_parameter<'a>(
+    alloc: Global,
+    judged: bool,
+    vars: &[Var],
+    params: List<Param>,
+    tokens: &'a [Token],
+) -> Result<(List<Param>, &'a [Token]), PolicyFault>
+    ensures { ReadsAs (λ r. (r.0, r.1.now)) result (next_parameter judged vars.now params tokens.now) }
+{
+    let left = behind(",", tokens)?;
+    parameter_at(alloc, judged, vars, params, left)
+}
+
+fn parameters_from<'a>(
+    alloc: Global,
+    judged: bool,
+    vars: &[Var],
+    first: List<Param>,
+    tokens: &'a [Token],
+) -> Result<(List<Param>, &'a [Token]), PolicyFault>
+    ensures { ReadsAs (λ r. (r.0, r.1.now)) result
+        (each (is_next (codes ",")) (next_parameter judged vars.now) first tokens.now) }
+{
+    let mut params = first;
+    let mut left = tokens;
+    for _ in 0..tokens.len() {
+        if !is_next(",", left) {
+            return Ok((params, left));
+        }
+        let (more, rest) = next_parameter(alloc, judged, vars, params, left)?;
+        params = more;
+        left = rest;
+    }
+    Ok((params, left))
+}
+
+#[tactic(auto, unfolding(crate::specs::Methods::some_parameters))]
+fn some_parameters<'a>(
+    alloc: Global,
+    judged: bool,
+    vars: &[Var],
+    tokens: &'a [Token],
+) -> Result<(List<Param>, &'a [Token]), PolicyFault>
+    ensures { ReadsAs (λ r. (r.0, r.1.now)) result (some_parameters judged vars.now tokens.now) }
+{
+    let (first, rest) = parameter_at(alloc, judged, vars, List::new(alloc), tokens)?;
+    parameters_from(alloc, judged, vars, first, rest)
+}
+
+fn parameters_at<'a>(
+    alloc: Global,
+    judged: bool,
+    vars: &[Var],
+    tokens: &'a [Token],
+) -> Result<(List<Param>, &'a [Token]), PolicyFault>
+    ensures { ReadsAs (λ r. (r.0, r.1.now)) result (parameters_at judged vars.now tokens.now) }
+{
+    if is_next(")", tokens) {
+        Ok((List::new(alloc), tokens))
+    } else {
+        some_parameters(alloc, judged, vars, tokens)
+    }
+}
+
+/// The name of a class's part or of a method, and the tokens behind it.
+fn part_at(alloc: Global, judged: bool, tokens: &[Token]) -> Result<(Bytes, &[Token]), PolicyFault>
+    ensures { ReadsAs (λ r. (r.0, r.1.now)) result (part_at judged tokens.now) }
+{
+    if is_next("<init>", tokens) {
+        Ok((Bytes::from_slice(alloc, b"<init>")?, rest_of(tokens)))
+    } else {
+        let (name, rest) = judged_name(judged, tokens)?;
+        Ok((Bytes::from_slice(alloc, name)?, rest))
+    }
+}
+
+fn class_under(parts: Parts) -> Result<Bytes, NoMemory>
+    ensures { IfOk result (λ class. class ≡ class_under parts.class parts.name) }
+{
+    let Parts { class, name, .. } = parts;
+    match class {
+        None => Ok(name),
+        Some(class) => {
+            let mut class = class;
+            class.push(b'/')?;
+            class.extend(name.as_slice())?;
+            Ok(class)
+        }
+    }
+}
+
+/// The parts so far, and below them the one behind the dot. Nothing stands below a constructor.
+#[tactic(auto, unfolding(crate::specs::Methods::next_step))]
+fn next_step<'a>(
+    alloc: Global,
+    judged: bool,
+    parts: Parts,
+    tokens: &'a [Token],
+) -> Result<(Parts, &'a [Token]), PolicyFault>
+    ensures { ReadsAs (λ r. (r.0, r.1.now)) result (next_step judged parts tokens.now) }
+{
+    if parts.is_last {
+        return Err(PolicyFault::Syntax {
+            at: front_at(tokens),
+        });
+    }
+    let part = behind(".", tokens)?;
+    let is_last = is_next("<init>", part);
+    let (name, rest) = part_at(alloc, judged, part)?;
+    let class = class_under(parts)?;
+    Ok((
+        Parts {
+            class: Some(class),
+            name,
+            is_last,
+        },
+        rest,
+    ))
+}
+
+fn path_from<'a>(
+    alloc: Global,
+    judged: bool,
+    first: Parts,
+    tokens: &'a [Token],
+) -> Result<(Parts, &'a [Token]), PolicyFault>
+    ensures { ReadsAs (λ r. (r.0, r.1.now)) result (each (is_next (codes ".")) (next_step judged) first tokens.now) }
+{
+    let mut parts = first;
+    let mut left = tokens;
+    for _ in 0..tokens.len() {
+        if !is_next(".", left) {
+            return Ok((parts, left));
+        }
+        let (longer, rest) = next_step(alloc, judged, parts, left)?;
+        parts = longer;
+        left = rest;
+    }
+    Ok((parts, left))
+}
+
+#[tactic(auto, unfolding(crate::specs::Methods::path_at))]
+fn path_at(alloc: Global, judged: bool, tokens: &[Token]) -> Result<(Path, &[Token]), PolicyFault>
+    ensures { ReadsAs (λ r. (r.0, r.1.now)) result (path_at judged tokens.now) }
+{
+    let (name, left) = judged_name(judged, tokens)?;
+    let first = Parts {
+        class: None,
+        name: Bytes::from_slice(alloc, name)?,
+        is_last: false,
+    };
+    let (Parts { class, name, .. }, rest) = path_from(alloc, judged, first, left)?;
+    match class {
+        Some(class) => Ok((Path { class, name }, rest)),
+        None => Err(PolicyFault::Syntax { at: front_at(rest) }),
+    }
+}
+
+/// The method that has to stand first, with its parameters, and the tokens behind them. Where names are judged they
+/// are not too long, and a parameter's name is no other's.
+#[tactic(auto, unfolding(crate::specs::Methods::signature_at))]
+pub fn signature_at<'a>(
+    alloc: Global,
+    judged: bool,
+    vars: &[Var],
+    tokens: &'a [Token],
+) -> Result<(Signature, &'a [Token]), PolicyFault>
+    ensures { ReadsAs (λ r. (r.0, r.1.now)) result (signature_at judged vars.now tokens.now) }
+{
+    let (path, opened) = path_at(alloc, judged, tokens)?;
+    let left = behind("(", opened)?;
+    let (params, closed) = parameters_at(alloc, judged, vars, left)?;
+    let rest = behind(")", closed)?;
+    Ok((Signature { path, params }, rest))
+}

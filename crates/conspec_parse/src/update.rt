@@ -1,0 +1,257 @@
+//! What a guard does to the variables.
+
+ghost use Rattle.std.specs.Prelude.{◌≡◌, ◌≤◌, [], length};
+ghost use Rattle.conspec_parse.specs.Fault.{ReadsAs};
+ghost use Rattle.conspec_parse.specs.Forms.{is_name, taken, each};
+ghost use Rattle.conspec_parse.specs.Updates.{
+  target,
+  is_updated,
+  range_atoms,
+  all_range_atoms,
+  set_at,
+  next_sign,
+  signed,
+  sum_at,
+  right_at,
+  update_at,
+  block_at,
+};
+
+use crate::fault::PolicyFault;
+use crate::forms::{behind, front_at, is_name, is_next, name_at, number_at, rest_of};
+use crate::guard::constant_at;
+use crate::head::variable_named;
+use crate::token::Token;
+use crate::types::{Update, Var};
+use mon_base::List;
+use std::alloc::Global;
+
+fn target(update: &Update) -> u32
+    ensures { result ≡ target update.now }
+{
+    match update {
+        Update::Set { var, .. } => *var,
+        Update::Add { var, .. } => *var,
+    }
+}
+
+fn is_updated(updates: &[Update], var: u32) -> bool
+    ensures { result ≡ is_updated updates.now var }
+{
+    let mut left = updates;
+    while let [first, others @ ..] = left {
+        if target(first) == var {
+            return true;
+        }
+        left = others;
+    }
+    false
+}
+
+fn range_atoms(update: &Update) -> usize
+    ensures value { result ≡ range_atoms update.now }
+    ensures low { result ≤ 1 }
+{
+    match update {
+        Update::Set { .. } => 0,
+        Update::Add { by, .. } => { if *by == 0 { 0 } else { 1 } }
+    }
+}
+
+/// How many range atoms the updates ask for.
+fn all_range_atoms(updates: &[Update]) -> usize
+    ensures { result ≡ all_range_atoms updates.now }
+{
+    let mut count: usize = 0;
+    let mut left = updates;
+    while let [first, others @ ..] = left {
+        count += range_atoms(first);
+        left = others;
+    }
+    count
+}
+
+#[tactic(auto, unfolding(crate::specs::Updates::set_at))]
+fn set_at(
+    maxint: i32,
+    var: u32,
+    truth: bool,
+    tokens: &[Token],
+) -> Result<(Update, &[Token]), PolicyFault>
+    ensures { ReadsAs (λ r. (r.0, r.1.now)) result (set_at maxint var truth tokens.now) }
+{
+    let (value, rest) = constant_at(truth, tokens)?;
+    if value < 0 || value > maxint {
+        return Err(PolicyFault::Range {
+            at: front_at(tokens),
+        });
+    }
+    Ok((Update::Set { var, value }, rest))
+}
+
+fn next_sign(tokens: &[Token]) -> Option<bool>
+    ensures { result ≡ next_sign tokens.now }
+{
+    if is_next("+", tokens) {
+        Some(false)
+    } else if is_next("-", tokens) {
+        Some(true)
+    } else {
+        None
+    }
+}
+
+/// Whether the sign that has to stand first is `-`, and the tokens behind it.
+fn sign_at(tokens: &[Token]) -> Result<(bool, &[Token]), PolicyFault>
+    ensures { ReadsAs (λ r. (r.0, r.1.now)) result (taken (next_sign tokens.now) tokens.now) }
+{
+    match next_sign(tokens) {
+        Some(minus) => Ok((minus, rest_of(tokens))),
+        None => Err(PolicyFault::Syntax {
+            at: front_at(tokens),
+        }),
+    }
+}
+
+fn signed(minus: bool, number: u64) -> i32
+    requires { number ≤ 1000000000 }
+    ensures { result ≡ signed minus number }
+{
+    if minus {
+        -(number as i32)
+    } else {
+        number as i32
+    }
+}
+
+/// The variable itself, a sign and an addend, where there is room for a range atom or none is asked for.
+#[tactic(auto, unfolding(crate::specs::Updates::sum_at))]
+fn sum_at<'a>(
+    room: bool,
+    name: &[u8],
+    var: u32,
+    truth: bool,
+    tokens: &'a [Token],
+) -> Result<(Update, &'a [Token]), PolicyFault>
+    ensures { ReadsAs (λ r. (r.0, r.1.now)) result (sum_at room name.now var truth tokens.now) }
+{
+    let (same, signs) = name_at(tokens)?;
+    if same != name {
+        return Err(PolicyFault::Name {
+            at: front_at(tokens),
+        });
+    }
+    let (minus, addend) = sign_at(signs)?;
+    if truth {
+        return Err(PolicyFault::Kind {
+            at: front_at(signs),
+        });
+    }
+    let (number, rest) = number_at(addend)?;
+    if number > 1_000_000_000 {
+        return Err(PolicyFault::Range {
+            at: front_at(addend),
+        });
+    }
+    if number != 0 && !room {
+        return Err(PolicyFault::Limit {
+            at: front_at(addend),
+        });
+    }
+    let by = signed(minus, number);
+    Ok((Update::Add { var, by }, rest))
+}
+
+fn right_at<'a>(
+    maxint: i32,
+    room: bool,
+    name: &[u8],
+    var: (u32, bool),
+    tokens: &'a [Token],
+) -> Result<(Update, &'a [Token]), PolicyFault>
+    ensures { ReadsAs (λ r. (r.0, r.1.now)) result (right_at maxint room name.now var tokens.now) }
+{
+    if is_name(tokens) {
+        sum_at(room, name, var.0, var.1, tokens)
+    } else {
+        set_at(maxint, var.0, var.1, tokens)
+    }
+}
+
+/// The updates so far, and behind them the one that has to stand first. The longest branch has so many atoms of its
+/// own.
+#[tactic(auto, unfolding(crate::specs::Updates::update_at))]
+fn update_at<'a>(
+    vars: &[Var],
+    maxint: i32,
+    atoms: usize,
+    updates: List<Update>,
+    tokens: &'a [Token],
+) -> Result<(List<Update>, &'a [Token]), PolicyFault>
+    requires { length vars.now ≤ 16 }
+    ensures { ReadsAs (λ r. (r.0, r.1.now)) result (update_at vars.now maxint atoms updates tokens.now) }
+{
+    let (name, equals) = name_at(tokens)?;
+    let var = match variable_named(vars, name) {
+        Some(var) => var,
+        None => {
+            return Err(PolicyFault::Name {
+                at: front_at(tokens),
+            });
+        }
+    };
+    if is_updated(updates.as_slice(), var.0) {
+        return Err(PolicyFault::Twice {
+            at: front_at(tokens),
+        });
+    }
+    let right = behind("=", equals)?;
+    let room = atoms.saturating_add(all_range_atoms(updates.as_slice())) < 16;
+    let (update, end) = right_at(maxint, room, name, var, right)?;
+    let rest = behind(";", end)?;
+    let mut updates = updates;
+    updates.push(update)?;
+    Ok((updates, rest))
+}
+
+fn updates_at<'a>(
+    alloc: Global,
+    vars: &[Var],
+    maxint: i32,
+    atoms: usize,
+    tokens: &'a [Token],
+) -> Result<(List<Update>, &'a [Token]), PolicyFault>
+    requires { length vars.now ≤ 16 }
+    ensures { ReadsAs (λ r. (r.0, r.1.now)) result (each is_name (update_at vars.now maxint atoms) [] tokens.now) }
+{
+    let mut updates = List::new(alloc);
+    let mut left = tokens;
+    for _ in 0..tokens.len() {
+        if !is_name(left) {
+            return Ok((updates, left));
+        }
+        let (more, rest) = update_at(vars, maxint, atoms, updates, left)?;
+        updates = more;
+        left = rest;
+    }
+    Ok((updates, left))
+}
+
+/// The updates between braces, which have to stand first, and the tokens behind them. The longest branch of their
+/// guard has so many atoms of its own.
+#[tactic(auto, unfolding(crate::specs::Updates::block_at))]
+pub fn block_at<'a>(
+    alloc: Global,
+    vars: &[Var],
+    maxint: i32,
+    atoms: usize,
+    tokens: &'a [Token],
+) -> Result<(List<Update>, &'a [Token]), PolicyFault>
+    requires { length vars.now ≤ 16 }
+    ensures { ReadsAs (λ r. (r.0, r.1.now)) result (block_at vars.now maxint atoms tokens.now) }
+{
+    let opened = behind("{", tokens)?;
+    let (updates, end) = updates_at(alloc, vars, maxint, atoms, opened)?;
+    let rest = behind("}", end)?;
+    Ok((updates, rest))
+}
