@@ -1,3 +1,4 @@
+pub mod Insns
 pub mod Loop
 pub mod Placing
 pub mod Telling

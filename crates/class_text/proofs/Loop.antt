@@ -12,7 +12,7 @@ pub through : {A B : Type 0} (e : ShowFault) (part : Result A ShowFault) (whole 
 through (faults.Code class method fault) part whole f h = f h
 through faults.Memory part whole f h = tt
 
-text_or : List ℕ → Shown → List ℕ
+abbrev text_or : List ℕ → Shown → List ℕ
 text_or other (Ok text) = text
 text_or other (Err e) = other
 
@@ -60,3 +60,9 @@ module _ {X : Type 0} (one : ℕ → X → Shown) where
 pub any_place : {X : Type 0} (one : X → Shown) (i j : ℕ) (xs : List X) → texts_from (λ at. one) i xs ≡ texts_from (λ at. one) j xs
 any_place one i j [] = refl
 any_place one i j (x ∷ xs) = ap (λ rest. one x >>= λ first. rest >>= λ others. Ok (first ++ others)) (any_place one (i + 1) (j + 1) xs)
+
+-- one item more of those that do not tell their place
+pub goes_on_there : {X : Type 0} (one : X → Shown) (front new : List ℕ) (all rest : List X) (x : X) (total : Shown) → all ≡ x ∷ rest → with_front front (one x) ≡ Ok new
+    → with_front front (texts_from (λ at. one) 0 all) ≡ total → with_front new (texts_from (λ at. one) 0 rest) ≡ total
+goes_on_there one front new all rest x total split ok so_far =
+    ap (with_front new) (any_place one 0 1 rest) ∙ goes_on (λ at. one) front new all rest x 0 total split ok so_far

@@ -38,7 +38,7 @@ fn reference_of(
     pool: &[Const],
     constant: Option<&Const>,
 ) -> Result<Option<MethodId>, NoMemory>
-    ensures { IfOk result (λ id. id ≡ reference_of pool.now (option_copied constant)) }
+    ensures { IfOk result (λ id. id ≡ reference_of pool.now (option_copied constant.entry)) }
 {
     match constant {
         Some(Const::Method(class, member)) => {
@@ -66,7 +66,7 @@ fn called_by(alloc: Global, pool: &[Const], insn: &Insn) -> Result<Option<Method
 
 /// Appends the class that declares the method, its name and its descriptor.
 fn push_api(out: &mut Bytes, method: Option<&ListedMethod>) -> Result<(), NoMemory>
-    ensures { OnOk result (out.new ≡ out.old ++ spaced (api_words (option_copied method))) }
+    ensures { OnOk result (out.new ≡ out.old ++ spaced (api_words (option_copied method.entry))) }
 {
     let Some(method) = method else {
         return Ok(());

@@ -89,12 +89,7 @@ fn push_range(out: &mut Bytes, low: i32, upwards: &[u32]) -> Result<(), NoMemory
     push_count_words(out, upwards)
 }
 
-fn push_lookup(
-    out: &mut Bytes,
-    other: u32,
-    keys: &[i32],
-    targets: &[u32],
-) -> Result<(), NoMemory>
+fn push_lookup(out: &mut Bytes, other: u32, keys: &[i32], targets: &[u32]) -> Result<(), NoMemory>
     ensures { OnOk result (out.new ≡ out.old ++ spaced (decimal other ∷ (map signed_decimal keys.now ++ map decimal targets.now))) }
 {
     push_count_word(out, other as u64)?;

@@ -132,8 +132,10 @@ impl<'a> Library<'a> {
         names: &mut List<Bytes>,
         interfaces: &mut List<Bytes>,
     ) -> Result<(), NoMemory>
-        ensures names { OnOk result (names.new ≡ names.old ++ names_of (upwards (length self.now.classes) self.now.classes name.now)) }
-        ensures interfaces { OnOk result (interfaces.new ≡ interfaces.old ++ interfaces_of (upwards (length self.now.classes) self.now.classes name.now)) }
+        ensures names { OnOk result (names.new
+            ≡ names.old ++ names_of (upwards (length self.now.classes) self.now.classes name.now)) }
+        ensures interfaces { OnOk result (interfaces.new
+            ≡ interfaces.old ++ interfaces_of (upwards (length self.now.classes) self.now.classes name.now)) }
     {
         let mut at = name;
         for _ in 0..self.listing.classes.len() {
@@ -164,7 +166,8 @@ fn add_class(
     name: &Bytes,
     place: usize,
 ) -> Result<(), NoMemory>
-    ensures { OnOk result ((q : List ℕ) → place_in places.new q ≡ option_or (place_in places.old q) (if bytes_eq name.now q then Some place else None)) }
+    ensures { OnOk result ((q : List ℕ) → place_in places.new q
+        ≡ option_or (place_in places.old q) (if bytes_eq name.now q then Some place else None)) }
 {
     if !places.contains_key(name) {
         places.insert(name.copy(alloc)?, place)?;
@@ -173,10 +176,7 @@ fn add_class(
 }
 
 /// The place of the first class of each name.
-fn class_places(
-    alloc: Global,
-    classes: &[ListedClass],
-) -> Result<BTreeMap<Bytes, usize>, NoMemory>
+fn class_places(alloc: Global, classes: &[ListedClass]) -> Result<BTreeMap<Bytes, usize>, NoMemory>
     ensures { IfOk result (λ places. ClassesPlaced places classes.now) }
 {
     let mut places = BTreeMap::new(alloc);
@@ -197,7 +197,8 @@ fn add_method(
     id: &MethodId,
     place: usize,
 ) -> Result<(), NoMemory>
-    ensures { OnOk result ((q : MethodId) → method_in places.new q ≡ option_or (method_in places.old q) (if is_method q.class q.name q.desc id.now then Some place else None)) }
+    ensures { OnOk result ((q : MethodId) → method_in places.new q
+        ≡ option_or (method_in places.old q) (if is_method q.class q.name q.desc id.now then Some place else None)) }
 {
     if !places.contains_key(id) {
         places.insert(id.copy(alloc)?, place)?;

@@ -1,14 +1,16 @@
 //! The text of class files.
 
-ghost use Rattle.std.specs.Prelude.{◌≡◌, ◌++◌, ◌≤◌, ◌<◌, ◌^◌, true, length, slice_get, filter_map, option_copied, OnOk, IfOk, IfSome};
+ghost use Rattle.std.specs.Prelude.{◌≡◌, ◌++◌, ◌≤◌, ◌<◌, ◌^◌, true, length, slice_get, filter_map, Some};
+ghost use Rattle.std.specs.Prelude.{option_copied, OnOk, IfOk};
 ghost use Rattle.std.specs.List.{AllByRecursion, flat_map};
-ghost use Rattle.class_codec.specs.Fits.{CanSpell, FitsMember, FitsAttr};
+ghost use Rattle.class_codec.specs.Fits.{CanSpell, FitsMember};
 ghost use Rattle.insn_codec.specs.Reading.{code_of};
 ghost use Rattle.insn_codec.specs.Spelling.{len_from, starts_of};
 ghost use Rattle.bytecode_model.specs.Heads.{class_at};
 ghost use Rattle.bytecode_model.specs.Conditions.{code_in};
 ghost use Rattle.class_text.specs.Lines.{handler_line};
-ghost use Rattle.class_text.specs.Shown.{insn_lines, code_told, read_of, body_shown, method_shown, texts_from, class_shown, shown, Answers, Appends, Tells};
+ghost use Rattle.class_text.specs.Shown.{insn_lines, code_told, read_of, body_shown, method_shown, texts_from, class_shown};
+ghost use Rattle.class_text.specs.Shown.{shown, Answers, Appends, Tells};
 
 use crate::fault::ShowFault;
 use crate::library::Library;
@@ -128,7 +130,12 @@ fn push_body(
     ensures { Appends result out.old out.new (body_shown library.now file.now method member.now (Some code.now)) }
 {
     let pool = file.pool.as_slice();
-    let insns = read_insns(alloc, class_at(pool, file.this_class), method, code.code.as_slice())?;
+    let insns = read_insns(
+        alloc,
+        class_at(pool, file.this_class),
+        method,
+        code.code.as_slice(),
+    )?;
     push_method_line(out, pool, member, code.max_stack, code.max_locals)?;
     push_insns(alloc, out, library, pool, insns.as_slice())?;
     push_handlers(out, pool, code.table.as_slice())?;

@@ -55,14 +55,18 @@ fn file_of(alloc: Global, lines: &[&str]) -> Result<ClassFile, Fail>
     for line in lines {
         push_line(&mut bytes, line.as_bytes())?;
     }
-    let file = decode(alloc, &bytes).ok().ok_or("the bytes are a class file")?;
+    let file = decode(alloc, &bytes)
+        .ok()
+        .ok_or("the bytes are a class file")?;
     Ok(file)
 }
 
 fn listing_of(alloc: Global, text: &str) -> Result<Listing, Fail>
     ensures { IfOk result IsFew }
 {
-    let listing = read(alloc, text.as_bytes()).ok().ok_or("the text is a listing")?;
+    let listing = read(alloc, text.as_bytes())
+        .ok()
+        .ok_or("the text is a listing")?;
     Ok(listing)
 }
 
@@ -152,7 +156,9 @@ fn the_first_code_that_is_none(rt: HostRuntime) -> Result<(), Fail> {
     let fault = show(alloc, &listing, &files).err().ok_or("a code is none")?;
     assert_eq!(rt; fault.number(), 148);
     let expected = ShowFault::Code {
-        class: Bytes::from_slice(alloc, b"a/B").ok().ok_or("memory is left")?,
+        class: Bytes::from_slice(alloc, b"a/B")
+            .ok()
+            .ok_or("memory is left")?,
         method: 1,
         fault: CodeFault::End { at: 1 },
     };
