@@ -1,0 +1,4 @@
+pub mod Insns
+pub mod Loop
+pub mod Placing
+pub mod Telling
