@@ -7,3 +7,4 @@ pub mod Operands
 pub mod Handlers
 pub mod Linking
 pub mod Index
+pub mod Sound
