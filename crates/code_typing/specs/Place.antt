@@ -38,6 +38,10 @@ name_referred place = option_map_or (λ (id : MethodId). id.name) (referred plac
 abbrev pub desc_referred : Place → List ℕ
 desc_referred place = option_map_or (λ (id : MethodId). id.desc) (referred place) []
 
+-- what is named, where something is
+abbrev pub target_or_none : Option Target → Target
+target_or_none ref = option_map_or (λ (t : Target). t) ref target.None
+
 -- the class or the array type that is named
 abbrev pub class_of : Target → List ℕ
 class_of (target.ClassName name) = name

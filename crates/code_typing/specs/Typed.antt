@@ -1,5 +1,5 @@
 -- When a program is typed, and the first place at which it is not.
-use Rattle.std.specs.Prelude.{◌≡◌, ℕ, zero, suc, ◌+◌, Bool, true, false, if◌then◌else◌, List, [], ◌∷◌, length, drop, take, filter, Option, Some, None, is_some, option_map, option_and_then, slice_get}
+use Rattle.std.specs.Prelude.{◌≡◌, ℕ, zero, suc, ◌+◌, Bool, true, false, ◌&&◌, if◌then◌else◌, List, [], ◌∷◌, length, drop, take, filter, Option, Some, None, is_some, option_map, option_and_then, slice_get}
 use Rattle.std.specs.Option.{option_map_or, option_or}
 use Rattle.cert_format.specs.declared.typing.FrameType.{FrameType}
 use Rattle.cert_format.specs.declared.typing.Typing.{Typing}
@@ -8,9 +8,8 @@ use Rattle.bytecode_model.specs.declared.program.LinkedClass.{LinkedClass}
 use Rattle.bytecode_model.specs.declared.program.Method.{Method}
 use Rattle.bytecode_model.specs.declared.program.Program.{Program}
 use Rattle.bytecode_model.specs.declared.program.Target.{Target}
-use Rattle.bytecode_model.specs.declared.program.Target.TheVariants as target
 use Rattle.code_typing.specs.declared.fault.TypeFault.{TypeFault}
-use Rattle.code_typing.specs.Place.{Place}
+use Rattle.code_typing.specs.Place.{Place, target_or_none}
 use Rattle.code_typing.specs.Rules.{Frames, frame_of, row_failing}
 use Rattle.code_typing.specs.Shape.{has_code, coded}
 
@@ -18,7 +17,7 @@ use Rattle.code_typing.specs.Shape.{has_code, coded}
 
 -- what the operand of an instruction names
 abbrev pub ref_of : Method → ℕ → Target
-ref_of method at = option_map_or (λ (ref : Target). ref) (slice_get method.refs at) target.None
+ref_of method at = target_or_none (slice_get method.refs at)
 
 abbrev pub place_at : Program → ℕ → LinkedClass → Method → ℕ → Insn → Place
 place_at program own class method at insn = record {
@@ -38,12 +37,16 @@ row_in program own class method frames at =
 
 -- ---- of a program
 
+-- the list of this index, or the empty one
+abbrev pub list_at : {A : Type 0} → List (List A) → ℕ → List A
+list_at {A = A} lists index = option_map_or (λ (list : List A). list) (slice_get lists index) []
+
 -- the frames of the method of this index; those told are of the methods with code
 abbrev pub frames_in : List Method → List Frames → ℕ → Frames
-frames_in methods told method = option_map_or (λ (f : Frames). f) (slice_get told (length (coded (take method methods)))) []
+frames_in methods told method = list_at told (length (coded (take method methods)))
 
 abbrev pub frames_told : Typing → ℕ → List Frames
-frames_told typing class = option_map_or (λ (f : List Frames). f) (slice_get typing.frames class) []
+frames_told typing class = list_at typing.frames class
 
 abbrev pub row_of_method : Program → Typing → ℕ → LinkedClass → ℕ → ℕ → Option ℕ
 row_of_method program typing own class method at =
@@ -69,22 +72,17 @@ first_row row class method (suc n) at =
 abbrev pub method_fault : Program → ℕ → LinkedClass → Method → Frames → ℕ → Option TypeFault
 method_fault program own class method frames index = first_row (row_in program own class method frames) own index (length method.insns) 0
 
--- the frames that are told first
-abbrev pub first_told : {A : Type 0} → List (List A) → List A
-first_told [] = []
-first_told (first ∷ told) = first
-
 -- of methods, of which the first has this index
 abbrev pub methods_fault : Program → ℕ → LinkedClass → ℕ → List Method → List Frames → Option TypeFault
 methods_fault program own class index [] told = None
 methods_fault program own class index (m ∷ methods) told =
-    if has_code m then option_or (method_fault program own class m (first_told told) index) (methods_fault program own class (index + 1) methods (drop 1 told))
+    if has_code m then option_or (method_fault program own class m (list_at told 0) index) (methods_fault program own class (index + 1) methods (drop 1 told))
     else methods_fault program own class (index + 1) methods told
 
 abbrev pub classes_fault : Program → ℕ → List LinkedClass → List (List Frames) → Option TypeFault
 classes_fault program own [] told = None
 classes_fault program own (class ∷ classes) told =
-    option_or (methods_fault program own class 0 class.methods (first_told told)) (classes_fault program (own + 1) classes (drop 1 told))
+    option_or (methods_fault program own class 0 class.methods (list_at told 0)) (classes_fault program (own + 1) classes (drop 1 told))
 
 -- the first instruction whose row fails, by class, method and instruction, and the rule
 abbrev pub typing_fault : Program → Typing → Option TypeFault
@@ -92,7 +90,12 @@ typing_fault program typing = classes_fault program 0 program.classes typing.fra
 
 -- ---- what is reached
 
+-- whether an instruction of the method of this index has a frame
+abbrev pub reached_in : List Method → List Frames → ℕ → ℕ → Bool
+reached_in methods told method at =
+    option_map_or (λ (m : Method). has_code m && is_some (frame_of (frames_in methods told method) at)) (slice_get methods method) false
+
 -- whether the instruction has a frame
 abbrev pub reached : Program → Typing → ℕ → ℕ → ℕ → Bool
 reached program typing class method at =
-    option_map_or (λ (c : LinkedClass). is_some (frame_of (frames_in c.methods (frames_told typing class) method) at)) (slice_get program.classes class) false
+    option_map_or (λ (c : LinkedClass). reached_in c.methods (frames_told typing class) method at) (slice_get program.classes class) false

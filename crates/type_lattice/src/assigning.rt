@@ -6,7 +6,7 @@ ghost use Rattle.type_lattice.specs.Assigning.{name_fits, assignable};
 ghost use Rattle.type_lattice.specs.Lending.{array_of, described, type_lent};
 ghost use Rattle.type_lattice.specs.declared.lending.TypeRef.{TypeRef};
 ghost use Rattle.bytecode_model.specs.declared.program.Program.{Program};
-ghost use Rattle.cert_format.specs.declared.typing.VType.TheVariants.{Ref, Uninit};
+ghost use Rattle.cert_format.specs.declared.typing.VType.TheVariants.{Ref};
 
 use crate::classes::{is_below, is_interface};
 use crate::lending::{TypeRef, lend};
@@ -25,7 +25,7 @@ pub fn assignable(program: &Program, from: &VType, to: &VType) -> bool
 
 /// The same of a type that is lent.
 pub fn lent_fits(program: &Program, from: TypeRef, to: &VType) -> bool
-    ensures { result ≡ assignable program.now (type_lent from) to.now }
+    ensures { result ≡ assignable program.now (type_lent from.entry) to.now }
 {
     match to {
         VType::Top => true,
@@ -33,13 +33,18 @@ pub fn lent_fits(program: &Program, from: TypeRef, to: &VType) -> bool
         VType::Null => matches!(from, TypeRef::Null),
         VType::Ref(to) => fits_class(program, from, to.as_slice()),
         VType::UninitThis => matches!(from, TypeRef::UninitThis),
-        VType::Uninit(at) => is_uninit(from, *at),
+        VType::Uninit(at) => {
+            match from {
+                TypeRef::Uninit(other) => other == *at,
+                _ => false,
+            }
+        }
     }
 }
 
 /// Whether a value of the type may stand where a reference to this class or array is wanted.
 pub fn fits_class(program: &Program, from: TypeRef, to: &[u8]) -> bool
-    ensures { result ≡ assignable program.now (type_lent from) (Ref to.now) }
+    ensures { result ≡ assignable program.now (type_lent from.entry) (Ref to.now) }
 {
     match from {
         TypeRef::Null => true,
@@ -49,20 +54,18 @@ pub fn fits_class(program: &Program, from: TypeRef, to: &[u8]) -> bool
     }
 }
 
-fn is_uninit(from: TypeRef, at: u32) -> bool
-    ensures { (program : Program) → result ≡ assignable program (type_lent from) (Uninit at) }
-{
-    match from {
-        TypeRef::Uninit(other) => other == at,
-        _ => false,
-    }
-}
-
 /// An array of these items.
+#[tactic(auto, using(crate::proofs::Arrays::array_of_item))]
 fn array_of_fits(program: &Program, item: &[u8], to: &[u8]) -> bool
     ensures { result ≡ name_fits program.now (array_of item.now) to.now }
 {
-    to == OBJECT || is_interface(program, to) || items_fit(program, item, to)
+    if to == OBJECT {
+        return true;
+    }
+    if is_interface(program, to) {
+        return true;
+    }
+    items_fit(program, item, to)
 }
 
 /// An array of these items, where an array is wanted.
@@ -122,15 +125,12 @@ fn component_fits(program: &Program, from: &[u8], to: &[u8]) -> bool
 {
     let mut from = from;
     let mut to = to;
-    while let [c, inner @ ..] = from {
-        let [d, inner_to @ ..] = to else {
+    while let [b'[', below @ ..] = from {
+        let [b'[', above @ ..] = to else {
             return leaf_fits(program, from, to);
         };
-        if *c != b'[' || *d != b'[' {
-            return leaf_fits(program, from, to);
-        }
-        from = inner;
-        to = inner_to;
+        from = below;
+        to = above;
     }
     leaf_fits(program, from, to)
 }

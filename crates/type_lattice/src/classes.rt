@@ -11,9 +11,10 @@ use bytecode_model::{LinkedClass, Program};
 use class_codec::{Const, class_name_at};
 use std::marker::Model;
 
-/// A class on the way up: its superclass, and whether it is an interface.
+/// A class on the way up: its name, its superclass, and whether it is an interface.
 #[derive(Drop)]
 struct Rung<'a> {
+    name: &'a [u8],
     parent: &'a [u8],
     is_interface: bool,
 }
@@ -23,7 +24,7 @@ impl<'a> Model for Rung<'a> {
 
     ghost Value = { Step };
 
-    ghost view = { λ r. record { parent = r.parent.now; is_interface = r.is_interface } };
+    ghost view = { λ r. record { name = r.name.now; parent = r.parent.now; is_interface = r.is_interface } };
 }
 
 /// The name of the class that the index names, or none.
@@ -43,8 +44,10 @@ fn given_rung<'a>(classes: &'a [LinkedClass], name: &[u8]) -> Option<Rung<'a>>
     let mut left = classes;
     while let [class, later @ ..] = left {
         let pool = class.file.pool.as_slice();
-        if class_at(pool, class.file.this_class) == name {
+        let own = class_at(pool, class.file.this_class);
+        if own == name {
             return Some(Rung {
+                name: own,
                 parent: class_at(pool, class.file.super_class),
                 is_interface: class.file.flags & 0x0200 != 0,
             });
@@ -61,6 +64,7 @@ fn rung_of<'a>(program: &'a Program, name: &[u8]) -> Option<Rung<'a>>
     match find_class(program.listing.classes.as_slice(), name) {
         Some(class) => {
             Some(Rung {
+                name: class.name.as_slice(),
                 parent: class.parent.as_slice(),
                 is_interface: class.is_interface,
             })
@@ -83,13 +87,15 @@ pub fn is_interface(program: &Program, name: &[u8]) -> bool
 pub fn is_below(program: &Program, class: &[u8], above: &[u8]) -> bool
     ensures { result ≡ is_below program.now class.now above.now }
 {
-    let count = program.listing.classes.len() as u64 + program.classes.len() as u64;
+    let listed = program.listing.classes.as_slice();
+    let given = program.classes.as_slice();
+    let count = listed.len() + given.len();
     let mut at = class;
     for _ in 0..count {
         let Some(rung) = rung_of(program, at) else {
             return false;
         };
-        if at == above {
+        if rung.name == above {
             return true;
         }
         at = rung.parent;

@@ -9,3 +9,6 @@ mod lending;
 pub use assigning::{assignable, fits_class, lent_fits};
 pub use classes::{is_below, is_interface};
 pub use lending::{TypeRef, lend};
+
+#[cfg(test)]
+mod tests;

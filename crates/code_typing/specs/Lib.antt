@@ -1,0 +1,10 @@
+pub mod Shape
+pub mod Described
+pub mod Place
+pub mod Wants
+pub mod Wanted
+pub mod Makes
+pub mod Changing
+pub mod Rules
+pub mod Typed
+pub mod Closed
