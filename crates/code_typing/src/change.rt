@@ -126,7 +126,7 @@ pub fn change_of<'a>(place: &PlaceRef<'a>, taken: &'a [VType]) -> Change<'a>
 
 /// The type afterwards.
 pub fn change_told<'a>(change: Change<'a>, t: &'a VType) -> TypeRef<'a>
-    ensures { type_lent result ≡ change_told change t.now }
+    ensures { type_lent result ≡ change_told change.entry t.now }
 {
     match change {
         Change::Nothing => lend(t),

@@ -32,7 +32,7 @@ pub fn frame_of(frames: &[Option<FrameType>], at: usize) -> Option<&FrameType>
 
 /// Whether operands that stay are assignable to these.
 fn below_fits(program: &Program, change: Change, from: &[VType], to: &[VType]) -> bool
-    ensures { result ≡ stack_fits program.now (map (change_told change) from.now) to.now }
+    ensures { result ≡ stack_fits program.now (map (change_told change.entry) from.now) to.now }
 {
     let mut from = from;
     let mut to = to;
@@ -58,7 +58,7 @@ fn stack_takes(
     taken: &[VType],
     to: &[VType],
 ) -> bool
-    ensures { result ≡ stack_fits place.now.program (map (change_told change) below.now ++ yields place.now locals.now taken.now) to.now }
+    ensures { result ≡ stack_fits place.now.program (map (change_told change.entry) below.now ++ yields place.now locals.now taken.now) to.now }
 {
     if to.len() < below.len() {
         return false;

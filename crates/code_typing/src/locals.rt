@@ -65,7 +65,7 @@ fn local_told<'a>(
     taken: &'a [VType],
     j: usize,
 ) -> TypeRef<'a>
-    ensures { type_lent result ≡ local_told shape change locals.now taken.now j }
+    ensures { type_lent result ≡ local_told shape change.entry locals.now taken.now j }
 {
     if stores(shape, j) {
         return type_at(taken, 0);
@@ -85,7 +85,7 @@ pub fn locals_take(
     taken: &[VType],
     to: &[VType],
 ) -> bool
-    ensures { result ≡ locals_fit program.now (local_told shape change locals.now taken.now) 0 to.now }
+    ensures { result ≡ locals_fit program.now (local_told shape change.entry locals.now taken.now) 0 to.now }
 {
     let mut j: usize = 0;
     let mut left = to;

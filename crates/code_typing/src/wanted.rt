@@ -135,7 +135,7 @@ pub fn to_described(program: &Program, desc: &[u8], t: &VType) -> bool
 
 /// Whether the type is what is wanted.
 pub fn is_wanted(program: &Program, want: Wanted, t: &VType) -> bool
-    ensures { result ≡ want_of program.now want t.now }
+    ensures { result ≡ want_of program.now want.entry t.now }
 {
     match want {
         Wanted::Number => is_number(t),
@@ -151,7 +151,7 @@ pub fn is_wanted(program: &Program, want: Wanted, t: &VType) -> bool
 
 /// Whether there is one type, and it is what is wanted.
 pub fn one_is(program: &Program, want: Wanted, types: &[VType]) -> bool
-    ensures { result ≡ all_met (want_of program.now want ∷ []) types.now }
+    ensures { result ≡ all_met (want_of program.now want.entry ∷ []) types.now }
 {
     match types {
         [] => false,
@@ -160,7 +160,7 @@ pub fn one_is(program: &Program, want: Wanted, types: &[VType]) -> bool
 }
 
 pub fn two_are(program: &Program, want: Wanted, second: Wanted, types: &[VType]) -> bool
-    ensures { result ≡ all_met (want_of program.now want ∷ want_of program.now second ∷ []) types.now }
+    ensures { result ≡ all_met (want_of program.now want.entry ∷ want_of program.now second.entry ∷ []) types.now }
 {
     match types {
         [] => false,
@@ -175,7 +175,7 @@ pub fn three_are(
     third: Wanted,
     types: &[VType],
 ) -> bool
-    ensures { result ≡ all_met (want_of program.now want ∷ want_of program.now second ∷ want_of program.now third ∷ []) types.now }
+    ensures { result ≡ all_met (want_of program.now want.entry ∷ want_of program.now second.entry ∷ want_of program.now third.entry ∷ []) types.now }
 {
     match types {
         [] => false,

@@ -78,7 +78,7 @@ fn constant_type<'a>(target: Option<&'a Target>) -> TypeRef<'a>
 
 /// The type of an item of an array of references.
 fn item_type(array: TypeRef) -> TypeRef
-    ensures { type_lent result ≡ item_type (type_lent array) }
+    ensures { type_lent result ≡ item_type (type_lent array.entry) }
 {
     match array {
         TypeRef::Null => TypeRef::Null,
@@ -136,7 +136,7 @@ fn array_named(kind: u8) -> &'static [u8]
 // ---- whether the pushed are assignable
 
 fn one_fits(program: &Program, from: TypeRef, to: &[VType]) -> bool
-    ensures { result ≡ stack_fits program.now (type_lent from ∷ []) to.now }
+    ensures { result ≡ stack_fits program.now (type_lent from.entry ∷ []) to.now }
 {
     match to {
         [] => false,
