@@ -1,5 +1,5 @@
 -- The places of a typed program that have a frame are closed under control.
-use Rattle.std.proofs.Common.{◌≡◌, ℕ, zero, suc, ◌+◌, ◌<◌, ◌≤◌, Bool, true, false, cond, List, [], ◌∷◌, length, Option, Some, None, refl, sym, ap, subst, ◌∙◌, arith}
+use Rattle.std.proofs.Common.{◌≡◌, ℕ, zero, suc, ◌+◌, ◌<◌, ◌≤◌, Bool, true, false, cond, List, [], ◌∷◌, length, get_or, Option, Some, None, refl, sym, ap, subst, ◌∙◌, arith}
 use Rattle.std.specs.Prelude.{IsTrue, Contains, is_some, slice_get, nat_lt, not, ◌&&◌, option_and_then}
 use Rattle.std.specs.Option.{option_map_or}
 use Rattle.std.proofs.lemmas.Bool.{lt-ltb, and_from, and_parts}
@@ -63,7 +63,7 @@ begins program typing typed class method of e some =
     let s = stands program class method of e in
     let insn = slice_get-get_or of.insns 0 (insns.Plain 0) some in
     let row = sym (row_is program typing class method of s 0 _ insn) ∙ typed class method 0 in
-    there_now program typing class method of s 0 0 _ insn (first_there program typing class method of s _ _ row)
+    there_now program typing class method of s 0 0 _ insn (first_there program typing class method of s _ (get_or of.insns 0 (insns.Plain 0)) row)
 
 pub goes_on : GoesToReached
 goes_on program typing typed class method at of insn e there inside to c =
@@ -72,8 +72,9 @@ goes_on program typing typed class method at of insn e there inside to c =
     let row = sym (row_is program typing class method of s at insn there) ∙ typed class method at in
     let here : row_failing (frames program typing class method of s) (place_at program class s.in' of at insn) (Some f.0) ≡ None =
       ap (row_failing (frames program typing class method of s) (place_at program class s.in' of at insn)) (sym f.1) ∙ row in
-    let p = row_passed _ _ f.0 here in
-    there_now program typing class method of s at to insn there (goes_to_frame _ _ f.0 p to c)
+    let place = place_at program class s.in' of at insn in
+    let p = row_passed (frames program typing class method of s) place f.0 here in
+    there_now program typing class method of s at to insn there (goes_to_frame (frames program typing class method of s) place f.0 p to c)
 
 pub caught : IsCaughtReached
 caught program typing typed class method at of insn handler e there inside c from to =
@@ -82,5 +83,6 @@ caught program typing typed class method at of insn handler e there inside c fro
     let row = sym (row_is program typing class method of s at insn there) ∙ typed class method at in
     let here : row_failing (frames program typing class method of s) (place_at program class s.in' of at insn) (Some f.0) ≡ None =
       ap (row_failing (frames program typing class method of s) (place_at program class s.in' of at insn)) (sym f.1) ∙ row in
-    let p = row_passed _ _ f.0 here in
-    there_now program typing class method of s at handler.at insn there (caught_at_frame _ _ f.0 p handler c from to)
+    let place = place_at program class s.in' of at insn in
+    let p = row_passed (frames program typing class method of s) place f.0 here in
+    there_now program typing class method of s at handler.at insn there (caught_at_frame (frames program typing class method of s) place f.0 p handler c from to)

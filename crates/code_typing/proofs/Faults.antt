@@ -44,7 +44,9 @@ method_typed : (program : Program) (own : ℕ) (class : LinkedClass) (m : Method
     → method_fault program own class m frames index ≡ None → MethodTyped program own class m frames
 method_typed program own class m frames index e at =
     elim (cases_lt at (length m.insns)) [
-      | inl less ↦ row_none (row_in program own class m frames) own index (length m.insns) 0 e at less
+      | inl less ↦
+        let same : 0 + at ≡ at = omega arith in
+        subst (λ (n : ℕ). row_in program own class m frames n ≡ None) same (row_none (row_in program own class m frames) own index (length m.insns) 0 e at less)
       | inr more ↦ beyond program own class m frames at (slice_get_past m.insns at more)
     ]
 
@@ -75,38 +77,38 @@ MethodsTyped program own class methods told =
 
 module _ (program : Program) (own : ℕ) (class : LinkedClass) where
   methods_typed : (methods : List Method) (told : List Frames) (index : ℕ) → methods_fault program own class index methods told ≡ None → MethodsTyped program own class methods told
-  methods_typed [] told index e k n s at = absurd cc
+  methods_typed [] told index e k n s = absurd cc
   methods_typed (m ∷ methods) told index e zero n s =
       let same = some_is m n s in
       elim (cases_Bool (has_code m)) [
-        | inl yes ↦
-          let h = of_both (has_code m) _ _ _ e yes in
+        | inl coded' ↦
+          let h = of_both (has_code m) _ _ _ e coded' in
           subst (λ (x : Method). MethodTyped program own class x (list_at told 0)) same (method_typed program own class m (list_at told 0) index h.0)
-        | inr no ↦ subst (λ (x : Method). MethodTyped program own class x (list_at told 0)) same (bare program own class m (list_at told 0) no)
+        | inr bare' ↦ subst (λ (x : Method). MethodTyped program own class x (list_at told 0)) same (bare program own class m (list_at told 0) bare')
       ]
   methods_typed (m ∷ methods) told index e (suc k) n s =
       elim (cases_Bool (has_code m)) [
-        | inl yes ↦
-          let h = of_both (has_code m) _ _ _ e yes in
-          subst (λ (f : Frames). MethodTyped program own class n f) (sym (with_code m methods told k yes)) (methods_typed methods (drop 1 told) (index + 1) h.1 k n s)
-        | inr no ↦
-          let h = of_other (has_code m) _ _ e no in
-          subst (λ (f : Frames). MethodTyped program own class n f) (sym (without_code m methods told k no)) (methods_typed methods told (index + 1) h k n s)
+        | inl coded' ↦
+          let h = of_both (has_code m) _ _ _ e coded' in
+          subst (λ (f : Frames). MethodTyped program own class n f) (sym (with_code m methods told k coded')) (methods_typed methods (drop 1 told) (index + 1) h.1 k n s)
+        | inr bare' ↦
+          let h = of_other (has_code m) _ _ e bare' in
+          subst (λ (f : Frames). MethodTyped program own class n f) (sym (without_code m methods told k bare')) (methods_typed methods told (index + 1) h k n s)
       ]
 
   typed_methods : (methods : List Method) (told : List Frames) (index : ℕ) → MethodsTyped program own class methods told → methods_fault program own class index methods told ≡ None
   typed_methods [] told index h = refl
   typed_methods (m ∷ methods) told index h =
       elim (cases_Bool (has_code m)) [
-        | inl yes ↦
-          rw yes
+        | inl coded' ↦
+          rw coded'
               (both_none _ _ (typed_method program own class m (list_at told 0) index (h 0 m refl))
               (typed_methods methods (drop 1 told) (index + 1)
-              (λ k n s. subst (λ (f : Frames). MethodTyped program own class n f) (with_code m methods told k yes) (h (suc k) n s))))
-        | inr no ↦
-          rw no
+              (λ k n s. subst (λ (f : Frames). MethodTyped program own class n f) (with_code m methods told k coded') (h (suc k) n s))))
+        | inr bare' ↦
+          rw bare'
               (typed_methods methods told (index + 1)
-              (λ k n s. subst (λ (f : Frames). MethodTyped program own class n f) (without_code m methods told k no) (h (suc k) n s)))
+              (λ k n s. subst (λ (f : Frames). MethodTyped program own class n f) (without_code m methods told k bare') (h (suc k) n s)))
       ]
 
 -- ---- classes
@@ -143,16 +145,26 @@ module _ (program : Program) where
 
 -- ---- a program
 
+abbrev of_program : Program → Typing → ℕ → LinkedClass → Type 0
+of_program program typing class c = MethodsTyped program class c c.methods (frames_told typing class)
+
 pub typed_of : (program : Program) (typing : Typing) → typing_fault program typing ≡ None → IsTyped program typing
 typed_of program typing e class method at =
-    and_then_none _ (slice_get program.classes class)
-        (λ c there. and_then_none _ (slice_get c.methods method)
-        (λ m is. classes_typed program 0 program.classes typing.frames e class c there method m is at))
+    and_then_none (λ (c : LinkedClass). row_of_method program typing class c method at) (slice_get program.classes class)
+        (λ c there.
+            let same : 0 + class ≡ class = omega arith in
+            let h : of_program program typing class c =
+              subst (λ (n : ℕ). MethodsTyped program n c c.methods (frames_told typing class)) same (classes_typed program 0 program.classes typing.frames e class c there) in
+            and_then_none (λ (m : Method). row_in program class c m (frames_in c.methods (frames_told typing class) method) at) (slice_get c.methods method)
+                (λ m is. h method m is at))
 
 pub none_of : (program : Program) (typing : Typing) → IsTyped program typing → typing_fault program typing ≡ None
 none_of program typing h =
     typed_classes program 0 program.classes typing.frames
-        (λ class c there method m is at.
-            let row = h class method at in
-            let of_class : row_of_method program typing class c method at ≡ None = rw there at row in
-            rw is at of_class)
+        (λ class c there.
+            let same : 0 + class ≡ class = omega arith in
+            subst (λ (n : ℕ). MethodsTyped program n c c.methods (frames_told typing class)) (sym same)
+                (λ method m is at.
+                    let row = h class method at in
+                    let of_class : row_of_method program typing class c method at ≡ None = rw there at row in
+                    rw is at of_class))

@@ -1,6 +1,8 @@
 -- Stacks that are joined, and locals by their places.
 use Rattle.std.proofs.Common.{◌≡◌, ℕ, zero, suc, ◌+◌, Bool, true, false, List, [], ◌∷◌, ◌++◌, length, take, drop, map, replicate, Option, Some, None, refl, sym, ap, ◌∙◌, arith}
 use Rattle.std.specs.Prelude.{◌&&◌, ◌==◌, nat_eq}
+use Rattle.std.specs.Bool.{Decides}
+use Rattle.std.proofs.lemmas.Bool.Decides.{same_from_decides, Decides-eqb}
 use Rattle.cert_format.specs.declared.typing.VType.{VType}
 use Rattle.cert_format.specs.declared.typing.VType.TheVariants as types
 use Rattle.bytecode_model.specs.declared.program.Program.{Program}
@@ -29,7 +31,9 @@ locals_fit-same program f g same j [] = refl
 locals_fit-same program f g same j (t ∷ to) = rw (same j, locals_fit-same program f g same (j + 1) to) refl
 
 pub type_at-behind : (x : VType) (xs : List VType) (j : ℕ) → type_at (x ∷ xs) (j + 1) ≡ type_at xs j
-type_at-behind x xs j = refl
+type_at-behind x xs j =
+    let next : j + 1 ≡ suc j = omega arith in
+    rw next refl
 
 -- Behind the first local stand the others.
 pub locals_fit-behind : (program : Program) (x : VType) (xs : List VType) (j : ℕ) (to : List VType)
@@ -37,8 +41,19 @@ pub locals_fit-behind : (program : Program) (x : VType) (xs : List VType) (j : �
 locals_fit-behind program x xs j [] = refl
 locals_fit-behind program x xs j (t ∷ to) = rw (type_at-behind x xs j, locals_fit-behind program x xs (j + 1) to) refl
 
-pub all_met-anything : (n : ℕ) (types : List VType) → all_met (replicate n anything) types ≡ nat_eq (length types) n
-all_met-anything zero [] = refl
-all_met-anything zero (t ∷ types) = refl
-all_met-anything (suc n) [] = refl
-all_met-anything (suc n) (t ∷ types) = all_met-anything n types
+any_decides : (n : ℕ) (types : List VType) → Decides (all_met (replicate n anything) types) (length types ≡ n)
+any_decides zero [] = (λ e. refl, λ e. refl)
+any_decides zero (t ∷ types) = (λ e. absurd cc, λ e. absurd (omega arith))
+any_decides (suc n) [] = (λ e. absurd cc, λ e. absurd (omega arith))
+any_decides (suc n) (t ∷ types) =
+    let h = any_decides n types in
+    (λ e. ap suc (h.0 e), λ e. h.1 (omega (arith, e)))
+
+-- Where anything is wanted only the number counts.
+pub any_met : (n : ℕ) (types : List VType) → all_met (replicate n anything) types ≡ (length types == n)
+any_met n types = same_from_decides _ _ (any_decides n types) (Decides-eqb (length types) n)
+
+-- No local holds anything.
+pub locals_fit-none : (program : Program) (i j : ℕ) (to : List VType) → locals_fit program (type_at []) i to ≡ locals_fit program (type_at []) j to
+locals_fit-none program i j [] = refl
+locals_fit-none program i j (t ∷ to) = ap (λ b. assignable program types.Top t && b) (locals_fit-none program (i + 1) (j + 1) to)

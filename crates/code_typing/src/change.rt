@@ -27,7 +27,7 @@ pub enum Change<'a> {
 }
 
 fn made_by<'a>(shape: Shape, target: Option<&'a Target>) -> &'a [u8]
-    ensures { result.now ≡ made_by shape (target_or_none (option_copied target)) }
+    ensures { result.now ≡ made_by shape (target_or_none (option_copied target.entry)) }
 {
     match shape {
         Shape::Heap(Heap::New) => class_of(target),

@@ -73,7 +73,8 @@ pub fn arguments_text(desc: &[u8]) -> &[u8]
 
 /// How many arguments a method takes.
 pub fn arity(desc: &[u8]) -> usize
-    ensures { result ≡ length (arguments desc.now) }
+    ensures value { result ≡ length (arguments desc.now) }
+    ensures few { result ≤ 255 }
 {
     let mut count: usize = 0;
     let mut left = arguments_text(desc);

@@ -212,7 +212,7 @@ fn operands_met(place: &PlaceRef, shape: Shape, types: &[VType]) -> bool
 }
 
 fn is_result_of(kind: Option<Kind>, result_type: Option<TypeRef>) -> bool
-    ensures { result ≡ is_result_of kind (option_map type_lent result_type) }
+    ensures { result ≡ is_result_of kind (option_map type_lent result_type.entry) }
 {
     match kind {
         None => result_type.is_none(),

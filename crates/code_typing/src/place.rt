@@ -76,7 +76,7 @@ pub fn desc_referred<'a>(place: &PlaceRef<'a>) -> &'a [u8]
 
 /// The class or the array type that is named, or none.
 pub fn class_of<'a>(target: Option<&'a Target>) -> &'a [u8]
-    ensures { result.now ≡ class_of (target_or_none (option_copied target)) }
+    ensures { result.now ≡ class_of (target_or_none (option_copied target.entry)) }
 {
     match target {
         Some(Target::ClassName(name)) => name.as_slice(),

@@ -48,7 +48,7 @@ pub fn row_failing(
     place: &PlaceRef,
     frame: Option<&FrameType>,
 ) -> Option<u8>
-    ensures { result ≡ row_failing frames.now place.now (option_copied frame) }
+    ensures { result ≡ row_failing frames.now place.now (option_copied frame.entry) }
 {
     match frame {
         None => {

@@ -1,6 +1,6 @@
 //! What an instruction pushes. (The Java Virtual Machine Specification, section 6.5.)
 
-ghost use Rattle.std.specs.Prelude.{◌≡◌, ◌∷◌, [], ℕ, List, length, map, reverse, option_copied};
+ghost use Rattle.std.specs.Prelude.{◌≡◌, ◌≤◌, ◌∷◌, [], ℕ, List, length, map, reverse, option_copied};
 ghost use Rattle.insn_effect.specs.Forms.{order_of};
 ghost use Rattle.type_lattice.specs.Lending.{type_lent};
 ghost use Rattle.code_typing.specs.Makes.{
@@ -43,7 +43,8 @@ pub fn type_at(list: &[VType], i: usize) -> TypeRef<'_>
 
 /// The operands that a form puts back, counted from the top of those taken, the lowest first.
 fn put_back(form: StackForm) -> &'static [u8]
-    ensures { result.now ≡ reverse (order_of form) }
+    ensures value { result.now ≡ reverse (order_of form) }
+    ensures few { length result.now ≤ 6 }
 {
     match form {
         StackForm::Pop => b"".as_slice(),
@@ -66,7 +67,7 @@ fn moved_from(depth: u8, taken: &[VType], i: u8) -> TypeRef<'_>
 
 /// The type of the constant that is named.
 fn constant_type<'a>(target: Option<&'a Target>) -> TypeRef<'a>
-    ensures { type_lent result ≡ constant_type (target_or_none (option_copied target)) }
+    ensures { type_lent result ≡ constant_type (target_or_none (option_copied target.entry)) }
 {
     match target {
         Some(Target::Number(_)) => TypeRef::Int,
@@ -76,17 +77,7 @@ fn constant_type<'a>(target: Option<&'a Target>) -> TypeRef<'a>
     }
 }
 
-/// The type of an item of an array of references.
-fn item_type(array: TypeRef) -> TypeRef
-    ensures { type_lent result ≡ item_type (type_lent array.entry) }
-{
-    match array {
-        TypeRef::Null => TypeRef::Null,
-        TypeRef::Ref(name) => item_described(name),
-        _ => TypeRef::Top,
-    }
-}
-
+/// The type of an item of the array of this name.
 fn item_described(name: &[u8]) -> TypeRef<'_>
     ensures { type_lent result ≡ item_type (Ref name.now) }
 {
@@ -217,7 +208,8 @@ pub fn yields_fit(place: &PlaceRef, locals: &[VType], taken: &[VType], to: &[VTy
 // ---- how many are pushed
 
 fn heap_count(place: &PlaceRef, what: Heap) -> usize
-    ensures { (taken : List VType) → result ≡ length (heap_yields place.now taken what) }
+    ensures few { result ≤ 1 }
+    ensures value { (taken : List VType) → result ≡ length (heap_yields place.now taken what) }
 {
     match what {
         Heap::Call => {
@@ -234,7 +226,8 @@ fn heap_count(place: &PlaceRef, what: Heap) -> usize
 
 /// How many operands the instruction pushes.
 pub fn count_yielded(place: &PlaceRef) -> usize
-    ensures { (locals taken : List VType) → result ≡ length (yields place.now locals taken) }
+    ensures few { result ≤ 6 }
+    ensures value { (locals taken : List VType) → result ≡ length (yields place.now locals taken) }
 {
     match shape_of(place.insn) {
         Shape::Push(_) | Shape::Two(_) | Shape::One(_) | Shape::PushNull => 1,
