@@ -33,6 +33,18 @@ none_row : (row : ℕ → Option ℕ) (class method n at : ℕ) → ((k : ℕ) �
 none_row row class method zero at h = refl
 none_row row class method (suc n) at h = rw (h at) (none_row row class method n (at + 1) h)
 
+-- with i of n rows behind, the next one
+pub row_more : (row : ℕ → Option ℕ) (class method n i : ℕ) → i < n → row i ≡ None → first_row row class method (n - i) i ≡ first_row row class method (n - (i + 1)) (i + 1)
+row_more row class method n i less e =
+    let k : n - i ≡ suc (n - (i + 1)) = omega arith in
+    rw (k, e) refl
+
+pub row_found : (row : ℕ → Option ℕ) (class method n i rule : ℕ) → i < n → row i ≡ Some rule
+    → first_row row class method (n - i) i ≡ Some (record { class = class; method = method; at = i; rule = rule })
+row_found row class method n i rule less e =
+    let k : n - i ≡ suc (n - (i + 1)) = omega arith in
+    rw (k, e) refl
+
 -- No row of a method fails.
 abbrev pub MethodTyped : Program → ℕ → LinkedClass → Method → Frames → Type 0
 MethodTyped program own class m frames = (at : ℕ) → row_in program own class m frames at ≡ None

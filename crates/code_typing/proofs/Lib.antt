@@ -1,4 +1,5 @@
 mod Choices
+pub mod Describing
 pub mod Fitting
 pub mod Faults
 mod Reaching

@@ -1,5 +1,6 @@
 -- The types that descriptors tell, read off their texts. (The Java Virtual Machine Specification, section 4.3.)
 use Rattle.std.specs.Prelude.{ℕ, zero, suc, ◌+◌, ◌-◌, ◌==◌, if◌then◌else◌, bytes_eq, codes, List, [], ◌∷◌, length, take, drop, Option, Some, None}
+use Rattle.std.specs.Option.{option_map_or}
 use Rattle.cert_format.specs.declared.typing.VType.{VType}
 use Rattle.cert_format.specs.declared.typing.VType.TheVariants as types
 
@@ -23,11 +24,15 @@ first_type text = take (type_length text) text
 abbrev pub behind_type : List ℕ → List ℕ
 behind_type text = drop (type_length text) text
 
+-- the type at the front and what stands behind it, unless the arguments end there
+abbrev pub next_type : List ℕ → Option (Descriptor × List ℕ)
+next_type [] = None
+next_type (b ∷ text) = if b == 41 then None else Some (first_type (b ∷ text), behind_type (b ∷ text))
+
 -- at most n types, up to the bracket behind them
-abbrev pub types_at : ℕ → List ℕ → List Descriptor
+unfoldable pub types_at : ℕ → List ℕ → List Descriptor
 types_at zero text = []
-types_at (suc n) [] = []
-types_at (suc n) (b ∷ text) = if b == 41 then [] else first_type (b ∷ text) ∷ types_at n (behind_type (b ∷ text))
+types_at (suc n) text = option_map_or (λ (r : Descriptor × List ℕ). r.0 ∷ types_at n r.1) (next_type text) []
 
 -- the types of the arguments that a method's descriptor tells; a method takes at most 255
 abbrev pub arguments : List ℕ → List Descriptor

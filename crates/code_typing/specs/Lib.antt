@@ -4,7 +4,8 @@ pub mod Place
 pub mod Wants
 pub mod Wanted
 pub mod Makes
-pub mod Changing
 pub mod Rules
+pub mod Changing
+pub mod Steps
 pub mod Typed
 pub mod Closed

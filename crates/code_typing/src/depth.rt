@@ -22,6 +22,6 @@ pub fn is_deep(place: &PlaceRef, frame: &FrameType) -> bool
     ensures { result ≡ Depth place.now frame.now }
 {
     let n = count_taken(place);
-    let height = frame.stack.len();
+    let height = frame.stack.as_slice().len();
     n <= height && height - n + count_yielded(place) <= usize::from(place.method.max_stack)
 }

@@ -7,6 +7,7 @@ ghost use Rattle.code_typing.specs.Described.{
   type_length,
   first_type,
   behind_type,
+  next_type,
   types_at,
   arguments,
   result_text,
@@ -54,11 +55,27 @@ fn type_length(text: &[u8]) -> usize
 }
 
 /// The type at the front, and what stands behind it.
-pub fn split_type<'a>(text: &'a [u8]) -> (&'a [u8], &'a [u8])
+fn split_type<'a>(text: &'a [u8]) -> (&'a [u8], &'a [u8])
     ensures first { result.0.now ≡ first_type text.now }
     ensures behind { result.1.now ≡ behind_type text.now }
 {
     text.split_at(type_length(text))
+}
+
+/// The type at the front and what stands behind it, unless the arguments end there.
+pub fn next_type<'a>(text: &'a [u8]) -> Option<(&'a [u8], &'a [u8])>
+    ensures { option_map (λ r. (r.0.now, r.1.now)) result ≡ next_type text.now }
+{
+    match text {
+        [] => None,
+        [first, ..] => {
+            if *first == b')' {
+                None
+            } else {
+                Some(split_type(text))
+            }
+        }
+    }
 }
 
 /// The text of the arguments' types, with what stands behind them.
@@ -79,15 +96,9 @@ pub fn arity(desc: &[u8]) -> usize
     let mut count: usize = 0;
     let mut left = arguments_text(desc);
     for _ in 0..255usize {
-        match left {
-            [] => return count,
-            [first, ..] => {
-                if *first == b')' {
-                    return count;
-                }
-            }
-        }
-        let (_, behind) = split_type(left);
+        let Some((_, behind)) = next_type(left) else {
+            return count;
+        };
         count += 1;
         left = behind;
     }

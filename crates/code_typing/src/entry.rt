@@ -1,13 +1,14 @@
 //! Rule 1: a method begins with its arguments.
 
-ghost use Rattle.std.specs.Prelude.{◌≡◌, [], length, map};
+ghost use Rattle.std.specs.Prelude.{◌≡◌, [], length, map, option_copied};
+ghost use Rattle.code_typing.specs.Steps.{behind_fit};
 ghost use Rattle.code_typing.specs.Described.{types_at, type_described};
 ghost use Rattle.code_typing.specs.Makes.{type_at};
 ghost use Rattle.code_typing.specs.Rules.{Entry, entry_locals, locals_fit, this_type};
 ghost use Rattle.type_lattice.specs.Lending.{type_lent};
 ghost use Rattle.bytecode_model.specs.Heads.{is_static};
 
-use crate::described::{arguments_text, arity, split_type, type_described};
+use crate::described::{arguments_text, arity, next_type, type_described};
 use crate::place::{PlaceRef, is_maker};
 use bytecode_model::Program;
 use cert_format::{FrameType, VType};
@@ -17,14 +18,32 @@ use type_lattice::{TypeRef, lent_fits};
 fn are_top(program: &Program, to: &[VType]) -> bool
     ensures { result ≡ locals_fit program.now (type_at []) 0 to.now }
 {
+    let mut j: usize = 0;
     let mut left = to;
     while let [first, rest @ ..] = left {
         if !lent_fits(program, TypeRef::Top, first) {
             return false;
         }
+        j += 1;
         left = rest;
     }
     true
+}
+
+/// The locals behind the first, where the type is assignable to that or there is none.
+fn behind_fit<'a>(program: &Program, from: TypeRef, to: &'a [VType]) -> Option<&'a [VType]>
+    ensures { option_copied result ≡ behind_fit program.now (type_lent from.entry) to.now }
+{
+    match to {
+        [] => Some(to),
+        [first, others @ ..] => {
+            if lent_fits(program, from, first) {
+                Some(others)
+            } else {
+                None
+            }
+        }
+    }
 }
 
 /// Whether arguments of these types, and locals that hold nothing behind them, are assignable to these.
@@ -34,23 +53,14 @@ fn arguments_fit(program: &Program, text: &[u8], to: &[VType]) -> bool
     let mut text = text;
     let mut to = to;
     for _ in 0..255usize {
-        match text {
-            [] => return are_top(program, to),
-            [first, ..] => {
-                if *first == b')' {
-                    return are_top(program, to);
-                }
-            }
-        }
-        let [first, others @ ..] = to else {
-            return true;
+        let Some((desc, behind)) = next_type(text) else {
+            return are_top(program, to);
         };
-        let (desc, behind) = split_type(text);
-        if !lent_fits(program, type_described(desc), first) {
+        let Some(others) = behind_fit(program, type_described(desc), to) else {
             return false;
-        }
-        text = behind;
+        };
         to = others;
+        text = behind;
     }
     are_top(program, to)
 }
@@ -79,12 +89,9 @@ fn entry_fits(place: &PlaceRef, to: &[VType]) -> bool
     if is_static(place.method.flags) {
         return arguments_fit(place.program, text, to);
     }
-    match to {
-        [] => true,
-        [first, rest @ ..] => {
-            lent_fits(place.program, this_type(place), first)
-                && arguments_fit(place.program, text, rest)
-        }
+    match behind_fit(place.program, this_type(place), to) {
+        None => false,
+        Some(others) => arguments_fit(place.program, text, others),
     }
 }
 

@@ -4,7 +4,7 @@ ghost use Rattle.std.specs.Prelude.{◌≡◌, ◌++◌, false, map, Option, opt
 ghost use Rattle.std.specs.List.{list_all};
 ghost use Rattle.std.specs.Option.{option_map_or};
 ghost use Rattle.insn_effect.specs.Control.{jump_targets};
-ghost use Rattle.code_typing.specs.Changing.{change_told};
+ghost use Rattle.code_typing.specs.Changing.{change_told, frame_takes};
 ghost use Rattle.code_typing.specs.Makes.{yields};
 ghost use Rattle.code_typing.specs.Rules.{Successor, frame_of, goes_well, stack_fits};
 
@@ -67,13 +67,17 @@ fn stack_takes(
     below_fits(place.program, change, below, lower) && yields_fit(place, locals, taken, upper)
 }
 
-/// Whether the frame afterwards is assignable to this one.
-fn goes_well(place: &PlaceRef, frame: &FrameType, to: &FrameType) -> bool
-    ensures { result ≡ goes_well place.now frame.now to.now }
+/// Whether what stays and what is pushed is assignable to this frame.
+fn frame_takes(
+    place: &PlaceRef,
+    change: Change,
+    locals: &[VType],
+    below: &[VType],
+    taken: &[VType],
+    to: &FrameType,
+) -> bool
+    ensures { result ≡ frame_takes place.now change.entry locals.now below.now taken.now to.now }
 {
-    let locals = frame.locals.as_slice();
-    let (below, taken) = split_top(frame.stack.as_slice(), count_taken(place));
-    let change = change_of(place, taken);
     stack_takes(place, change, locals, below, taken, to.stack.as_slice())
         && locals_take(
             place.program,
@@ -83,6 +87,15 @@ fn goes_well(place: &PlaceRef, frame: &FrameType, to: &FrameType) -> bool
             taken,
             to.locals.as_slice(),
         )
+}
+
+/// Whether the frame afterwards is assignable to this one.
+fn goes_well(place: &PlaceRef, frame: &FrameType, to: &FrameType) -> bool
+    ensures { result ≡ goes_well place.now frame.now to.now }
+{
+    let (below, taken) = split_top(frame.stack.as_slice(), count_taken(place));
+    let change = change_of(place, taken);
+    frame_takes(place, change, frame.locals.as_slice(), below, taken, to)
 }
 
 /// Whether the instruction that is gone to has a frame that takes what is left.

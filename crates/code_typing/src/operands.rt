@@ -1,6 +1,7 @@
 //! The operands that an instruction takes: how many, and whether each is what is wanted.
 
-ghost use Rattle.std.specs.Prelude.{◌≡◌, ◌∷◌, ◌&&◌, [], length, map, replicate, option_map};
+ghost use Rattle.std.specs.Prelude.{◌≡◌, ◌∷◌, ◌&&◌, [], length, map, replicate, option_map, option_copied};
+ghost use Rattle.code_typing.specs.Steps.{behind_met};
 ghost use Rattle.insn_effect.specs.Shapes.{shape_of};
 ghost use Rattle.code_typing.specs.Described.{types_at};
 ghost use Rattle.code_typing.specs.Wants.{
@@ -19,11 +20,11 @@ ghost use Rattle.code_typing.specs.Wants.{
   is_result_of,
 };
 ghost use Rattle.code_typing.specs.Described.{result_type};
-ghost use Rattle.code_typing.specs.Place.{Place, desc_referred};
+ghost use Rattle.code_typing.specs.Place.{desc_referred};
 ghost use Rattle.insn_effect.specs.declared.shape.Heap.TheVariants as heap;
 ghost use Rattle.type_lattice.specs.Lending.{type_lent};
 
-use crate::described::{arguments_text, arity, result_text, result_type, split_type};
+use crate::described::{arguments_text, arity, next_type, result_text, result_type};
 use crate::place::{PlaceRef, calls_maker, calls_static, class_referred, desc_referred, is_own_field};
 use crate::wanted::{Wanted, is_this, one_is, three_are, to_class, to_described, two_are};
 use bytecode_model::Program;
@@ -68,6 +69,28 @@ pub fn count_taken(place: &PlaceRef) -> usize
 
 // ---- whether each is what is wanted
 
+fn none_wanted(types: &[VType]) -> bool
+    ensures { result ≡ all_met [] types.now }
+{
+    types.is_empty()
+}
+
+/// The operands behind the first, where that is what is described.
+fn behind_met<'a>(program: &Program, desc: &[u8], types: &'a [VType]) -> Option<&'a [VType]>
+    ensures { option_copied result ≡ behind_met program.now desc.now types.now }
+{
+    match types {
+        [] => None,
+        [first, others @ ..] => {
+            if to_described(program, desc, first) {
+                Some(others)
+            } else {
+                None
+            }
+        }
+    }
+}
+
 /// Whether each type is what the argument in its place is told to be.
 fn arguments_met(program: &Program, text: &[u8], types: &[VType]) -> bool
     ensures { result ≡ all_met (map (to_described program.now) (types_at 255 text.now)) types.now }
@@ -75,25 +98,16 @@ fn arguments_met(program: &Program, text: &[u8], types: &[VType]) -> bool
     let mut text = text;
     let mut types = types;
     for _ in 0..255usize {
-        match text {
-            [] => return types.is_empty(),
-            [first, ..] => {
-                if *first == b')' {
-                    return types.is_empty();
-                }
-            }
-        }
-        let [t, others @ ..] = types else {
+        let Some((desc, behind)) = next_type(text) else {
+            return none_wanted(types);
+        };
+        let Some(others) = behind_met(program, desc, types) else {
             return false;
         };
-        let (desc, behind) = split_type(text);
-        if !to_described(program, desc, t) {
-            return false;
-        }
-        text = behind;
         types = others;
+        text = behind;
     }
-    types.is_empty()
+    none_wanted(types)
 }
 
 fn call_arguments_met(place: &PlaceRef, types: &[VType]) -> bool
@@ -154,16 +168,22 @@ fn result_met(place: &PlaceRef, types: &[VType]) -> bool
     }
 }
 
-fn write_item_met(program: &Program, item: Item, types: &[VType]) -> bool
-    ensures { (place : Place) → program.now ≡ place.program → result ≡ all_met (heap_takes place (heap.WriteItem item)) types.now }
+fn write_item_met(place: &PlaceRef, item: Item, types: &[VType]) -> bool
+    ensures { result ≡ all_met (heap_takes place.now (heap.WriteItem item)) types.now }
 {
     three_are(
-        program,
+        place.program,
         Wanted::Items(item),
         Wanted::Number,
         Wanted::Item(item),
         types,
     )
+}
+
+fn throw_met(place: &PlaceRef, types: &[VType]) -> bool
+    ensures { result ≡ all_met (heap_takes place.now heap.Throw) types.now }
+{
+    one_is(place.program, Wanted::Class(b"java/lang/Throwable"), types)
 }
 
 /// The shapes that read or write fields, items or constants, or compute.
@@ -174,7 +194,7 @@ fn heap_met(place: &PlaceRef, what: Heap, types: &[VType]) -> bool
     match what {
         Heap::Constant | Heap::ReadStatic | Heap::New | Heap::Return(None) => types.is_empty(),
         Heap::ReadItem(item) => two_are(program, Wanted::Items(item), Wanted::Number, types),
-        Heap::WriteItem(item) => write_item_met(program, item, types),
+        Heap::WriteItem(item) => write_item_met(place, item, types),
         Heap::Divide { .. } => two_are(program, Wanted::Number, Wanted::Number, types),
         Heap::WriteStatic => one_is(program, Wanted::Described(desc_referred(place)), types),
         Heap::ReadField => one_is(program, Wanted::Class(class_referred(place)), types),
@@ -182,7 +202,7 @@ fn heap_met(place: &PlaceRef, what: Heap, types: &[VType]) -> bool
         Heap::Call => call_met(place, types),
         Heap::NewArray(_) | Heap::NewArrayOf => one_is(program, Wanted::Number, types),
         Heap::Length => one_is(program, Wanted::Array, types),
-        Heap::Throw => one_is(program, Wanted::Class(b"java/lang/Throwable"), types),
+        Heap::Throw => throw_met(place, types),
         Heap::Cast | Heap::IsInstance => one_is(program, Wanted::Made, types),
         Heap::Enter | Heap::Exit => one_is(program, Wanted::Made, types),
         Heap::Return(Some(_)) => result_met(place, types),
