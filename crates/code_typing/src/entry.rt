@@ -1,6 +1,6 @@
 //! Rule 1: a method begins with its arguments.
 
-ghost use Rattle.std.specs.Prelude.{◌≡◌, [], length, map, option_copied};
+ghost use Rattle.std.specs.Prelude.{◌≡◌, ◌∷◌, [], length, map, option_copied};
 ghost use Rattle.code_typing.specs.Steps.{behind_fit};
 ghost use Rattle.code_typing.specs.Described.{types_at, type_described};
 ghost use Rattle.code_typing.specs.Makes.{type_at};
@@ -81,6 +81,16 @@ fn this_type<'a>(place: &PlaceRef<'a>) -> TypeRef<'a>
     }
 }
 
+/// Whether this first type, and arguments of these types behind it, are assignable to these.
+fn first_fits(program: &Program, from: TypeRef, text: &[u8], to: &[VType]) -> bool
+    ensures { result ≡ locals_fit program.now (type_at (type_lent from.entry ∷ map type_described (types_at 255 text.now))) 0 to.now }
+{
+    match behind_fit(program, from, to) {
+        None => false,
+        Some(others) => arguments_fit(program, text, others),
+    }
+}
+
 /// Whether the locals at the beginning are assignable to these.
 fn entry_fits(place: &PlaceRef, to: &[VType]) -> bool
     ensures { result ≡ locals_fit place.now.program (type_at (entry_locals place.now)) 0 to.now }
@@ -89,10 +99,7 @@ fn entry_fits(place: &PlaceRef, to: &[VType]) -> bool
     if is_static(place.method.flags) {
         return arguments_fit(place.program, text, to);
     }
-    match behind_fit(place.program, this_type(place), to) {
-        None => false,
-        Some(others) => arguments_fit(place.program, text, others),
-    }
+    first_fits(place.program, this_type(place), text, to)
 }
 
 /// How many locals there are at the beginning.

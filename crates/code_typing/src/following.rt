@@ -116,12 +116,10 @@ fn all_arrive(
 ) -> bool
     ensures { result ≡ list_all (λ to. option_map_or (goes_well place.now frame.now) (frame_of frames.now to) false) targets.now }
 {
-    let mut left = targets;
-    while let [to, rest @ ..] = left {
+    for to in targets {
         if !arrives(frames, place, frame, *to as usize) {
             return false;
         }
-        left = rest;
     }
     true
 }
