@@ -6,4 +6,4 @@ pub returns-in-None : goal.returns-in-None
 returns-in-None c = sym (fit_none c.args.program.now _ _ c.args.to.now (sym c.in-None.ensures))
 
 pub returns-in-Some : goal.returns-in-Some
-returns-in-Some c = c.arguments_fit-in-Some.ensures ∙ sym (fit_some c.args.program.now _ _ c.args.to.now _ (sym c.in-Some.ensures))
+returns-in-Some c = c.arguments_fit.ensures ∙ sym (fit_some c.args.program.now _ _ c.args.to.now _ (sym c.in-Some.ensures))
