@@ -1,0 +1,72 @@
+-- The arguments that a descriptor tells, one after the other.
+use Rattle.std.proofs.Common.{◌≡◌, ℕ, zero, suc, ◌+◌, ◌-◌, ◌<◌, ◌≤◌, Bool, true, false, cond, List, [], ◌∷◌, map, Option, Some, None, refl, sym, ap, ◌∙◌, arith}
+use Rattle.std.specs.Prelude.{◌&&◌}
+use Rattle.cert_format.specs.declared.typing.VType.{VType}
+use Rattle.bytecode_model.specs.declared.program.Program.{Program}
+use Rattle.type_lattice.specs.Assigning.{assignable}
+use Rattle.code_typing.specs.Described.{Descriptor, next_type, types_at, type_described}
+use Rattle.code_typing.specs.Makes.{type_at}
+use Rattle.code_typing.specs.Rules.{locals_fit}
+use Rattle.code_typing.specs.Steps.{behind_met, behind_fit}
+use Rattle.code_typing.specs.Wants.{all_met, to_described}
+use Rattle.code_typing.proofs.Choices.{some_is}
+use Rattle.code_typing.proofs.Fitting.{locals_fit-behind}
+
+-- with i of n types behind, one more
+pub types_some : (n i : ℕ) (text : List ℕ) (r : Descriptor × List ℕ) → i < n → next_type text ≡ Some r → types_at (n - i) text ≡ r.0 ∷ types_at (n - (i + 1)) r.1
+unfolding types_at
+types_some n i text r less e =
+    let k : n - i ≡ suc (n - (i + 1)) = omega arith in
+    rw (k, e) refl
+
+pub types_end : (n : ℕ) (text : List ℕ) → next_type text ≡ None → types_at n text ≡ []
+unfolding types_at
+types_end zero text e = refl
+types_end (suc n) text e = rw e refl
+
+pub types_over : (n i : ℕ) (text : List ℕ) → n ≤ i → types_at (n - i) text ≡ []
+unfolding types_at
+types_over n i text less =
+    let none : n - i ≡ 0 = omega arith in
+    rw none refl
+
+-- ---- operands
+
+kept : {A : Type 0} (b : Bool) (x y : A) → cond b (Some x) None ≡ Some y → (b ≡ true) × (x ≡ y)
+kept true x y e = (refl, some_is x y e)
+kept false x y e = absurd cc
+
+refused : {A : Type 0} (b : Bool) (x : A) → cond b (Some x) None ≡ None → b ≡ false
+refused true x e = absurd cc
+refused false x e = refl
+
+pub met_some : (program : Program) (desc : List ℕ) (others : List Descriptor) (types rest : List VType) → behind_met program desc types ≡ Some rest
+    → all_met (map (to_described program) (desc ∷ others)) types ≡ all_met (map (to_described program) others) rest
+met_some program desc others [] rest e = absurd cc
+met_some program desc others (t ∷ types) rest e =
+    let k = kept (to_described program desc t) types rest e in
+    rw (k.0, k.1) refl
+
+pub met_none : (program : Program) (desc : List ℕ) (others : List Descriptor) (types : List VType) → behind_met program desc types ≡ None
+    → all_met (map (to_described program) (desc ∷ others)) types ≡ false
+met_none program desc others [] e = refl
+met_none program desc others (t ∷ types) e =
+    let k = refused (to_described program desc t) types e in
+    rw k refl
+
+-- ---- locals
+
+pub fit_some : (program : Program) (from : VType) (others to rest : List VType) → behind_fit program from to ≡ Some rest
+    → locals_fit program (type_at (from ∷ others)) 0 to ≡ locals_fit program (type_at others) 0 rest
+fit_some program from others [] rest e =
+    let same : [] ≡ rest = some_is [] rest e in
+    rw (← same) refl
+fit_some program from others (t ∷ to) rest e =
+    let k = kept (assignable program from t) to rest e in
+    rw k.0 (locals_fit-behind program from others 0 to ∙ ap (locals_fit program (type_at others) 0) k.1)
+
+pub fit_none : (program : Program) (from : VType) (others to : List VType) → behind_fit program from to ≡ None → locals_fit program (type_at (from ∷ others)) 0 to ≡ false
+fit_none program from others [] e = absurd cc
+fit_none program from others (t ∷ to) e =
+    let k = refused (assignable program from t) to e in
+    rw k refl

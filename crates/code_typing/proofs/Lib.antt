@@ -1,0 +1,6 @@
+mod Choices
+pub mod Describing
+pub mod Fitting
+pub mod Faults
+mod Reaching
+pub mod Closed

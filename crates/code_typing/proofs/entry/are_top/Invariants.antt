@@ -1,0 +1,11 @@
+use Rattle.std.proofs.Common.{◌≡◌, ◌+◌, ◌-◌, ◌≤◌, [], length, map, take}
+use Rattle.code_typing.specs.Makes.{type_at}
+use Rattle.code_typing.specs.Rules.{locals_fit}
+use Rattle.code_typing.proofs.entry.are_top.Given as goal
+
+abbrev pub invariant-loop-left : goal.invariant-loop-left
+invariant-loop-left l =
+    (locals_fit l.fn.program (type_at []) l.j l.left ≡ locals_fit l.fn.program (type_at []) 0 l.fn.to) × (l.j + length l.left ≡ length l.fn.to)
+
+abbrev pub decreases-loop-left : goal.decreases-loop-left
+decreases-loop-left l = length l.left

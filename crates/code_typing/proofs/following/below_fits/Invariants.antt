@@ -1,0 +1,11 @@
+use Rattle.std.proofs.Common.{◌≡◌, ◌+◌, ◌-◌, ◌≤◌, [], length, map, take}
+use Rattle.code_typing.specs.Changing.{change_told}
+use Rattle.code_typing.specs.Rules.{stack_fits}
+use Rattle.code_typing.proofs.following.below_fits.Given as goal
+
+abbrev pub invariant-loop-from : goal.invariant-loop-from
+invariant-loop-from l =
+    stack_fits l.fn.program (map (change_told l.change) l.from) l.to ≡ stack_fits l.fn.program (map (change_told l.change) l.fn.from) l.fn.to
+
+abbrev pub decreases-loop-from : goal.decreases-loop-from
+decreases-loop-from l = length l.from

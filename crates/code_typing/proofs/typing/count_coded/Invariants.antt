@@ -1,0 +1,7 @@
+use Rattle.std.proofs.Common.{◌≡◌, ◌+◌, ◌-◌, ◌≤◌, [], length, map, take}
+use Rattle.code_typing.specs.Shape.{coded}
+use Rattle.code_typing.proofs.typing.count_coded.Given as goal
+
+abbrev pub invariant-loop : goal.invariant-loop
+invariant-loop l =
+    (l.count + length (coded (take (l.n - l.counter) l.left)) ≡ length (coded (take l.n l.fn.methods))) × (l.count ≤ l.counter)

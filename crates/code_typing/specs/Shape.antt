@@ -1,0 +1,24 @@
+-- The shape of a program and of what is told of its instructions: how many instructions each method with code has.
+use Rattle.std.specs.Prelude.{◌≡◌, ℕ, Bool, nat_lt, List, length, map, filter}
+use Rattle.bytecode_model.specs.declared.program.LinkedClass.{LinkedClass}
+use Rattle.bytecode_model.specs.declared.program.Method.{Method}
+use Rattle.bytecode_model.specs.declared.program.Program.{Program}
+
+abbrev pub has_code : Method → Bool
+has_code method = nat_lt 0 (length method.insns)
+
+-- the methods of a class that have code
+abbrev pub coded : List Method → List Method
+coded methods = filter has_code methods
+
+-- by class and method with code, the number of instructions
+abbrev pub program_shape : Program → List (List ℕ)
+program_shape program = map (λ (class : LinkedClass). map (λ (method : Method). length method.insns) (coded class.methods)) program.classes
+
+-- the same of lists by class, method with code, and instruction
+abbrev pub shape_of : {A : Type 0} → List (List (List A)) → List (List ℕ)
+shape_of told = map (map length) told
+
+-- What is told is of the program's shape.
+abbrev pub IsShaped : {A : Type 0} → Program → List (List (List A)) → Type 0
+IsShaped program told = shape_of told ≡ program_shape program

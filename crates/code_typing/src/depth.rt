@@ -1,0 +1,27 @@
+//! Rule 2: the operands are there, and there is room for what is pushed.
+
+ghost use Rattle.std.specs.Prelude.{◌≡◌, length};
+ghost use Rattle.code_typing.specs.Makes.{topmost, below};
+ghost use Rattle.code_typing.specs.Rules.{Depth};
+
+use crate::operands::count_taken;
+use crate::place::PlaceRef;
+use crate::yielded::count_yielded;
+use cert_format::{FrameType, VType};
+
+/// The operands below the n topmost, and these.
+pub fn split_top(stack: &[VType], n: usize) -> (&[VType], &[VType])
+    ensures below { result.0.now ≡ below n stack.now }
+    ensures topmost { result.1.now ≡ topmost n stack.now }
+{
+    stack.split_at(stack.len().saturating_sub(n))
+}
+
+/// Rule 2.
+pub fn is_deep(place: &PlaceRef, frame: &FrameType) -> bool
+    ensures { result ≡ Depth place.now frame.now }
+{
+    let n = count_taken(place);
+    let height = frame.stack.as_slice().len();
+    n <= height && height - n + count_yielded(place) <= usize::from(place.method.max_stack)
+}

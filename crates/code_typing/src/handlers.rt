@@ -1,0 +1,149 @@
+//! Rule 7: the handlers that cover an instruction. (The Java Virtual Machine Specification, section 4.10.1.6.)
+
+ghost use Rattle.std.specs.Prelude.{◌≡◌};
+ghost use Rattle.std.specs.List.{list_all};
+ghost use Rattle.type_lattice.specs.Lending.{type_lent};
+ghost use Rattle.code_typing.specs.Rules.{
+  Caught,
+  is_handled,
+  covers,
+  class_caught,
+  when_thrown,
+  local_caught,
+  is_reference_to,
+  is_alone,
+  catches_well,
+  locals_fit,
+};
+
+use crate::following::frame_of;
+use crate::place::PlaceRef;
+use bytecode_model::{Handler, Program};
+use cert_format::{FrameType, VType};
+use type_lattice::{TypeRef, is_below, lend, lent_fits};
+
+/// The class that each other is below that is caught.
+const THROWABLE: &[u8] = b"java/lang/Throwable";
+
+fn covers(at: u32, handler: &Handler) -> bool
+    ensures { result ≡ covers at handler.now }
+{
+    handler.from <= at && at < handler.to
+}
+
+/// The class of what is caught.
+fn class_caught(handler: &Handler) -> &[u8]
+    ensures { result.now ≡ class_caught handler.now }
+{
+    match &handler.class {
+        Some(class) => class.as_slice(),
+        None => THROWABLE,
+    }
+}
+
+/// A local as a handler finds it.
+fn when_thrown(t: &VType) -> TypeRef<'_>
+    ensures { type_lent result ≡ when_thrown t.now }
+{
+    match t {
+        VType::UninitThis => TypeRef::Top,
+        VType::Uninit(_) => TypeRef::Top,
+        _ => lend(t),
+    }
+}
+
+fn local_caught(locals: &[VType], j: usize) -> TypeRef<'_>
+    ensures { type_lent result ≡ local_caught locals.now j }
+{
+    match locals.get(j) {
+        Some(t) => when_thrown(t),
+        None => TypeRef::Top,
+    }
+}
+
+/// Whether the locals that a handler finds are assignable to these.
+fn locals_caught(program: &Program, locals: &[VType], to: &[VType]) -> bool
+    ensures { result ≡ locals_fit program.now (local_caught locals.now) 0 to.now }
+{
+    let mut j: usize = 0;
+    let mut left = to;
+    while let [first, rest @ ..] = left {
+        if !lent_fits(program, local_caught(locals, j), first) {
+            return false;
+        }
+        j += 1;
+        left = rest;
+    }
+    true
+}
+
+fn is_reference_to(class: &[u8], t: &VType) -> bool
+    ensures { result ≡ is_reference_to class.now t.now }
+{
+    match t {
+        VType::Ref(name) => name.as_slice() == class,
+        _ => false,
+    }
+}
+
+fn is_alone(class: &[u8], stack: &[VType]) -> bool
+    ensures { result ≡ is_alone class.now stack.now }
+{
+    match stack {
+        [] => false,
+        [first, rest @ ..] => {
+            match rest {
+                [] => is_reference_to(class, first),
+                [_, ..] => false,
+            }
+        }
+    }
+}
+
+fn catches_well(place: &PlaceRef, frame: &FrameType, handler: &Handler, to: &FrameType) -> bool
+    ensures { result ≡ catches_well place.now frame.now handler.now to.now }
+{
+    is_alone(class_caught(handler), to.stack.as_slice())
+        && locals_caught(
+            place.program,
+            frame.locals.as_slice(),
+            to.locals.as_slice(),
+        )
+}
+
+fn is_handled(
+    frames: &[Option<FrameType>],
+    place: &PlaceRef,
+    frame: &FrameType,
+    handler: &Handler,
+) -> bool
+    ensures { result ≡ is_handled frames.now place.now frame.now handler.now }
+{
+    if !covers(place.at, handler) {
+        return true;
+    }
+    if place.method.max_stack < 1 {
+        return false;
+    }
+    if !is_below(place.program, class_caught(handler), THROWABLE) {
+        return false;
+    }
+    match frame_of(frames, handler.at as usize) {
+        Some(to) => catches_well(place, frame, handler, to),
+        None => false,
+    }
+}
+
+/// Rule 7.
+pub fn is_caught(frames: &[Option<FrameType>], place: &PlaceRef, frame: &FrameType) -> bool
+    ensures { result ≡ Caught frames.now place.now frame.now }
+{
+    let mut left = place.method.handlers.as_slice();
+    while let [handler, rest @ ..] = left {
+        if !is_handled(frames, place, frame, handler) {
+            return false;
+        }
+        left = rest;
+    }
+    true
+}

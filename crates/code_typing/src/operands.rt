@@ -1,0 +1,263 @@
+//! The operands that an instruction takes: how many, and whether each is what is wanted.
+
+ghost use Rattle.std.specs.Prelude.{◌≡◌, ◌∷◌, ◌&&◌, [], length, map, replicate, option_map, option_copied};
+ghost use Rattle.code_typing.specs.Steps.{behind_met};
+ghost use Rattle.insn_effect.specs.Shapes.{shape_of};
+ghost use Rattle.code_typing.specs.Described.{types_at};
+ghost use Rattle.code_typing.specs.Wants.{
+  all_met,
+  anything,
+  takes,
+  takes_of,
+  heap_takes,
+  call_takes,
+  to_written,
+  to_receiver,
+  to_result,
+  to_arguments,
+  to_described,
+  returns_well,
+  is_result_of,
+};
+ghost use Rattle.code_typing.specs.Described.{result_type};
+ghost use Rattle.code_typing.specs.Place.{desc_referred};
+ghost use Rattle.insn_effect.specs.declared.shape.Heap.TheVariants as heap;
+ghost use Rattle.type_lattice.specs.Lending.{type_lent};
+
+use crate::described::{arguments_text, arity, next_type, result_text, result_type};
+use crate::place::{PlaceRef, calls_maker, calls_static, class_referred, desc_referred, is_own_field};
+use crate::wanted::{Wanted, is_this, one_is, three_are, to_class, to_described, two_are};
+use bytecode_model::Program;
+use cert_format::VType;
+use insn_effect::{Heap, Item, Kind, Shape, depth_of, shape_of};
+use type_lattice::TypeRef;
+
+// ---- how many
+
+fn call_count(place: &PlaceRef) -> usize
+    ensures { result ≡ length (call_takes place.now) }
+{
+    let count = arity(desc_referred(place));
+    if calls_static(place) { count } else { count + 1 }
+}
+
+fn heap_count(place: &PlaceRef, what: Heap) -> usize
+    ensures { result ≡ length (heap_takes place.now what) }
+{
+    match what {
+        Heap::Constant | Heap::ReadStatic | Heap::New | Heap::Return(None) => 0,
+        Heap::ReadItem(_) | Heap::Divide { .. } | Heap::WriteField => 2,
+        Heap::WriteItem(_) => 3,
+        Heap::Call => call_count(place),
+        _ => 1,
+    }
+}
+
+/// How many operands the instruction takes.
+pub fn count_taken(place: &PlaceRef) -> usize
+    ensures { result ≡ length (takes place.now) }
+{
+    match shape_of(place.insn) {
+        Shape::Store { .. } | Shape::One(_) | Shape::Test { .. } | Shape::TestNull { .. } => 1,
+        Shape::Switch => 1,
+        Shape::Two(_) | Shape::Compare { .. } | Shape::CompareReferences { .. } => 2,
+        Shape::Move(form) => usize::from(depth_of(form)),
+        Shape::Heap(what) => heap_count(place, what),
+        _ => 0,
+    }
+}
+
+// ---- whether each is what is wanted
+
+fn none_wanted(types: &[VType]) -> bool
+    ensures { result ≡ all_met [] types.now }
+{
+    types.is_empty()
+}
+
+/// The operands behind the first, where that is what is described.
+fn behind_met<'a>(program: &Program, desc: &[u8], types: &'a [VType]) -> Option<&'a [VType]>
+    ensures { option_copied result ≡ behind_met program.now desc.now types.now }
+{
+    match types {
+        [] => None,
+        [first, others @ ..] => {
+            if to_described(program, desc, first) {
+                Some(others)
+            } else {
+                None
+            }
+        }
+    }
+}
+
+/// Whether each type is what the argument in its place is told to be.
+fn arguments_met(program: &Program, text: &[u8], types: &[VType]) -> bool
+    ensures { result ≡ all_met (map (to_described program.now) (types_at 255 text.now)) types.now }
+{
+    let mut text = text;
+    let mut types = types;
+    for _ in 0..255usize {
+        let Some((desc, behind)) = next_type(text) else {
+            return none_wanted(types);
+        };
+        let Some(others) = behind_met(program, desc, types) else {
+            return false;
+        };
+        types = others;
+        text = behind;
+    }
+    none_wanted(types)
+}
+
+fn call_arguments_met(place: &PlaceRef, types: &[VType]) -> bool
+    ensures { result ≡ all_met (to_arguments place.now) types.now }
+{
+    arguments_met(place.program, arguments_text(desc_referred(place)), types)
+}
+
+fn to_receiver(place: &PlaceRef, t: &VType) -> bool
+    ensures { result ≡ to_receiver place.now t.now }
+{
+    calls_maker(place) || to_class(place.program, class_referred(place), t)
+}
+
+fn call_met(place: &PlaceRef, types: &[VType]) -> bool
+    ensures { result ≡ all_met (call_takes place.now) types.now }
+{
+    if calls_static(place) {
+        return call_arguments_met(place, types);
+    }
+    match types {
+        [] => false,
+        [first, rest @ ..] => to_receiver(place, first) && call_arguments_met(place, rest),
+    }
+}
+
+fn to_written(place: &PlaceRef, t: &VType) -> bool
+    ensures { result ≡ to_written place.now t.now }
+{
+    is_own_field(place) && is_this(t) || to_class(place.program, class_referred(place), t)
+}
+
+fn write_met(place: &PlaceRef, types: &[VType]) -> bool
+    ensures { result ≡ all_met (to_written place.now ∷ to_described place.now.program (desc_referred place.now) ∷ []) types.now }
+{
+    match types {
+        [] => false,
+        [first, rest @ ..] => {
+            to_written(place, first)
+                && one_is(place.program, Wanted::Described(desc_referred(place)), rest)
+        }
+    }
+}
+
+fn to_result(place: &PlaceRef, t: &VType) -> bool
+    ensures { result ≡ to_result place.now t.now }
+{
+    let text = result_text(place.method.desc.as_slice());
+    text != b"V".as_slice() && to_described(place.program, text, t)
+}
+
+fn result_met(place: &PlaceRef, types: &[VType]) -> bool
+    ensures { result ≡ all_met (to_result place.now ∷ []) types.now }
+{
+    match types {
+        [] => false,
+        [first, rest @ ..] => to_result(place, first) && rest.is_empty(),
+    }
+}
+
+fn write_item_met(place: &PlaceRef, item: Item, types: &[VType]) -> bool
+    ensures { result ≡ all_met (heap_takes place.now (heap.WriteItem item)) types.now }
+{
+    three_are(
+        place.program,
+        Wanted::Items(item),
+        Wanted::Number,
+        Wanted::Item(item),
+        types,
+    )
+}
+
+fn throw_met(place: &PlaceRef, types: &[VType]) -> bool
+    ensures { result ≡ all_met (heap_takes place.now heap.Throw) types.now }
+{
+    one_is(place.program, Wanted::Class(b"java/lang/Throwable"), types)
+}
+
+/// The shapes that read or write fields, items or constants, or compute.
+fn heap_met(place: &PlaceRef, what: Heap, types: &[VType]) -> bool
+    ensures { result ≡ all_met (heap_takes place.now what) types.now }
+{
+    let program = place.program;
+    match what {
+        Heap::Constant | Heap::ReadStatic | Heap::New | Heap::Return(None) => types.is_empty(),
+        Heap::ReadItem(item) => two_are(program, Wanted::Items(item), Wanted::Number, types),
+        Heap::WriteItem(item) => write_item_met(place, item, types),
+        Heap::Divide { .. } => two_are(program, Wanted::Number, Wanted::Number, types),
+        Heap::WriteStatic => one_is(program, Wanted::Described(desc_referred(place)), types),
+        Heap::ReadField => one_is(program, Wanted::Class(class_referred(place)), types),
+        Heap::WriteField => write_met(place, types),
+        Heap::Call => call_met(place, types),
+        Heap::NewArray(_) | Heap::NewArrayOf => one_is(program, Wanted::Number, types),
+        Heap::Length => one_is(program, Wanted::Array, types),
+        Heap::Throw => throw_met(place, types),
+        Heap::Cast | Heap::IsInstance => one_is(program, Wanted::Made, types),
+        Heap::Enter | Heap::Exit => one_is(program, Wanted::Made, types),
+        Heap::Return(Some(_)) => result_met(place, types),
+    }
+}
+
+fn any_met(count: u8, types: &[VType]) -> bool
+    ensures { result ≡ all_met (replicate count anything) types.now }
+{
+    types.len() == usize::from(count)
+}
+
+fn operands_met(place: &PlaceRef, shape: Shape, types: &[VType]) -> bool
+    ensures { result ≡ all_met (takes_of place.now shape) types.now }
+{
+    let program = place.program;
+    match shape {
+        Shape::Store { kind, .. } => one_is(program, Wanted::Kind(kind), types),
+        Shape::Move(form) => any_met(depth_of(form), types),
+        Shape::Two(_) | Shape::Compare { .. } => two_are(program, Wanted::Number, Wanted::Number, types),
+        Shape::One(_) | Shape::Test { .. } | Shape::Switch => one_is(program, Wanted::Number, types),
+        Shape::CompareReferences { .. } => two_are(program, Wanted::Made, Wanted::Made, types),
+        Shape::TestNull { .. } => one_is(program, Wanted::Made, types),
+        Shape::Heap(what) => heap_met(place, what, types),
+        _ => types.is_empty(),
+    }
+}
+
+fn is_result_of(kind: Option<Kind>, result_type: Option<TypeRef>) -> bool
+    ensures { result ≡ is_result_of kind (option_map type_lent result_type.entry) }
+{
+    match kind {
+        None => result_type.is_none(),
+        Some(Kind::Int) => matches!(result_type, Some(TypeRef::Int)),
+        Some(Kind::Reference) => {
+            matches!(result_type, Some(TypeRef::Ref(_)) | Some(TypeRef::ArrayOf(_)))
+        }
+    }
+}
+
+fn returns_well(place: &PlaceRef, shape: Shape) -> bool
+    ensures { result ≡ returns_well place.now shape }
+{
+    match shape {
+        Shape::Heap(Heap::Return(kind)) => {
+            is_result_of(kind, result_type(place.method.desc.as_slice()))
+        }
+        _ => true,
+    }
+}
+
+/// Rule 3: each operand is what is wanted.
+pub fn are_operands(place: &PlaceRef, taken: &[VType]) -> bool
+    ensures { result ≡ (all_met (takes place.now) taken.now && returns_well place.now (shape_of place.now.insn)) }
+{
+    let shape = shape_of(place.insn);
+    operands_met(place, shape, taken) && returns_well(place, shape)
+}

@@ -1,0 +1,116 @@
+//! An instruction in its place, and what its operand names.
+
+ghost use Rattle.std.specs.Prelude.{◌≡◌, option_copied};
+ghost use Rattle.bytecode_model.specs.Operands.{index_of};
+ghost use Rattle.code_typing.specs.Place.{class_referred, name_referred, desc_referred, class_of, target_or_none};
+ghost use Rattle.code_typing.specs.Place.{calls_static, calls_maker, is_own_field, is_maker};
+
+use bytecode_model::{LinkedClass, Method, Program, Target};
+use class_codec::{Reference, reference_at};
+use insn_codec::Insn;
+use std::marker::Model;
+
+/// The instruction `insn` at the index `at` of a method of the class with the index `own`; `target` is what its operand
+/// names.
+#[derive(Drop)]
+pub struct PlaceRef<'a> {
+    pub program: &'a Program,
+    pub own: u32,
+    pub class: &'a LinkedClass,
+    pub method: &'a Method,
+    pub at: u32,
+    pub insn: &'a Insn,
+    pub target: Option<&'a Target>,
+}
+
+impl<'a> Model for PlaceRef<'a> {
+    ghost use Rattle.std.specs.Prelude.{option_copied};
+    ghost use Rattle.code_typing.specs.Place.{Place, target_or_none};
+
+    ghost Value = { Place };
+
+    ghost view = { λ p. record { program = p.program.now; own = p.own; class = p.class.now; method = p.method.now; at = p.at; insn = p.insn.now; ref = target_or_none (option_copied p.target) } };
+}
+
+/// The index of the constant that an instruction names, or 0, which names none.
+fn index_of(insn: &Insn) -> u16
+    ensures { result ≡ index_of insn.now }
+{
+    match insn {
+        Insn::Ldc(index) => u16::from(*index),
+        Insn::Iface { index, .. } => *index,
+        Insn::Pool { index, .. } => *index,
+        _ => 0,
+    }
+}
+
+/// The class of the field or method that is referred to, or none.
+pub fn class_referred<'a>(place: &PlaceRef<'a>) -> &'a [u8]
+    ensures { result.now ≡ class_referred place.now }
+{
+    match reference_at(place.class.file.pool.as_slice(), index_of(place.insn)) {
+        Some(id) => id.class.as_slice(),
+        None => b"".as_slice(),
+    }
+}
+
+/// Its name, or none.
+pub fn name_referred<'a>(place: &PlaceRef<'a>) -> &'a [u8]
+    ensures { result.now ≡ name_referred place.now }
+{
+    match reference_at(place.class.file.pool.as_slice(), index_of(place.insn)) {
+        Some(id) => id.name.as_slice(),
+        None => b"".as_slice(),
+    }
+}
+
+/// Its descriptor, or none.
+pub fn desc_referred<'a>(place: &PlaceRef<'a>) -> &'a [u8]
+    ensures { result.now ≡ desc_referred place.now }
+{
+    match reference_at(place.class.file.pool.as_slice(), index_of(place.insn)) {
+        Some(id) => id.desc.as_slice(),
+        None => b"".as_slice(),
+    }
+}
+
+/// The class or the array type that is named, or none.
+pub fn class_of<'a>(target: Option<&'a Target>) -> &'a [u8]
+    ensures { result.now ≡ class_of (target_or_none (option_copied target.entry)) }
+{
+    match target {
+        Some(Target::ClassName(name)) => name.as_slice(),
+        _ => b"".as_slice(),
+    }
+}
+
+/// Whether it is `invokestatic`.
+pub fn calls_static(place: &PlaceRef) -> bool
+    ensures { result ≡ calls_static place.now }
+{
+    place.insn.opcode() == 0xB8
+}
+
+/// Whether a call is of the method that makes an object.
+pub fn calls_maker(place: &PlaceRef) -> bool
+    ensures { result ≡ calls_maker place.now }
+{
+    name_referred(place) == b"<init>".as_slice()
+}
+
+/// Whether a field stands in the method's own class.
+pub fn is_own_field(place: &PlaceRef) -> bool
+    ensures { result ≡ is_own_field place.now.own place.now.ref }
+{
+    match place.target {
+        Some(Target::Field { class, .. }) => *class == place.own,
+        _ => false,
+    }
+}
+
+/// Whether the method makes an object.
+pub fn is_maker(method: &Method) -> bool
+    ensures { result ≡ is_maker method.now }
+{
+    method.name.as_slice() == b"<init>".as_slice()
+}

@@ -1,0 +1,69 @@
+//! The rules of one instruction, in order.
+
+ghost use Rattle.std.specs.Prelude.{◌≡◌, option_copied};
+ghost use Rattle.code_typing.specs.Rules.{Operand, rule_failing, row_failing};
+
+use crate::depth::{is_deep, split_top};
+use crate::entry::is_entered;
+use crate::following::is_followed;
+use crate::handlers::is_caught;
+use crate::locals::has_locals;
+use crate::made::is_made;
+use crate::operands::{are_operands, count_taken};
+use crate::place::PlaceRef;
+use cert_format::FrameType;
+
+/// Rule 3.
+fn has_operands(place: &PlaceRef, frame: &FrameType) -> bool
+    ensures { result ≡ Operand place.now frame.now }
+{
+    let (_, taken) = split_top(frame.stack.as_slice(), count_taken(place));
+    are_operands(place, taken)
+}
+
+/// The first of the rules 2 to 7 that fails at an instruction that is reached.
+fn rule_failing(frames: &[Option<FrameType>], place: &PlaceRef, frame: &FrameType) -> Option<u8>
+    ensures { result ≡ rule_failing frames.now place.now frame.now }
+{
+    if !is_deep(place, frame) {
+        Some(2)
+    } else if !has_operands(place, frame) {
+        Some(3)
+    } else if !has_locals(place, frame) {
+        Some(4)
+    } else if !is_made(place, frame) {
+        Some(5)
+    } else if !is_followed(frames, place, frame) {
+        Some(6)
+    } else if !is_caught(frames, place, frame) {
+        Some(7)
+    } else {
+        None
+    }
+}
+
+/// The first rule that fails at an instruction with this frame, if it is reached.
+pub fn row_failing(
+    frames: &[Option<FrameType>],
+    place: &PlaceRef,
+    frame: Option<&FrameType>,
+) -> Option<u8>
+    ensures { result ≡ row_failing frames.now place.now (option_copied frame.entry) }
+{
+    match frame {
+        None => {
+            if place.at == 0 {
+                Some(1)
+            } else {
+                None
+            }
+        }
+        Some(frame) => {
+            if place.at == 0 && !is_entered(place, frame) {
+                Some(1)
+            } else {
+                rule_failing(frames, place, frame)
+            }
+        }
+    }
+}

@@ -1,0 +1,1 @@
+//! Small programs, and where their typings are wrong.

@@ -1,0 +1,191 @@
+//! The typing of a program.
+
+ghost use Rattle.std.specs.Prelude.{◌≡◌, ◌<◌, ◌≤◌, ◌+◌, ◌^◌, ◌↔◌, ℕ, List, Option, Some, None, IsOk, MatchResult, length, take, drop};
+ghost use Rattle.std.specs.List.{AllByRecursion};
+ghost use Rattle.bytecode_model.specs.Sound.{IsSound, IsSoundClass, IsSoundMethod};
+ghost use Rattle.code_typing.specs.Rules.{Frames};
+ghost use Rattle.code_typing.specs.Typed.{
+  IsTyped,
+  row_in,
+  row_fault,
+  frames_in,
+  frames_told,
+  first_row,
+  method_fault,
+  methods_fault,
+  classes_fault,
+  typing_fault,
+  list_at,
+};
+ghost use Rattle.code_typing.specs.Shape.{coded};
+
+use crate::fault::TypeFault;
+use crate::following::frame_of;
+use crate::place::PlaceRef;
+use crate::row::row_failing;
+use bytecode_model::{LinkedClass, Method, Program};
+use cert_format::{FrameType, Typing};
+use mon_base::List;
+
+/// The first rule that fails at an instruction of a method with these frames.
+fn row_in(
+    program: &Program,
+    own: u32,
+    class: &LinkedClass,
+    method: &Method,
+    frames: &[Option<FrameType>],
+    at: u32,
+) -> Option<u8>
+    ensures { result ≡ row_in program.now own class.now method.now frames.now at }
+{
+    match method.insns.as_slice().get(at as usize) {
+        None => None,
+        Some(insn) => {
+            let place = PlaceRef {
+                program,
+                own,
+                class,
+                method,
+                at,
+                insn,
+                target: method.refs.as_slice().get(at as usize),
+            };
+            row_failing(frames, &place, frame_of(frames, at as usize))
+        }
+    }
+}
+
+/// How many of the first n methods have code.
+fn count_coded(methods: &[Method], n: u32) -> usize
+    ensures { result ≡ length (coded (take n methods.now)) }
+{
+    let mut count: usize = 0;
+    let mut left = methods;
+    for _ in 0..n {
+        let [method, rest @ ..] = left else {
+            return count;
+        };
+        if !method.insns.is_empty() {
+            count += 1;
+        }
+        left = rest;
+    }
+    count
+}
+
+/// The list that stands there, or the empty one.
+fn told_at<T>(told: &[List<T>], at: usize) -> &[T]
+    ensures { result.now ≡ list_at told.now at }
+{
+    match told.get(at) {
+        Some(list) => list.as_slice(),
+        None => &[],
+    }
+}
+
+/// The first rule that fails at an instruction, by the place of its method among all methods of the class; none where
+/// there is no such instruction. It takes no memory.
+pub fn check_row(program: &Program, typing: &Typing, class: u32, method: u32, at: u32) -> Option<u8>
+    ensures { result ≡ row_fault program.now typing.now class method at }
+{
+    let given = program.classes.as_slice().get(class as usize)?;
+    let methods = given.methods.as_slice();
+    let found = methods.get(method as usize)?;
+    let told = told_at(typing.frames.as_slice(), class as usize);
+    let frames = told_at(told, count_coded(methods, method));
+    row_in(program, class, given, found, frames, at)
+}
+
+/// The first instruction of a method whose row fails.
+fn method_fault(
+    program: &Program,
+    own: u32,
+    class: &LinkedClass,
+    method: &Method,
+    frames: &[Option<FrameType>],
+    index: u32,
+) -> Option<TypeFault>
+    requires { length method.now.insns < 2 ^ 32 }
+    ensures { result ≡ method_fault program.now own class.now method.now frames.now index }
+{
+    for at in 0..method.insns.len() as u32 {
+        if let Some(rule) = row_in(program, own, class, method, frames, at) {
+            return Some(TypeFault {
+                class: own,
+                method: index,
+                at,
+                rule,
+            });
+        }
+    }
+    None
+}
+
+/// The first instruction of the class whose row fails.
+fn methods_fault(
+    program: &Program,
+    own: u32,
+    class: &LinkedClass,
+    told: &[List<Option<FrameType>>],
+) -> Option<TypeFault>
+    requires { IsSoundClass class.now }
+    ensures { result ≡ methods_fault program.now own class.now 0 class.now.methods told.now }
+{
+    let mut index: u32 = 0;
+    let mut told = told;
+    let mut left = class.methods.as_slice();
+    while let [method, later @ ..] = left {
+        if !method.insns.is_empty() {
+            let frames = told_at(told, 0);
+            if let Some(fault) = method_fault(program, own, class, method, frames, index) {
+                return Some(fault);
+            }
+            told = behind_first(told);
+        }
+        index += 1;
+        left = later;
+    }
+    None
+}
+
+/// All but the first.
+fn behind_first<T>(told: &[List<T>]) -> &[List<T>]
+    ensures { result.now ≡ drop 1 told.now }
+{
+    match told {
+        [] => told,
+        [_, rest @ ..] => rest,
+    }
+}
+
+/// The first instruction of the program whose row fails.
+fn typing_fault(program: &Program, typing: &Typing) -> Option<TypeFault>
+    requires { IsSound program.now }
+    ensures { result ≡ typing_fault program.now typing.now }
+{
+    let mut own: u32 = 0;
+    let mut told = typing.frames.as_slice();
+    let mut left = program.classes.as_slice();
+    while let [class, later @ ..] = left {
+        if let Some(fault) = methods_fault(program, own, class, told_at(told, 0)) {
+            return Some(fault);
+        }
+        told = behind_first(told);
+        own += 1;
+        left = later;
+    }
+    None
+}
+
+/// Whether the types that are told are right, or the first instruction, by class, method and its index, at which a rule
+/// fails. It takes no memory.
+pub fn check_typing(program: &Program, typing: &Typing) -> Result<(), TypeFault>
+    requires { IsSound program.now }
+    ensures ok { IsOk result ↔ IsTyped program.now typing.now }
+    ensures exact { MatchResult result (λ u. typing_fault program.now typing.now ≡ None) (λ fault. typing_fault program.now typing.now ≡ Some fault) }
+{
+    match typing_fault(program, typing) {
+        Some(fault) => Err(fault),
+        None => Ok(()),
+    }
+}

@@ -1,0 +1,186 @@
+//! What is wanted of operands and locals.
+
+ghost use Rattle.std.specs.Prelude.{◌≡◌, ◌∷◌, []};
+ghost use Rattle.code_typing.specs.Wants.{is_number, is_reference, is_made, is_array_type, is_this, of_kind, to_class, to_array, to_item, to_described, all_met};
+ghost use Rattle.code_typing.specs.Wanted.{want_of};
+ghost use Rattle.type_lattice.specs.Assigning.{is_array};
+
+use crate::described::without_last;
+use bytecode_model::Program;
+use cert_format::VType;
+use insn_effect::{Item, Kind};
+use type_lattice::{fits_class, lend};
+
+/// What is wanted of an operand.
+#[derive(Clone, Copy)]
+pub enum Wanted<'a> {
+    Number,
+    Kind(Kind),
+    /// An object that is made, or null.
+    Made,
+    Array,
+    /// An array of these items.
+    Items(Item),
+    /// An item of such an array.
+    Item(Item),
+    /// A reference to this class.
+    Class(&'a [u8]),
+    /// What this descriptor tells.
+    Described(&'a [u8]),
+}
+
+pub fn is_number(t: &VType) -> bool
+    ensures { result ≡ is_number t.now }
+{
+    matches!(t, VType::Int)
+}
+
+fn is_reference(t: &VType) -> bool
+    ensures { result ≡ is_reference t.now }
+{
+    match t {
+        VType::Top => false,
+        VType::Int => false,
+        _ => true,
+    }
+}
+
+fn is_made(t: &VType) -> bool
+    ensures { result ≡ is_made t.now }
+{
+    match t {
+        VType::Null => true,
+        VType::Ref(_) => true,
+        _ => false,
+    }
+}
+
+fn is_array(name: &[u8]) -> bool
+    ensures { result ≡ is_array name.now }
+{
+    match name {
+        [] => false,
+        [first, ..] => *first == b'[',
+    }
+}
+
+fn is_array_type(t: &VType) -> bool
+    ensures { result ≡ is_array_type t.now }
+{
+    match t {
+        VType::Null => true,
+        VType::Ref(name) => is_array(name.as_slice()),
+        _ => false,
+    }
+}
+
+pub fn is_this(t: &VType) -> bool
+    ensures { result ≡ is_this t.now }
+{
+    matches!(t, VType::UninitThis)
+}
+
+pub fn of_kind(kind: Kind, t: &VType) -> bool
+    ensures { result ≡ of_kind kind t.now }
+{
+    match kind {
+        Kind::Int => is_number(t),
+        Kind::Reference => is_reference(t),
+    }
+}
+
+pub fn to_class(program: &Program, name: &[u8], t: &VType) -> bool
+    ensures { result ≡ to_class program.now name.now t.now }
+{
+    fits_class(program, lend(t), name)
+}
+
+fn to_array(program: &Program, item: Item, t: &VType) -> bool
+    ensures { result ≡ to_array program.now item t.now }
+{
+    match item {
+        Item::Int => to_class(program, b"[I", t),
+        Item::Reference => to_class(program, b"[Ljava/lang/Object;", t),
+        Item::Byte => to_class(program, b"[B", t) || to_class(program, b"[Z", t),
+        Item::Char => to_class(program, b"[C", t),
+        Item::Short => to_class(program, b"[S", t),
+    }
+}
+
+fn to_item(program: &Program, item: Item, t: &VType) -> bool
+    ensures { result ≡ to_item program.now item t.now }
+{
+    match item {
+        Item::Reference => to_class(program, b"java/lang/Object", t),
+        _ => is_number(t),
+    }
+}
+
+pub fn to_described(program: &Program, desc: &[u8], t: &VType) -> bool
+    ensures { result ≡ to_described program.now desc.now t.now }
+{
+    match desc {
+        [] => true,
+        [first, rest @ ..] => {
+            if *first == b'[' {
+                to_class(program, desc, t)
+            } else if *first == b'L' {
+                to_class(program, without_last(rest), t)
+            } else {
+                is_number(t)
+            }
+        }
+    }
+}
+
+/// Whether the type is what is wanted.
+pub fn is_wanted(program: &Program, want: Wanted, t: &VType) -> bool
+    ensures { result ≡ want_of program.now want.entry t.now }
+{
+    match want {
+        Wanted::Number => is_number(t),
+        Wanted::Kind(kind) => of_kind(kind, t),
+        Wanted::Made => is_made(t),
+        Wanted::Array => is_array_type(t),
+        Wanted::Items(item) => to_array(program, item, t),
+        Wanted::Item(item) => to_item(program, item, t),
+        Wanted::Class(name) => to_class(program, name, t),
+        Wanted::Described(desc) => to_described(program, desc, t),
+    }
+}
+
+/// Whether there is one type, and it is what is wanted.
+pub fn one_is(program: &Program, want: Wanted, types: &[VType]) -> bool
+    ensures { result ≡ all_met (want_of program.now want.entry ∷ []) types.now }
+{
+    match types {
+        [] => false,
+        [first, rest @ ..] => is_wanted(program, want, first) && rest.is_empty(),
+    }
+}
+
+pub fn two_are(program: &Program, want: Wanted, second: Wanted, types: &[VType]) -> bool
+    ensures { result ≡ all_met (want_of program.now want.entry ∷ want_of program.now second.entry ∷ []) types.now }
+{
+    match types {
+        [] => false,
+        [first, rest @ ..] => is_wanted(program, want, first) && one_is(program, second, rest),
+    }
+}
+
+pub fn three_are(
+    program: &Program,
+    want: Wanted,
+    second: Wanted,
+    third: Wanted,
+    types: &[VType],
+) -> bool
+    ensures { result ≡ all_met (want_of program.now want.entry ∷ want_of program.now second.entry ∷ want_of program.now third.entry ∷ []) types.now }
+{
+    match types {
+        [] => false,
+        [first, rest @ ..] => {
+            is_wanted(program, want, first) && two_are(program, second, third, rest)
+        }
+    }
+}

@@ -1,0 +1,239 @@
+//! What an instruction pushes. (The Java Virtual Machine Specification, section 6.5.)
+
+ghost use Rattle.std.specs.Prelude.{◌≡◌, ◌≤◌, ◌∷◌, [], ℕ, List, length, map, reverse, option_copied};
+ghost use Rattle.insn_effect.specs.Forms.{order_of};
+ghost use Rattle.type_lattice.specs.Lending.{type_lent};
+ghost use Rattle.code_typing.specs.Makes.{
+  type_at,
+  moved_from,
+  form_yields,
+  constant_type,
+  item_type,
+  read_type,
+  array_named,
+  call_yields,
+  heap_yields,
+  yields,
+  yields_of,
+};
+ghost use Rattle.code_typing.specs.Place.{target_or_none};
+ghost use Rattle.code_typing.specs.Rules.{stack_fits};
+ghost use Rattle.cert_format.specs.declared.typing.VType.{VType};
+ghost use Rattle.cert_format.specs.declared.typing.VType.TheVariants.{Ref};
+ghost use Rattle.code_typing.specs.Described.{result_type};
+
+use crate::described::{result_type, type_described};
+use crate::place::{PlaceRef, class_of, desc_referred};
+use bytecode_model::{Program, Target};
+use cert_format::VType;
+use insn_effect::{Heap, Item, Shape, StackForm, depth_of, shape_of};
+use type_lattice::{TypeRef, lend, lent_fits};
+
+/// The type in a place, or Top.
+pub fn type_at(list: &[VType], i: usize) -> TypeRef<'_>
+    ensures { type_lent result ≡ type_at list.now i }
+{
+    match list.get(i) {
+        Some(t) => lend(t),
+        None => TypeRef::Top,
+    }
+}
+
+// ---- each type that is pushed
+
+/// The operands that a form puts back, counted from the top of those taken, the lowest first.
+fn put_back(form: StackForm) -> &'static [u8]
+    ensures value { result.now ≡ reverse (order_of form) }
+    ensures few { length result.now ≤ 6 }
+{
+    match form {
+        StackForm::Pop => b"".as_slice(),
+        StackForm::Pop2 => b"".as_slice(),
+        StackForm::Dup => b"\x00\x00".as_slice(),
+        StackForm::DupX1 => b"\x00\x01\x00".as_slice(),
+        StackForm::DupX2 => b"\x00\x02\x01\x00".as_slice(),
+        StackForm::Dup2 => b"\x01\x00\x01\x00".as_slice(),
+        StackForm::Dup2X1 => b"\x01\x00\x02\x01\x00".as_slice(),
+        StackForm::Dup2X2 => b"\x01\x00\x03\x02\x01\x00".as_slice(),
+        StackForm::Swap => b"\x00\x01".as_slice(),
+    }
+}
+
+fn moved_from(depth: u8, taken: &[VType], i: u8) -> TypeRef<'_>
+    ensures { type_lent result ≡ moved_from depth taken.now i }
+{
+    type_at(taken, usize::from(depth.saturating_sub(1).saturating_sub(i)))
+}
+
+/// The type of the constant that is named.
+fn constant_type<'a>(target: Option<&'a Target>) -> TypeRef<'a>
+    ensures { type_lent result ≡ constant_type (target_or_none (option_copied target.entry)) }
+{
+    match target {
+        Some(Target::Number(_)) => TypeRef::Int,
+        Some(Target::Literal(_)) => TypeRef::Ref(b"java/lang/String"),
+        Some(Target::ClassName(_)) => TypeRef::Ref(b"java/lang/Class"),
+        _ => TypeRef::Top,
+    }
+}
+
+/// The type of an item of the array of this name.
+fn item_described(name: &[u8]) -> TypeRef<'_>
+    ensures { type_lent result ≡ item_type (Ref name.now) }
+{
+    match name {
+        [] => TypeRef::Top,
+        [_, item @ ..] => type_described(item),
+    }
+}
+
+fn read_type<'a>(item: Item, taken: &'a [VType]) -> TypeRef<'a>
+    ensures { type_lent result ≡ read_type item taken.now }
+{
+    match item {
+        Item::Reference => {
+            match taken {
+                [] => TypeRef::Top,
+                [array, ..] => read_from(array),
+            }
+        }
+        _ => TypeRef::Int,
+    }
+}
+
+fn read_from(array: &VType) -> TypeRef<'_>
+    ensures { type_lent result ≡ item_type array.now }
+{
+    match array {
+        VType::Null => TypeRef::Null,
+        VType::Ref(name) => item_described(name.as_slice()),
+        _ => TypeRef::Top,
+    }
+}
+
+/// The array that `newarray` makes.
+fn array_named(kind: u8) -> &'static [u8]
+    ensures { result.now ≡ array_named kind }
+{
+    match kind {
+        4 => b"[Z".as_slice(),
+        5 => b"[C".as_slice(),
+        8 => b"[B".as_slice(),
+        9 => b"[S".as_slice(),
+        _ => b"[I".as_slice(),
+    }
+}
+
+// ---- whether the pushed are assignable
+
+fn one_fits(program: &Program, from: TypeRef, to: &[VType]) -> bool
+    ensures { result ≡ stack_fits program.now (type_lent from.entry ∷ []) to.now }
+{
+    match to {
+        [] => false,
+        [first, rest @ ..] => lent_fits(program, from, first) && rest.is_empty(),
+    }
+}
+
+fn form_fits(program: &Program, depth: u8, taken: &[VType], order: &[u8], to: &[VType]) -> bool
+    ensures { result ≡ stack_fits program.now (map (moved_from depth taken.now) order.now) to.now }
+{
+    let mut order = order;
+    let mut to = to;
+    while let [place, places @ ..] = order {
+        let [first, others @ ..] = to else {
+            return false;
+        };
+        if !lent_fits(program, moved_from(depth, taken, *place), first) {
+            return false;
+        }
+        order = places;
+        to = others;
+    }
+    to.is_empty()
+}
+
+fn call_fits(program: &Program, desc: &[u8], to: &[VType]) -> bool
+    ensures { result ≡ stack_fits program.now (call_yields (result_type desc.now)) to.now }
+{
+    match result_type(desc) {
+        None => to.is_empty(),
+        Some(t) => one_fits(program, t, to),
+    }
+}
+
+fn heap_fits(place: &PlaceRef, taken: &[VType], what: Heap, to: &[VType]) -> bool
+    ensures { result ≡ stack_fits place.now.program (heap_yields place.now taken.now what) to.now }
+{
+    let program = place.program;
+    match what {
+        Heap::Constant => one_fits(program, constant_type(place.target), to),
+        Heap::ReadItem(item) => one_fits(program, read_type(item, taken), to),
+        Heap::ReadStatic | Heap::ReadField => {
+            one_fits(program, type_described(desc_referred(place)), to)
+        }
+        Heap::Call => call_fits(program, desc_referred(place), to),
+        Heap::New => one_fits(program, TypeRef::Uninit(place.at), to),
+        Heap::NewArray(kind) => one_fits(program, TypeRef::Ref(array_named(kind)), to),
+        Heap::NewArrayOf => one_fits(program, TypeRef::ArrayOf(class_of(place.target)), to),
+        Heap::Cast => one_fits(program, TypeRef::Ref(class_of(place.target)), to),
+        Heap::Divide { .. } | Heap::Length | Heap::IsInstance => {
+            one_fits(program, TypeRef::Int, to)
+        }
+        _ => to.is_empty(),
+    }
+}
+
+fn shape_fits(place: &PlaceRef, locals: &[VType], taken: &[VType], shape: Shape, to: &[VType]) -> bool
+    ensures { result ≡ stack_fits place.now.program (yields_of place.now locals.now taken.now shape) to.now }
+{
+    let program = place.program;
+    match shape {
+        Shape::Push(_) | Shape::Two(_) | Shape::One(_) => one_fits(program, TypeRef::Int, to),
+        Shape::PushNull => one_fits(program, TypeRef::Null, to),
+        Shape::Load { slot, .. } => one_fits(program, type_at(locals, usize::from(slot)), to),
+        Shape::Move(form) => form_fits(program, depth_of(form), taken, put_back(form), to),
+        Shape::Heap(what) => heap_fits(place, taken, what, to),
+        _ => to.is_empty(),
+    }
+}
+
+/// Whether what the instruction pushes is assignable to these operands.
+pub fn yields_fit(place: &PlaceRef, locals: &[VType], taken: &[VType], to: &[VType]) -> bool
+    ensures { result ≡ stack_fits place.now.program (yields place.now locals.now taken.now) to.now }
+{
+    shape_fits(place, locals, taken, shape_of(place.insn), to)
+}
+
+// ---- how many are pushed
+
+fn heap_count(place: &PlaceRef, what: Heap) -> usize
+    ensures few { result ≤ 1 }
+    ensures value { (taken : List VType) → result ≡ length (heap_yields place.now taken what) }
+{
+    match what {
+        Heap::Call => {
+            match result_type(desc_referred(place)) {
+                None => 0,
+                Some(_) => 1,
+            }
+        }
+        Heap::WriteItem(_) | Heap::WriteStatic | Heap::WriteField | Heap::Throw => 0,
+        Heap::Enter | Heap::Exit | Heap::Return(_) => 0,
+        _ => 1,
+    }
+}
+
+/// How many operands the instruction pushes.
+pub fn count_yielded(place: &PlaceRef) -> usize
+    ensures few { result ≤ 6 }
+    ensures value { (locals taken : List VType) → result ≡ length (yields place.now locals taken) }
+{
+    match shape_of(place.insn) {
+        Shape::Push(_) | Shape::Two(_) | Shape::One(_) | Shape::PushNull => 1,
+        Shape::Load { .. } => 1,
+        Shape::Move(form) => put_back(form).len(),
+        Shape::Heap(what) => heap_count(place, what),
+        _ => 0,
+    }
+}

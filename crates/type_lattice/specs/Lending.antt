@@ -1,0 +1,24 @@
+-- Types that are lent, and the type that each is.
+use Rattle.std.specs.Prelude.{ℕ, List, [], ◌∷◌, ◌++◌, if◌then◌else◌}
+use Rattle.cert_format.specs.declared.typing.VType.{VType}
+use Rattle.cert_format.specs.declared.typing.VType.TheVariants as types
+use Rattle.type_lattice.specs.declared.lending.TypeRef.{TypeRef}
+use Rattle.type_lattice.specs.declared.lending.TypeRef.TheVariants as lent
+use Rattle.type_lattice.specs.Assigning.{is_array}
+
+-- the descriptor of a class or an array
+abbrev pub described : List ℕ → List ℕ
+described name = if is_array name then name else 76 ∷ (name ++ 59 ∷ [])
+
+-- the array of these items
+abbrev pub array_of : List ℕ → List ℕ
+array_of item = 91 ∷ described item
+
+abbrev pub type_lent : TypeRef → VType
+type_lent lent.Top = types.Top
+type_lent lent.Int = types.Int
+type_lent lent.Null = types.Null
+type_lent (lent.Ref name) = types.Ref name.now
+type_lent (lent.ArrayOf item) = types.Ref (array_of item.now)
+type_lent lent.UninitThis = types.UninitThis
+type_lent (lent.Uninit at) = types.Uninit at

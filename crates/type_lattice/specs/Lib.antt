@@ -1,0 +1,4 @@
+pub mod Classes
+pub mod Assigning
+pub mod Rising
+pub mod Lending

@@ -1,0 +1,188 @@
+//! Which type may stand in the place of which. (The Java Virtual Machine Specification, section 4.10.1.2.)
+
+ghost use Rattle.std.specs.Prelude.{◌≡◌, option_copied};
+ghost use Rattle.type_lattice.specs.Assigning.{class_fits, named, is_array, reference_of, leaf_fits, component_fits, array_fits};
+ghost use Rattle.type_lattice.specs.Assigning.{name_fits, assignable};
+ghost use Rattle.type_lattice.specs.Lending.{array_of, described, type_lent};
+ghost use Rattle.type_lattice.specs.declared.lending.TypeRef.{TypeRef};
+ghost use Rattle.bytecode_model.specs.declared.program.Program.{Program};
+ghost use Rattle.cert_format.specs.declared.typing.VType.TheVariants.{Ref};
+
+use crate::classes::{is_below, is_interface};
+use crate::lending::{TypeRef, lend};
+use bytecode_model::Program;
+use cert_format::VType;
+
+/// The class that each other is below, and each array.
+const OBJECT: &[u8] = b"java/lang/Object";
+
+/// Whether a value of the one type may stand where one of the other is wanted. It takes no memory.
+pub fn assignable(program: &Program, from: &VType, to: &VType) -> bool
+    ensures { result ≡ assignable program.now from.now to.now }
+{
+    lent_fits(program, lend(from), to)
+}
+
+/// The same of a type that is lent.
+pub fn lent_fits(program: &Program, from: TypeRef, to: &VType) -> bool
+    ensures { result ≡ assignable program.now (type_lent from.entry) to.now }
+{
+    match to {
+        VType::Top => true,
+        VType::Int => matches!(from, TypeRef::Int),
+        VType::Null => matches!(from, TypeRef::Null),
+        VType::Ref(to) => fits_class(program, from, to.as_slice()),
+        VType::UninitThis => matches!(from, TypeRef::UninitThis),
+        VType::Uninit(at) => {
+            match from {
+                TypeRef::Uninit(other) => other == *at,
+                _ => false,
+            }
+        }
+    }
+}
+
+/// Whether a value of the type may stand where a reference to this class or array is wanted.
+pub fn fits_class(program: &Program, from: TypeRef, to: &[u8]) -> bool
+    ensures { result ≡ assignable program.now (type_lent from.entry) (Ref to.now) }
+{
+    match from {
+        TypeRef::Null => true,
+        TypeRef::Ref(from) => name_fits(program, from, to),
+        TypeRef::ArrayOf(item) => array_of_fits(program, item, to),
+        _ => false,
+    }
+}
+
+/// An array of these items.
+#[tactic(auto, using(crate::proofs::Arrays::array_of_item))]
+fn array_of_fits(program: &Program, item: &[u8], to: &[u8]) -> bool
+    ensures { result ≡ name_fits program.now (array_of item.now) to.now }
+{
+    if to == OBJECT {
+        return true;
+    }
+    if is_interface(program, to) {
+        return true;
+    }
+    items_fit(program, item, to)
+}
+
+/// An array of these items, where an array is wanted.
+fn items_fit(program: &Program, item: &[u8], to: &[u8]) -> bool
+    ensures { result ≡ array_fits program.now (array_of item.now) to.now }
+{
+    match to {
+        [] => false,
+        [first, to @ ..] => *first == b'[' && item_fits(program, item, to),
+    }
+}
+
+fn item_fits(program: &Program, item: &[u8], to: &[u8]) -> bool
+    ensures { result ≡ component_fits program.now (described item.now) to.now }
+{
+    if is_array(item) {
+        component_fits(program, item, to)
+    } else {
+        match named(to) {
+            None => false,
+            Some(above) => class_fits(program, item, above),
+        }
+    }
+}
+
+fn name_fits(program: &Program, from: &[u8], to: &[u8]) -> bool
+    ensures { result ≡ name_fits program.now from.now to.now }
+{
+    class_fits(program, from, to) || array_fits(program, from, to)
+}
+
+fn class_fits(program: &Program, from: &[u8], to: &[u8]) -> bool
+    ensures { result ≡ class_fits program.now from.now to.now }
+{
+    from == to
+        || to == OBJECT
+        || is_interface(program, to)
+        || (!is_array(from) && is_below(program, from, to))
+}
+
+fn array_fits(program: &Program, from: &[u8], to: &[u8]) -> bool
+    ensures { result ≡ array_fits program.now from.now to.now }
+{
+    match from {
+        [] => false,
+        [c, from @ ..] => {
+            match to {
+                [] => false,
+                [d, to @ ..] => *c == b'[' && *d == b'[' && component_fits(program, from, to),
+            }
+        }
+    }
+}
+
+fn component_fits(program: &Program, from: &[u8], to: &[u8]) -> bool
+    ensures { result ≡ component_fits program.now from.now to.now }
+{
+    let mut from = from;
+    let mut to = to;
+    while let [b'[', below @ ..] = from {
+        let [b'[', above @ ..] = to else {
+            return leaf_fits(program, from, to);
+        };
+        from = below;
+        to = above;
+    }
+    leaf_fits(program, from, to)
+}
+
+fn leaf_fits(program: &Program, from: &[u8], to: &[u8]) -> bool
+    ensures { result ≡ leaf_fits program.now from.now to.now }
+{
+    if from == to {
+        return true;
+    }
+    match named(to) {
+        None => false,
+        Some(above) => {
+            match reference_of(from) {
+                None => false,
+                Some(below) => class_fits(program, below, above),
+            }
+        }
+    }
+}
+
+fn reference_of<'a>(component: &'a [u8]) -> Option<&'a [u8]>
+    ensures { option_copied result ≡ reference_of component.now }
+{
+    if is_array(component) {
+        Some(component)
+    } else {
+        named(component)
+    }
+}
+
+fn is_array(text: &[u8]) -> bool
+    ensures { result ≡ is_array text.now }
+{
+    match text {
+        [] => false,
+        [first, ..] => *first == b'[',
+    }
+}
+
+/// The name in a component `Lname;`.
+fn named<'a>(component: &'a [u8]) -> Option<&'a [u8]>
+    ensures { option_copied result ≡ named component.now }
+{
+    match component {
+        [] => None,
+        [first, rest @ ..] => {
+            if *first == b'L' && !rest.is_empty() && rest[rest.len() - 1] == b';' {
+                Some(&rest[..rest.len() - 1])
+            } else {
+                None
+            }
+        }
+    }
+}

@@ -1,0 +1,14 @@
+//! The types of the verifier, in order: which may stand in the place of which.
+//! (The Java Virtual Machine Specification, section 4.10; docs/TYPING.md.)
+#![tactic(auto)]
+
+mod assigning;
+mod classes;
+mod lending;
+
+pub use assigning::{assignable, fits_class, lent_fits};
+pub use classes::{is_below, is_interface};
+pub use lending::{TypeRef, lend};
+
+#[cfg(test)]
+mod tests;

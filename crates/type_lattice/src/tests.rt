@@ -1,0 +1,141 @@
+//! Which types are assignable, as the JVM specification's section 4.10.1.2 tells it.
+
+use super::*;
+use api_listing::read;
+use bytecode_model::{LinkedClass, Program};
+use cert_format::VType;
+use class_codec::{ClassFile, Const};
+use mon_base::{Bytes, List, NoMemory};
+use std::alloc::Global;
+use std::test::Fail;
+
+/// A class of this name and superclass, without members.
+fn class_of(alloc: Global, name: &[u8], parent: &[u8], flags: u16) -> Result<LinkedClass, NoMemory> {
+    let mut pool = List::new(alloc);
+    pool.push(Const::Second)?;
+    pool.push(Const::Utf8(Bytes::from_slice(alloc, name)?))?;
+    pool.push(Const::Class(1))?;
+    pool.push(Const::Utf8(Bytes::from_slice(alloc, parent)?))?;
+    pool.push(Const::Class(3))?;
+    Ok(LinkedClass {
+        name: Bytes::from_slice(alloc, name)?,
+        parent: Bytes::from_slice(alloc, parent)?,
+        file: ClassFile {
+            minor: 0,
+            pool,
+            flags,
+            this_class: 2,
+            super_class: 4,
+            interfaces: List::new(alloc),
+            fields: List::new(alloc),
+            methods: List::new(alloc),
+            attrs: List::new(alloc),
+        },
+        methods: List::new(alloc),
+    })
+}
+
+/// The classes a/A, a/B below it, a/C below java/lang/Thread, and the interface a/I.
+fn program_of(alloc: Global) -> Result<Program, Fail> {
+    let listing = match read(alloc, b"class api/Net extends java/lang/Object\n") {
+        Ok(listing) => listing,
+        Err(_) => return Err(Fail::from("the text is a listing")),
+    };
+    let mut classes = List::new(alloc);
+    classes.push(class_of(alloc, b"a/A", b"java/lang/Object", 0x21)?)?;
+    classes.push(class_of(alloc, b"a/B", b"a/A", 0x21)?)?;
+    classes.push(class_of(alloc, b"a/C", b"java/lang/Thread", 0x21)?)?;
+    classes.push(class_of(alloc, b"a/I", b"java/lang/Object", 0x601)?)?;
+    Ok(Program {
+        classes,
+        listing,
+        literals: List::new(alloc),
+        main_class: 0,
+        main_method: 0,
+    })
+}
+
+/// Whether a reference to the one is assignable to a reference to the other.
+fn refs_fit(alloc: Global, program: &Program, from: &[u8], to: &[u8]) -> Result<bool, NoMemory> {
+    let from = VType::Ref(Bytes::from_slice(alloc, from)?);
+    let to = VType::Ref(Bytes::from_slice(alloc, to)?);
+    Ok(assignable(program, &from, &to))
+}
+
+#[test]
+fn types_that_are_no_references(rt: HostRuntime) -> Result<(), Fail> {
+    let alloc = rt.alloc();
+    let program = program_of(alloc)?;
+    let class = VType::Ref(Bytes::from_slice(alloc, b"a/A")?);
+    assert!(rt; assignable(&program, &VType::Null, &class));
+    assert!(rt; assignable(&program, &VType::Null, &VType::Null));
+    assert!(rt; !assignable(&program, &class, &VType::Null));
+    assert!(rt; assignable(&program, &VType::Int, &VType::Int));
+    assert!(rt; assignable(&program, &VType::Int, &VType::Top));
+    assert!(rt; assignable(&program, &class, &VType::Top));
+    assert!(rt; !assignable(&program, &VType::Top, &VType::Int));
+    assert!(rt; !assignable(&program, &VType::Int, &class));
+    assert!(rt; !assignable(&program, &VType::Null, &VType::Int));
+    assert!(rt; assignable(&program, &VType::Uninit(3), &VType::Uninit(3)));
+    assert!(rt; !assignable(&program, &VType::Uninit(3), &VType::Uninit(4)));
+    assert!(rt; !assignable(&program, &VType::Uninit(3), &class));
+    assert!(rt; assignable(&program, &VType::UninitThis, &VType::UninitThis));
+    assert!(rt; !assignable(&program, &VType::UninitThis, &class));
+    assert!(rt; assignable(&program, &VType::UninitThis, &VType::Top));
+    Ok(())
+}
+
+#[test]
+fn classes(rt: HostRuntime) -> Result<(), Fail> {
+    let alloc = rt.alloc();
+    let program = program_of(alloc)?;
+    assert!(rt; refs_fit(alloc, &program, b"a/B", b"a/B")?);
+    assert!(rt; refs_fit(alloc, &program, b"a/B", b"a/A")?);
+    assert!(rt; !refs_fit(alloc, &program, b"a/A", b"a/B")?);
+    assert!(rt; refs_fit(alloc, &program, b"a/B", b"java/lang/Object")?);
+    assert!(rt; refs_fit(alloc, &program, b"a/C", b"java/lang/Thread")?);
+    assert!(rt; !refs_fit(alloc, &program, b"a/C", b"a/A")?);
+    assert!(rt; refs_fit(alloc, &program, b"a/A", b"java/lang/Runnable")?);
+    assert!(rt; refs_fit(alloc, &program, b"a/A", b"a/I")?);
+    assert!(rt; !refs_fit(alloc, &program, b"java/lang/Object", b"a/A")?);
+    assert!(rt; refs_fit(alloc, &program, b"x/Unknown", b"x/Unknown")?);
+    assert!(rt; !refs_fit(alloc, &program, b"x/Unknown", b"a/A")?);
+    Ok(())
+}
+
+#[test]
+fn arrays(rt: HostRuntime) -> Result<(), Fail> {
+    let alloc = rt.alloc();
+    let program = program_of(alloc)?;
+    assert!(rt; refs_fit(alloc, &program, b"[I", b"[I")?);
+    assert!(rt; !refs_fit(alloc, &program, b"[I", b"[B")?);
+    assert!(rt; !refs_fit(alloc, &program, b"[I", b"[Ljava/lang/Object;")?);
+    assert!(rt; refs_fit(alloc, &program, b"[[I", b"[Ljava/lang/Object;")?);
+    assert!(rt; refs_fit(alloc, &program, b"[I", b"java/lang/Object")?);
+    assert!(rt; refs_fit(alloc, &program, b"[I", b"java/lang/Runnable")?);
+    assert!(rt; refs_fit(alloc, &program, b"[La/B;", b"[La/A;")?);
+    assert!(rt; !refs_fit(alloc, &program, b"[La/A;", b"[La/B;")?);
+    assert!(rt; refs_fit(alloc, &program, b"[[La/B;", b"[[La/A;")?);
+    assert!(rt; refs_fit(alloc, &program, b"[[La/B;", b"[Ljava/lang/Object;")?);
+    assert!(rt; !refs_fit(alloc, &program, b"[La/B;", b"[[La/B;")?);
+    assert!(rt; !refs_fit(alloc, &program, b"a/A", b"[La/A;")?);
+    assert!(rt; !refs_fit(alloc, &program, b"[La/A;", b"a/A")?);
+    Ok(())
+}
+
+#[test]
+fn arrays_of_items(rt: HostRuntime) -> Result<(), Fail> {
+    let alloc = rt.alloc();
+    let program = program_of(alloc)?;
+    let of_classes = VType::Ref(Bytes::from_slice(alloc, b"[La/A;")?);
+    let of_arrays = VType::Ref(Bytes::from_slice(alloc, b"[[I")?);
+    let object = VType::Ref(Bytes::from_slice(alloc, b"java/lang/Object")?);
+    assert!(rt; lent_fits(&program, TypeRef::ArrayOf(b"a/B"), &of_classes));
+    assert!(rt; lent_fits(&program, TypeRef::ArrayOf(b"a/A"), &of_classes));
+    assert!(rt; !lent_fits(&program, TypeRef::ArrayOf(b"a/C"), &of_classes));
+    assert!(rt; lent_fits(&program, TypeRef::ArrayOf(b"[I"), &of_arrays));
+    assert!(rt; !lent_fits(&program, TypeRef::ArrayOf(b"[B"), &of_arrays));
+    assert!(rt; !lent_fits(&program, TypeRef::ArrayOf(b"a/A"), &of_arrays));
+    assert!(rt; lent_fits(&program, TypeRef::ArrayOf(b"a/A"), &object));
+    Ok(())
+}
