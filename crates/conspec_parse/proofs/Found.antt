@@ -1,36 +1,30 @@
 -- What is read is spelled so: names, types, parameters and methods.
-use Rattle.std.proofs.Common.{◌≡◌, ◌≢◌, ◌⊎◌, inl, inr, ⊎_elim, ℕ, zero, suc, ◌+◌, ◌<◌, ◌≤◌, Bool, true, false, cond, List, [], ◌∷◌, ◌++◌, length, map, drop, get_or, replicate, Option, Some, None, Ok, Err, refl, sym, ap, subst, ◌∙◌, arith, append_assoc}
-use Rattle.std.specs.Prelude.{ok_or, not, codes, bytes_eq, AllPairs, IsTrue, ◌||◌, ◌&&◌, ◌==◌}
+use Rattle.std.proofs.Common.{◌≡◌, ◌≢◌, ◌⊎◌, inl, inr, ⊎_elim, ℕ, zero, suc, ◌<◌, Bool, true, false, cond, List, [], ◌∷◌, ◌++◌, length, map, drop, get_or, replicate, Option, Some, None, refl, sym, ap, subst, ◌∙◌, arith, append_assoc}
+use Rattle.std.specs.Prelude.{not, codes, AllPairs, IsTrue, ◌||◌}
 use Rattle.std.specs.List.{AllByRecursion, flat_map}
-use Rattle.std.proofs.lemmas.Bool.{leb-true, eqb-false}
 use Rattle.std.proofs.lemmas.Bool.Decides.{not_from_Decides}
 use Rattle.std.proofs.lemmas.Grind.{flat_map-append}
 use Rattle.std.proofs.lemmas.List.{append-nil, map-append}
 use Rattle.std.proofs.lemmas.List.Quantifiers.{all_pairs_push}
 use Rattle.std.proofs.lemmas.Slice.Eq.{bytes_eq-Decides}
-use Rattle.mon_base.specs.Reading.{◌>>=◌, need}
 use Rattle.api_listing.specs.Descriptor.{class_spelled}
 use Rattle.conspec_parse.specs.declared.token.Lexeme.{Lexeme}
 use Rattle.conspec_parse.specs.declared.token.Lexeme.TheVariants.{Quoted, Name, Number, Wrong, End}
 use Rattle.conspec_parse.specs.declared.token.Token.{Token}
-use Rattle.conspec_parse.specs.declared.types.Kind.{Kind}
 use Rattle.conspec_parse.specs.declared.types.Kind.TheVariants as kinds
 use Rattle.conspec_parse.specs.declared.types.Var.{Var}
 use Rattle.conspec_parse.specs.declared.type_name.TypeName.{TypeName}
 use Rattle.conspec_parse.specs.declared.signature.Param.{Param}
-use Rattle.conspec_parse.specs.declared.signature.Path.{Path}
-use Rattle.conspec_parse.specs.declared.signature.Signature.{Signature}
-use Rattle.conspec_parse.specs.declared.fault.PolicyFault.TheVariants.{Syntax, Twice, Limit}
-use Rattle.conspec_parse.specs.Forms.{Read, front_at, quotes, is_next, is_name, behind, names, next_name, name_at, counts, next_number, number_at, taken, is_some, is_short, each}
+use Rattle.conspec_parse.specs.declared.fault.PolicyFault.TheVariants.{Twice, Limit}
+use Rattle.conspec_parse.specs.Forms.{front_at, quotes, is_next, is_name, behind, names, next_name, name_at, counts, next_number, number_at, taken, is_short}
 use Rattle.conspec_parse.specs.Types.{judged_name, type_named, plain_type, next_part, class_at, class_type_at, element_of, element_at, dimension_at, array_of, type_at}
 use Rattle.conspec_parse.specs.Head.{is_variable}
-use Rattle.conspec_parse.specs.Methods.{kind_or_object, is_named, is_parameter, is_free, given_name_at, given_parameter_at, parameter_name_at, parameter_at, next_parameter, some_parameters, parameters_at, init, part_at, class_under, next_step, path_at, signature_at}
-use Rattle.conspec_parse.specs.Written.{Element, WrittenType, WrittenParam, MethodName, led, separated, one_name, dotted, element_spelled, brackets_spelled, type_spelled, name_spelled, param_spelled, method_spelled, path_spelled, params_spelled, signature_spelled}
+use Rattle.conspec_parse.specs.Methods.{kind_or_object, is_named, is_parameter, is_free, given_name_at, parameter_name_at, parameter_at, next_parameter, some_parameters, parameters_at}
+use Rattle.conspec_parse.specs.Written.{Element, WrittenType, WrittenParam, led, one_name, element_spelled, brackets_spelled, type_spelled, name_spelled, param_spelled, params_spelled}
 use Rattle.conspec_parse.specs.Written.Element.{Void, Int, Boolean, Byte, Short, Char, Class}
-use Rattle.conspec_parse.specs.Written.MethodName.{Constructor, Plain}
-use Rattle.conspec_parse.specs.Meaning.{EachIs, AreShort, below, joined, element_desc, element_kind, type_desc, kind_in, type_kind, param_of, element_names, optional, names_of_param, param_names, AreParams, method_bytes, method_names, lexemes}
-use Rattle.conspec_parse.proofs.Made.{Makes, done, then, tested, either, failed, any, given, taken_makes, said, each_makes}
-use Rattle.conspec_parse.proofs.Sound.{all_more, no_pairs, neither, both, is_not}
+use Rattle.conspec_parse.specs.Meaning.{EachIs, AreShort, below, element_desc, element_kind, type_desc, kind_in, type_kind, param_of, element_names, optional, names_of_param, param_names, AreParams, lexemes}
+use Rattle.conspec_parse.proofs.Made.{Makes, done, then, tested, either, failed, given, taken_makes, said, each_makes}
+use Rattle.conspec_parse.proofs.Sound.{all_more, no_pairs, neither, is_not}
 
 -- ---- spelled parts
 
@@ -156,12 +150,12 @@ plain_found tokens type e =
     ⊎_elim (plain_is tokens type (codes "byte") Byte refl refl) (λ e4.
     ⊎_elim (plain_is tokens type (codes "short") Short refl refl) (λ e5.
     ⊎_elim (plain_is tokens type (codes "char") Char refl refl) (λ e6. absurd cc)
-      (which (is_next (codes "char") tokens) _ _ type e5))
-      (which (is_next (codes "short") tokens) _ _ type e4))
-      (which (is_next (codes "byte") tokens) _ _ type e3))
-      (which (is_next (codes "boolean") tokens) _ _ type e2))
-      (which (is_next (codes "int") tokens) _ _ type e1))
-      (which (is_next (codes "void") tokens) _ _ type e)
+    (which (is_next (codes "char") tokens) _ _ type e5))
+    (which (is_next (codes "short") tokens) _ _ type e4))
+    (which (is_next (codes "byte") tokens) _ _ type e3))
+    (which (is_next (codes "boolean") tokens) _ _ type e2))
+    (which (is_next (codes "int") tokens) _ _ type e1))
+    (which (is_next (codes "void") tokens) _ _ type e)
 
 -- the further names of a class
 abbrev IsClassWith : List ℕ → List (List ℕ) → List ℕ → Type 0
@@ -192,8 +186,8 @@ unfolding class_at
 class_found tokens =
     then _ (judged_found tokens) λ first one.
     said (each_makes (is_next (codes ".")) (next_part true) (λ class left. Found (led (codes ".") one_name) (IsClassWith first.0) first.1 (class, left))
-      (λ class left goes before. part_found first.1 first.0 class left before)
-      first.0 first.1 (record { written = []; took = nothing first.1; says = (sym (append-nil first.0), tt) })) λ r others.
+    (λ class left goes before. part_found first.1 first.0 class left before)
+    first.0 first.1 (record { written = []; took = nothing first.1; says = (sym (append-nil first.0), tt) })) λ r others.
     record { written = Class first.0 others.written; took = joins one.0 others.took; says = (ap class_spelled others.says.0, refl, (one.1, others.says.1)) }
 
 abbrev IsElement : Element → TypeName → Type 0
@@ -250,8 +244,8 @@ unfolding type_at
 type_found tokens =
     then _ (element_found tokens) λ element one.
     then _ (each_makes (is_next (codes "[")) dimension_at (λ brackets left. Found brackets_spelled AreBrackets element.1 (brackets, left))
-      (λ brackets left goes before. dimension_found element.1 brackets left before)
-      [] element.1 (record { written = 0; took = nothing element.1; says = refl })) λ brackets two.
+    (λ brackets left goes before. dimension_found element.1 brackets left before)
+    [] element.1 (record { written = 0; took = nothing element.1; says = refl })) λ brackets two.
     let is = one.says.0 in
     let b = two.says in
     done (array_of brackets.0 element.0, brackets.1) (record {
@@ -306,8 +300,8 @@ parameter_name_found : (vars : List Var) (params : List Param) (tokens : List To
     → Makes (parameter_name_at true vars params tokens) (Found name_spelled (IsParamName vars params) tokens)
 parameter_name_found vars params tokens =
     either (is_name tokens) _ _
-      (λ named. then _ (given_found vars params tokens) λ name is. done (Some name.0, name.1) (record { written = Some name.0; took = is.0; says = (refl, is.1) }))
-      (λ plain. done (None, tokens) (record { written = None; took = nothing tokens; says = (refl, tt) }))
+    (λ named. then _ (given_found vars params tokens) λ name is. done (Some name.0, name.1) (record { written = Some name.0; took = is.0; says = (refl, is.1) }))
+    (λ plain. done (None, tokens) (record { written = None; took = nothing tokens; says = (refl, tt) }))
 
 pub record AreParamsOf (vars : List Var) (written : List WrittenParam) (params : List Param) : Type 0 where
   pub is : params ≡ map param_of written
@@ -335,11 +329,11 @@ one_more_param vars written type name are short given = by name given where
       let others = no_parameter written n free.1 in
       record {
         once = subst (λ (ns : List (List ℕ)). AllPairs (λ a b. a ≢ b) ns) (sym same)
-          (all_pairs_push (λ (a b : List ℕ). a ≢ b) (param_names written) n are.once (λ k d lt. all_at (λ (other : List ℕ). other ≢ n) (param_names written) k d others lt));
+            (all_pairs_push (λ (a b : List ℕ). a ≢ b) (param_names written) n are.once (λ k d lt. all_at (λ (other : List ℕ). other ≢ n) (param_names written) k d others lt));
         own = subst (λ (ns : List (List ℕ)). AllByRecursion (λ m. is_variable vars m ≡ false) ns) (sym same)
-          (all_more (λ (m : List ℕ). is_variable vars m ≡ false) (param_names written) n are.own free.0);
+            (all_more (λ (m : List ℕ). is_variable vars m ≡ false) (param_names written) n are.own free.0);
         short = all_more (λ (q : WrittenParam). AreShort (names_of_param q)) written p are.short
-          (all_joined (λ (m : List ℕ). IsTrue (is_short m)) (element_names type.element) (n ∷ []) short (free.2, tt));
+            (all_joined (λ (m : List ℕ). IsTrue (is_short m)) (element_names type.element) (n ∷ []) short (free.2, tt));
       }
 
 pub record IsNextParam (vars : List Var) (before : List WrittenParam) (tokens : List Token) (read : List Param × List Token) : Type 0 where
@@ -385,12 +379,12 @@ unfolding some_parameters
 some_parameters_found vars tokens =
     then _ (parameter_found vars [] [] tokens (record { is = refl; fit = record { once = no_pairs (λ (a b : List ℕ). a ≢ b); own = tt; short = tt } })) λ first one.
     said (each_makes (is_next (codes ",")) (next_parameter true vars) (λ params left. Found (led (codes ",") param_spelled) (λ others ps. AreParamsOf vars (one.written ∷ others) ps) first.1 (params, left))
-      (λ params left goes before. next_parameter_found vars one.written first.1 params left before)
-      first.0 first.1 (record { written = []; took = nothing first.1; says = one.says })) λ r two.
+    (λ params left goes before. next_parameter_found vars one.written first.1 params left before)
+    first.0 first.1 (record { written = []; took = nothing first.1; says = one.says })) λ r two.
     record { written = one.written ∷ two.written; took = joins one.took two.took; says = two.says }
 
 pub parameters_found : (vars : List Var) (tokens : List Token) → Makes (parameters_at true vars tokens) (Found params_spelled (AreParamsOf vars) tokens)
 parameters_found vars tokens =
     either (is_next (codes ")") tokens) _ _
-      (λ none. done ([], tokens) (record { written = []; took = nothing tokens; says = record { is = refl; fit = record { once = no_pairs (λ (a b : List ℕ). a ≢ b); own = tt; short = tt } } }))
-      (λ some. some_parameters_found vars tokens)
+    (λ none. done ([], tokens) (record { written = []; took = nothing tokens; says = record { is = refl; fit = record { once = no_pairs (λ (a b : List ℕ). a ≢ b); own = tt; short = tt } } }))
+    (λ some. some_parameters_found vars tokens)

@@ -1,40 +1,35 @@
 -- What is read is spelled so: guards and updates.
-use Rattle.std.proofs.Common.{◌≡◌, ◌≢◌, ◌⊎◌, inl, inr, ⊎_elim, ℕ, zero, suc, ◌+◌, ◌<◌, ◌≤◌, ℤ, pos, neg_ℤ, Bool, true, false, cond, List, [], ◌∷◌, ◌++◌, length, drop, Option, Some, None, Ok, Err, refl, sym, ap, subst, ◌∙◌, arith, append_assoc}
-use Rattle.std.specs.Prelude.{◌≤ℤ◌, ok_or, not, codes, bytes_eq, nat_lt, nat_le, int_le, AllPairs, IsTrue, ◌||◌, ◌&&◌, ◌==◌}
-use Rattle.std.specs.List.{AllByRecursion, flat_map}
+use Rattle.std.proofs.Common.{◌≡◌, ⊎_elim, ℕ, ◌+◌, ◌<◌, ◌≤◌, ℤ, pos, neg_ℤ, Bool, true, false, List, [], ◌∷◌, ◌++◌, length, drop, Option, Some, None, refl, sym, ap, subst, ◌∙◌, arith, append_assoc}
+use Rattle.std.specs.Prelude.{◌≤ℤ◌, not, codes, bytes_eq, nat_lt, nat_le, int_le, ◌||◌, ◌&&◌, ◌==◌}
+use Rattle.std.specs.List.{flat_map}
 use Rattle.std.proofs.lemmas.Bool.{leb-true, ltb-true}
 use Rattle.std.proofs.lemmas.Int.{ints}
 use Rattle.std.proofs.lemmas.List.{append-nil}
 use Rattle.std.proofs.lemmas.Slice.Eq.{bytes_eq-Decides}
-use Rattle.mon_base.specs.Reading.{◌>>=◌, need}
 use Rattle.conspec_parse.specs.declared.token.Lexeme.{Lexeme}
-use Rattle.conspec_parse.specs.declared.token.Lexeme.TheVariants.{Quoted, Name, Number, Wrong, End}
+use Rattle.conspec_parse.specs.declared.token.Lexeme.TheVariants.{Quoted}
 use Rattle.conspec_parse.specs.declared.token.Token.{Token}
 use Rattle.conspec_parse.specs.declared.types.Atom.{Atom}
-use Rattle.conspec_parse.specs.declared.types.Base.{Base}
 use Rattle.conspec_parse.specs.declared.types.Guard.{Guard}
-use Rattle.conspec_parse.specs.declared.types.Kind.{Kind}
 use Rattle.conspec_parse.specs.declared.types.Rel.{Rel}
 use Rattle.conspec_parse.specs.declared.types.Rel.TheVariants as rels
 use Rattle.conspec_parse.specs.declared.types.Update.{Update}
 use Rattle.conspec_parse.specs.declared.types.Update.TheVariants.{Set, Add}
 use Rattle.conspec_parse.specs.declared.types.Var.{Var}
-use Rattle.conspec_parse.specs.declared.fault.PolicyFault.{PolicyFault}
-use Rattle.conspec_parse.specs.declared.fault.PolicyFault.TheVariants.{Syntax, Name as WrongName, Kind as WrongKind, Range, Twice, Limit}
-use Rattle.conspec_parse.specs.Fault.{Judged}
-use Rattle.conspec_parse.specs.Forms.{Read, front_at, is_next, is_name, behind, name_at, number_at, taken, each}
+use Rattle.conspec_parse.specs.declared.fault.PolicyFault.TheVariants.{Name as WrongName, Kind as WrongKind, Range, Twice, Limit}
+use Rattle.conspec_parse.specs.Forms.{front_at, is_next, is_name}
 use Rattle.conspec_parse.specs.Head.{variable_from}
 use Rattle.conspec_parse.specs.Scope.{Scope, base_named}
 use Rattle.conspec_parse.specs.Guards.{is_truth, is_object, next_rel, is_equality, truth_value, negative_at, positive_at, constant_at, atom_at, next_atom, no_atoms, atoms_at, conj_at, next_conj, conjs_at}
 use Rattle.conspec_parse.specs.Updates.{target, is_updated, all_range_atoms, set_at, next_sign, signed, sum_at, right_at, update_at, block_at}
 use Rattle.conspec_parse.specs.Clauses.{branches, longest, begins_guard, guard_at, last_guard, body_at}
-use Rattle.conspec_parse.specs.Written.{Constant, WrittenAtom, Right, WrittenUpdate, WrittenGuard, led, separated, rel_spelled, truth_spelled, constant_spelled, atom_spelled, conj_spelled, sign_spelled, right_spelled, update_spelled, block_spelled, guard_spelled, else_spelled, body_spelled}
+use Rattle.conspec_parse.specs.Written.{Constant, WrittenAtom, Right, WrittenUpdate, WrittenGuard, led, rel_spelled, constant_spelled, atom_spelled, conj_spelled, sign_spelled, right_spelled, update_spelled, block_spelled, guard_spelled, else_spelled, body_spelled}
 use Rattle.conspec_parse.specs.Written.Constant.{Truth, Natural, Minus}
 use Rattle.conspec_parse.specs.Written.Right.{Value, Sum}
-use Rattle.conspec_parse.specs.Meaning.{EachIs, value_of, IsConstant, IsAtom, IsSet, IsSum, IsRight, IsUpdate, IsBlock, IsGuard, IsOtherwise, AreGuards}
-use Rattle.conspec_parse.proofs.Made.{Makes, done, then, tested, either, failed, any, given, said, together, each_makes}
-use Rattle.conspec_parse.proofs.Sound.{both, is_not, AreConjs, conjs_sound}
-use Rattle.conspec_parse.proofs.SoundUpdates.{AreUpdates, block_sound}
+use Rattle.conspec_parse.specs.Meaning.{EachIs, value_of, IsConstant, IsAtom, IsRight, IsUpdate, IsGuard, IsOtherwise, AreGuards}
+use Rattle.conspec_parse.proofs.Made.{Makes, done, then, tested, either, given, said, together, each_makes}
+use Rattle.conspec_parse.proofs.Sound.{both, is_not, conjs_sound}
+use Rattle.conspec_parse.proofs.SoundUpdates.{block_sound}
 use Rattle.conspec_parse.proofs.SoundClauses.{longest_low, all_short, body_sound}
 use Rattle.conspec_parse.proofs.Found.{Took, joins, nothing, spelled_as, Found, led_more, all_more_words, each_more, next_is, behind_found, taken_found, name_found, number_found, which}
 
@@ -52,12 +47,12 @@ rel_found tokens rel e =
     ⊎_elim (rel_is tokens rel (codes "<=") rels.Le refl) (λ e4.
     ⊎_elim (rel_is tokens rel (codes ">") rels.Gt refl) (λ e5.
     ⊎_elim (rel_is tokens rel (codes ">=") rels.Ge refl) (λ e6. absurd cc)
-      (which (is_next (codes ">=") tokens) _ _ rel e5))
-      (which (is_next (codes ">") tokens) _ _ rel e4))
-      (which (is_next (codes "<=") tokens) _ _ rel e3))
-      (which (is_next (codes "<") tokens) _ _ rel e2))
-      (which (is_next (codes "!=") tokens) _ _ rel e1))
-      (which (is_next (codes "==") tokens) _ _ rel e)
+    (which (is_next (codes ">=") tokens) _ _ rel e5))
+    (which (is_next (codes ">") tokens) _ _ rel e4))
+    (which (is_next (codes "<=") tokens) _ _ rel e3))
+    (which (is_next (codes "<") tokens) _ _ rel e2))
+    (which (is_next (codes "!=") tokens) _ _ rel e1))
+    (which (is_next (codes "==") tokens) _ _ rel e)
 
 abbrev IsValue : Bool → Constant → ℤ → Type 0
 IsValue truth c value = IsConstant truth c × (value ≡ value_of c)
@@ -154,9 +149,9 @@ unfolding atoms_at
 atoms_found scope room tokens =
     then _ (atom_found scope room tokens) λ first one.
     said (each_makes (is_next (codes "&&")) (next_atom scope)
-      (λ atoms left. Found (led (codes "&&") atom_spelled) (λ others read. EachIs (IsAtom scope) (one.written ∷ others) read) first.1 (atoms, left))
-      (λ atoms left goes before. next_atom_found scope one.written first.1 atoms left before)
-      (first.0 ∷ []) first.1 (record { written = []; took = nothing first.1; says = (one.says, tt) })) λ r two.
+    (λ atoms left. Found (led (codes "&&") atom_spelled) (λ others read. EachIs (IsAtom scope) (one.written ∷ others) read) first.1 (atoms, left))
+    (λ atoms left goes before. next_atom_found scope one.written first.1 atoms left before)
+    (first.0 ∷ []) first.1 (record { written = []; took = nothing first.1; says = (one.says, tt) })) λ r two.
     record { written = one.written ∷ two.written; took = joins one.took two.took; says = two.says }
 
 none_found : (scope : Scope) (room : Bool) (tokens : List Token) → is_next (codes "true") tokens ≡ true → Makes (no_atoms room tokens) (Found conj_spelled (EachIs (IsAtom scope)) tokens)
@@ -197,9 +192,9 @@ unfolding conjs_at
 conjs_found scope size tokens =
     then _ (conj_found scope (nat_lt size 64) tokens) λ first one.
     said (each_makes (is_next (codes "||")) (next_conj scope size)
-      (λ conjs left. Found (led (codes "||") conj_spelled) (λ others cs. EachIs (EachIs (IsAtom scope)) (one.written ∷ others) cs) first.1 (conjs, left))
-      (λ conjs left goes before. next_conj_found scope size one.written first.1 conjs left before)
-      (first.0 ∷ []) first.1 (record { written = []; took = nothing first.1; says = (one.says, tt) })) λ r two.
+    (λ conjs left. Found (led (codes "||") conj_spelled) (λ others cs. EachIs (EachIs (IsAtom scope)) (one.written ∷ others) cs) first.1 (conjs, left))
+    (λ conjs left goes before. next_conj_found scope size one.written first.1 conjs left before)
+    (first.0 ∷ []) first.1 (record { written = []; took = nothing first.1; says = (one.says, tt) })) λ r two.
     record { written = record { first = one.written; others = two.written }; took = joins one.took two.took; says = two.says }
 
 -- ---- updates
@@ -208,8 +203,8 @@ sign_found : (tokens : List Token) (minus : Bool) → next_sign tokens ≡ Some 
 sign_found tokens minus e =
     ⊎_elim (λ h. spelled_as (Quoted (codes "+") ∷ []) (sign_spelled minus ∷ []) (ap (λ (b : Bool). sign_spelled b ∷ []) h.1) (next_is (codes "+") tokens h.0)) (λ e1.
     ⊎_elim (λ h. spelled_as (Quoted (codes "-") ∷ []) (sign_spelled minus ∷ []) (ap (λ (b : Bool). sign_spelled b ∷ []) h.1) (next_is (codes "-") tokens h.0)) (λ e2. absurd cc)
-      (which (is_next (codes "-") tokens) true _ minus e1))
-      (which (is_next (codes "+") tokens) false _ minus e)
+    (which (is_next (codes "-") tokens) true _ minus e1))
+    (which (is_next (codes "+") tokens) false _ minus e)
 
 pub record IsRightAt (maxint : ℤ) (name : List ℕ) (var : ℕ) (truth : Bool) (written : Right) (update : Update) : Type 0 where
   pub of : target update ≡ var
@@ -270,7 +265,7 @@ update_found vars maxint atoms start updates tokens before =
       written = before.written ++ w ∷ [];
       took = spelled_as _ _ (all_more_words update_spelled before.written w) (joins before.took (joins one (joins two (joins three.took four))));
       says = each_more (IsUpdate vars maxint) before.written updates w update.0 before.says
-        (record { truth = var.1; named = named ∙ ap (λ (i : ℕ). Some (i, var.1)) (sym three.says.of); right = three.says.right });
+          (record { truth = var.1; named = named ∙ ap (λ (i : ℕ). Some (i, var.1)) (sym three.says.of); right = three.says.right });
     })
 
 abbrev braced : List WrittenUpdate → List Lexeme
@@ -281,8 +276,8 @@ unfolding block_at
 block_found vars maxint atoms tokens =
     then _ (behind_found (codes "{") tokens) λ opened one.
     then _ (each_makes is_name (update_at vars maxint atoms) (λ updates left. Found updates_spelled (EachIs (IsUpdate vars maxint)) opened (updates, left))
-      (λ updates left goes before. update_found vars maxint atoms opened updates left before)
-      [] opened (record { written = []; took = nothing opened; says = tt })) λ updates two.
+    (λ updates left goes before. update_found vars maxint atoms opened updates left before)
+    [] opened (record { written = []; took = nothing opened; says = tt })) λ updates two.
     then _ (behind_found (codes "}") updates.1) λ closed three.
     done (updates.0, closed) (record { written = two.written; took = joins one (joins two.took three); says = two.says })
 
@@ -296,7 +291,7 @@ guard_found scope maxint start guards tokens before =
     then _ (together (conjs_found scope (branches guards) tokens) (conjs_sound scope (branches guards) tokens)) λ conjs one.
     then _ (behind_found (codes "->") conjs.1) λ arrow two.
     then _ (together (block_found scope.vars maxint (longest conjs.0) arrow)
-      (block_sound scope.vars maxint (longest conjs.0) arrow (longest_low scope 0 conjs.0 one.1.conjs (omega arith)))) λ updates three.
+    (block_sound scope.vars maxint (longest conjs.0) arrow (longest_low scope 0 conjs.0 one.1.conjs (omega arith)))) λ updates three.
     let g : Guard = record { conjs = conjs.0; updates = updates.0 } in
     let cs = one.0.written in
     let w : WrittenGuard = record { first = cs.first; others = cs.others; updates = three.0.written } in
@@ -350,19 +345,19 @@ parts_found : (scope : Scope) (maxint : ℤ) (tokens : List Token) → Makes (bo
 unfolding body_at
 parts_found scope maxint tokens =
     then _ (each_makes begins_guard (guard_at scope maxint) (λ guards left. Found (λ ws. flat_map guard_spelled ws) (EachIs (IsGuard scope maxint)) tokens (guards, left))
-      (λ guards left goes before. guard_found scope maxint tokens guards left before)
-      [] tokens (record { written = []; took = nothing tokens; says = tt })) λ guards one.
+    (λ guards left goes before. guard_found scope maxint tokens guards left before)
+    [] tokens (record { written = []; took = nothing tokens; says = tt })) λ guards one.
     either (is_next (codes "ELSE") guards.1) _ _
-      (λ holds. said (last_guard_found scope maxint guards.0 guards.1 holds) λ r two. record {
-        written = record { guards = one.written; otherwise = Some two.written };
-        took = joins one.took two.took;
-        says = record { asking = guards.0; last = two.guard ∷ []; parts = two.parts; guarded = one.says; other = two.is };
-      })
-      (λ fails. done (guards.0, guards.1) (record {
-        written = record { guards = one.written; otherwise = None };
-        took = joins one.took (nothing guards.1);
-        says = record { asking = guards.0; last = []; parts = sym (append-nil guards.0); guarded = one.says; other = refl };
-      }))
+    (λ holds. said (last_guard_found scope maxint guards.0 guards.1 holds) λ r two. record {
+      written = record { guards = one.written; otherwise = Some two.written };
+      took = joins one.took two.took;
+      says = record { asking = guards.0; last = two.guard ∷ []; parts = two.parts; guarded = one.says; other = two.is };
+    })
+    (λ fails. done (guards.0, guards.1) (record {
+      written = record { guards = one.written; otherwise = None };
+      took = joins one.took (nothing guards.1);
+      says = record { asking = guards.0; last = []; parts = sym (append-nil guards.0); guarded = one.says; other = refl };
+    }))
 
 abbrev pub AreGuardsOf : Scope → ℤ → WrittenBody → List Guard → Type 0
 AreGuardsOf scope maxint w guards = AreGuards scope maxint w.guards w.otherwise guards

@@ -1,18 +1,17 @@
 -- What is read is spelled so: the method of a clause.
-use Rattle.std.proofs.Common.{◌≡◌, ◌≢◌, ℕ, zero, suc, ◌+◌, ◌<◌, ◌≤◌, Bool, true, false, cond, List, [], ◌∷◌, ◌++◌, length, map, drop, Option, Some, None, Ok, Err, refl, sym, ap, subst, ◌∙◌, arith, append_assoc}
-use Rattle.std.specs.Prelude.{ok_or, not, codes, nat_le, IsTrue, ◌==◌}
-use Rattle.std.specs.List.{AllByRecursion, flat_map}
+use Rattle.std.proofs.Common.{◌≡◌, ◌≢◌, ℕ, ◌≤◌, Bool, true, false, List, [], ◌∷◌, ◌++◌, length, map, drop, Option, Some, None, Ok, Err, refl, sym, ap, subst, ◌∙◌, arith, append_assoc}
+use Rattle.std.specs.Prelude.{not, codes, nat_le, IsTrue}
+use Rattle.std.specs.List.{flat_map}
 use Rattle.std.proofs.lemmas.Bool.{leb-true}
 use Rattle.std.proofs.lemmas.Grind.{flat_map-append}
 use Rattle.std.proofs.lemmas.List.{append-nil, length-map}
-use Rattle.mon_base.specs.Reading.{◌>>=◌, need}
 use Rattle.mon_base.proofs.Reading.{ok_is}
 use Rattle.conspec_parse.specs.declared.fault.PolicyFault.{PolicyFault}
 use Rattle.api_listing.specs.BuiltIn.{is_built_in}
 use Rattle.api_listing.specs.Nearest.{declared_in}
 use Rattle.api_listing.specs.declared.types.ListedMethod.{ListedMethod}
 use Rattle.conspec_parse.specs.declared.token.Lexeme.{Lexeme}
-use Rattle.conspec_parse.specs.declared.token.Lexeme.TheVariants.{Quoted, Name, Number, Wrong, End}
+use Rattle.conspec_parse.specs.declared.token.Lexeme.TheVariants.{Quoted, Name}
 use Rattle.conspec_parse.specs.declared.token.Token.{Token}
 use Rattle.conspec_parse.specs.declared.types.Phase.{Phase}
 use Rattle.conspec_parse.specs.declared.types.TreeClause.{TreeClause}
@@ -21,18 +20,16 @@ use Rattle.conspec_parse.specs.declared.signature.Param.{Param}
 use Rattle.conspec_parse.specs.declared.signature.Path.{Path}
 use Rattle.conspec_parse.specs.declared.signature.Parts.{Parts}
 use Rattle.conspec_parse.specs.declared.signature.Signature.{Signature}
-use Rattle.conspec_parse.specs.declared.fault.PolicyFault.TheVariants.{Syntax, NoMethod, Twice, Limit, Builtin}
-use Rattle.conspec_parse.specs.Forms.{Read, front_at, is_next, behind, is_short, each}
-use Rattle.conspec_parse.specs.Types.{judged_name}
-use Rattle.conspec_parse.specs.Methods.{init, part_at, class_under, next_step, path_at, parameters_at, signature_at, desc_of, has_clause, index_at, method_of, method_at}
-use Rattle.conspec_parse.specs.Written.{WrittenParam, MethodName, dotted, method_spelled, path_spelled, params_spelled, signature_spelled}
+use Rattle.conspec_parse.specs.declared.fault.PolicyFault.TheVariants.{Syntax, NoMethod, Twice, Builtin}
+use Rattle.conspec_parse.specs.Forms.{Read, front_at, is_next, is_short}
+use Rattle.conspec_parse.specs.Methods.{init, part_at, class_under, next_step, path_at, signature_at, desc_of, has_clause, index_at, method_of, method_at}
+use Rattle.conspec_parse.specs.Written.{WrittenParam, MethodName, dotted, method_spelled, path_spelled, signature_spelled}
 use Rattle.conspec_parse.specs.Written.MethodName.{Constructor, Plain}
-use Rattle.conspec_parse.specs.Meaning.{AreShort, below, joined, param_of, AreParams, method_bytes, method_names, IsMethodIn, lexemes}
-use Rattle.conspec_parse.proofs.Made.{Makes, done, then, tested, either, failed, any, given, same, said, each_makes}
+use Rattle.conspec_parse.specs.Meaning.{AreShort, below, joined, param_of, AreParams, method_bytes, method_names, IsMethodIn}
+use Rattle.conspec_parse.proofs.Made.{Makes, done, then, tested, either, failed, any, given, said, each_makes}
 use Rattle.conspec_parse.proofs.Sound.{all_more, is_not}
-use Rattle.conspec_parse.proofs.SoundClauses.{IsMethodOf, index_sound}
 use Rattle.conspec_parse.proofs.Loose.{signature_loose}
-use Rattle.conspec_parse.proofs.Found.{Took, joins, nothing, spelled_as, Found, all_more_words, next_is, behind_found, judged_found, AreParamsOf, parameters_found}
+use Rattle.conspec_parse.proofs.Found.{Took, joins, spelled_as, Found, all_more_words, next_is, behind_found, judged_found, AreParamsOf, parameters_found}
 
 -- ---- the class and the name
 
@@ -70,14 +67,14 @@ one_method m = method_spelled m ∷ []
 part_found : (tokens : List Token) → Makes (part_at true tokens) (Found one_method (λ m name. IsPart m (is_next init tokens) name) tokens)
 part_found tokens =
     either (is_next init tokens) _ _
-      (λ last. done (init, drop 1 tokens) (record { written = Constructor; took = next_is init tokens last; says = record { name_is = refl; last = last; short = tt } }))
-      (λ named. said (judged_found tokens) λ r is. record { written = Plain r.0; took = is.0; says = record { name_is = refl; last = named; short = (is.1, tt) } })
+    (λ last. done (init, drop 1 tokens) (record { written = Constructor; took = next_is init tokens last; says = record { name_is = refl; last = last; short = tt } }))
+    (λ named. said (judged_found tokens) λ r is. record { written = Plain r.0; took = is.0; says = record { name_is = refl; last = named; short = (is.1, tt) } })
 
 joined_more : (class : List (List ℕ)) (name : List ℕ) → Some (class_under (class_of class) name) ≡ class_of (class ++ name ∷ [])
 joined_more [] name = ap Some (sym (append-nil name))
 joined_more (first ∷ others) name =
     ap Some (append_assoc first (flat_map below others) (47 ∷ name)
-      ∙ ap (λ (w : List ℕ). first ++ w) (ap (λ (w : List ℕ). flat_map below others ++ 47 ∷ w) (sym (append-nil name)) ∙ sym (flat_map-append below others (name ∷ []))))
+    ∙ ap (λ (w : List ℕ). first ++ w) (ap (λ (w : List ℕ). flat_map below others ++ 47 ∷ w) (sym (append-nil name)) ∙ sym (flat_map-append below others (name ∷ []))))
 
 path_more : (class : List (List ℕ)) (name : List ℕ) (m : MethodName)
     → path_spelled class (Plain name) ++ Quoted (codes ".") ∷ one_method m ≡ path_spelled (class ++ name ∷ []) m
@@ -94,7 +91,7 @@ step_found start parts tokens before =
     then _ (behind_found (codes ".") tokens) λ dot one.
     then _ (part_found dot) λ part two.
     done (record { class = Some (class_under parts.class parts.name); name = part.0; is_last = is_next init dot }, part.1)
-      (by before.written.method refl (is_not _ below) dot part.0 part.1 one two)
+    (by before.written.method refl (is_not _ below) dot part.0 part.1 one two)
   where
     by : (m : MethodName) → before.written.method ≡ m → parts.is_last ≡ false → (dot : List Token) (name : List ℕ) (rest : List Token) → Took tokens (Quoted (codes ".") ∷ []) dot
         → Found one_method (λ n word. IsPart n (is_next init dot) word) dot (name, rest)
@@ -137,12 +134,12 @@ unfolding path_at
 path_found tokens =
     then _ (judged_found tokens) λ first one.
     then _ (each_makes (is_next (codes ".")) (next_step true) (λ parts left. Found parts_spelled AreParts tokens (parts, left))
-      (λ parts left goes before. step_found tokens parts left before)
-      (record { class = None; name = first.0; is_last = false }) first.1 (record {
-        written = record { class = []; method = Plain first.0 };
-        took = one.0;
-        says = record { class = refl; name = refl; last = refl; short_class = tt; short_method = (one.1, tt) };
-      })) λ parts two.
+    (λ parts left goes before. step_found tokens parts left before)
+    (record { class = None; name = first.0; is_last = false }) first.1 (record {
+      written = record { class = []; method = Plain first.0 };
+      took = one.0;
+      says = record { class = refl; name = refl; last = refl; short_class = tt; short_method = (one.1, tt) };
+    })) λ parts two.
     then _ (given parts.0.class (Syntax (front_at parts.1))) λ class three.
     let is = class_is two.written.class class (sym two.says.class ∙ three) in
     done (record { class = class; name = parts.0.name }, parts.1) (record {

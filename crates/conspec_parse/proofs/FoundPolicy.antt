@@ -1,15 +1,13 @@
 -- What is read is spelled so: clauses, variables and the whole.
-use Rattle.std.proofs.Common.{◌≡◌, ◌≢◌, ◌⊎◌, inl, inr, ⊎_elim, ℕ, zero, suc, ◌+◌, ◌<◌, ◌≤◌, ℤ, pos, Bool, true, false, cond, List, [], ◌∷◌, ◌++◌, length, map, drop, take, Option, Some, None, Ok, Err, refl, sym, ap, subst, ◌∙◌, arith, append_assoc}
-use Rattle.std.specs.Prelude.{◌≤ℤ◌, ok_or, not, codes, nat_lt, nat_le, int_le, IsTrue, ◌||◌, ◌&&◌, ◌==◌}
-use Rattle.std.specs.List.{AllByRecursion, flat_map}
+use Rattle.std.proofs.Common.{◌≡◌, ◌≢◌, ⊎_elim, ℕ, zero, suc, ◌+◌, ◌≤◌, ℤ, pos, Bool, true, false, cond, List, [], ◌∷◌, ◌++◌, length, map, drop, take, Option, Some, None, refl, sym, ap, subst, ◌∙◌, arith, append_assoc}
+use Rattle.std.specs.Prelude.{not, codes, nat_lt, nat_le, int_le, ◌||◌, ◌&&◌, ◌==◌}
+use Rattle.std.specs.List.{flat_map}
 use Rattle.std.specs.Option.{option_map_or}
 use Rattle.std.specs.List.{prefix_len}
 use Rattle.std.specs.Char.{is_ascii_digit}
 use Rattle.api_listing.specs.Words.{is_name_start, is_name_byte}
 use Rattle.std.proofs.lemmas.Bool.{leb-true}
-use Rattle.std.proofs.lemmas.Int.{ints}
 use Rattle.std.proofs.lemmas.List.{append-nil}
-use Rattle.mon_base.specs.Reading.{◌>>=◌, need}
 use Rattle.api_listing.specs.declared.types.ListedMethod.{ListedMethod}
 use Rattle.api_listing.specs.declared.types.Listing.{Listing}
 use Rattle.conspec_parse.specs.declared.token.Lexeme.{Lexeme}
@@ -28,24 +26,21 @@ use Rattle.conspec_parse.specs.declared.types.Var.{Var}
 use Rattle.conspec_parse.specs.declared.types.PolicyTree.{PolicyTree}
 use Rattle.conspec_parse.specs.declared.signature.Param.{Param}
 use Rattle.conspec_parse.specs.declared.type_name.TypeName.{TypeName}
-use Rattle.conspec_parse.specs.declared.fault.PolicyFault.TheVariants.{Syntax, Name as WrongName, Kind as WrongKind, Range, Twice, Limit}
+use Rattle.conspec_parse.specs.declared.fault.PolicyFault.TheVariants.{Syntax, Kind as WrongKind, Range, Twice, Limit}
 use Rattle.conspec_parse.specs.Words.{is_keyword, signs}
-use Rattle.conspec_parse.specs.Tokens.{word_of, number_of, number_from, first_sign, sign_of, word_at, digits_at, sign_at, token_at, is_blank, begins_comment, in_gap, seen, token, begun, is_wrong, next_spot, tokens_from, tokens_of}
-use Rattle.conspec_parse.specs.Forms.{Read, front_at, is_next, is_name, is_some, ends, is_end, behind, name_at, number_at, is_short, each}
-use Rattle.conspec_parse.specs.Types.{type_at, type_named}
-use Rattle.conspec_parse.specs.Head.{is_variable, header_at, truth_at, count_at, first_at, begins_variable, variable_at, variables_at}
-use Rattle.conspec_parse.specs.Methods.{method_at}
-use Rattle.conspec_parse.specs.Clauses.{next_phase, begins_clause, is_after, is_assigned, given_result_at, some_result_at, result_name_at, body_at, scope_of, clause_of, clause_at}
+use Rattle.conspec_parse.specs.Tokens.{number_of, number_from, first_sign, sign_of, is_blank, begins_comment, in_gap, seen, begun, is_wrong, next_spot, tokens_from, tokens_of}
+use Rattle.conspec_parse.specs.Forms.{front_at, is_next, is_some, ends, is_end, is_short}
+use Rattle.conspec_parse.specs.Head.{is_variable, header_at, truth_at, count_at, first_at, begins_variable, variable_at}
+use Rattle.conspec_parse.specs.Clauses.{next_phase, begins_clause, is_after, is_assigned, given_result_at, result_name_at, scope_of, clause_of, clause_at}
 use Rattle.conspec_parse.specs.Policy.{policy_at, reading}
-use Rattle.conspec_parse.specs.Tree.{IsPolicyTree}
-use Rattle.conspec_parse.specs.Written.{WrittenType, WrittenParam, WrittenClause, WrittenVar, Written, type_spelled, phase_spelled, result_spelled, clause_spelled, first_spelled, variable_word, variable_spelled, header_spelled, policy_spelled}
-use Rattle.conspec_parse.specs.Meaning.{EachIs, type_desc, type_kind, param_of, AreGuards, IsResult, MayName, IsMethodIn, IsClause, IsFirst, IsVar, IsPolicy, lexemes, SpellsPolicy}
-use Rattle.conspec_parse.proofs.Made.{Makes, done, then, tested, either, failed, any, given, said, together, each_makes}
+use Rattle.conspec_parse.specs.Written.{WrittenType, WrittenClause, WrittenVar, Written, phase_spelled, result_spelled, clause_spelled, first_spelled, variable_word, variable_spelled, header_spelled, policy_spelled}
+use Rattle.conspec_parse.specs.Meaning.{EachIs, type_desc, type_kind, param_of, AreGuards, IsResult, MayName, IsMethodIn, IsClause, IsFirst, IsVar, lexemes, SpellsPolicy}
+use Rattle.conspec_parse.proofs.Made.{Makes, done, then, tested, either, failed, given, said, together, each_makes}
 use Rattle.conspec_parse.proofs.Sound.{both, is_not}
 use Rattle.conspec_parse.proofs.SoundClauses.{policy_at_sound}
 use Rattle.conspec_parse.proofs.Found.{Took, joins, nothing, spelled_as, Found, all_more_words, each_more, next_is, behind_found, name_found, number_found, which, IsType, type_found}
-use Rattle.conspec_parse.proofs.FoundMethods.{WrittenSignature, spelled, IsListed, method_found}
-use Rattle.conspec_parse.proofs.FoundGuards.{WrittenBody, spelled_body, AreGuardsOf, body_found, int_low}
+use Rattle.conspec_parse.proofs.FoundMethods.{WrittenSignature, IsListed, method_found}
+use Rattle.conspec_parse.proofs.FoundGuards.{WrittenBody, AreGuardsOf, body_found, int_low}
 
 -- ---- the parts of a clause
 
@@ -58,9 +53,9 @@ phase_found tokens phase e =
     ⊎_elim (phase_is tokens phase (codes "BEFORE") Before refl) (λ e1.
     ⊎_elim (phase_is tokens phase (codes "AFTER") After refl) (λ e2.
     ⊎_elim (phase_is tokens phase (codes "EXCEPTIONAL") Exceptional refl) (λ e3. absurd cc)
-      (which (is_next (codes "EXCEPTIONAL") tokens) _ _ phase e2))
-      (which (is_next (codes "AFTER") tokens) _ _ phase e1))
-      (which (is_next (codes "BEFORE") tokens) _ _ phase e)
+    (which (is_next (codes "EXCEPTIONAL") tokens) _ _ phase e2))
+    (which (is_next (codes "AFTER") tokens) _ _ phase e1))
+    (which (is_next (codes "BEFORE") tokens) _ _ phase e)
 
 after_is : (phase : Phase) → is_after phase ≡ true → phase ≡ After
 after_is Before e = absurd cc
@@ -89,22 +84,22 @@ result_found : (vars : List Var) (phase : Phase) (kind : Option Kind) (tokens : 
     → Makes (result_name_at vars phase kind tokens) (Found result_spelled (IsNamed vars phase kind) tokens)
 result_found vars phase kind tokens =
     either (is_after phase && is_assigned tokens) _ _
-      (λ holds. then _ (given_result_found vars kind tokens) λ name is.
-        let at_return = after_is phase (both (is_after phase) (is_assigned tokens) holds).0 in
-        done (Some name.0, name.1) (record {
-          written = Some name.0;
-          took = is.0;
-          says = (refl, subst (λ (p : Phase). IsResult vars p kind name.0) (sym at_return) is.1);
-        }))
-      (λ fails. done (None, tokens) (record { written = None; took = nothing tokens; says = (refl, tt) }))
+    (λ holds. then _ (given_result_found vars kind tokens) λ name is.
+    let at_return = after_is phase (both (is_after phase) (is_assigned tokens) holds).0 in
+    done (Some name.0, name.1) (record {
+      written = Some name.0;
+      took = is.0;
+      says = (refl, subst (λ (p : Phase). IsResult vars p kind name.0) (sym at_return) is.1);
+    }))
+    (λ fails. done (None, tokens) (record { written = None; took = nothing tokens; says = (refl, tt) }))
 
 clause_made : (methods : List ListedMethod) (vars : List Var) (maxint : ℤ) (clauses : List TreeClause) (phase : Phase) (type : TypeName) (wt : WrittenType)
     (name wn : Option (List ℕ)) (method : ℕ × List Param) (ws : WrittenSignature) (guards : List Guard) (wb : WrittenBody)
     → IsType wt type → IsNamed vars phase type.kind wn name → IsListed methods vars clauses phase type.desc ws method
     → AreGuardsOf (scope_of vars phase method.1 name type.kind) maxint wb guards
     → IsClause methods vars maxint
-        (record { phase = phase; type = wt; result = wn; class = ws.path.class; method = ws.path.method; params = ws.params; guards = wb.guards; otherwise = wb.otherwise })
-        (clause_of method.0 phase method.1 type.kind guards)
+    (record { phase = phase; type = wt; result = wn; class = ws.path.class; method = ws.path.method; params = ws.params; guards = wb.guards; otherwise = wb.otherwise })
+    (clause_of method.0 phase method.1 type.kind guards)
 clause_made methods vars maxint clauses phase type wt name wn method ws guards wb t n m g =
     let kind : type.kind ≡ type_kind wt = ap (λ (x : TypeName). x.kind) t.0 in
     let desc : type.desc ≡ type_desc wt = ap (λ (x : TypeName). x.desc) t.0 in
@@ -140,8 +135,14 @@ clause_found methods vars maxint start clauses tokens before =
     then _ (behind_found (codes "PERFORM") method.1) λ performs five.
     then _ (body_found (scope_of vars phase method.0.1 result.0 type.0.kind) maxint performs) λ guards six.
     let w : WrittenClause = record {
-      phase = phase; type = two.written; result = three.written; class = four.written.path.class; method = four.written.path.method;
-      params = four.written.params; guards = six.written.guards; otherwise = six.written.otherwise;
+      phase = phase;
+      type = two.written;
+      result = three.written;
+      class = four.written.path.class;
+      method = four.written.path.method;
+      params = four.written.params;
+      guards = six.written.guards;
+      otherwise = six.written.otherwise;
     } in
     let c : TreeClause = clause_of method.0.0 phase method.0.1 type.0.kind guards.0 in
     let took : Took tokens (clause_spelled w) guards.1 = joins (phase_found tokens phase one) (joins two.took (joins three.took (joins four.took (joins five six.took)))) in
@@ -149,7 +150,7 @@ clause_found methods vars maxint start clauses tokens before =
       written = before.written ++ w ∷ [];
       took = spelled_as _ _ (all_more_words clause_spelled before.written w) (joins before.took took);
       says = each_more (IsClause methods vars maxint) before.written clauses w c before.says
-        (clause_made methods vars maxint clauses phase type.0 two.written result.0 three.written method.0 four.written guards.0 six.written two.says three.says four.says six.says);
+          (clause_made methods vars maxint clauses phase type.0 two.written result.0 three.written method.0 four.written guards.0 six.written two.says three.says four.says six.says);
     })
 
 -- ---- the head
@@ -186,9 +187,9 @@ truth_found : (maxint : ℤ) (tokens : List Token) → Makes (truth_at tokens) (
 unfolding truth_at
 truth_found maxint tokens =
     either (is_next (codes "true") tokens) _ _
-      (λ holds. done (pos 1, drop 1 tokens) (record { written = 1; took = next_is (codes "true") tokens holds; is = refl; fits = omega arith })) λ fails.
+    (λ holds. done (pos 1, drop 1 tokens) (record { written = 1; took = next_is (codes "true") tokens holds; is = refl; fits = omega arith })) λ fails.
     either (is_next (codes "false") tokens) _ _
-      (λ holds. done (pos 0, drop 1 tokens) (record { written = 0; took = next_is (codes "false") tokens holds; is = refl; fits = omega arith })) λ fails_too.
+    (λ holds. done (pos 0, drop 1 tokens) (record { written = 0; took = next_is (codes "false") tokens holds; is = refl; fits = omega arith })) λ fails_too.
     failed (Syntax (front_at tokens))
 
 count_found : (maxint : ℤ) (tokens : List Token) → Makes (count_at maxint tokens) (IsFirstValue maxint false tokens)
@@ -262,11 +263,11 @@ unfolding policy_at
 whole_found listing tokens =
     then _ (header_found tokens) λ maxint one.
     then _ (each_makes begins_variable (variable_at maxint.0) (λ vars left. Found variables_spelled (EachIs (IsVar maxint.0)) maxint.1 (vars, left))
-      (λ vars left goes before. variable_found maxint.0 maxint.1 vars left goes before)
-      [] maxint.1 (record { written = []; took = nothing maxint.1; says = tt })) λ vars two.
+    (λ vars left goes before. variable_found maxint.0 maxint.1 vars left goes before)
+    [] maxint.1 (record { written = []; took = nothing maxint.1; says = tt })) λ vars two.
     then _ (each_makes begins_clause (clause_at listing.methods vars.0 maxint.0) (λ clauses left. Found clauses_spelled (EachIs (IsClause listing.methods vars.0 maxint.0)) vars.1 (clauses, left))
-      (λ clauses left goes before. clause_found listing.methods vars.0 maxint.0 vars.1 clauses left before)
-      [] vars.1 (record { written = []; took = nothing vars.1; says = tt })) λ clauses three.
+    (λ clauses left goes before. clause_found listing.methods vars.0 maxint.0 vars.1 clauses left before)
+    [] vars.1 (record { written = []; took = nothing vars.1; says = tt })) λ clauses three.
     tested (is_end clauses.1) (Syntax (front_at clauses.1)) _ λ ended.
     let h = header_spelled one.written in
     let v = variables_spelled two.written in
@@ -354,7 +355,7 @@ all_tokens : (text : List ℕ) (front : List Lexeme) (written : Written) (rest :
 unfolding tokens_of
 all_tokens text front written rest front_is took =
     let whole : lexemes (tokens_from (Inside 0) 0 text) ≡ front ++ End ∷ lexemes rest =
-      took.is ∙ ap (λ (w : List Lexeme). w ++ lexemes rest) front_is ∙ append_assoc front (End ∷ []) (lexemes rest) in
+    took.is ∙ ap (λ (w : List Lexeme). w ++ lexemes rest) front_is ∙ append_assoc front (End ∷ []) (lexemes rest) in
     let none : lexemes rest ≡ [] = ends_last (Inside 0) 0 text front (lexemes rest) whole in
     took.is ∙ ap (λ (w : List Lexeme). policy_spelled written ++ w) none ∙ append-nil (policy_spelled written)
 

@@ -1,7 +1,6 @@
 -- Where names are judged, what is read is what is read where they are not.
-use Rattle.std.proofs.Common.{◌≡◌, ℕ, zero, suc, Bool, true, false, cond, List, [], ◌∷◌, ◌++◌, length, drop, Option, Some, None, Ok, Err, refl, sym, ap, subst, ◌∙◌}
-use Rattle.std.specs.Prelude.{not, codes, ◌||◌, ◌==◌}
-use Rattle.mon_base.specs.Reading.{◌>>=◌, need}
+use Rattle.std.proofs.Common.{◌≡◌, ℕ, zero, suc, Bool, true, false, List, [], ◌∷◌, ◌++◌, length, drop, Option, Some, None, Ok, refl}
+use Rattle.std.specs.Prelude.{not, codes, ◌||◌}
 use Rattle.api_listing.specs.Descriptor.{class_spelled}
 use Rattle.conspec_parse.specs.declared.token.Token.{Token}
 use Rattle.conspec_parse.specs.declared.types.Kind.TheVariants as kinds
@@ -9,12 +8,10 @@ use Rattle.conspec_parse.specs.declared.types.Var.{Var}
 use Rattle.conspec_parse.specs.declared.type_name.TypeName.{TypeName}
 use Rattle.conspec_parse.specs.declared.signature.Param.{Param}
 use Rattle.conspec_parse.specs.declared.signature.Parts.{Parts}
-use Rattle.conspec_parse.specs.declared.signature.Signature.{Signature}
 use Rattle.conspec_parse.specs.declared.fault.PolicyFault.TheVariants.{Syntax, Twice, Limit}
-use Rattle.conspec_parse.specs.Fault.{Judged}
 use Rattle.conspec_parse.specs.Forms.{Read, front_at, is_next, is_name, behind, name_at, is_short, repeated, each}
 use Rattle.conspec_parse.specs.Types.{judged_name, type_named, plain_type, next_part, class_at, class_type_at, element_of, element_at, dimension_at, array_of, type_at}
-use Rattle.conspec_parse.specs.Methods.{kind_or_object, is_free, given_name_at, given_parameter_at, parameter_name_at, parameter_at, next_parameter, some_parameters, parameters_at, init, part_at, class_under, next_step, path_at, signature_at}
+use Rattle.conspec_parse.specs.Methods.{kind_or_object, is_free, given_name_at, parameter_name_at, parameter_at, next_parameter, some_parameters, parameters_at, init, part_at, class_under, next_step, path_at, signature_at}
 use Rattle.conspec_parse.proofs.Made.{Makes, done, then, tested, either, given, same, said}
 
 repeated_loose : {S : Type 0} (more : List Token → Bool) (strict loose : S → List Token → Read S)
@@ -24,9 +21,9 @@ unfolding repeated
 repeated_loose more strict loose step zero s tokens = done (s, tokens) refl
 repeated_loose more strict loose step (suc n) s tokens =
     either (more tokens) _ _
-      (λ goes. then (λ r. repeated more strict n r.0 r.1) (step s tokens) λ r one.
-        said (repeated_loose more strict loose step n r.0 r.1) λ end others. rw (goes, one) others)
-      (λ stops. done (s, tokens) (rw stops refl))
+    (λ goes. then (λ r. repeated more strict n r.0 r.1) (step s tokens) λ r one.
+    said (repeated_loose more strict loose step n r.0 r.1) λ end others. rw (goes, one) others)
+    (λ stops. done (s, tokens) (rw stops refl))
 
 name_loose : (tokens : List Token) → Makes (judged_name true tokens) (λ r. judged_name false tokens ≡ Ok r)
 unfolding judged_name
@@ -80,8 +77,8 @@ parameter_name_loose : (vars : List Var) (params : List Param) (tokens : List To
     → Makes (parameter_name_at true vars params tokens) (λ r. parameter_name_at false vars params tokens ≡ Ok r)
 parameter_name_loose vars params tokens =
     either (is_name tokens) _ _
-      (λ named. then _ (given_loose vars params tokens) λ name one. done (Some name.0, name.1) (rw (named, one) refl))
-      (λ plain. done (None, tokens) (rw plain refl))
+    (λ named. then _ (given_loose vars params tokens) λ name one. done (Some name.0, name.1) (rw (named, one) refl))
+    (λ plain. done (None, tokens) (rw plain refl))
 
 parameter_loose : (vars : List Var) (params : List Param) (tokens : List Token) → Makes (parameter_at true vars params tokens) (λ r. parameter_at false vars params tokens ≡ Ok r)
 unfolding parameter_at
@@ -108,14 +105,14 @@ some_parameters_loose vars tokens =
 parameters_loose : (vars : List Var) (tokens : List Token) → Makes (parameters_at true vars tokens) (λ r. parameters_at false vars tokens ≡ Ok r)
 parameters_loose vars tokens =
     either (is_next (codes ")") tokens) _ _
-      (λ ended. done ([], tokens) (rw ended refl))
-      (λ more. said (some_parameters_loose vars tokens) λ r one. rw (more, one) refl)
+    (λ ended. done ([], tokens) (rw ended refl))
+    (λ more. said (some_parameters_loose vars tokens) λ r one. rw (more, one) refl)
 
 path_part_loose : (tokens : List Token) → Makes (part_at true tokens) (λ r. part_at false tokens ≡ Ok r)
 path_part_loose tokens =
     either (is_next init tokens) _ _
-      (λ last. done (init, drop 1 tokens) (rw last refl))
-      (λ named. said (name_loose tokens) λ r one. rw (named, one) refl)
+    (λ last. done (init, drop 1 tokens) (rw last refl))
+    (λ named. said (name_loose tokens) λ r one. rw (named, one) refl)
 
 step_loose : (parts : Parts) (tokens : List Token) → Makes (next_step true parts tokens) (λ r. next_step false parts tokens ≡ Ok r)
 unfolding next_step

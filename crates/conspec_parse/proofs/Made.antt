@@ -1,12 +1,12 @@
 -- What is true of what is read, made from the laws of its parts, a line for each part, in the reading's order.
-use Rattle.std.proofs.Common.{◌≡◌, ℕ, zero, suc, Bool, true, false, cond, List, [], ◌∷◌, ◌++◌, length, drop, Option, Some, None, Ok, Err, refl, sym, ap, subst, ◌∙◌}
+use Rattle.std.proofs.Common.{◌≡◌, ℕ, zero, suc, Bool, true, false, cond, List, length, drop, Option, Some, None, Ok, Err, refl, subst}
 use Rattle.std.specs.Prelude.{ok_or, IfOk}
 use Rattle.mon_base.specs.Reading.{◌>>=◌, need}
 use Rattle.mon_base.proofs.Reading.{bind_ok, need_ok, ok_is}
 use Rattle.conspec_parse.specs.declared.token.Token.{Token}
 use Rattle.conspec_parse.specs.declared.fault.PolicyFault.{PolicyFault}
 use Rattle.conspec_parse.specs.Fault.{Judged, Reads}
-use Rattle.conspec_parse.specs.Forms.{Read, front_at, repeated, each, taken}
+use Rattle.conspec_parse.specs.Forms.{Read, repeated, each, taken}
 
 -- What is read, if anything, is so.
 pub record Makes {X : Type 0} (read : Judged X) (Is : X → Type 0) : Type 0 where
@@ -65,8 +65,8 @@ unfolding repeated
 repeated_makes more part Is step zero s tokens is = done (s, tokens) is
 repeated_makes more part Is step (suc n) s tokens is =
     either (more tokens) _ _
-      (λ goes. then (λ r. repeated more part n r.0 r.1) (step s tokens goes is) λ r kept. repeated_makes more part Is step n r.0 r.1 kept)
-      (λ stops. done (s, tokens) is)
+    (λ goes. then (λ r. repeated more part n r.0 r.1) (step s tokens goes is) λ r kept. repeated_makes more part Is step n r.0 r.1 kept)
+    (λ stops. done (s, tokens) is)
 
 pub each_makes : {S : Type 0} (more : List Token → Bool) (part : S → List Token → Read S) (Is : S → List Token → Type 0)
     → ((s : S) (tokens : List Token) → more tokens ≡ true → Is s tokens → Makes (part s tokens) (λ r. Is r.0 r.1))

@@ -1,33 +1,29 @@
 -- Every policy that is read keeps the limits and ranges, and what its parts name is there: the head and the guards.
-use Rattle.std.proofs.Common.{◌≡◌, ◌≢◌, ℕ, zero, suc, ◌+◌, ◌<◌, ◌≤◌, ℤ, pos, neg_ℤ, Bool, true, false, cond, List, [], ◌∷◌, ◌++◌, length, drop, get_or, Option, Some, None, refl, sym, ap, subst, ◌∙◌, arith, length-append}
-use Rattle.std.specs.Prelude.{◌≤ℤ◌, not, bytes_eq, codes, nat_lt, nat_le, int_le, slice_get, AllPairs, ◌||◌, ◌&&◌, ◌==◌}
+use Rattle.std.proofs.Common.{◌≡◌, ◌≢◌, ℕ, zero, suc, ◌+◌, ◌<◌, ◌≤◌, ℤ, pos, Bool, true, false, cond, List, [], ◌∷◌, ◌++◌, length, drop, get_or, Option, Some, None, refl, ap, subst, arith, length-append}
+use Rattle.std.specs.Prelude.{◌≤ℤ◌, not, bytes_eq, codes, nat_lt, nat_le, int_le, slice_get, AllPairs, ◌||◌, ◌&&◌}
 use Rattle.std.specs.List.{AllByRecursion}
 use Rattle.std.specs.Option.{option_or, option_map}
-use Rattle.std.proofs.lemmas.Bool.{ltb-true, eqb-true}
+use Rattle.std.proofs.lemmas.Bool.{ltb-true}
 use Rattle.std.proofs.lemmas.Bool.Decides.{nat_tests, not_from_Decides}
 use Rattle.std.proofs.lemmas.Int.{ints}
 use Rattle.std.proofs.lemmas.Option.{slice_get_within}
 use Rattle.std.proofs.lemmas.Slice.Eq.{bytes_eq-Decides}
 use Rattle.std.proofs.lemmas.List.Quantifiers.{all_pairs_push}
-use Rattle.mon_base.specs.Reading.{◌>>=◌, need}
 use Rattle.conspec_parse.specs.declared.token.Token.{Token}
 use Rattle.conspec_parse.specs.declared.types.Atom.{Atom}
 use Rattle.conspec_parse.specs.declared.types.Base.{Base}
 use Rattle.conspec_parse.specs.declared.types.Base.TheVariants as bases
 use Rattle.conspec_parse.specs.declared.types.Kind.{Kind}
-use Rattle.conspec_parse.specs.declared.types.Update.{Update}
-use Rattle.conspec_parse.specs.declared.types.Update.TheVariants.{Set, Add}
 use Rattle.conspec_parse.specs.declared.types.Var.{Var}
 use Rattle.conspec_parse.specs.declared.signature.Param.{Param}
 use Rattle.conspec_parse.specs.declared.fault.PolicyFault.TheVariants.{Syntax, Name, Kind as WrongKind, Range, Twice, Limit}
-use Rattle.conspec_parse.specs.Forms.{front_at, is_next, is_name, behind, name_at, number_at, taken, is_short}
+use Rattle.conspec_parse.specs.Forms.{front_at, is_next, behind, name_at, number_at, taken, is_short}
 use Rattle.conspec_parse.specs.Head.{header_at, truth_at, count_at, first_at, begins_variable, variable_from, is_variable, variable_at, variables_at}
 use Rattle.conspec_parse.specs.Methods.{is_named}
 use Rattle.conspec_parse.specs.Scope.{Scope, as_variable, argument_from, result_named, base_named}
-use Rattle.conspec_parse.specs.Guards.{is_truth, is_object, is_equality, next_rel, truth_value, negative_at, positive_at, constant_at, atom_at, next_atom, no_atoms, atoms_at, conj_at, next_conj, conjs_at}
-use Rattle.conspec_parse.specs.Updates.{target, is_updated, range_atoms, all_range_atoms, set_at, signed, sum_at, right_at, update_at, block_at}
-use Rattle.conspec_parse.specs.Tree.{greatest, IsInRange, IsBase, AreAtoms, IsUpdateOf, IsUpdateIn}
-use Rattle.conspec_parse.proofs.Made.{Makes, done, then, tested, either, failed, any, given, taken_makes, said, each_makes}
+use Rattle.conspec_parse.specs.Guards.{is_truth, is_object, is_equality, next_rel, constant_at, atom_at, next_atom, no_atoms, atoms_at, conj_at, next_conj, conjs_at}
+use Rattle.conspec_parse.specs.Tree.{IsInRange, IsBase, AreAtoms}
+use Rattle.conspec_parse.proofs.Made.{Makes, done, then, tested, either, failed, any, given, said, each_makes}
 
 -- ---- lists and tests
 
@@ -135,7 +131,7 @@ variable_sound maxint vars tokens are =
 pub variables_sound : (maxint : ℤ) (tokens : List Token) → Makes (variables_at maxint tokens) (λ r. AreVars maxint r.0)
 variables_sound maxint tokens =
     each_makes begins_variable (variable_at maxint) (λ vars left. AreVars maxint vars) (λ vars left goes are. variable_sound maxint vars left are)
-      [] tokens (record { few = omega arith; ranged = tt; names = no_pairs (λ (v w : Var). v.name ≢ w.name) })
+    [] tokens (record { few = omega arith; ranged = tt; names = no_pairs (λ (v w : Var). v.name ≢ w.name) })
 
 -- ---- names
 
@@ -190,6 +186,7 @@ base_sound scope name found e = by (variable_from 0 scope.vars name) refl (argum
       let made : Base × Kind = (bases.Result, scope.kind) in
       subst (IsFound scope) (some_is made found is) tt
   result false is = absurd cc
+
   by : (v : Option (ℕ × Bool)) → variable_from 0 scope.vars name ≡ v → (a : Option (Base × Kind)) → argument_from 0 scope.args name ≡ a
       → option_or (option_map as_variable v) (option_or a (result_named scope name)) ≡ Some found → IsFound scope found
   by (Some v) read a other is =
@@ -234,7 +231,7 @@ unfolding atoms_at
 atoms_sound scope room tokens =
     then _ (atom_sound scope room tokens) λ first is.
     said (each_makes (is_next (codes "&&")) (next_atom scope) (λ atoms left. IsConj scope atoms) (λ atoms left goes are. next_atom_sound scope atoms left are)
-      (first.0 ∷ []) first.1 (record { few = omega arith; atoms = (is.1, tt) })) λ r are. (is.0, are)
+    (first.0 ∷ []) first.1 (record { few = omega arith; atoms = (is.1, tt) })) λ r are. (is.0, are)
 
 none_sound : (scope : Scope) (room : Bool) (tokens : List Token) → Makes (no_atoms room tokens) (λ r. (room ≡ true) × IsConj scope r.0)
 unfolding no_atoms
@@ -262,4 +259,4 @@ conjs_sound scope before tokens =
     then _ (conj_sound scope (nat_lt before 64) tokens) λ first is.
     let lt : before < 64 = ltb-true _ _ is.0 in
     each_makes (is_next (codes "||")) (next_conj scope before) (λ conjs left. AreConjs scope before conjs) (λ conjs left goes are. next_conj_sound scope before conjs left are)
-      (first.0 ∷ []) first.1 (record { few = omega arith; conjs = (is.1, tt) })
+    (first.0 ∷ []) first.1 (record { few = omega arith; conjs = (is.1, tt) })

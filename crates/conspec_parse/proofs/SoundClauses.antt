@@ -1,12 +1,11 @@
 -- Every policy that is read keeps the limits and ranges, and what its parts name is there: clauses and the whole.
-use Rattle.std.proofs.Common.{◌≡◌, ◌≢◌, ℕ, zero, suc, ◌+◌, ◌<◌, ◌≤◌, ℤ, pos, Bool, true, false, cond, List, [], ◌∷◌, ◌++◌, length, map, drop, get_or, Option, Some, None, Result, Ok, Err, refl, sym, ap, subst, ◌∙◌, arith, length-append}
-use Rattle.std.specs.Prelude.{ok_or, not, codes, nat_lt, nat_le, AllPairs, ◌||◌, ◌&&◌, ◌==◌}
+use Rattle.std.proofs.Common.{◌≡◌, ℕ, zero, suc, ◌+◌, ◌<◌, ◌≤◌, ℤ, Bool, true, false, cond, List, [], ◌∷◌, ◌++◌, length, map, drop, get_or, Option, Some, Ok, Err, refl, sym, ap, subst, arith}
+use Rattle.std.specs.Prelude.{ok_or, not, codes, nat_lt, nat_le, AllPairs, ◌&&◌, ◌==◌}
 use Rattle.std.specs.List.{AllByRecursion, position_from}
 use Rattle.std.proofs.lemmas.Bool.{ltb-true, leb-true, eq-eqb}
 use Rattle.std.proofs.lemmas.Bool.Decides.{nat_tests}
 use Rattle.std.proofs.lemmas.List.{length-map}
 use Rattle.std.proofs.lemmas.List.Quantifiers.{all_pairs_push}
-use Rattle.mon_base.specs.Reading.{◌>>=◌, need}
 use Rattle.api_listing.specs.declared.types.ListedMethod.{ListedMethod}
 use Rattle.api_listing.specs.declared.types.Listing.{Listing}
 use Rattle.conspec_parse.specs.declared.token.Token.{Token}
@@ -16,12 +15,9 @@ use Rattle.conspec_parse.specs.declared.types.Kind.{Kind}
 use Rattle.conspec_parse.specs.declared.types.Phase.{Phase}
 use Rattle.conspec_parse.specs.declared.types.Phase.TheVariants.{Before, After, Exceptional}
 use Rattle.conspec_parse.specs.declared.types.TreeClause.{TreeClause}
-use Rattle.conspec_parse.specs.declared.types.Update.{Update}
 use Rattle.conspec_parse.specs.declared.types.Var.{Var}
-use Rattle.conspec_parse.specs.declared.types.PolicyTree.{PolicyTree}
 use Rattle.conspec_parse.specs.declared.signature.Param.{Param}
 use Rattle.conspec_parse.specs.declared.signature.Signature.{Signature}
-use Rattle.conspec_parse.specs.Fault.{Judged}
 use Rattle.conspec_parse.specs.declared.fault.PolicyFault.TheVariants.{Syntax, NoMethod, Twice, Limit, Builtin}
 use Rattle.conspec_parse.specs.Forms.{Read, front_at, is_next, is_end, behind}
 use Rattle.conspec_parse.specs.Types.{type_at}
@@ -30,13 +26,13 @@ use Rattle.api_listing.specs.Nearest.{declared_in}
 use Rattle.conspec_parse.specs.Scope.{Scope}
 use Rattle.conspec_parse.specs.Updates.{all_range_atoms}
 use Rattle.conspec_parse.specs.Methods.{phase_number, has_clause, desc_of, index_at, method_of, method_at, signature_at}
-use Rattle.conspec_parse.specs.Clauses.{branches, greater, longest_from, longest, begins_guard, guard_at, last_guard, with_else, body_at, next_phase, begins_clause, result_name_at, asked_params, scope_of, clause_of, clause_at}
+use Rattle.conspec_parse.specs.Clauses.{branches, greater, longest_from, longest, begins_guard, guard_at, last_guard, body_at, next_phase, begins_clause, result_name_at, asked_params, scope_of, clause_of, clause_at}
 use Rattle.conspec_parse.specs.Tokens.{tokens_of}
 use Rattle.conspec_parse.specs.Policy.{policy_at, reading}
 use Rattle.conspec_parse.specs.Tree.{asked, AreAtoms, IsGuardIn, IsClauseIn, Differ, IsPolicyTree}
 use Rattle.conspec_parse.proofs.Branches.{branches_more}
-use Rattle.conspec_parse.proofs.Made.{Makes, done, then, tested, either, failed, any, given, said, each_makes}
-use Rattle.conspec_parse.proofs.Sound.{all_more, no_pairs, neither, is_not, room_for_one, IsConj, AreConjs, conjs_sound, AreVars, variables_sound, header_sound}
+use Rattle.conspec_parse.proofs.Made.{Makes, done, then, tested, either, failed, any, given, each_makes}
+use Rattle.conspec_parse.proofs.Sound.{all_more, no_pairs, neither, is_not, room_for_one, IsConj, conjs_sound, variables_sound, header_sound}
 use Rattle.conspec_parse.proofs.SoundUpdates.{AreUpdates, block_sound}
 
 -- ---- the longest branch
@@ -109,7 +105,7 @@ pub body_sound : (scope : Scope) (maxint : ℤ) (tokens : List Token) → Makes 
 unfolding body_at
 body_sound scope maxint tokens =
     then _ (each_makes begins_guard (guard_at scope maxint) (λ guards left. AreGuards scope maxint guards) (λ guards left goes are. guard_sound scope maxint guards left are)
-      [] tokens (record { few = omega arith; guards = tt })) λ guards are.
+    [] tokens (record { few = omega arith; guards = tt })) λ guards are.
     either (is_next (codes "ELSE") guards.1) _ _ (λ holds. last_guard_sound scope maxint guards.0 guards.1 are) (λ fails. done (guards.0, guards.1) are)
 
 -- ---- methods
@@ -208,8 +204,8 @@ policy_at_sound listing tokens =
     then _ (header_sound tokens) λ maxint ranged.
     then _ (variables_sound maxint.0 maxint.1) λ vars vs.
     then _ (each_makes begins_clause (clause_at listing.methods vars.0 maxint.0) (λ clauses left. AreClauses listing.methods vars.0 maxint.0 clauses)
-      (λ clauses left goes are. clause_sound listing.methods vars.0 maxint.0 clauses left are)
-      [] vars.1 (record { few = omega arith; clauses = tt; once = no_pairs Differ })) λ clauses cs.
+    (λ clauses left goes are. clause_sound listing.methods vars.0 maxint.0 clauses left are)
+    [] vars.1 (record { few = omega arith; clauses = tt; once = no_pairs Differ })) λ clauses cs.
     tested (is_end clauses.1) (Syntax (front_at clauses.1)) _ λ ended.
     done (record { maxint = maxint.0; vars = vars.0; clauses = clauses.0 }) (record {
       maxint_low = ranged.0;

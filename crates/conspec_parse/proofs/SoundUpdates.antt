@@ -1,26 +1,23 @@
 -- Every policy that is read keeps the limits and ranges, and what its parts name is there: updates.
-use Rattle.std.proofs.Common.{◌≡◌, ◌≢◌, ℕ, zero, suc, ◌+◌, ◌<◌, ◌≤◌, ℤ, pos, neg_ℤ, Bool, true, false, cond, List, [], ◌∷◌, ◌++◌, length, drop, get_or, Option, Some, None, refl, sym, ap, subst, ◌∙◌, arith, length-append}
+use Rattle.std.proofs.Common.{◌≡◌, ◌≢◌, ℕ, zero, suc, ◌+◌, ◌<◌, ◌≤◌, ℤ, pos, neg_ℤ, Bool, true, false, cond, List, [], ◌∷◌, ◌++◌, length, drop, get_or, Some, refl, ap, subst, ◌∙◌, arith}
 use Rattle.std.specs.Prelude.{◌≤ℤ◌, not, bytes_eq, codes, nat_lt, nat_le, int_le, slice_get, AllPairs, ◌||◌, ◌&&◌, ◌==◌}
 use Rattle.std.specs.List.{AllByRecursion}
 use Rattle.std.specs.Ordering.{int_eq}
 use Rattle.std.proofs.lemmas.Bool.{ltb-true, leb-true, eqb-true, eq-eqb}
-use Rattle.std.proofs.lemmas.Bool.Decides.{nat_tests}
 use Rattle.std.proofs.lemmas.Int.{ints}
 use Rattle.std.proofs.lemmas.List.Quantifiers.{all_pairs_push}
-use Rattle.mon_base.specs.Reading.{◌>>=◌, need}
 use Rattle.conspec_parse.specs.declared.token.Token.{Token}
-use Rattle.conspec_parse.specs.declared.types.Atom.{Atom}
 use Rattle.conspec_parse.specs.declared.types.Update.{Update}
 use Rattle.conspec_parse.specs.declared.types.Update.TheVariants.{Set, Add}
 use Rattle.conspec_parse.specs.declared.types.Var.{Var}
-use Rattle.conspec_parse.specs.declared.fault.PolicyFault.TheVariants.{Syntax, Name, Kind as WrongKind, Range, Twice, Limit}
+use Rattle.conspec_parse.specs.declared.fault.PolicyFault.TheVariants.{Name, Kind as WrongKind, Range, Twice, Limit}
 use Rattle.conspec_parse.specs.Forms.{front_at, is_next, is_name, behind, name_at, number_at, taken}
 use Rattle.conspec_parse.specs.Head.{variable_from}
 use Rattle.conspec_parse.specs.Guards.{truth_value, negative_at, positive_at, constant_at}
 use Rattle.conspec_parse.specs.Updates.{target, is_updated, range_atoms, all_range_atoms, set_at, next_sign, signed, sum_at, right_at, update_at, block_at}
-use Rattle.conspec_parse.specs.Tree.{greatest, IsInRange, IsUpdateOf, IsUpdateIn}
-use Rattle.conspec_parse.proofs.Made.{Makes, done, then, tested, either, failed, any, given, taken_makes, said, each_makes}
-use Rattle.conspec_parse.proofs.Sound.{all_more, no_pairs, neither, both, is_not, IsThere, variable_there}
+use Rattle.conspec_parse.specs.Tree.{IsInRange, IsUpdateOf, IsUpdateIn}
+use Rattle.conspec_parse.proofs.Made.{Makes, done, then, tested, either, any, given, each_makes}
+use Rattle.conspec_parse.proofs.Sound.{all_more, no_pairs, neither, both, is_not, variable_there}
 
 -- ---- constants
 
@@ -126,7 +123,7 @@ right_sound : (maxint : ℤ) (v : Var) (room : Bool) (name : List ℕ) (var : �
     → Makes (right_at maxint room name var tokens) (λ r. IsRightOf maxint v var.0 room r.0)
 right_sound maxint v room name var tokens kind =
     subst (λ (b : Bool). Makes (right_at maxint room name (var.0, b) tokens) (λ r. IsRightOf maxint v var.0 room r.0)) kind (
-      either (is_name tokens) _ _ (λ holds. sum_sound maxint v room name var.0 tokens) (λ fails. set_sound maxint v room var.0 tokens))
+    either (is_name tokens) _ _ (λ holds. sum_sound maxint v room name var.0 tokens) (λ fails. set_sound maxint v room var.0 tokens))
 
 -- ---- blocks
 
@@ -191,6 +188,6 @@ unfolding block_at
 block_sound vars maxint atoms tokens few =
     then _ (any (behind (codes "{") tokens)) λ opened a.
     then _ (each_makes is_name (update_at vars maxint atoms) (λ updates left. AreUpdates vars maxint atoms updates) (λ updates left goes are. update_sound vars maxint atoms updates left are)
-      [] opened (record { updates = tt; once = no_pairs AreApart; short = omega arith })) λ updates are.
+    [] opened (record { updates = tt; once = no_pairs AreApart; short = omega arith })) λ updates are.
     then _ (any (behind (codes "}") updates.1)) λ closed b.
     done (updates.0, closed) are

@@ -1,5 +1,5 @@
 -- Clauses: the events of a method, and what is asked and done there.
-use Rattle.std.specs.Prelude.{◌||◌, ◌&&◌, not, ℕ, ◌+◌, ℤ, Bool, true, false, List, [], ◌∷◌, ◌++◌, length, map, drop, codes, nat_lt, Option, Some, None, ok_or, Ok, Err, if◌then◌else◌}
+use Rattle.std.specs.Prelude.{◌||◌, ◌&&◌, not, ℕ, ◌+◌, ℤ, Bool, true, false, List, [], ◌∷◌, ◌++◌, length, map, drop, codes, nat_lt, Option, Some, None, ok_or, Ok, if◌then◌else◌}
 use Rattle.mon_base.specs.Reading.{◌>>=◌, need}
 use Rattle.api_listing.specs.declared.types.ListedMethod.{ListedMethod}
 use Rattle.conspec_parse.specs.declared.token.Token.{Token}

@@ -1,5 +1,5 @@
 -- The forms in which tokens are read, one after another.
-use Rattle.std.specs.Prelude.{ℕ, zero, suc, Bool, true, false, List, [], ◌∷◌, length, drop, bytes_eq, nat_le, Option, Some, None, ok_or, Result, Ok, Err, if◌then◌else◌}
+use Rattle.std.specs.Prelude.{ℕ, zero, suc, Bool, true, false, List, [], ◌∷◌, length, drop, bytes_eq, nat_le, Option, Some, None, ok_or, Ok, Err, if◌then◌else◌}
 use Rattle.mon_base.specs.Reading.{◌>>=◌}
 use Rattle.conspec_parse.specs.declared.token.Lexeme.{Lexeme}
 use Rattle.conspec_parse.specs.declared.token.Lexeme.TheVariants.{Quoted, Name, Number, End}

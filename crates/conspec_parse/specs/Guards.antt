@@ -1,5 +1,5 @@
 -- Guards: atoms over the variables, the arguments and the result.
-use Rattle.std.specs.Prelude.{◌||◌, ◌&&◌, not, ℕ, ◌+◌, ℤ, pos, neg_ℤ, Bool, true, false, List, [], ◌∷◌, ◌++◌, length, drop, codes, bytes_eq, nat_le, nat_lt, Option, Some, None, ok_or, Ok, Err, if◌then◌else◌}
+use Rattle.std.specs.Prelude.{◌||◌, not, ℕ, ◌+◌, ℤ, pos, neg_ℤ, Bool, true, false, List, [], ◌∷◌, ◌++◌, length, drop, codes, nat_le, nat_lt, Option, Some, None, ok_or, Ok, if◌then◌else◌}
 use Rattle.mon_base.specs.Reading.{◌>>=◌, need}
 use Rattle.conspec_parse.specs.declared.token.Token.{Token}
 use Rattle.conspec_parse.specs.declared.types.Kind.{Kind}
@@ -7,7 +7,7 @@ use Rattle.conspec_parse.specs.declared.types.Kind.TheVariants as kinds
 use Rattle.conspec_parse.specs.declared.types.Rel.{Rel}
 use Rattle.conspec_parse.specs.declared.types.Rel.TheVariants as rels
 use Rattle.conspec_parse.specs.declared.types.Atom.{Atom}
-use Rattle.conspec_parse.specs.declared.fault.PolicyFault.TheVariants.{Syntax, Name, Kind as WrongKind, Range, Limit}
+use Rattle.conspec_parse.specs.declared.fault.PolicyFault.TheVariants.{Name, Kind as WrongKind, Range, Limit}
 use Rattle.conspec_parse.specs.Forms.{Read, front_at, is_next, behind, name_at, number_at, taken, each}
 use Rattle.conspec_parse.specs.Scope.{Scope, base_named}
 

@@ -1,6 +1,5 @@
 -- The head of a policy and its state variables.
 use Rattle.std.specs.Prelude.{ℕ, ℤ, pos, ◌+◌, ◌&&◌, ◌||◌, not, Bool, true, false, List, [], ◌∷◌, ◌++◌, length, drop, codes, bytes_eq, nat_le, nat_lt, int_le, Option, Some, None, Ok, Err, if◌then◌else◌}
-use Rattle.std.specs.Option.{option_map}
 use Rattle.mon_base.specs.Reading.{◌>>=◌, need}
 use Rattle.conspec_parse.specs.declared.token.Token.{Token}
 use Rattle.conspec_parse.specs.declared.types.Var.{Var}

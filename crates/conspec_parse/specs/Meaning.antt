@@ -13,7 +13,6 @@ use Rattle.conspec_parse.specs.declared.types.Kind.{Kind}
 use Rattle.conspec_parse.specs.declared.types.Kind.TheVariants as kinds
 use Rattle.conspec_parse.specs.declared.types.Phase.{Phase}
 use Rattle.conspec_parse.specs.declared.types.Phase.TheVariants as phases
-use Rattle.conspec_parse.specs.declared.types.Rel.{Rel}
 use Rattle.conspec_parse.specs.declared.types.Update.{Update}
 use Rattle.conspec_parse.specs.declared.types.Update.TheVariants.{Set, Add}
 use Rattle.conspec_parse.specs.declared.types.Var.{Var}

@@ -1,6 +1,6 @@
 -- The method of a clause: its class and name, its parameters, and which listed method it is.
-use Rattle.std.specs.Prelude.{◌||◌, ◌&&◌, ◌==◌, not, ℕ, ◌+◌, Bool, true, false, List, [], ◌∷◌, ◌++◌, length, drop, codes, bytes_eq, nat_le, Option, Some, None, ok_or, Ok, Err, if◌then◌else◌}
-use Rattle.std.specs.List.{flat_map, list_any}
+use Rattle.std.specs.Prelude.{◌||◌, ◌&&◌, ◌==◌, not, ℕ, Bool, true, false, List, [], ◌∷◌, ◌++◌, length, drop, codes, bytes_eq, nat_le, Option, Some, None, ok_or, Ok, Err, if◌then◌else◌}
+use Rattle.std.specs.List.{flat_map}
 use Rattle.mon_base.specs.Reading.{◌>>=◌, need}
 use Rattle.api_listing.specs.BuiltIn.{is_built_in}
 use Rattle.api_listing.specs.Nearest.{declared_in}
@@ -12,7 +12,6 @@ use Rattle.conspec_parse.specs.declared.types.Phase.{Phase}
 use Rattle.conspec_parse.specs.declared.types.Phase.TheVariants.{Before, After, Exceptional}
 use Rattle.conspec_parse.specs.declared.types.Var.{Var}
 use Rattle.conspec_parse.specs.declared.types.TreeClause.{TreeClause}
-use Rattle.conspec_parse.specs.declared.type_name.TypeName.{TypeName}
 use Rattle.conspec_parse.specs.declared.signature.Param.{Param}
 use Rattle.conspec_parse.specs.declared.signature.Path.{Path}
 use Rattle.conspec_parse.specs.declared.signature.Parts.{Parts}

@@ -1,5 +1,5 @@
 -- How a policy is read.
-use Rattle.std.specs.Prelude.{ℕ, List, [], Ok, Err}
+use Rattle.std.specs.Prelude.{ℕ, List, [], Ok}
 use Rattle.mon_base.specs.Reading.{◌>>=◌, need}
 use Rattle.api_listing.specs.declared.types.ListedMethod.{ListedMethod}
 use Rattle.api_listing.specs.declared.types.Listing.{Listing}

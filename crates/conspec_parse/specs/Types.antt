@@ -1,5 +1,5 @@
 -- The types that a policy names, as descriptors say them.
-use Rattle.std.specs.Prelude.{◌||◌, not, ℕ, Bool, List, [], ◌∷◌, ◌++◌, length, drop, codes, Option, Some, None, Ok, Err, if◌then◌else◌}
+use Rattle.std.specs.Prelude.{◌||◌, not, ℕ, Bool, List, [], ◌∷◌, ◌++◌, drop, codes, Option, Some, None, Ok, if◌then◌else◌}
 use Rattle.mon_base.specs.Reading.{◌>>=◌, need}
 use Rattle.api_listing.specs.Descriptor.{class_spelled}
 use Rattle.conspec_parse.specs.declared.token.Token.{Token}

@@ -1,12 +1,12 @@
 -- What a guard does to the variables.
-use Rattle.std.specs.Prelude.{◌||◌, ◌&&◌, ◌==◌, not, ℕ, ◌+◌, ℤ, pos, neg_ℤ, Bool, true, false, List, [], ◌∷◌, ◌++◌, length, drop, codes, bytes_eq, nat_le, nat_lt, int_le, Option, Some, None, ok_or, Ok, Err, if◌then◌else◌}
+use Rattle.std.specs.Prelude.{◌||◌, ◌&&◌, ◌==◌, not, ℕ, ◌+◌, ℤ, pos, neg_ℤ, Bool, true, false, List, [], ◌∷◌, ◌++◌, codes, bytes_eq, nat_le, nat_lt, int_le, Option, Some, None, ok_or, Ok, if◌then◌else◌}
 use Rattle.std.specs.Ordering.{int_eq}
 use Rattle.mon_base.specs.Reading.{◌>>=◌, need}
 use Rattle.conspec_parse.specs.declared.token.Token.{Token}
 use Rattle.conspec_parse.specs.declared.types.Update.{Update}
 use Rattle.conspec_parse.specs.declared.types.Update.TheVariants.{Set, Add}
 use Rattle.conspec_parse.specs.declared.types.Var.{Var}
-use Rattle.conspec_parse.specs.declared.fault.PolicyFault.TheVariants.{Syntax, Name, Kind, Range, Twice, Limit}
+use Rattle.conspec_parse.specs.declared.fault.PolicyFault.TheVariants.{Name, Kind, Range, Twice, Limit}
 use Rattle.conspec_parse.specs.Forms.{Read, front_at, is_next, is_name, behind, name_at, number_at, taken, each}
 use Rattle.conspec_parse.specs.Head.{variable_from}
 use Rattle.conspec_parse.specs.Guards.{constant_at}

@@ -193,7 +193,7 @@ body_spelled guards otherwise = flat_map guard_spelled guards ++ else_spelled ot
 abbrev pub clause_spelled : WrittenClause → List Lexeme
 clause_spelled c =
     phase_spelled c.phase ∷ (type_spelled c.type
-      ++ (result_spelled c.result ++ (signature_spelled c.class c.method c.params ++ Quoted (codes "PERFORM") ∷ body_spelled c.guards c.otherwise)))
+    ++ (result_spelled c.result ++ (signature_spelled c.class c.method c.params ++ Quoted (codes "PERFORM") ∷ body_spelled c.guards c.otherwise)))
 
 abbrev pub first_spelled : Bool → ℕ → Lexeme
 first_spelled false n = Number n

@@ -1,4 +1,4 @@
-use Rattle.std.proofs.Common.{◌≡◌, ◌-◌, length, [], ◌≤◌}
+use Rattle.std.proofs.Common.{◌≡◌, ◌-◌, length, ◌≤◌}
 use Rattle.conspec_parse.specs.Forms.{repeated}
 use Rattle.conspec_parse.specs.Head.{begins_variable, variable_at, variables_at}
 use Rattle.conspec_parse.proofs.head.variables_at.Given as goal

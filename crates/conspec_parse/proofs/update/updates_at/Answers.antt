@@ -1,4 +1,4 @@
-use Rattle.std.proofs.Common.{◌≡◌, sym, subst, ◌∙◌, ◌+◌, ◌-◌, length, [], w32, to_z, of_z}
+use Rattle.std.proofs.Common.{◌≡◌, sym, subst, ◌∙◌, ◌-◌, length, [], w32, to_z, of_z}
 use Rattle.std.proofs.lemmas.Result.{err_from_is_err_and}
 use Rattle.std.proofs.lemmas.Int.{to_z-of_z}
 use Rattle.conspec_parse.specs.Forms.{is_name, each, repeated}
