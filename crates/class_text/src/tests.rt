@@ -3,9 +3,7 @@
 mod classes;
 
 ghost use Rattle.std.specs.Prelude.{◌<◌, IfOk};
-ghost use Rattle.std.specs.List.{AllByRecursion};
 ghost use Rattle.class_codec.specs.Fits.{CanSpell};
-ghost use Rattle.api_listing.specs.Listing.{IsFew};
 
 use super::*;
 use api_listing::{Listing, read};
@@ -47,27 +45,39 @@ fn push_line(bytes: &mut Vec<u8>, line: &[u8]) -> Result<(), AllocError> {
     Ok(())
 }
 
-/// The class file of the bytes.
-fn file_of(alloc: Global, lines: &[&str]) -> Result<ClassFile, Fail>
-    ensures { IfOk result CanSpell }
-{
+fn bytes_of(alloc: Global, lines: &[&str]) -> Result<Vec<u8>, AllocError> {
     let mut bytes = Vec::new(alloc);
     for line in lines {
         push_line(&mut bytes, line.as_bytes())?;
     }
-    let file = decode(alloc, &bytes)
-        .ok()
-        .ok_or("the bytes are a class file")?;
-    Ok(file)
+    Ok(bytes)
 }
 
-fn listing_of(alloc: Global, text: &str) -> Result<Listing, Fail>
-    ensures { IfOk result IsFew }
+/// The class file of the bytes.
+fn decoded(alloc: Global, bytes: &[u8]) -> Result<ClassFile, &'static str>
+    ensures { IfOk result CanSpell }
 {
-    let listing = read(alloc, text.as_bytes())
-        .ok()
-        .ok_or("the text is a listing")?;
-    Ok(listing)
+    match decode(alloc, bytes) {
+        Ok(file) => Ok(file),
+        Err(_) => Err("the bytes are a class file"),
+    }
+}
+
+/// The class file that these lines spell in hexadecimal digits.
+fn file_of(alloc: Global, lines: &[&str]) -> Result<ClassFile, &'static str>
+    ensures { IfOk result CanSpell }
+{
+    match bytes_of(alloc, lines) {
+        Ok(bytes) => decoded(alloc, &bytes),
+        Err(_) => Err("memory is left"),
+    }
+}
+
+fn listing_of(alloc: Global, text: &str) -> Result<Listing, &'static str> {
+    match read(alloc, text.as_bytes()) {
+        Ok(listing) => Ok(listing),
+        Err(_) => Err("the text is a listing"),
+    }
 }
 
 /// What is printed of one class.
