@@ -2,10 +2,13 @@ pub mod Beginning
 pub mod ClassLoop
 pub mod Climbing
 pub mod Declaring
+pub mod Leaving
 pub mod Lists
 pub mod Loop
 pub mod Names
+pub mod Owning
 pub mod Placing
+pub mod Reaching
 pub mod Sound
 pub mod Starting
 pub mod Telling

@@ -20,7 +20,7 @@ pub test_cases : (b : Bool) (P : Bool → Type 0) → (b ≡ true → P true) �
 test_cases true P f g = f refl
 test_cases false P f g = g refl
 
-same_name : (a b : List ℕ) → bytes_eq a b ≡ true → a ≡ b
+pub same_name : (a b : List ℕ) → bytes_eq a b ≡ true → a ≡ b
 same_name a b t = (bytes_eq-Decides a b).0 t
 
 pub is_some_or : {X : Type 0} (o p : Option X) → is_some o ≡ true → o ≡ option_or o p

@@ -17,7 +17,6 @@ ghost use Rattle.bytecode_model.specs.Conditions.{
   may_be_extended,
   is_super,
   is_above,
-  runs_in_circle,
   stands_below,
   is_good_interface,
   has_supers,
@@ -25,9 +24,9 @@ ghost use Rattle.bytecode_model.specs.Conditions.{
   classes_linked,
 };
 
-use crate::classes::Classes;
 use crate::fault::LinkFault;
 use crate::heads::head_of;
+use crate::heights::Heads;
 use crate::places::add_name;
 use crate::program::Side;
 use crate::text::{has_flag, is_text};
@@ -59,7 +58,7 @@ static THROWABLES: [&str; 14] = [
 pub fn classes_linked(
     alloc: Global,
     side: Side,
-    heads: &Classes,
+    heads: &Heads,
     listed: &[ListedClass],
     files: &[ClassFile],
 ) -> Result<(), LinkFault>
@@ -92,7 +91,7 @@ fn names_of(alloc: Global, classes: &[ListedClass]) -> Result<BTreeSet<Bytes>, N
 fn class_linked(
     alloc: Global,
     side: Side,
-    heads: &Classes,
+    heads: &Heads,
     is_taken: bool,
     file: &ClassFile,
     head: &ListedClass,
@@ -173,7 +172,7 @@ fn holds(part: &[u8], text: &[u8]) -> bool
 }
 
 /// Whether the class may stand where it does.
-fn has_supers(heads: &Classes, head: &ListedClass, fields: &[Member]) -> bool
+fn has_supers(heads: &Heads, head: &ListedClass, fields: &[Member]) -> bool
     requires { length heads.now ≤ 1000 }
     ensures { result ≡ has_supers heads.now head.now fields.now }
 {
@@ -181,16 +180,16 @@ fn has_supers(heads: &Classes, head: &ListedClass, fields: &[Member]) -> bool
 }
 
 /// Whether its superclass and its interfaces may stand above it.
-fn stands_below(heads: &Classes, head: &ListedClass) -> bool
+fn stands_below(heads: &Heads, head: &ListedClass) -> bool
     requires { length heads.now ≤ 1000 }
     ensures { result ≡ stands_below heads.now head.now }
 {
     is_super(heads, &head.parent)
         && are_above(heads, head.interfaces.as_slice())
-        && !runs_in_circle(heads, &head.name)
+        && !heads.runs_in_circle(&head.name)
 }
 
-fn is_super(heads: &Classes, name: &Bytes) -> bool
+fn is_super(heads: &Heads, name: &Bytes) -> bool
     ensures { result ≡ is_super heads.now name.now }
 {
     heads.has(name) || may_be_extended(name.as_slice())
@@ -221,7 +220,7 @@ fn is_among(texts: &[&str], name: &[u8]) -> bool
     false
 }
 
-fn are_above(heads: &Classes, names: &[Bytes]) -> bool
+fn are_above(heads: &Heads, names: &[Bytes]) -> bool
     ensures { result ≡ list_all (is_above heads.now) names.now }
 {
     for name in names {
@@ -232,25 +231,10 @@ fn are_above(heads: &Classes, names: &[Bytes]) -> bool
     true
 }
 
-fn is_above(heads: &Classes, name: &Bytes) -> bool
+fn is_above(heads: &Heads, name: &Bytes) -> bool
     ensures { result ≡ is_above heads.now name.now }
 {
     heads.has(name) || is_text(name.as_slice(), "java/lang/Runnable")
-}
-
-/// Whether the way up from the class never leaves the given classes.
-fn runs_in_circle(heads: &Classes, name: &Bytes) -> bool
-    requires { length heads.now ≤ 1000 }
-    ensures { result ≡ runs_in_circle heads.now name.now }
-{
-    let mut at = name;
-    for _ in 0..heads.len() + 1 {
-        let Some(class) = heads.named(at) else {
-            return false;
-        };
-        at = &class.parent;
-    }
-    true
 }
 
 /// Whether an interface is below Object and has static fields alone.

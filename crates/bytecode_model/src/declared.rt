@@ -1,18 +1,19 @@
 //! What is declared, in ordered maps: by the files, by the listing, and built in.
 
-ghost use Rattle.std.specs.Prelude.{◌≡◌, ◌||◌, ◌∷◌, [], ◌+◌, ◌<◌, ◌≤◌, ◌^◌, ℕ, length, IfOk, OnOk, map};
+ghost use Rattle.std.specs.Prelude.{◌≡◌, ◌||◌, ◌∷◌, [], ◌+◌, ◌<◌, ◌≤◌, ◌^◌, ℕ, List, length, IfOk, OnOk, map};
 ghost use Rattle.std.specs.List.{AllByRecursion};
 ghost use Rattle.std.specs.Option.{option_or};
 ghost use Rattle.mon_base.specs.declared.method.MethodId.{MethodId};
 ghost use Rattle.class_codec.specs.Fits.{CanSpell};
 ghost use Rattle.api_listing.specs.BuiltIn.{is_method};
-ghost use Rattle.api_listing.specs.Seen.{has_id};
+ghost use Rattle.api_listing.specs.Seen.{has_id, has_name};
 ghost use Rattle.api_listing.specs.Listing.{has_method};
-ghost use Rattle.bytecode_model.specs.Index.{found_in};
+ghost use Rattle.bytecode_model.specs.Index.{found_in, is_owner};
 ghost use Rattle.bytecode_model.specs.Members.{target_in, members_of, member_declared, members_from, file_members, given_from};
 ghost use Rattle.bytecode_model.specs.Members.{listed_from, listed_fields_from, row_declared, rows_from};
 ghost use Rattle.bytecode_model.specs.Members.{methods_declared, fields_declared, first_of};
 
+use crate::places::add_name;
 use crate::program::Target;
 use crate::text::{class_at, copy_class, copy_text, has_flag};
 use api_listing::{ListedMethod, Listing, METHODS};
@@ -299,4 +300,15 @@ fn add_id(alloc: Global, ids: &mut BTreeSet<MethodId>, id: &MethodId) -> Result<
 {
     ids.insert(id.copy(alloc)?)?;
     Ok(())
+}
+
+/// The classes of the methods of a listing.
+pub fn owners_of(alloc: Global, methods: &[ListedMethod]) -> Result<BTreeSet<Bytes>, NoMemory>
+    ensures { IfOk result (λ names. (q : List ℕ) → has_name names q ≡ is_owner methods.now q) }
+{
+    let mut names = BTreeSet::new(alloc);
+    for method in methods {
+        add_name(alloc, &mut names, &method.id.class)?;
+    }
+    Ok(names)
 }

@@ -1,21 +1,22 @@
 //! What files and a listing declare, in maps that are made once.
 
-ghost use Rattle.std.specs.Prelude.{◌≡◌, ◌≤◌, ◌&&◌, not, length, IfOk};
-ghost use Rattle.std.specs.List.{AllByRecursion};
+ghost use Rattle.std.specs.Prelude.{◌≡◌, ◌≤◌, ◌&&◌, ◌++◌, ◌∷◌, [], not, length, IfOk, OnOk};
+ghost use Rattle.std.specs.List.{AllByRecursion, filter};
 ghost use Rattle.class_codec.specs.Fits.{CanSpell};
 ghost use Rattle.api_listing.specs.Listing.{IsFew};
 ghost use Rattle.bytecode_model.specs.Heads.{heads_of, all_classes};
 ghost use Rattle.bytecode_model.specs.SearchOrder.{search_order};
-ghost use Rattle.bytecode_model.specs.Members.{method_of, field_of, first_found, in_class};
+ghost use Rattle.bytecode_model.specs.Members.{method_of, field_of};
 ghost use Rattle.bytecode_model.specs.Conditions.{is_of_library, is_run};
 ghost use Rattle.api_listing.specs.BuiltIn.{is_built_in};
 ghost use Rattle.bytecode_model.specs.Operands.{known_in, literals_of, place_of};
-ghost use Rattle.bytecode_model.specs.Index.{found_in};
+ghost use Rattle.bytecode_model.specs.Index.{may_own, OverridesAs};
 
 use crate::classes::Classes;
-use crate::declared::{Found, fields_of, listed_methods, methods_of};
+use crate::declared::{Found, MemberKind, fields_of, listed_methods, methods_of, owners_of};
 use crate::heads::copy_both;
 use crate::literals::Literals;
+use crate::near::{Near, member_of, near_of};
 use crate::search::search_order;
 use crate::text::is_text;
 use api_listing::{ListedClass, Listing, is_built_in};
@@ -34,7 +35,10 @@ pub struct Index<'a> {
     classes: Classes,
     methods: BTreeMap<MethodId, Found>,
     fields: BTreeMap<MethodId, Found>,
+    near_methods: BTreeMap<MethodId, Near>,
+    near_fields: BTreeMap<MethodId, Near>,
     library: BTreeSet<MethodId>,
+    owners: BTreeSet<Bytes>,
     literals: Literals,
 }
 
@@ -45,7 +49,8 @@ impl<'a> Model for Index<'a> {
 
     ghost view = { λ i. record { files = i.files.now; listing = i.listing.now } };
 
-    ghost invariant = { λ i. IsIndex i.files.now i.listing.now i.classes i.methods i.fields i.library i.literals };
+    ghost invariant = { λ i. IsIndex i.files.now i.listing.now i.classes i.methods i.fields
+        i.near_methods i.near_fields i.library i.owners i.literals };
 }
 
 impl<'a> Index<'a> {
@@ -66,7 +71,10 @@ impl<'a> Index<'a> {
         let classes = Classes::new(alloc, all)?;
         let methods = methods_of(alloc, files, listing)?;
         let fields = fields_of(alloc, files, listing)?;
+        let near_methods = near_of(alloc, &classes, &methods, MemberKind::Method, files)?;
+        let near_fields = near_of(alloc, &classes, &fields, MemberKind::Field, files)?;
         let library = listed_methods(alloc, listing.methods.as_slice())?;
+        let owners = owners_of(alloc, listing.methods.as_slice())?;
         let literals = Literals::new(alloc, files)?;
         Ok(Index {
             files,
@@ -74,7 +82,10 @@ impl<'a> Index<'a> {
             classes,
             methods,
             fields,
+            near_methods,
+            near_fields,
             library,
+            owners,
             literals,
         })
     }
@@ -86,20 +97,21 @@ impl<'a> Index<'a> {
         self.classes.has(name)
     }
 
-    /// The classes in which a member of the class is looked for.
-    pub fn search_order(&self, alloc: Global, name: &Bytes) -> Result<List<Bytes>, NoMemory>
-        ensures { IfOk result (λ order. order ≡ search_order (all_classes self.now.listing self.now.files) name.now) }
+    /// Those of the classes in which a member of the class is looked for that may have methods of the library.
+    pub fn library_above(&self, alloc: Global, name: &Bytes) -> Result<List<Bytes>, NoMemory>
+        ensures { IfOk result (λ above.
+            OverridesAs self.now.listing above (search_order (all_classes self.now.listing self.now.files) name.now)) }
     {
         let order = search_order(alloc, &self.classes, name)?;
-        Ok(order)
+        let above = owners_among(alloc, &self.owners, order.as_slice())?;
+        Ok(above)
     }
 
     /// The method that a class has: its own, or the nearest above it.
     pub fn method_of(&self, alloc: Global, id: &MethodId) -> Result<Option<Found>, NoMemory>
         ensures { IfOk result (λ found. found ≡ method_of self.now.files self.now.listing id.now) }
     {
-        let order = search_order(alloc, &self.classes, &id.class)?;
-        let found = first_found(alloc, &self.methods, id, order.as_slice())?;
+        let found = member_of(alloc, &self.classes, &self.methods, &self.near_methods, id)?;
         Ok(found)
     }
 
@@ -107,8 +119,7 @@ impl<'a> Index<'a> {
     pub fn field_of(&self, alloc: Global, id: &MethodId) -> Result<Option<Found>, NoMemory>
         ensures { IfOk result (λ found. found ≡ field_of self.now.files self.now.listing id.now) }
     {
-        let order = search_order(alloc, &self.classes, &id.class)?;
-        let found = first_found(alloc, &self.fields, id, order.as_slice())?;
+        let found = member_of(alloc, &self.classes, &self.fields, &self.near_fields, id)?;
         Ok(found)
     }
 
@@ -140,7 +151,10 @@ impl<'a> Index<'a> {
             classes,
             methods,
             fields,
+            near_methods,
+            near_fields,
             library,
+            owners,
             literals,
         } = self;
         literals.into_list()
@@ -159,34 +173,39 @@ fn is_run(id: &MethodId) -> bool
     is_text(id.name.as_slice(), "run") && is_text(id.desc.as_slice(), "()V")
 }
 
-/// What the first of the classes that declares it has.
-fn first_found(
+/// Those of the classes that may have methods of the library.
+fn owners_among(
     alloc: Global,
-    declared: &BTreeMap<MethodId, Found>,
-    id: &MethodId,
+    owners: &BTreeSet<Bytes>,
     order: &[Bytes],
-) -> Result<Option<Found>, NoMemory>
-    ensures { IfOk result (λ found. found ≡ first_found (found_in declared.now) id.now order.now) }
+) -> Result<List<Bytes>, NoMemory>
+    ensures { IfOk result (λ some. some ≡ filter (may_own owners.now) order.now) }
 {
+    let mut some = List::new(alloc);
     let mut left = order;
-    while let [class, rest @ ..] = left {
-        let id = in_class(alloc, id, class)?;
-        if let Some(found) = declared.get(&id) {
-            let found = found.copy(alloc)?;
-            return Ok(Some(found));
-        }
+    while let [name, rest @ ..] = left {
+        add_owner(alloc, owners, &mut some, name)?;
         left = rest;
     }
-    Ok(None)
+    Ok(some)
 }
 
-/// The same name and descriptor in another class.
-pub fn in_class(alloc: Global, id: &MethodId, class: &Bytes) -> Result<MethodId, NoMemory>
-    ensures { IfOk result (λ other. other ≡ in_class id.now class.now) }
+fn add_owner(
+    alloc: Global,
+    owners: &BTreeSet<Bytes>,
+    some: &mut List<Bytes>,
+    name: &Bytes,
+) -> Result<(), NoMemory>
+    ensures { OnOk result (some.new ≡ some.old ++ filter (may_own owners.now) (name.now ∷ [])) }
 {
-    Ok(MethodId {
-        class: class.copy(alloc)?,
-        name: id.name.copy(alloc)?,
-        desc: id.desc.copy(alloc)?,
-    })
+    if may_own(owners, name) {
+        some.push(name.copy(alloc)?)?;
+    }
+    Ok(())
+}
+
+fn may_own(owners: &BTreeSet<Bytes>, name: &Bytes) -> bool
+    ensures { result ≡ may_own owners.now name.now }
+{
+    owners.contains(name) || name.as_slice().starts_with(b"java/lang/".as_slice())
 }

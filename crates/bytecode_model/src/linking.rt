@@ -20,9 +20,9 @@ ghost use Rattle.bytecode_model.specs.Linking.{
 };
 
 use crate::class_conditions::classes_linked;
-use crate::classes::Classes;
 use crate::fault::LinkFault;
 use crate::heads::heads_of;
+use crate::heights::Heads;
 use crate::index::Index;
 use crate::methods::methods_linked;
 use crate::program::{LinkedClass, Method, Program, Side};
@@ -58,7 +58,7 @@ pub fn link(
             count: count as u64,
         });
     }
-    let heads = Classes::new(alloc, heads_of(alloc, files.as_slice())?)?;
+    let heads = Heads::new(alloc, heads_of(alloc, files.as_slice())?)?;
     classes_linked(
         alloc,
         side,

@@ -5,6 +5,7 @@ ghost use Rattle.std.specs.List.{filter_map, AllByRecursion};
 ghost use Rattle.bytecode_model.specs.Fault.{Answers};
 ghost use Rattle.bytecode_model.specs.Heads.{all_classes};
 ghost use Rattle.bytecode_model.specs.SearchOrder.{search_order};
+ghost use Rattle.bytecode_model.specs.Index.{OverridesAs};
 ghost use Rattle.bytecode_model.specs.Conditions.{
   code_in,
   has_good_flags,
@@ -18,7 +19,8 @@ ghost use Rattle.bytecode_model.specs.Conditions.{
   id_of,
 };
 
-use crate::index::{Index, in_class};
+use crate::index::Index;
+use crate::near::in_class;
 use crate::text::{copy_text, has_flag, is_text, text_at};
 use api_listing::{FormFault, parse_descriptor};
 use class_codec::{Attr, Code, Const, Member};
@@ -129,7 +131,8 @@ pub fn code_of(attrs: &[Attr]) -> Option<&Code>
     None
 }
 
-/// Whether an instance method other than a maker is one of the library above its class; `order` has the classes above.
+/// Whether an instance method other than a maker is one of the library above its class; `order` has those of
+/// the classes above that may have such methods.
 pub fn overrides(
     alloc: Global,
     index: &Index,
@@ -138,7 +141,7 @@ pub fn overrides(
     pool: &[Const],
     member: &Member,
 ) -> Result<bool, NoMemory>
-    requires { order.now ≡ search_order (all_classes index.now.listing index.now.files) class.now }
+    requires { OverridesAs index.now.listing order.now (search_order (all_classes index.now.listing index.now.files) class.now) }
     ensures { IfOk result (λ b.
         b ≡ overrides (all_classes index.now.listing index.now.files) index.now.listing class.now pool.now member.now) }
 {

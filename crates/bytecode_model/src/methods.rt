@@ -9,6 +9,7 @@ ghost use Rattle.insn_codec.specs.Spelling.{len_from};
 ghost use Rattle.bytecode_model.specs.Fault.{Answers, Tells};
 ghost use Rattle.bytecode_model.specs.Heads.{all_classes, head_of};
 ghost use Rattle.bytecode_model.specs.SearchOrder.{search_order};
+ghost use Rattle.bytecode_model.specs.Index.{OverridesAs};
 ghost use Rattle.bytecode_model.specs.Sound.{IsSoundMethod};
 ghost use Rattle.bytecode_model.specs.Linking.{bare, with_code, code_told, read_of, code_linked, method_linked, methods_linked};
 
@@ -35,7 +36,7 @@ pub fn methods_linked(
     ensures sound { IfOk result (AllByRecursion IsSoundMethod) }
 {
     let class = copy_class(alloc, file.pool.as_slice(), file.this_class)?;
-    let order = index.search_order(alloc, &class)?;
+    let order = index.library_above(alloc, &class)?;
     let mut methods = List::new(alloc);
     let mut number: u32 = 0;
     let mut left = file.methods.as_slice();
@@ -59,7 +60,7 @@ fn method_linked(
 ) -> Result<Method, LinkFault>
     requires fits { FitsMember file.now.pool true member.now }
     requires name { class.now ≡ (head_of file.now).name }
-    requires order { order.now ≡ search_order (all_classes index.now.listing index.now.files) class.now }
+    requires order { OverridesAs index.now.listing order.now (search_order (all_classes index.now.listing index.now.files) class.now) }
     ensures answers { Answers result (method_linked index.now.files index.now.listing file.now method member.now) }
     ensures sound { IfOk result IsSoundMethod }
 {

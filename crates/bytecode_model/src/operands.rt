@@ -16,7 +16,6 @@ ghost use Rattle.bytecode_model.specs.Operands.{
   field_fits,
   field_linked,
   call_linked,
-  id_at,
   known_in,
   loaded,
   typed,
@@ -35,9 +34,9 @@ use crate::fault::LinkFault;
 use crate::index::Index;
 use crate::operand::{OperandFault, Use, use_of};
 use crate::program::Target;
-use crate::text::{copy_class, copy_text};
+use crate::text::{copy_text, id_at};
 use api_listing::{Element, FormFault, parse_descriptor, parse_field_descriptor};
-use class_codec::{Const, name_and_type_at};
+use class_codec::Const;
 use insn_codec::Insn;
 use mon_base::{Bytes, List, MethodId, NoMemory};
 use std::alloc::Global;
@@ -242,24 +241,6 @@ fn called(
             }
             _ => Err(OperandFault::Wrong),
         }
-    }
-}
-
-/// What a reference tells.
-fn id_at(alloc: Global, pool: &[Const], class: u16, member: u16) -> Result<MethodId, NoMemory>
-    ensures { IfOk result (λ id. id ≡ id_at pool.now class member) }
-{
-    match name_and_type_at(pool, member) {
-        Some((name, desc)) => Ok(MethodId {
-            class: copy_class(alloc, pool, class)?,
-            name: name.copy(alloc)?,
-            desc: desc.copy(alloc)?,
-        }),
-        None => Ok(MethodId {
-            class: copy_class(alloc, pool, class)?,
-            name: Bytes::new(alloc),
-            desc: Bytes::new(alloc),
-        }),
     }
 }
 

@@ -2,9 +2,10 @@
 
 ghost use Rattle.std.specs.Prelude.{◌≡◌, IfOk, bytes_eq};
 ghost use Rattle.bytecode_model.specs.Heads.{has_flag, text_at, class_at};
+ghost use Rattle.bytecode_model.specs.Operands.{id_at};
 
-use class_codec::{Const, class_name_at, utf8_at};
-use mon_base::{Bytes, NoMemory};
+use class_codec::{Const, class_name_at, name_and_type_at, utf8_at};
+use mon_base::{Bytes, MethodId, NoMemory};
 use std::alloc::Global;
 
 /// Whether the flags have this one.
@@ -53,4 +54,22 @@ pub fn copy_class(alloc: Global, pool: &[Const], index: u16) -> Result<Bytes, No
     ensures { IfOk result (λ name. name ≡ class_at pool.now index) }
 {
     Bytes::from_slice(alloc, class_at(pool, index))
+}
+
+/// What a reference tells.
+pub fn id_at(alloc: Global, pool: &[Const], class: u16, member: u16) -> Result<MethodId, NoMemory>
+    ensures { IfOk result (λ id. id ≡ id_at pool.now class member) }
+{
+    match name_and_type_at(pool, member) {
+        Some((name, desc)) => Ok(MethodId {
+            class: copy_class(alloc, pool, class)?,
+            name: name.copy(alloc)?,
+            desc: desc.copy(alloc)?,
+        }),
+        None => Ok(MethodId {
+            class: copy_class(alloc, pool, class)?,
+            name: Bytes::new(alloc),
+            desc: Bytes::new(alloc),
+        }),
+    }
 }
