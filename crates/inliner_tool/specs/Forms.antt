@@ -1,41 +1,37 @@
--- What the files of a store are, as inputs: a text of a form, or the first that is of none.
+-- What the files of a store are, as inputs: what is read of a text under a limit, or why nothing is.
 use Rattle.std.specs.Prelude.{◌≡◌, ◌⊎◌, ℕ, ◌<◌, ◌≤◌, List, length, Result, Ok, Err}
 use Rattle.mon_store.specs.Store.{Files, HasFile, Caused, Lacks}
-use Rattle.inliner_tool.specs.declared.fault.FormFault.{FormFault}
-use Rattle.inliner_tool.specs.declared.fault.FormFault.TheVariants.{NotBuilt}
-use Rattle.inliner_tool.specs.declared.inputs.Stop.{Stop}
-use Rattle.inliner_tool.specs.declared.inputs.Stop.TheVariants.{Input, Unread, Memory}
+use Rattle.inliner_tool.specs.declared.fault.InputFault.{InputFault}
+use Rattle.inliner_tool.specs.declared.fault.InputFault.TheVariants as faults
+use Rattle.inliner_tool.specs.declared.files.Stop.{Stop}
+use Rattle.inliner_tool.specs.declared.files.Stop.TheVariants.{Input, Unread, Memory}
 
--- the greatest length of a file of the first built form, in bytes
-abbrev pub limit : ℕ
-limit = 65536
+-- A kind of file: the greatest length, in bytes, and what a text is read as, or the first thing that is wrong with it.
+pub record Form (A : Type 0) : Type 0 where
+  pub limit : ℕ
+  pub reads : List ℕ → Result A InputFault
 
 -- The file of this name has this text, as far as the store tells.
 abbrev pub HasText : Files → List ℕ → List ℕ → Type 0
 HasText files name text = HasFile files name (λ bytes. text ≡ bytes)
 
--- The file is longer than a file of a form may be.
-pub record IsTooLong (files : Files) (name : List ℕ) : Type 0 where
+-- The file of this name is not too long, and its text is read as this, or refused so.
+pub record IsRead {A : Type 0} (files : Files) (name : List ℕ) (form : Form A) (read : Result A InputFault) : Type 0 where
+  pub text : List ℕ
+  pub told : HasText files name text
+  pub short : length text ≤ form.limit
+  pub reads : form.reads text ≡ read
+
+-- The file is longer than the limit, and the fault says so.
+pub record IsTooLong (files : Files) (name : List ℕ) (limit : ℕ) (fault : InputFault) : Type 0 where
   pub len : ℕ
   pub above : limit < len
   pub told : HasFile files name (λ bytes. len ≡ length bytes)
+  pub says : fault ≡ faults.TooLong len
 
--- The file's text spells this tree, and no other.
-pub record IsOfForm {A : Type 0} (files : Files) (name : List ℕ) (Spells : List ℕ → A → Type 0) (tree : A) : Type 0 where
-  pub text : List ℕ
-  pub told : HasText files name text
-  pub short : length text ≤ limit
-  pub spelled : Spells text tree
-  pub alone : (other : A) → Spells text other → other ≡ tree
-
--- The file's text spells no tree.
-pub record SpellsNone {A : Type 0} (files : Files) (name : List ℕ) (Spells : List ℕ → A → Type 0) : Type 0 where
-  pub text : List ℕ
-  pub told : HasText files name text
-  pub none : (tree : A) → Spells text tree → ⊥
-
-abbrev pub IsOfNoForm : {A : Type 0} → Files → List ℕ → (List ℕ → A → Type 0) → Type 0
-IsOfNoForm files name Spells = IsTooLong files name ⊎ SpellsNone files name Spells
+-- The file is refused with this fault: it is too long, or its text is wrong.
+abbrev pub IsRefused : {A : Type 0} → Files → List ℕ → Form A → InputFault → Type 0
+IsRefused files name form fault = IsTooLong files name form.limit fault ⊎ IsRead files name form (Err fault)
 
 -- What a store did in a call: its count of faults before and after, and the name of the last call that failed.
 pub record Count : Type 0 where
@@ -50,23 +46,28 @@ since before now last = record { before = before; now = now; last = last }
 abbrev pub IsUnread : Files → Count → List ℕ → Type 0
 IsUnread files count name = Caused count.before count.now count.last name ⊎ Lacks files name
 
--- What reading the file of a name by a form answers.
-abbrev pub ReadsForm : {A : Type 0} → Files → Count → List ℕ → (List ℕ → A → Type 0) → Result A Stop → Type 0
-ReadsForm files count name Spells (Ok tree) = IsOfForm files name Spells tree
-ReadsForm files count name Spells (Err (Input bad)) = (bad ≡ name) × IsOfNoForm files name Spells
-ReadsForm files count name Spells (Err (Unread bad)) = (bad ≡ name) × IsUnread files count name
-ReadsForm files count name Spells (Err Memory) = Unit {0}
+-- What reading the file of a name as a kind of file answers.
+abbrev pub ReadsForm : {A : Type 0} → Files → Count → List ℕ → Form A → Result A Stop → Type 0
+ReadsForm files count name form (Ok tree) = IsRead files name form (Ok tree)
+ReadsForm files count name form (Err (Input bad fault)) = (bad ≡ name) × IsRefused files name form fault
+ReadsForm files count name form (Err (Unread bad)) = (bad ≡ name) × IsUnread files count name
+ReadsForm files count name form (Err Memory) = Unit {0}
 
--- What reading the text of a name answers.
-abbrev pub ReadsText : Files → Count → List ℕ → Result (List ℕ) Stop → Type 0
-ReadsText files count name (Ok text) = HasText files name text × (length text ≤ limit)
-ReadsText files count name (Err (Input bad)) = (bad ≡ name) × IsTooLong files name
-ReadsText files count name (Err (Unread bad)) = (bad ≡ name) × IsUnread files count name
-ReadsText files count name (Err Memory) = Unit {0}
+-- What reading the text of a name under a limit answers.
+abbrev pub ReadsText : Files → Count → List ℕ → ℕ → Result (List ℕ) Stop → Type 0
+ReadsText files count name limit (Ok text) = HasText files name text × (length text ≤ limit)
+ReadsText files count name limit (Err (Input bad fault)) = (bad ≡ name) × IsTooLong files name limit fault
+ReadsText files count name limit (Err (Unread bad)) = (bad ≡ name) × IsUnread files count name
+ReadsText files count name limit (Err Memory) = Unit {0}
 
--- How a tree that was read from the text of a name, or was not, is reported.
-abbrev pub BuildsForm : {A : Type 0} → List ℕ → Result A FormFault → Result A Stop → Type 0
-BuildsForm name read (Ok tree) = read ≡ Ok tree
-BuildsForm name read (Err (Input bad)) = (bad ≡ name) × (read ≡ Err NotBuilt)
-BuildsForm name read (Err (Unread bad)) = ⊥
-BuildsForm name read (Err Memory) = Unit {0}
+-- ---- one after the other
+
+-- Reading one thing, and then another that depends on it: what stops the first, or the second after the first was read.
+abbrev pub Then : {A B : Type 0} → (Result A Stop → Type 0) → (A → Result B Stop → Type 0) → Result B Stop → Type 0
+Then {A = A} First Second (Ok b) = (a : A) × First (Ok a) × Second a (Ok b)
+Then {A = A} First Second (Err stop) = First (Err stop) ⊎ ((a : A) × First (Ok a) × Second a (Err stop))
+
+-- This is given, and nothing is read.
+abbrev pub Gives : {A : Type 0} → A → Result A Stop → Type 0
+Gives a (Ok b) = b ≡ a
+Gives a (Err stop) = ⊥

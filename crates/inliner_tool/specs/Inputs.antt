@@ -1,110 +1,81 @@
--- What the files of a check are, and the first of them that is wrong.
-use Rattle.std.specs.Prelude.{◌≡◌, ◌⊎◌, ℕ, List, [], ◌∷◌, ◌++◌, Result, Ok, Err}
+-- What the files of a command are, and the first of them that is wrong.
+use Rattle.std.specs.Prelude.{◌≡◌, ℕ, ◌+◌, List, [], ◌∷◌, ◌++◌, length, Result, Ok, Err}
+use Rattle.std.specs.List.{AllByRecursion}
 use Rattle.mon_store.specs.Store.{Files}
-use Rattle.inliner_tool.specs.declared.certificate.Certificate.{Certificate}
-use Rattle.inliner_tool.specs.declared.inputs.CheckWords.{CheckWords}
-use Rattle.inliner_tool.specs.declared.inputs.Inputs.{Inputs}
-use Rattle.inliner_tool.specs.declared.inputs.Stop.{Stop}
-use Rattle.inliner_tool.specs.declared.inputs.Stop.TheVariants.{Memory}
-use Rattle.inliner_tool.specs.declared.listing.Listing.{Listing}
-use Rattle.inliner_tool.specs.declared.policy.DeniedPolicy.{DeniedPolicy}
-use Rattle.inliner_tool.specs.declared.program.LinkedClass.{LinkedClass}
-use Rattle.inliner_tool.specs.Certificate.{SpellsCertificate}
-use Rattle.inliner_tool.specs.Forms.{Count, IsOfForm, ReadsForm}
-use Rattle.inliner_tool.specs.Linking.{IsClassOf, state_text}
-use Rattle.inliner_tool.specs.Listing.{SpellsListing}
-use Rattle.inliner_tool.specs.Policy.{SpellsPolicy}
+use Rattle.api_listing.specs.declared.types.Listing.{Listing}
+use Rattle.api_listing.specs.Listing.{IsFew}
+use Rattle.class_codec.specs.declared.tree.ClassFile.{ClassFile}
+use Rattle.class_codec.specs.Fits.{CanSpell}
+use Rattle.inliner_tool.specs.declared.fault.InputFault.{InputFault}
+use Rattle.inliner_tool.specs.declared.fault.InputFault.TheVariants as faults
+use Rattle.inliner_tool.specs.declared.files.Stop.{Stop}
+use Rattle.inliner_tool.specs.declared.files.Stop.TheVariants.{Input, Unread, Memory}
+use Rattle.inliner_tool.specs.declared.inputs.CheckInputs.{CheckInputs}
+use Rattle.inliner_tool.specs.declared.inputs.ReadClasses.{ReadClasses as Classes}
+use Rattle.inliner_tool.specs.declared.inputs.ShowInputs.{ShowInputs}
+use Rattle.inliner_tool.specs.Forms.{Count, IsRead, ReadsForm, Then, Gives}
+use Rattle.inliner_tool.specs.Kinds.{certificate_form, class_form, listing_form, policy_form}
+use Rattle.inliner_tool.specs.Words.{NamedCheck, NamedShow}
 
--- the names of a check: its files, of which the class that holds the policy's state comes last, and the main class
-pub record Named : Type 0 where
-  pub policy : List ℕ
-  pub listing : List ℕ
-  pub certificate : List ℕ
-  pub main : List ℕ
-  pub others : List (List ℕ)
-  pub state : List ℕ
+-- ---- class files
 
-abbrev pub named_by : CheckWords → Named
-named_by words = record {
-  policy = words.policy.now;
-  listing = words.listing.now;
-  certificate = words.certificate.now;
-  main = words.main.now;
-  others = words.others.now;
-  state = words.state.now;
-}
+-- The files of these names are these class files, with so many bytes in all.
+abbrev pub AreClasses : Files → List (List ℕ) → List ClassFile → ℕ → Type 0
+AreClasses files [] [] total = total ≡ 0
+AreClasses files [] (class ∷ classes) total = ⊥
+AreClasses files (name ∷ names) [] total = ⊥
+AreClasses files (name ∷ names) (class ∷ classes) total =
+    (len : ℕ) × (rest : ℕ) × (total ≡ len + rest) × IsRead files name class_form (Ok (record { file = class; len = len })) × AreClasses files names classes rest
 
--- ---- the forms
-
-abbrev pub PolicyOver : Listing → List ℕ → DeniedPolicy → Type 0
-PolicyOver listing text policy = SpellsPolicy text listing policy
-
-abbrev pub ClassOf : Listing → List ℕ → List ℕ → LinkedClass → Type 0
-ClassOf listing main text class = IsClassOf text listing main class
-
--- the class that holds the state of a policy without variables
-abbrev pub StateClass : List ℕ → Unit {0} → Type 0
-StateClass text class = text ≡ state_text
-
--- ---- the classes before the last
-
--- each is a class of the name `main`
-abbrev pub AreClasses : Files → Listing → List ℕ → List (List ℕ) → List LinkedClass → Type 0
-AreClasses files listing main [] [] = Unit {0}
-AreClasses files listing main [] (class ∷ classes) = ⊥
-AreClasses files listing main (name ∷ names) [] = ⊥
-AreClasses files listing main (name ∷ names) (class ∷ classes) =
-    IsOfForm files name (ClassOf listing main) class × AreClasses files listing main names classes
-
--- The first file at which the reading of classes stops: those before it are classes of the name `main`.
-pub record StopsAmong (files : Files) (count : Count) (listing : Listing) (main : List ℕ) (names : List (List ℕ)) (stop : Stop) : Type 0 where
+-- The first file at which the reading of class files stops: those before it are class files.
+pub record StopsAmong (files : Files) (count : Count) (names : List (List ℕ)) (stop : Stop) : Type 0 where
   pub before : List (List ℕ)
   pub name : List ℕ
   pub later : List (List ℕ)
-  pub classes : List LinkedClass
+  pub classes : List ClassFile
+  pub total : ℕ
   pub whole : names ≡ before ++ name ∷ later
-  pub read : AreClasses files listing main before classes
-  pub stops : ReadsForm files count name (ClassOf listing main) (Err stop)
+  pub read : AreClasses files before classes total
+  pub stops : ReadsForm files count name class_form (Err stop)
 
-abbrev pub ReadsClasses : Files → Count → Listing → List ℕ → List (List ℕ) → Result (List LinkedClass) Stop → Type 0
-ReadsClasses files count listing main names (Ok classes) = AreClasses files listing main names classes
-ReadsClasses files count listing main names (Err Memory) = Unit {0}
-ReadsClasses files count listing main names (Err stop) = StopsAmong files count listing main names stop
+abbrev pub ReadsClasses : Files → Count → List (List ℕ) → Result Classes Stop → Type 0
+ReadsClasses files count names (Ok classes) = AreClasses files names classes.files classes.total
+ReadsClasses files count names (Err Memory) = Unit {0}
+ReadsClasses files count names (Err stop) = StopsAmong files count names stop
 
 -- ---- all files
 
-pub record AreInputs (files : Files) (named : Named) (inputs : Inputs) : Type 0 where
-  pub listing : IsOfForm files named.listing SpellsListing inputs.listing
-  pub policy : IsOfForm files named.policy (PolicyOver inputs.listing) inputs.policy
-  pub certificate : IsOfForm files named.certificate SpellsCertificate inputs.certificate
-  pub classes : AreClasses files inputs.listing named.main named.others inputs.classes
-  pub state : IsOfForm files named.state StateClass tt
+-- listing, policy, certificate, classes
+abbrev pub ReadsCheck : Files → Count → NamedCheck → Result CheckInputs Stop → Type 0
+ReadsCheck files count named =
+    Then (ReadsForm files count named.listing listing_form) (λ listing.
+    Then (ReadsForm files count named.policy (policy_form listing)) (λ policy.
+    Then (ReadsForm files count named.certificate (certificate_form (length policy.vars))) (λ certificate.
+    Then (ReadsClasses files count named.classes) (λ classes.
+    Gives (record { listing = listing; policy = policy; certificate = certificate; classes = classes })))))
 
--- The reading stops at a class, or at the class that holds the state.
-abbrev pub StopsAtClass : Files → Count → Named → Listing → Stop → Type 0
-StopsAtClass files count named listing stop =
-    StopsAmong files count listing named.main named.others stop
-    ⊎ ((classes : List LinkedClass) × AreClasses files listing named.main named.others classes × ReadsForm files count named.state StateClass (Err stop))
+-- listing, classes
+abbrev pub ReadsShow : Files → Count → NamedShow → Result ShowInputs Stop → Type 0
+ReadsShow files count named =
+    Then (ReadsForm files count named.listing listing_form) (λ listing.
+    Then (ReadsClasses files count named.classes) (λ classes.
+    Gives (record { listing = listing; classes = classes })))
 
--- It stops at the certificate, or at a file after it.
-abbrev pub StopsAtCertificate : Files → Count → Named → Listing → Stop → Type 0
-StopsAtCertificate files count named listing stop =
-    ReadsForm files count named.certificate SpellsCertificate (Err stop)
-    ⊎ ((certificate : Certificate) × IsOfForm files named.certificate SpellsCertificate certificate × StopsAtClass files count named listing stop)
+-- ---- how calls report
 
--- It stops at the policy, or at a file after it.
-abbrev pub StopsAtPolicy : Files → Count → Named → Listing → Stop → Type 0
-StopsAtPolicy files count named listing stop =
-    ReadsForm files count named.policy (PolicyOver listing) (Err stop)
-    ⊎ ((policy : DeniedPolicy) × IsOfForm files named.policy (PolicyOver listing) policy × StopsAtCertificate files count named listing stop)
+-- The fault is not that memory ran out.
+abbrev pub IsNoMemory : InputFault → Type 0
+IsNoMemory faults.Memory = ⊥
+IsNoMemory fault = Unit {0}
 
--- The first file at which the reading stops: it is of no form, or could not be read, and those before it are of their forms.
-abbrev pub StopsAt : Files → Count → Named → Stop → Type 0
-StopsAt files count named stop =
-    ReadsForm files count named.listing SpellsListing (Err stop)
-    ⊎ ((listing : Listing) × IsOfForm files named.listing SpellsListing listing × StopsAtPolicy files count named listing stop)
+-- What was read from the text of a name, or that it was refused.
+abbrev pub IsOfName : {A : Type 0} → List ℕ → Result A InputFault → Result A Stop → Type 0
+IsOfName name read (Ok tree) = read ≡ Ok tree
+IsOfName name read (Err (Input bad fault)) = (bad ≡ name) × (read ≡ Err fault) × IsNoMemory fault
+IsOfName name read (Err (Unread bad)) = ⊥
+IsOfName name read (Err Memory) = Unit {0}
 
--- What reading the files of a check answers.
-abbrev pub ReadsInputs : Files → Count → Named → Result Inputs Stop → Type 0
-ReadsInputs files count named (Ok inputs) = AreInputs files named inputs
-ReadsInputs files count named (Err stop) = StopsAt files count named stop
+-- What is known of inputs that were read.
+pub record AreSound (inputs : CheckInputs) : Type 0 where
+  pub listing : IsFew inputs.listing
+  pub classes : AllByRecursion CanSpell inputs.classes.files

@@ -1,29 +1,134 @@
--- The lines of a listing.
-use Rattle.std.specs.Prelude.{◌≡◌, ℕ, ◌≤◌, Bool, false, ◌==◌, not, List, [], ◌∷◌, ◌++◌, length, map, filter, codes}
-use Rattle.inliner_tool.specs.declared.listing.lines.Line.{Line}
-use Rattle.inliner_tool.specs.declared.listing.lines.Line.TheVariants.{Class, Static}
-use Rattle.inliner_tool.specs.Words.{pieces}
+-- What is printed for an answer.
+use Rattle.std.specs.Prelude.{ℕ, Bool, true, false, List, [], ◌∷◌, ◌++◌, codes, decimal, if◌then◌else◌}
+use Rattle.api_listing.specs.declared.fault.ListFault.{ListFault}
+use Rattle.api_listing.specs.declared.fault.ListFault.TheVariants as listings
+use Rattle.bytecode_model.specs.declared.fault.LinkFault.{LinkFault}
+use Rattle.bytecode_model.specs.declared.fault.LinkFault.TheVariants as links
+use Rattle.bytecode_model.specs.Fault.{number_of as link_number}
+use Rattle.cert_checker.specs.declared.fault.CheckFault.{CheckFault}
+use Rattle.cert_checker.specs.declared.fault.CheckFault.TheVariants.{Shape, Typing, Local}
+use Rattle.cert_checker.specs.declared.checking.Accepted.{Accepted}
+use Rattle.cert_checker.specs.Fault.{number_of as check_number}
+use Rattle.cert_format.specs.declared.certificate.Mode.{Mode}
+use Rattle.cert_format.specs.declared.certificate.Mode.TheVariants as modes
+use Rattle.class_codec.specs.declared.fault.ClassFault.{ClassFault}
+use Rattle.class_codec.specs.declared.fault.ClassFault.TheVariants as classes
+use Rattle.conspec_parse.specs.declared.fault.PolicyFault.{PolicyFault}
+use Rattle.conspec_parse.specs.declared.fault.PolicyFault.TheVariants as policies
+use Rattle.insn_codec.specs.declared.fault.CodeFault.{CodeFault}
+use Rattle.insn_codec.specs.declared.fault.CodeFault.TheVariants as codes_of
+use Rattle.insn_codec.specs.Fault.{number_of as code_number}
+use Rattle.inliner_tool.specs.declared.answer.Answer.{Answer}
+use Rattle.inliner_tool.specs.declared.answer.Answer.TheVariants as answers
+use Rattle.inliner_tool.specs.declared.fault.InputFault.{InputFault}
+use Rattle.inliner_tool.specs.declared.fault.InputFault.TheVariants as faults
+use Rattle.inliner_tool.specs.Fault.{number_of}
 
--- the words of a line
-abbrev pub words_of : Line → List (List ℕ)
-words_of (Class name) = codes "class" ∷ name ∷ codes "extends" ∷ codes "java/lang/Object" ∷ []
-words_of (Static class name) = codes "static" ∷ class ∷ name ∷ codes "()V" ∷ []
+-- a space and a number
+abbrev pub field : ℕ → List ℕ
+field n = 32 ∷ decimal n
 
--- A line that says nothing is empty or begins with `#`.
-abbrev pub says_something : List ℕ → Bool
-says_something [] = false
-says_something (b ∷ bytes) = not (b == 35)
+-- a space and a name
+abbrev pub word : List ℕ → List ℕ
+word name = 32 ∷ name
 
--- The lines of the text, each with a newline behind it, and not too many.
-abbrev pub AreLines : List ℕ → List (List ℕ) → Type 0
-AreLines text lines = (pieces 10 text ≡ lines ++ [] ∷ []) × (length lines ≤ 20000)
+-- ---- denied
 
--- The words of the lines that say something, between single spaces, are the words of these lines.
-abbrev pub AreSaid : List (List ℕ) → List Line → Type 0
-AreSaid lines said = map (pieces 32) (filter says_something lines) ≡ map words_of said
+-- the number of the test that fails, and its place
+abbrev pub check_fields : CheckFault → List ℕ → List ℕ
+check_fields (Shape class method) label = word label ++ field method
+check_fields (Typing class method at rule) label = word label ++ field method ++ field at ++ field rule
+check_fields (Local class method at rule) label = word label ++ field method ++ field at ++ field rule
 
--- What the lines of the text say, in their order.
-pub record Says (text : List ℕ) (said : List Line) : Type 0 where
-  pub lines : List (List ℕ)
-  pub are_lines : AreLines text lines
-  pub are_said : AreSaid lines said
+-- ---- input
+
+abbrev pub listing_fields : ListFault → List ℕ
+listing_fields (listings.Line line) = field line
+listing_fields (listings.Twice line) = field line
+listing_fields (listings.NoSuper line) = field line
+listing_fields (listings.TooMany count) = field count
+listing_fields listings.Memory = []
+
+abbrev pub policy_fields : PolicyFault → List ℕ
+policy_fields (policies.Syntax at) = field at
+policy_fields (policies.Name at) = field at
+policy_fields (policies.Kind at) = field at
+policy_fields (policies.Range at) = field at
+policy_fields (policies.NoMethod at) = field at
+policy_fields (policies.Twice at) = field at
+policy_fields (policies.Limit at) = field at
+policy_fields (policies.Builtin at) = field at
+policy_fields policies.Memory = []
+
+abbrev pub class_fields : ClassFault → List ℕ
+class_fields classes.Magic = []
+class_fields (classes.Version major) = field major
+class_fields (classes.Short at) = field at
+class_fields (classes.Tail at) = field at
+class_fields (classes.Tag at tag) = field at ++ field tag
+class_fields (classes.Index at) = field at
+class_fields (classes.TooLong len) = field len
+class_fields classes.Memory = []
+
+abbrev pub input_fields : InputFault → List ℕ
+input_fields (faults.TooLong len) = field len
+input_fields (faults.Listing fault) = listing_fields fault
+input_fields (faults.Policy fault) = policy_fields fault
+input_fields (faults.Class fault) = class_fields fault
+input_fields faults.NotBuilt = []
+input_fields faults.Memory = []
+
+-- a fault of a code, with its number before its place
+abbrev pub code_fields : CodeFault → List ℕ
+code_fields (codes_of.Opcode at op) = field at ++ field op
+code_fields (codes_of.Cut at) = field at
+code_fields (codes_of.Target at) = field at
+code_fields (codes_of.LeftOut at op) = field at ++ field op
+code_fields (codes_of.Form at) = field at
+code_fields (codes_of.End at) = field at
+code_fields codes_of.Memory = []
+
+abbrev pub link_fields : LinkFault → List ℕ
+link_fields links.NoMain = []
+link_fields (links.Twice class) = word class
+link_fields (links.Unresolved class name) = word class ++ word name
+link_fields (links.SuperLeftOut class) = word class
+link_fields (links.NameTaken class) = word class
+link_fields (links.Method class name) = word class ++ word name
+link_fields (links.TooMany count) = field count
+link_fields (links.Code class method fault) = word class ++ field method ++ field (code_number fault) ++ code_fields fault
+link_fields (links.Overrides class name) = word class ++ word name
+link_fields (links.Name class) = word class
+link_fields (links.Operand class method at) = word class ++ field method ++ field at
+link_fields links.Memory = []
+
+-- ---- the line
+
+abbrev pub mode_name : Mode → List ℕ
+mode_name modes.Hold = codes "hold"
+mode_name modes.Release = codes "release"
+
+-- the number of a refusal, the name of its file, or `-`, and its fields
+abbrev pub refused : ℕ → List ℕ → List ℕ → List ℕ
+refused number name fields = codes "input" ++ field number ++ word name ++ fields
+
+-- the line without its newline
+abbrev pub line_text : Answer → List ℕ
+line_text (answers.Accepted accepted) = codes "accepted" ++ word (mode_name accepted.mode) ++ codes " sites" ++ field accepted.sites
+line_text (answers.Denied fault label) = codes "denied" ++ field (check_number fault) ++ check_fields fault label
+line_text (answers.Shown text) = text
+line_text (answers.Input name fault) = refused (number_of fault) name (input_fields fault)
+line_text (answers.TotalLong len) = refused 152 (codes "-") (field len)
+line_text (answers.Link fault) = refused (link_number fault) (codes "-") (link_fields fault)
+line_text answers.NotBuilt = refused 199 (codes "-") []
+line_text (answers.Unread name) = codes "store" ++ word name
+line_text answers.Usage = codes "usage: conspecj COMMAND WORD.."
+line_text answers.Memory = []
+
+abbrev pub is_shown : Answer → Bool
+is_shown (answers.Shown text) = true
+is_shown other = false
+
+-- the whole output; the text of class files ends its lines itself
+abbrev pub text_of : Answer → List ℕ
+text_of answer = if is_shown answer then line_text answer else line_text answer ++ 10 ∷ []

@@ -1,28 +1,59 @@
--- The parts of texts: pieces between bytes, the letters of names, and names of classes.
-use Rattle.std.specs.Prelude.{ℕ, Bool, false, ◌||◌, ◌==◌, List, [], ◌∷◌, IsTrue}
-use Rattle.std.specs.List.{slice_split, list_all}
-use Rattle.std.specs.Char.{is_ascii_digit, is_ascii_alphabetic}
+-- The commands and their words.
+use Rattle.std.specs.Prelude.{◌≡◌, ◌≢◌, ℕ, List, [], ◌∷◌, codes}
+use Rattle.std.specs.List.{AllByRecursion}
+use Rattle.inliner_tool.specs.declared.words.CheckWords.{CheckWords}
+use Rattle.inliner_tool.specs.declared.words.Command.{Command}
+use Rattle.inliner_tool.specs.declared.words.Command.TheVariants as commands
+use Rattle.inliner_tool.specs.declared.words.ShowWords.{ShowWords}
 
--- what stands before, between and behind the places of a byte in a text
-abbrev pub pieces : ℕ → List ℕ → List (List ℕ)
-pieces byte text = slice_split (λ b. b == byte) text
+-- the files of a check, and the name of its main class
+pub record NamedCheck : Type 0 where
+  pub policy : List ℕ
+  pub listing : List ℕ
+  pub certificate : List ℕ
+  pub main : List ℕ
+  pub classes : List (List ℕ)
 
--- a letter, `_` or `$`
-abbrev pub is_name_start : ℕ → Bool
-is_name_start b = is_ascii_alphabetic b || (b == 95 || b == 36)
+-- the files that are shown
+pub record NamedShow : Type 0 where
+  pub listing : List ℕ
+  pub classes : List (List ℕ)
 
--- a letter, a digit, `_` or `$`
-abbrev pub is_name_byte : ℕ → Bool
-is_name_byte b = is_name_start b || is_ascii_digit b
+pub data NamedCommand : Type 0 where
+  Check : NamedCheck → NamedCommand
+  Show : NamedShow → NamedCommand
 
--- one or more letters, digits, `_` and `$`
-abbrev pub is_segment : List ℕ → Bool
-is_segment [] = false
-is_segment (b ∷ bytes) = list_all is_name_byte (b ∷ bytes)
+abbrev pub check_named : CheckWords → NamedCheck
+check_named words = record {
+  policy = words.policy.now;
+  listing = words.listing.now;
+  certificate = words.certificate.now;
+  main = words.main.now;
+  classes = words.classes.now;
+}
 
--- segments joined by `/`
-abbrev pub is_class_name : List ℕ → Bool
-is_class_name name = list_all is_segment (pieces 47 name)
+abbrev pub show_named : ShowWords → NamedShow
+show_named words = record { listing = words.listing.now; classes = words.classes.now }
 
-abbrev pub IsClassName : List ℕ → Type 0
-IsClassName name = IsTrue (is_class_name name)
+abbrev pub named_by : Command → NamedCommand
+named_by (commands.Check words) = Check (check_named words)
+named_by (commands.Show words) = Show (show_named words)
+
+-- check POLICY LISTING CERT MAIN CLASS..
+pub record IsCheck (words : List (List ℕ)) (named : NamedCheck) : Type 0 where
+  pub spelled : words ≡ codes "check" ∷ named.policy ∷ named.listing ∷ named.certificate ∷ named.main ∷ named.classes
+  pub some : named.classes ≢ []
+
+-- show LISTING CLASS..
+pub record IsShow (words : List (List ℕ)) (named : NamedShow) : Type 0 where
+  pub spelled : words ≡ codes "show" ∷ named.listing ∷ named.classes
+  pub some : named.classes ≢ []
+
+abbrev pub Spells : List (List ℕ) → NamedCommand → Type 0
+Spells words (Check named) = IsCheck words named
+Spells words (Show named) = IsShow words named
+
+-- The words are those of the command, and none of them is empty.
+pub record IsCommand (words : List (List ℕ)) (named : NamedCommand) : Type 0 where
+  pub spelled : Spells words named
+  pub full : AllByRecursion (λ word. word ≢ []) words

@@ -1,40 +1,68 @@
-//! Why a file could not be taken.
+//! Why a file is not read as what it is named for.
 
 ghost use Rattle.std.specs.Prelude.{◌≡◌};
-ghost use Rattle.inliner_tool.specs.declared.fault.FormFault.TheVariants as faults;
+ghost use Rattle.inliner_tool.specs.Fault.{class_told, listing_told, number_of, policy_told};
 
-use mon_base::NoMemory;
-use std::alloc::{AllocError, AllocFailed};
+use api_listing::ListFault;
+use class_codec::ClassFault;
+use conspec_parse::PolicyFault;
 
-/// Why a file is not taken.
+/// Why a file is not read as what it is named for.
 #[derive(Clone, Copy, Debug, PartialEq, Eq)]
-pub enum FormFault {
-    /// The file is not of a form that is built.
+pub enum InputFault {
+    /// It is longer than a file of its kind may be, in bytes.
+    TooLong { len: u64 },
+    Listing(ListFault),
+    Policy(PolicyFault),
+    Class(ClassFault),
+    /// It is not of the form that is built so far.
     NotBuilt,
     /// Memory ran out.
     Memory,
 }
 
-impl From<AllocError> for FormFault {
-    ghost from_gives = { λ _ e. e ≡ faults.Memory };
-
-    fn from(_error: AllocError) -> FormFault {
-        FormFault::Memory
+impl InputFault {
+    /// The number under which the fault is reported, or 0 for want of memory.
+    pub fn number(&self) -> u32
+        ensures { result ≡ number_of self.now }
+    {
+        match self {
+            InputFault::TooLong { .. } => 107,
+            InputFault::Listing(fault) => fault.number(),
+            InputFault::Policy(fault) => fault.number(),
+            InputFault::Class(fault) => fault.number(),
+            InputFault::NotBuilt => 199,
+            InputFault::Memory => 0,
+        }
     }
 }
 
-impl<T: Drop> From<AllocFailed<T>> for FormFault {
-    ghost from_gives = { λ _ e. e ≡ faults.Memory };
-
-    fn from(_error: AllocFailed<T>) -> FormFault {
-        FormFault::Memory
+/// The fault of a listing. Want of memory is one of its own.
+pub fn listing_told(fault: ListFault) -> InputFault
+    ensures { result ≡ listing_told fault }
+{
+    match fault {
+        ListFault::Memory => InputFault::Memory,
+        fault => InputFault::Listing(fault),
     }
 }
 
-impl From<NoMemory> for FormFault {
-    ghost from_gives = { λ _ e. e ≡ faults.Memory };
+/// The fault of a policy.
+pub fn policy_told(fault: PolicyFault) -> InputFault
+    ensures { result ≡ policy_told fault }
+{
+    match fault {
+        PolicyFault::Memory => InputFault::Memory,
+        fault => InputFault::Policy(fault),
+    }
+}
 
-    fn from(_error: NoMemory) -> FormFault {
-        FormFault::Memory
+/// The fault of a class file.
+pub fn class_told(fault: ClassFault) -> InputFault
+    ensures { result ≡ class_told fault }
+{
+    match fault {
+        ClassFault::Memory => InputFault::Memory,
+        fault => InputFault::Class(fault),
     }
 }

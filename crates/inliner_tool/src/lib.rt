@@ -1,21 +1,24 @@
-//! The top call of conspecj, and the definitions that it stands on.
+//! The top call of conspecj: the words of a command, over a store and a sink.
+//!
+//! The words become names ([`words`]), the files of these names become inputs (`inputs`), inputs become an answer
+//! (`judging`), and the answer a status and a text (`lines`, `tool`). (docs/COMMANDS.md)
 #![tactic(auto)]
 
-pub mod certificate;
-pub mod checker;
-pub mod code;
-pub mod fault;
+mod answer;
+mod built;
+mod fault;
+mod files;
+mod forms;
 mod inputs;
-pub mod linking;
-pub mod listing;
-pub mod machine;
-pub mod policy;
-pub mod program;
+mod judging;
+mod lines;
 mod tool;
-pub mod typing;
 mod words;
 
+pub use answer::Answer;
+pub use fault::InputFault;
 pub use tool::{Status, run_tool};
+
 
 #[cfg(test)]
 mod tests;

@@ -1,6 +1,4 @@
-//! The command `check` over files in memory: the line that it prints, and how it ends.
+//! The commands over files in memory: what they print, and how they end.
 
-mod answers;
 mod files;
-mod forms;
 mod reading;

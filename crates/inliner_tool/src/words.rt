@@ -1,30 +1,65 @@
 //! The words of the command line.
 
-ghost use Rattle.std.specs.Prelude.{◌≡◌, ◌≢◌, ◌↔◌, ◌∷◌, [], ◌++◌, ℕ, List, IfSome, IfNone, IsTrue};
+ghost use Rattle.std.specs.Prelude.{◌≡◌, ◌≢◌, ◌↔◌, ◌∷◌, [], ◌++◌, IfSome, IfNone, IsTrue};
 ghost use Rattle.std.specs.List.{AllByRecursion};
-ghost use Rattle.inliner_tool.specs.Inputs.{Named, named_by};
-ghost use Rattle.inliner_tool.specs.Tool.{IsCheck};
+ghost use Rattle.inliner_tool.specs.Words.{IsCheck, IsCommand, IsShow, NamedCheck, NamedCommand, NamedShow, check_named, named_by, show_named};
 
-use crate::inputs::CheckWords;
 use mon_base::Bytes;
 
-const CHECK: &[u8] = b"check";
+/// The words of the command `check`, each the name of a file but `main`.
+#[derive(Clone, Copy)]
+pub struct CheckWords<'a> {
+    pub policy: &'a Bytes,
+    pub listing: &'a Bytes,
+    pub certificate: &'a Bytes,
+    /// The name of the main class.
+    pub main: &'a Bytes,
+    pub classes: &'a [Bytes],
+}
 
-/// The words of the command `check`, where these are its: at least one class, and no word is empty.
-pub fn check_words(words: &[Bytes]) -> Option<CheckWords<'_>>
-    ensures found { IfSome result (λ c. IsCheck words.now (named_by c)) }
-    ensures none { IfNone result ((named : Named) → IsCheck words.now named → ⊥) }
+/// The words of the command `show`, each the name of a file.
+#[derive(Clone, Copy)]
+pub struct ShowWords<'a> {
+    pub listing: &'a Bytes,
+    pub classes: &'a [Bytes],
+}
+
+/// A command and its words.
+#[derive(Clone, Copy)]
+pub enum Command<'a> {
+    Check(CheckWords<'a>),
+    Show(ShowWords<'a>),
+}
+
+/// The command whose words these are: at least one class is named, and no word is empty.
+pub fn command_of(words: &[Bytes]) -> Option<Command<'_>>
+    ensures found { IfSome result (λ c. IsCommand words.now (named_by c)) }
+    ensures none { IfNone result ((named : NamedCommand) → IsCommand words.now named → ⊥) }
 {
     if !are_full(words) {
         return None;
     }
+    match check_words(words) {
+        Some(words) => Some(Command::Check(words)),
+        None => {
+            match show_words(words) {
+                Some(words) => Some(Command::Show(words)),
+                None => None,
+            }
+        }
+    }
+}
+
+fn check_words(words: &[Bytes]) -> Option<CheckWords<'_>>
+    ensures found { IfSome result (λ c. IsCheck words.now (check_named c)) }
+    ensures none { IfNone result ((named : NamedCheck) → IsCheck words.now named → ⊥) }
+{
     let (command, words) = first_of(words)?;
     let (policy, words) = first_of(words)?;
     let (listing, words) = first_of(words)?;
     let (certificate, words) = first_of(words)?;
-    let (main, words) = first_of(words)?;
-    let (others, state) = last_of(words)?;
-    if command.as_slice() != CHECK {
+    let (main, classes) = first_of(words)?;
+    if command.as_slice() != b"check".as_slice() || classes.is_empty() {
         return None;
     }
     Some(CheckWords {
@@ -32,9 +67,20 @@ pub fn check_words(words: &[Bytes]) -> Option<CheckWords<'_>>
         listing,
         certificate,
         main,
-        others,
-        state,
+        classes,
     })
+}
+
+fn show_words(words: &[Bytes]) -> Option<ShowWords<'_>>
+    ensures found { IfSome result (λ c. IsShow words.now (show_named c)) }
+    ensures none { IfNone result ((named : NamedShow) → IsShow words.now named → ⊥) }
+{
+    let (command, words) = first_of(words)?;
+    let (listing, classes) = first_of(words)?;
+    if command.as_slice() != b"show".as_slice() || classes.is_empty() {
+        return None;
+    }
+    Some(ShowWords { listing, classes })
 }
 
 /// Whether no word is empty.
@@ -59,16 +105,5 @@ fn first_of(words: &[Bytes]) -> Option<(&Bytes, &[Bytes])>
     match words {
         [] => None,
         [first, others @ ..] => Some((first, others)),
-    }
-}
-
-/// The last word and those before it.
-fn last_of(words: &[Bytes]) -> Option<(&[Bytes], &Bytes)>
-    ensures found { IfSome result (λ parts. words.now ≡ parts.0.now ++ parts.1.now ∷ []) }
-    ensures none { IfNone result (words.now ≡ []) }
-{
-    match words {
-        [] => None,
-        [others @ .., last] => Some((others, last)),
     }
 }

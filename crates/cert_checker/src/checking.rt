@@ -1,0 +1,107 @@
+//! The check as a whole.
+
+ghost use Rattle.std.specs.Prelude.{◌≡◌, ◌↔◌, ◌<◌, ◌≤◌, ◌^◌, IsOk, IfOk, length, count_by, sum_by};
+ghost use Rattle.bytecode_model.specs.declared.program.Method.{Method as AMethod};
+ghost use Rattle.bytecode_model.specs.Sound.{IsSound, IsSoundClass};
+ghost use Rattle.code_typing.specs.Typed.{typing_fault};
+ghost use Rattle.cert_checker.specs.Acceptance.{IsAccepted, notes_fault, shape_fault, sites_of, verdict};
+ghost use Rattle.cert_checker.specs.Operands.{has_clause};
+ghost use Rattle.cert_checker.specs.Secure.{Secure};
+
+use crate::fault::CheckFault;
+use crate::notes::notes_fault;
+use crate::operands::has_clause;
+use crate::shape::shape_fault;
+use bytecode_model::{LinkedClass, Method, Program};
+use cert_format::{Certificate, Mode};
+use code_typing::{check_typing, typed_is_closed};
+use conspec_automaton::Policy;
+use guest_model::sees_only_what_is_called;
+
+/// The answer yes.
+#[derive(Clone, Copy, Debug, PartialEq, Eq)]
+pub struct Accepted {
+    /// How the blocks of the program use the lock.
+    pub mode: Mode,
+    /// The number of calls of methods that the policy has clauses for.
+    pub sites: u64,
+}
+
+/// Checks a program with its certificate. It runs nothing, and takes no memory.
+pub fn check(
+    program: &Program,
+    policy: &Policy,
+    certificate: &Certificate,
+) -> Result<Accepted, CheckFault>
+    requires { IsSound program.now }
+    // It is accepted exactly where the conditions hold, and then every list of steps obeys.
+    ensures ok { IsOk result ↔ IsAccepted program.now policy.now certificate.now }
+    ensures secure { IsOk result → Secure program.now policy.now }
+
+    // Which answer it is: the first test that fails, with its first place.
+    ensures exact { result ≡ verdict program.now policy.now certificate.now }
+{
+    if let Some((class, method)) = shape_fault(program, certificate) {
+        return Err(CheckFault::Shape { class, method });
+    }
+    if let Err(fault) = check_typing(program, &certificate.typing) {
+        return Err(CheckFault::Typing {
+            class: fault.class,
+            method: fault.method,
+            at: fault.at,
+            rule: fault.rule,
+        });
+    }
+    if let Some((class, (method, (at, rule)))) = notes_fault(program, policy, certificate) {
+        return Err(CheckFault::Local {
+            class,
+            method,
+            at,
+            rule,
+        });
+    }
+    typed_is_closed();
+    sees_only_what_is_called();
+    Ok(Accepted {
+        mode: certificate.mode,
+        sites: sites_of(program, policy),
+    })
+}
+
+/// How many calls of methods that the policy has clauses for stand in the code.
+fn sites_of(program: &Program, policy: &Policy) -> u64
+    requires { IsSound program.now }
+    ensures { result ≡ sites_of program.now policy.now }
+{
+    let mut sites = 0u64;
+    for class in program.classes.as_slice() {
+        sites += sites_in_class(class, policy);
+    }
+    sites
+}
+
+fn sites_in_class(class: &LinkedClass, policy: &Policy) -> u64
+    requires { IsSoundClass class.now }
+    ensures is { result ≡ sum_by (λ (m : AMethod). count_by (has_clause policy.now) m.refs) class.now.methods }
+    ensures few { result < 2 ^ 32 }
+{
+    let mut sites = 0u64;
+    for method in class.methods.as_slice() {
+        sites += sites_in_method(method, policy);
+    }
+    sites
+}
+
+fn sites_in_method(method: &Method, policy: &Policy) -> u64
+    requires { length method.now.refs < 2 ^ 16 }
+    ensures is { result ≡ count_by (has_clause policy.now) method.now.refs }
+    ensures few { result < 2 ^ 16 }
+{
+    let mut sites = 0u64;
+    for target in method.refs.as_slice() {
+        if has_clause(policy, target) {
+            sites += 1;
+        }
+    }
+    sites
+}

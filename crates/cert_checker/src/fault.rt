@@ -1,0 +1,47 @@
+//! Why a program is not accepted.
+
+ghost use Rattle.std.specs.Prelude.{◌≡◌};
+ghost use Rattle.cert_checker.specs.Fault.{number_of};
+
+use thiserror::Error;
+
+/// The first test that fails, with its first place. Classes, methods and instructions are counted from 0; of a shape the
+/// methods with code alone are counted.
+#[derive(Clone, Copy, Debug, PartialEq, Eq, Error)]
+pub enum CheckFault {
+    /// The certificate is of a program of another shape.
+    #[error("the certificate is of another program")]
+    Shape {
+        class: u32,
+        method: u32,
+    },
+    /// A rule of the typing fails.
+    #[error("rule {rule} of the typing fails")]
+    Typing {
+        class: u32,
+        method: u32,
+        at: u32,
+        rule: u8,
+    },
+    /// A rule of the notes fails.
+    #[error("rule {rule} of the notes fails")]
+    Local {
+        class: u32,
+        method: u32,
+        at: u32,
+        rule: u8,
+    },
+}
+
+impl CheckFault {
+    /// The number under which the fault is reported.
+    pub fn number(&self) -> u32
+        ensures { result ≡ number_of self.now }
+    {
+        match self {
+            CheckFault::Shape { .. } => 242,
+            CheckFault::Typing { .. } => 202,
+            CheckFault::Local { .. } => 243,
+        }
+    }
+}

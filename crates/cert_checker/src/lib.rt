@@ -1,0 +1,21 @@
+//! The checker: whether a linked program with its certificate obeys its policy, for every list of guest steps.
+//!
+//! It runs nothing and compares with the output of no tool: it looks at each instruction, its frame type and its note, and
+//! at those of the instructions that come next. (docs/CERTIFICATES.md)
+#![tactic(auto)]
+
+mod checking;
+mod fault;
+mod note_rules;
+mod notes;
+mod operands;
+mod shape;
+mod wanted;
+
+pub use checking::{Accepted, check};
+pub use fault::CheckFault;
+pub use operands::is_way_out;
+pub use wanted::Wanted;
+
+#[cfg(test)]
+mod tests;

@@ -1,0 +1,138 @@
+//! The first note of a certificate that is wrong.
+
+ghost use Rattle.std.specs.Prelude.{◌≡◌, ◌<◌, ◌≤◌, ◌^◌, drop, is_some, length};
+ghost use Rattle.std.specs.List.{AllByRecursion};
+ghost use Rattle.bytecode_model.specs.Sound.{IsSound, IsSoundClass, IsSoundMethod};
+ghost use Rattle.code_typing.specs.Rules.{frame_of};
+ghost use Rattle.code_typing.specs.Typed.{list_at};
+ghost use Rattle.cert_checker.specs.Acceptance.{in_classes, in_method, in_methods, notes_fault, reached_fault};
+
+use crate::note_rules::note_fault;
+use bytecode_model::{LinkedClass, Method, Program};
+use cert_format::{Certificate, FrameType, Note};
+use conspec_automaton::Policy;
+use mon_base::List;
+
+/// Class, method, instruction and rule of the first note that is wrong.
+pub fn notes_fault(
+    program: &Program,
+    policy: &Policy,
+    certificate: &Certificate,
+) -> Option<(u32, (u32, (u32, u8)))>
+    requires { IsSound program.now }
+    ensures { result ≡ notes_fault program.now policy.now certificate.now }
+{
+    let mut at = 0u32;
+    let mut frames = certificate.typing.frames.as_slice();
+    let mut notes = certificate.notes.as_slice();
+    let mut classes = program.classes.as_slice();
+    while let [class, later @ ..] = classes {
+        if let Some(found) = in_methods(program, policy, class, first_of(frames), first_of(notes)) {
+            return Some((at, found));
+        }
+        classes = later;
+        frames = behind_first(frames);
+        notes = behind_first(notes);
+        at += 1;
+    }
+    None
+}
+
+/// Method, instruction and rule of the first note of a class that is wrong.
+fn in_methods(
+    program: &Program,
+    policy: &Policy,
+    class: &LinkedClass,
+    frames: &[List<Option<FrameType>>],
+    notes: &[List<Note>],
+) -> Option<(u32, (u32, u8))>
+    requires { IsSoundClass class.now }
+    ensures { result ≡ in_methods program.now policy.now 0 class.now.methods frames.now notes.now }
+{
+    let mut at = 0u32;
+    let mut frames = frames;
+    let mut notes = notes;
+    let mut methods = class.methods.as_slice();
+    while let [method, later @ ..] = methods {
+        if !method.insns.is_empty() {
+            if let Some(found) = in_method(program, policy, first_of(frames), first_of(notes), method) {
+                return Some((at, found));
+            }
+            frames = behind_first(frames);
+            notes = behind_first(notes);
+        }
+        methods = later;
+        at += 1;
+    }
+    None
+}
+
+/// Instruction and rule of the first note of a method that is wrong.
+fn in_method(
+    program: &Program,
+    policy: &Policy,
+    frames: &[Option<FrameType>],
+    told: &[Note],
+    method: &Method,
+) -> Option<(u32, u8)>
+    requires { IsSoundMethod method.now }
+    ensures { result ≡ in_method program.now policy.now frames.now told.now method.now }
+{
+    let mut at = 0u32;
+    let mut left = method.insns.len();
+    while left > 0 {
+        if let Some(rule) = reached_fault(program, policy, frames, told, method, at) {
+            return Some((at, rule));
+        }
+        at += 1;
+        left -= 1;
+    }
+    None
+}
+
+fn reached_fault(
+    program: &Program,
+    policy: &Policy,
+    frames: &[Option<FrameType>],
+    told: &[Note],
+    method: &Method,
+    at: u32,
+) -> Option<u8>
+    ensures { result ≡ reached_fault program.now policy.now frames.now told.now method.now at }
+{
+    if has_frame(frames, at) {
+        note_fault(program.classes.as_slice(), policy, told, method, at)
+    } else {
+        None
+    }
+}
+
+/// Whether the instruction of this index has a frame.
+fn has_frame(frames: &[Option<FrameType>], at: u32) -> bool
+    ensures { result ≡ is_some (frame_of frames.now at) }
+{
+    match frames.get(at as usize) {
+        Some(frame) => frame.is_some(),
+        None => false,
+    }
+}
+
+/// The items of the first list, or none where there is no list.
+fn first_of<T>(lists: &[List<T>]) -> &[T]
+    ensures { result.now ≡ list_at lists.now 0 }
+{
+    match lists {
+        [] => &[],
+        [first, ..] => first.as_slice(),
+    }
+}
+
+/// The lists behind the first.
+fn behind_first<T>(lists: &[List<T>]) -> &[List<T>]
+    ensures { result.now ≡ drop 1 lists.now }
+{
+    match lists {
+        [] => lists,
+        [_, others @ ..] => others,
+    }
+}

@@ -1,0 +1,4 @@
+pub mod Building
+pub mod Next
+pub mod Obeys
+pub mod Denying

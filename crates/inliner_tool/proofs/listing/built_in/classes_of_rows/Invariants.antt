@@ -1,6 +1,0 @@
-use Rattle.std.proofs.Common.{◌≡◌, take, map}
-use Rattle.inliner_tool.specs.BuiltIn.{class_of_row}
-use Rattle.inliner_tool.proofs.listing.built_in.classes_of_rows.Given as goal
-
-abbrev pub invariant-loop-name : goal.invariant-loop-name
-invariant-loop-name l = l.classes ≡ map (λ r. class_of_row (r.0.now, r.1.now)) (take l.name-index l.rows)

@@ -1,7 +1,0 @@
-use Rattle.std.proofs.Common.{◌≡◌, take, false}
-use Rattle.std.specs.List.{list_any}
-use Rattle.inliner_tool.specs.BuiltIn.{is_row}
-use Rattle.inliner_tool.proofs.listing.built_in.is_among.Given as goal
-
-abbrev pub invariant-loop-of : goal.invariant-loop-of
-invariant-loop-of l = list_any (λ r. is_row l.class l.name l.desc (r.0.now, r.1.now, r.2.now, r.3)) (take l.of-index l.rows) ≡ false

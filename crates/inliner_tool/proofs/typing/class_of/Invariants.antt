@@ -1,9 +1,0 @@
-use Rattle.std.proofs.Common.{◌≡◌, length}
-use Rattle.inliner_tool.specs.Classes.{class_in}
-use Rattle.inliner_tool.proofs.typing.class_of.Given as goal
-
-abbrev pub invariant-loop-classes : goal.invariant-loop-classes
-invariant-loop-classes l = class_in l.classes l.name ≡ class_in l.fn.classes l.name
-
-abbrev pub decreases-loop-classes : goal.decreases-loop-classes
-decreases-loop-classes l = length l.classes

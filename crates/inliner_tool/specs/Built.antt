@@ -1,0 +1,161 @@
+-- The forms of certificates and programs that are built so far.
+use Rattle.std.specs.Prelude.{ℕ, ◌==◌, ◌&&◌, ◌||◌, nat_le, nat_lt, Bool, true, false, bytes_eq, codes, if◌then◌else◌, List, [], ◌∷◌, ◌++◌, length, Option, Some, None, slice_get}
+use Rattle.std.specs.List.{list_all, list_any}
+use Rattle.std.specs.Option.{option_map_or}
+use Rattle.api_listing.specs.declared.types.ListedMethod.{ListedMethod}
+use Rattle.bytecode_model.specs.declared.program.LinkedClass.{LinkedClass}
+use Rattle.bytecode_model.specs.declared.program.Method.{Method}
+use Rattle.bytecode_model.specs.declared.program.Program.{Program}
+use Rattle.bytecode_model.specs.declared.program.Target.{Target}
+use Rattle.bytecode_model.specs.declared.program.Target.TheVariants as target
+use Rattle.cert_checker.specs.Operands.{is_way_out}
+use Rattle.cert_format.specs.declared.certificate.Certificate.{Certificate}
+use Rattle.cert_format.specs.declared.certificate.Mode.{Mode}
+use Rattle.cert_format.specs.declared.certificate.Mode.TheVariants as modes
+use Rattle.cert_format.specs.declared.note.Note.{Note}
+use Rattle.cert_format.specs.declared.note.Note.TheVariants as notes
+use Rattle.cert_format.specs.declared.typing.FrameType.{FrameType}
+use Rattle.cert_format.specs.declared.typing.VType.{VType}
+use Rattle.cert_format.specs.declared.typing.VType.TheVariants as types
+use Rattle.class_codec.specs.declared.tree.Attr.{Attr}
+use Rattle.class_codec.specs.declared.tree.Attr.TheVariants as attributes
+use Rattle.class_codec.specs.declared.tree.ClassFile.{ClassFile}
+use Rattle.class_codec.specs.declared.tree.Const.{Const}
+use Rattle.class_codec.specs.declared.tree.Const.TheVariants as constants
+use Rattle.class_codec.specs.declared.tree.Member.{Member}
+use Rattle.class_codec.specs.Spelling.{spelling}
+use Rattle.insn_codec.specs.declared.insn.Insn.{Insn}
+use Rattle.insn_codec.specs.declared.insn.Insn.TheVariants as insns
+
+-- ---- certificates: of the mode release, with the notes of denied methods, and types of objects that are made
+
+abbrev pub is_release : Mode → Bool
+is_release modes.Release = true
+is_release modes.Hold = false
+
+abbrev pub is_built_type : VType → Bool
+is_built_type types.UninitThis = false
+is_built_type (types.Uninit at) = false
+is_built_type other = true
+
+abbrev pub is_built_frame : Option FrameType → Bool
+is_built_frame None = true
+is_built_frame (Some frame) = list_all is_built_type frame.locals && list_all is_built_type frame.stack
+
+abbrev pub is_built_note : Note → Bool
+is_built_note notes.Free = true
+is_built_note (notes.Taking site) = true
+is_built_note (notes.Stop site place) = true
+is_built_note other = false
+
+abbrev pub is_built_certificate : Certificate → Bool
+is_built_certificate certificate =
+    is_release certificate.mode
+    && (list_all (λ class. list_all (λ method. list_all is_built_frame method) class) certificate.typing.frames
+    && list_all (λ class. list_all (λ method. list_all is_built_note method) class) certificate.notes)
+
+-- ---- instructions
+
+-- nop, aconst_null, iconst_m1 to 5, iload_0 to 3, istore_0 to 3, pop, iadd, isub, return, athrow, monitorenter and -exit
+abbrev pub is_built_opcode : ℕ → Bool
+is_built_opcode op =
+    nat_le op 8 || ((nat_le 26 op && nat_le op 29) || ((nat_le 59 op && nat_le op 62)
+    || ((op == 87) || ((op == 96) || ((op == 100) || ((op == 177) || ((op == 191) || ((op == 194) || (op == 195)))))))))
+
+-- `I` and `V` are the results that are built
+abbrev pub is_built_result : List ℕ → Bool
+is_built_result text = bytes_eq text (codes "V") || bytes_eq text (codes "I")
+
+-- ints, a bracket, and the result
+abbrev pub takes_ints : List ℕ → Bool
+takes_ints [] = false
+takes_ints (b ∷ text) = if b == 73 then takes_ints text else (b == 41) && is_built_result text
+
+-- a method that takes ints and gives one or nothing
+abbrev pub is_built_desc : List ℕ → Bool
+is_built_desc [] = false
+is_built_desc (b ∷ text) = (b == 40) && takes_ints text
+
+-- A call names a method of the library with such a descriptor, or that which stops the program.
+abbrev pub is_built_call : List ListedMethod → Target → Bool
+is_built_call methods (target.ApiMethod index) = option_map_or (λ (m : ListedMethod). is_built_desc m.id.desc) (slice_get methods index) false
+is_built_call methods other = is_way_out other
+
+abbrev pub names_class : Target → Bool
+names_class (target.ClassName name) = true
+names_class other = false
+
+-- ldc_w of a class, and invokestatic
+abbrev pub is_built_use : List ListedMethod → ℕ → Target → Bool
+is_built_use methods op ref = ((op == 19) && names_class ref) || ((op == 184) && is_built_call methods ref)
+
+abbrev pub is_built_insn : List ListedMethod → Insn → Target → Bool
+is_built_insn methods (insns.Plain op) ref = is_built_opcode op
+is_built_insn methods (insns.Byte n) ref = true
+is_built_insn methods (insns.Short n) ref = true
+is_built_insn methods (insns.Pool op index) ref = is_built_use methods op ref
+is_built_insn methods (insns.Local op slot wide) ref = (op == 21) || (op == 54)
+is_built_insn methods (insns.Branch op to) ref = (op == 153) || ((op == 154) || (op == 167))
+is_built_insn methods other ref = false
+
+abbrev pub are_built : List ListedMethod → List Insn → List Target → Bool
+are_built methods [] refs = true
+are_built methods (insn ∷ insns) [] = false
+are_built methods (insn ∷ insns) (ref ∷ refs) = is_built_insn methods insn ref && are_built methods insns refs
+
+-- ---- classes
+
+-- texts, classes, methods, their names and types, and what is no entry
+abbrev pub is_built_const : Const → Bool
+is_built_const (constants.Utf8 text) = true
+is_built_const (constants.Class name) = true
+is_built_const (constants.Method class member) = true
+is_built_const (constants.NameAndType name desc) = true
+is_built_const constants.Second = true
+is_built_const other = false
+
+abbrev pub is_empty : {X : Type 0} → List X → Bool
+is_empty [] = true
+is_empty other = false
+
+-- a code without handlers and without attributes
+abbrev pub is_built_code : List Attr → Bool
+is_built_code (attributes.Code code ∷ []) = is_empty code.table && is_empty code.attrs
+is_built_code other = false
+
+abbrev pub is_built_member : List Member → Bool
+is_built_member (member ∷ []) = is_built_code member.attrs
+is_built_member other = false
+
+-- a class under Object with one method and no more
+abbrev pub is_built_file : ClassFile → Bool
+is_built_file file =
+    list_all is_built_const file.pool
+    && (is_empty file.interfaces && (is_empty file.fields && (is_built_member file.methods && is_empty file.attrs)))
+
+abbrev pub is_built_method : List ListedMethod → Method → Bool
+is_built_method methods method = are_built methods method.insns method.refs
+
+abbrev pub is_built_class : List ListedMethod → LinkedClass → Bool
+is_built_class methods class =
+    bytes_eq class.parent (codes "java/lang/Object") && (is_built_file class.file && list_all (is_built_method methods) class.methods)
+
+-- the class file of conspec/State for a policy without variables
+abbrev pub state_text : List ℕ
+state_text =
+    0xCA ∷ 0xFE ∷ 0xBA ∷ 0xBE ∷ 0 ∷ 0 ∷ 0 ∷ 49 ∷ 0 ∷ 8
+    ∷ 1 ∷ 0 ∷ 13 ∷ (codes "conspec/State" ++ 7 ∷ 0 ∷ 1
+    ∷ 1 ∷ 0 ∷ 16 ∷ (codes "java/lang/Object" ++ 7 ∷ 0 ∷ 3
+    ∷ 1 ∷ 0 ∷ 13 ∷ (codes "ConstantValue" ++ 1 ∷ 0 ∷ 1 ∷ 73 ∷ 1 ∷ 0 ∷ 1 ∷ 90
+    ∷ 0 ∷ 33 ∷ 0 ∷ 2 ∷ 0 ∷ 4 ∷ 0 ∷ 0 ∷ 0 ∷ 0 ∷ 0 ∷ 0 ∷ 0 ∷ 0 ∷ [])))
+
+abbrev pub is_state : ClassFile → Bool
+is_state file = bytes_eq (spelling file) state_text
+
+-- one class, and behind it the class that holds the state of a policy without variables
+abbrev pub are_built_classes : List ListedMethod → List LinkedClass → Bool
+are_built_classes methods (client ∷ state ∷ []) = is_built_class methods client && is_state state.file
+are_built_classes methods other = false
+
+abbrev pub is_built : Program → Bool
+is_built program = are_built_classes program.listing.methods program.classes

@@ -1,0 +1,58 @@
+-- The kinds of files: how long they may be, and what they are read as.
+use Rattle.std.specs.Prelude.{ℕ, List, length, Result, Ok, Err, if◌then◌else◌}
+use Rattle.api_listing.specs.declared.fault.ListFault.{ListFault}
+use Rattle.api_listing.specs.declared.types.Listing.{Listing}
+use Rattle.api_listing.specs.Listing.{reading}
+use Rattle.cert_format.specs.declared.certificate.Certificate.{Certificate}
+use Rattle.cert_format.specs.Reading.{certificate_of}
+use Rattle.class_codec.specs.declared.fault.ClassFault.{ClassFault}
+use Rattle.class_codec.specs.declared.tree.ClassFile.{ClassFile}
+use Rattle.class_codec.specs.Reading.{class_of}
+use Rattle.conspec_parse.specs.declared.fault.PolicyFault.{PolicyFault}
+use Rattle.conspec_parse.specs.declared.types.PolicyTree.{PolicyTree}
+use Rattle.conspec_parse.specs.Policy.{reading as policy_of}
+use Rattle.inliner_tool.specs.declared.fault.InputFault.{InputFault}
+use Rattle.inliner_tool.specs.declared.fault.InputFault.TheVariants as faults
+use Rattle.inliner_tool.specs.declared.forms.ReadClass.{ReadClass}
+use Rattle.inliner_tool.specs.Built.{is_built_certificate}
+use Rattle.inliner_tool.specs.Fault.{class_told, listing_told, policy_told}
+use Rattle.inliner_tool.specs.Forms.{Form}
+
+-- ---- listings, of at most 1 MiB
+
+abbrev pub listing_read : Result Listing ListFault → Result Listing InputFault
+listing_read (Ok listing) = Ok listing
+listing_read (Err fault) = Err (listing_told fault)
+
+abbrev pub listing_form : Form Listing
+listing_form = record { limit = 1048576; reads = λ text. listing_read (reading text) }
+
+-- ---- policies, of at most 64 KiB, over a listing
+
+abbrev pub policy_read : Result PolicyTree PolicyFault → Result PolicyTree InputFault
+policy_read (Ok tree) = Ok tree
+policy_read (Err fault) = Err (policy_told fault)
+
+abbrev pub policy_form : Listing → Form PolicyTree
+policy_form listing = record { limit = 65536; reads = λ text. policy_read (policy_of text listing) }
+
+-- ---- certificates, of at most 64 MiB, for a number of variables; those that are built so far
+
+abbrev pub built_only : Certificate → Result Certificate InputFault
+built_only certificate = if is_built_certificate certificate then Ok certificate else Err faults.NotBuilt
+
+abbrev pub certificate_read : Result Certificate ℕ → Result Certificate InputFault
+certificate_read (Ok certificate) = built_only certificate
+certificate_read (Err at) = Err faults.NotBuilt
+
+abbrev pub certificate_form : ℕ → Form Certificate
+certificate_form vars = record { limit = 67108864; reads = λ text. certificate_read (certificate_of vars text) }
+
+-- ---- class files, of at most 1 MiB, with their lengths
+
+abbrev pub class_read : ℕ → Result ClassFile ClassFault → Result ReadClass InputFault
+class_read len (Ok file) = Ok (record { file = file; len = len })
+class_read len (Err fault) = Err (class_told fault)
+
+abbrev pub class_form : Form ReadClass
+class_form = record { limit = 1048576; reads = λ text. class_read (length text) (class_of text) }

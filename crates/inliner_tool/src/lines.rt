@@ -1,0 +1,283 @@
+//! What is printed for an answer.
+
+ghost use Rattle.std.specs.Prelude.{◌≡◌, ◌++◌, IfOk, OnOk, [], codes};
+ghost use Rattle.bytecode_model.specs.declared.fault.LinkFault.TheVariants as links;
+ghost use Rattle.inliner_tool.specs.declared.answer.Answer.TheVariants as answers;
+ghost use Rattle.inliner_tool.specs.Lines.{
+  check_fields,
+  class_fields,
+  code_fields,
+  field,
+  is_shown,
+  line_text,
+  link_fields,
+  listing_fields,
+  mode_name,
+  policy_fields,
+  refused,
+  text_of,
+  word,
+};
+
+use crate::answer::Answer;
+use crate::fault::InputFault;
+use api_listing::ListFault;
+use bytecode_model::LinkFault;
+use cert_checker::{Accepted, CheckFault};
+use cert_format::Mode;
+use class_codec::ClassFault;
+use conspec_parse::PolicyFault;
+use insn_codec::CodeFault;
+use mon_base::{Bytes, NoMemory, push_count};
+use std::alloc::Global;
+
+/// The whole output for an answer: a line, or the text of class files.
+pub fn text_of(alloc: Global, answer: &Answer) -> Result<Bytes, NoMemory>
+    ensures { IfOk result (λ text. text ≡ text_of answer.now) }
+{
+    let mut text = Bytes::new(alloc);
+    push_line(&mut text, answer)?;
+    if !is_shown(answer) {
+        text.push(b'\n')?;
+    }
+    Ok(text)
+}
+
+fn is_shown(answer: &Answer) -> bool
+    ensures { result ≡ is_shown answer.now }
+{
+    matches!(answer, Answer::Shown(_))
+}
+
+fn push_line(text: &mut Bytes, answer: &Answer) -> Result<(), NoMemory>
+    ensures { OnOk result (text.new ≡ text.old ++ line_text answer.now) }
+{
+    match answer {
+        Answer::Accepted(accepted) => push_accepted(text, *accepted),
+        Answer::Denied(fault, label) => push_denied(text, fault, label),
+        Answer::Shown(shown) => text.extend(shown.as_slice()),
+        Answer::Input(name, fault) => push_input(text, name, fault),
+        Answer::TotalLong { len } => {
+            push_refused(text, 152, b"-")?;
+            push_field(text, *len)
+        }
+        Answer::Link(fault) => {
+            push_refused(text, fault.number(), b"-")?;
+            push_link_fields(text, fault)
+        }
+        Answer::NotBuilt => push_refused(text, 199, b"-"),
+        Answer::Unread(name) => {
+            text.extend(b"store")?;
+            push_word(text, name.as_slice())
+        }
+        Answer::Usage => text.extend(b"usage: conspecj COMMAND WORD.."),
+        Answer::Memory => Ok(()),
+    }
+}
+
+fn push_accepted(text: &mut Bytes, accepted: Accepted) -> Result<(), NoMemory>
+    ensures { OnOk result (text.new ≡ text.old ++ line_text (answers.Accepted accepted)) }
+{
+    text.extend(b"accepted")?;
+    push_word(text, mode_name(accepted.mode))?;
+    text.extend(b" sites")?;
+    push_field(text, accepted.sites)
+}
+
+fn mode_name(mode: Mode) -> &'static [u8]
+    ensures { result.now ≡ mode_name mode }
+{
+    match mode {
+        Mode::Hold => b"hold",
+        Mode::Release => b"release",
+    }
+}
+
+fn push_denied(text: &mut Bytes, fault: &CheckFault, label: &Bytes) -> Result<(), NoMemory>
+    ensures { OnOk result (text.new ≡ text.old ++ line_text (answers.Denied fault.now label.now)) }
+{
+    text.extend(b"denied")?;
+    push_field(text, u64::from(fault.number()))?;
+    push_word(text, label.as_slice())?;
+    match fault {
+        CheckFault::Shape { method, .. } => push_field(text, u64::from(*method)),
+        CheckFault::Typing {
+            method,
+            at,
+            rule,
+            ..
+        } => push_place(text, *method, *at, *rule),
+        CheckFault::Local {
+            method,
+            at,
+            rule,
+            ..
+        } => push_place(text, *method, *at, *rule),
+    }
+}
+
+/// Method, instruction and rule.
+fn push_place(text: &mut Bytes, method: u32, at: u32, rule: u8) -> Result<(), NoMemory>
+    ensures { OnOk result (text.new ≡ text.old ++ field method ++ field at ++ field rule) }
+{
+    push_field(text, u64::from(method))?;
+    push_field(text, u64::from(at))?;
+    push_field(text, u64::from(rule))
+}
+
+fn push_input(text: &mut Bytes, name: &Bytes, fault: &InputFault) -> Result<(), NoMemory>
+    ensures { OnOk result (text.new ≡ text.old ++ line_text (answers.Input name.now fault.now)) }
+{
+    push_refused(text, fault.number(), name.as_slice())?;
+    match fault {
+        InputFault::TooLong { len } => push_field(text, *len),
+        InputFault::Listing(fault) => push_listing_fields(text, fault),
+        InputFault::Policy(fault) => push_policy_fields(text, fault),
+        InputFault::Class(fault) => push_class_fields(text, fault),
+        InputFault::NotBuilt => Ok(()),
+        InputFault::Memory => Ok(()),
+    }
+}
+
+fn push_listing_fields(text: &mut Bytes, fault: &ListFault) -> Result<(), NoMemory>
+    ensures { OnOk result (text.new ≡ text.old ++ listing_fields fault.now) }
+{
+    match fault {
+        ListFault::Line { line } => push_field(text, *line),
+        ListFault::Twice { line } => push_field(text, *line),
+        ListFault::NoSuper { line } => push_field(text, *line),
+        ListFault::TooMany { count } => push_field(text, *count),
+        ListFault::Memory => Ok(()),
+    }
+}
+
+fn push_policy_fields(text: &mut Bytes, fault: &PolicyFault) -> Result<(), NoMemory>
+    ensures { OnOk result (text.new ≡ text.old ++ policy_fields fault.now) }
+{
+    match fault {
+        PolicyFault::Syntax { at } => push_field(text, *at),
+        PolicyFault::Name { at } => push_field(text, *at),
+        PolicyFault::Kind { at } => push_field(text, *at),
+        PolicyFault::Range { at } => push_field(text, *at),
+        PolicyFault::NoMethod { at } => push_field(text, *at),
+        PolicyFault::Twice { at } => push_field(text, *at),
+        PolicyFault::Limit { at } => push_field(text, *at),
+        PolicyFault::Builtin { at } => push_field(text, *at),
+        PolicyFault::Memory => Ok(()),
+    }
+}
+
+fn push_class_fields(text: &mut Bytes, fault: &ClassFault) -> Result<(), NoMemory>
+    ensures { OnOk result (text.new ≡ text.old ++ class_fields fault.now) }
+{
+    match fault {
+        ClassFault::Magic => Ok(()),
+        ClassFault::Version { major } => push_field(text, u64::from(*major)),
+        ClassFault::Short { at } => push_field(text, *at),
+        ClassFault::Tail { at } => push_field(text, *at),
+        ClassFault::Tag { at, tag } => {
+            push_field(text, *at)?;
+            push_field(text, u64::from(*tag))
+        }
+        ClassFault::Index { at } => push_field(text, *at),
+        ClassFault::TooLong { len } => push_field(text, *len),
+        ClassFault::Memory => Ok(()),
+    }
+}
+
+fn push_link_fields(text: &mut Bytes, fault: &LinkFault) -> Result<(), NoMemory>
+    ensures { OnOk result (text.new ≡ text.old ++ link_fields fault.now) }
+{
+    match fault {
+        LinkFault::NoMain => Ok(()),
+        LinkFault::Twice { class } => push_word(text, class.as_slice()),
+        LinkFault::Unresolved { class, name } => push_words(text, class, name),
+        LinkFault::SuperLeftOut { class } => push_word(text, class.as_slice()),
+        LinkFault::NameTaken { class } => push_word(text, class.as_slice()),
+        LinkFault::Method { class, name } => push_words(text, class, name),
+        LinkFault::TooMany { count } => push_field(text, *count),
+        LinkFault::Code {
+            class,
+            method,
+            fault,
+        } => push_code(text, class, *method, fault),
+        LinkFault::Overrides { class, name } => push_words(text, class, name),
+        LinkFault::Name { class } => push_word(text, class.as_slice()),
+        LinkFault::Operand { class, method, at } => {
+            push_word(text, class.as_slice())?;
+            push_field(text, u64::from(*method))?;
+            push_field(text, u64::from(*at))
+        }
+        LinkFault::Memory => Ok(()),
+    }
+}
+
+/// A method whose code is of no form, and why.
+fn push_code(
+    text: &mut Bytes,
+    class: &Bytes,
+    method: u32,
+    fault: &CodeFault,
+) -> Result<(), NoMemory>
+    ensures { OnOk result (text.new ≡ text.old ++ link_fields (links.Code class.now method fault.now)) }
+{
+    push_word(text, class.as_slice())?;
+    push_field(text, u64::from(method))?;
+    push_field(text, u64::from(fault.number()))?;
+    push_code_fields(text, fault)
+}
+
+fn push_code_fields(text: &mut Bytes, fault: &CodeFault) -> Result<(), NoMemory>
+    ensures { OnOk result (text.new ≡ text.old ++ code_fields fault.now) }
+{
+    match fault {
+        CodeFault::Opcode { at, op } => push_opcode(text, *at, *op),
+        CodeFault::Cut { at } => push_field(text, *at),
+        CodeFault::Target { at } => push_field(text, *at),
+        CodeFault::LeftOut { at, op } => push_opcode(text, *at, *op),
+        CodeFault::Form { at } => push_field(text, *at),
+        CodeFault::End { at } => push_field(text, *at),
+        CodeFault::Memory => Ok(()),
+    }
+}
+
+/// A place and an opcode.
+fn push_opcode(text: &mut Bytes, at: u64, op: u8) -> Result<(), NoMemory>
+    ensures { OnOk result (text.new ≡ text.old ++ field at ++ field op) }
+{
+    push_field(text, at)?;
+    push_field(text, u64::from(op))
+}
+
+/// `input`, the number of a refusal, and the name of its file.
+fn push_refused(text: &mut Bytes, number: u32, name: &[u8]) -> Result<(), NoMemory>
+    ensures { OnOk result (text.new ≡ text.old ++ refused number name.now []) }
+{
+    text.extend(b"input")?;
+    push_field(text, u64::from(number))?;
+    push_word(text, name)
+}
+
+/// Two names, each behind a space.
+fn push_words(text: &mut Bytes, first: &Bytes, second: &Bytes) -> Result<(), NoMemory>
+    ensures { OnOk result (text.new ≡ text.old ++ word first.now ++ word second.now) }
+{
+    push_word(text, first.as_slice())?;
+    push_word(text, second.as_slice())
+}
+
+/// A space and a name.
+fn push_word(text: &mut Bytes, name: &[u8]) -> Result<(), NoMemory>
+    ensures { OnOk result (text.new ≡ text.old ++ word name.now) }
+{
+    text.push(b' ')?;
+    text.extend(name)
+}
+
+/// A space and a number.
+fn push_field(text: &mut Bytes, number: u64) -> Result<(), NoMemory>
+    ensures { OnOk result (text.new ≡ text.old ++ field number) }
+{
+    text.push(b' ')?;
+    push_count(text, number)
+}
