@@ -71,7 +71,7 @@ goes_on program typing typed class method at of insn e there inside to c =
     let f = frame_there program typing class method of s at inside in
     let row = sym (row_is program typing class method of s at insn there) ∙ typed class method at in
     let here : row_failing (frames program typing class method of s) (place_at program class s.in' of at insn) (Some f.0) ≡ None =
-      ap (row_failing (frames program typing class method of s) (place_at program class s.in' of at insn)) (sym f.1) ∙ row in
+    ap (row_failing (frames program typing class method of s) (place_at program class s.in' of at insn)) (sym f.1) ∙ row in
     let place = place_at program class s.in' of at insn in
     let p = row_passed (frames program typing class method of s) place f.0 here in
     there_now program typing class method of s at to insn there (goes_to_frame (frames program typing class method of s) place f.0 p to c)
@@ -82,7 +82,7 @@ caught program typing typed class method at of insn handler e there inside c fro
     let f = frame_there program typing class method of s at inside in
     let row = sym (row_is program typing class method of s at insn there) ∙ typed class method at in
     let here : row_failing (frames program typing class method of s) (place_at program class s.in' of at insn) (Some f.0) ≡ None =
-      ap (row_failing (frames program typing class method of s) (place_at program class s.in' of at insn)) (sym f.1) ∙ row in
+    ap (row_failing (frames program typing class method of s) (place_at program class s.in' of at insn)) (sym f.1) ∙ row in
     let place = place_at program class s.in' of at insn in
     let p = row_passed (frames program typing class method of s) place f.0 here in
     there_now program typing class method of s at handler.at insn there (caught_at_frame (frames program typing class method of s) place f.0 p handler c from to)

@@ -57,8 +57,8 @@ method_typed : (program : Program) (own : ℕ) (class : LinkedClass) (m : Method
 method_typed program own class m frames index e at =
     elim (cases_lt at (length m.insns)) [
       | inl less ↦
-        let same : 0 + at ≡ at = omega arith in
-        subst (λ (n : ℕ). row_in program own class m frames n ≡ None) same (row_none (row_in program own class m frames) own index (length m.insns) 0 e at less)
+          let same : 0 + at ≡ at = omega arith in
+          subst (λ (n : ℕ). row_in program own class m frames n ≡ None) same (row_none (row_in program own class m frames) own index (length m.insns) 0 e at less)
       | inr more ↦ beyond program own class m frames at (slice_get_past m.insns at more)
     ]
 
@@ -94,18 +94,18 @@ module _ (program : Program) (own : ℕ) (class : LinkedClass) where
       let same = some_is m n s in
       elim (cases_Bool (has_code m)) [
         | inl coded' ↦
-          let h = of_both (has_code m) _ _ _ e coded' in
-          subst (λ (x : Method). MethodTyped program own class x (list_at told 0)) same (method_typed program own class m (list_at told 0) index h.0)
+            let h = of_both (has_code m) _ _ _ e coded' in
+            subst (λ (x : Method). MethodTyped program own class x (list_at told 0)) same (method_typed program own class m (list_at told 0) index h.0)
         | inr bare' ↦ subst (λ (x : Method). MethodTyped program own class x (list_at told 0)) same (bare program own class m (list_at told 0) bare')
       ]
   methods_typed (m ∷ methods) told index e (suc k) n s =
       elim (cases_Bool (has_code m)) [
         | inl coded' ↦
-          let h = of_both (has_code m) _ _ _ e coded' in
-          subst (λ (f : Frames). MethodTyped program own class n f) (sym (with_code m methods told k coded')) (methods_typed methods (drop 1 told) (index + 1) h.1 k n s)
+            let h = of_both (has_code m) _ _ _ e coded' in
+            subst (λ (f : Frames). MethodTyped program own class n f) (sym (with_code m methods told k coded')) (methods_typed methods (drop 1 told) (index + 1) h.1 k n s)
         | inr bare' ↦
-          let h = of_other (has_code m) _ _ e bare' in
-          subst (λ (f : Frames). MethodTyped program own class n f) (sym (without_code m methods told k bare')) (methods_typed methods told (index + 1) h k n s)
+            let h = of_other (has_code m) _ _ e bare' in
+            subst (λ (f : Frames). MethodTyped program own class n f) (sym (without_code m methods told k bare')) (methods_typed methods told (index + 1) h k n s)
       ]
 
   typed_methods : (methods : List Method) (told : List Frames) (index : ℕ) → MethodsTyped program own class methods told → methods_fault program own class index methods told ≡ None
@@ -113,14 +113,14 @@ module _ (program : Program) (own : ℕ) (class : LinkedClass) where
   typed_methods (m ∷ methods) told index h =
       elim (cases_Bool (has_code m)) [
         | inl coded' ↦
-          rw coded'
-              (both_none _ _ (typed_method program own class m (list_at told 0) index (h 0 m refl))
-              (typed_methods methods (drop 1 told) (index + 1)
-              (λ k n s. subst (λ (f : Frames). MethodTyped program own class n f) (with_code m methods told k coded') (h (suc k) n s))))
+            rw coded'
+            (both_none _ _ (typed_method program own class m (list_at told 0) index (h 0 m refl))
+            (typed_methods methods (drop 1 told) (index + 1)
+            (λ k n s. subst (λ (f : Frames). MethodTyped program own class n f) (with_code m methods told k coded') (h (suc k) n s))))
         | inr bare' ↦
-          rw bare'
-              (typed_methods methods told (index + 1)
-              (λ k n s. subst (λ (f : Frames). MethodTyped program own class n f) (without_code m methods told k bare') (h (suc k) n s)))
+            rw bare'
+            (typed_methods methods told (index + 1)
+            (λ k n s. subst (λ (f : Frames). MethodTyped program own class n f) (without_code m methods told k bare') (h (suc k) n s)))
       ]
 
 -- ---- classes
@@ -137,23 +137,23 @@ module _ (program : Program) where
       let same = some_is first c s in
       let at : own + 0 ≡ own = omega arith in
       subst (λ (n : ℕ). MethodsTyped program n c c.methods (list_at told 0)) (sym at)
-          (subst (λ (x : LinkedClass). MethodsTyped program own x x.methods (list_at told 0)) same (methods_typed program own first first.methods (list_at told 0) 0 h.0))
+      (subst (λ (x : LinkedClass). MethodsTyped program own x x.methods (list_at told 0)) same (methods_typed program own first first.methods (list_at told 0) 0 h.0))
   classes_typed own (first ∷ classes) told e (suc k) c s =
       let h = neither _ _ e in
       let at : own + suc k ≡ (own + 1) + k = omega arith in
       subst (λ (n : ℕ). MethodsTyped program n c c.methods (list_at told (suc k))) (sym at)
-          (subst (λ (f : List Frames). MethodsTyped program ((own + 1) + k) c c.methods f) (sym (behind_at told k)) (classes_typed (own + 1) classes (drop 1 told) h.1 k c s))
+      (subst (λ (f : List Frames). MethodsTyped program ((own + 1) + k) c c.methods f) (sym (behind_at told k)) (classes_typed (own + 1) classes (drop 1 told) h.1 k c s))
 
   typed_classes : (own : ℕ) (classes : List LinkedClass) (told : List (List Frames)) → ClassesTyped program own classes told → classes_fault program own classes told ≡ None
   typed_classes own [] told h = refl
   typed_classes own (first ∷ classes) told h =
       let zero_at : own + 0 ≡ own = omega arith in
       both_none _ _ (typed_methods program own first first.methods (list_at told 0) 0 (subst (λ (n : ℕ). MethodsTyped program n first first.methods (list_at told 0)) zero_at (h 0 first refl)))
-          (typed_classes (own + 1) classes (drop 1 told)
-          (λ k c s.
-              let at : own + suc k ≡ (own + 1) + k = omega arith in
-              subst (λ (n : ℕ). MethodsTyped program n c c.methods (list_at (drop 1 told) k)) at
-                  (subst (λ (f : List Frames). MethodsTyped program (own + suc k) c c.methods f) (behind_at told k) (h (suc k) c s))))
+      (typed_classes (own + 1) classes (drop 1 told)
+      (λ k c s.
+      let at : own + suc k ≡ (own + 1) + k = omega arith in
+      subst (λ (n : ℕ). MethodsTyped program n c c.methods (list_at (drop 1 told) k)) at
+      (subst (λ (f : List Frames). MethodsTyped program (own + suc k) c c.methods f) (behind_at told k) (h (suc k) c s))))
 
 -- ---- a program
 
@@ -163,20 +163,20 @@ of_program program typing class c = MethodsTyped program class c c.methods (fram
 pub typed_of : (program : Program) (typing : Typing) → typing_fault program typing ≡ None → IsTyped program typing
 typed_of program typing e class method at =
     and_then_none (λ (c : LinkedClass). row_of_method program typing class c method at) (slice_get program.classes class)
-        (λ c there.
-            let same : 0 + class ≡ class = omega arith in
-            let h : of_program program typing class c =
-              subst (λ (n : ℕ). MethodsTyped program n c c.methods (frames_told typing class)) same (classes_typed program 0 program.classes typing.frames e class c there) in
-            and_then_none (λ (m : Method). row_in program class c m (frames_in c.methods (frames_told typing class) method) at) (slice_get c.methods method)
-                (λ m is. h method m is at))
+    (λ c there.
+    let same : 0 + class ≡ class = omega arith in
+    let h : of_program program typing class c =
+    subst (λ (n : ℕ). MethodsTyped program n c c.methods (frames_told typing class)) same (classes_typed program 0 program.classes typing.frames e class c there) in
+    and_then_none (λ (m : Method). row_in program class c m (frames_in c.methods (frames_told typing class) method) at) (slice_get c.methods method)
+    (λ m is. h method m is at))
 
 pub none_of : (program : Program) (typing : Typing) → IsTyped program typing → typing_fault program typing ≡ None
 none_of program typing h =
     typed_classes program 0 program.classes typing.frames
-        (λ class c there.
-            let same : 0 + class ≡ class = omega arith in
-            subst (λ (n : ℕ). MethodsTyped program n c c.methods (frames_told typing class)) (sym same)
-                (λ method m is at.
-                    let row = h class method at in
-                    let of_class : row_of_method program typing class c method at ≡ None = rw there at row in
-                    rw is at of_class))
+    (λ class c there.
+    let same : 0 + class ≡ class = omega arith in
+    subst (λ (n : ℕ). MethodsTyped program n c c.methods (frames_told typing class)) (sym same)
+    (λ method m is at.
+    let row = h class method at in
+    let of_class : row_of_method program typing class c method at ≡ None = rw there at row in
+    rw is at of_class))

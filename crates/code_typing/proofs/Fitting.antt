@@ -43,7 +43,7 @@ pub locals_fit-behind : (program : Program) (x : VType) (xs : List VType) (j : �
 locals_fit-behind program x xs j [] = refl
 locals_fit-behind program x xs j (t ∷ to) = rw (type_at-behind x xs j, locals_fit-behind program x xs (j + 1) to) refl
 
-any_decides : (n : ℕ) (types : List VType) → Decides (all_met (replicate n anything) types) (length types ≡ n)
+pub any_decides : (n : ℕ) (types : List VType) → Decides (all_met (replicate n anything) types) (length types ≡ n)
 any_decides zero [] = (λ e. refl, λ e. refl)
 any_decides zero (t ∷ types) = (λ e. absurd cc, λ e. absurd (omega arith))
 any_decides (suc n) [] = (λ e. absurd cc, λ e. absurd (omega arith))
@@ -76,8 +76,8 @@ goes_told place frame to change told =
     let n = length (takes place) in
     let kept = map_same (change_told change) (changed place (taken place frame)) told (below n frame.stack) in
     let each : (j : ℕ) → local_told (shape_of place.insn) change frame.locals (taken place frame) j ≡ local_after place frame.locals (taken place frame) j
-      = λ j. ap (λ (t : VType). cond (stores (shape_of place.insn) j) (type_at (taken place frame) 0) t) (told (type_at frame.locals j)) in
+    = λ j. ap (λ (t : VType). cond (stores (shape_of place.insn) j) (type_at (taken place frame) 0) t) (told (type_at frame.locals j)) in
     let locals = locals_fit-same place.program (local_told (shape_of place.insn) change frame.locals (taken place frame)) (local_after place frame.locals (taken place frame)) each 0 to.locals in
     ap (λ (stack : List VType). stack_fits place.program (stack ++ yields place frame.locals (taken place frame)) to.stack
-        && locals_fit place.program (local_told (shape_of place.insn) change frame.locals (taken place frame)) 0 to.locals) kept
+    && locals_fit place.program (local_told (shape_of place.insn) change frame.locals (taken place frame)) 0 to.locals) kept
     ∙ ap (λ (b : Bool). stack_fits place.program (stack_after place frame.locals n frame.stack) to.stack && b) locals

@@ -4,3 +4,4 @@ pub mod Fitting
 pub mod Faults
 mod Reaching
 pub mod Closed
+pub mod Moving

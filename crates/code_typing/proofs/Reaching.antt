@@ -53,4 +53,4 @@ module _ (frames : Frames) (place : Place) (frame : FrameType) where
   caught_at_frame p handler c from to =
       let covered : covers place.at handler ≡ true = and_from _ _ (le-leb handler.from place.at from) (lt-ltb place.at handler.to to) in
       is_there (catches_well place frame handler) (frame_of frames handler.at)
-          (handled_there _ _ _ _ (contained (is_handled frames place frame) place.method.handlers handler p.caught c) covered)
+      (handled_there _ _ _ _ (contained (is_handled frames place frame) place.method.handlers handler p.caught c) covered)

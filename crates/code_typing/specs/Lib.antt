@@ -9,3 +9,4 @@ pub mod Changing
 pub mod Steps
 pub mod Typed
 pub mod Closed
+pub mod Moving

@@ -104,11 +104,7 @@ fn catches_well(place: &PlaceRef, frame: &FrameType, handler: &Handler, to: &Fra
     ensures { result ≡ catches_well place.now frame.now handler.now to.now }
 {
     is_alone(class_caught(handler), to.stack.as_slice())
-        && locals_caught(
-            place.program,
-            frame.locals.as_slice(),
-            to.locals.as_slice(),
-        )
+        && locals_caught(place.program, frame.locals.as_slice(), to.locals.as_slice())
 }
 
 fn is_handled(

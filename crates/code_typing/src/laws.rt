@@ -2,6 +2,7 @@
 
 ghost use Rattle.std.specs.Prelude.{◌≡◌};
 ghost use Rattle.code_typing.specs.Closed.{BeginsReached, GoesToReached, IsCaughtReached};
+ghost use Rattle.code_typing.specs.Moving.{IsEffectTyped};
 
 /// The places with a frame are closed under control.
 pub fn typed_is_closed()
@@ -11,4 +12,10 @@ pub fn typed_is_closed()
     ensures next { GoesToReached }
     // What is thrown at one is caught at one.
     ensures caught { IsCaughtReached }
+{}
+
+/// What an instruction that works on its frame alone leaves, where the rules 2 to 4 are met, is what its effect over the
+/// types leaves.
+pub fn typed_effect()
+    ensures effect { IsEffectTyped }
 {}

@@ -23,7 +23,7 @@ mod wanted;
 mod yielded;
 
 pub use fault::TypeFault;
-pub use laws::typed_is_closed;
+pub use laws::{typed_effect, typed_is_closed};
 pub use typing::{check_row, check_typing};
 
 #[cfg(test)]

@@ -25,7 +25,9 @@ ghost use Rattle.insn_effect.specs.declared.shape.Heap.TheVariants as heap;
 ghost use Rattle.type_lattice.specs.Lending.{type_lent};
 
 use crate::described::{arguments_text, arity, next_type, result_text, result_type};
-use crate::place::{PlaceRef, calls_maker, calls_static, class_referred, desc_referred, is_own_field};
+use crate::place::{
+    PlaceRef, calls_maker, calls_static, class_referred, desc_referred, is_own_field,
+};
 use crate::wanted::{Wanted, is_this, one_is, three_are, to_class, to_described, two_are};
 use bytecode_model::Program;
 use cert_format::VType;
@@ -38,7 +40,11 @@ fn call_count(place: &PlaceRef) -> usize
     ensures { result ≡ length (call_takes place.now) }
 {
     let count = arity(desc_referred(place));
-    if calls_static(place) { count } else { count + 1 }
+    if calls_static(place) {
+        count
+    } else {
+        count + 1
+    }
 }
 
 fn heap_count(place: &PlaceRef, what: Heap) -> usize
@@ -222,8 +228,17 @@ fn operands_met(place: &PlaceRef, shape: Shape, types: &[VType]) -> bool
     match shape {
         Shape::Store { kind, .. } => one_is(program, Wanted::Kind(kind), types),
         Shape::Move(form) => any_met(depth_of(form), types),
-        Shape::Two(_) | Shape::Compare { .. } => two_are(program, Wanted::Number, Wanted::Number, types),
-        Shape::One(_) | Shape::Test { .. } | Shape::Switch => one_is(program, Wanted::Number, types),
+        Shape::Two(_) | Shape::Compare { .. } => two_are(
+            program,
+            Wanted::Number,
+            Wanted::Number,
+            types,
+        ),
+        Shape::One(_) | Shape::Test { .. } | Shape::Switch => one_is(
+            program,
+            Wanted::Number,
+            types,
+        ),
         Shape::CompareReferences { .. } => two_are(program, Wanted::Made, Wanted::Made, types),
         Shape::TestNull { .. } => one_is(program, Wanted::Made, types),
         Shape::Heap(what) => heap_met(place, what, types),
@@ -238,7 +253,10 @@ fn is_result_of(kind: Option<Kind>, result_type: Option<TypeRef>) -> bool
         None => result_type.is_none(),
         Some(Kind::Int) => matches!(result_type, Some(TypeRef::Int)),
         Some(Kind::Reference) => {
-            matches!(result_type, Some(TypeRef::Ref(_)) | Some(TypeRef::ArrayOf(_)))
+            matches!(
+                result_type,
+                Some(TypeRef::Ref(_)) | Some(TypeRef::ArrayOf(_))
+            )
         }
     }
 }

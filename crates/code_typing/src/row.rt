@@ -51,13 +51,7 @@ pub fn row_failing(
     ensures { result ≡ row_failing frames.now place.now (option_copied frame.entry) }
 {
     match frame {
-        None => {
-            if place.at == 0 {
-                Some(1)
-            } else {
-                None
-            }
-        }
+        None => { if place.at == 0 { Some(1) } else { None } }
         Some(frame) => {
             if place.at == 0 && !is_entered(place, frame) {
                 Some(1)

@@ -62,7 +62,10 @@ fn put_back(form: StackForm) -> &'static [u8]
 fn moved_from(depth: u8, taken: &[VType], i: u8) -> TypeRef<'_>
     ensures { type_lent result ≡ moved_from depth taken.now i }
 {
-    type_at(taken, usize::from(depth.saturating_sub(1).saturating_sub(i)))
+    type_at(
+        taken,
+        usize::from(depth.saturating_sub(1).saturating_sub(i)),
+    )
 }
 
 /// The type of the constant that is named.
@@ -184,7 +187,13 @@ fn heap_fits(place: &PlaceRef, taken: &[VType], what: Heap, to: &[VType]) -> boo
     }
 }
 
-fn shape_fits(place: &PlaceRef, locals: &[VType], taken: &[VType], shape: Shape, to: &[VType]) -> bool
+fn shape_fits(
+    place: &PlaceRef,
+    locals: &[VType],
+    taken: &[VType],
+    shape: Shape,
+    to: &[VType],
+) -> bool
     ensures { result ≡ stack_fits place.now.program (yields_of place.now locals.now taken.now shape) to.now }
 {
     let program = place.program;

@@ -12,7 +12,6 @@ use Rattle.type_lattice.specs.Classes.{is_interface}
 use Rattle.type_lattice.specs.Assigning.{is_array, named, leaf_fits, class_fits, component_fits, array_fits, name_fits}
 use Rattle.type_lattice.specs.Lending.{described, array_of}
 
-
 last_of : (name : List ℕ) → slice_index (name ++ 59 ∷ []) (length (name ++ 59 ∷ []) - 1) ≡ 59
 last_of name =
     let at : length (name ++ 59 ∷ []) - 1 ≡ length name + 0 = omega (arith, length-append name (59 ∷ [])) in
@@ -76,10 +75,10 @@ item_class program item [] e = rw e refl
 item_class program item (d ∷ to) e =
     let text : List ℕ = 76 ∷ (item ++ 59 ∷ []) in
     let leaf : leaf_fits program text (d ∷ to) ≡ (bytes_eq text (d ∷ to) || option_map_or (λ above. class_fits program item above) (named (d ∷ to)) false)
-      = ap (λ (o : Option (List ℕ)). bytes_eq text (d ∷ to) || option_map_or (λ above. option_map_or (λ below. class_fits program below above) o false) (named (d ∷ to)) false) (named_described item) in
+    = ap (λ (o : Option (List ℕ)). bytes_eq text (d ∷ to) || option_map_or (λ above. option_map_or (λ below. class_fits program below above) o false) (named (d ∷ to)) false) (named_described item) in
     let itself : bytes_eq text (d ∷ to) ≡ true → option_map_or (λ above. class_fits program item above) (named (d ∷ to)) false ≡ true
-      = λ same. subst (λ (t : List ℕ). option_map_or (λ above. class_fits program item above) (named t) false ≡ true) ((bytes_eq-Decides text (d ∷ to)).0 same)
-        (ap (λ (o : Option (List ℕ)). option_map_or (λ above. class_fits program item above) o false) (named_described item) ∙ class_itself program item) in
+    = λ same. subst (λ (t : List ℕ). option_map_or (λ above. class_fits program item above) (named t) false ≡ true) ((bytes_eq-Decides text (d ∷ to)).0 same)
+    (ap (λ (o : Option (List ℕ)). option_map_or (λ above. class_fits program item above) o false) (named_described item) ∙ class_itself program item) in
     ap (λ (b : Bool). component_fits program (cond b item text) (d ∷ to)) e ∙ leaf ∙ absorbed _ _ itself
 
 -- an array where anything is wanted: its own type needs no test of its own

@@ -10,7 +10,12 @@ use std::alloc::Global;
 use std::test::Fail;
 
 /// A class of this name and superclass, without members.
-fn class_of(alloc: Global, name: &[u8], parent: &[u8], flags: u16) -> Result<LinkedClass, NoMemory> {
+fn class_of(
+    alloc: Global,
+    name: &[u8],
+    parent: &[u8],
+    flags: u16,
+) -> Result<LinkedClass, NoMemory> {
     let mut pool = List::new(alloc);
     pool.push(Const::Second)?;
     pool.push(Const::Utf8(Bytes::from_slice(alloc, name)?))?;

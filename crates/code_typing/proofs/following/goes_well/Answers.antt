@@ -14,11 +14,11 @@ returns c =
     let to = c.args.to.now in
     let change = c.change_of-change.result in
     let top : c.split_top.result.1.now ≡ taken place frame =
-      c.split_top.ensures.topmost ∙ ap (topmost c.count_taken.result) c.as_slice.ensures ∙ ap (λ (n : ℕ). topmost n frame.stack) c.count_taken.ensures in
+    c.split_top.ensures.topmost ∙ ap (topmost c.count_taken.result) c.as_slice.ensures ∙ ap (λ (n : ℕ). topmost n frame.stack) c.count_taken.ensures in
     let rest : c.split_top.result.0.now ≡ below (length (takes place)) frame.stack =
-      c.split_top.ensures.below ∙ ap (below c.count_taken.result) c.as_slice.ensures ∙ ap (λ (n : ℕ). below n frame.stack) c.count_taken.ensures in
+    c.split_top.ensures.below ∙ ap (below c.count_taken.result) c.as_slice.ensures ∙ ap (λ (n : ℕ). below n frame.stack) c.count_taken.ensures in
     let told : (t : VType) → change_told change t ≡ changed place (taken place frame) t =
-      λ t. c.change_of-change.ensures t ∙ ap (λ (s : List VType). changed place s t) top in
+    λ t. c.change_of-change.ensures t ∙ ap (λ (s : List VType). changed place s t) top in
     c.frame_takes.ensures
     ∙ ap (λ (l : List VType). frame_takes place change l c.split_top.result.0.now c.split_top.result.1.now to) c.as_slice-2.ensures
     ∙ ap (λ (l : List VType). frame_takes place change frame.locals l c.split_top.result.1.now to) rest

@@ -20,8 +20,8 @@ returns-then-below_fits c =
     let to = c.args.to.now in
     let n = length c.args.below.now in
     let lower : stack_fits program kept (take n to) ≡ true =
-      ap (λ (p : Place). stack_fits p.program kept (take n to)) (sym c.place.view_is)
-      ∙ ap (stack_fits c.place.inside.program.now kept) (sym c.split_at.ensures.front) ∙ sym c.if-below_fits.ensures in
+    ap (λ (p : Place). stack_fits p.program kept (take n to)) (sym c.place.view_is)
+    ∙ ap (stack_fits c.place.inside.program.now kept) (sym c.split_at.ensures.front) ∙ sym c.if-below_fits.ensures in
     let parts = joined program (change_told c.args.change) c.args.below.now pushed to in
     c.yields_fit.ensures ∙ ap (stack_fits program pushed) c.split_at.ensures.back
     ∙ sym (parts ∙ ap (λ (b : Bool). b && stack_fits program pushed (drop n to)) lower)
@@ -34,7 +34,7 @@ returns-else-below_fits c =
     let to = c.args.to.now in
     let n = length c.args.below.now in
     let lower : stack_fits program kept (take n to) ≡ false =
-      ap (λ (p : Place). stack_fits p.program kept (take n to)) (sym c.place.view_is)
-      ∙ ap (stack_fits c.place.inside.program.now kept) (sym c.split_at.ensures.front) ∙ sym c.if-below_fits.ensures in
+    ap (λ (p : Place). stack_fits p.program kept (take n to)) (sym c.place.view_is)
+    ∙ ap (stack_fits c.place.inside.program.now kept) (sym c.split_at.ensures.front) ∙ sym c.if-below_fits.ensures in
     let parts = joined program (change_told c.args.change) c.args.below.now pushed to in
     c.if-below_fits.false ∙ sym (parts ∙ ap (λ (b : Bool). b && stack_fits program pushed (drop n to)) lower)

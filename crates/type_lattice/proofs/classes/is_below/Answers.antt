@@ -15,8 +15,8 @@ loop-preserved c =
     let all = classes_of program in
     let above = c.args.above.now in
     let count : length all ≡ length program.listing.classes + length program.classes =
-      length-append program.listing.classes (map (λ (k : LinkedClass). head_of k.file) program.classes)
-      ∙ ap (λ n. length program.listing.classes + n) (length-map program.classes (λ (k : LinkedClass). head_of k.file)) in
+    length-append program.listing.classes (map (λ (k : LinkedClass). head_of k.file) program.classes)
+    ∙ ap (λ n. length program.listing.classes + n) (length-map program.classes (λ (k : LinkedClass). head_of k.file)) in
     let less : c.loop.counter < length all = omega (arith, count, c.loop-test.true, ap length c.as_slice-listed.ensures, ap length c.as_slice-given.ensures) in
     let rung : Step = c.in-Some.rung in
     let further = one_named above (upwards (length all - (c.loop.counter + 1)) all rung.parent) in
