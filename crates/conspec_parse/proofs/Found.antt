@@ -232,7 +232,7 @@ dimension_found start brackets tokens before =
       says = ap (λ (b : List ℕ). b ++ 91 ∷ []) before.says ∙ replicate_more before.written 91;
     })
 
-array_is : (n : ℕ) (e : Element) → array_of (replicate n 91) (type_named (element_desc e) (element_kind e)) ≡ type_named (replicate n 91 ++ element_desc e) (kind_in n e)
+pub array_is : (n : ℕ) (e : Element) → array_of (replicate n 91) (type_named (element_desc e) (element_kind e)) ≡ type_named (replicate n 91 ++ element_desc e) (kind_in n e)
 array_is zero e = refl
 array_is (suc n) e = refl
 

@@ -1,8 +1,13 @@
+mod Again
+mod AgainGuards
+mod AgainMethods
+mod AgainPolicy
 mod Branches
 mod Found
 mod FoundGuards
 mod FoundMethods
 mod FoundPolicy
+mod Got
 mod Loose
 mod Made
 mod Repeating

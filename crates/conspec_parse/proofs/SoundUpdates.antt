@@ -135,7 +135,7 @@ pub record AreUpdates (vars : List Var) (maxint : ℤ) (atoms : ℕ) (read : Lis
   pub once : AllPairs AreApart read
   pub short : atoms + all_range_atoms read ≤ 16
 
-range_atoms_more : (updates : List Update) (u : Update) → all_range_atoms (updates ++ u ∷ []) ≡ all_range_atoms updates + range_atoms u
+pub range_atoms_more : (updates : List Update) (u : Update) → all_range_atoms (updates ++ u ∷ []) ≡ all_range_atoms updates + range_atoms u
 range_atoms_more [] u = omega arith
 range_atoms_more (w ∷ updates) u = let e = range_atoms_more updates u in omega arith
 

@@ -1,6 +1,7 @@
 //! A policy out of its text.
 
-ghost use Rattle.std.specs.Prelude.{◌≡◌, ◌<◌, ◌^◌, length, IfOk};
+ghost use Rattle.std.specs.Prelude.{◌≡◌, ◌<◌, ◌^◌, length, IfOk, MatchResult};
+ghost use Rattle.conspec_parse.specs.declared.fault.PolicyFault.TheVariants as faults;
 ghost use Rattle.conspec_parse.specs.Fault.{Reads};
 ghost use Rattle.conspec_parse.specs.Meaning.{SpellsPolicy};
 ghost use Rattle.conspec_parse.specs.Policy.{policy_at, reading};
@@ -24,6 +25,9 @@ pub fn parse(alloc: Global, text: &[u8], listing: &Listing) -> Result<PolicyTree
     ensures exact { Reads result (reading text.now listing.now) }
     // What is read is spelled so.
     ensures found { IfOk result (λ t. SpellsPolicy text.now listing.now t) }
+    // What is spelled so is read, unless memory runs out.
+    ensures only { (t : PolicyTree) → SpellsPolicy text.now listing.now t
+        → MatchResult result (λ r. r ≡ t) (λ e. e ≡ faults.Memory) }
     // It keeps the limits and ranges, and what its parts name is there.
     ensures sound { IfOk result (λ t. IsPolicyTree listing.now t) }
 {
