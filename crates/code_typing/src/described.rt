@@ -137,6 +137,7 @@ pub fn type_described(text: &[u8]) -> TypeRef<'_>
     }
 }
 
+/// The text without its last byte.
 pub fn without_last(text: &[u8]) -> &[u8]
     ensures { result.now ≡ take (length text.now - 1) text.now }
 {

@@ -58,7 +58,8 @@ fn stack_takes(
     taken: &[VType],
     to: &[VType],
 ) -> bool
-    ensures { result ≡ stack_fits place.now.program (map (change_told change.entry) below.now ++ yields place.now locals.now taken.now) to.now }
+    ensures { result ≡ stack_fits place.now.program
+        (map (change_told change.entry) below.now ++ yields place.now locals.now taken.now) to.now }
 {
     if to.len() < below.len() {
         return false;
@@ -125,7 +126,8 @@ fn all_arrive(
 }
 
 fn jumps_arrive(frames: &[Option<FrameType>], place: &PlaceRef, frame: &FrameType) -> bool
-    ensures { result ≡ list_all (λ to. option_map_or (goes_well place.now frame.now) (frame_of frames.now to) false) (jump_targets place.now.insn) }
+    ensures { result ≡ list_all (λ to. option_map_or (goes_well place.now frame.now) (frame_of frames.now to) false)
+        (jump_targets place.now.insn) }
 {
     match place.insn {
         Insn::Branch { to, .. } => arrives(frames, place, frame, *to as usize),

@@ -29,7 +29,15 @@ impl<'a> Model for PlaceRef<'a> {
 
     ghost Value = { Place };
 
-    ghost view = { λ p. record { program = p.program.now; own = p.own; class = p.class.now; method = p.method.now; at = p.at; insn = p.insn.now; ref = target_or_none (option_copied p.target) } };
+    ghost view = { λ p. record {
+      program = p.program.now;
+      own = p.own;
+      class = p.class.now;
+      method = p.method.now;
+      at = p.at;
+      insn = p.insn.now;
+      ref = target_or_none (option_copied p.target);
+    } };
 }
 
 /// The index of the constant that an instruction names, or 0, which names none.

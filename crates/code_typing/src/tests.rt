@@ -477,75 +477,33 @@ fn unmade(alloc: Global, insn: Insn, target: Target, stack: &[Told]) -> Result<O
     rule(alloc, m, 1)
 }
 
+/// The same, for an instruction that names a constant.
+fn unmade_field(alloc: Global, op: u8, class: u32, stack: &[Told]) -> Result<Option<u8>, Fail> {
+    let insn = Insn::Pool { op, index: 12 };
+    unmade(alloc, insn, Target::Field { class, field: 0 }, stack)
+}
+
 #[test]
 fn objects_that_are_not_made(rt: HostRuntime) -> Result<(), Fail> {
     let alloc = rt.alloc();
-    let own = Target::Field { class: 0, field: 0 };
-    let other = Target::Field { class: 1, field: 0 };
     let both = [Told::This, Told::Int];
+    let this = [Told::This];
+    assert_eq!(rt; unmade_field(alloc, 0xB5, 0, &both)?, None);
+    assert_eq!(rt; unmade_field(alloc, 0xB5, 1, &both)?, Some(3));
+    assert_eq!(rt; unmade_field(alloc, 0xB4, 0, &this)?, Some(3));
+    let none = Target::None;
+    assert_eq!(rt; unmade(alloc, Insn::Plain(0xC2), none, &this)?, Some(3));
+    let none = Target::None;
+    assert_eq!(rt; unmade(alloc, Insn::Plain(0x4B), none, &this)?, None);
+    let is_null = Insn::Branch { op: 0xC6, to: 2 };
+    assert_eq!(rt; unmade(alloc, is_null, Target::None, &this)?, Some(3));
+    let send = Insn::Pool {
+        op: 0xB8,
+        index: 18,
+    };
+    let passed = [Told::Int, Told::This];
     assert_eq!(rt;
-        unmade(
-            alloc,
-            Insn::Pool {
-                op: 0xB5,
-                index: 12
-            },
-            own,
-            &both
-        )?,
-        None
-    );
-    assert_eq!(rt;
-        unmade(
-            alloc,
-            Insn::Pool {
-                op: 0xB5,
-                index: 12
-            },
-            other,
-            &both
-        )?,
-        Some(3)
-    );
-    assert_eq!(rt;
-        unmade(
-            alloc,
-            Insn::Pool {
-                op: 0xB4,
-                index: 12
-            },
-            Target::Field { class: 0, field: 0 },
-            &[Told::This]
-        )?,
-        Some(3)
-    );
-    assert_eq!(rt;
-        unmade(alloc, Insn::Plain(0xC2), Target::None, &[Told::This])?,
-        Some(3)
-    );
-    assert_eq!(rt;
-        unmade(alloc, Insn::Plain(0x4B), Target::None, &[Told::This])?,
-        None
-    );
-    assert_eq!(rt;
-        unmade(
-            alloc,
-            Insn::Branch { op: 0xC6, to: 2 },
-            Target::None,
-            &[Told::This]
-        )?,
-        Some(3)
-    );
-    assert_eq!(rt;
-        unmade(
-            alloc,
-            Insn::Pool {
-                op: 0xB8,
-                index: 18
-            },
-            Target::ApiMethod(0),
-            &[Told::Int, Told::This]
-        )?,
+        unmade(alloc, send, Target::ApiMethod(0), &passed)?,
         Some(3)
     );
     Ok(())
@@ -567,162 +525,48 @@ fn one(
     rule(alloc, m, 1)
 }
 
+/// An opcode alone.
+fn plain(
+    alloc: Global,
+    desc: &'static [u8],
+    op: u8,
+    before: &[Told],
+    after: &[Told],
+) -> Result<Option<u8>, Fail> {
+    one(alloc, desc, Insn::Plain(op), Target::None, before, after)
+}
+
+/// A call of `api/Net.send (ILjava/lang/String;)I`.
+fn call(alloc: Global, op: u8, before: &[Told], after: Told) -> Result<Option<u8>, Fail> {
+    let insn = Insn::Pool { op, index: 18 };
+    let target = Target::ApiMethod(0);
+    one(alloc, b"()V", insn, target, before, &[after])
+}
+
 #[test]
-fn calls_and_returns(rt: HostRuntime) -> Result<(), Fail> {
+fn calls(rt: HostRuntime) -> Result<(), Fail> {
     let alloc = rt.alloc();
-    let send = Insn::Pool {
-        op: 0xB8,
-        index: 18,
-    };
-    assert_eq!(rt;
-        one(
-            alloc,
-            b"()V",
-            send,
-            Target::ApiMethod(0),
-            &[Told::Int, Told::Null],
-            &[Told::Int]
-        )?,
-        None
-    );
-    let send = Insn::Pool {
-        op: 0xB8,
-        index: 18,
-    };
-    assert_eq!(rt;
-        one(
-            alloc,
-            b"()V",
-            send,
-            Target::ApiMethod(0),
-            &[Told::Null, Told::Int],
-            &[Told::Int]
-        )?,
-        Some(3)
-    );
-    let send = Insn::Pool {
-        op: 0xB8,
-        index: 18,
-    };
-    assert_eq!(rt;
-        one(
-            alloc,
-            b"()V",
-            send,
-            Target::ApiMethod(0),
-            &[Told::Int, Told::Text],
-            &[Told::Null]
-        )?,
-        Some(6)
-    );
-    let send = Insn::Pool {
-        op: 0xB8,
-        index: 18,
-    };
-    assert_eq!(rt;
-        one(
-            alloc,
-            b"()V",
-            send,
-            Target::ApiMethod(0),
-            &[Told::Text],
-            &[Told::Int]
-        )?,
-        Some(2)
-    );
-    let send = Insn::Pool {
-        op: 0xB6,
-        index: 18,
-    };
-    assert_eq!(rt;
-        one(
-            alloc,
-            b"()V",
-            send,
-            Target::ApiMethod(0),
-            &[Told::Net, Told::Int, Told::Text],
-            &[Told::Int]
-        )?,
-        None
-    );
-    let send = Insn::Pool {
-        op: 0xB6,
-        index: 18,
-    };
-    assert_eq!(rt;
-        one(
-            alloc,
-            b"()V",
-            send,
-            Target::ApiMethod(0),
-            &[Told::Own, Told::Int, Told::Text],
-            &[Told::Int]
-        )?,
-        Some(3)
-    );
-    assert_eq!(rt;
-        one(alloc, b"()V", Insn::Plain(0xB1), Target::None, &[], &[])?,
-        None
-    );
-    assert_eq!(rt;
-        one(alloc, b"()I", Insn::Plain(0xB1), Target::None, &[], &[])?,
-        Some(3)
-    );
-    assert_eq!(rt;
-        one(
-            alloc,
-            b"()Z",
-            Insn::Plain(0xAC),
-            Target::None,
-            &[Told::Int],
-            &[]
-        )?,
-        None
-    );
-    assert_eq!(rt;
-        one(
-            alloc,
-            b"()V",
-            Insn::Plain(0xAC),
-            Target::None,
-            &[Told::Int],
-            &[]
-        )?,
-        Some(3)
-    );
-    assert_eq!(rt;
-        one(
-            alloc,
-            b"()I",
-            Insn::Plain(0xB0),
-            Target::None,
-            &[Told::Null],
-            &[]
-        )?,
-        Some(3)
-    );
-    assert_eq!(rt;
-        one(
-            alloc,
-            b"()La/T;",
-            Insn::Plain(0xB0),
-            Target::None,
-            &[Told::Own],
-            &[]
-        )?,
-        None
-    );
-    assert_eq!(rt;
-        one(
-            alloc,
-            b"()La/T;",
-            Insn::Plain(0xB0),
-            Target::None,
-            &[Told::Net],
-            &[]
-        )?,
-        Some(3)
-    );
+    let (int, null, text) = (Told::Int, Told::Null, Told::Text);
+    assert_eq!(rt; call(alloc, 0xB8, &[int, null], int)?, None);
+    assert_eq!(rt; call(alloc, 0xB8, &[null, int], int)?, Some(3));
+    assert_eq!(rt; call(alloc, 0xB8, &[int, text], null)?, Some(6));
+    assert_eq!(rt; call(alloc, 0xB8, &[text], int)?, Some(2));
+    assert_eq!(rt; call(alloc, 0xB6, &[Told::Net, int, text], int)?, None);
+    assert_eq!(rt; call(alloc, 0xB6, &[Told::Own, int, text], int)?, Some(3));
+    Ok(())
+}
+
+#[test]
+fn returns(rt: HostRuntime) -> Result<(), Fail> {
+    let alloc = rt.alloc();
+    let (int, own) = ([Told::Int], [Told::Own]);
+    assert_eq!(rt; plain(alloc, b"()V", 0xB1, &[], &[])?, None);
+    assert_eq!(rt; plain(alloc, b"()I", 0xB1, &[], &[])?, Some(3));
+    assert_eq!(rt; plain(alloc, b"()Z", 0xAC, &int, &[])?, None);
+    assert_eq!(rt; plain(alloc, b"()V", 0xAC, &int, &[])?, Some(3));
+    assert_eq!(rt; plain(alloc, b"()I", 0xB0, &[Told::Null], &[])?, Some(3));
+    assert_eq!(rt; plain(alloc, b"()La/T;", 0xB0, &own, &[])?, None);
+    assert_eq!(rt; plain(alloc, b"()La/T;", 0xB0, &[Told::Net], &[])?, Some(3));
     Ok(())
 }
 
@@ -733,122 +577,49 @@ fn array_of(alloc: Global, name: &[u8], after: Told) -> Result<Option<u8>, Fail>
 }
 
 #[test]
-fn arrays(rt: HostRuntime) -> Result<(), Fail> {
+fn arrays_that_are_made(rt: HostRuntime) -> Result<(), Fail> {
     let alloc = rt.alloc();
     let objects = Told::Ref(b"[Ljava/lang/Object;");
     assert_eq!(rt; array_of(alloc, b"a/T", Told::Ref(b"[La/T;"))?, None);
     assert_eq!(rt; array_of(alloc, b"a/T", objects)?, None);
     assert_eq!(rt; array_of(alloc, b"a/T", Told::Ref(b"[Lapi/Net;"))?, Some(6));
     assert_eq!(rt; array_of(alloc, b"[I", Told::Ref(b"[[I"))?, None);
+    let (none, size) = (Target::None, [Told::Int]);
+    let ints = [Told::Ref(b"[I")];
+    assert_eq!(rt;
+        one(alloc, b"()V", Insn::NewArray(10), none, &size, &ints)?,
+        None
+    );
     let none = Target::None;
     assert_eq!(rt;
-        one(
-            alloc,
-            b"()V",
-            Insn::NewArray(10),
-            none,
-            &[Told::Int],
-            &[Told::Ref(b"[I")]
-        )?,
-        None
-    );
-    assert_eq!(rt;
-        one(
-            alloc,
-            b"()V",
-            Insn::NewArray(10),
-            Target::None,
-            &[Told::Int],
-            &[objects]
-        )?,
+        one(alloc, b"()V", Insn::NewArray(10), none, &size, &[objects])?,
         Some(6)
     );
+    Ok(())
+}
+
+#[test]
+fn arrays_that_are_read(rt: HostRuntime) -> Result<(), Fail> {
+    let alloc = rt.alloc();
+    let (int, null, own) = (Told::Int, Told::Null, Told::Own);
+    let of_own = Told::Ref(b"[La/T;");
+    let ints = Told::Ref(b"[I");
+    assert_eq!(rt; plain(alloc, b"()V", 0x32, &[of_own, int], &[own])?, None);
+    assert_eq!(rt; plain(alloc, b"()V", 0x32, &[null, int], &[null])?, None);
+    assert_eq!(rt; plain(alloc, b"()V", 0x32, &[ints, int], &[own])?, Some(3));
     assert_eq!(rt;
-        one(
-            alloc,
-            b"()V",
-            Insn::Plain(0x32),
-            Target::None,
-            &[Told::Ref(b"[La/T;"), Told::Int],
-            &[Told::Own]
-        )?,
+        plain(alloc, b"()V", 0x33, &[Told::Ref(b"[Z"), int], &[int])?,
+        None
+    );
+    assert_eq!(rt; plain(alloc, b"()V", 0x33, &[ints, int], &[int])?, Some(3));
+    assert_eq!(rt; plain(alloc, b"()V", 0xBE, &[ints], &[int])?, None);
+    assert_eq!(rt; plain(alloc, b"()V", 0xBE, &[own], &[int])?, Some(3));
+    assert_eq!(rt;
+        plain(alloc, b"()V", 0x5A, &[null, own], &[own, null, own])?,
         None
     );
     assert_eq!(rt;
-        one(
-            alloc,
-            b"()V",
-            Insn::Plain(0x32),
-            Target::None,
-            &[Told::Null, Told::Int],
-            &[Told::Null]
-        )?,
-        None
-    );
-    assert_eq!(rt;
-        one(
-            alloc,
-            b"()V",
-            Insn::Plain(0x32),
-            Target::None,
-            &[Told::Ref(b"[I"), Told::Int],
-            &[Told::Own]
-        )?,
-        Some(3)
-    );
-    assert_eq!(rt;
-        one(
-            alloc,
-            b"()V",
-            Insn::Plain(0x33),
-            Target::None,
-            &[Told::Ref(b"[Z"), Told::Int],
-            &[Told::Int]
-        )?,
-        None
-    );
-    assert_eq!(rt;
-        one(
-            alloc,
-            b"()V",
-            Insn::Plain(0x33),
-            Target::None,
-            &[Told::Ref(b"[I"), Told::Int],
-            &[Told::Int]
-        )?,
-        Some(3)
-    );
-    assert_eq!(rt;
-        one(
-            alloc,
-            b"()V",
-            Insn::Plain(0xBE),
-            Target::None,
-            &[Told::Ref(b"[I")],
-            &[Told::Int]
-        )?,
-        None
-    );
-    assert_eq!(rt;
-        one(
-            alloc,
-            b"()V",
-            Insn::Plain(0xBE),
-            Target::None,
-            &[Told::Own],
-            &[Told::Int]
-        )?,
-        Some(3)
-    );
-    assert_eq!(rt;
-        one(
-            alloc,
-            b"()V",
-            Insn::Plain(0x5B),
-            Target::None,
-            &[Told::Int, Told::Null, Told::Own],
-            &[Told::Own, Told::Int, Told::Null]
-        )?,
+        plain(alloc, b"()V", 0x5B, &[int, null, own], &[own, int, null])?,
         Some(2)
     );
     Ok(())

@@ -182,7 +182,8 @@ fn typing_fault(program: &Program, typing: &Typing) -> Option<TypeFault>
 pub fn check_typing(program: &Program, typing: &Typing) -> Result<(), TypeFault>
     requires { IsSound program.now }
     ensures ok { IsOk result ↔ IsTyped program.now typing.now }
-    ensures exact { MatchResult result (λ u. typing_fault program.now typing.now ≡ None) (λ fault. typing_fault program.now typing.now ≡ Some fault) }
+    ensures exact { MatchResult result (λ u. typing_fault program.now typing.now ≡ None)
+        (λ fault. typing_fault program.now typing.now ≡ Some fault) }
 {
     match typing_fault(program, typing) {
         Some(fault) => Err(fault),

@@ -1,7 +1,8 @@
 //! What is wanted of operands and locals.
 
 ghost use Rattle.std.specs.Prelude.{◌≡◌, ◌∷◌, []};
-ghost use Rattle.code_typing.specs.Wants.{is_number, is_reference, is_made, is_array_type, is_this, of_kind, to_class, to_array, to_item, to_described, all_met};
+ghost use Rattle.code_typing.specs.Wants.{is_number, is_reference, is_made, is_array_type, is_this, of_kind};
+ghost use Rattle.code_typing.specs.Wants.{to_class, to_array, to_item, to_described, all_met};
 ghost use Rattle.code_typing.specs.Wanted.{want_of};
 ghost use Rattle.type_lattice.specs.Assigning.{is_array};
 
@@ -29,6 +30,7 @@ pub enum Wanted<'a> {
     Described(&'a [u8]),
 }
 
+/// Whether it is a number.
 pub fn is_number(t: &VType) -> bool
     ensures { result ≡ is_number t.now }
 {
@@ -74,12 +76,14 @@ fn is_array_type(t: &VType) -> bool
     }
 }
 
+/// Whether it is the object that this constructor makes.
 pub fn is_this(t: &VType) -> bool
     ensures { result ≡ is_this t.now }
 {
     matches!(t, VType::UninitThis)
 }
 
+/// Whether it is of the kind, as a load or a store tells it.
 pub fn of_kind(kind: Kind, t: &VType) -> bool
     ensures { result ≡ of_kind kind t.now }
 {
@@ -89,6 +93,7 @@ pub fn of_kind(kind: Kind, t: &VType) -> bool
     }
 }
 
+/// Whether it is assignable to the class or array of this name.
 pub fn to_class(program: &Program, name: &[u8], t: &VType) -> bool
     ensures { result ≡ to_class program.now name.now t.now }
 {
@@ -116,6 +121,7 @@ fn to_item(program: &Program, item: Item, t: &VType) -> bool
     }
 }
 
+/// Whether it is assignable to the type that the descriptor of a field or an argument tells.
 pub fn to_described(program: &Program, desc: &[u8], t: &VType) -> bool
     ensures { result ≡ to_described program.now desc.now t.now }
 {
@@ -159,6 +165,7 @@ pub fn one_is(program: &Program, want: Wanted, types: &[VType]) -> bool
     }
 }
 
+/// Whether there are two types, and they are what is wanted.
 pub fn two_are(program: &Program, want: Wanted, second: Wanted, types: &[VType]) -> bool
     ensures { result ≡ all_met (want_of program.now want.entry ∷ want_of program.now second.entry ∷ []) types.now }
 {
@@ -168,6 +175,7 @@ pub fn two_are(program: &Program, want: Wanted, second: Wanted, types: &[VType])
     }
 }
 
+/// Whether there are three types, and they are what is wanted.
 pub fn three_are(
     program: &Program,
     want: Wanted,
@@ -175,7 +183,8 @@ pub fn three_are(
     third: Wanted,
     types: &[VType],
 ) -> bool
-    ensures { result ≡ all_met (want_of program.now want.entry ∷ want_of program.now second.entry ∷ want_of program.now third.entry ∷ []) types.now }
+    ensures { result ≡ all_met
+        (want_of program.now want.entry ∷ want_of program.now second.entry ∷ want_of program.now third.entry ∷ []) types.now }
 {
     match types {
         [] => false,
