@@ -10,3 +10,6 @@ mod policy;
 pub use building::{asks_nothing, build};
 pub use policy::{Branch, Clause, Policy, has_clauses};
 
+
+#[cfg(test)]
+mod tests;

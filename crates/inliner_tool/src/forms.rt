@@ -49,6 +49,7 @@ pub fn listing_read(alloc: Global, text: &[u8]) -> Result<Listing, InputFault>
 pub fn policy_read(alloc: Global, text: &[u8], listing: &Listing) -> Result<PolicyTree, InputFault>
     requires { IsFew listing.now }
     ensures read { Tells result ((policy_form listing.now).reads text.now) }
+    ensures few { IfOk result (λ tree. length tree.vars ≤ 16) }
 {
     match parse(alloc, text, listing) {
         Ok(tree) => Ok(tree),

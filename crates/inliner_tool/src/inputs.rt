@@ -82,6 +82,7 @@ fn policy_of<S: Store>(
     requires { IsFew listing.now }
     ensures form { ReadsForm (S.files store.old) (since (S.faults store.old) (S.faults store.new) (S.last store.new))
         name.now (policy_form listing.now) result }
+    ensures few { IfOk result (λ tree. length tree.vars ≤ 16) }
     ensures files { S.files store.new ≡ S.files store.old }
     ensures faults { S.faults store.old ≤ S.faults store.new }
 {
@@ -157,9 +158,7 @@ pub fn read_check<S: Store>(
 {
     let listing = listing_of(alloc, store, words.listing)?;
     let policy = policy_of(alloc, store, words.policy, &listing)?;
-    let Ok(vars) = u32::try_from(policy.vars.len()) else {
-        return Err(Stop::Memory);
-    };
+    let vars = policy.vars.len() as u32;
     let certificate = certificate_of(alloc, store, words.certificate, vars)?;
     let classes = classes_of(alloc, store, words.classes)?;
     Ok(CheckInputs {

@@ -1,0 +1,3 @@
+pub mod ReadFiles
+pub mod ReadClasses
+pub mod Reading

@@ -1,0 +1,37 @@
+-- Where the reading of the files of a command stops.
+use Rattle.std.proofs.Common.{◌≡◌, ℕ, ◌≤◌, List, length, Ok, Err, refl, inl, inr}
+use Rattle.mon_store.specs.Store.{Files}
+use Rattle.api_listing.specs.declared.types.Listing.{Listing}
+use Rattle.cert_format.specs.declared.certificate.Certificate.{Certificate}
+use Rattle.conspec_parse.specs.declared.types.PolicyTree.{PolicyTree}
+use Rattle.inliner_tool.specs.declared.files.Stop.{Stop}
+use Rattle.inliner_tool.specs.declared.inputs.ReadClasses.{ReadClasses as Classes}
+use Rattle.inliner_tool.specs.Forms.{IsRead, ReadsForm}
+use Rattle.inliner_tool.specs.Inputs.{ReadsCheck, ReadsClasses, ReadsShow, AreClasses}
+use Rattle.inliner_tool.specs.Kinds.{certificate_form, listing_form, policy_form}
+use Rattle.inliner_tool.specs.Words.{NamedCheck, NamedShow}
+use Rattle.inliner_tool.proofs.ReadFiles.{counted, stops_since}
+use Rattle.inliner_tool.proofs.ReadClasses.{among_since}
+
+module _ (files : Files) (named : NamedCheck) (first begun now : ℕ) (last : List ℕ) (le : first ≤ begun) (listing : Listing) (listed : IsRead files named.listing listing_form (Ok listing)) where
+  pub policy_stops : (stop : Stop) → ReadsForm files (counted begun now last) named.policy (policy_form listing) (Err stop) → ReadsCheck files (counted first now last) named (Err stop)
+  policy_stops stop form = inr (listing, listed, inl (stops_since files (policy_form listing) named.policy first begun now last stop le form))
+
+  pub certificate_stops : (policy : PolicyTree) → IsRead files named.policy (policy_form listing) (Ok policy) → (stop : Stop)
+      → ReadsForm files (counted begun now last) named.certificate (certificate_form (length policy.vars)) (Err stop) → ReadsCheck files (counted first now last) named (Err stop)
+  certificate_stops policy has stop form =
+      inr (listing, listed, inr (policy, has, inl (stops_since files (certificate_form (length policy.vars)) named.certificate first begun now last stop le form)))
+
+  pub classes_stop : (policy : PolicyTree) → IsRead files named.policy (policy_form listing) (Ok policy) → (certificate : Certificate) → IsRead files named.certificate (certificate_form (length policy.vars)) (Ok certificate) → (stop : Stop)
+      → ReadsClasses files (counted begun now last) named.classes (Err stop) → ReadsCheck files (counted first now last) named (Err stop)
+  classes_stop policy has certificate certified stop reads =
+      inr (listing, listed, inr (policy, has, inr (certificate, certified, inl (among_since files named.classes first begun now last stop le reads))))
+
+  pub all_read : (policy : PolicyTree) → IsRead files named.policy (policy_form listing) (Ok policy) → (certificate : Certificate) → IsRead files named.certificate (certificate_form (length policy.vars)) (Ok certificate)
+      → (classes : Classes) → AreClasses files named.classes classes.files classes.total
+      → ReadsCheck files (counted first now last) named (Ok (record { listing = listing; policy = policy; certificate = certificate; classes = classes }))
+  all_read policy has certificate certified classes read = (listing, listed, policy, has, certificate, certified, classes, read, refl)
+
+pub show_stops : (files : Files) (named : NamedShow) (first begun now : ℕ) (last : List ℕ) → first ≤ begun → (listing : Listing) → IsRead files named.listing listing_form (Ok listing) → (stop : Stop)
+    → ReadsClasses files (counted begun now last) named.classes (Err stop) → ReadsShow files (counted first now last) named (Err stop)
+show_stops files named first begun now last le listing listed stop reads = inr (listing, listed, inl (among_since files named.classes first begun now last stop le reads))
