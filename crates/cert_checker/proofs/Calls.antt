@@ -43,9 +43,9 @@ module _ (classes : List LinkedClass) (policy : Policy) (told : List Note) (meth
   client : client_fault classes policy told method here ≡ None → has_clauses policy listed ≡ false
   client none =
       let later : Option ℕ = first_broken (
-        (7, next_meet policy wanted.NoStop told here && handlers_meet policy wanted.NoStop told method here)
-        ∷ (8, next_meet policy wanted.Free told here && handlers_meet policy wanted.Free told method here)
-        ∷ []) in
+      (7, next_meet policy wanted.NoStop told here && handlers_meet policy wanted.NoStop told method here)
+      ∷ (8, next_meet policy wanted.Free told here && handlers_meet policy wanted.Free told method here)
+      ∷ []) in
       let kept = second_kept (not (is_variable classes here.ref)) (not (calls (shape_of here.insn) && has_clause policy here.ref)) 1 2 later none in
       let no : (calls (shape_of here.insn) && has_clause policy here.ref) ≡ false = not_true (calls (shape_of here.insn) && has_clause policy here.ref) kept in
       let clause : (calls (shape_of here.insn) && has_clause policy here.ref) ≡ has_clauses policy listed = rw (is_call, names) refl in
@@ -60,11 +60,11 @@ module _ (classes : List LinkedClass) (policy : Policy) (told : List Note) (meth
   taking : (site : Site) → taking_fault policy told site here ≡ None → has_clauses policy listed ≡ false
   taking site none =
       let later : Option ℕ = first_broken (
-        (4, not (leaves (shape_of here.insn)))
-        ∷ (6, not (writes_static (shape_of here.insn)))
-        ∷ (7, next_meet policy (cond (takes_for_denied policy site here) (wanted.NoOtherStop site 0) wanted.NoStop) told here)
-        ∷ (8, not (here.at == 0) && (takes_for_denied policy site here && next_meet policy (wanted.Stop site 0) told here))
-        ∷ []) in
+      (4, not (leaves (shape_of here.insn)))
+      ∷ (6, not (writes_static (shape_of here.insn)))
+      ∷ (7, next_meet policy (cond (takes_for_denied policy site here) (wanted.NoOtherStop site 0) wanted.NoStop) told here)
+      ∷ (8, not (here.at == 0) && (takes_for_denied policy site here && next_meet policy (wanted.Stop site 0) told here))
+      ∷ []) in
       let no : calls (shape_of here.insn) ≡ false = not_true (calls (shape_of here.insn)) (first_kept (not (calls (shape_of here.insn))) 2 later none) in
       let yes : calls (shape_of here.insn) ≡ true = calls_it in
       absurd cc
@@ -72,11 +72,11 @@ module _ (classes : List LinkedClass) (policy : Policy) (told : List Note) (meth
   stop : (site : Site) (place : ℕ) → stop_fault policy told site place here ≡ None → has_clauses policy listed ≡ false
   stop site place none =
       let later : Option ℕ = first_broken (
-        (4, not (enters (shape_of here.insn) || leaves (shape_of here.insn)))
-        ∷ (6, not (writes_static (shape_of here.insn)))
-        ∷ (7, is_on_way place (shape_of here.insn) here.ref)
-        ∷ (8, not (here.at == 0) && next_meet policy (wanted.Stop site (place + 1)) told here)
-        ∷ []) in
+      (4, not (enters (shape_of here.insn) || leaves (shape_of here.insn)))
+      ∷ (6, not (writes_static (shape_of here.insn)))
+      ∷ (7, is_on_way place (shape_of here.insn) here.ref)
+      ∷ (8, not (here.at == 0) && next_meet policy (wanted.Stop site (place + 1)) told here)
+      ∷ []) in
       let kept : (not (calls (shape_of here.insn)) || is_way_out here.ref) ≡ true = first_kept (not (calls (shape_of here.insn)) || is_way_out here.ref) 2 later none in
       let no : (not (calls (shape_of here.insn)) || is_way_out here.ref) ≡ false = rw (is_call, names) refl in
       absurd cc

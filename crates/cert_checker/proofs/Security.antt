@@ -146,15 +146,15 @@ module _ (laws : Laws) (program : Program) (policy : Policy) (certificate : Cert
   closed : IsClosed program set
   closed = record {
     main =
-      let m = is_there (λ (m : Method). 0 < length m.insns) (method_at program program.main_class program.main_method) sound.main in
-      laws.begin program certificate.typing accepted.typed program.main_class program.main_method m.0 m.1 m.2;
+        let m = is_there (λ (m : Method). 0 < length m.insns) (method_at program program.main_class program.main_method) sound.main in
+        laws.begin program certificate.typing accepted.typed program.main_class program.main_method m.0 m.1 m.2;
     next = λ class method at insn ref inside there to goes.
-      laws.next program certificate.typing accepted.typed class method at there.of insn there.there (insn_there there.of at insn ref there.is).insn_there inside to goes;
+        laws.next program certificate.typing accepted.typed class method at there.of insn there.there (insn_there there.of at insn ref there.is).insn_there inside to goes;
     caught = λ class method at of handler inside there has from to.
-      let f = found class method of there in
-      let w = all_contains (IsWithin (length of.insns)) of.handlers handler f.well.handlers has in
-      let i = insn_covered of at (omega (arith, to, w.to)) in
-      laws.caught program certificate.typing accepted.typed class method at of i.0 handler there i.1 inside has from to;
+        let f = found class method of there in
+        let w = all_contains (IsWithin (length of.insns)) of.handlers handler f.well.handlers has in
+        let i = insn_covered of at (omega (arith, to, w.to)) in
+        laws.caught program certificate.typing accepted.typed class method at of i.0 handler there i.1 inside has from to;
   }
 
   -- a method that is called at a place of the set has no clause

@@ -41,18 +41,18 @@ handlers_meet policy wanted told method here = all_meet policy wanted told (hand
 -- The object of State's class is pushed to take its lock: the note behind it says so, of a call with a clause.
 abbrev pub locking_fault : Policy → List Note → Here → Option ℕ
 locking_fault policy told here = first_broken (
-  (1, next_meet policy wanted.Taking told here)
-  ∷ (8, next_meet policy wanted.TakingForCall told here)
-  ∷ [])
+    (1, next_meet policy wanted.Taking told here)
+    ∷ (8, next_meet policy wanted.TakingForCall told here)
+    ∷ [])
 
 -- Any other instruction leaves the policy's variables alone and calls no method with a clause; what comes next is Free.
 abbrev pub client_fault : List LinkedClass → Policy → List Note → Method → Here → Option ℕ
 client_fault classes policy told method here = first_broken (
-  (1, not (is_variable classes here.ref))
-  ∷ (2, not (calls (shape_of here.insn) && has_clause policy here.ref))
-  ∷ (7, next_meet policy wanted.NoStop told here && handlers_meet policy wanted.NoStop told method here)
-  ∷ (8, next_meet policy wanted.Free told here && handlers_meet policy wanted.Free told method here)
-  ∷ [])
+    (1, not (is_variable classes here.ref))
+    ∷ (2, not (calls (shape_of here.insn) && has_clause policy here.ref))
+    ∷ (7, next_meet policy wanted.NoStop told here && handlers_meet policy wanted.NoStop told method here)
+    ∷ (8, next_meet policy wanted.Free told here && handlers_meet policy wanted.Free told method here)
+    ∷ [])
 
 abbrev pub free_fault : List LinkedClass → Policy → List Note → Method → Here → Option ℕ
 free_fault classes policy told method here =
@@ -66,12 +66,12 @@ takes_for_denied policy site here = enters (shape_of here.insn) && denies_site p
 
 abbrev pub taking_fault : Policy → List Note → Site → Here → Option ℕ
 taking_fault policy told site here = first_broken (
-  (2, not (calls (shape_of here.insn)))
-  ∷ (4, not (leaves (shape_of here.insn)))
-  ∷ (6, not (writes_static (shape_of here.insn)))
-  ∷ (7, next_meet policy (if takes_for_denied policy site here then wanted.NoOtherStop site 0 else wanted.NoStop) told here)
-  ∷ (8, not (here.at == 0) && (takes_for_denied policy site here && next_meet policy (wanted.Stop site 0) told here))
-  ∷ [])
+    (2, not (calls (shape_of here.insn)))
+    ∷ (4, not (leaves (shape_of here.insn)))
+    ∷ (6, not (writes_static (shape_of here.insn)))
+    ∷ (7, next_meet policy (if takes_for_denied policy site here then wanted.NoOtherStop site 0 else wanted.NoStop) told here)
+    ∷ (8, not (here.at == 0) && (takes_for_denied policy site here && next_meet policy (wanted.Stop site 0) told here))
+    ∷ [])
 
 -- ---- Stop: 77 is pushed, the program is stopped with it, and behind that null is thrown
 
@@ -85,12 +85,12 @@ is_on_way place shape ref =
 
 abbrev pub stop_fault : Policy → List Note → Site → ℕ → Here → Option ℕ
 stop_fault policy told site place here = first_broken (
-  (2, not (calls (shape_of here.insn)) || is_way_out here.ref)
-  ∷ (4, not (enters (shape_of here.insn) || leaves (shape_of here.insn)))
-  ∷ (6, not (writes_static (shape_of here.insn)))
-  ∷ (7, is_on_way place (shape_of here.insn) here.ref)
-  ∷ (8, not (here.at == 0) && next_meet policy (wanted.Stop site (place + 1)) told here)
-  ∷ [])
+    (2, not (calls (shape_of here.insn)) || is_way_out here.ref)
+    ∷ (4, not (enters (shape_of here.insn) || leaves (shape_of here.insn)))
+    ∷ (6, not (writes_static (shape_of here.insn)))
+    ∷ (7, is_on_way place (shape_of here.insn) here.ref)
+    ∷ (8, not (here.at == 0) && next_meet policy (wanted.Stop site (place + 1)) told here)
+    ∷ [])
 
 -- ---- any note
 

@@ -125,7 +125,13 @@ fn client_fault(
 }
 
 /// Whether the notes of the instructions that come next, and of the handlers, are as wanted.
-fn all_meet(policy: &Policy, wanted: Wanted, told: &[Note], method: &Method, here: &Here<'_>) -> bool
+fn all_meet(
+    policy: &Policy,
+    wanted: Wanted,
+    told: &[Note],
+    method: &Method,
+    here: &Here<'_>,
+) -> bool
     ensures { result ≡ (next_meet policy.now wanted told.now here.now && handlers_meet policy.now wanted told.now method.now here.now) }
 {
     next_meet(policy, wanted, told, here.at, here.insn)
@@ -168,13 +174,7 @@ fn no_stop_but(denied: bool, site: Site) -> Wanted
     }
 }
 
-fn stop_fault(
-    policy: &Policy,
-    told: &[Note],
-    site: Site,
-    place: u8,
-    here: &Here<'_>,
-) -> Option<u8>
+fn stop_fault(policy: &Policy, told: &[Note], site: Site, place: u8, here: &Here<'_>) -> Option<u8>
     ensures { result ≡ stop_fault policy.now told.now site place here.now }
 {
     let shape = shape_of(here.insn);

@@ -55,7 +55,13 @@ fn in_methods(
     let mut methods = class.methods.as_slice();
     while let [method, later @ ..] = methods {
         if !method.insns.is_empty() {
-            if let Some(found) = in_method(program, policy, first_of(frames), first_of(notes), method) {
+            if let Some(found) = in_method(
+                program,
+                policy,
+                first_of(frames),
+                first_of(notes),
+                method,
+            ) {
                 return Some((at, found));
             }
             frames = behind_first(frames);

@@ -21,36 +21,42 @@ fn loads_constant(shape: Shape) -> bool
     matches!(shape, Shape::Heap(Heap::Constant))
 }
 
+/// Whether the instruction calls a method.
 pub fn calls(shape: Shape) -> bool
     ensures { result ≡ calls shape }
 {
     matches!(shape, Shape::Heap(Heap::Call))
 }
 
+/// Whether it enters a monitor.
 pub fn enters(shape: Shape) -> bool
     ensures { result ≡ enters shape }
 {
     matches!(shape, Shape::Heap(Heap::Enter))
 }
 
+/// Whether it leaves a monitor.
 pub fn leaves(shape: Shape) -> bool
     ensures { result ≡ leaves shape }
 {
     matches!(shape, Shape::Heap(Heap::Exit))
 }
 
+/// Whether it writes a static field.
 pub fn writes_static(shape: Shape) -> bool
     ensures { result ≡ writes_static shape }
 {
     matches!(shape, Shape::Heap(Heap::WriteStatic))
 }
 
+/// Whether it pushes null.
 pub fn pushes_null(shape: Shape) -> bool
     ensures { result ≡ pushes_null shape }
 {
     matches!(shape, Shape::PushNull)
 }
 
+/// Whether it throws.
 pub fn throws(shape: Shape) -> bool
     ensures { result ≡ throws shape }
 {

@@ -2,5 +2,12 @@
 
 #[test]
 fn numbers(rt: HostRuntime) {
-    assert!(rt; crate::CheckFault::Shape { class: 0, method: 0 }.number() == 242);
+    assert!(rt;
+        crate::CheckFault::Shape {
+            class: 0,
+            method: 0
+        }
+        .number()
+            == 242
+    );
 }

@@ -37,10 +37,12 @@ pub fn next_meet(policy: &Policy, wanted: Wanted, told: &[Note], at: u32, insn: 
         Insn::Branch { to, .. } => note_meets(policy, wanted, told, *to as usize),
         Insn::GotoW { to } => note_meets(policy, wanted, told, *to as usize),
         Insn::Table { other, targets, .. } => {
-            note_meets(policy, wanted, told, *other as usize) && notes_meet(policy, wanted, told, targets.as_slice())
+            note_meets(policy, wanted, told, *other as usize)
+                && notes_meet(policy, wanted, told, targets.as_slice())
         }
         Insn::Lookup { other, targets, .. } => {
-            note_meets(policy, wanted, told, *other as usize) && notes_meet(policy, wanted, told, targets.as_slice())
+            note_meets(policy, wanted, told, *other as usize)
+                && notes_meet(policy, wanted, told, targets.as_slice())
         }
         _ => true,
     }
@@ -59,11 +61,19 @@ fn note_meets(policy: &Policy, wanted: Wanted, told: &[Note], at: usize) -> bool
 fn notes_meet(policy: &Policy, wanted: Wanted, told: &[Note], places: &[u32]) -> bool
     ensures { result ≡ all_meet policy.now wanted told.now places.now }
 {
-    places.iter().all(|at| note_meets(policy, wanted, told, *at as usize))
+    places
+        .iter()
+        .all(|at| note_meets(policy, wanted, told, *at as usize))
 }
 
 /// Whether the notes of the handlers that cover the instruction, up to the first that catches anything, are as wanted.
-pub fn handlers_meet(policy: &Policy, wanted: Wanted, told: &[Note], at: u32, handlers: &[Handler]) -> bool
+pub fn handlers_meet(
+    policy: &Policy,
+    wanted: Wanted,
+    told: &[Note],
+    at: u32,
+    handlers: &[Handler],
+) -> bool
     ensures { result ≡ all_meet policy.now wanted told.now (handlers_of at handlers.now) }
 {
     let mut left = handlers;
@@ -110,7 +120,10 @@ fn is_stop_at(site: Site, place: u8, note: &Note) -> bool
     ensures { result ≡ is_stop_at site place note.now }
 {
     match note {
-        Note::Stop { site: other, place: at } => same_site(*other, site) && *at == place,
+        Note::Stop {
+            site: other,
+            place: at,
+        } => same_site(*other, site) && *at == place,
         _ => false,
     }
 }

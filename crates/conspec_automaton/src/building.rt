@@ -117,12 +117,7 @@ fn add_branches(
     ensures { OnOk result (branches.new ≡ branches.old ++ guard_branches maxint guard.now) }
 {
     for atoms in guard.conjs.as_slice() {
-        branches.push(branch_of(
-            alloc,
-            maxint,
-            atoms.as_slice(),
-            guard.updates.as_slice(),
-        )?)?;
+        branches.push(branch_of(alloc, maxint, atoms.as_slice(), guard.updates.as_slice())?)?;
     }
     Ok(())
 }

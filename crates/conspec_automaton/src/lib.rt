@@ -10,6 +10,5 @@ mod policy;
 pub use building::{asks_nothing, build};
 pub use policy::{Branch, Clause, Policy, has_clauses};
 
-
 #[cfg(test)]
 mod tests;

@@ -44,11 +44,22 @@ fn a_sum_is_kept_in_range(rt: HostRuntime) -> Result<(), Fail> {
         return Err("one branch".into());
     };
     let atoms = [
-        Atom { base: Base::Var(0), rel: Rel::Le, value: 2 },
-        Atom { base: Base::Var(0), rel: Rel::Le, value: 999 },
+        Atom {
+            base: Base::Var(0),
+            rel: Rel::Le,
+            value: 2,
+        },
+        Atom {
+            base: Base::Var(0),
+            rel: Rel::Le,
+            value: 999,
+        },
     ];
     assert_eq!(&rt; branch.atoms.as_slice(), atoms.as_slice());
-    assert_eq!(&rt; branch.updates.as_slice(), [Update::Add { var: 0, by: 1 }].as_slice());
+    assert_eq!(&rt;
+        branch.updates.as_slice(),
+        [Update::Add { var: 0, by: 1 }].as_slice()
+    );
     Ok(())
 }
 
@@ -60,7 +71,11 @@ fn a_difference_is_kept_in_range(rt: HostRuntime) -> Result<(), Fail> {
     let [branch] = branches_of(&policy)? else {
         return Err("one branch".into());
     };
-    let atoms = [Atom { base: Base::Var(0), rel: Rel::Ge, value: 3 }];
+    let atoms = [Atom {
+        base: Base::Var(0),
+        rel: Rel::Ge,
+        value: 3,
+    }];
     assert_eq!(&rt; branch.atoms.as_slice(), atoms.as_slice());
     Ok(())
 }
@@ -93,7 +108,10 @@ fn denials_ask_nothing(rt: HostRuntime) -> Result<(), Fail> {
     let head = "MAXINT 1 SCOPE Session SECURITY STATE ";
     let table = [
         ("BEFORE void api.Net.send() PERFORM", true),
-        ("BEFORE void api.Net.send() PERFORM BEFORE int api.Net.read() PERFORM", true),
+        (
+            "BEFORE void api.Net.send() PERFORM BEFORE int api.Net.read() PERFORM",
+            true,
+        ),
         ("", true),
         ("AFTER void api.Net.send() PERFORM", false),
         ("BEFORE void api.Net.send() PERFORM ELSE -> { }", false),

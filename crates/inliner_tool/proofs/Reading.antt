@@ -30,7 +30,7 @@ module _ (files : Files) (named : NamedCheck) (first begun now : ℕ) (last : Li
   pub all_read : (policy : PolicyTree) → IsRead files named.policy (policy_form listing) (Ok policy) → (certificate : Certificate) → IsRead files named.certificate (certificate_form (length policy.vars)) (Ok certificate)
       → (classes : Classes) → AreClasses files named.classes classes.files classes.total
       → ReadsCheck files (counted first now last) named (Ok (record { listing = listing; policy = policy; certificate = certificate; classes = classes }))
-  all_read policy has certificate certified classes read = (listing, listed, policy, has, certificate, certified, classes, read, refl)
+  all_read policy has certificate certified classes read = (listing, listed, (policy, has, (certificate, certified, (classes, read, refl))))
 
 pub show_stops : (files : Files) (named : NamedShow) (first begun now : ℕ) (last : List ℕ) → first ≤ begun → (listing : Listing) → IsRead files named.listing listing_form (Ok listing) → (stop : Stop)
     → ReadsClasses files (counted begun now last) named.classes (Err stop) → ReadsShow files (counted first now last) named (Err stop)

@@ -53,8 +53,24 @@ pub fn is_built_certificate(certificate: &Certificate) -> bool
     ensures { result ≡ is_built_certificate certificate.now }
 {
     is_release(certificate.mode)
-        && certificate.typing.frames.as_slice().iter().all(|class| are_built_frames(class.as_slice()))
-        && certificate.notes.as_slice().iter().all(|class| are_built_notes(class.as_slice()))
+        && all_frames(certificate.typing.frames.as_slice())
+        && all_notes(certificate.notes.as_slice())
+}
+
+fn all_frames(classes: &[List<List<Option<FrameType>>>]) -> bool
+    ensures { result ≡ list_all (λ class. list_all (λ method. list_all is_built_frame method) class) classes.now }
+{
+    classes
+        .iter()
+        .all(|class| are_built_frames(class.as_slice()))
+}
+
+fn all_notes(classes: &[List<List<Note>>]) -> bool
+    ensures { result ≡ list_all (λ class. list_all (λ method. list_all is_built_note method) class) classes.now }
+{
+    classes
+        .iter()
+        .all(|class| are_built_notes(class.as_slice()))
 }
 
 fn is_release(mode: Mode) -> bool
@@ -148,7 +164,11 @@ fn is_built_class(methods: &[ListedMethod], class: &LinkedClass) -> bool
 {
     class.parent.as_slice() == b"java/lang/Object".as_slice()
         && is_built_file(&class.file)
-        && class.methods.as_slice().iter().all(|method| is_built_method(methods, method))
+        && class
+            .methods
+            .as_slice()
+            .iter()
+            .all(|method| is_built_method(methods, method))
 }
 
 fn is_built_file(file: &ClassFile) -> bool

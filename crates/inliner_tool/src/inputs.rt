@@ -131,11 +131,11 @@ fn classes_of<S: Store>(alloc: Global, store: &mut S, names: &[Bytes]) -> Result
     let mut rest = names;
     while let [name, later @ ..] = rest {
         let class = class_of(alloc, store, name)?;
-        let Some(sum) = total.checked_add(class.len) else {
+        if class.len > u64::MAX - total {
             return Err(Stop::Memory);
-        };
+        }
+        total += class.len;
         files.push(class.file)?;
-        total = sum;
         rest = later;
     }
     Ok(ReadClasses {

@@ -5,7 +5,19 @@ ghost use Rattle.std.specs.List.{AllByRecursion};
 ghost use Rattle.bytecode_model.specs.Sound.{IsSound};
 ghost use Rattle.class_codec.specs.Fits.{CanSpell};
 ghost use Rattle.inliner_tool.specs.Inputs.{AreSound};
-ghost use Rattle.inliner_tool.specs.Judging.{EndsWell, Is, IsChecked, ProgramIsChecked, check_answer, denied_answer, label_of, link_answer, number_of_class, program_answer, show_answer};
+ghost use Rattle.inliner_tool.specs.Judging.{
+  EndsWell,
+  Is,
+  IsChecked,
+  ProgramIsChecked,
+  check_answer,
+  denied_answer,
+  label_of,
+  link_answer,
+  number_of_class,
+  program_answer,
+  show_answer,
+};
 
 use crate::answer::Answer;
 use crate::built::is_built;
@@ -126,11 +138,13 @@ pub fn show_answer(alloc: Global, inputs: &ShowInputs) -> Answer
     }
     match show(alloc, &inputs.listing, inputs.classes.files.as_slice()) {
         Ok(text) => Answer::Shown(text),
-        Err(ShowFault::Code {
-            class,
-            method,
-            fault,
-        }) => Answer::Link(LinkFault::Code {
+        Err(
+            ShowFault::Code {
+                class,
+                method,
+                fault,
+            },
+        ) => Answer::Link(LinkFault::Code {
             class,
             method,
             fault,

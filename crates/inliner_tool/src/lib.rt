@@ -19,6 +19,5 @@ pub use answer::Answer;
 pub use fault::InputFault;
 pub use tool::{Status, run_tool};
 
-
 #[cfg(test)]
 mod tests;

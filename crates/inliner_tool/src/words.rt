@@ -2,7 +2,17 @@
 
 ghost use Rattle.std.specs.Prelude.{◌≡◌, ◌≢◌, ◌↔◌, ◌∷◌, [], ◌++◌, IfSome, IfNone, IsTrue};
 ghost use Rattle.std.specs.List.{AllByRecursion};
-ghost use Rattle.inliner_tool.specs.Words.{IsCheck, IsCommand, IsShow, NamedCheck, NamedCommand, NamedShow, check_named, named_by, show_named};
+ghost use Rattle.inliner_tool.specs.Words.{
+  IsCheck,
+  IsCommand,
+  IsShow,
+  NamedCheck,
+  NamedCommand,
+  NamedShow,
+  check_named,
+  named_by,
+  show_named,
+};
 
 use mon_base::Bytes;
 

@@ -41,7 +41,11 @@ fn too_few_words(rt: HostRuntime) -> Result<(), Fail> {
         (&[], Status::Usage, USAGE),
         (&["check"], Status::Usage, USAGE),
         (&["check", "POLICY"], Status::Usage, USAGE),
-        (&["check", "POLICY", "LISTING", "CERT", "a/E"], Status::Usage, USAGE),
+        (
+            &["check", "POLICY", "LISTING", "CERT", "a/E"],
+            Status::Usage,
+            USAGE,
+        ),
         (&["show"], Status::Usage, USAGE),
         (&["show", "LISTING"], Status::Usage, USAGE),
         (&["show", "LISTING", ""], Status::Usage, USAGE),
@@ -52,9 +56,45 @@ fn too_few_words(rt: HostRuntime) -> Result<(), Fail> {
 #[test]
 fn words_of_no_command(rt: HostRuntime) -> Result<(), Fail> {
     let table: [(&[&str], Status, &str); 3] = [
-        (&["checks", "POLICY", "LISTING", "CERT", "a/E", "E.class", "State.class"], Status::Usage, USAGE),
-        (&["check", "", "LISTING", "CERT", "a/E", "E.class", "State.class"], Status::Usage, USAGE),
-        (&["check", "POLICY", "LISTING", "CERT", "", "E.class", "State.class"], Status::Usage, USAGE),
+        (
+            &[
+                "checks",
+                "POLICY",
+                "LISTING",
+                "CERT",
+                "a/E",
+                "E.class",
+                "State.class",
+            ],
+            Status::Usage,
+            USAGE,
+        ),
+        (
+            &[
+                "check",
+                "",
+                "LISTING",
+                "CERT",
+                "a/E",
+                "E.class",
+                "State.class",
+            ],
+            Status::Usage,
+            USAGE,
+        ),
+        (
+            &[
+                "check",
+                "POLICY",
+                "LISTING",
+                "CERT",
+                "",
+                "E.class",
+                "State.class",
+            ],
+            Status::Usage,
+            USAGE,
+        ),
     ];
     each_says(&rt, rt.alloc(), &table)
 }
@@ -63,11 +103,59 @@ fn words_of_no_command(rt: HostRuntime) -> Result<(), Fail> {
 fn words_in_another_order(rt: HostRuntime) -> Result<(), Fail> {
     let table: [(&[&str], Status, &str); 4] = [
         // The listing is read first.
-        (&["check", "LISTING", "POLICY", "CERT", "a/E", "E.class", "State.class"], Status::Input, "input 161 POLICY 1\n"),
-        (&["check", "POLICY", "LISTING", "E.class", "a/E", "E.class", "State.class"], Status::Input, "input 199 E.class\n"),
-        (&["check", "POLICY", "LISTING", "CERT", "a/F", "E.class", "State.class"], Status::Input, "input 141 -\n"),
+        (
+            &[
+                "check",
+                "LISTING",
+                "POLICY",
+                "CERT",
+                "a/E",
+                "E.class",
+                "State.class",
+            ],
+            Status::Input,
+            "input 161 POLICY 1\n",
+        ),
+        (
+            &[
+                "check",
+                "POLICY",
+                "LISTING",
+                "E.class",
+                "a/E",
+                "E.class",
+                "State.class",
+            ],
+            Status::Input,
+            "input 199 E.class\n",
+        ),
+        (
+            &[
+                "check",
+                "POLICY",
+                "LISTING",
+                "CERT",
+                "a/F",
+                "E.class",
+                "State.class",
+            ],
+            Status::Input,
+            "input 141 -\n",
+        ),
         // The class that holds the policy's variables comes last.
-        (&["check", "POLICY", "LISTING", "CERT", "a/E", "State.class", "E.class"], Status::Input, "input 199 -\n"),
+        (
+            &[
+                "check",
+                "POLICY",
+                "LISTING",
+                "CERT",
+                "a/E",
+                "State.class",
+                "E.class",
+            ],
+            Status::Input,
+            "input 199 -\n",
+        ),
     ];
     each_says(&rt, rt.alloc(), &table)
 }
@@ -75,9 +163,30 @@ fn words_in_another_order(rt: HostRuntime) -> Result<(), Fail> {
 #[test]
 fn other_numbers_of_classes(rt: HostRuntime) -> Result<(), Fail> {
     let table: [(&[&str], Status, &str); 3] = [
-        (&["check", "POLICY", "LISTING", "CERT", "a/E", "E.class"], Status::Input, "input 199 -\n"),
-        (&["check", "POLICY", "LISTING", "CERT", "a/E", "State.class"], Status::Input, "input 141 -\n"),
-        (&["check", "POLICY", "LISTING", "CERT", "a/E", "E.class", "S.class", "State.class"], Status::Input, "input 199 -\n"),
+        (
+            &["check", "POLICY", "LISTING", "CERT", "a/E", "E.class"],
+            Status::Input,
+            "input 199 -\n",
+        ),
+        (
+            &["check", "POLICY", "LISTING", "CERT", "a/E", "State.class"],
+            Status::Input,
+            "input 141 -\n",
+        ),
+        (
+            &[
+                "check",
+                "POLICY",
+                "LISTING",
+                "CERT",
+                "a/E",
+                "E.class",
+                "S.class",
+                "State.class",
+            ],
+            Status::Input,
+            "input 199 -\n",
+        ),
     ];
     each_says(&rt, rt.alloc(), &table)
 }

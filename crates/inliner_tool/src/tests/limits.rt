@@ -10,7 +10,12 @@ use std::test::Fail;
 fn files_that_are_too_long(rt: HostRuntime) -> Result<(), Fail> {
     let alloc = rt.alloc();
     let table = [
-        (0usize, 1_048_576usize, "input 107 LISTING 1048577\n", Status::Input),
+        (
+            0usize,
+            1_048_576usize,
+            "input 107 LISTING 1048577\n",
+            Status::Input,
+        ),
         (1, 65_536, "input 107 POLICY 65537\n", Status::Input),
         (4, 1_048_576, "input 107 E.class 1048577\n", Status::Input),
     ];

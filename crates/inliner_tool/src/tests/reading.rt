@@ -77,7 +77,10 @@ fn the_first_of_two_bad_files_is_named(rt: HostRuntime) -> Result<(), Fail> {
         &[],
         &[],
     )?;
-    assert_eq!(rt; ended.printed.as_slice(), b"input 161 LISTING 2\n".as_slice());
+    assert_eq!(rt;
+        ended.printed.as_slice(),
+        b"input 161 LISTING 2\n".as_slice()
+    );
     assert_eq!(rt; ended.status, Status::Input);
     let bad_certificate: [Edit; 1] = [("CERT", 52, 1, b"")];
     let ended = run(

@@ -25,13 +25,41 @@ pub fn each_changed(
 #[test]
 fn class_files(rt: HostRuntime) -> Result<(), Fail> {
     let table: [(Edit, Status, &str); 7] = [
-        (("E.class", 0, 1, b"\xcb"), Status::Input, "input 101 E.class\n"),
-        (("E.class", 7, 1, b"\x32"), Status::Input, "input 102 E.class 50\n"),
-        (("E.class", 120, 1, b""), Status::Input, "input 103 E.class 119\n"),
-        (("E.class", 121, 0, b"\x00"), Status::Input, "input 104 E.class 121\n"),
-        (("E.class", 10, 1, b"\x02"), Status::Input, "input 105 E.class 10 2\n"),
-        (("E.class", 82, 2, b"\x00\x01"), Status::Input, "input 106 E.class 82\n"),
-        (("State.class", 0, 1, b"\xcb"), Status::Input, "input 101 State.class\n"),
+        (
+            ("E.class", 0, 1, b"\xcb"),
+            Status::Input,
+            "input 101 E.class\n",
+        ),
+        (
+            ("E.class", 7, 1, b"\x32"),
+            Status::Input,
+            "input 102 E.class 50\n",
+        ),
+        (
+            ("E.class", 120, 1, b""),
+            Status::Input,
+            "input 103 E.class 119\n",
+        ),
+        (
+            ("E.class", 121, 0, b"\x00"),
+            Status::Input,
+            "input 104 E.class 121\n",
+        ),
+        (
+            ("E.class", 10, 1, b"\x02"),
+            Status::Input,
+            "input 105 E.class 10 2\n",
+        ),
+        (
+            ("E.class", 82, 2, b"\x00\x01"),
+            Status::Input,
+            "input 106 E.class 82\n",
+        ),
+        (
+            ("State.class", 0, 1, b"\xcb"),
+            Status::Input,
+            "input 101 State.class\n",
+        ),
     ];
     each_changed(&rt, rt.alloc(), &QUIET, &table)
 }
@@ -39,12 +67,36 @@ fn class_files(rt: HostRuntime) -> Result<(), Fail> {
 #[test]
 fn listings_and_policies(rt: HostRuntime) -> Result<(), Fail> {
     let table: [(Edit, Status, &str); 6] = [
-        (("LISTING", 0, 63, b"method a/Q m ()V\n"), Status::Input, "input 163 LISTING 1\n"),
-        (("LISTING", 0, 0, b"class api/Net extends java/lang/Object\n"), Status::Input, "input 162 LISTING 2\n"),
-        (("LISTING", 0, 5, b"klass"), Status::Input, "input 161 LISTING 1\n"),
-        (("POLICY", 15, 7, b"Global"), Status::Input, "input 181 POLICY 15\n"),
-        (("POLICY", 7, 1, b"2000000000"), Status::Input, "input 184 POLICY 7\n"),
-        (("POLICY", 58, 4, b"sent"), Status::Input, "input 185 POLICY 50\n"),
+        (
+            ("LISTING", 0, 63, b"method a/Q m ()V\n"),
+            Status::Input,
+            "input 163 LISTING 1\n",
+        ),
+        (
+            ("LISTING", 0, 0, b"class api/Net extends java/lang/Object\n"),
+            Status::Input,
+            "input 162 LISTING 2\n",
+        ),
+        (
+            ("LISTING", 0, 5, b"klass"),
+            Status::Input,
+            "input 161 LISTING 1\n",
+        ),
+        (
+            ("POLICY", 15, 7, b"Global"),
+            Status::Input,
+            "input 181 POLICY 15\n",
+        ),
+        (
+            ("POLICY", 7, 1, b"2000000000"),
+            Status::Input,
+            "input 184 POLICY 7\n",
+        ),
+        (
+            ("POLICY", 58, 4, b"sent"),
+            Status::Input,
+            "input 185 POLICY 50\n",
+        ),
     ];
     each_changed(&rt, rt.alloc(), &QUIET, &table)
 }
@@ -56,11 +108,33 @@ fn certificates(rt: HostRuntime) -> Result<(), Fail> {
         (("CERT", 6, 1, b"\x00"), Status::Input, "input 199 CERT\n"),
         (("CERT", 52, 1, b""), Status::Input, "input 199 CERT\n"),
         // A name is told that no type uses.
-        (("CERT", 34, 19, b"\x00\x00\x00\x00"), Status::Input, "input 199 CERT\n"),
+        (
+            ("CERT", 34, 19, b"\x00\x00\x00\x00"),
+            Status::Input,
+            "input 199 CERT\n",
+        ),
         // The first local is a number.
-        (("CERT", 7, 46, b"\x00\x00\x00\x00\x00\x02\x00\x01\x00\x00\x00\x01\x01\x00\x01\x01\x00\x00\x00\x00\x00"), Status::Denied, "denied 202 a/E 0 0 1\n"),
+        (
+            (
+                "CERT",
+                7,
+                46,
+                b"\x00\x00\x00\x00\x00\x02\x00\x01\x00\x00\x00\x01\x01\x00\x01\x01\x00\x00\x00\x00\x00",
+            ),
+            Status::Denied,
+            "denied 202 a/E 0 0 1\n",
+        ),
         // The first instruction is not reached.
-        (("CERT", 7, 46, b"\x00\x00\x00\x00\x00\x02\x00\x01\x00\x00\x00\x01\x00\x00\x00\x00"), Status::Denied, "denied 202 a/E 0 0 1\n"),
+        (
+            (
+                "CERT",
+                7,
+                46,
+                b"\x00\x00\x00\x00\x00\x02\x00\x01\x00\x00\x00\x01\x00\x00\x00\x00",
+            ),
+            Status::Denied,
+            "denied 202 a/E 0 0 1\n",
+        ),
     ];
     each_changed(&rt, rt.alloc(), &QUIET, &table)
 }
@@ -69,16 +143,32 @@ fn certificates(rt: HostRuntime) -> Result<(), Fail> {
 fn shapes(rt: HostRuntime) -> Result<(), Fail> {
     let table: [(Edit, Status, &str); 3] = [
         // No class is told.
-        (("CERT", 7, 46, b"\x00\x00\x00\x00\x00\x00"), Status::Denied, "denied 242 a/E 0\n"),
+        (
+            ("CERT", 7, 46, b"\x00\x00\x00\x00\x00\x00"),
+            Status::Denied,
+            "denied 242 a/E 0\n",
+        ),
         // The second class is told to have a method.
-        (("CERT", 51, 2, b"\x00\x01\x00\x00\x00\x00"), Status::Denied, "denied 242 conspec/State 0\n"),
+        (
+            ("CERT", 51, 2, b"\x00\x01\x00\x00\x00\x00"),
+            Status::Denied,
+            "denied 242 conspec/State 0\n",
+        ),
         // A third class is told, and is not there.
-        (("CERT", 32, 2, b"\x00\x03"), Status::Input, "input 199 CERT\n"),
+        (
+            ("CERT", 32, 2, b"\x00\x03"),
+            Status::Input,
+            "input 199 CERT\n",
+        ),
     ];
     each_changed(&rt, rt.alloc(), &QUIET, &table)?;
     let table: [(Edit, Status, &str); 1] = [
         // One instruction less.
-        (("S.CERT", 36, 15, b"\x00\x00\x00\x01"), Status::Denied, "denied 242 a/S 0\n"),
+        (
+            ("S.CERT", 36, 15, b"\x00\x00\x00\x01"),
+            Status::Denied,
+            "denied 242 a/S 0\n",
+        ),
     ];
     each_changed(&rt, rt.alloc(), &SENDS, &table)
 }
@@ -89,9 +179,17 @@ fn programs_that_are_not_built(rt: HostRuntime) -> Result<(), Fail> {
         // `areturn` may end a code, and is not built.
         (("E.class", 114, 1, b"\xb0"), Status::Input, "input 199 -\n"),
         // The class that holds the policy's variables has another flag.
-        (("State.class", 75, 2, b"\x00\x31"), Status::Input, "input 199 -\n"),
+        (
+            ("State.class", 75, 2, b"\x00\x31"),
+            Status::Input,
+            "input 199 -\n",
+        ),
         // A policy with a branch.
-        (("POLICY", 72, 0, b" ELSE -> { }"), Status::Input, "input 199 -\n"),
+        (
+            ("POLICY", 72, 0, b" ELSE -> { }"),
+            Status::Input,
+            "input 199 -\n",
+        ),
     ];
     each_changed(&rt, rt.alloc(), &QUIET, &table)
 }
@@ -100,10 +198,26 @@ fn programs_that_are_not_built(rt: HostRuntime) -> Result<(), Fail> {
 fn programs_that_do_not_link(rt: HostRuntime) -> Result<(), Fail> {
     let table: [(Edit, Status, &str); 4] = [
         // The policy names a method that is not listed.
-        (("LISTING", 54, 4, b"sent"), Status::Input, "input 185 POLICY 50\n"),
-        (("W.class", 218, 1, b"\xfe"), Status::Input, "input 148 - a/S 0 121 3 254\n"),
-        (("W.class", 216, 2, b"\x00\x08"), Status::Input, "input 151 - a/S 0 0\n"),
-        (("W.class", 160, 4, b"exot"), Status::Input, "input 143 - a/S exot\n"),
+        (
+            ("LISTING", 54, 4, b"sent"),
+            Status::Input,
+            "input 185 POLICY 50\n",
+        ),
+        (
+            ("W.class", 218, 1, b"\xfe"),
+            Status::Input,
+            "input 148 - a/S 0 121 3 254\n",
+        ),
+        (
+            ("W.class", 216, 2, b"\x00\x08"),
+            Status::Input,
+            "input 151 - a/S 0 0\n",
+        ),
+        (
+            ("W.class", 160, 4, b"exot"),
+            Status::Input,
+            "input 143 - a/S exot\n",
+        ),
     ];
     each_changed(&rt, rt.alloc(), &WOVEN, &table)
 }

@@ -6,26 +6,29 @@ use Rattle.cert_checker.proofs.Security.{Laws, secure}
 use Rattle.cert_checker.proofs.checking.check.Goals as goal
 
 pub returns-in-Some-clause-ok : goal.returns-in-Some-clause-ok
-returns-in-Some-clause-ok c =
-    (λ e. absurd cc, λ accepted.
-    let none : shape_fault c.args.program.now c.args.certificate.now ≡ None =
-    none_differ 0 c.args.program.now.classes c.args.certificate.now.typing.frames c.args.certificate.now.notes accepted.frames accepted.notes in
-    let found : shape_fault c.args.program.now c.args.certificate.now ≡ Some (c.in-Some.class, c.in-Some.method) = sym c.shape_fault.ensures ∙ c.in-Some.is in
-    absurd cc)
+returns-in-Some-clause-ok c = (
+  λ e. absurd cc,
+  λ accepted.
+      let none : shape_fault c.args.program.now c.args.certificate.now ≡ None =
+      none_differ 0 c.args.program.now.classes c.args.certificate.now.typing.frames c.args.certificate.now.notes accepted.frames accepted.notes in
+      let found : shape_fault c.args.program.now c.args.certificate.now ≡ Some (c.in-Some.class, c.in-Some.method) = sym c.shape_fault.ensures ∙ c.in-Some.is in
+      absurd cc,
+)
 
 pub returns-in-Some-notes_fault-clause-ok : goal.returns-in-Some-notes_fault-clause-ok
-returns-in-Some-notes_fault-clause-ok c =
-    (λ e. absurd cc, λ accepted.
-    let none : notes_fault c.args.program.now c.args.policy.now c.args.certificate.now ≡ None =
-    wrong_none c.args.program.now c.args.policy.now c.args.certificate.now accepted.noted in
-    let found = sym c.notes_fault.ensures ∙ c.in-Some-notes_fault.is in
-    absurd cc)
+returns-in-Some-notes_fault-clause-ok c = (
+  λ e. absurd cc,
+  λ accepted.
+      let none : notes_fault c.args.program.now c.args.policy.now c.args.certificate.now ≡ None =
+      wrong_none c.args.program.now c.args.policy.now c.args.certificate.now accepted.noted in
+      let found = sym c.notes_fault.ensures ∙ c.in-Some-notes_fault.is in
+      absurd cc,
+)
 
 pub returns-clause-ok : goal.returns-clause-ok
 returns-clause-ok c =
     let shapes = same_classes 0 c.args.program.now.classes c.args.certificate.now.typing.frames c.args.certificate.now.notes (sym c.shape_fault.ensures ∙ c.in_default.is) in
-    let none : notes_fault c.args.program.now c.args.policy.now c.args.certificate.now ≡ None = sym c.notes_fault.ensures ∙ c.in_default-notes_fault.is in
-    (
+    let none : notes_fault c.args.program.now c.args.policy.now c.args.certificate.now ≡ None = sym c.notes_fault.ensures ∙ c.in_default-notes_fault.is in (
       λ e. record {
         frames = shapes.0;
         notes = shapes.1;

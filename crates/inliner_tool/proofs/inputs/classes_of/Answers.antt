@@ -26,3 +26,23 @@ returns-in_err-class-clause-read g c =
     let stop : Stop = c.in_err-class.field-0.0 in
     let form = subst (λ (fs : Files). ReadsForm fs (counted begun now last) name class_form (Err stop)) c.loop-rest.invariant.files c.in_err-class.ensures.form in
     rw (p.1, p.2) (class_stops files c.args.names.now c.loop-rest.files.items c.loop-rest.total name later (g.S.Store.faults c.args.store.now) begun now last stop c.loop-rest.invariant.faults had form)
+
+pub loop-rest-preserved : goal.loop-rest-preserved
+loop-rest-preserved g c =
+    let files : Files = g.S.Store.files c.args.store.now in
+    let left : List (List ℕ) = c.loop-rest.rest.now in
+    let name : List ℕ = c.name-item.result in
+    let later : List (List ℕ) = take (length left - 1) (drop 1 left) in
+    let apart : left ≡ name ∷ later = taken_apart left name (omega arith) c.name-item.is in
+    let class : ClassFile = c.in_ok-class.class.file in
+    let len : ℕ = c.in_ok-class.class.len in
+    let had : HaveRead files c.args.names.now c.loop-rest.files.items c.loop-rest.total (name ∷ later) =
+    subst (λ (l : List (List ℕ)). HaveRead files c.args.names.now c.loop-rest.files.items c.loop-rest.total l) apart c.loop-rest.invariant.read in
+    let one : IsRead files name class_form (Ok (record { file = class; len = len })) =
+    subst (λ (fs : Files). IsRead fs name class_form (Ok (record { file = class; len = len }))) c.loop-rest.invariant.files c.in_ok-class.ensures.form in
+    record {
+      read = rw c.in_ok-push.ensures.items (one_read files c.args.names.now c.loop-rest.files.items c.loop-rest.total name later class len had one);
+      fits = sound_pushed CanSpell c.loop-rest.files.items c.push.new.self.items class c.in_ok-push.ensures.items c.loop-rest.invariant.fits c.in_ok-class.ensures.fits;
+      files = c.class_of.ensures.files ∙ c.loop-rest.invariant.files;
+      faults = omega (arith, c.class_of.ensures.faults, c.loop-rest.invariant.faults);
+    }

@@ -35,7 +35,8 @@ returns-in_err-certificate-clause-read g c =
     let same = c.in_ok-policy.ensures.files ∙ c.in_ok-listing.ensures.files in
     let le : g.S.Store.faults c.args.store.now ≤ begun = omega (arith, c.in_ok-listing.ensures.faults, c.in_ok-policy.ensures.faults) in
     let has = subst (λ (fs : Files). IsRead fs named.policy (policy_form listing) (Ok policy)) c.in_ok-listing.ensures.files c.in_ok-policy.ensures.form in
-    let form = subst (λ (fs : Files). ReadsForm fs (counted begun now last) named.certificate (certificate_form (length policy.vars)) (Err stop)) same c.in_err-certificate.ensures.form in
+    let form = subst (λ (fs : Files). ReadsForm fs (counted begun now last) named.certificate (certificate_form (length policy.vars)) (Err stop)) same
+    (subst (λ (vars : ℕ). ReadsForm (g.S.Store.files c.policy_of.new.store) (counted begun now last) named.certificate (certificate_form vars) (Err stop)) c.len-vars.ensures c.in_err-certificate.ensures.form) in
     rw (p.1, p.2) (certificate_stops files named (g.S.Store.faults c.args.store.now) begun now last le listing c.in_ok-listing.ensures.form policy has stop form)
 
 pub returns-in_err-classes-clause-read : goal.returns-in_err-classes-clause-read
@@ -55,6 +56,7 @@ returns-in_err-classes-clause-read g c =
     let same = c.in_ok-certificate.ensures.files ∙ policy_files in
     let le : g.S.Store.faults c.args.store.now ≤ begun = omega (arith, c.in_ok-listing.ensures.faults, c.in_ok-policy.ensures.faults, c.in_ok-certificate.ensures.faults) in
     let has = subst (λ (fs : Files). IsRead fs named.policy (policy_form listing) (Ok policy)) listed_files c.in_ok-policy.ensures.form in
-    let certified = subst (λ (fs : Files). IsRead fs named.certificate (certificate_form (length policy.vars)) (Ok certificate)) policy_files c.in_ok-certificate.ensures.form in
+    let certified = subst (λ (fs : Files). IsRead fs named.certificate (certificate_form (length policy.vars)) (Ok certificate)) policy_files
+    (subst (λ (vars : ℕ). IsRead (g.S.Store.files c.policy_of.new.store) named.certificate (certificate_form vars) (Ok certificate)) c.len-vars.ensures c.in_ok-certificate.ensures.form) in
     let reads = subst (λ (fs : Files). ReadsClasses fs (counted begun now last) named.classes (Err stop)) same c.in_err-classes.ensures.read in
     rw (p.1, p.2) (classes_stop files named (g.S.Store.faults c.args.store.now) begun now last le listing c.in_ok-listing.ensures.form policy has certificate certified stop reads)
