@@ -1,3 +1,4 @@
 pub mod ReadFiles
 pub mod ReadClasses
 pub mod Reading
+pub mod NeverUsage

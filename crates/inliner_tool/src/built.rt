@@ -164,11 +164,13 @@ fn is_built_class(methods: &[ListedMethod], class: &LinkedClass) -> bool
 {
     class.parent.as_slice() == b"java/lang/Object".as_slice()
         && is_built_file(&class.file)
-        && class
-            .methods
-            .as_slice()
-            .iter()
-            .all(|method| is_built_method(methods, method))
+        && are_built_methods(methods, class.methods.as_slice())
+}
+
+fn are_built_methods(listed: &[ListedMethod], methods: &[Method]) -> bool
+    ensures { result ≡ list_all (is_built_method listed.now) methods.now }
+{
+    methods.iter().all(|method| is_built_method(listed, method))
 }
 
 fn is_built_file(file: &ClassFile) -> bool
