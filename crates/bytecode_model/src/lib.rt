@@ -32,10 +32,4 @@ pub use operand::{OperandFault, Use, use_of};
 pub use program::{Handler, LinkedClass, Method, Program, Side, Target};
 
 #[cfg(test)]
-mod making;
-#[cfg(test)]
-mod order_tests;
-#[cfg(test)]
-mod search_tests;
-#[cfg(test)]
 mod tests;
