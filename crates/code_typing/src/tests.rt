@@ -8,7 +8,6 @@ use class_codec::{ClassFile, Const};
 use insn_codec::Insn;
 use mon_base::{Bytes, List, NoMemory};
 use std::alloc::Global;
-use std::process::Abort;
 use std::test::Fail;
 
 /// A type, told in short.
@@ -280,113 +279,65 @@ fn quiet(alloc: Global) -> Result<Draft, NoMemory> {
 #[test]
 fn a_method_that_is_typed(rt: HostRuntime) -> Result<(), Fail> {
     let alloc = rt.alloc();
-    for at in 0..4u32 {
-        assert_eq!(rt; rule(alloc, quiet(alloc)?, at)?, None);
-    }
-    Ok(())
-}
-
-/// Two instructions of which the first, or none, is reached.
-fn unreached(alloc: Global, first: bool) -> Result<Draft, NoMemory> {
+    assert_eq!(rt; rule(alloc, quiet(alloc)?, 0)?, None);
+    assert_eq!(rt; rule(alloc, quiet(alloc)?, 1)?, None);
+    assert_eq!(rt; rule(alloc, quiet(alloc)?, 2)?, None);
+    assert_eq!(rt; rule(alloc, quiet(alloc)?, 3)?, None);
     let mut m = Draft::new(alloc, b"()V", 0, 0);
-    if first {
-        m.op(alloc, 0xB1, &[], &[])?;
-    } else {
-        m.unreached(Insn::Plain(0xB1))?;
-    }
-    m.unreached(Insn::Plain(0x60))?;
-    Ok(m)
-}
-
-#[test]
-fn instructions_that_are_not_reached(rt: HostRuntime) -> Result<(), Fail> {
-    let alloc = rt.alloc();
-    assert_eq!(rt; rule(alloc, unreached(alloc, false)?, 0)?, Some(1));
-    assert_eq!(rt; rule(alloc, unreached(alloc, true)?, 1)?, None);
-    Ok(())
-}
-
-/// A first frame with an operand, and room for one of the two that stand at the next.
-fn entry_and_depth(alloc: Global) -> Result<Draft, NoMemory> {
-    let mut m = Draft::new(alloc, b"()V", 1, 0);
-    m.op(alloc, 0x03, &[], &[Told::Int])?;
-    m.op(alloc, 0xB1, &[], &[Told::Int, Told::Int])?;
-    Ok(m)
-}
-
-/// `iadd` of one operand, which is null.
-fn depth_and_operand(alloc: Global) -> Result<Draft, NoMemory> {
-    let mut m = Draft::new(alloc, b"()V", 2, 0);
-    m.op(alloc, 0x00, &[], &[])?;
-    m.op(alloc, 0x60, &[], &[Told::Null])?;
-    Ok(m)
-}
-
-/// `istore_0` of null, without a local.
-fn operand_and_local(alloc: Global) -> Result<Draft, NoMemory> {
-    let mut m = Draft::new(alloc, b"()V", 1, 0);
-    m.op(alloc, 0x00, &[], &[])?;
-    m.op(alloc, 0x3B, &[], &[Told::Null])?;
-    Ok(m)
-}
-
-/// A constructor that returns before its object is made, with a local too many.
-fn local_and_made(alloc: Global) -> Result<Draft, NoMemory> {
-    let mut m = Draft::maker(alloc, 0, 1);
-    m.op(alloc, 0x00, &[Told::This], &[])?;
-    m.op(alloc, 0xB1, &[Told::Top, Told::This], &[])?;
-    Ok(m)
-}
-
-/// `new` where what it made before is still an operand, and the next instruction is not reached.
-fn made_and_successor(alloc: Global) -> Result<Draft, NoMemory> {
-    let mut m = Draft::new(alloc, b"()V", 2, 0);
-    let class = Target::ClassName(Bytes::from_slice(alloc, b"api/Net")?);
-    let insn = Insn::Pool {
-        op: 0xBB,
-        index: 14,
-    };
-    m.op(alloc, 0x00, &[], &[])?;
-    m.named(alloc, insn, class, &[], &[Told::Uninit(1)])?;
     m.unreached(Insn::Plain(0xB1))?;
-    Ok(m)
-}
-
-/// `nop` that a handler covers, of a method without operands; the next instruction is the handler, and reached or not.
-fn successor_and_handler(alloc: Global, reached: bool) -> Result<Draft, NoMemory> {
+    m.unreached(Insn::Plain(0x60))?;
+    assert_eq!(rt; rule(alloc, m, 0)?, Some(1));
     let mut m = Draft::new(alloc, b"()V", 0, 0);
-    m.op(alloc, 0x00, &[], &[])?;
-    if reached {
-        m.op(alloc, 0xB1, &[], &[])?;
-    } else {
-        m.unreached(Insn::Plain(0xB1))?;
-    }
-    m.handler(alloc, 0, 1, 1, b"")?;
-    Ok(m)
+    m.op(alloc, 0xB1, &[], &[])?;
+    m.unreached(Insn::Plain(0x60))?;
+    assert_eq!(rt; rule(alloc, m, 1)?, None);
+    Ok(())
 }
 
 #[test]
 fn the_first_of_two_rules(rt: HostRuntime) -> Result<(), Fail> {
     let alloc = rt.alloc();
-    assert_eq!(rt; rule(alloc, entry_and_depth(alloc)?, 0)?, Some(1));
-    assert_eq!(rt; rule(alloc, depth_and_operand(alloc)?, 1)?, Some(2));
-    assert_eq!(rt; rule(alloc, operand_and_local(alloc)?, 1)?, Some(3));
-    assert_eq!(rt; rule(alloc, local_and_made(alloc)?, 1)?, Some(4));
-    Ok(())
-}
-
-#[test]
-fn the_first_of_two_later_rules(rt: HostRuntime) -> Result<(), Fail> {
-    let alloc = rt.alloc();
-    assert_eq!(rt; rule(alloc, made_and_successor(alloc)?, 1)?, Some(5));
-    assert_eq!(rt;
-        rule(alloc, successor_and_handler(alloc, false)?, 0)?,
-        Some(6)
-    );
-    assert_eq!(rt;
-        rule(alloc, successor_and_handler(alloc, true)?, 0)?,
-        Some(7)
-    );
+    let mut m = Draft::new(alloc, b"()V", 1, 0);
+    m.op(alloc, 0x03, &[], &[Told::Int])?;
+    m.op(alloc, 0xB1, &[], &[Told::Int, Told::Int])?;
+    assert_eq!(rt; rule(alloc, m, 0)?, Some(1));
+    let mut m = Draft::new(alloc, b"()V", 2, 0);
+    m.op(alloc, 0x00, &[], &[])?;
+    m.op(alloc, 0x60, &[], &[Told::Null])?;
+    assert_eq!(rt; rule(alloc, m, 1)?, Some(2));
+    let mut m = Draft::new(alloc, b"()V", 1, 0);
+    m.op(alloc, 0x00, &[], &[])?;
+    m.op(alloc, 0x3B, &[], &[Told::Null])?;
+    assert_eq!(rt; rule(alloc, m, 1)?, Some(3));
+    let mut m = Draft::maker(alloc, 0, 1);
+    m.op(alloc, 0x00, &[Told::This], &[])?;
+    m.op(alloc, 0xB1, &[Told::Top, Told::This], &[])?;
+    assert_eq!(rt; rule(alloc, m, 1)?, Some(4));
+    let mut m = Draft::new(alloc, b"()V", 2, 0);
+    let class = Target::ClassName(Bytes::from_slice(alloc, b"api/Net")?);
+    m.op(alloc, 0x00, &[], &[])?;
+    m.named(
+        alloc,
+        Insn::Pool {
+            op: 0xBB,
+            index: 14,
+        },
+        class,
+        &[],
+        &[Told::Uninit(1)],
+    )?;
+    m.unreached(Insn::Plain(0xB1))?;
+    assert_eq!(rt; rule(alloc, m, 1)?, Some(5));
+    let mut m = Draft::new(alloc, b"()V", 0, 0);
+    m.op(alloc, 0x00, &[], &[])?;
+    m.unreached(Insn::Plain(0xB1))?;
+    m.handler(alloc, 0, 1, 1, b"")?;
+    assert_eq!(rt; rule(alloc, m, 0)?, Some(6));
+    let mut m = Draft::new(alloc, b"()V", 0, 0);
+    m.op(alloc, 0x00, &[], &[])?;
+    m.op(alloc, 0xB1, &[], &[])?;
+    m.handler(alloc, 0, 1, 1, b"")?;
+    assert_eq!(rt; rule(alloc, m, 0)?, Some(7));
     Ok(())
 }
 
@@ -410,19 +361,14 @@ fn joined(alloc: Global, at_join: Told, op: u8) -> Result<Draft, NoMemory> {
 #[test]
 fn paths_that_join(rt: HostRuntime) -> Result<(), Fail> {
     let alloc = rt.alloc();
-    let table = [
-        (Told::Top, 0x02u8, 1u32, None),
-        (Told::Top, 0x02, 3, None),
-        (Told::Top, 0x1A, 4, Some(4u8)),
-        (Told::Int, 0x1A, 1, None),
-        (Told::Int, 0x1A, 3, Some(6)),
-        (Told::Null, 0x02, 1, Some(6)),
-        (Told::Object, 0x02, 3, None),
-        (Told::Int, 0x2A, 4, Some(4)),
-    ];
-    for (at_join, op, at, wanted) in table {
-        assert_eq!(rt; rule(alloc, joined(alloc, at_join, op)?, at)?, wanted);
-    }
+    assert_eq!(rt; rule(alloc, joined(alloc, Told::Top, 0x02)?, 1)?, None);
+    assert_eq!(rt; rule(alloc, joined(alloc, Told::Top, 0x02)?, 3)?, None);
+    assert_eq!(rt; rule(alloc, joined(alloc, Told::Top, 0x1A)?, 4)?, Some(4));
+    assert_eq!(rt; rule(alloc, joined(alloc, Told::Int, 0x1A)?, 1)?, None);
+    assert_eq!(rt; rule(alloc, joined(alloc, Told::Int, 0x1A)?, 3)?, Some(6));
+    assert_eq!(rt; rule(alloc, joined(alloc, Told::Null, 0x02)?, 1)?, Some(6));
+    assert_eq!(rt; rule(alloc, joined(alloc, Told::Object, 0x02)?, 3)?, None);
+    assert_eq!(rt; rule(alloc, joined(alloc, Told::Int, 0x2A)?, 4)?, Some(4));
     Ok(())
 }
 
@@ -454,17 +400,19 @@ fn looping(alloc: Global, locals: &[Told], stack: &[Told]) -> Result<Draft, NoMe
 #[test]
 fn objects_in_a_loop(rt: HostRuntime) -> Result<(), Fail> {
     let alloc = rt.alloc();
-    let table: [(&'static [Told], &'static [Told], u32, Option<u8>); 6] = [
-        (&[Told::Top], &[Told::Uninit(1)], 1, None),
-        (&[Told::Top], &[Told::Uninit(1)], 2, None),
-        (&[Told::Top], &[Told::Uninit(1)], 3, None),
-        (&[Told::Uninit(1)], &[Told::Uninit(1)], 1, Some(6)),
-        (&[], &[Told::Net], 1, Some(6)),
-        (&[], &[Told::Uninit(2)], 1, Some(6)),
-    ];
-    for (locals, stack, at, wanted) in table {
-        assert_eq!(rt; rule(alloc, looping(alloc, locals, stack)?, at)?, wanted);
-    }
+    let made = [Told::Uninit(1)];
+    assert_eq!(rt; rule(alloc, looping(alloc, &[Told::Top], &made)?, 1)?, None);
+    assert_eq!(rt; rule(alloc, looping(alloc, &[Told::Top], &made)?, 2)?, None);
+    assert_eq!(rt; rule(alloc, looping(alloc, &[Told::Top], &made)?, 3)?, None);
+    assert_eq!(rt; rule(alloc, looping(alloc, &made, &made)?, 1)?, Some(6));
+    assert_eq!(rt;
+        rule(alloc, looping(alloc, &[], &[Told::Net])?, 1)?,
+        Some(6)
+    );
+    assert_eq!(rt;
+        rule(alloc, looping(alloc, &[], &[Told::Uninit(2)])?, 1)?,
+        Some(6)
+    );
     Ok(())
 }
 
@@ -485,20 +433,38 @@ fn making(alloc: Global, index: u16, receiver: Told, after: &[Told]) -> Result<D
 #[test]
 fn constructors(rt: HostRuntime) -> Result<(), Fail> {
     let alloc = rt.alloc();
-    let table = [
-        (8u16, Told::This, Told::Own, 0u32, None),
-        (8, Told::This, Told::Own, 1, None),
-        (8, Told::This, Told::Own, 2, None),
-        (19, Told::This, Told::Own, 1, None),
-        (20, Told::This, Told::Own, 1, Some(5u8)),
-        (8, Told::Own, Told::Own, 1, Some(5)),
-        (8, Told::This, Told::This, 1, Some(6)),
-        (8, Told::This, Told::This, 2, Some(5)),
-    ];
-    for (index, receiver, after, at, wanted) in table {
-        let draft = making(alloc, index, receiver, &[after])?;
-        assert_eq!(rt; rule(alloc, draft, at)?, wanted);
-    }
+    assert_eq!(rt;
+        rule(alloc, making(alloc, 8, Told::This, &[Told::Own])?, 0)?,
+        None
+    );
+    assert_eq!(rt;
+        rule(alloc, making(alloc, 8, Told::This, &[Told::Own])?, 1)?,
+        None
+    );
+    assert_eq!(rt;
+        rule(alloc, making(alloc, 8, Told::This, &[Told::Own])?, 2)?,
+        None
+    );
+    assert_eq!(rt;
+        rule(alloc, making(alloc, 19, Told::This, &[Told::Own])?, 1)?,
+        None
+    );
+    assert_eq!(rt;
+        rule(alloc, making(alloc, 20, Told::This, &[Told::Own])?, 1)?,
+        Some(5)
+    );
+    assert_eq!(rt;
+        rule(alloc, making(alloc, 8, Told::Own, &[Told::Own])?, 1)?,
+        Some(5)
+    );
+    assert_eq!(rt;
+        rule(alloc, making(alloc, 8, Told::This, &[Told::This])?, 1)?,
+        Some(6)
+    );
+    assert_eq!(rt;
+        rule(alloc, making(alloc, 8, Told::This, &[Told::This])?, 2)?,
+        Some(5)
+    );
     Ok(())
 }
 
@@ -518,43 +484,28 @@ fn unmade_field(alloc: Global, op: u8, class: u32, stack: &[Told]) -> Result<Opt
 }
 
 #[test]
-fn fields_of_objects_that_are_not_made(rt: HostRuntime) -> Result<(), Fail> {
-    let alloc = rt.alloc();
-    let table: [(u8, u32, &'static [Told], Option<u8>); 3] = [
-        (0xB5, 0, &[Told::This, Told::Int], None),
-        (0xB5, 1, &[Told::This, Told::Int], Some(3)),
-        (0xB4, 0, &[Told::This], Some(3)),
-    ];
-    for (op, class, stack, wanted) in table {
-        assert_eq!(rt; unmade_field(alloc, op, class, stack)?, wanted);
-    }
-    Ok(())
-}
-
-#[test]
 fn objects_that_are_not_made(rt: HostRuntime) -> Result<(), Fail> {
     let alloc = rt.alloc();
-    for (op, wanted) in [(0xC2u8, Some(3u8)), (0x4B, None)] {
-        let found = unmade(alloc, Insn::Plain(op), Target::None, &[Told::This])?;
-        assert_eq!(rt; found, wanted);
-    }
+    let both = [Told::This, Told::Int];
+    let this = [Told::This];
+    assert_eq!(rt; unmade_field(alloc, 0xB5, 0, &both)?, None);
+    assert_eq!(rt; unmade_field(alloc, 0xB5, 1, &both)?, Some(3));
+    assert_eq!(rt; unmade_field(alloc, 0xB4, 0, &this)?, Some(3));
+    let none = Target::None;
+    assert_eq!(rt; unmade(alloc, Insn::Plain(0xC2), none, &this)?, Some(3));
+    let none = Target::None;
+    assert_eq!(rt; unmade(alloc, Insn::Plain(0x4B), none, &this)?, None);
     let is_null = Insn::Branch { op: 0xC6, to: 2 };
-    assert_eq!(rt;
-        unmade(alloc, is_null, Target::None, &[Told::This])?,
-        Some(3)
-    );
-    Ok(())
-}
-
-#[test]
-fn an_object_that_is_not_made_is_not_passed(rt: HostRuntime) -> Result<(), Fail> {
+    assert_eq!(rt; unmade(alloc, is_null, Target::None, &this)?, Some(3));
     let send = Insn::Pool {
         op: 0xB8,
         index: 18,
     };
     let passed = [Told::Int, Told::This];
-    let found = unmade(rt.alloc(), send, Target::ApiMethod(0), &passed)?;
-    assert_eq!(rt; found, Some(3));
+    assert_eq!(rt;
+        unmade(alloc, send, Target::ApiMethod(0), &passed)?,
+        Some(3)
+    );
     Ok(())
 }
 
@@ -594,53 +545,29 @@ fn call(alloc: Global, op: u8, before: &[Told], after: Told) -> Result<Option<u8
 
 #[test]
 fn calls(rt: HostRuntime) -> Result<(), Fail> {
-    let table: [(u8, &'static [Told], Told, Option<u8>); 6] = [
-        (0xB8, &[Told::Int, Told::Null], Told::Int, None),
-        (0xB8, &[Told::Null, Told::Int], Told::Int, Some(3)),
-        (0xB8, &[Told::Int, Told::Text], Told::Null, Some(6)),
-        (0xB8, &[Told::Text], Told::Int, Some(2)),
-        (0xB6, &[Told::Net, Told::Int, Told::Text], Told::Int, None),
-        (
-            0xB6,
-            &[Told::Own, Told::Int, Told::Text],
-            Told::Int,
-            Some(3),
-        ),
-    ];
-    for (op, before, after, wanted) in table {
-        assert_eq!(rt; call(rt.alloc(), op, before, after)?, wanted);
-    }
-    Ok(())
-}
-
-/// A descriptor, an opcode, the operands before and behind it, and the rule that fails.
-type Row = (
-    &'static [u8],
-    u8,
-    &'static [Told],
-    &'static [Told],
-    Option<u8>,
-);
-
-fn each_plain(rt: &impl Abort, alloc: Global, table: &[Row]) -> Result<(), Fail> {
-    for (desc, op, before, after, wanted) in table {
-        assert_eq!(rt; plain(alloc, desc, *op, before, after)?, *wanted);
-    }
+    let alloc = rt.alloc();
+    let (int, null, text) = (Told::Int, Told::Null, Told::Text);
+    assert_eq!(rt; call(alloc, 0xB8, &[int, null], int)?, None);
+    assert_eq!(rt; call(alloc, 0xB8, &[null, int], int)?, Some(3));
+    assert_eq!(rt; call(alloc, 0xB8, &[int, text], null)?, Some(6));
+    assert_eq!(rt; call(alloc, 0xB8, &[text], int)?, Some(2));
+    assert_eq!(rt; call(alloc, 0xB6, &[Told::Net, int, text], int)?, None);
+    assert_eq!(rt; call(alloc, 0xB6, &[Told::Own, int, text], int)?, Some(3));
     Ok(())
 }
 
 #[test]
 fn returns(rt: HostRuntime) -> Result<(), Fail> {
-    let table: [Row; 7] = [
-        (b"()V", 0xB1, &[], &[], None),
-        (b"()I", 0xB1, &[], &[], Some(3)),
-        (b"()Z", 0xAC, &[Told::Int], &[], None),
-        (b"()V", 0xAC, &[Told::Int], &[], Some(3)),
-        (b"()I", 0xB0, &[Told::Null], &[], Some(3)),
-        (b"()La/T;", 0xB0, &[Told::Own], &[], None),
-        (b"()La/T;", 0xB0, &[Told::Net], &[], Some(3)),
-    ];
-    each_plain(&rt, rt.alloc(), &table)
+    let alloc = rt.alloc();
+    let (int, own) = ([Told::Int], [Told::Own]);
+    assert_eq!(rt; plain(alloc, b"()V", 0xB1, &[], &[])?, None);
+    assert_eq!(rt; plain(alloc, b"()I", 0xB1, &[], &[])?, Some(3));
+    assert_eq!(rt; plain(alloc, b"()Z", 0xAC, &int, &[])?, None);
+    assert_eq!(rt; plain(alloc, b"()V", 0xAC, &int, &[])?, Some(3));
+    assert_eq!(rt; plain(alloc, b"()I", 0xB0, &[Told::Null], &[])?, Some(3));
+    assert_eq!(rt; plain(alloc, b"()La/T;", 0xB0, &own, &[])?, None);
+    assert_eq!(rt; plain(alloc, b"()La/T;", 0xB0, &[Told::Net], &[])?, Some(3));
+    Ok(())
 }
 
 fn array_of(alloc: Global, name: &[u8], after: Told) -> Result<Option<u8>, Fail> {
@@ -651,89 +578,51 @@ fn array_of(alloc: Global, name: &[u8], after: Told) -> Result<Option<u8>, Fail>
 
 #[test]
 fn arrays_that_are_made(rt: HostRuntime) -> Result<(), Fail> {
-    let table: [(&[u8], Told, Option<u8>); 4] = [
-        (b"a/T", Told::Ref(b"[La/T;"), None),
-        (b"a/T", Told::Ref(b"[Ljava/lang/Object;"), None),
-        (b"a/T", Told::Ref(b"[Lapi/Net;"), Some(6)),
-        (b"[I", Told::Ref(b"[[I"), None),
-    ];
-    for (name, after, wanted) in table {
-        assert_eq!(rt; array_of(rt.alloc(), name, after)?, wanted);
-    }
-    Ok(())
-}
-
-/// An array of ints is made, and this stands behind it.
-fn ints(alloc: Global, after: Told) -> Result<Option<u8>, Fail> {
-    let insn = Insn::NewArray(10);
-    one(alloc, b"()V", insn, Target::None, &[Told::Int], &[after])
-}
-
-#[test]
-fn arrays_of_ints(rt: HostRuntime) -> Result<(), Fail> {
     let alloc = rt.alloc();
-    assert_eq!(rt; ints(alloc, Told::Ref(b"[I"))?, None);
-    assert_eq!(rt; ints(alloc, Told::Ref(b"[Ljava/lang/Object;"))?, Some(6));
+    let objects = Told::Ref(b"[Ljava/lang/Object;");
+    assert_eq!(rt; array_of(alloc, b"a/T", Told::Ref(b"[La/T;"))?, None);
+    assert_eq!(rt; array_of(alloc, b"a/T", objects)?, None);
+    assert_eq!(rt; array_of(alloc, b"a/T", Told::Ref(b"[Lapi/Net;"))?, Some(6));
+    assert_eq!(rt; array_of(alloc, b"[I", Told::Ref(b"[[I"))?, None);
+    let (none, size) = (Target::None, [Told::Int]);
+    let ints = [Told::Ref(b"[I")];
+    assert_eq!(rt;
+        one(alloc, b"()V", Insn::NewArray(10), none, &size, &ints)?,
+        None
+    );
+    let none = Target::None;
+    assert_eq!(rt;
+        one(alloc, b"()V", Insn::NewArray(10), none, &size, &[objects])?,
+        Some(6)
+    );
     Ok(())
 }
 
 #[test]
 fn arrays_that_are_read(rt: HostRuntime) -> Result<(), Fail> {
-    let table: [Row; 7] = [
-        (
-            b"()V",
-            0x32,
-            &[Told::Ref(b"[La/T;"), Told::Int],
-            &[Told::Own],
-            None,
-        ),
-        (b"()V", 0x32, &[Told::Null, Told::Int], &[Told::Null], None),
-        (
-            b"()V",
-            0x32,
-            &[Told::Ref(b"[I"), Told::Int],
-            &[Told::Own],
-            Some(3),
-        ),
-        (
-            b"()V",
-            0x33,
-            &[Told::Ref(b"[Z"), Told::Int],
-            &[Told::Int],
-            None,
-        ),
-        (
-            b"()V",
-            0x33,
-            &[Told::Ref(b"[I"), Told::Int],
-            &[Told::Int],
-            Some(3),
-        ),
-        (b"()V", 0xBE, &[Told::Ref(b"[I")], &[Told::Int], None),
-        (b"()V", 0xBE, &[Told::Own], &[Told::Int], Some(3)),
-    ];
-    each_plain(&rt, rt.alloc(), &table)
-}
-
-#[test]
-fn operands_that_are_moved(rt: HostRuntime) -> Result<(), Fail> {
-    let table: [Row; 2] = [
-        (
-            b"()V",
-            0x5A,
-            &[Told::Null, Told::Own],
-            &[Told::Own, Told::Null, Told::Own],
-            None,
-        ),
-        (
-            b"()V",
-            0x5B,
-            &[Told::Int, Told::Null, Told::Own],
-            &[Told::Own, Told::Int, Told::Null],
-            Some(2),
-        ),
-    ];
-    each_plain(&rt, rt.alloc(), &table)
+    let alloc = rt.alloc();
+    let (int, null, own) = (Told::Int, Told::Null, Told::Own);
+    let of_own = Told::Ref(b"[La/T;");
+    let ints = Told::Ref(b"[I");
+    assert_eq!(rt; plain(alloc, b"()V", 0x32, &[of_own, int], &[own])?, None);
+    assert_eq!(rt; plain(alloc, b"()V", 0x32, &[null, int], &[null])?, None);
+    assert_eq!(rt; plain(alloc, b"()V", 0x32, &[ints, int], &[own])?, Some(3));
+    assert_eq!(rt;
+        plain(alloc, b"()V", 0x33, &[Told::Ref(b"[Z"), int], &[int])?,
+        None
+    );
+    assert_eq!(rt; plain(alloc, b"()V", 0x33, &[ints, int], &[int])?, Some(3));
+    assert_eq!(rt; plain(alloc, b"()V", 0xBE, &[ints], &[int])?, None);
+    assert_eq!(rt; plain(alloc, b"()V", 0xBE, &[own], &[int])?, Some(3));
+    assert_eq!(rt;
+        plain(alloc, b"()V", 0x5A, &[null, own], &[own, null, own])?,
+        None
+    );
+    assert_eq!(rt;
+        plain(alloc, b"()V", 0x5B, &[int, null, own], &[own, int, null])?,
+        Some(2)
+    );
+    Ok(())
 }
 
 /// `nop` at 0 with this local, which a handler of the class covers; the handler at 2 finds these.
@@ -754,22 +643,18 @@ fn caught(
 
 #[test]
 fn handlers(rt: HostRuntime) -> Result<(), Fail> {
-    let table: [(&'static [u8], &'static [Told], &'static [Told], Option<u8>); 6] = [
-        (b"", &[], &[Told::Thrown], None),
-        (
-            b"java/lang/Exception",
-            &[Told::Top],
-            &[Told::Ref(b"java/lang/Exception")],
-            None,
-        ),
-        (b"java/lang/Exception", &[], &[Told::Thrown], Some(7)),
-        (b"api/Net", &[], &[Told::Net], Some(7)),
-        (b"", &[], &[], Some(7)),
-        (b"", &[Told::This], &[Told::Thrown], Some(7)),
-    ];
-    for (class, locals, stack, wanted) in table {
-        assert_eq!(rt; caught(rt.alloc(), class, locals, stack)?, wanted);
-    }
+    let alloc = rt.alloc();
+    let exception = b"java/lang/Exception";
+    let alone = [Told::Ref(b"java/lang/Exception")];
+    assert_eq!(rt; caught(alloc, b"", &[], &[Told::Thrown])?, None);
+    assert_eq!(rt; caught(alloc, exception, &[Told::Top], &alone)?, None);
+    assert_eq!(rt; caught(alloc, exception, &[], &[Told::Thrown])?, Some(7));
+    assert_eq!(rt; caught(alloc, b"api/Net", &[], &[Told::Net])?, Some(7));
+    assert_eq!(rt; caught(alloc, b"", &[], &[])?, Some(7));
+    assert_eq!(rt;
+        caught(alloc, b"", &[Told::This], &[Told::Thrown])?,
+        Some(7)
+    );
     Ok(())
 }
 
