@@ -4,3 +4,4 @@ mod Noted
 pub mod ExitRows
 mod Calls
 mod Security
+mod Denied

@@ -5,3 +5,4 @@ pub mod Notes
 pub mod Places
 pub mod Acceptance
 pub mod Secure
+pub mod Denied

@@ -6,6 +6,7 @@
 
 mod checking;
 mod fault;
+mod laws;
 mod note_rules;
 mod notes;
 mod operands;
@@ -14,6 +15,7 @@ mod wanted;
 
 pub use checking::{Accepted, check};
 pub use fault::CheckFault;
+pub use laws::denied_call_disobeys;
 pub use operands::is_way_out;
 pub use wanted::Wanted;
 

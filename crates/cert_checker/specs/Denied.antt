@@ -1,0 +1,16 @@
+-- A program that begins with a call that its policy refuses.
+use Rattle.std.specs.Prelude.{◌≡◌, ℕ, [], None}
+use Rattle.api_listing.specs.declared.events.Event.TheVariants as events
+use Rattle.bytecode_model.specs.declared.program.Program.{Program}
+use Rattle.conspec_automaton.specs.declared.policy.Policy.{Policy}
+use Rattle.conspec_automaton.specs.Next.{next, initial}
+use Rattle.guest_model.specs.First.{BeginsWithCall}
+use Rattle.cert_checker.specs.Secure.{Secure}
+
+-- The policy refuses that the method is called first, without arguments.
+abbrev pub IsRefusedFirst : Policy → ℕ → Type 0
+IsRefusedFirst policy listed = next policy (initial policy) (events.Call 0 listed []) ≡ None
+
+-- A program whose main begins with a call that is refused does not obey.
+abbrev pub DisobeysAtOnce : Type 0
+DisobeysAtOnce = (program : Program) (policy : Policy) (index listed : ℕ) → BeginsWithCall program index listed → IsRefusedFirst policy listed → Secure program policy → ⊥
