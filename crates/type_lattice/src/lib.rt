@@ -5,10 +5,12 @@
 mod assigning;
 mod classes;
 mod lending;
+mod merging;
 
 pub use assigning::{assignable, fits_class, lent_fits};
 pub use classes::{is_below, is_interface};
-pub use lending::{TypeRef, lend};
+pub use lending::{TypeRef, lend, own};
+pub use merging::merge;
 
 #[cfg(test)]
 mod tests;
