@@ -172,7 +172,9 @@ fn first_found(alloc: Global, program: &Program) -> Result<Found, Fail> {
         class,
         method,
     };
-    let count = method.insns.len() as u32;
+    let Ok(count) = u32::try_from(method.insns.len()) else {
+        return Err(Fail::from("the method is short"));
+    };
     let frames = solve(alloc, &body, count)?;
     if rows_met(&body, frames.as_slice(), count) {
         Ok(Found::Typed(frames))

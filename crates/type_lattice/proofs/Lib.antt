@@ -1,3 +1,5 @@
 pub mod Climbing
 pub mod Arrays
 pub mod Within
+mod Upwards
+mod Orders

@@ -3,3 +3,4 @@ pub mod Assigning
 pub mod Rising
 pub mod Lending
 pub mod Merging
+pub mod Laws

@@ -1,0 +1,10 @@
+//! What holds of types in order.
+
+ghost use Rattle.std.specs.Prelude.{◌≡◌};
+ghost use Rattle.type_lattice.specs.Laws.{IsReflexive, IsTransitive};
+
+/// Assignability is an order of the types of a program whose classes are in order.
+pub fn assignable_is_an_order()
+    ensures reflexive { IsReflexive }
+    ensures transitive { IsTransitive }
+{}
