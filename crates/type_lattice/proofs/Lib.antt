@@ -3,3 +3,4 @@ pub mod Arrays
 pub mod Within
 mod Upwards
 mod Orders
+mod Bounds

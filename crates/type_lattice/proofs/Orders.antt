@@ -32,31 +32,31 @@ itself program (types.Uninit i) = index_itself i
 -- ---- what a class fits
 
 -- how a class or an array fits a class: it is equal, Object, an interface, or below
-data Fit (program : Program) (from to : List ℕ) : Type 0 where
+pub data Fit (program : Program) (from to : List ℕ) : Type 0 where
   equal : from ≡ to → Fit program from to
   top : to ≡ object → Fit program from to
   interface : is_interface program to ≡ true → Fit program from to
   under : is_array from ≡ false → is_below program from to ≡ true → Fit program from to
 
 -- how an item fits another that is no array where it is one
-data Leaf (program : Program) (from to : List ℕ) : Type 0 where
+pub data Leaf (program : Program) (from to : List ℕ) : Type 0 where
   same : from ≡ to → Leaf program from to
   classes : (below above : List ℕ) → reference_of from ≡ Some below → named to ≡ Some above → class_fits program below above ≡ true → Leaf program from to
 
-false_of : (b : Bool) → not b ≡ true → b ≡ false
+pub false_of : (b : Bool) → not b ≡ true → b ≡ false
 false_of true e = absurd cc
 false_of false e = refl
 
 not_of : (b : Bool) → b ≡ false → not b ≡ true
 not_of b e = rw e refl
 
-same_of : (a b : List ℕ) → bytes_eq a b ≡ true → a ≡ b
+pub same_of : (a b : List ℕ) → bytes_eq a b ≡ true → a ≡ b
 same_of a b e = (bytes_eq-Decides a b).0 e
 
-of_same : (a b : List ℕ) → a ≡ b → bytes_eq a b ≡ true
+pub of_same : (a b : List ℕ) → a ≡ b → bytes_eq a b ≡ true
 of_same a b e = (bytes_eq-Decides a b).1 e
 
-seen : (program : Program) (from to : List ℕ) → class_fits program from to ≡ true → Fit program from to
+pub seen : (program : Program) (from to : List ℕ) → class_fits program from to ≡ true → Fit program from to
 seen program from to e =
     elim (either_of (bytes_eq from to) _ e) [
       | inl is ↦ equal (same_of from to is)
@@ -71,7 +71,7 @@ seen program from to e =
           ]
     ]
 
-fits : (program : Program) (from to : List ℕ) → Fit program from to → class_fits program from to ≡ true
+pub fits : (program : Program) (from to : List ℕ) → Fit program from to → class_fits program from to ≡ true
 fits program from to (equal e) = or_first _ _ (of_same from to e)
 fits program from to (top e) = or_second _ _ (or_first _ _ (of_same to object e))
 fits program from to (interface e) = or_second _ _ (or_second _ _ (or_first _ _ e))
@@ -83,7 +83,7 @@ none_interface : (program : Program) (name : List ℕ) → class_named (classes_
 none_interface program name e = rw e refl
 
 module _ (program : Program) (order : IsInOrder program) where
-  class_over : (a b c : List ℕ) → Fit program a b → Fit program b c → Fit program a c
+  pub class_over : (a b c : List ℕ) → Fit program a b → Fit program b c → Fit program a c
   class_over a b c (equal e) g = subst (λ (x : List ℕ). Fit program x c) (sym e) g
   class_over a b c f (equal e) = subst (λ (x : List ℕ). Fit program a x) e f
   class_over a b c f (top e) = top e
@@ -96,7 +96,7 @@ module _ (program : Program) (order : IsInOrder program) where
       ]
   class_over a b c (under e f) (under g h) = under e (up_and_up (classes_of program) (length (classes_of program)) order.ends a b c f h)
 
-  over : (a b c : List ℕ) → class_fits program a b ≡ true → class_fits program b c ≡ true → class_fits program a c ≡ true
+  pub over : (a b c : List ℕ) → class_fits program a b ≡ true → class_fits program b c ≡ true → class_fits program a c ≡ true
   over a b c e f = fits program a c (class_over a b c (seen program a b e) (seen program b c f))
 
   -- an array has no class that is an interface, or that another is below
@@ -121,13 +121,13 @@ module _ (program : Program) (order : IsInOrder program) where
         | inr h ↦ leaf_at from to (named to) (reference_of from) refl refl h
       ]
 
-  leaf_is : (from to : List ℕ) → Leaf program from to → leaf_fits program from to ≡ true
+  pub leaf_is : (from to : List ℕ) → Leaf program from to → leaf_fits program from to ≡ true
   leaf_is from to (same e) = or_first _ _ (of_same from to e)
   leaf_is from to (classes below above e f h) =
       let named_one : option_map_or (λ (a : List ℕ). option_map_or (λ (b : List ℕ). class_fits program b a) (reference_of from) false) (named to) false ≡ true = rw (f, e) h in
       or_second _ _ named_one
 
-  at_leaf : (a b : List ℕ) → (is_array a && is_array b) ≡ false → component_fits program a b ≡ leaf_fits program a b
+  pub at_leaf : (a b : List ℕ) → (is_array a && is_array b) ≡ false → component_fits program a b ≡ leaf_fits program a b
   at_leaf [] b e = refl
   at_leaf (x ∷ a) [] e = refl
   at_leaf (x ∷ a) (y ∷ b) e = rw e refl
@@ -137,19 +137,19 @@ module _ (program : Program) (order : IsInOrder program) where
   chose true v x e = refl
   chose false v x e = absurd cc
 
-  named_apart : (b x : List ℕ) → named b ≡ Some x → is_array b ≡ false
+  pub named_apart : (b x : List ℕ) → named b ≡ Some x → is_array b ≡ false
   named_apart [] x e = refl
   named_apart (c ∷ rest) x e =
       let letter : c ≡ 76 = eqb-true c 76 (both_of (c == 76) _ (chose _ _ x e)).0 in
       rw letter refl
 
-  named_told : (b x : List ℕ) → named b ≡ Some x → reference_of b ≡ Some x
+  pub named_told : (b x : List ℕ) → named b ≡ Some x → reference_of b ≡ Some x
   named_told b x e = rw (named_apart b x e) e
 
-  array_told : (a : List ℕ) → is_array a ≡ true → reference_of a ≡ Some a
+  pub array_told : (a : List ℕ) → is_array a ≡ true → reference_of a ≡ Some a
   array_told a e = rw e refl
 
-  never_both : (a b : Bool) → b ≡ false → (a && b) ≡ false
+  pub never_both : (a b : Bool) → b ≡ false → (a && b) ≡ false
   never_both true b e = e
   never_both false b e = refl
 
@@ -173,7 +173,7 @@ module _ (program : Program) (order : IsInOrder program) where
   through_leaf a b c apart e f = first_leaf a b c e f (leaf_seen a b (sym (at_leaf a b apart) ∙ e))
 
   -- through an array, to one that is none
-  plain_name : (c above : List ℕ) → is_array c ≡ false → is_plain c ≡ true → named c ≡ Some above → is_array above ≡ false
+  pub plain_name : (c above : List ℕ) → is_array c ≡ false → is_plain c ≡ true → named c ≡ Some above → is_array above ≡ false
   plain_name [] above e f g = absurd cc
   plain_name (x ∷ c) above e f g =
       let plain : option_map_or (λ (name : List ℕ). not (is_array name)) (named (x ∷ c)) true ≡ true = rw e at f in

@@ -39,5 +39,5 @@ IsTransitive =
 -- Both are assignable to the merge.
 abbrev pub IsMergeAbove : Type 0
 IsMergeAbove =
-    (program : Program) (t u : VType) → IsPlain t → IsPlain u
+    (program : Program) → IsInOrder program → (t u : VType) → IsPlain t → IsPlain u
     → (assignable program t (merged program t u) ≡ true) × (assignable program u (merged program t u) ≡ true)
