@@ -21,7 +21,7 @@ use Rattle.type_lattice.proofs.Orders.{Fit, equal, top, interface, under, Leaf, 
 
 -- ---- choices
 
-pick : (P : List ℕ → Type 0) (b : Bool) (x y : List ℕ) → (b ≡ true → P x) → (b ≡ false → P y) → P (cond b x y)
+pub pick : (P : List ℕ → Type 0) (b : Bool) (x y : List ℕ) → (b ≡ true → P x) → (b ≡ false → P y) → P (cond b x y)
 pick P true x y h g = h refl
 pick P false x y h g = g refl
 
@@ -33,7 +33,7 @@ and_itself : (b : Bool) → (b && b) ≡ false → b ≡ false
 and_itself true e = e
 and_itself false e = refl
 
-found_one : (test : ListedClass → Bool) (xs : List ListedClass) (c : ListedClass) → find test xs ≡ Some c → (test c ≡ true) × (one_named c.name xs ≡ true)
+pub found_one : (test : ListedClass → Bool) (xs : List ListedClass) (c : ListedClass) → find test xs ≡ Some c → (test c ≡ true) × (one_named c.name xs ≡ true)
 found_one test [] c e = absurd cc
 found_one test (x ∷ xs) c e =
     elim (cases_Bool (test x)) [
@@ -57,7 +57,7 @@ module _ (program : Program) (order : IsInOrder program) where
   unfolding Above
   object_above a b = (fits program a object (top refl), fits program b object (top refl), refl)
 
-  is_apart : (b : Bool) → (b ≡ true → ⊥) → b ≡ false
+  pub is_apart : (b : Bool) → (b ≡ true → ⊥) → b ≡ false
   is_apart true h = absurd (h refl)
   is_apart false h = refl
 
@@ -85,6 +85,10 @@ module _ (program : Program) (order : IsInOrder program) where
       (λ no. pick (Above a b) (is_interface program a || is_interface program b) object _ (λ is. object_above a b)
       (λ none. let both = neither_of _ _ no in found_above a b both.0 both.1 _ refl)))
 
+  pub leaf_apart : (a b : List ℕ) → (is_array a && is_array b) ≡ false → is_array (leaf_merged program a b) ≡ false
+  unfolding Above
+  leaf_apart a b apart = (leaf_above a b apart).2
+
   -- ---- items
 
   item_under : (a x m : List ℕ) → reference_of a ≡ Some x → is_array m ≡ false → class_fits program x m ≡ true → component_fits program a (described m) ≡ true
@@ -99,7 +103,7 @@ module _ (program : Program) (order : IsInOrder program) where
   some_one x y e = cc
 
   -- what an item refers to is an array where the item is one
-  same_array : (a x : List ℕ) → is_plain a ≡ true → reference_of a ≡ Some x → is_array x ≡ is_array a
+  pub same_array : (a x : List ℕ) → is_plain a ≡ true → reference_of a ≡ Some x → is_array x ≡ is_array a
   same_array a x p e =
       elim (cases_Bool (is_array a)) [
         | inl is ↦

@@ -4,3 +4,4 @@ pub mod Within
 mod Upwards
 mod Orders
 mod Bounds
+mod Least

@@ -100,7 +100,7 @@ module _ (program : Program) (order : IsInOrder program) where
   over a b c e f = fits program a c (class_over a b c (seen program a b e) (seen program b c f))
 
   -- an array has no class that is an interface, or that another is below
-  array_equal : (a b : List ℕ) → is_array b ≡ true → Fit program a b → a ≡ b
+  pub array_equal : (a b : List ℕ) → is_array b ≡ true → Fit program a b → a ≡ b
   array_equal a b is (equal f) = f
   array_equal a b is (top f) = let h : is_array object ≡ true = subst (λ (x : List ℕ). is_array x ≡ true) f is in absurd (false≢true h)
   array_equal a b is (interface f) = absurd (false≢true (sym (none_interface program b (order.no_arrays b is)) ∙ f))
@@ -114,7 +114,7 @@ module _ (program : Program) (order : IsInOrder program) where
   leaf_at from to (Some above) None e f h = absurd cc
   leaf_at from to (Some above) (Some below) e f h = classes below above f e h
 
-  leaf_seen : (from to : List ℕ) → leaf_fits program from to ≡ true → Leaf program from to
+  pub leaf_seen : (from to : List ℕ) → leaf_fits program from to ≡ true → Leaf program from to
   leaf_seen from to e =
       elim (either_of (bytes_eq from to) _ e) [
         | inl is ↦ same (same_of from to is)
@@ -179,13 +179,13 @@ module _ (program : Program) (order : IsInOrder program) where
       let plain : option_map_or (λ (name : List ℕ). not (is_array name)) (named (x ∷ c)) true ≡ true = rw e at f in
       false_of _ (subst (λ (o : Option (List ℕ)). option_map_or (λ (name : List ℕ). not (is_array name)) o true ≡ true) g plain)
 
-  from_array : (b above : List ℕ) → is_array b ≡ true → is_array above ≡ false → Fit program b above → (above ≡ object) ⊎ (is_interface program above ≡ true)
+  pub from_array : (b above : List ℕ) → is_array b ≡ true → is_array above ≡ false → Fit program b above → (above ≡ object) ⊎ (is_interface program above ≡ true)
   from_array b above is apart (equal e) = absurd (false≢true (sym apart ∙ subst (λ (x : List ℕ). is_array x ≡ true) e is))
   from_array b above is apart (top e) = inl e
   from_array b above is apart (interface e) = inr e
   from_array b above is apart (under e f) = absurd (false≢true (sym e ∙ is))
 
-  to_any : (a above : List ℕ) → (above ≡ object) ⊎ (is_interface program above ≡ true) → class_fits program a above ≡ true
+  pub to_any : (a above : List ℕ) → (above ≡ object) ⊎ (is_interface program above ≡ true) → class_fits program a above ≡ true
   to_any a above (inl e) = fits program a above (top e)
   to_any a above (inr e) = fits program a above (interface e)
 
@@ -225,12 +225,12 @@ module _ (program : Program) (order : IsInOrder program) where
 
   -- ---- classes and arrays
 
-  array_first : (a b : List ℕ) → array_fits program a b ≡ true → is_array a ≡ true
+  pub array_first : (a b : List ℕ) → array_fits program a b ≡ true → is_array a ≡ true
   array_first [] b e = absurd cc
   array_first (x ∷ a) [] e = absurd cc
   array_first (x ∷ a) (y ∷ b) e = (both_of (x == 91) _ e).0
 
-  array_second : (a b : List ℕ) → array_fits program a b ≡ true → is_array b ≡ true
+  pub array_second : (a b : List ℕ) → array_fits program a b ≡ true → is_array b ≡ true
   array_second [] b e = absurd cc
   array_second (x ∷ a) [] e = absurd cc
   array_second (x ∷ a) (y ∷ b) e = (both_of (y == 91) _ (both_of (x == 91) _ e).1).0

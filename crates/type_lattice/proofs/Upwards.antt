@@ -3,7 +3,7 @@ use Rattle.std.proofs.Common.{◌≡◌, ℕ, zero, suc, ◌+◌, ◌-◌, ◌<�
 use Rattle.std.specs.Prelude.{bytes_eq, find, not, ◌||◌, ◌&&◌}
 use Rattle.std.specs.List.{list_any}
 use Rattle.std.specs.Option.{option_map_or}
-use Rattle.std.proofs.lemmas.Bool.{cases_Bool}
+use Rattle.std.proofs.lemmas.Bool.{cases_Bool, false≢true}
 use Rattle.std.proofs.lemmas.Slice.Eq.{bytes_eq-Decides}
 use Rattle.api_listing.specs.declared.types.ListedClass.{ListedClass}
 use Rattle.api_listing.specs.Nearest.{class_named, upwards}
@@ -122,3 +122,48 @@ module _ (classes : List ListedClass) where
   pub none_up : (n : ℕ) (class above : List ℕ) → class_named classes above ≡ None → is_up n class above ≡ true → ⊥
   none_up zero class above none e = absurd cc
   none_up (suc n) class above none e = none_from n class above (class_named classes class) refl none (λ c later. none_up n c.parent above none later) e
+
+  -- the first on the way up that passes a test, below another that passes it
+  first_passes : (n : ℕ) (test : List ℕ → Bool) (class above : List ℕ) (c : ListedClass) (found : Option ListedClass) → class_named classes class ≡ found
+      → ((k : ListedClass) → find (λ (x : ListedClass). test x.name) (upwards n classes k.parent) ≡ Some c → is_up n k.parent above ≡ true → is_up n c.name above ≡ true)
+      → find (λ (x : ListedClass). test x.name) (up_from found n) ≡ Some c → test above ≡ true → one_named above (up_from found n) ≡ true → is_up (suc n) c.name above ≡ true
+  first_passes n test class above c None same more e f g = absurd cc
+  first_passes n test class above c (Some k) same more e f g =
+      elim (cases_Bool (test k.name)) [
+        | inl is ↦
+            let h : ◌≡◌ {A = Option ListedClass} (Some k) (Some c) = rw is at e in
+            let one : k ≡ c = cc in
+            let here : class ≡ c.name = sym (named_so classes class k same) ∙ ap (λ (x : ListedClass). x.name) one in
+            let up : is_up (suc n) class above ≡ true = subst (λ (o : Option ListedClass). one_named above (up_from o n) ≡ true) (sym same) g in
+            subst (λ (x : List ℕ). is_up (suc n) x above ≡ true) here up
+        | inr fails ↦
+            let h : find (λ (x : ListedClass). test x.name) (upwards n classes k.parent) ≡ Some c = rw fails at e in
+            elim (either_of (bytes_eq k.name above) (is_up n k.parent above) g) [
+              | inl is ↦
+                  let here : k.name ≡ above = (bytes_eq-Decides k.name above).0 is in
+                  absurd (false≢true (sym fails ∙ ap test here ∙ f))
+              | inr later ↦ further n c.name above (more k h later)
+            ]
+      ]
+
+  pub first_under : (n : ℕ) (test : List ℕ → Bool) (class above : List ℕ) (c : ListedClass) → find (λ (x : ListedClass). test x.name) (upwards n classes class) ≡ Some c
+      → test above ≡ true → is_up n class above ≡ true → is_up n c.name above ≡ true
+  first_under zero test class above c e f g = absurd cc
+  first_under (suc n) test class above c e f g =
+      first_passes n test class above c (class_named classes class) refl (λ k h later. first_under n test k.parent above c h f later) e f g
+
+  -- where one passes the test, there is a first
+  pub one_first : (test : List ℕ → Bool) (xs : List ListedClass) (above : List ℕ) → find (λ (x : ListedClass). test x.name) xs ≡ None → test above ≡ true → one_named above xs ≡ true → ⊥
+  one_first test [] above e f g = absurd cc
+  one_first test (x ∷ xs) above e f g =
+      elim (cases_Bool (test x.name)) [
+        | inl is ↦ let h : ◌≡◌ {A = Option ListedClass} (Some x) None = rw is at e in absurd cc
+        | inr fails ↦
+            let h : find (λ (k : ListedClass). test k.name) xs ≡ None = rw fails at e in
+            elim (either_of (bytes_eq x.name above) (one_named above xs) g) [
+              | inl is ↦
+                  let here : x.name ≡ above = (bytes_eq-Decides x.name above).0 is in
+                  false≢true (sym fails ∙ ap test here ∙ f)
+              | inr later ↦ one_first test xs above h f later
+            ]
+      ]

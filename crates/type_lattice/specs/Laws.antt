@@ -41,3 +41,9 @@ abbrev pub IsMergeAbove : Type 0
 IsMergeAbove =
     (program : Program) → IsInOrder program → (t u : VType) → IsPlain t → IsPlain u
     → (assignable program t (merged program t u) ≡ true) × (assignable program u (merged program t u) ≡ true)
+
+-- What both are assignable to, their merge is assignable to.
+abbrev pub IsMergeLeast : Type 0
+IsMergeLeast =
+    (program : Program) → IsInOrder program → (t u v : VType) → IsPlain t → IsPlain u → IsPlain v → assignable program t v ≡ true → assignable program u v ≡ true
+    → assignable program (merged program t u) v ≡ true
