@@ -63,7 +63,7 @@ wanted wants.StateClass pool = class state_name pool
 wanted wants.Exit pool = method (codes "java/lang/System") (codes "exit") (codes "(I)V") pool
 
 -- the pool with the entries that are wanted, in the order of use
-unfoldable pub with_wants : List Const → List PoolWant → List Const
+abbrev pub with_wants : List Const → List PoolWant → List Const
 with_wants pool [] = pool
 with_wants pool (want ∷ wants) = with_wants (wanted want pool).0 wants
 

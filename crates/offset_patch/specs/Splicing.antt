@@ -33,7 +33,7 @@ has_block sites = list_any is_some sites
 -- ---- fronts
 
 -- where the part of each instruction begins, and where the last one ends
-unfoldable pub fronts_from : ℕ → List (Option Block) → List ℕ
+abbrev pub fronts_from : ℕ → List (Option Block) → List ℕ
 fronts_from at [] = at ∷ []
 fronts_from at (site ∷ sites) = at ∷ fronts_from (at + length (part_of site)) sites
 
@@ -61,7 +61,7 @@ put pool fronts begin own (Jump op place) = insns.Branch op (begin + place)
 put pool fronts begin own Call = aimed fronts own
 
 -- the parts one after another, of which the first begins at `begin`
-unfoldable pub parts_from : List Const → List ℕ → ℕ → List Insn → List (Option Block) → List Insn
+abbrev pub parts_from : List Const → List ℕ → ℕ → List Insn → List (Option Block) → List Insn
 parts_from pool fronts begin [] sites = []
 parts_from pool fronts begin (insn ∷ others) [] = []
 parts_from pool fronts begin (insn ∷ others) (site ∷ sites) =
@@ -111,7 +111,7 @@ moved starts fronts (handler, entry) = record {
   class = entry.class;
 }
 
-unfoldable pub table_moved : List ℕ → List ℕ → List Handler → List TableEntry → List TableEntry
+abbrev pub table_moved : List ℕ → List ℕ → List Handler → List TableEntry → List TableEntry
 table_moved starts fronts [] entries = []
 table_moved starts fronts (handler ∷ handlers) [] = []
 table_moved starts fronts (handler ∷ handlers) (entry ∷ entries) = moved starts fronts (handler, entry) ∷ table_moved starts fronts handlers entries

@@ -2,7 +2,7 @@
 
 ghost use Rattle.std.specs.Prelude.{◌≡◌, ◌+◌, IfOk, length};
 ghost use Rattle.offset_patch.specs.Added.{const_of, with_added};
-ghost use Rattle.offset_patch.specs.Entries.{entry, text, class, name_and_type, method, wanted};
+ghost use Rattle.offset_patch.specs.Entries.{entry, place_of, text, class, name_and_type, method, wanted};
 
 use crate::block::PoolWant;
 use crate::constants::{Added, place_among, place_behind};
@@ -70,11 +70,11 @@ fn text(
     alloc: Global,
     pool: &[Const],
     added: &mut List<Added>,
-    text: &str,
+    bytes: &str,
 ) -> Result<u64, NoMemory>
-    ensures { IfOk result (λ at. text text.now (with_added pool.now added.old) ≡ (with_added pool.now added.new, at)) }
+    ensures { IfOk result (λ at. text bytes.now (with_added pool.now added.old) ≡ (with_added pool.now added.new, at)) }
 {
-    let bytes = Bytes::from_slice(alloc, text.as_bytes())?;
+    let bytes = Bytes::from_slice(alloc, bytes.as_bytes())?;
     entry(pool, added, Added::Text(bytes))
 }
 
@@ -82,15 +82,27 @@ fn text(
 fn entry(pool: &[Const], added: &mut List<Added>, wanted: Added) -> Result<u64, NoMemory>
     ensures { IfOk result (λ at. entry (const_of wanted) (with_added pool.now added.old) ≡ (with_added pool.now added.new, at)) }
 {
-    if let Some(at) = place_among(pool, &wanted) {
-        return Ok(at as u64);
+    match place(pool, added.as_slice(), &wanted)? {
+        Some(at) => Ok(at),
+        None => {
+            let at = behind(pool, added.len())?;
+            added.push(wanted)?;
+            Ok(at)
+        }
     }
-    if let Some(at) = place_behind(added.as_slice(), &wanted) {
-        return behind(pool, at);
+}
+
+/// The place of the first constant that is equal.
+fn place(pool: &[Const], added: &[Added], wanted: &Added) -> Result<Option<u64>, NoMemory>
+    ensures { IfOk result (λ place. place ≡ place_of (const_of wanted.now) (with_added pool.now added.now)) }
+{
+    if let Some(at) = place_among(pool, wanted) {
+        return Ok(Some(at as u64));
     }
-    let at = behind(pool, added.len())?;
-    added.push(wanted)?;
-    Ok(at)
+    match place_behind(added, wanted) {
+        Some(at) => Ok(Some(behind(pool, at)?)),
+        None => Ok(None),
+    }
 }
 
 /// The place behind the pool. No memory holds more places than a number of 64 bits counts.

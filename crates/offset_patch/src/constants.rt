@@ -2,6 +2,7 @@
 
 ghost use Rattle.std.specs.Prelude.{◌≡◌, ◌&&◌, ◌++◌, ◌==◌, bytes_eq, length, map, IfOk};
 ghost use Rattle.class_codec.specs.declared.tree.Const.TheVariants.{Utf8, Class, NameAndType, Method};
+ghost use Rattle.std.specs.List.{position_from};
 ghost use Rattle.offset_patch.specs.Added.{const_of};
 ghost use Rattle.offset_patch.specs.Entries.{same, place_of};
 
@@ -27,7 +28,7 @@ pub fn place_among(pool: &[Const], wanted: &Added) -> Option<usize>
 
 /// The place of the first that is equal among those that were added.
 pub fn place_behind(added: &[Added], wanted: &Added) -> Option<usize>
-    ensures { result ≡ place_of (const_of wanted.now) (map const_of added.now) }
+    ensures { result ≡ position_from (λ other. same (const_of wanted.now) (const_of other)) 0 added.now }
 {
     added.iter().position(|other| is_added(wanted, other))
 }

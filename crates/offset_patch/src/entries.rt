@@ -1,7 +1,7 @@
 //! The constant pool of a class, with the entries that blocks name.
 
 ghost use Rattle.std.specs.Prelude.{◌≡◌, IfOk, IfSome, OnOk, length};
-ghost use Rattle.offset_patch.specs.Added.{const_of};
+ghost use Rattle.offset_patch.specs.Added.{const_of, with_added};
 ghost use Rattle.offset_patch.specs.Entries.{wanted, place_in};
 
 use crate::adding::wanted;
@@ -108,7 +108,7 @@ impl Entries {
     }
 
     /// The constants, where each index is held by two bytes.
-    pub fn into_list(self) -> Result<List<Const>, NoMemory>
+    pub fn into_list(self, alloc: Global) -> Result<List<Const>, NoMemory>
         ensures { IfOk result (λ items. items ≡ self) }
     {
         let Entries {
@@ -118,21 +118,29 @@ impl Entries {
             exit,
         } = self;
         let mut items = items;
-        for one in added.into_vec() {
-            items.push(constant(one)?)?;
-        }
+        put_added(alloc, &mut items, added.as_slice())?;
         Ok(items)
     }
 }
 
-fn constant(added: Added) -> Result<Const, NoMemory>
-    ensures { IfOk result (λ constant. constant ≡ const_of added) }
+/// Appends what was added.
+fn put_added(alloc: Global, items: &mut List<Const>, added: &[Added]) -> Result<(), NoMemory>
+    ensures { OnOk result (items.new ≡ with_added items.old added.now) }
+{
+    for one in added {
+        items.push(constant(alloc, one)?)?;
+    }
+    Ok(())
+}
+
+fn constant(alloc: Global, added: &Added) -> Result<Const, NoMemory>
+    ensures { IfOk result (λ constant. constant ≡ const_of added.now) }
 {
     match added {
-        Added::Text(text) => Ok(Const::Utf8(text)),
-        Added::Class(name) => Ok(Const::Class(index(name)?)),
-        Added::NameAndType(name, desc) => Ok(Const::NameAndType(index(name)?, index(desc)?)),
-        Added::Method(class, member) => Ok(Const::Method(index(class)?, index(member)?)),
+        Added::Text(text) => Ok(Const::Utf8(text.copy(alloc)?)),
+        Added::Class(name) => Ok(Const::Class(index(*name)?)),
+        Added::NameAndType(name, desc) => Ok(Const::NameAndType(index(*name)?, index(*desc)?)),
+        Added::Method(class, member) => Ok(Const::Method(index(*class)?, index(*member)?)),
     }
 }
 

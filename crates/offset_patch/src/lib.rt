@@ -12,7 +12,7 @@ mod adding;
 mod constants;
 mod fronts;
 mod length;
-mod room;
+mod sizes;
 mod splicing;
 mod tables;
 
@@ -20,7 +20,7 @@ pub use block::{Block, BlockInsn, Origin, PoolWant};
 pub use entries::Entries;
 pub use fault::{Size, SpliceFault};
 pub use fronts::{has_block, origins_of};
-pub use room::room;
+pub use sizes::room;
 pub use splicing::splice;
 
 #[cfg(test)]

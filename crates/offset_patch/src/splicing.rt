@@ -15,7 +15,7 @@ use crate::entries::Entries;
 use crate::fault::{Size, SpliceFault};
 use crate::fronts::{aimed, behind, fronts, part_of};
 use crate::length::is_countable;
-use crate::room::{OPERANDS, fitted};
+use crate::sizes::{OPERANDS, fitted};
 use crate::tables::table_moved;
 use bytecode_model::{Handler, Method};
 use class_codec::Code;
@@ -69,7 +69,8 @@ fn written(
     insns: &[Insn],
 ) -> Result<Bytes, SpliceFault>
     requires { AllByRecursion IsInsn insns.now }
-    ensures { Tells result (code_fitted class.now number (written insns.now)) }
+    ensures code { Tells result (code_fitted class.now number (written insns.now)) }
+    ensures short { OnOk result (len_from 0 insns.now < 2 ^ 32) }
 {
     if !is_countable(insns) {
         return Err(SpliceFault::Memory);

@@ -20,7 +20,7 @@ fn components_stand_before_an_entry(rt: HostRuntime) -> Result<(), Fail> {
     let mut entries = Entries::new(alloc, pool);
     entries.add(alloc, PoolWant::Exit)?;
     assert_eq!(&rt; entries.place(PoolWant::Exit)?, 6);
-    let pool = entries.into_list()?;
+    let pool = entries.into_list(alloc)?;
     let mut wanted = List::new(alloc);
     wanted.push(Const::Second)?;
     wanted.push(text(alloc, "exit")?)?;
