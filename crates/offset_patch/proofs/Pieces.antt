@@ -2,6 +2,7 @@
 use Rattle.std.proofs.Common.{◌≡◌, ℕ, ◌+◌, ◌*◌, ◌≤◌, ◌<◌, ◌^◌, true, false, List, [], ◌∷◌, ◌++◌, length, map, Option, refl, sym, ap, subst, ◌∙◌, append_assoc, arith}
 use Rattle.std.specs.Prelude.{sum_by}
 use Rattle.std.specs.List.{filter_map}
+use Rattle.std.proofs.lemmas.List.Sums.{sum_by-cons}
 use Rattle.insn_codec.specs.declared.insn.Insn.{Insn}
 use Rattle.insn_codec.specs.declared.insn.Insn.TheVariants.{Plain, Byte, Short, Ldc, Pool, Iface, Local, Inc, Branch, GotoW, NewArray, Table, Lookup}
 use Rattle.insn_codec.specs.Spelling.{size, len_from, padding}
@@ -62,7 +63,7 @@ size_most at (Lookup other keys targets) = omega arith
 pub len_most : (at : ℕ) (xs : List Insn) → len_from at xs ≤ sum_by most xs
 len_most at [] = omega (arith, len_none at)
 len_most at (x ∷ xs) =
-    let sum : sum_by most (x ∷ xs) ≡ most x + sum_by most xs = refl in
+    let sum = sum_by-cons most x xs in
     omega (arith, sum, len_first at x xs, size_most at x, len_most (at + size at x) xs)
 
 -- the bytes of all are few where their bound is
