@@ -1,7 +1,6 @@
 -- The block that stands for a call that the policy denies: it keeps the arguments, takes the lock of conspec/State and
 -- stops the program. What stands behind that is never reached, and gives the call what it had.
 use Rattle.std.specs.Prelude.{ℕ, ◌+◌, ◌==◌, Bool, false, nat_lt, nat_le, if◌then◌else◌, pos, List, [], ◌∷◌, ◌++◌, length, find, Option, Some, None, option_map}
-use Rattle.std.specs.List.{reverse}
 use Rattle.std.specs.Option.{option_map_or}
 use Rattle.bytecode_model.specs.declared.program.Target.{Target}
 use Rattle.bytecode_model.specs.declared.program.Target.TheVariants as target
@@ -31,20 +30,16 @@ abbrev pub load : Kind → ℕ → BlockInsn
 load kinds.Object slot = local 0x2A 0x19 slot
 load number slot = local 0x1A 0x15 slot
 
--- Each argument has a local of its own, from `base` on.
-abbrev pub stores : ℕ → List Kind → List BlockInsn
-stores base [] = []
-stores base (kind ∷ others) = store kind base ∷ stores (base + 1) others
+-- Each argument has a local of its own, from `base` on. The last one, which is on top, is stored first.
+abbrev pub save : ℕ → List Kind → List BlockInsn
+save base [] = []
+save base (kind ∷ others) = save (base + 1) others ++ store kind base ∷ []
 
 abbrev pub loads : ℕ → List Kind → List BlockInsn
 loads base [] = []
 loads base (kind ∷ others) = load kind base ∷ loads (base + 1) others
 
 -- ---- the parts of a block
-
--- the last argument, which is on top, is stored first
-abbrev pub save : ℕ → List Kind → List BlockInsn
-save base arguments = reverse (stores base arguments)
 
 -- ldc_w conspec/State; monitorenter
 abbrev pub lock : List BlockInsn

@@ -55,15 +55,18 @@ abbrev pub fields_from : ℕ → List Var → List Member
 fields_from index [] = []
 fields_from index (var ∷ vars) = field index var ∷ fields_from (index + 1) vars
 
-abbrev pub state_class : Policy → ClassFile
-state_class policy = record {
+abbrev pub state_file : List Var → ClassFile
+state_file vars = record {
   minor = 0;
-  pool = head ++ values_from 0 policy.vars;
+  pool = head ++ values_from 0 vars;
   flags = 0x0021;
   this_class = 2;
   super_class = 4;
   interfaces = [];
-  fields = fields_from 0 policy.vars;
+  fields = fields_from 0 vars;
   methods = [];
   attrs = [];
 }
+
+abbrev pub state_class : Policy → ClassFile
+state_class policy = state_file policy.vars

@@ -3,7 +3,7 @@
 ghost use Rattle.std.specs.Prelude.{◌≡◌, ◌+◌, ◌++◌, ◌<◌, ◌≤◌, ◌^◌, IfOk, OnOk, length};
 ghost use Rattle.std.specs.List.{AllByRecursion};
 ghost use Rattle.offset_patch.specs.Fits.{IsBlock, IsBlockInsn};
-ghost use Rattle.block_template.specs.Blocks.{local, store, load, stores, loads, save, lock, stop, unlock, denial};
+ghost use Rattle.block_template.specs.Blocks.{local, store, load, loads, save, lock, stop, unlock, denial};
 
 use conspec_parse::Kind;
 use mon_base::{List, NoMemory};
@@ -48,30 +48,36 @@ pub fn denial(alloc: Global, base: u16, arguments: &[Kind]) -> Result<Block, NoM
     ensures is { IfOk result (λ block. block ≡ denial base arguments.now) }
     ensures fits { IfOk result IsBlock }
 {
-    let mut insns = stores(alloc, base, arguments)?;
-    insns.reverse();
-    insns.extend_from_slice(LOCK.as_slice())?;
-    insns.extend_from_slice(STOP.as_slice())?;
-    insns.extend_from_slice(UNLOCK.as_slice())?;
-    put_loads(&mut insns, base, arguments)?;
-    insns.push(BlockInsn::Call)?;
+    let insns = parts(alloc, base, arguments)?;
     Ok(Block {
         insns: List::from_vec(insns),
     })
 }
 
-/// The stores of the arguments, in their order.
-fn stores(alloc: Global, base: u16, arguments: &[Kind]) -> Result<Vec<BlockInsn>, NoMemory>
+/// The instructions of that block, part by part.
+fn parts(alloc: Global, base: u16, arguments: &[Kind]) -> Result<Vec<BlockInsn>, NoMemory>
     requires { base + length arguments.now < 2 ^ 16 }
-    ensures is { IfOk result (λ insns. insns.items ≡ stores base arguments.now) }
+    ensures { IfOk result (λ insns. insns.items ≡ (denial base arguments.now).insns) }
+{
+    let mut insns = save(alloc, base, arguments)?;
+    insns.extend_from_slice(LOCK.as_slice())?;
+    insns.extend_from_slice(STOP.as_slice())?;
+    insns.extend_from_slice(UNLOCK.as_slice())?;
+    put_loads(&mut insns, base, arguments)?;
+    insns.push(BlockInsn::Call)?;
+    Ok(insns)
+}
+
+/// The stores of the arguments, the last first.
+fn save(alloc: Global, base: u16, arguments: &[Kind]) -> Result<Vec<BlockInsn>, NoMemory>
+    requires { base + length arguments.now < 2 ^ 16 }
+    ensures { IfOk result (λ insns. insns.items ≡ save base arguments.now) }
 {
     let mut insns = Vec::new(alloc);
-    let mut slot = base;
-    let mut left = arguments;
-    while let [kind, rest @ ..] = left {
-        insns.push(store(*kind, slot))?;
-        slot += 1;
-        left = rest;
+    let mut at = arguments.len();
+    while at > 0 {
+        at -= 1;
+        insns.push(store(arguments[at], base + at as u16))?;
     }
     Ok(insns)
 }
@@ -83,7 +89,7 @@ fn put_loads(
     arguments: &[Kind],
 ) -> Result<(), NoMemory>
     requires { base + length arguments.now < 2 ^ 16 }
-    ensures is { OnOk result (insns.new.items ≡ insns.old.items ++ loads base arguments.now) }
+    ensures { OnOk result (insns.new.items ≡ insns.old.items ++ loads base arguments.now) }
 {
     let mut slot = base;
     let mut left = arguments;

@@ -20,10 +20,10 @@ pub fn block(
     base: u16,
 ) -> Result<Option<Block>, NoMemory>
     requires { base + locals_used policy.now method < 2 ^ 16 }
-    ensures is { IfOk result (λ block. block ≡ block policy.now method base) }
+    ensures is { IfOk result (λ made. made ≡ block policy.now method base) }
     ensures fits { IfOk result IsSite }
     // There is none exactly where no clause names the method.
-    ensures none { IfOk result (λ block. IsNone block ↔ (has_clauses policy.now method ≡ false)) }
+    ensures none { IfOk result (λ made. IsNone made ↔ (has_clauses policy.now method ≡ false)) }
 {
     match clause_of(policy, method) {
         Some(clause) => Ok(Some(denial(alloc, base, clause.args.as_slice())?)),
@@ -59,7 +59,7 @@ pub fn site(
     target: &Target,
 ) -> Result<Option<Block>, NoMemory>
     requires { base + site_locals policy.now target.now < 2 ^ 16 }
-    ensures is { IfOk result (λ site. site ≡ site policy.now base target.now) }
+    ensures is { IfOk result (λ made. made ≡ site policy.now base target.now) }
     ensures fits { IfOk result IsSite }
 {
     match target {

@@ -5,7 +5,7 @@ ghost use Rattle.byteorder.specs.Endian.{big_bytes};
 ghost use Rattle.class_codec.specs.Fits.{CanSpell};
 ghost use Rattle.class_codec.specs.declared.tree.Const.TheVariants.{Utf8};
 ghost use Rattle.conspec_automaton.specs.Denying.{DeniesOnly};
-ghost use Rattle.block_template.specs.State.{variable_name, head, values_from, name_at, type_at, field, fields_from, state_class};
+ghost use Rattle.block_template.specs.State.{variable_name, head, values_from, name_at, type_at, field, fields_from, state_file, state_class};
 
 use byteorder::{BigEndian, ByteOrder};
 use class_codec::{Attr, ClassFile, Const, Member, Other};
@@ -20,7 +20,14 @@ pub fn state_class(alloc: Global, policy: &Policy) -> Result<ClassFile, NoMemory
     ensures is { IfOk result (λ file. file ≡ state_class policy.now) }
     ensures fits { DeniesOnly policy.now → IfOk result CanSpell }
 {
-    let vars = policy.vars.as_slice();
+    let file = state_file(alloc, policy.vars.as_slice())?;
+    Ok(file)
+}
+
+fn state_file(alloc: Global, vars: &[Var]) -> Result<ClassFile, NoMemory>
+    requires { length vars.now ≤ 10000 }
+    ensures { IfOk result (λ file. file ≡ state_file vars.now) }
+{
     let mut pool = head(alloc)?;
     put_values(alloc, &mut pool, vars)?;
     Ok(ClassFile {
