@@ -26,6 +26,11 @@ use Rattle.inline_release.specs.declared.code.WovenCode.{WovenCode}
 use Rattle.inline_release.specs.declared.members.Members.{Members}
 use Rattle.inline_release.specs.declared.weaving.Woven.{Woven}
 
+-- one after another, as long as each fits
+abbrev pub folded : {S X : Type 0} → (S → X → Spliced S) → S → List X → Spliced S
+folded step made [] = Ok made
+folded step made (x ∷ xs) = step made x >>= λ next. folded step next xs
+
 -- ---- the code of a method
 
 -- whether one of the instructions has a block
@@ -100,8 +105,7 @@ member_woven policy class made member =
 
 -- the members one after another, the pool growing
 abbrev pub members_woven : Policy → LinkedClass → Members → List Member → Spliced Members
-members_woven policy class made [] = Ok made
-members_woven policy class made (member ∷ members) = member_woven policy class made member >>= λ next. members_woven policy class next members
+members_woven policy class made members = folded (member_woven policy class) made members
 
 -- ---- classes
 
@@ -131,8 +135,7 @@ class_woven policy woven class = members_woven policy class (none_made class.fil
 
 -- the classes one after another
 abbrev pub classes_woven : Policy → Woven → List LinkedClass → Spliced Woven
-classes_woven policy woven [] = Ok woven
-classes_woven policy woven (class ∷ classes) = class_woven policy woven class >>= λ next. classes_woven policy next classes
+classes_woven policy woven classes = folded (class_woven policy) woven classes
 
 -- ---- the program
 

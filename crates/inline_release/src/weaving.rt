@@ -124,7 +124,7 @@ fn file_with(
 {
     Ok(ClassFile {
         minor: file.minor,
-        pool: entries.into_list()?,
+        pool: entries.into_list(alloc)?,
         flags: file.flags,
         this_class: file.this_class,
         super_class: file.super_class,
