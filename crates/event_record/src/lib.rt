@@ -14,3 +14,6 @@ mod words;
 
 pub use fault::RecordFault;
 pub use reading::{Record, read_record};
+
+#[cfg(test)]
+mod tests;
