@@ -1,6 +1,5 @@
 -- A tree of denials has an automaton that only denies.
-use Rattle.std.proofs.Common.{◌≡◌, ℤ, Bool, true, false, List, [], ◌∷◌, map, refl, IsTrue}
-use Rattle.std.specs.Prelude.{◌&&◌}
+use Rattle.std.proofs.Common.{◌≡◌, ℤ, true, List, [], ◌∷◌, map, refl}
 use Rattle.std.specs.List.{AllByRecursion, list_all}
 use Rattle.std.proofs.lemmas.Bool.{and_parts}
 use Rattle.conspec_parse.specs.declared.types.Guard.{Guard}
@@ -8,7 +7,6 @@ use Rattle.conspec_parse.specs.declared.types.Phase.{Phase}
 use Rattle.conspec_parse.specs.declared.types.Phase.TheVariants.{Before, After, Exceptional}
 use Rattle.conspec_parse.specs.declared.types.PolicyTree.{PolicyTree}
 use Rattle.conspec_parse.specs.declared.types.TreeClause.{TreeClause}
-use Rattle.conspec_parse.specs.declared.types.Var.{Var}
 use Rattle.conspec_automaton.specs.Building.{built, branches_of, clause_built}
 use Rattle.conspec_automaton.specs.Denying.{Denies, DeniesOnly, asks_nothing, is_before, is_denial, is_empty}
 

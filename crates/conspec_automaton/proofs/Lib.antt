@@ -1,1 +1,5 @@
 mod Denials
+pub mod Ranges
+pub mod Built
+pub mod Obeying
+pub mod Turned

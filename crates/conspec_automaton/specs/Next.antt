@@ -24,10 +24,10 @@ use Rattle.conspec_automaton.specs.declared.policy.Policy.{Policy}
 -- ---- states
 
 -- the values of the variables, in their order
-abbrev pub State : Type 0
-State = List ℤ
+abbrev pub Values : Type 0
+Values = List ℤ
 
-abbrev pub initial : Policy → State
+abbrev pub initial : Policy → Values
 initial policy = map (λ (v : Var). v.first) policy.vars
 
 -- ---- the clause of an event
@@ -72,7 +72,7 @@ returned (events.Return thread method value) = option_and_then number_in value
 returned other = None
 
 -- what an atom compares, where it is there and is a number
-abbrev pub value_of : State → Event → Base → Option ℤ
+abbrev pub value_of : Values → Event → Base → Option ℤ
 value_of state event (bases.Var i) = slice_get state i
 value_of state event (bases.Arg i) = argument event i
 value_of state event bases.Result = returned event
@@ -86,28 +86,28 @@ relates relations.Gt x y = int_lt y x
 relates relations.Ge x y = int_le y x
 
 -- An atom on what is not there does not hold.
-abbrev pub holds : State → Event → Atom → Bool
+abbrev pub holds : Values → Event → Atom → Bool
 holds state event atom = option_map_or (λ n. relates atom.rel n atom.value) (value_of state event atom.base) false
 
-abbrev pub is_taken : State → Event → Branch → Bool
+abbrev pub is_taken : Values → Event → Branch → Bool
 is_taken state event branch = list_all (holds state event) branch.atoms
 
 -- ---- updates
 
-abbrev pub updated_once : State → Update → State
+abbrev pub updated_once : Values → Update → Values
 updated_once state (Set var value) = slice_set state var value
 updated_once state (Add var by) = option_map_or (λ n. slice_set state var (n +ℤ by)) (slice_get state var) state
 
-abbrev pub updated : State → List Update → State
+abbrev pub updated : Values → List Update → Values
 updated state [] = state
 updated state (update ∷ updates) = updated (updated_once state update) updates
 
 -- ---- the state after an event
 
 -- the state after an event that the clause speaks of, or nothing where it refuses the event
-abbrev pub next_by : Clause → State → Event → Option State
+abbrev pub next_by : Clause → Values → Event → Option Values
 next_by clause state event = option_map (λ (branch : Branch). updated state branch.updates) (find (is_taken state event) clause.branches)
 
 -- An event without a clause changes nothing.
-abbrev pub next : Policy → State → Event → Option State
+abbrev pub next : Policy → Values → Event → Option Values
 next policy state event = option_map_or (λ clause. next_by clause state event) (clause_of policy event) (Some state)

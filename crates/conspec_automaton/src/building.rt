@@ -1,6 +1,6 @@
 //! The automaton of a policy, out of its tree.
 
-ghost use Rattle.std.specs.Prelude.{◌≡◌, ◌++◌, map, IfOk, OnOk, IsTrue};
+ghost use Rattle.std.specs.Prelude.{◌≡◌, ◌++◌, map, length, IfOk, OnOk, IsTrue};
 ghost use Rattle.std.specs.List.{list_all};
 ghost use Rattle.conspec_automaton.specs.Building.{
   atoms_of,
@@ -12,6 +12,9 @@ ghost use Rattle.conspec_automaton.specs.Building.{
   guard_branches,
   range_atoms,
 };
+ghost use Rattle.conspec_automaton.specs.Sound.{IsPolicy, NamesMethods};
+ghost use Rattle.conspec_parse.specs.Tree.{IsPolicyTree};
+ghost use Rattle.api_listing.specs.declared.types.Listing.{Listing};
 ghost use Rattle.conspec_automaton.specs.Denying.{DeniesOnly, asks_nothing, is_denial};
 
 use crate::policy::{Branch, Clause, Policy};
@@ -21,6 +24,16 @@ use std::alloc::Global;
 
 /// The automaton of a policy.
 pub fn build(alloc: Global, tree: &PolicyTree) -> Result<Policy, NoMemory>
+    ensures is { IfOk result (λ policy. policy ≡ built tree.now) }
+    // That of a tree that is read keeps the limits and ranges, and its methods are in the listing.
+    ensures sound { IfOk result (λ policy. (listing : Listing) → IsPolicyTree listing tree.now
+        → IsPolicy policy × NamesMethods (length listing.methods) policy) }
+{
+    let policy = built(alloc, tree)?;
+    Ok(policy)
+}
+
+fn built(alloc: Global, tree: &PolicyTree) -> Result<Policy, NoMemory>
     ensures { IfOk result (λ policy. policy ≡ built tree.now) }
 {
     Ok(Policy {

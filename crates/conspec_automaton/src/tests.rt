@@ -1,5 +1,7 @@
 //! The automata of small policies.
 
+mod running;
+
 use crate::policy::{Branch, Policy};
 use crate::{asks_nothing, build, has_clauses};
 use api_listing::read;
@@ -9,7 +11,8 @@ use std::process::Abort;
 use std::test::Fail;
 
 const LISTING: &[u8] =
-    b"class api/Net extends java/lang/Object\nstatic api/Net send ()V\nstatic api/Net read ()I\n";
+    b"class api/Net extends java/lang/Object\nstatic api/Net send ()V\nstatic api/Net read ()I\n\
+    static api/Net ask ()Z\nstatic api/Net put (BLjava/lang/String;)V\nstatic api/Net find (I)Ljava/lang/String;\n";
 
 fn tree(alloc: Global, text: &str) -> Result<PolicyTree, Fail> {
     let Ok(listing) = read(alloc, LISTING) else {

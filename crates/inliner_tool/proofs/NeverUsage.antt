@@ -60,6 +60,7 @@ pub check_says : (main : List ℕ) (inputs : CheckInputs) (answer : Answer) (P :
 check_says main inputs (answers.Accepted accepted) P is so = so is
 check_says main inputs (answers.Denied fault label) P is so = so is
 check_says main inputs (answers.Shown text) P is so = so is
+check_says main inputs (answers.Judged verdict) P is so = so is
 check_says main inputs (answers.Input name fault) P is so = so is
 check_says main inputs (answers.TotalLong len) P is so = so is
 check_says main inputs (answers.Link fault) P is so = so is

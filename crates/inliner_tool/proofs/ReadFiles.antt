@@ -16,6 +16,7 @@ fault_told (faults.TooLong len) read some told = told
 fault_told (faults.Listing fault) read some told = told
 fault_told (faults.Policy fault) read some told = told
 fault_told (faults.Class fault) read some told = told
+fault_told (faults.Record fault) read some told = told
 fault_told faults.NotBuilt read some told = told
 fault_told faults.Memory read some told = absurd some
 

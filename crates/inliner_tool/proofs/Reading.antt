@@ -7,9 +7,10 @@ use Rattle.conspec_parse.specs.declared.types.PolicyTree.{PolicyTree}
 use Rattle.inliner_tool.specs.declared.files.Stop.{Stop}
 use Rattle.inliner_tool.specs.declared.inputs.ReadClasses.{ReadClasses as Classes}
 use Rattle.inliner_tool.specs.Forms.{IsRead, ReadsForm}
-use Rattle.inliner_tool.specs.Inputs.{ReadsCheck, ReadsClasses, ReadsShow, AreClasses}
-use Rattle.inliner_tool.specs.Kinds.{certificate_form, listing_form, policy_form}
-use Rattle.inliner_tool.specs.Words.{NamedCheck, NamedShow}
+use Rattle.event_record.specs.declared.reading.Record.{Record}
+use Rattle.inliner_tool.specs.Inputs.{ReadsCheck, ReadsClasses, ReadsPolicy, ReadsShow, AreClasses}
+use Rattle.inliner_tool.specs.Kinds.{certificate_form, listing_form, policy_form, record_form}
+use Rattle.inliner_tool.specs.Words.{NamedCheck, NamedPolicy, NamedShow}
 use Rattle.inliner_tool.proofs.ReadFiles.{counted, stops_since}
 use Rattle.inliner_tool.proofs.ReadClasses.{among_since}
 
@@ -35,3 +36,11 @@ module _ (files : Files) (named : NamedCheck) (first begun now : ℕ) (last : Li
 pub show_stops : (files : Files) (named : NamedShow) (first begun now : ℕ) (last : List ℕ) → first ≤ begun → (listing : Listing) → IsRead files named.listing listing_form (Ok listing) → (stop : Stop)
     → ReadsClasses files (counted begun now last) named.classes (Err stop) → ReadsShow files (counted first now last) named (Err stop)
 show_stops files named first begun now last le listing listed stop reads = inr (listing, listed, inl (among_since files named.classes first begun now last stop le reads))
+
+module _ (files : Files) (named : NamedPolicy) (first begun now : ℕ) (last : List ℕ) (le : first ≤ begun) (listing : Listing) (listed : IsRead files named.listing listing_form (Ok listing)) where
+  pub run_policy_stops : (stop : Stop) → ReadsForm files (counted begun now last) named.policy (policy_form listing) (Err stop) → ReadsPolicy files (counted first now last) named (Err stop)
+  run_policy_stops stop form = inr (listing, listed, inl (stops_since files (policy_form listing) named.policy first begun now last stop le form))
+
+  pub record_stops : (policy : PolicyTree) → IsRead files named.policy (policy_form listing) (Ok policy) → (stop : Stop)
+      → ReadsForm files (counted begun now last) named.recorded (record_form listing) (Err stop) → ReadsPolicy files (counted first now last) named (Err stop)
+  record_stops policy has stop form = inr (listing, listed, inr (policy, has, inl (stops_since files (record_form listing) named.recorded first begun now last stop le form)))

@@ -9,6 +9,9 @@ use Rattle.class_codec.specs.declared.fault.ClassFault.TheVariants as classes
 use Rattle.conspec_parse.specs.Fault.{number_of as policy_number}
 use Rattle.conspec_parse.specs.declared.fault.PolicyFault.{PolicyFault}
 use Rattle.conspec_parse.specs.declared.fault.PolicyFault.TheVariants as policies
+use Rattle.event_record.specs.Fault.{number_of as record_number}
+use Rattle.event_record.specs.declared.fault.RecordFault.{RecordFault}
+use Rattle.event_record.specs.declared.fault.RecordFault.TheVariants as records
 use Rattle.inliner_tool.specs.declared.fault.InputFault.{InputFault}
 use Rattle.inliner_tool.specs.declared.fault.InputFault.TheVariants as faults
 
@@ -17,6 +20,7 @@ number_of (faults.TooLong len) = 107
 number_of (faults.Listing fault) = listing_number fault
 number_of (faults.Policy fault) = policy_number fault
 number_of (faults.Class fault) = class_number fault
+number_of (faults.Record fault) = record_number fault
 number_of faults.NotBuilt = 199
 number_of faults.Memory = 0
 
@@ -33,3 +37,7 @@ policy_told fault = faults.Policy fault
 abbrev pub class_told : ClassFault → InputFault
 class_told classes.Memory = faults.Memory
 class_told fault = faults.Class fault
+
+abbrev pub record_told : RecordFault → InputFault
+record_told records.Memory = faults.Memory
+record_told fault = faults.Record fault

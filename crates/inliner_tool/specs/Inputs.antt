@@ -10,12 +10,15 @@ use Rattle.inliner_tool.specs.declared.fault.InputFault.{InputFault}
 use Rattle.inliner_tool.specs.declared.fault.InputFault.TheVariants as faults
 use Rattle.inliner_tool.specs.declared.files.Stop.{Stop}
 use Rattle.inliner_tool.specs.declared.files.Stop.TheVariants.{Input, Unread, Memory}
+use Rattle.conspec_parse.specs.declared.types.PolicyTree.{PolicyTree}
+use Rattle.conspec_parse.specs.Tree.{IsPolicyTree}
 use Rattle.inliner_tool.specs.declared.inputs.CheckInputs.{CheckInputs}
+use Rattle.inliner_tool.specs.declared.inputs.PolicyInputs.{PolicyInputs}
 use Rattle.inliner_tool.specs.declared.inputs.ReadClasses.{ReadClasses as Classes}
 use Rattle.inliner_tool.specs.declared.inputs.ShowInputs.{ShowInputs}
 use Rattle.inliner_tool.specs.Forms.{Count, IsRead, ReadsForm, Then, Gives}
-use Rattle.inliner_tool.specs.Kinds.{certificate_form, class_form, listing_form, policy_form}
-use Rattle.inliner_tool.specs.Words.{NamedCheck, NamedShow}
+use Rattle.inliner_tool.specs.Kinds.{certificate_form, class_form, listing_form, policy_form, record_form}
+use Rattle.inliner_tool.specs.Words.{NamedCheck, NamedPolicy, NamedShow}
 
 -- ---- class files
 
@@ -61,6 +64,14 @@ ReadsShow files count named =
     Then (ReadsClasses files count named.classes) (λ classes.
     Gives (record { listing = listing; classes = classes })))
 
+-- listing, policy, record
+abbrev pub ReadsPolicy : Files → Count → NamedPolicy → Result PolicyInputs Stop → Type 0
+ReadsPolicy files count named =
+    Then (ReadsForm files count named.listing listing_form) (λ listing.
+    Then (ReadsForm files count named.policy (policy_form listing)) (λ policy.
+    Then (ReadsForm files count named.recorded (record_form listing)) (λ recorded.
+    Gives (record { policy = policy; recorded = recorded }))))
+
 -- ---- how calls report
 
 -- The fault is not that memory ran out.
@@ -79,3 +90,8 @@ IsOfName name read (Err Memory) = Unit {0}
 pub record AreSound (inputs : CheckInputs) : Type 0 where
   pub listing : IsFew inputs.listing
   pub classes : AllByRecursion CanSpell inputs.classes.files
+
+-- The policy was read over some listing.
+pub record IsOfListing (policy : PolicyTree) : Type 0 where
+  pub listing : Listing
+  pub sound : IsPolicyTree listing policy

@@ -1,5 +1,5 @@
 -- What is answered once all files of a command are read.
-use Rattle.std.specs.Prelude.{◌≡◌, ◌⊎◌, ℕ, ◌&&◌, nat_lt, List, [], codes, if◌then◌else◌, Option, slice_get, Result, Ok, Err}
+use Rattle.std.specs.Prelude.{◌≡◌, ◌⊎◌, ℕ, ◌&&◌, nat_lt, false, List, [], codes, if◌then◌else◌, Option, slice_get, Result, Ok, Err}
 use Rattle.std.specs.Option.{option_map_or}
 use Rattle.bytecode_model.specs.declared.fault.LinkFault.{LinkFault}
 use Rattle.bytecode_model.specs.declared.fault.LinkFault.TheVariants as links
@@ -19,10 +19,12 @@ use Rattle.class_text.specs.declared.fault.ShowFault.TheVariants as shows
 use Rattle.class_text.specs.Shown.{shown}
 use Rattle.conspec_automaton.specs.Building.{built}
 use Rattle.conspec_automaton.specs.Denying.{asks_nothing}
+use Rattle.conspec_automaton.specs.Verdict.{is_refused, verdict as judged}
 use Rattle.conspec_parse.specs.declared.types.PolicyTree.{PolicyTree}
 use Rattle.inliner_tool.specs.declared.answer.Answer.{Answer}
 use Rattle.inliner_tool.specs.declared.answer.Answer.TheVariants as answers
 use Rattle.inliner_tool.specs.declared.inputs.CheckInputs.{CheckInputs}
+use Rattle.inliner_tool.specs.declared.inputs.PolicyInputs.{PolicyInputs}
 use Rattle.inliner_tool.specs.declared.inputs.ShowInputs.{ShowInputs}
 use Rattle.inliner_tool.specs.Built.{is_built}
 
@@ -79,6 +81,11 @@ abbrev pub show_answer : ShowInputs → Answer
 show_answer inputs =
     if nat_lt 16777216 inputs.classes.total then answers.TotalLong inputs.classes.total else shown_answer (shown inputs.listing inputs.classes.files)
 
+-- ---- policy
+
+abbrev pub policy_answer : PolicyInputs → Answer
+policy_answer inputs = answers.Judged (judged (built inputs.policy) inputs.recorded.events)
+
 -- ---- how calls answer
 
 -- It is this answer, unless memory ran out.
@@ -90,6 +97,7 @@ Is answer wanted = answer ≡ wanted
 abbrev pub EndsWell : Answer → Type 0
 EndsWell (answers.Accepted accepted) = Unit {0}
 EndsWell (answers.Shown text) = Unit {0}
+EndsWell (answers.Judged verdict) = is_refused verdict ≡ false
 EndsWell other = ⊥
 
 -- The program is accepted with the certificate, and obeys the policy for every list of guest steps.

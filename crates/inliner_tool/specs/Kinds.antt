@@ -11,11 +11,14 @@ use Rattle.class_codec.specs.Reading.{class_of}
 use Rattle.conspec_parse.specs.declared.fault.PolicyFault.{PolicyFault}
 use Rattle.conspec_parse.specs.declared.types.PolicyTree.{PolicyTree}
 use Rattle.conspec_parse.specs.Policy.{reading as policy_of}
+use Rattle.event_record.specs.declared.fault.RecordFault.{RecordFault}
+use Rattle.event_record.specs.declared.reading.Record.{Record}
+use Rattle.event_record.specs.Record.{reading as record_of}
 use Rattle.inliner_tool.specs.declared.fault.InputFault.{InputFault}
 use Rattle.inliner_tool.specs.declared.fault.InputFault.TheVariants as faults
 use Rattle.inliner_tool.specs.declared.forms.ReadClass.{ReadClass}
 use Rattle.inliner_tool.specs.Built.{is_built_certificate}
-use Rattle.inliner_tool.specs.Fault.{class_told, listing_told, policy_told}
+use Rattle.inliner_tool.specs.Fault.{class_told, listing_told, policy_told, record_told}
 use Rattle.inliner_tool.specs.Forms.{Form}
 
 -- ---- listings, of at most 1 MiB
@@ -56,3 +59,12 @@ class_read len (Err fault) = Err (class_told fault)
 
 abbrev pub class_form : Form ReadClass
 class_form = record { limit = 1048576; reads = λ text. class_read (length text) (class_of text) }
+
+-- ---- records, of at most 256 MiB, over a listing
+
+abbrev pub record_read : Result Record RecordFault → Result Record InputFault
+record_read (Ok recorded) = Ok recorded
+record_read (Err fault) = Err (record_told fault)
+
+abbrev pub record_form : Listing → Form Record
+record_form listing = record { limit = 268435456; reads = λ text. record_read (record_of text listing) }

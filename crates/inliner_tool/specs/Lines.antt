@@ -15,6 +15,10 @@ use Rattle.class_codec.specs.declared.fault.ClassFault.{ClassFault}
 use Rattle.class_codec.specs.declared.fault.ClassFault.TheVariants as classes
 use Rattle.conspec_parse.specs.declared.fault.PolicyFault.{PolicyFault}
 use Rattle.conspec_parse.specs.declared.fault.PolicyFault.TheVariants as policies
+use Rattle.conspec_automaton.specs.declared.running.Verdict.{Verdict}
+use Rattle.conspec_automaton.specs.declared.running.Verdict.TheVariants as verdicts
+use Rattle.event_record.specs.declared.fault.RecordFault.{RecordFault}
+use Rattle.event_record.specs.declared.fault.RecordFault.TheVariants as records
 use Rattle.insn_codec.specs.declared.fault.CodeFault.{CodeFault}
 use Rattle.insn_codec.specs.declared.fault.CodeFault.TheVariants as codes_of
 use Rattle.insn_codec.specs.Fault.{number_of as code_number}
@@ -70,11 +74,16 @@ class_fields (classes.Index at) = field at
 class_fields (classes.TooLong len) = field len
 class_fields classes.Memory = []
 
+abbrev pub record_fields : RecordFault → List ℕ
+record_fields (records.Line line) = field line
+record_fields records.Memory = []
+
 abbrev pub input_fields : InputFault → List ℕ
 input_fields (faults.TooLong len) = field len
 input_fields (faults.Listing fault) = listing_fields fault
 input_fields (faults.Policy fault) = policy_fields fault
 input_fields (faults.Class fault) = class_fields fault
+input_fields (faults.Record fault) = record_fields fault
 input_fields faults.NotBuilt = []
 input_fields faults.Memory = []
 
@@ -112,11 +121,19 @@ mode_name modes.Release = codes "release"
 abbrev pub refused : ℕ → List ℕ → List ℕ → List ℕ
 refused number name fields = codes "input" ++ field number ++ word name ++ fields
 
+-- ---- what a policy says
+
+abbrev pub verdict_text : Verdict → List ℕ
+verdict_text verdicts.Accepted = codes "accepted"
+verdict_text (verdicts.StoppedAt index) = codes "stopped" ++ field index
+verdict_text (verdicts.Refused index) = codes "denied" ++ field 191 ++ field index
+
 -- the line without its newline
 abbrev pub line_text : Answer → List ℕ
 line_text (answers.Accepted accepted) = codes "accepted" ++ word (mode_name accepted.mode) ++ codes " sites" ++ field accepted.sites
 line_text (answers.Denied fault label) = codes "denied" ++ field (check_number fault) ++ check_fields fault label
 line_text (answers.Shown text) = text
+line_text (answers.Judged verdict) = verdict_text verdict
 line_text (answers.Input name fault) = refused (number_of fault) name (input_fields fault)
 line_text (answers.TotalLong len) = refused 152 (codes "-") (field len)
 line_text (answers.Link fault) = refused (link_number fault) (codes "-") (link_fields fault)

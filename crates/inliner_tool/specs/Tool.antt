@@ -2,6 +2,8 @@
 use Rattle.std.specs.Prelude.{◌≡◌, ◌⊎◌, ℕ, List, Option, Result, Ok, Err}
 use Rattle.mon_store.specs.Store.{Files}
 use Rattle.mon_store.specs.Sink.{Appends, AppendsFront}
+use Rattle.conspec_automaton.specs.declared.running.Verdict.{Verdict}
+use Rattle.conspec_automaton.specs.declared.running.Verdict.TheVariants as verdicts
 use Rattle.inliner_tool.specs.declared.answer.Answer.{Answer}
 use Rattle.inliner_tool.specs.declared.answer.Answer.TheVariants as answers
 use Rattle.inliner_tool.specs.declared.files.Stop.{Stop}
@@ -10,10 +12,10 @@ use Rattle.inliner_tool.specs.declared.inputs.CheckInputs.{CheckInputs}
 use Rattle.inliner_tool.specs.declared.tool.Status.{Status}
 use Rattle.inliner_tool.specs.declared.tool.Status.TheVariants as statuses
 use Rattle.inliner_tool.specs.Forms.{Count}
-use Rattle.inliner_tool.specs.Inputs.{ReadsCheck, ReadsShow}
-use Rattle.inliner_tool.specs.Judging.{IsChecked, check_answer, show_answer}
+use Rattle.inliner_tool.specs.Inputs.{ReadsCheck, ReadsPolicy, ReadsShow}
+use Rattle.inliner_tool.specs.Judging.{IsChecked, check_answer, policy_answer, show_answer}
 use Rattle.inliner_tool.specs.Lines.{text_of}
-use Rattle.inliner_tool.specs.Words.{NamedCheck, NamedCommand, Check, Show, IsCheck, IsCommand}
+use Rattle.inliner_tool.specs.Words.{NamedCheck, NamedCommand, Check, Show, Policy, IsCheck, IsCommand}
 
 -- ---- the headline
 
@@ -39,6 +41,7 @@ Ends {A = A} Reads judge answer =
 abbrev pub Answers : Files → Count → NamedCommand → Answer → Type 0
 Answers files count (Check named) answer = Ends (ReadsCheck files count named) (check_answer named.main) answer
 Answers files count (Show named) answer = Ends (ReadsShow files count named) show_answer answer
+Answers files count (Policy named) answer = Ends (ReadsPolicy files count named) policy_answer answer
 
 -- It is such an answer, or memory ran out.
 abbrev pub IsAnswer : (Answer → Type 0) → Answer → Type 0
@@ -54,10 +57,16 @@ Says files count words answer = (named : NamedCommand) × IsCommand words named 
 
 -- ---- status and output
 
+abbrev pub judged_status : Verdict → Status
+judged_status verdicts.Accepted = statuses.Done
+judged_status (verdicts.StoppedAt index) = statuses.Done
+judged_status (verdicts.Refused index) = statuses.Denied
+
 abbrev pub status_of : Answer → Status
 status_of (answers.Accepted accepted) = statuses.Done
 status_of (answers.Denied fault label) = statuses.Denied
 status_of (answers.Shown text) = statuses.Done
+status_of (answers.Judged verdict) = judged_status verdict
 status_of (answers.Input name fault) = statuses.Input
 status_of (answers.TotalLong len) = statuses.Input
 status_of (answers.Link fault) = statuses.Input

@@ -3,6 +3,7 @@
 use crate::fault::InputFault;
 use bytecode_model::LinkFault;
 use cert_checker::{Accepted, CheckFault};
+use conspec_automaton::Verdict;
 use mon_base::Bytes;
 
 /// What is answered to a command.
@@ -14,6 +15,8 @@ pub enum Answer {
     Denied(CheckFault, Bytes),
     /// The text of the class files.
     Shown(Bytes),
+    /// What a policy says of the events of a run.
+    Judged(Verdict),
     /// The first file that is not what it is named for, and why.
     Input(Bytes, InputFault),
     /// The class files have so many bytes in all, which is too many.

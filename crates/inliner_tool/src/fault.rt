@@ -1,11 +1,12 @@
 //! Why a file is not read as what it is named for.
 
 ghost use Rattle.std.specs.Prelude.{◌≡◌};
-ghost use Rattle.inliner_tool.specs.Fault.{class_told, listing_told, number_of, policy_told};
+ghost use Rattle.inliner_tool.specs.Fault.{class_told, listing_told, number_of, policy_told, record_told};
 
 use api_listing::ListFault;
 use class_codec::ClassFault;
 use conspec_parse::PolicyFault;
+use event_record::RecordFault;
 
 /// Why a file is not read as what it is named for.
 #[derive(Clone, Copy, Debug, PartialEq, Eq)]
@@ -15,6 +16,7 @@ pub enum InputFault {
     Listing(ListFault),
     Policy(PolicyFault),
     Class(ClassFault),
+    Record(RecordFault),
     /// It is not of the form that is built so far.
     NotBuilt,
     /// Memory ran out.
@@ -31,6 +33,7 @@ impl InputFault {
             InputFault::Listing(fault) => fault.number(),
             InputFault::Policy(fault) => fault.number(),
             InputFault::Class(fault) => fault.number(),
+            InputFault::Record(fault) => fault.number(),
             InputFault::NotBuilt => 199,
             InputFault::Memory => 0,
         }
@@ -54,6 +57,16 @@ pub fn policy_told(fault: PolicyFault) -> InputFault
     match fault {
         PolicyFault::Memory => InputFault::Memory,
         fault => InputFault::Policy(fault),
+    }
+}
+
+/// The fault of a record.
+pub fn record_told(fault: RecordFault) -> InputFault
+    ensures { result ≡ record_told fault }
+{
+    match fault {
+        RecordFault::Memory => InputFault::Memory,
+        fault => InputFault::Record(fault),
     }
 }
 

@@ -4,15 +4,17 @@ ghost use Rattle.std.specs.Prelude.{◌≡◌, ◌<◌, ◌≤◌, ◌^◌, leng
 ghost use Rattle.std.specs.List.{AllByRecursion};
 ghost use Rattle.api_listing.specs.Listing.{IsFew};
 ghost use Rattle.class_codec.specs.Fits.{CanSpell};
-ghost use Rattle.inliner_tool.specs.Kinds.{certificate_form, class_form, listing_form, policy_form};
+ghost use Rattle.conspec_parse.specs.Tree.{IsPolicyTree};
+ghost use Rattle.inliner_tool.specs.Kinds.{certificate_form, class_form, listing_form, policy_form, record_form};
 ghost use Rattle.inliner_tool.specs.Reading.{Tells};
 
 use crate::built::is_built_certificate;
-use crate::fault::{InputFault, class_told, listing_told, policy_told};
+use crate::fault::{InputFault, class_told, listing_told, policy_told, record_told};
 use api_listing::{Listing, read};
 use cert_format::{CertForm, Certificate};
 use class_codec::ClassFile;
 use conspec_parse::{PolicyTree, parse};
+use event_record::{Record, read_record};
 use std::alloc::Global;
 
 /// The greatest length of a listing, in bytes.
@@ -26,6 +28,9 @@ pub const CERTIFICATE_LIMIT: u64 = 67_108_864;
 
 /// The greatest length of a class file, in bytes.
 pub const CLASS_LIMIT: u64 = 1_048_576;
+
+/// The greatest length of a record, in bytes.
+pub const RECORD_LIMIT: u64 = 268_435_456;
 
 /// A class file, and the length of its text, in bytes.
 #[derive(Debug, Drop, PartialEq, Eq)]
@@ -50,6 +55,7 @@ pub fn policy_read(alloc: Global, text: &[u8], listing: &Listing) -> Result<Poli
     requires { IsFew listing.now }
     ensures read { Tells result ((policy_form listing.now).reads text.now) }
     ensures few { IfOk result (λ tree. length tree.vars ≤ 16) }
+    ensures sound { IfOk result (λ tree. IsPolicyTree listing.now tree) }
 {
     match parse(alloc, text, listing) {
         Ok(tree) => Ok(tree),
@@ -87,5 +93,16 @@ pub fn class_read(alloc: Global, text: &[u8]) -> Result<ReadClass, InputFault>
             })
         }
         Err(fault) => Err(class_told(fault)),
+    }
+}
+
+/// The record that a text spells over the classes and methods of a listing.
+pub fn record_read(alloc: Global, text: &[u8], listing: &Listing) -> Result<Record, InputFault>
+    requires { IsFew listing.now }
+    ensures { Tells result ((record_form listing.now).reads text.now) }
+{
+    match read_record(alloc, text, listing) {
+        Ok(recorded) => Ok(recorded),
+        Err(fault) => Err(record_told(fault)),
     }
 }

@@ -5,23 +5,25 @@ ghost use Rattle.std.specs.Prelude.{◌≡◌, ◌≤◌, length, IfOk};
 ghost use Rattle.std.specs.List.{AllByRecursion};
 ghost use Rattle.api_listing.specs.Listing.{IsFew};
 ghost use Rattle.class_codec.specs.Fits.{CanSpell};
+ghost use Rattle.conspec_parse.specs.Tree.{IsPolicyTree};
 ghost use Rattle.inliner_tool.specs.Forms.{Form, ReadsForm, since};
-ghost use Rattle.inliner_tool.specs.Inputs.{AreSound, IsOfName, ReadsCheck, ReadsClasses as ReadsFiles, ReadsShow};
-ghost use Rattle.inliner_tool.specs.Kinds.{certificate_form, class_form, listing_form, policy_form};
+ghost use Rattle.inliner_tool.specs.Inputs.{AreSound, IsOfListing, IsOfName, ReadsCheck, ReadsClasses as ReadsFiles, ReadsPolicy, ReadsShow};
+ghost use Rattle.inliner_tool.specs.Kinds.{certificate_form, class_form, listing_form, policy_form, record_form};
 ghost use Rattle.inliner_tool.specs.Reading.{Tells};
-ghost use Rattle.inliner_tool.specs.Words.{check_named, show_named};
+ghost use Rattle.inliner_tool.specs.Words.{check_named, policy_named, show_named};
 
 use crate::fault::InputFault;
 use crate::files::{Stop, text_of};
 use crate::forms::{
-    CERTIFICATE_LIMIT, CLASS_LIMIT, LISTING_LIMIT, POLICY_LIMIT, ReadClass, certificate_read,
-    class_read, listing_read, policy_read,
+    CERTIFICATE_LIMIT, CLASS_LIMIT, LISTING_LIMIT, POLICY_LIMIT, RECORD_LIMIT, ReadClass,
+    certificate_read, class_read, listing_read, policy_read, record_read,
 };
-use crate::words::{CheckWords, ShowWords};
+use crate::words::{CheckWords, PolicyWords, ShowWords};
 use api_listing::Listing;
 use cert_format::Certificate;
 use class_codec::ClassFile;
 use conspec_parse::PolicyTree;
+use event_record::Record;
 use mon_base::{Bytes, List};
 use mon_store::Store;
 use std::alloc::Global;
@@ -47,6 +49,13 @@ pub struct CheckInputs {
 pub struct ShowInputs {
     pub listing: Listing,
     pub classes: ReadClasses,
+}
+
+/// What the files of a policy and of a run are.
+#[derive(Debug, Drop)]
+pub struct PolicyInputs {
+    pub policy: PolicyTree,
+    pub recorded: Record,
 }
 
 /// What was read from the file of this name, or that it was refused.
@@ -83,6 +92,7 @@ fn policy_of<S: Store>(
     ensures form { ReadsForm (S.files store.old) (since (S.faults store.old) (S.faults store.new) (S.last store.new))
         name.now (policy_form listing.now) result }
     ensures few { IfOk result (λ tree. length tree.vars ≤ 16) }
+    ensures sound { IfOk result (λ tree. IsPolicyTree listing.now tree) }
     ensures files { S.files store.new ≡ S.files store.old }
     ensures faults { S.faults store.old ≤ S.faults store.new }
 {
@@ -104,6 +114,23 @@ fn certificate_of<S: Store>(
 {
     let text = text_of(alloc, store, name, CERTIFICATE_LIMIT)?;
     of_name(alloc, name, certificate_read(alloc, text.as_slice(), vars))
+}
+
+/// The record that a file spells, over the classes and methods of the listing.
+fn record_of<S: Store>(
+    alloc: Global,
+    store: &mut S,
+    name: &Bytes,
+    listing: &Listing,
+) -> Result<Record, Stop>
+    requires { IsFew listing.now }
+    ensures form { ReadsForm (S.files store.old) (since (S.faults store.old) (S.faults store.new) (S.last store.new))
+        name.now (record_form listing.now) result }
+    ensures files { S.files store.new ≡ S.files store.old }
+    ensures faults { S.faults store.old ≤ S.faults store.new }
+{
+    let text = text_of(alloc, store, name, RECORD_LIMIT)?;
+    of_name(alloc, name, record_read(alloc, text.as_slice(), listing))
 }
 
 /// The class file of a name.
@@ -184,4 +211,22 @@ pub fn read_show<S: Store>(
     let listing = listing_of(alloc, store, words.listing)?;
     let classes = classes_of(alloc, store, words.classes)?;
     Ok(ShowInputs { listing, classes })
+}
+
+/// Reads the files of a policy and of a run in their order: listing, policy, record.
+pub fn read_policy<S: Store>(
+    alloc: Global,
+    store: &mut S,
+    words: &PolicyWords,
+) -> Result<PolicyInputs, Stop>
+    ensures read { ReadsPolicy (S.files store.old) (since (S.faults store.old) (S.faults store.new) (S.last store.new))
+        (policy_named words.now) result }
+    ensures sound { IfOk result (λ inputs. IsOfListing inputs.policy) }
+    ensures files { S.files store.new ≡ S.files store.old }
+    ensures faults { S.faults store.old ≤ S.faults store.new }
+{
+    let listing = listing_of(alloc, store, words.listing)?;
+    let policy = policy_of(alloc, store, words.policy, &listing)?;
+    let recorded = record_of(alloc, store, words.recorded, &listing)?;
+    Ok(PolicyInputs { policy, recorded })
 }

@@ -4,7 +4,7 @@ ghost use Rattle.std.specs.Prelude.{◌≡◌, ◌≤◌, length, map, IfOk};
 ghost use Rattle.std.specs.List.{AllByRecursion};
 ghost use Rattle.bytecode_model.specs.Sound.{IsSound};
 ghost use Rattle.class_codec.specs.Fits.{CanSpell};
-ghost use Rattle.inliner_tool.specs.Inputs.{AreSound};
+ghost use Rattle.inliner_tool.specs.Inputs.{AreSound, IsOfListing};
 ghost use Rattle.inliner_tool.specs.Judging.{
   EndsWell,
   Is,
@@ -15,18 +15,19 @@ ghost use Rattle.inliner_tool.specs.Judging.{
   label_of,
   link_answer,
   number_of_class,
+  policy_answer,
   program_answer,
   show_answer,
 };
 
 use crate::answer::Answer;
 use crate::built::is_built;
-use crate::inputs::{CheckInputs, ShowInputs};
+use crate::inputs::{CheckInputs, PolicyInputs, ShowInputs};
 use bytecode_model::{LinkFault, Program, Side, link};
 use cert_checker::{CheckFault, check};
 use cert_format::Certificate;
 use class_text::{ShowFault, show};
-use conspec_automaton::{asks_nothing, build};
+use conspec_automaton::{accept, asks_nothing, build};
 use conspec_parse::PolicyTree;
 use mon_base::{Bytes, NoMemory};
 use std::alloc::Global;
@@ -150,5 +151,16 @@ pub fn show_answer(alloc: Global, inputs: &ShowInputs) -> Answer
             fault,
         }),
         Err(ShowFault::Memory) => Answer::Memory,
+    }
+}
+
+/// What the policy says of the events of the run.
+pub fn policy_answer(alloc: Global, inputs: &PolicyInputs) -> Answer
+    requires { IsOfListing inputs.now.policy }
+    ensures { Is result (policy_answer inputs.now) }
+{
+    match build(alloc, &inputs.policy) {
+        Ok(policy) => Answer::Judged(accept(&policy, inputs.recorded.events.as_slice())),
+        Err(NoMemory) => Answer::Memory,
     }
 }

@@ -14,8 +14,10 @@ ghost use Rattle.inliner_tool.specs.Lines.{
   listing_fields,
   mode_name,
   policy_fields,
+  record_fields,
   refused,
   text_of,
+  verdict_text,
   word,
 };
 
@@ -26,7 +28,9 @@ use bytecode_model::LinkFault;
 use cert_checker::{Accepted, CheckFault};
 use cert_format::Mode;
 use class_codec::ClassFault;
+use conspec_automaton::Verdict;
 use conspec_parse::PolicyFault;
+use event_record::RecordFault;
 use insn_codec::CodeFault;
 use mon_base::{Bytes, NoMemory, push_count};
 use std::alloc::Global;
@@ -56,6 +60,7 @@ fn push_line(text: &mut Bytes, answer: &Answer) -> Result<(), NoMemory>
         Answer::Accepted(accepted) => push_accepted(text, *accepted),
         Answer::Denied(fault, label) => push_denied(text, fault, label),
         Answer::Shown(shown) => text.extend(shown.as_slice()),
+        Answer::Judged(verdict) => push_verdict(text, *verdict),
         Answer::Input(name, fault) => push_input(text, name, fault),
         Answer::TotalLong { len } => {
             push_refused(text, 152, b"-")?;
@@ -125,6 +130,23 @@ fn push_place(text: &mut Bytes, method: u32, at: u32, rule: u8) -> Result<(), No
     push_field(text, u64::from(rule))
 }
 
+fn push_verdict(text: &mut Bytes, verdict: Verdict) -> Result<(), NoMemory>
+    ensures { OnOk result (text.new ≡ text.old ++ verdict_text verdict) }
+{
+    match verdict {
+        Verdict::Accepted => text.extend(b"accepted"),
+        Verdict::StoppedAt { index } => {
+            text.extend(b"stopped")?;
+            push_field(text, index)
+        }
+        Verdict::Refused { index } => {
+            text.extend(b"denied")?;
+            push_field(text, 191)?;
+            push_field(text, index)
+        }
+    }
+}
+
 fn push_input(text: &mut Bytes, name: &Bytes, fault: &InputFault) -> Result<(), NoMemory>
     ensures { OnOk result (text.new ≡ text.old ++ line_text (answers.Input name.now fault.now)) }
 {
@@ -134,6 +156,7 @@ fn push_input(text: &mut Bytes, name: &Bytes, fault: &InputFault) -> Result<(), 
         InputFault::Listing(fault) => push_listing_fields(text, fault),
         InputFault::Policy(fault) => push_policy_fields(text, fault),
         InputFault::Class(fault) => push_class_fields(text, fault),
+        InputFault::Record(fault) => push_record_fields(text, fault),
         InputFault::NotBuilt => Ok(()),
         InputFault::Memory => Ok(()),
     }
@@ -164,6 +187,15 @@ fn push_policy_fields(text: &mut Bytes, fault: &PolicyFault) -> Result<(), NoMem
         PolicyFault::Limit { at } => push_field(text, *at),
         PolicyFault::Builtin { at } => push_field(text, *at),
         PolicyFault::Memory => Ok(()),
+    }
+}
+
+fn push_record_fields(text: &mut Bytes, fault: &RecordFault) -> Result<(), NoMemory>
+    ensures { OnOk result (text.new ≡ text.old ++ record_fields fault.now) }
+{
+    match fault {
+        RecordFault::Line { line } => push_field(text, *line),
+        RecordFault::Memory => Ok(()),
     }
 }
 

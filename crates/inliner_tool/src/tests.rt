@@ -4,6 +4,7 @@ mod answers;
 mod files;
 mod limits;
 mod notes;
+mod policy;
 mod reading;
 mod refusals;
 mod show;

@@ -6,15 +6,16 @@ ghost use Rattle.inliner_tool.specs.declared.answer.Answer.TheVariants as answer
 ghost use Rattle.inliner_tool.specs.Forms.{since};
 ghost use Rattle.inliner_tool.specs.Judging.{EndsWell};
 ghost use Rattle.inliner_tool.specs.Status.{code_of};
-ghost use Rattle.inliner_tool.specs.Tool.{Answers, Holds, IsAnswer, Replies, Says, status_of, stopped};
-ghost use Rattle.inliner_tool.specs.Words.{Check, IsCheck, NamedCheck, Show, check_named, show_named};
+ghost use Rattle.inliner_tool.specs.Tool.{Answers, Holds, IsAnswer, Replies, Says, judged_status, status_of, stopped};
+ghost use Rattle.inliner_tool.specs.Words.{Check, IsCheck, NamedCheck, Policy, Show, check_named, policy_named, show_named};
 
 use crate::answer::Answer;
 use crate::files::Stop;
-use crate::inputs::{read_check, read_show};
-use crate::judging::{check_answer, show_answer};
+use crate::inputs::{read_check, read_policy, read_show};
+use crate::judging::{check_answer, policy_answer, show_answer};
 use crate::lines::text_of;
-use crate::words::{CheckWords, Command, ShowWords, command_of};
+use crate::words::{CheckWords, Command, PolicyWords, ShowWords, command_of};
+use conspec_automaton::Verdict;
 use mon_base::Bytes;
 use mon_store::{Sink, SinkFault, Store};
 use std::alloc::Global;
@@ -56,7 +57,8 @@ impl Status {
 }
 
 /// A command: `check POLICY LISTING CERT MAIN CLASS..` links the classes and checks the program with its certificate;
-/// `show LISTING CLASS..` gives the text of class files.
+/// `show LISTING CLASS..` gives the text of class files; `policy POLICY LISTING RECORD` says of the events of a run whether
+/// they obey the policy.
 ///
 /// It changes no file. One output is put into the sink, which says the answer.
 pub fn run_tool<S: Store, K: Sink>(
@@ -110,6 +112,7 @@ fn answer_to<S: Store>(alloc: Global, words: &[Bytes], store: &mut S) -> Answer
     match command_of(words) {
         Some(Command::Check(words)) => answer_check(alloc, &words, store),
         Some(Command::Show(words)) => answer_show(alloc, &words, store),
+        Some(Command::Policy(words)) => answer_policy(alloc, &words, store),
         None => Answer::Usage,
     }
 }
@@ -142,6 +145,19 @@ fn answer_show<S: Store>(alloc: Global, words: &ShowWords, store: &mut S) -> Ans
     }
 }
 
+/// The answer to `policy`.
+fn answer_policy<S: Store>(alloc: Global, words: &PolicyWords, store: &mut S) -> Answer
+    ensures says { IsAnswer (λ answer. Answers (S.files store.old) (since (S.faults store.old) (S.faults store.new) (S.last store.new))
+        (Policy (policy_named words.now)) answer) result }
+    ensures files { S.files store.new ≡ S.files store.old }
+    ensures faults { S.faults store.old ≤ S.faults store.new }
+{
+    match read_policy(alloc, store, words) {
+        Ok(inputs) => policy_answer(alloc, &inputs),
+        Err(stop) => stopped(stop),
+    }
+}
+
 /// The answer where the reading of files stopped.
 fn stopped(stop: Stop) -> Answer
     ensures { result ≡ stopped stop }
@@ -161,6 +177,7 @@ fn status_of(answer: &Answer) -> Status
         Answer::Accepted(_) => Status::Done,
         Answer::Denied(_, _) => Status::Denied,
         Answer::Shown(_) => Status::Done,
+        Answer::Judged(verdict) => judged_status(*verdict),
         Answer::Input(_, _) => Status::Input,
         Answer::TotalLong { .. } => Status::Input,
         Answer::Link(_) => Status::Input,
@@ -168,5 +185,16 @@ fn status_of(answer: &Answer) -> Status
         Answer::Unread(_) => Status::StoreFault,
         Answer::Usage => Status::Usage,
         Answer::Memory => Status::Memory,
+    }
+}
+
+/// The status where a policy says this of the events of a run.
+fn judged_status(verdict: Verdict) -> Status
+    ensures { result ≡ judged_status verdict }
+{
+    match verdict {
+        Verdict::Accepted => Status::Done,
+        Verdict::StoppedAt { .. } => Status::Done,
+        Verdict::Refused { .. } => Status::Denied,
     }
 }

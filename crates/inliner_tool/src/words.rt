@@ -5,12 +5,15 @@ ghost use Rattle.std.specs.List.{AllByRecursion};
 ghost use Rattle.inliner_tool.specs.Words.{
   IsCheck,
   IsCommand,
+  IsPolicyCommand,
   IsShow,
   NamedCheck,
   NamedCommand,
+  NamedPolicy,
   NamedShow,
   check_named,
   named_by,
+  policy_named,
   show_named,
 };
 
@@ -34,14 +37,24 @@ pub struct ShowWords<'a> {
     pub classes: &'a [Bytes],
 }
 
+/// The words of the command `policy`, each the name of a file.
+#[derive(Clone, Copy)]
+pub struct PolicyWords<'a> {
+    pub policy: &'a Bytes,
+    pub listing: &'a Bytes,
+    /// The record of a run.
+    pub recorded: &'a Bytes,
+}
+
 /// A command and its words.
 #[derive(Clone, Copy)]
 pub enum Command<'a> {
     Check(CheckWords<'a>),
     Show(ShowWords<'a>),
+    Policy(PolicyWords<'a>),
 }
 
-/// The command whose words these are: at least one class is named, and no word is empty.
+/// The command whose words these are. No word is empty, and where classes are named there is at least one.
 pub fn command_of(words: &[Bytes]) -> Option<Command<'_>>
     ensures found { IfSome result (λ c. IsCommand words.now (named_by c)) }
     ensures none { IfNone result ((named : NamedCommand) → IsCommand words.now named → ⊥) }
@@ -54,7 +67,12 @@ pub fn command_of(words: &[Bytes]) -> Option<Command<'_>>
         None => {
             match show_words(words) {
                 Some(words) => Some(Command::Show(words)),
-                None => None,
+                None => {
+                    match policy_words(words) {
+                        Some(words) => Some(Command::Policy(words)),
+                        None => None,
+                    }
+                }
             }
         }
     }
@@ -91,6 +109,24 @@ fn show_words(words: &[Bytes]) -> Option<ShowWords<'_>>
         return None;
     }
     Some(ShowWords { listing, classes })
+}
+
+fn policy_words(words: &[Bytes]) -> Option<PolicyWords<'_>>
+    ensures found { IfSome result (λ c. IsPolicyCommand words.now (policy_named c)) }
+    ensures none { IfNone result ((named : NamedPolicy) → IsPolicyCommand words.now named → ⊥) }
+{
+    let (command, words) = first_of(words)?;
+    let (policy, words) = first_of(words)?;
+    let (listing, words) = first_of(words)?;
+    let (recorded, words) = first_of(words)?;
+    if command.as_slice() != b"policy".as_slice() || !words.is_empty() {
+        return None;
+    }
+    Some(PolicyWords {
+        policy,
+        listing,
+        recorded,
+    })
 }
 
 /// Whether no word is empty.

@@ -1,4 +1,4 @@
-use Rattle.std.proofs.Common.{◌≡◌, ◌∙◌, sym}
+use Rattle.std.proofs.Common.{◌∙◌, sym}
 use Rattle.conspec_automaton.proofs.Denials.{only_denies}
 use Rattle.conspec_automaton.proofs.building.asks_nothing.Goals as goal
 

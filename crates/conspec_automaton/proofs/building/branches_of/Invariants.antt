@@ -1,4 +1,4 @@
-use Rattle.std.proofs.Common.{◌≡◌, ◌++◌, take, map}
+use Rattle.std.proofs.Common.{◌≡◌, take}
 use Rattle.conspec_automaton.specs.Building.{branches_of}
 use Rattle.conspec_automaton.proofs.building.branches_of.Given as goal
 

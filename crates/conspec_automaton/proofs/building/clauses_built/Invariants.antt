@@ -1,4 +1,4 @@
-use Rattle.std.proofs.Common.{◌≡◌, ◌++◌, take, map}
+use Rattle.std.proofs.Common.{◌≡◌, take, map}
 use Rattle.conspec_automaton.specs.Building.{clause_built}
 use Rattle.conspec_automaton.proofs.building.clauses_built.Given as goal
 

@@ -1,4 +1,4 @@
-use Rattle.std.proofs.Common.{◌≡◌, ◌++◌, take, map}
+use Rattle.std.proofs.Common.{◌≡◌, take}
 use Rattle.conspec_automaton.proofs.building.copy_vars.Given as goal
 
 abbrev pub invariant-loop-var : goal.invariant-loop-var

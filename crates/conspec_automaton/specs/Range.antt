@@ -1,0 +1,48 @@
+-- The states in range, and what an update needs to leave its variable in range.
+use Rattle.std.specs.Prelude.{◌≡◌, ◌≢◌, ◌&&◌, ℤ, pos, ◌+ℤ◌, Bool, true, false, int_le, List, [], ◌∷◌, Some, slice_get, AllPairs, FitsSigned}
+use Rattle.std.specs.Int.{w32}
+use Rattle.std.specs.List.{AllByRecursion, list_all}
+use Rattle.std.specs.Option.{option_map_or}
+use Rattle.conspec_parse.specs.declared.types.Update.{Update}
+use Rattle.conspec_parse.specs.declared.types.Update.TheVariants.{Set, Add}
+use Rattle.conspec_parse.specs.declared.types.Var.{Var}
+use Rattle.conspec_parse.specs.Tree.{greatest, IsUpdateIn}
+use Rattle.conspec_parse.specs.Updates.{target}
+use Rattle.conspec_automaton.specs.declared.policy.Policy.{Policy}
+use Rattle.conspec_automaton.specs.Next.{Values}
+
+abbrev pub is_between : ℤ → ℤ → ℤ → Bool
+is_between low high n = int_le low n && int_le n high
+
+abbrev pub is_in_range : ℤ → Var → ℤ → Bool
+is_in_range maxint var n = is_between (pos 0) (greatest maxint var.is_bool) n
+
+-- a value for each variable, in its range
+abbrev pub are_in_range : ℤ → List Var → Values → Bool
+are_in_range maxint [] [] = true
+are_in_range maxint [] (n ∷ values) = false
+are_in_range maxint (var ∷ vars) [] = false
+are_in_range maxint (var ∷ vars) (n ∷ values) = is_in_range maxint var n && are_in_range maxint vars values
+
+-- the states of a policy
+abbrev pub in_range : Policy → Values → Bool
+in_range policy state = are_in_range policy.maxint policy.vars state
+
+-- ---- updates
+
+-- The sum is in the range of an int variable.
+abbrev pub has_room : ℤ → Values → Update → Bool
+has_room maxint state (Set var value) = true
+has_room maxint state (Add var by) = option_map_or (λ n. is_between (pos 0) maxint (n +ℤ by)) (slice_get state var) false
+
+-- The state is in range, and so are those that the updates lead to: each is of another variable.
+pub record MayUpdate (vars : List Var) (maxint : ℤ) (state : Values) (updates : List Update) : Type 0 where
+  pub ranged : are_in_range maxint vars state ≡ true
+  pub each : AllByRecursion (IsUpdateIn vars maxint) updates
+  pub once : AllPairs (λ u w. target u ≢ target w) updates
+  pub room : list_all (has_room maxint state) updates ≡ true
+
+-- The sum is a number of 32 bits.
+abbrev pub SumFits : Values → Update → Type 0
+SumFits state (Set var value) = Unit {0}
+SumFits state (Add var by) = (n : ℤ) → slice_get state var ≡ Some n → FitsSigned w32 (n +ℤ by)

@@ -1,0 +1,6 @@
+pub mod Fault
+pub mod Number
+pub mod Library
+pub mod Value
+pub mod Entry
+pub mod Record

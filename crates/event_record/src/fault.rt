@@ -1,0 +1,57 @@
+//! Why a text is no record.
+
+ghost use Rattle.std.specs.Prelude.{◌≡◌};
+ghost use Rattle.event_record.specs.Fault.{number_of};
+ghost use Rattle.event_record.specs.declared.fault.RecordFault.TheVariants as faults;
+
+use mon_base::NoMemory;
+use std::alloc::{AllocError, AllocFailed};
+use thiserror::Error;
+
+/// What is wrong with the text. `line` counts from 1.
+#[derive(Clone, Copy, Debug, PartialEq, Eq, Error)]
+pub enum RecordFault {
+    /// The first line that has no form of a record, that brings the steps above 1,000,000, that stands behind the end line,
+    /// or that has no newline behind it; or the line behind the last, where there is no end line.
+    #[error("line {line} is no line of a record")]
+    Line { line: u64 },
+    /// Memory ran out.
+    #[error("out of memory")]
+    Memory,
+}
+
+impl RecordFault {
+    /// The number under which the fault is reported.
+    pub fn number(&self) -> u32
+        ensures { result ≡ number_of self.now }
+    {
+        match self {
+            RecordFault::Line { .. } => 261,
+            RecordFault::Memory => 0,
+        }
+    }
+}
+
+impl From<NoMemory> for RecordFault {
+    ghost from_gives = { λ _ e. e ≡ faults.Memory };
+
+    fn from(_error: NoMemory) -> RecordFault {
+        RecordFault::Memory
+    }
+}
+
+impl From<AllocError> for RecordFault {
+    ghost from_gives = { λ _ e. e ≡ faults.Memory };
+
+    fn from(_error: AllocError) -> RecordFault {
+        RecordFault::Memory
+    }
+}
+
+impl<T: Drop> From<AllocFailed<T>> for RecordFault {
+    ghost from_gives = { λ _ e. e ≡ faults.Memory };
+
+    fn from(_error: AllocFailed<T>) -> RecordFault {
+        RecordFault::Memory
+    }
+}

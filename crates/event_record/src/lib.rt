@@ -1,0 +1,19 @@
+//! Records: a run as text, with the steps of the threads, the answers of the library, and what was seen of its calls.
+//!
+//! [`read_record`] reads the steps and the events of a record, or answers its first line that is wrong. [`push_value`] and
+//! [`push_event`] print values and events as a record has them. (docs/RECORDS.md)
+#![tactic(auto)]
+
+mod entry;
+mod fault;
+mod names;
+mod number;
+mod reading;
+mod value;
+mod words;
+
+pub use fault::RecordFault;
+pub use reading::{Record, read_record};
+
+#[cfg(test)]
+mod tests;

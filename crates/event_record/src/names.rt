@@ -1,0 +1,78 @@
+//! The names of a listing, in an ordered set and an ordered map that are made once.
+
+ghost use Rattle.std.specs.Prelude.{◌≡◌, ◌<◌, ◌^◌, ◌||◌, ℕ, List, length, bytes_eq, IfOk, OnOk};
+ghost use Rattle.api_listing.specs.Listing.{is_known};
+ghost use Rattle.api_listing.specs.Seen.{has_name};
+ghost use Rattle.mon_base.specs.declared.method.MethodId.{MethodId};
+ghost use Rattle.event_record.specs.Library.{AddsFirst, AreNames, index_in, place_of};
+
+use api_listing::{ListedClass, ListedMethod, Listing};
+use mon_base::{Bytes, MethodId, NoMemory};
+use std::alloc::Global;
+use std::collections::{BTreeMap, BTreeSet};
+
+/// The names of classes, and the indices of methods.
+#[derive(Drop)]
+pub struct Names {
+    pub classes: BTreeSet<Bytes>,
+    pub methods: BTreeMap<MethodId, u32>,
+}
+
+/// The names of a listing.
+pub fn names_of(alloc: Global, listing: &Listing) -> Result<Names, NoMemory>
+    requires { length listing.now.methods < 2 ^ 32 }
+    ensures { IfOk result (λ names. AreNames listing.now names) }
+{
+    Ok(Names {
+        classes: classes_of(alloc, listing.classes.as_slice())?,
+        methods: methods_of(alloc, listing.methods.as_slice())?,
+    })
+}
+
+fn classes_of(alloc: Global, classes: &[ListedClass]) -> Result<BTreeSet<Bytes>, NoMemory>
+    ensures { IfOk result (λ names. (q : List ℕ) → has_name names q ≡ is_known classes.now q) }
+{
+    let mut names = BTreeSet::new(alloc);
+    for class in classes {
+        add_name(alloc, &mut names, &class.name)?;
+    }
+    Ok(names)
+}
+
+fn add_name(alloc: Global, names: &mut BTreeSet<Bytes>, name: &Bytes) -> Result<(), NoMemory>
+    ensures { OnOk result ((q : List ℕ) → has_name names.new q ≡ (bytes_eq name.now q || has_name names.old q)) }
+{
+    names.insert(name.copy(alloc)?)?;
+    Ok(())
+}
+
+/// The index of the first method of each name.
+fn methods_of(alloc: Global, methods: &[ListedMethod]) -> Result<BTreeMap<MethodId, u32>, NoMemory>
+    requires { length methods.now < 2 ^ 32 }
+    ensures { IfOk result (λ places. (q : MethodId) → place_of places q ≡ index_in methods.now q) }
+{
+    let mut places = BTreeMap::new(alloc);
+    let mut index: u32 = 0;
+    let mut left = methods;
+    while let [method, rest @ ..] = left {
+        add_first(alloc, &mut places, &method.id, index)?;
+        index += 1;
+        left = rest;
+    }
+    Ok(places)
+}
+
+/// Adds a method with its index, if its name is new.
+fn add_first(
+    alloc: Global,
+    places: &mut BTreeMap<MethodId, u32>,
+    id: &MethodId,
+    index: u32,
+) -> Result<(), NoMemory>
+    ensures { OnOk result (AddsFirst places.old places.new id.now index) }
+{
+    if !places.contains_key(id) {
+        places.insert(id.copy(alloc)?, index)?;
+    }
+    Ok(())
+}

@@ -1,0 +1,196 @@
+//! A record out of its text.
+
+ghost use Rattle.std.specs.Prelude.{◌≡◌, ◌<◌, ◌+◌, ◌++◌, ◌^◌, false, nat_lt, length, map, replicate, OnOk};
+ghost use Rattle.api_listing.specs.Words.{pieces};
+ghost use Rattle.event_record.specs.Fault.{Answers};
+ghost use Rattle.event_record.specs.Library.{library_in, library_of};
+ghost use Rattle.event_record.specs.Record.{
+  after_line,
+  after_lines,
+  empty_record,
+  is_over,
+  more_steps,
+  over,
+  plain,
+  reading,
+  with_entry,
+};
+
+use crate::entry::{Entry, entry_of};
+use crate::fault::RecordFault;
+use crate::names::{Names, names_of};
+use crate::words::{parts_of, words_of};
+use api_listing::{Event, FormFault, Listing};
+use guest_model::{Choice, Step};
+use mon_base::{List, NoMemory};
+use std::alloc::Global;
+
+/// The steps and the events of a record, each in their order.
+#[derive(Debug, Drop, PartialEq, Eq)]
+pub struct Record {
+    pub steps: List<Step>,
+    pub events: List<Event>,
+}
+
+/// The record after a line, and whether that was the end line.
+#[derive(Debug, Drop)]
+pub struct Told {
+    pub after: Record,
+    pub is_last: bool,
+}
+
+/// The record that the text spells over the classes and methods of the listing, or its first line that is wrong.
+pub fn read_record(alloc: Global, text: &[u8], listing: &Listing) -> Result<Record, RecordFault>
+    requires listed { length listing.now.methods < 2 ^ 32 }
+    // What is read decides the answer, and which line is the first that is wrong.
+    ensures exact { Answers result (reading text.now listing.now) }
+{
+    let names = names_of(alloc, listing)?;
+    let lines = parts_of(alloc, text, b'\n')?;
+    read_lines(alloc, &names, lines.as_slice())
+}
+
+fn read_lines(alloc: Global, names: &Names, lines: &[&[u8]]) -> Result<Record, RecordFault>
+    requires { length lines.now < 2 ^ 63 }
+    ensures { Answers result (after_lines (library_in names.now) 1 empty_record (map (λ p. p.now) lines.now)) }
+{
+    let mut so_far = empty_record(alloc);
+    let mut number: u64 = 1;
+    let mut left = lines;
+    while let [line, rest @ ..] = left {
+        if rest.is_empty() {
+            return Err(RecordFault::Line { line: number });
+        }
+        let told = after_line(alloc, names, number, so_far, line)?;
+        if told.is_last {
+            return over(number, told.after, rest);
+        }
+        so_far = told.after;
+        number += 1;
+        left = rest;
+    }
+    Err(RecordFault::Line { line: number })
+}
+
+fn empty_record(alloc: Global) -> Record
+    ensures { result ≡ empty_record }
+{
+    Record {
+        steps: List::new(alloc),
+        events: List::new(alloc),
+    }
+}
+
+/// What the end line gives, with what stands behind its newline.
+fn over(number: u64, so_far: Record, rest: &[&[u8]]) -> Result<Record, RecordFault>
+    requires { number + 1 < 2 ^ 64 }
+    ensures { Answers result (over number so_far (map (λ p. p.now) rest.now)) }
+{
+    if is_over(rest) {
+        Ok(so_far)
+    } else {
+        Err(RecordFault::Line { line: number + 1 })
+    }
+}
+
+fn is_over(rest: &[&[u8]]) -> bool
+    ensures { result ≡ is_over (map (λ p. p.now) rest.now) }
+{
+    match rest {
+        [] => true,
+        [last, others @ ..] => last.is_empty() && others.is_empty(),
+    }
+}
+
+/// The record after the line with this number.
+#[tactic(auto, unfolding(crate::specs::Record::after_line))]
+fn after_line(
+    alloc: Global,
+    names: &Names,
+    number: u64,
+    so_far: Record,
+    line: &[u8],
+) -> Result<Told, RecordFault>
+    ensures { Answers result (after_line (library_in names.now) number so_far line.now) }
+{
+    let words = words_of(alloc, line)?;
+    match entry_of(alloc, names, words.as_slice()) {
+        Ok(entry) => with_entry(number, so_far, entry),
+        Err(FormFault::NoForm) => Err(RecordFault::Line { line: number }),
+        Err(FormFault::Memory) => Err(RecordFault::Memory),
+    }
+}
+
+fn with_entry(number: u64, so_far: Record, entry: Entry) -> Result<Told, RecordFault>
+    ensures { Answers result (with_entry number so_far entry) }
+{
+    match entry {
+        Entry::Go { thread, count } => plain_steps(number, so_far, thread, count),
+        Entry::Answer { thread, answer } => {
+            let choice = Choice::Answer(answer);
+            one_step(number, so_far, Step { thread, choice })
+        }
+        Entry::Seen(event) => {
+            let Record { steps, mut events } = so_far;
+            events.push(event)?;
+            Ok(goes_on(steps, events))
+        }
+        Entry::End => {
+            Ok(Told {
+                after: so_far,
+                is_last: true,
+            })
+        }
+    }
+}
+
+fn goes_on(steps: List<Step>, events: List<Event>) -> Told
+    ensures { result ≡ record { after = record { steps = steps; events = events }; is_last = false } }
+{
+    Told {
+        after: Record { steps, events },
+        is_last: false,
+    }
+}
+
+/// So many plain steps of a thread more.
+fn plain_steps(number: u64, so_far: Record, thread: u32, count: u32) -> Result<Told, RecordFault>
+    ensures { Answers result (more_steps number so_far count (plain thread)) }
+{
+    let Record { mut steps, events } = so_far;
+    if too_many(steps.len(), count) {
+        return Err(RecordFault::Line { line: number });
+    }
+    push_plain(&mut steps, thread, count)?;
+    Ok(goes_on(steps, events))
+}
+
+/// A step more.
+fn one_step(number: u64, so_far: Record, step: Step) -> Result<Told, RecordFault>
+    ensures { Answers result (more_steps number so_far 1 step) }
+{
+    let Record { mut steps, events } = so_far;
+    if too_many(steps.len(), 1) {
+        return Err(RecordFault::Line { line: number });
+    }
+    steps.push(step)?;
+    Ok(goes_on(steps, events))
+}
+
+fn too_many(steps: usize, more: u32) -> bool
+    ensures { result ≡ nat_lt 1000000 (steps + more) }
+{
+    steps > 1_000_000 || steps as u64 + u64::from(more) > 1_000_000
+}
+
+fn push_plain(steps: &mut List<Step>, thread: u32, count: u32) -> Result<(), NoMemory>
+    ensures { OnOk result (steps.new ≡ steps.old ++ replicate count (plain thread)) }
+{
+    for _ in 0..count {
+        steps.push(Step {
+            thread,
+            choice: Choice::Plain,
+        })?;
+    }
+    Ok(())
+}
