@@ -6,7 +6,7 @@ use Rattle.api_listing.specs.declared.events.Event.{Event}
 use Rattle.api_listing.specs.declared.events.Event.TheVariants as events
 use Rattle.conspec_automaton.specs.declared.policy.Clause.{Clause}
 use Rattle.conspec_automaton.specs.declared.policy.Policy.{Policy}
-use Rattle.conspec_automaton.specs.Next.{State, clause_of, has_clause, initial, next, next_by}
+use Rattle.conspec_automaton.specs.Next.{Values, clause_of, has_clause, initial, next, next_by}
 use Rattle.conspec_automaton.specs.Obeys.{Follows, Obeys, after, is_return}
 use Rattle.guest_model.specs.First.{BeginsWithCall, SeesFirstCall, goes_on, is_done}
 use Rattle.guest_model.specs.Runs.{trace}
@@ -28,7 +28,7 @@ not_followed {S} {E} step returns first e later none calls (inr (d ∷ before, l
     not_after step first d before (subst (λ (x : E). step first x ≡ None) same none) some
 
 -- An event that is refused has a clause.
-refused_has_clause : (policy : Policy) (state : State) (event : Event) (clause : Option Clause) → clause_of policy event ≡ clause → next policy state event ≡ None → has_clause policy event ≡ true
+refused_has_clause : (policy : Policy) (state : Values) (event : Event) (clause : Option Clause) → clause_of policy event ≡ clause → next policy state event ≡ None → has_clause policy event ≡ true
 refused_has_clause policy state event None is none =
     let same : next policy state event ≡ Some state = ap (λ (c : Option Clause). option_map_or (λ (c : Clause). next_by c state event) c (Some state)) is in
     absurd cc
