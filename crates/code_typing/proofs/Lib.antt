@@ -5,3 +5,4 @@ pub mod Faults
 mod Reaching
 pub mod Closed
 pub mod Moving
+pub mod Afterwards

@@ -1,11 +1,11 @@
 //! The frame after an instruction that is reached, and the one that a handler or a method begins with.
 
-ghost use Rattle.std.specs.Prelude.{◌≡◌, ◌∷◌, [], ◌++◌, ℕ, length, map, option_map, IfOk, OnOk};
+ghost use Rattle.std.specs.Prelude.{◌≡◌, ◌∷◌, [], ◌++◌, ◌≤◌, ℕ, false, length, map, option_map, IfOk, OnOk};
 ghost use Rattle.std.specs.Option.{option_to_list};
 ghost use Rattle.cert_format.specs.declared.typing.VType.TheVariants.{Ref};
 ghost use Rattle.type_lattice.specs.Lending.{type_lent};
 ghost use Rattle.code_typing.specs.Described.{types_at, type_described};
-ghost use Rattle.code_typing.specs.Makes.{form_yields, heap_yields, yields, stack_after, local_after, type_at};
+ghost use Rattle.code_typing.specs.Makes.{form_yields, heap_yields, yields, stores, stack_after, local_after, type_at};
 ghost use Rattle.code_typing.specs.Rules.{arguments_typed, entry_locals, class_caught, when_thrown, taken};
 ghost use Rattle.code_typing.specs.Wants.{takes};
 
@@ -113,19 +113,24 @@ pub fn stack_after(
 }
 
 /// How many locals there may be after an instruction that finds so many.
-fn count_after(shape: Shape, count: usize) -> usize {
+fn count_after(shape: Shape, count: usize) -> usize
+    ensures stored { (j : ℕ) → result ≤ j → stores shape j ≡ false }
+    ensures found { count ≤ result }
+{
     match shape {
         Shape::Store { slot, .. } => count.max(usize::from(slot) + 1),
         _ => count,
     }
 }
 
-/// The locals after it.
+/// The locals after it; one that is absent is Top.
 pub fn locals_after(
     alloc: Global,
     place: &PlaceRef,
     frame: &FrameType,
-) -> Result<List<VType>, NoMemory> {
+) -> Result<List<VType>, NoMemory>
+    ensures { IfOk result (λ locals. (j : ℕ) → type_at locals j ≡ local_after place.now frame.now.locals (taken place.now frame.now) j) }
+{
     let (_, taken) = split_top(frame.stack.as_slice(), count_taken(place));
     let change = change_of(place, taken);
     let shape = shape_of(place.insn);

@@ -1,12 +1,13 @@
 //! The typing of a program.
 
-ghost use Rattle.std.specs.Prelude.{◌≡◌, length, map, IfOk};
+ghost use Rattle.std.specs.Prelude.{◌≡◌, length, map, IfOk, IfErr};
 ghost use Rattle.std.specs.List.{AllByRecursion};
 ghost use Rattle.bytecode_model.specs.Sound.{IsSound, IsSoundClass};
 ghost use Rattle.code_typing.specs.Shape.{IsShaped};
 ghost use Rattle.code_typing.specs.Typed.{IsTyped};
 ghost use Rattle.type_infer.specs.Fits.{FitFrames, FitsTyping};
 ghost use Rattle.type_infer.specs.Shape.{class_shape};
+ghost use Rattle.type_infer.specs.Untyped.{HasPlace, CanBeMetBefore};
 
 use crate::body::Body;
 use crate::failing::first_failing;
@@ -63,25 +64,39 @@ fn program_frames(alloc: Global, program: &Program) -> Result<Typing, NoMemory>
     Ok(Typing { frames })
 }
 
-/// Where the method in which the rules fail has no typing.
+/// Where no types are found for the method in which the rules fail.
 fn untyped(alloc: Global, program: &Program, fault: TypeFault) -> Result<InferFault, NoMemory>
-    requires { IsSound program.now }
+    requires sound { IsSound program.now }
+    requires placed { HasPlace program.now fault }
+    ensures { IfOk result (λ f. CanBeMetBefore program.now f) }
 {
-    let mut at = fault.at;
-    if let Some(class) = program.classes.as_slice().get(fault.class as usize) {
-        if let Some(method) = class.methods.as_slice().get(fault.method as usize) {
-            let body = Body {
-                program,
-                own: fault.class,
-                class,
-                method,
-            };
-            at = first_failing(alloc, &body, method.insns.len() as u32)?;
-        }
-    }
+    let TypeFault {
+        class: own,
+        method: index,
+        at,
+        ..
+    } = fault;
+    let untyped = InferFault::Untyped {
+        class: own,
+        method: index,
+        at,
+    };
+    let Some(class) = program.classes.as_slice().get(own as usize) else {
+        return Ok(untyped);
+    };
+    let Some(method) = class.methods.as_slice().get(index as usize) else {
+        return Ok(untyped);
+    };
+    let body = Body {
+        program,
+        own,
+        class,
+        method,
+    };
+    let at = first_failing(alloc, &body, method.insns.len() as u32)?;
     Ok(InferFault::Untyped {
-        class: fault.class,
-        method: fault.method,
+        class: own,
+        method: index,
         at,
     })
 }
@@ -95,6 +110,8 @@ pub fn infer(alloc: Global, program: &Program) -> Result<Typing, InferFault>
     ensures shaped { IfOk result (λ typing. IsShaped program.now typing.frames) }
     // A certificate can tell each frame.
     ensures spelled { IfOk result (λ typing. FitsTyping typing) }
+    // Else an instruction is told, and some frames meet the rules at those before it.
+    ensures before { IfErr result (λ fault. CanBeMetBefore program.now fault) }
 {
     let typing = program_frames(alloc, program)?;
     match check_typing(program, &typing) {

@@ -175,6 +175,9 @@ fn first_found(alloc: Global, program: &Program) -> Result<Found, Fail> {
     let Ok(count) = u32::try_from(method.insns.len()) else {
         return Err(Fail::from("the method is short"));
     };
+    if count == 0 {
+        return Err(Fail::from("the method has code"));
+    }
     let frames = solve(alloc, &body, count)?;
     if rows_met(&body, frames.as_slice(), count) {
         Ok(Found::Typed(frames))
