@@ -1,3 +1,4 @@
 pub mod Naming
 pub mod Numbers
 pub mod Hex
+pub mod Again

@@ -132,7 +132,8 @@ fn a_whole_run(rt: HostRuntime) -> Result<(), Fail> {
     };
     assert_eq!(&rt; first, second);
     assert_eq!(&rt; third.choice, Choice::Answer(ApiAnswer::Null));
-    assert_eq!(&rt; *fourth,
+    assert_eq!(&rt;
+        *fourth,
         Step {
             thread: 1,
             choice: Choice::Plain,
@@ -145,14 +146,16 @@ fn a_whole_run(rt: HostRuntime) -> Result<(), Fail> {
         return Err("a call".into());
     };
     assert_eq!(&rt; (*method, args.len()), (3, 3));
-    assert_eq!(&rt; *back,
+    assert_eq!(&rt;
+        *back,
         Event::Return {
             thread: 0,
             method: 3,
             value: Some(ApiValue::Null),
         }
     );
-    assert_eq!(&rt; *thrown,
+    assert_eq!(&rt;
+        *thrown,
         Event::Except {
             thread: 4294967295,
             method: 2,
