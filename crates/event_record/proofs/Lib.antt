@@ -2,3 +2,4 @@ pub mod Naming
 pub mod Numbers
 pub mod Hex
 pub mod Again
+pub mod EventsAgain

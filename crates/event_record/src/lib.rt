@@ -14,7 +14,7 @@ mod value;
 mod words;
 
 pub use fault::RecordFault;
-pub use printing::{push_event, push_value, values_are_read_again};
+pub use printing::{events_are_read_again, push_event, push_value, values_are_read_again};
 pub use reading::{Record, read_record};
 
 #[cfg(test)]
