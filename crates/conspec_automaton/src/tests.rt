@@ -2,6 +2,9 @@
 
 mod running;
 
+ghost use Rattle.std.specs.Prelude.{IfOk};
+ghost use Rattle.conspec_automaton.specs.Sound.{IsOfListing, IsPolicy};
+
 use crate::policy::{Branch, Policy};
 use crate::{asks_nothing, build, has_clauses};
 use api_listing::read;
@@ -14,7 +17,9 @@ const LISTING: &[u8] =
     b"class api/Net extends java/lang/Object\nstatic api/Net send ()V\nstatic api/Net read ()I\n\
     static api/Net ask ()Z\nstatic api/Net put (BLjava/lang/String;)V\nstatic api/Net find (I)Ljava/lang/String;\n";
 
-fn tree(alloc: Global, text: &str) -> Result<PolicyTree, Fail> {
+fn tree(alloc: Global, text: &str) -> Result<PolicyTree, Fail>
+    ensures { IfOk result (λ tree. IsOfListing tree) }
+{
     let Ok(listing) = read(alloc, LISTING) else {
         return Err("the listing".into());
     };
@@ -24,8 +29,14 @@ fn tree(alloc: Global, text: &str) -> Result<PolicyTree, Fail> {
     }
 }
 
-fn automaton(alloc: Global, text: &str) -> Result<Policy, Fail> {
-    Ok(build(alloc, &tree(alloc, text)?)?)
+fn automaton(alloc: Global, text: &str) -> Result<Policy, Fail>
+    ensures { IfOk result (λ policy. IsPolicy policy) }
+{
+    let tree = tree(alloc, text)?;
+    match build(alloc, &tree) {
+        Ok(policy) => Ok(policy),
+        Err(_) => Err("memory".into()),
+    }
 }
 
 /// The branches of the only clause.

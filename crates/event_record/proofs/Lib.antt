@@ -1,3 +1,5 @@
 pub mod Naming
 pub mod Numbers
 pub mod Hex
+pub mod Again
+pub mod EventsAgain

@@ -4,3 +4,4 @@ pub mod Library
 pub mod Value
 pub mod Entry
 pub mod Record
+pub mod Printing

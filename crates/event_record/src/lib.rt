@@ -8,11 +8,13 @@ mod entry;
 mod fault;
 mod names;
 mod number;
+mod printing;
 mod reading;
 mod value;
 mod words;
 
 pub use fault::RecordFault;
+pub use printing::{events_are_read_again, push_event, push_value, values_are_read_again};
 pub use reading::{Record, read_record};
 
 #[cfg(test)]

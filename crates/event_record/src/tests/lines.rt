@@ -133,7 +133,7 @@ fn a_whole_run(rt: HostRuntime) -> Result<(), Fail> {
     assert_eq!(&rt; first, second);
     assert_eq!(&rt; third.choice, Choice::Answer(ApiAnswer::Null));
     assert_eq!(&rt;
-        fourth,
+        *fourth,
         Step {
             thread: 1,
             choice: Choice::Plain,
@@ -147,7 +147,7 @@ fn a_whole_run(rt: HostRuntime) -> Result<(), Fail> {
     };
     assert_eq!(&rt; (*method, args.len()), (3, 3));
     assert_eq!(&rt;
-        back,
+        *back,
         Event::Return {
             thread: 0,
             method: 3,
@@ -155,7 +155,7 @@ fn a_whole_run(rt: HostRuntime) -> Result<(), Fail> {
         }
     );
     assert_eq!(&rt;
-        thrown,
+        *thrown,
         Event::Except {
             thread: 4294967295,
             method: 2,

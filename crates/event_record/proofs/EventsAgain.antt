@@ -1,0 +1,108 @@
+-- What is printed is read again: the lines of events.
+use Rattle.std.proofs.Common.{◌≡◌, ℕ, Bool, true, false, List, [], ◌∷◌, ◌++◌, map, Option, Some, None, Ok, refl, sym, ap, subst, ◌∙◌, append_assoc}
+use Rattle.std.specs.Prelude.{◌==◌, All, codes, decimal, slice_get}
+use Rattle.std.specs.List.{AllByRecursion, flat_map}
+use Rattle.std.specs.Option.{option_map_or}
+use Rattle.std.proofs.lemmas.List.Splits.{slice_split_at, slice_split_none}
+use Rattle.mon_base.specs.Reading.{◌>>=◌}
+use Rattle.mon_base.specs.declared.method.MethodId.{MethodId}
+use Rattle.api_listing.specs.Fault.{Read}
+use Rattle.api_listing.specs.Words.{pieces}
+use Rattle.api_listing.specs.declared.events.ApiValue.{ApiValue}
+use Rattle.api_listing.specs.declared.events.Event.{Event}
+use Rattle.api_listing.specs.declared.events.Event.TheVariants.{Call, Return, Except}
+use Rattle.api_listing.specs.declared.types.ListedMethod.{ListedMethod}
+use Rattle.event_record.specs.declared.entry.Entry.TheVariants.{Seen}
+use Rattle.event_record.specs.Entry.{call_event, entry_of, event_line, event_of, except_event, line_of, method_event, result_of, return_event, values_from}
+use Rattle.event_record.specs.Library.{Library}
+use Rattle.event_record.specs.Printing.{HasNoSpace, IsEventOf, IsValue, behind, event_text, event_words, method_of, result_behind, result_words, value_behind}
+use Rattle.event_record.specs.Value.{value_at, value_word}
+use Rattle.event_record.proofs.Again.{index_again, value_again}
+
+-- ---- words
+
+-- words with a space between two
+abbrev spaced : List ℕ → List (List ℕ) → List ℕ
+spaced word [] = word
+spaced word (next ∷ words) = word ++ 32 ∷ spaced next words
+
+spaced_pieces : (word : List ℕ) (words : List (List ℕ)) → HasNoSpace word → AllByRecursion HasNoSpace words → pieces 32 (spaced word words) ≡ word ∷ words
+spaced_pieces word [] clear all = slice_split_none (λ b. b == 32) word clear
+spaced_pieces word (next ∷ words) clear all =
+    slice_split_at (λ b. b == 32) word 32 (spaced next words) clear refl ∙ ap (λ (ws : List (List ℕ)). word ∷ ws) (spaced_pieces next words all.0 all.1)
+
+append_none : (xs : List ℕ) → xs ++ [] ≡ xs
+append_none [] = refl
+append_none (x ∷ xs) = ap (λ (t : List ℕ). x ∷ t) (append_none xs)
+
+-- the same as each word behind a space
+spaced_is : (word : List ℕ) (words : List (List ℕ)) → word ++ flat_map behind words ≡ spaced word words
+spaced_is word [] = append_none word
+spaced_is word (next ∷ words) = ap (λ (t : List ℕ). word ++ 32 ∷ t) (spaced_is next words)
+
+values_are : (values : List ApiValue) → flat_map value_behind values ≡ flat_map behind (map value_word values)
+values_are [] = refl
+values_are (v ∷ values) = ap (λ (t : List ℕ). value_behind v ++ t) (values_are values)
+
+-- a method's words behind the verb and the thread
+head_is : (verb thread class name desc rest : List ℕ) → (verb ++ behind thread ++ (behind class ++ behind name ++ behind desc)) ++ rest ≡ verb ++ (behind thread ++ (behind class ++ (behind name ++ (behind desc ++ rest))))
+head_is verb thread class name desc rest = simp append_assoc
+
+-- ---- readings
+
+values_again : (done values : List ApiValue) → AllByRecursion IsValue values → values_from done (map value_word values) ≡ Ok (done ++ values)
+values_again done [] all = ap Ok (sym (none_behind done)) where
+  none_behind : (xs : List ApiValue) → xs ++ [] ≡ xs
+  none_behind [] = refl
+  none_behind (x ∷ xs) = ap (λ (t : List ApiValue). x ∷ t) (none_behind xs)
+values_again done (v ∷ values) all =
+    ap (λ (r : Read ApiValue). r >>= λ x. values_from (done ++ x ∷ []) (map value_word values)) (value_again v all.0)
+    ∙ values_again (done ++ v ∷ []) values all.1 ∙ ap Ok (append_assoc done (v ∷ []) values)
+
+pub words_again : (library : Library) (id : MethodId) (event : Event) → IsEventOf library id event → entry_of library (event_words id event) ≡ Ok (Seen event)
+unfolding entry_of line_of event_line method_event event_of call_event return_event except_event result_of
+words_again library id (Call thread method args) is = rw (index_again thread is.numbered, is.there, values_again [] args is.given) refl
+words_again library id (Return thread method None) is = rw (index_again thread is.numbered, is.there, is.given) refl
+words_again library id (Return thread method (Some value)) is = rw (index_again thread is.numbered, is.there, is.given.0, value_again value is.given.1) refl
+words_again library id (Except thread method) is = rw (index_again thread is.numbered, is.there) refl
+
+-- ---- texts
+
+-- the first word of an event, and those behind it
+abbrev verb_of : Event → List ℕ
+verb_of (Call thread method args) = codes "call"
+verb_of (Return thread method value) = codes "return"
+verb_of (Except thread method) = codes "except"
+
+abbrev others_of : MethodId → Event → List (List ℕ)
+others_of id (Call thread method args) = decimal thread ∷ id.class ∷ id.name ∷ id.desc ∷ map value_word args
+others_of id (Return thread method value) = decimal thread ∷ id.class ∷ id.name ∷ id.desc ∷ result_words value
+others_of id (Except thread method) = decimal thread ∷ id.class ∷ id.name ∷ id.desc ∷ []
+
+words_are : (id : MethodId) (event : Event) → event_words id event ≡ verb_of event ∷ others_of id event
+words_are id (Call thread method args) = refl
+words_are id (Return thread method value) = refl
+words_are id (Except thread method) = refl
+
+result_is : (value : Option ApiValue) → result_behind value ≡ flat_map behind (result_words value)
+result_is None = refl
+result_is (Some value) = sym (append_none (value_behind value))
+
+module _ (methods : List ListedMethod) (m : ListedMethod) where
+  abbrev with_head : List ℕ → ℕ → List ℕ → List ℕ
+  with_head verb thread rest = verb ++ (behind (decimal thread) ++ (behind m.id.class ++ (behind m.id.name ++ (behind m.id.desc ++ rest))))
+
+  text_is : (event : Event) → slice_get methods (method_of event) ≡ Some m → event_text methods event ≡ verb_of event ++ flat_map behind (others_of m.id event)
+  text_is (Call thread method args) there =
+      rw there (head_is (codes "call") (decimal thread) m.id.class m.id.name m.id.desc (flat_map value_behind args) ∙ ap (with_head (codes "call") thread) (values_are args))
+  text_is (Return thread method value) there =
+      rw there (head_is (codes "return") (decimal thread) m.id.class m.id.name m.id.desc (result_behind value) ∙ ap (with_head (codes "return") thread) (result_is value))
+  text_is (Except thread method) there =
+      rw there (sym (append_none (codes "except" ++ behind (decimal thread) ++ (behind m.id.class ++ behind m.id.name ++ behind m.id.desc))) ∙ head_is (codes "except") (decimal thread) m.id.class m.id.name m.id.desc [])
+
+  pub event_again : (library : Library) (event : Event) → slice_get methods (method_of event) ≡ Some m → IsEventOf library m.id event → AllByRecursion HasNoSpace (event_words m.id event)
+      → entry_of library (pieces 32 (event_text methods event)) ≡ Ok (Seen event)
+  event_again library event there is clear =
+      let parts = subst (AllByRecursion HasNoSpace) (words_are m.id event) clear in
+      let read = spaced_pieces (verb_of event) (others_of m.id event) parts.0 parts.1 in
+      ap (entry_of library) (ap (pieces 32) (text_is event there ∙ spaced_is (verb_of event) (others_of m.id event)) ∙ read ∙ sym (words_are m.id event)) ∙ words_again library m.id event is

@@ -1,0 +1,90 @@
+-- Values and events as they are printed.
+use Rattle.std.specs.Prelude.{◌≡◌, ◌≢◌, ◌<◌, ◌^◌, ◌==◌, All, FitsSigned, ℕ, ◌++◌, decimal, codes, true, false, List, [], ◌∷◌, map, Option, Some, None, slice_get}
+use Rattle.std.specs.Int.{w32}
+use Rattle.std.specs.List.{AllByRecursion, flat_map}
+use Rattle.std.specs.Option.{option_map_or}
+use Rattle.api_listing.specs.declared.events.ApiValue.{ApiValue}
+use Rattle.api_listing.specs.declared.events.ApiValue.TheVariants.{Int, Null, Text, Obj, Class}
+use Rattle.api_listing.specs.declared.events.Event.{Event}
+use Rattle.api_listing.specs.declared.events.Event.TheVariants.{Call, Return, Except}
+use Rattle.api_listing.specs.declared.types.ListedMethod.{ListedMethod}
+use Rattle.mon_base.specs.declared.method.MethodId.{MethodId}
+use Rattle.event_record.specs.Entry.{gives_nothing}
+use Rattle.event_record.specs.Library.{Library}
+use Rattle.event_record.specs.Value.{value_word}
+
+-- a space and a word
+abbrev pub behind : List ℕ → List ℕ
+behind word = 32 ∷ word
+
+abbrev pub value_behind : ApiValue → List ℕ
+value_behind value = behind (value_word value)
+
+abbrev pub result_behind : Option ApiValue → List ℕ
+result_behind None = []
+result_behind (Some value) = value_behind value
+
+abbrev pub method_behind : ListedMethod → List ℕ
+method_behind m = behind m.id.class ++ behind m.id.name ++ behind m.id.desc
+
+-- the class, name and descriptor of the method with this index
+abbrev pub named_behind : List ListedMethod → ℕ → List ℕ
+named_behind methods method = option_map_or method_behind (slice_get methods method) []
+
+abbrev pub head_text : List ℕ → ℕ → List ListedMethod → ℕ → List ℕ
+head_text verb thread methods method = verb ++ behind (decimal thread) ++ named_behind methods method
+
+abbrev pub event_text : List ListedMethod → Event → List ℕ
+event_text methods (Call thread method args) = head_text (codes "call") thread methods method ++ flat_map value_behind args
+event_text methods (Return thread method value) = head_text (codes "return") thread methods method ++ result_behind value
+event_text methods (Except thread method) = head_text (codes "except") thread methods method
+
+-- the line of an event
+abbrev pub event_line : List ListedMethod → Event → List ℕ
+event_line methods event = event_text methods event ++ 10 ∷ []
+
+-- ---- what can be printed and read again
+
+-- Its numbers have 32 bits, its bytes are bytes, and its class is not empty.
+abbrev pub IsValue : ApiValue → Type 0
+IsValue (Int n) = FitsSigned w32 n
+IsValue Null = Unit {0}
+IsValue (Text bytes) = AllByRecursion (λ b. b < 256) bytes
+IsValue (Obj class at) = (class ≢ []) × (at < 2 ^ 32)
+IsValue (Class class) = class ≢ []
+
+abbrev pub result_words : Option ApiValue → List (List ℕ)
+result_words None = []
+result_words (Some value) = value_word value ∷ []
+
+-- the words of an event of the method
+abbrev pub event_words : MethodId → Event → List (List ℕ)
+event_words id (Call thread method args) = codes "call" ∷ decimal thread ∷ id.class ∷ id.name ∷ id.desc ∷ map value_word args
+event_words id (Return thread method value) = codes "return" ∷ decimal thread ∷ id.class ∷ id.name ∷ id.desc ∷ result_words value
+event_words id (Except thread method) = codes "except" ∷ decimal thread ∷ id.class ∷ id.name ∷ id.desc ∷ []
+
+abbrev pub method_of : Event → ℕ
+method_of (Call thread method args) = method
+method_of (Return thread method value) = method
+method_of (Except thread method) = method
+
+abbrev pub thread_of : Event → ℕ
+thread_of (Call thread method args) = thread
+thread_of (Return thread method value) = thread
+thread_of (Except thread method) = thread
+
+-- A method without a result gives none, and any other gives a value.
+abbrev pub IsGiven : List ℕ → Event → Type 0
+IsGiven desc (Call thread method args) = AllByRecursion IsValue args
+IsGiven desc (Return thread method None) = gives_nothing desc ≡ true
+IsGiven desc (Return thread method (Some value)) = (gives_nothing desc ≡ false) × IsValue value
+IsGiven desc (Except thread method) = Unit {0}
+
+-- The event is one of the method, which the library has under its index.
+pub record IsEventOf (library : Library) (id : MethodId) (event : Event) : Type 0 where
+  pub there : library.finds id ≡ Some (method_of event)
+  pub numbered : thread_of event < 2 ^ 32
+  pub given : IsGiven id.desc event
+
+abbrev pub HasNoSpace : List ℕ → Type 0
+HasNoSpace word = All (λ b. (b == 32) ≡ false) word

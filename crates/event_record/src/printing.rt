@@ -1,0 +1,197 @@
+//! Values and events as a record has them.
+
+ghost use Rattle.std.specs.Prelude.{◌≡◌, ◌<◌, ◌++◌, List, OnOk, Ok, Some, slice_get};
+ghost use Rattle.std.specs.List.{AllByRecursion, flat_map};
+ghost use Rattle.api_listing.specs.Words.{pieces};
+ghost use Rattle.api_listing.specs.declared.events.ApiValue.{ApiValue};
+ghost use Rattle.api_listing.specs.declared.events.Event.{Event};
+ghost use Rattle.api_listing.specs.declared.types.ListedMethod.{ListedMethod};
+ghost use Rattle.event_record.specs.declared.entry.Entry.TheVariants.{Seen};
+ghost use Rattle.event_record.specs.Entry.{entry_of};
+ghost use Rattle.event_record.specs.Library.{Library};
+ghost use Rattle.event_record.specs.Printing.{
+  HasNoSpace,
+  IsEventOf,
+  IsValue,
+  behind,
+  event_line,
+  event_text,
+  event_words,
+  head_text,
+  method_behind,
+  method_of,
+  named_behind,
+  result_behind,
+  value_behind,
+};
+ghost use Rattle.event_record.specs.Value.{hex, hex_byte, hex_digit, value_at, value_word};
+
+use api_listing::{ApiValue, Event, ListedMethod, Listing};
+use mon_base::{Bytes, NoMemory, push_count, push_number};
+
+/// Appends a value as a word.
+pub fn push_value(out: &mut Bytes, value: &ApiValue) -> Result<(), NoMemory>
+    ensures { OnOk result (out.new ≡ out.old ++ value_word value.now) }
+{
+    match value {
+        ApiValue::Int(n) => push_number(out, i64::from(*n)),
+        ApiValue::Null => out.extend(b"null"),
+        ApiValue::Text(bytes) => {
+            out.extend(b"text:")?;
+            push_hex(out, bytes.as_slice())
+        }
+        ApiValue::Obj { class, at } => {
+            out.extend(b"obj:")?;
+            out.extend(class.as_slice())?;
+            out.push(b'@')?;
+            push_count(out, u64::from(*at))
+        }
+        ApiValue::Class(class) => {
+            out.extend(b"class:")?;
+            out.extend(class.as_slice())
+        }
+    }
+}
+
+/// What is printed of a value is read as that value.
+pub fn values_are_read_again()
+    ensures { (value : ApiValue) → IsValue value → value_at (value_word value) ≡ Ok value }
+{}
+
+/// The line of an event is read as that event, where no word of it has a space: the listing has the event's method at its
+/// index, and that is the index that is found under the method's class, name and descriptor.
+pub fn events_are_read_again()
+    ensures { (library : Library) (methods : List ListedMethod) (m : ListedMethod) (event : Event)
+        → slice_get methods (method_of event) ≡ Some m → IsEventOf library m.id event
+        → AllByRecursion HasNoSpace (event_words m.id event)
+        → entry_of library (pieces 32 (event_text methods event)) ≡ Ok (Seen event) }
+{}
+
+/// Two digits for each byte, or `-` for none.
+fn push_hex(out: &mut Bytes, bytes: &[u8]) -> Result<(), NoMemory>
+    ensures { OnOk result (out.new ≡ out.old ++ hex bytes.now) }
+{
+    match bytes {
+        [] => out.extend(b"-"),
+        [_, ..] => push_bytes(out, bytes),
+    }
+}
+
+fn push_bytes(out: &mut Bytes, bytes: &[u8]) -> Result<(), NoMemory>
+    ensures { OnOk result (out.new ≡ out.old ++ flat_map hex_byte bytes.now) }
+{
+    for byte in bytes {
+        push_byte(out, *byte)?;
+    }
+    Ok(())
+}
+
+fn push_byte(out: &mut Bytes, byte: u8) -> Result<(), NoMemory>
+    ensures { OnOk result (out.new ≡ out.old ++ hex_byte byte) }
+{
+    out.push(hex_digit(byte / 16))?;
+    out.push(hex_digit(byte % 16))
+}
+
+fn hex_digit(n: u8) -> u8
+    requires { n < 16 }
+    ensures { result ≡ hex_digit n }
+{
+    if n < 10 { 48 + n } else { 87 + n }
+}
+
+/// Appends the line of an event of a method of the listing, with its newline.
+pub fn push_event(out: &mut Bytes, listing: &Listing, event: &Event) -> Result<(), NoMemory>
+    ensures { OnOk result (out.new ≡ out.old ++ event_line listing.now.methods event.now) }
+{
+    push_text(out, listing.methods.as_slice(), event)?;
+    out.extend(b"\n")
+}
+
+fn push_text(out: &mut Bytes, methods: &[ListedMethod], event: &Event) -> Result<(), NoMemory>
+    ensures { OnOk result (out.new ≡ out.old ++ event_text methods.now event.now) }
+{
+    match event {
+        Event::Call {
+            thread,
+            method,
+            args,
+        } => {
+            push_head(out, b"call", *thread, methods, *method)?;
+            push_values(out, args.as_slice())
+        }
+        Event::Return {
+            thread,
+            method,
+            value,
+        } => {
+            push_head(out, b"return", *thread, methods, *method)?;
+            push_result(out, value)
+        }
+        Event::Except { thread, method } => push_head(out, b"except", *thread, methods, *method),
+    }
+}
+
+fn push_head(
+    out: &mut Bytes,
+    verb: &[u8],
+    thread: u32,
+    methods: &[ListedMethod],
+    method: u32,
+) -> Result<(), NoMemory>
+    ensures { OnOk result (out.new ≡ out.old ++ head_text verb.now thread methods.now method) }
+{
+    out.extend(verb)?;
+    out.push(b' ')?;
+    push_count(out, u64::from(thread))?;
+    push_named(out, methods, method)
+}
+
+fn push_named(out: &mut Bytes, methods: &[ListedMethod], method: u32) -> Result<(), NoMemory>
+    ensures { OnOk result (out.new ≡ out.old ++ named_behind methods.now method) }
+{
+    match methods.get(method as usize) {
+        Some(method) => push_method(out, method),
+        None => Ok(()),
+    }
+}
+
+fn push_method(out: &mut Bytes, method: &ListedMethod) -> Result<(), NoMemory>
+    ensures { OnOk result (out.new ≡ out.old ++ method_behind method.now) }
+{
+    push_behind(out, &method.id.class)?;
+    push_behind(out, &method.id.name)?;
+    push_behind(out, &method.id.desc)
+}
+
+fn push_behind(out: &mut Bytes, word: &Bytes) -> Result<(), NoMemory>
+    ensures { OnOk result (out.new ≡ out.old ++ behind word.now) }
+{
+    out.push(b' ')?;
+    out.extend(word.as_slice())
+}
+
+fn push_result(out: &mut Bytes, value: &Option<ApiValue>) -> Result<(), NoMemory>
+    ensures { OnOk result (out.new ≡ out.old ++ result_behind value.now) }
+{
+    match value {
+        Some(value) => push_value_behind(out, value),
+        None => Ok(()),
+    }
+}
+
+fn push_values(out: &mut Bytes, values: &[ApiValue]) -> Result<(), NoMemory>
+    ensures { OnOk result (out.new ≡ out.old ++ flat_map value_behind values.now) }
+{
+    for value in values {
+        push_value_behind(out, value)?;
+    }
+    Ok(())
+}
+
+fn push_value_behind(out: &mut Bytes, value: &ApiValue) -> Result<(), NoMemory>
+    ensures { OnOk result (out.new ≡ out.old ++ value_behind value.now) }
+{
+    out.push(b' ')?;
+    push_value(out, value)
+}
