@@ -2,3 +2,4 @@ mod Answering
 mod ListedFiles
 mod Pieces
 pub mod StoreLaws
+mod Writing

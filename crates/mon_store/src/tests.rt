@@ -1,8 +1,8 @@
 //! One use of each public call, and a store that fails at each of its calls in turn.
 
 use crate::{
-    DirStore, MemSink, MemStore, OutSink, ReadFault, Sink, SinkFault, Store, StoreFault,
-    names_differ, read_file,
+    DirStore, MemSink, MemStore, OutSink, Output, ReadFault, Sink, SinkFault, Store, StoreFault,
+    WriteFault, names_differ, read_file, write_all,
 };
 use mon_base::{Bytes, List};
 use std::alloc::Global;
@@ -109,6 +109,53 @@ fn a_file_is_read_up_to_its_limit(rt: HostRuntime) -> Result<(), Fail> {
         let name = Bytes::from_slice(alloc, name)?;
         let answer = read_file(alloc, &mut store, &name, limit).map(|bytes| bytes.len());
         assert_eq!(rt; answer, wanted, "{name:?} with the limit {limit}");
+    }
+    Ok(())
+}
+
+/// Three files that are written in this order over these two.
+const WRITTEN: [(&[u8], &[u8]); 3] = [(b"a", b"one"), (b"b", b"two"), (b"c", b"three")];
+
+const BEFORE: [(&[u8], &[u8]); 2] = [(b"b", b"old"), (b"z", b"kept")];
+
+fn outputs_of(alloc: Global, files: &[(&[u8], &[u8])]) -> Result<List<Output>, Fail> {
+    let mut list = List::new(alloc);
+    for (name, bytes) in files {
+        list.push(Output {
+            name: Bytes::from_slice(alloc, name)?,
+            bytes: Bytes::from_slice(alloc, bytes)?,
+        })?;
+    }
+    Ok(list)
+}
+
+#[test]
+fn files_are_written_up_to_the_one_that_fails(rt: HostRuntime) -> Result<(), Fail> {
+    let alloc = rt.alloc();
+    let stand: [&[(&[u8], &[u8])]; 4] = [
+        &BEFORE,
+        &[(b"b", b"old"), (b"z", b"kept"), (b"a", b"one")],
+        &[(b"b", b"two"), (b"z", b"kept"), (b"a", b"one")],
+        &[
+            (b"b", b"two"),
+            (b"z", b"kept"),
+            (b"a", b"one"),
+            (b"c", b"three"),
+        ],
+    ];
+    for (failing, wanted) in stand.iter().enumerate() {
+        let files = files_of(alloc, &BEFORE)?;
+        assert!(rt; names_differ(files.as_slice()));
+        let mut store = MemStore::new(files, numbers(alloc, &[failing as u64])?);
+        let outputs = outputs_of(alloc, &WRITTEN)?;
+        let answer = write_all(alloc, &mut store, outputs.as_slice());
+        let fault = match outputs.as_slice().get(failing) {
+            Some(output) => Err(WriteFault::Failed(output.name.copy(alloc)?)),
+            None => Ok(()),
+        };
+        assert!(rt; answer == fault, "the answer where {failing} fails");
+        let wanted = files_of(alloc, wanted)?;
+        assert!(rt; *store.files() == wanted, "files where {failing} fails");
     }
     Ok(())
 }
