@@ -15,6 +15,7 @@ ghost use Rattle.inliner_tool.specs.Lines.{
   mode_name,
   policy_fields,
   refused,
+  size_name,
   text_of,
   word,
 };
@@ -28,7 +29,8 @@ use cert_format::Mode;
 use class_codec::ClassFault;
 use conspec_parse::PolicyFault;
 use insn_codec::CodeFault;
-use mon_base::{Bytes, NoMemory, push_count};
+use mon_base::{Bytes, NoMemory, push_count, push_number};
+use offset_patch::Size;
 use std::alloc::Global;
 
 /// The whole output for an answer: a line, or the text of class files.
@@ -56,6 +58,7 @@ fn push_line(text: &mut Bytes, answer: &Answer) -> Result<(), NoMemory>
         Answer::Accepted(accepted) => push_accepted(text, *accepted),
         Answer::Denied(fault, label) => push_denied(text, fault, label),
         Answer::Shown(shown) => text.extend(shown.as_slice()),
+        Answer::Inlined { accepted, classes } => push_inlined(text, *accepted, *classes),
         Answer::Input(name, fault) => push_input(text, name, fault),
         Answer::TotalLong { len } => {
             push_refused(text, 152, b"-")?;
@@ -65,11 +68,20 @@ fn push_line(text: &mut Bytes, answer: &Answer) -> Result<(), NoMemory>
             push_refused(text, fault.number(), b"-")?;
             push_link_fields(text, fault)
         }
+        Answer::Untyped { class, method, at } => push_untyped(text, class, *method, *at),
         Answer::NotBuilt => push_refused(text, 199, b"-"),
-        Answer::Unread(name) => {
-            text.extend(b"store")?;
-            push_word(text, name.as_slice())
+        Answer::Overflow {
+            class,
+            method,
+            what,
+            value,
+        } => push_overflow(text, class, *method, *what, *value),
+        Answer::LongCertificate { value } => {
+            text.extend(b"overflow - 0 certificate")?;
+            push_field(text, *value)
         }
+        Answer::Unread(name) => push_store(text, name),
+        Answer::Unwritten(name) => push_store(text, name),
         Answer::Usage => text.extend(b"usage: conspecj COMMAND WORD.."),
         Answer::Memory => Ok(()),
     }
@@ -82,6 +94,17 @@ fn push_accepted(text: &mut Bytes, accepted: Accepted) -> Result<(), NoMemory>
     push_word(text, mode_name(accepted.mode))?;
     text.extend(b" sites")?;
     push_field(text, accepted.sites)
+}
+
+fn push_inlined(text: &mut Bytes, accepted: Accepted, classes: u64) -> Result<(), NoMemory>
+    ensures { OnOk result (text.new ≡ text.old ++ line_text (answers.Inlined accepted classes)) }
+{
+    text.extend(b"inlined")?;
+    push_word(text, mode_name(accepted.mode))?;
+    text.extend(b" sites")?;
+    push_field(text, accepted.sites)?;
+    text.extend(b" classes")?;
+    push_field(text, classes)
 }
 
 fn mode_name(mode: Mode) -> &'static [u8]
@@ -114,6 +137,52 @@ fn push_denied(text: &mut Bytes, fault: &CheckFault, label: &Bytes) -> Result<()
             ..
         } => push_place(text, *method, *at, *rule),
     }
+}
+
+fn push_untyped(text: &mut Bytes, class: &Bytes, method: u32, at: u32) -> Result<(), NoMemory>
+    ensures { OnOk result (text.new ≡ text.old ++ line_text (answers.Untyped class.now method at)) }
+{
+    push_refused(text, 201, b"-")?;
+    push_word(text, class.as_slice())?;
+    push_field(text, u64::from(method))?;
+    push_field(text, u64::from(at))
+}
+
+fn push_overflow(
+    text: &mut Bytes,
+    class: &Bytes,
+    method: u32,
+    what: Size,
+    value: i64,
+) -> Result<(), NoMemory>
+    ensures { OnOk result (text.new ≡ text.old ++ line_text (answers.Overflow class.now method what value)) }
+{
+    text.extend(b"overflow")?;
+    push_word(text, class.as_slice())?;
+    push_field(text, u64::from(method))?;
+    push_word(text, size_name(what))?;
+    text.push(b' ')?;
+    push_number(text, value)
+}
+
+fn size_name(what: Size) -> &'static [u8]
+    ensures { result.now ≡ size_name what }
+{
+    match what {
+        Size::Stack => b"stack",
+        Size::Locals => b"locals",
+        Size::Entries => b"entries",
+        Size::Pool => b"pool",
+        Size::Length => b"length",
+        Size::Branch => b"branch",
+    }
+}
+
+fn push_store(text: &mut Bytes, name: &Bytes) -> Result<(), NoMemory>
+    ensures { OnOk result (text.new ≡ text.old ++ line_text (answers.Unwritten name.now)) }
+{
+    text.extend(b"store")?;
+    push_word(text, name.as_slice())
 }
 
 /// Method, instruction and rule.
