@@ -60,10 +60,15 @@ pub check_says : (main : List ℕ) (inputs : CheckInputs) (answer : Answer) (P :
 check_says main inputs (answers.Accepted accepted) P is so = so is
 check_says main inputs (answers.Denied fault label) P is so = so is
 check_says main inputs (answers.Shown text) P is so = so is
+check_says main inputs (answers.Inlined accepted classes) P is so = so is
 check_says main inputs (answers.Input name fault) P is so = so is
 check_says main inputs (answers.TotalLong len) P is so = so is
 check_says main inputs (answers.Link fault) P is so = so is
+check_says main inputs (answers.Untyped class method at) P is so = so is
 check_says main inputs answers.NotBuilt P is so = so is
+check_says main inputs (answers.Overflow class method what value) P is so = so is
+check_says main inputs (answers.LongCertificate value) P is so = so is
 check_says main inputs (answers.Unread name) P is so = so is
+check_says main inputs (answers.Unwritten name) P is so = so is
 check_says main inputs answers.Usage P is so = no_usage main inputs (sym is)
 check_says main inputs answers.Memory P is so = tt

@@ -7,6 +7,8 @@ use Rattle.conspec_parse.specs.declared.types.PolicyTree.{PolicyTree}
 use Rattle.inliner_tool.specs.declared.files.Stop.{Stop}
 use Rattle.inliner_tool.specs.declared.inputs.ReadClasses.{ReadClasses as Classes}
 use Rattle.inliner_tool.specs.Forms.{IsRead, ReadsForm}
+use Rattle.inliner_tool.specs.InlineInputs.{ReadsInline}
+use Rattle.inliner_tool.specs.InlineWords.{NamedInline}
 use Rattle.inliner_tool.specs.Inputs.{ReadsCheck, ReadsClasses, ReadsShow, AreClasses}
 use Rattle.inliner_tool.specs.Kinds.{certificate_form, listing_form, policy_form}
 use Rattle.inliner_tool.specs.Words.{NamedCheck, NamedShow}
@@ -35,3 +37,9 @@ module _ (files : Files) (named : NamedCheck) (first begun now : ℕ) (last : Li
 pub show_stops : (files : Files) (named : NamedShow) (first begun now : ℕ) (last : List ℕ) → first ≤ begun → (listing : Listing) → IsRead files named.listing listing_form (Ok listing) → (stop : Stop)
     → ReadsClasses files (counted begun now last) named.classes (Err stop) → ReadsShow files (counted first now last) named (Err stop)
 show_stops files named first begun now last le listing listed stop reads = inr (listing, listed, inl (among_since files named.classes first begun now last stop le reads))
+
+pub inline_stops : (files : Files) (named : NamedInline) (first begun now : ℕ) (last : List ℕ) → first ≤ begun → (listing : Listing) → IsRead files named.listing listing_form (Ok listing)
+    → (policy : PolicyTree) → IsRead files named.policy (policy_form listing) (Ok policy) → (stop : Stop)
+    → ReadsClasses files (counted begun now last) named.classes (Err stop) → ReadsInline files (counted first now last) named (Err stop)
+inline_stops files named first begun now last le listing listed policy has stop reads =
+    inr (listing, listed, inr (policy, has, inl (among_since files named.classes first begun now last stop le reads)))

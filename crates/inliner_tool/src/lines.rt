@@ -76,13 +76,10 @@ fn push_line(text: &mut Bytes, answer: &Answer) -> Result<(), NoMemory>
             what,
             value,
         } => push_overflow(text, class, *method, *what, *value),
-        Answer::LongCertificate { value } => {
-            text.extend(b"overflow - 0 certificate")?;
-            push_field(text, *value)
-        }
+        Answer::LongCertificate { value } => push_long(text, *value),
         Answer::Unread(name) => push_store(text, name),
         Answer::Unwritten(name) => push_store(text, name),
-        Answer::Usage => text.extend(b"usage: conspecj COMMAND WORD.."),
+        Answer::Usage => push_usage(text),
         Answer::Memory => Ok(()),
     }
 }
@@ -163,6 +160,19 @@ fn push_overflow(
     push_word(text, size_name(what))?;
     text.push(b' ')?;
     push_number(text, value)
+}
+
+fn push_long(text: &mut Bytes, value: u64) -> Result<(), NoMemory>
+    ensures { OnOk result (text.new ≡ text.old ++ line_text (answers.LongCertificate value)) }
+{
+    text.extend(b"overflow - 0 certificate")?;
+    push_field(text, value)
+}
+
+fn push_usage(text: &mut Bytes) -> Result<(), NoMemory>
+    ensures { OnOk result (text.new ≡ text.old ++ line_text answers.Usage) }
+{
+    text.extend(b"usage: conspecj COMMAND WORD..")
 }
 
 fn size_name(what: Size) -> &'static [u8]

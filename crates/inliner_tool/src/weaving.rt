@@ -1,6 +1,6 @@
 //! What is woven of inputs, and judged before anything is written.
 
-ghost use Rattle.std.specs.Prelude.{◌≡◌, IfOk, OnOk, Ok};
+ghost use Rattle.std.specs.Prelude.{◌≡◌, map, IfOk, OnOk, Ok};
 ghost use Rattle.std.specs.List.{AllByRecursion};
 ghost use Rattle.api_listing.specs.Listing.{IsFew};
 ghost use Rattle.bytecode_model.specs.Sound.{IsSound};
@@ -293,10 +293,7 @@ fn outputs_of(
     ensures is { UnlessMemory (Equals (outputs_step folder.now program.now certificate.now)) result }
     ensures outputs { IfOk result (λ outputs. outputs ≡ outputs_of folder.now program.now certificate.now) }
 {
-    let mut outputs = List::new(alloc);
-    for class in program.classes.as_slice() {
-        outputs.push(class_output(alloc, folder, class)?)?;
-    }
+    let mut outputs = class_outputs(alloc, folder, program.classes.as_slice())?;
     match cert_format::encode(alloc, certificate) {
         Ok(bytes) => {
             outputs.push(certificate_output(alloc, folder, bytes)?)?;
@@ -305,6 +302,20 @@ fn outputs_of(
         Err(CertLong::Certificate { value }) => Err(Refusal::LongCertificate { value }),
         Err(CertLong::Memory) => Err(Refusal::Memory),
     }
+}
+
+fn class_outputs(
+    alloc: Global,
+    folder: &Bytes,
+    classes: &[LinkedClass],
+) -> Result<List<Output>, NoMemory>
+    ensures { IfOk result (λ outputs. outputs ≡ map (class_output folder.now) classes.now) }
+{
+    let mut outputs = List::new(alloc);
+    for class in classes {
+        outputs.push(class_output(alloc, folder, class)?)?;
+    }
+    Ok(outputs)
 }
 
 fn class_output(alloc: Global, folder: &Bytes, class: &LinkedClass) -> Result<Output, NoMemory>
