@@ -16,11 +16,16 @@ pub enum Answer {
     /// The text of the class files.
     Shown(Bytes),
     /// The program was woven, checked and written, in so many class files.
-    Inlined { accepted: Accepted, classes: u64 },
+    Inlined {
+        accepted: Accepted,
+        classes: u64,
+    },
     /// The first file that is not what it is named for, and why.
     Input(Bytes, InputFault),
     /// The class files have so many bytes in all, which is too many.
-    TotalLong { len: u64 },
+    TotalLong {
+        len: u64,
+    },
     /// The first condition of linking that fails.
     Link(LinkFault),
     /// No types fit at an instruction: the name of its class, its method and its index.
@@ -39,7 +44,9 @@ pub enum Answer {
         value: i64,
     },
     /// The certificate would have so many bytes, which is too many.
-    LongCertificate { value: u64 },
+    LongCertificate {
+        value: u64,
+    },
     /// The file that could not be read.
     Unread(Bytes),
     /// The file that could not be written.

@@ -119,7 +119,11 @@ fn class_of<S: Store>(alloc: Global, store: &mut S, name: &Bytes) -> Result<Read
 }
 
 /// The class files of these names.
-pub fn classes_of<S: Store>(alloc: Global, store: &mut S, names: &[Bytes]) -> Result<ReadClasses, Stop>
+pub fn classes_of<S: Store>(
+    alloc: Global,
+    store: &mut S,
+    names: &[Bytes],
+) -> Result<ReadClasses, Stop>
     ensures read { ReadsFiles (S.files store.old) (since (S.faults store.old) (S.faults store.new) (S.last store.new))
         names.now result }
     ensures fits { IfOk result (λ classes. AllByRecursion CanSpell classes.files) }

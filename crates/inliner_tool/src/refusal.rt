@@ -12,7 +12,9 @@ use offset_patch::Size;
 #[derive(Debug, Drop, PartialEq, Eq)]
 pub enum Refusal {
     /// The class files have so many bytes in all, which is too many.
-    TotalLong { len: u64 },
+    TotalLong {
+        len: u64,
+    },
     /// The first condition of linking that fails.
     Link(LinkFault),
     /// No types fit at an instruction: the name of its class, its method and its index.
@@ -33,7 +35,9 @@ pub enum Refusal {
     /// The first test that fails, and the name of its class.
     Denied(CheckFault, Bytes),
     /// The certificate would have so many bytes.
-    LongCertificate { value: u64 },
+    LongCertificate {
+        value: u64,
+    },
     /// Memory ran out.
     Memory,
 }

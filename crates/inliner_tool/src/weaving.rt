@@ -68,11 +68,7 @@ pub struct Ready {
 }
 
 /// Links and types the inputs, weaves them, and links, types and checks what is woven.
-pub fn plan(
-    alloc: Global,
-    inputs: InlineInputs,
-    words: &InlineWords,
-) -> Result<Ready, Refusal>
+pub fn plan(alloc: Global, inputs: InlineInputs, words: &InlineWords) -> Result<Ready, Refusal>
     requires { InlineSound inputs }
     // The first step that fails is told.
     ensures plans { UnlessMemory (Plans (inline_named words.now) inputs) result }
@@ -231,12 +227,20 @@ fn rewoven(
     ensures rewoven { IfOk result (λ ready. IsRewoven main.now folder.now client.listing policy.now made.files ready) }
 {
     let Program {
-        classes, listing, ..
+        classes,
+        listing,
+        ..
     } = client;
     let Woven { files, origins } = made;
     let program = linked(alloc, files, listing, main, Side::Inlined)?;
     let typing = types_of(alloc, &program)?;
-    let certificate = make(alloc, classes.as_slice(), policy, origins.as_slice(), typing)?;
+    let certificate = make(
+        alloc,
+        classes.as_slice(),
+        policy,
+        origins.as_slice(),
+        typing,
+    )?;
     judged(alloc, folder, policy, &program, &certificate)
 }
 

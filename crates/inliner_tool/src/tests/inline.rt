@@ -62,7 +62,10 @@ fn what_is_written_is_checked(rt: HostRuntime) -> Result<(), Fail> {
         ("W.CERT", "new/certificate"),
     ];
     for (by_hand, written) in table {
-        assert!(rt; bytes_of(&ended.files, written) == bytes_of(&files, by_hand), "{written}");
+        assert!(rt;
+            bytes_of(&ended.files, written) == bytes_of(&files, by_hand),
+            "{written}"
+        );
     }
     let Ended { files, .. } = ended;
     let again = run(alloc, &AGAIN, files, &[], &[])?;
@@ -140,14 +143,20 @@ fn a_store_fails_at_each_write_in_turn(rt: HostRuntime) -> Result<(), Fail> {
         let wanted = line_of(alloc, "store ", name)?;
         assert_eq!(rt; ended.printed.as_slice(), wanted.as_slice());
         assert_eq!(rt; ended.status, Status::StoreFault, "{name}");
-        assert!(rt; ended.files.len() == files_with(alloc, &[])?.len() + place, "{name}");
+        assert!(rt;
+            ended.files.len() == files_with(alloc, &[])?.len() + place,
+            "{name}"
+        );
         for (number, output) in OUTPUTS.iter().enumerate() {
             let wanted = if number < place {
                 bytes_of(&done.files, output)
             } else {
                 None
             };
-            assert!(rt; bytes_of(&ended.files, output) == wanted, "{output} where {name} fails");
+            assert!(rt;
+                bytes_of(&ended.files, output) == wanted,
+                "{output} where {name} fails"
+            );
         }
     }
     // The sink fails once all is written.
@@ -164,7 +173,12 @@ fn long_class(alloc: Global, count: usize) -> Result<List<(Bytes, Bytes)>, Fail>
     let mut text = Bytes::new(alloc);
     if let Some(file) = files.get(5) {
         // The class up to the length of its attribute `Code`.
-        text.extend(file.1.as_slice().get(..138).ok_or("the front of the class")?)?;
+        text.extend(
+            file.1
+                .as_slice()
+                .get(..138)
+                .ok_or("the front of the class")?,
+        )?;
     }
     text.extend(&(code_length + 12).to_be_bytes())?;
     text.extend(b"\x00\x01\x00\x01")?;
@@ -192,11 +206,7 @@ fn a_branch_that_does_not_fit(rt: HostRuntime) -> Result<(), Fail> {
             Status::Done,
             "inlined release sites 1 classes 2\n",
         ),
-        (
-            32_747,
-            Status::Overflow,
-            "overflow a/S 0 branch 32768\n",
-        ),
+        (32_747, Status::Overflow, "overflow a/S 0 branch 32768\n"),
     ];
     for (count, status, printed) in table {
         let ended = run(alloc, &SENDS, long_class(alloc, count)?, &[], &[])?;
