@@ -138,7 +138,7 @@ fn a_store_fails_at_each_write_in_turn(rt: HostRuntime) -> Result<(), Fail> {
     let done = run(alloc, &SENDS, files_with(alloc, &[])?, &[], &[])?;
     for (place, name) in OUTPUTS.iter().enumerate() {
         // Three calls read each of the three files.
-        let failing = 9 + place as u64;
+        let failing = (place as u64).saturating_add(9);
         let ended = run(alloc, &SENDS, files_with(alloc, &[])?, &[failing], &[])?;
         let wanted = line_of(alloc, "store ", name)?;
         assert_eq!(rt; ended.printed.as_slice(), wanted.as_slice());
@@ -166,27 +166,30 @@ fn a_store_fails_at_each_write_in_turn(rt: HostRuntime) -> Result<(), Fail> {
     Ok(())
 }
 
-/// A branch over the call and so many instructions that do nothing.
-fn long_class(alloc: Global, count: usize) -> Result<List<(Bytes, Bytes)>, Fail> {
+/// So many instructions that do nothing behind a branch and the call, and what the class file says of them.
+#[derive(Clone, Copy)]
+struct Long {
+    count: usize,
+    attribute: u32,
+    length: u32,
+    offset: u16,
+}
+
+/// The files of the check with this code in the class `a/S`.
+fn long_class(alloc: Global, long: Long) -> Result<List<(Bytes, Bytes)>, Fail> {
     let mut files = files_with(alloc, &[])?.into_vec();
-    let code_length = count as u32 + 8;
     let mut text = Bytes::new(alloc);
     if let Some(file) = files.get(5) {
         // The class up to the length of its attribute `Code`.
-        text.extend(
-            file.1
-                .as_slice()
-                .get(..138)
-                .ok_or("the front of the class")?,
-        )?;
+        text.extend(file.1.as_slice().get(..138).ok_or("the front of the class")?)?;
     }
-    text.extend(&(code_length + 12).to_be_bytes())?;
+    text.extend(&long.attribute.to_be_bytes())?;
     text.extend(b"\x00\x01\x00\x01")?;
-    text.extend(&code_length.to_be_bytes())?;
+    text.extend(&long.length.to_be_bytes())?;
     text.extend(b"\x03\x99")?;
-    text.extend(&(count as u16 + 6).to_be_bytes())?;
+    text.extend(&long.offset.to_be_bytes())?;
     text.extend(b"\xb8\x00\x0d")?;
-    for _ in 0..count {
+    for _ in 0..long.count {
         text.push(0)?;
     }
     text.extend(b"\xb1\x00\x00\x00\x00\x00\x00")?;
@@ -197,20 +200,37 @@ fn long_class(alloc: Global, count: usize) -> Result<List<(Bytes, Bytes)>, Fail>
 }
 
 /// A block adds 15 bytes: with 32,746 instructions the branch at 1 goes 32,767 bytes on.
+const FITS: Long = Long {
+    count: 32_746,
+    attribute: 32_766,
+    length: 32_754,
+    offset: 32_752,
+};
+
+/// One instruction more.
+const OVER: Long = Long {
+    count: 32_747,
+    attribute: 32_767,
+    length: 32_755,
+    offset: 32_753,
+};
+
 #[test]
 fn a_branch_that_does_not_fit(rt: HostRuntime) -> Result<(), Fail> {
     let alloc = rt.alloc();
-    let table = [
-        (
-            32_746usize,
-            Status::Done,
-            "inlined release sites 1 classes 2\n",
-        ),
-        (32_747, Status::Overflow, "overflow a/S 0 branch 32768\n"),
-    ];
-    for (count, status, printed) in table {
-        let ended = run(alloc, &SENDS, long_class(alloc, count)?, &[], &[])?;
-        ends(&rt, &ended, status, printed);
-    }
+    let ended = run(alloc, &SENDS, long_class(alloc, FITS)?, &[], &[])?;
+    ends(
+        &rt,
+        &ended,
+        Status::Done,
+        "inlined release sites 1 classes 2\n",
+    );
+    let ended = run(alloc, &SENDS, long_class(alloc, OVER)?, &[], &[])?;
+    ends(
+        &rt,
+        &ended,
+        Status::Overflow,
+        "overflow a/S 0 branch 32768\n",
+    );
     Ok(())
 }
