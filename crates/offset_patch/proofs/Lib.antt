@@ -1,3 +1,5 @@
 pub mod Lists
 pub mod Steady
 pub mod Pieces
+pub mod PoolFits
+pub mod EntryFits
