@@ -213,3 +213,23 @@ wants_fit (want ∷ others) pool p short =
     let rest = wants_grow others (wanted want pool).0 in
     let less : length (wanted want pool).0 ≤ 65535 = omega (arith, ap length rest.1, length-append (wanted want pool).0 rest.0) in
     wants_fit others (wanted want pool).0 (wanted_fits want pool p less) short
+
+-- ---- places
+
+entry_few : (c : Const) (pool : List Const) → (entry c pool).1 < length (entry c pool).0
+entry_few c pool = by (place_of c pool) refl
+  where
+    by : (o : Option ℕ) → place_of c pool ≡ o → (placed pool c o).1 < length (placed pool c o).0
+    by None e = omega (arith, length-append pool (c ∷ []))
+    by (Some i) e =
+        let found = place_found (same c) 0 pool i e in
+        let few = slice_get_within pool found.0 found.1 found.2.1 in
+        omega (arith, found.2.0, few)
+
+-- an entry stands within the pool
+pub place_few : (want : PoolWant) (pool : List Const) → (wanted want pool).1 < length (wanted want pool).0
+place_few wants.StateClass pool = entry_few (constants.Class (text (codes "conspec/State") pool).1) (text (codes "conspec/State") pool).0
+place_few wants.Exit pool =
+    let one = class (codes "java/lang/System") pool in
+    let two = name_and_type (codes "exit") (codes "(I)V") one.0 in
+    entry_few (constants.Method one.1 two.1) two.0

@@ -3,3 +3,5 @@ pub mod Steady
 pub mod Pieces
 pub mod PoolFits
 pub mod EntryFits
+pub mod InsnFits
+pub mod CodeFits
