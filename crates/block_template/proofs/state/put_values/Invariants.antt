@@ -1,0 +1,12 @@
+use Rattle.std.proofs.Common.{◌≡◌, ◌+◌, ◌++◌, length}
+use Rattle.block_template.specs.State.{values_from}
+use Rattle.block_template.proofs.state.put_values.Given as goal
+
+abbrev pub invariant-loop-left : goal.invariant-loop-left
+invariant-loop-left l = record {
+  so_far : l.pool ++ values_from l.index l.left ≡ l.fn.pool ++ values_from 0 l.vars;
+  count : l.index + length l.left ≡ length l.vars;
+}
+
+abbrev pub decreases-loop-left : goal.decreases-loop-left
+decreases-loop-left l = length l.left

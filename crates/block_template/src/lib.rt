@@ -1,0 +1,12 @@
+//! The blocks that stand for calls that a policy has clauses for, and the class `conspec/State`. (docs/BLOCKS.md)
+//!
+//! So far a policy denies calls outright, and a block stops the program before the call.
+#![tactic(auto)]
+
+mod blocks;
+mod clauses;
+mod state;
+
+pub use blocks::denial;
+pub use clauses::{block, has_block, locals_used, site, site_locals};
+pub use state::state_class;

@@ -1,0 +1,133 @@
+//! The class file of `conspec/State`.
+
+ghost use Rattle.std.specs.Prelude.{◌≡◌, ◌+◌, ◌*◌, ◌++◌, ◌<◌, ◌≤◌, IfOk, OnOk, length};
+ghost use Rattle.byteorder.specs.Endian.{big_bytes};
+ghost use Rattle.class_codec.specs.Fits.{CanSpell};
+ghost use Rattle.class_codec.specs.declared.tree.Const.TheVariants.{Utf8};
+ghost use Rattle.conspec_automaton.specs.Denying.{DeniesOnly};
+ghost use Rattle.block_template.specs.State.{variable_name, head, values_from, name_at, type_at, field, fields_from, state_file, state_class};
+
+use byteorder::{BigEndian, ByteOrder};
+use class_codec::{Attr, ClassFile, Const, Member, Other};
+use conspec_automaton::Policy;
+use conspec_parse::Var;
+use mon_base::{Bytes, List, NoMemory, push_count};
+use std::alloc::Global;
+
+/// The class file of the policy's variables.
+pub fn state_class(alloc: Global, policy: &Policy) -> Result<ClassFile, NoMemory>
+    requires { length policy.now.vars ≤ 10000 }
+    ensures is { IfOk result (λ file. file ≡ state_class policy.now) }
+    ensures fits { DeniesOnly policy.now → IfOk result CanSpell }
+{
+    let file = state_file(alloc, policy.vars.as_slice())?;
+    Ok(file)
+}
+
+fn state_file(alloc: Global, vars: &[Var]) -> Result<ClassFile, NoMemory>
+    requires { length vars.now ≤ 10000 }
+    ensures { IfOk result (λ file. file ≡ state_file vars.now) }
+{
+    let mut pool = head(alloc)?;
+    put_values(alloc, &mut pool, vars)?;
+    Ok(ClassFile {
+        minor: 0,
+        pool,
+        flags: 0x0021,
+        this_class: 2,
+        super_class: 4,
+        interfaces: List::new(alloc),
+        fields: fields(alloc, vars)?,
+        methods: List::new(alloc),
+        attrs: List::new(alloc),
+    })
+}
+
+/// The constants that each such class has.
+fn head(alloc: Global) -> Result<List<Const>, NoMemory>
+    ensures { IfOk result (λ pool. pool ≡ head) }
+{
+    let mut pool = List::new(alloc);
+    pool.push(Const::Second)?;
+    pool.push(text(alloc, "conspec/State")?)?;
+    pool.push(Const::Class(1))?;
+    pool.push(text(alloc, "java/lang/Object")?)?;
+    pool.push(Const::Class(3))?;
+    pool.push(text(alloc, "ConstantValue")?)?;
+    pool.push(text(alloc, "I")?)?;
+    pool.push(text(alloc, "Z")?)?;
+    Ok(pool)
+}
+
+fn text(alloc: Global, text: &str) -> Result<Const, NoMemory>
+    ensures { IfOk result (λ constant. constant ≡ Utf8 text.now) }
+{
+    Ok(Const::Utf8(Bytes::from_slice(alloc, text.as_bytes())?))
+}
+
+/// Appends the name and the first value of each variable.
+fn put_values(alloc: Global, pool: &mut List<Const>, vars: &[Var]) -> Result<(), NoMemory>
+    requires { length vars.now ≤ 10000 }
+    ensures { OnOk result (pool.new ≡ pool.old ++ values_from 0 vars.now) }
+{
+    let mut index: u16 = 0;
+    let mut left = vars;
+    while let [var, rest @ ..] = left {
+        pool.push(variable_name(alloc, index)?)?;
+        pool.push(Const::Integer(var.first))?;
+        index += 1;
+        left = rest;
+    }
+    Ok(())
+}
+
+fn variable_name(alloc: Global, index: u16) -> Result<Const, NoMemory>
+    ensures { IfOk result (λ constant. constant ≡ Utf8 (variable_name index)) }
+{
+    let mut name = Bytes::from_slice(alloc, b"v".as_slice())?;
+    push_count(&mut name, u64::from(index))?;
+    Ok(Const::Utf8(name))
+}
+
+/// The fields of the variables.
+fn fields(alloc: Global, vars: &[Var]) -> Result<List<Member>, NoMemory>
+    requires { length vars.now ≤ 10000 }
+    ensures { IfOk result (λ fields. fields ≡ fields_from 0 vars.now) }
+{
+    let mut fields = List::new(alloc);
+    let mut index: u16 = 0;
+    let mut left = vars;
+    while let [var, rest @ ..] = left {
+        fields.push(field(alloc, index, var)?)?;
+        index += 1;
+        left = rest;
+    }
+    Ok(fields)
+}
+
+/// The field of a variable, whose value at first is a `ConstantValue`.
+fn field(alloc: Global, index: u16, var: &Var) -> Result<Member, NoMemory>
+    requires { index < 10000 }
+    ensures { IfOk result (λ member. member ≡ field index var.now) }
+{
+    let name = 8 + 2 * index;
+    let mut attrs = List::new(alloc);
+    attrs.push(Attr::Other(Other {
+        name: 5,
+        bytes: two_bytes(alloc, name + 1)?,
+    }))?;
+    Ok(Member {
+        flags: 0x0009,
+        name,
+        desc: if var.is_bool { 7 } else { 6 },
+        attrs,
+    })
+}
+
+fn two_bytes(alloc: Global, n: u16) -> Result<Bytes, NoMemory>
+    ensures { IfOk result (λ bytes. bytes ≡ big_bytes 2 n) }
+{
+    let mut bytes = [0u8; 2];
+    BigEndian::write_u16(&mut bytes, n);
+    Bytes::from_slice(alloc, &bytes)
+}

@@ -1,0 +1,6 @@
+use Rattle.std.proofs.Common.{◌≡◌, take, map}
+use Rattle.inline_release.specs.Woven.{attr_with}
+use Rattle.inline_release.proofs.members.member_with.Given as goal
+
+abbrev pub invariant-loop-attr : goal.invariant-loop-attr
+invariant-loop-attr l = l.attrs ≡ map (attr_with l.code) (take l.attr-index l.member.attrs)

@@ -1,0 +1,155 @@
+//! The code of a method with its blocks.
+
+ghost use Rattle.std.specs.Prelude.{◌≡◌, ◌+◌, ◌≤◌, ◌<◌, ◌^◌, IfOk, map, length};
+ghost use Rattle.std.specs.List.{AllByRecursion, list_any};
+ghost use Rattle.bytecode_model.specs.Sound.{IsSoundMethod};
+ghost use Rattle.offset_patch.specs.Fault.{Tells};
+ghost use Rattle.offset_patch.specs.Fits.{IsSite};
+ghost use Rattle.block_template.specs.Blocks.{has_block, site, site_locals};
+ghost use Rattle.inline_release.specs.Woven.{is_woven, sites_of, most_locals, locals_of, clients_from, blocks_put, code_woven};
+
+use block_template::{has_block, site, site_locals};
+use bytecode_model::{Method, Target};
+use class_codec::{Code, copy_list};
+use conspec_automaton::Policy;
+use insn_codec::Insn;
+use mon_base::{Bytes, List, NoMemory};
+use offset_patch::{Block, Entries, Origin, SpliceFault, origins_of, room, splice};
+use std::alloc::Global;
+
+/// The code of a method, the constants of its class, and where its instructions come from.
+#[derive(Drop)]
+pub struct WovenCode {
+    pub code: Code,
+    pub entries: Entries,
+    pub origins: List<Origin>,
+}
+
+/// The code of a method with a block for each call that is denied, and the constants that these need.
+pub fn code_woven(
+    alloc: Global,
+    policy: &Policy,
+    class: &Bytes,
+    number: u32,
+    entries: Entries,
+    method: &Method,
+    code: &Code,
+) -> Result<WovenCode, SpliceFault>
+    requires { IsSoundMethod method.now }
+    ensures { Tells result (code_woven policy.now class.now number entries method.now code.now) }
+{
+    if is_woven(policy, method) {
+        return blocks_put(alloc, policy, class, number, entries, method, code);
+    }
+    let code = copy_code(alloc, code)?;
+    let origins = clients(alloc, method.insns.as_slice())?;
+    Ok(WovenCode {
+        code,
+        entries,
+        origins,
+    })
+}
+
+/// Whether one of the instructions has a block.
+fn is_woven(policy: &Policy, method: &Method) -> bool
+    ensures { result ≡ is_woven policy.now method.now }
+{
+    method.refs.as_slice().iter().any(|target| has_block(policy, target))
+}
+
+fn blocks_put(
+    alloc: Global,
+    policy: &Policy,
+    class: &Bytes,
+    number: u32,
+    entries: Entries,
+    method: &Method,
+    code: &Code,
+) -> Result<WovenCode, SpliceFault>
+    requires { IsSoundMethod method.now }
+    ensures { Tells result (blocks_put policy.now class.now number entries method.now code.now (sites_of policy.now code.now.max_locals method.now)) }
+{
+    let locals = most_locals(policy, method.refs.as_slice())?;
+    room(alloc, class, number, code, locals)?;
+    let sites = sites_of(alloc, policy, code.max_locals, method.refs.as_slice())?;
+    let mut entries = entries;
+    let code = splice(alloc, class, number, &mut entries, method, code, locals, sites.as_slice())?;
+    let origins = origins_of(alloc, sites.as_slice())?;
+    Ok(WovenCode {
+        code,
+        entries,
+        origins,
+    })
+}
+
+/// The greatest number of locals that a block uses. No memory holds more than a number of 32 bits counts.
+fn most_locals(policy: &Policy, refs: &[Target]) -> Result<u32, NoMemory>
+    ensures { IfOk result (λ most. most ≡ most_locals policy.now refs.now) }
+{
+    let mut most: u32 = 0;
+    let mut left = refs;
+    while let [target, rest @ ..] = left {
+        most = most.max(count(site_locals(policy, target))?);
+        left = rest;
+    }
+    Ok(most)
+}
+
+fn count(n: usize) -> Result<u32, NoMemory>
+    ensures { IfOk result (λ count. count ≡ n) }
+{
+    match u32::try_from(n) {
+        Ok(count) => Ok(count),
+        Err(_) => Err(NoMemory),
+    }
+}
+
+/// For each instruction its block, if it has one.
+fn sites_of(
+    alloc: Global,
+    policy: &Policy,
+    base: u16,
+    refs: &[Target],
+) -> Result<List<Option<Block>>, NoMemory>
+    requires { base + most_locals policy.now refs.now < 2 ^ 16 }
+    ensures is { IfOk result (λ sites. sites ≡ map (site policy.now base) refs.now) }
+    ensures fits { IfOk result (AllByRecursion IsSite) }
+{
+    let mut sites = List::new(alloc);
+    let mut left = refs;
+    while let [target, rest @ ..] = left {
+        sites.push(site(alloc, policy, base, target)?)?;
+        left = rest;
+    }
+    Ok(sites)
+}
+
+/// Each instruction is the client's.
+fn clients(alloc: Global, insns: &[Insn]) -> Result<List<Origin>, NoMemory>
+    requires { length insns.now < 2 ^ 16 }
+    ensures { IfOk result (λ origins. origins ≡ clients_from 0 insns.now) }
+{
+    let mut origins = List::new(alloc);
+    let mut at: u32 = 0;
+    let mut left = insns;
+    while let [_, rest @ ..] = left {
+        origins.push(Origin::Client(at))?;
+        at += 1;
+        left = rest;
+    }
+    Ok(origins)
+}
+
+/// Equal code.
+pub fn copy_code(alloc: Global, code: &Code) -> Result<Code, NoMemory>
+    ensures { IfOk result (λ copy. copy ≡ code.now) }
+{
+    Ok(Code {
+        name: code.name,
+        max_stack: code.max_stack,
+        max_locals: code.max_locals,
+        code: code.code.copy(alloc)?,
+        table: copy_list(alloc, &code.table)?,
+        attrs: copy_list(alloc, &code.attrs)?,
+    })
+}

@@ -1,0 +1,168 @@
+//! The methods of a class.
+
+ghost use Rattle.std.specs.Prelude.{◌≡◌, ◌<◌, ◌^◌, ◌+◌, IfOk, length, map, option_copied};
+ghost use Rattle.std.specs.List.{AllByRecursion};
+ghost use Rattle.bytecode_model.specs.Sound.{IsSoundMethod};
+ghost use Rattle.offset_patch.specs.Fault.{Tells};
+ghost use Rattle.inline_release.specs.Woven.{first_code, attr_with, member_with, bare_put, code_put, body_woven, member_woven, members_woven, none_made};
+
+use crate::code::{WovenCode, code_woven, copy_code};
+use bytecode_model::{LinkedClass, Method};
+use class_codec::{Attr, Code, Copied, Member};
+use conspec_automaton::Policy;
+use mon_base::{Bytes, List, NoMemory};
+use offset_patch::{Entries, Origin, SpliceFault};
+use std::alloc::Global;
+
+/// The members of a class that are made, with the constants that they need, and where the instructions of each code come
+/// from.
+#[derive(Drop)]
+pub struct Members {
+    pub number: u32,
+    pub entries: Entries,
+    pub items: List<Member>,
+    pub origins: List<List<Origin>>,
+}
+
+/// The members of a class, with its blocks.
+pub fn members_woven(
+    alloc: Global,
+    policy: &Policy,
+    class: &LinkedClass,
+    made: Members,
+    members: &[Member],
+) -> Result<Members, SpliceFault>
+    requires methods { AllByRecursion IsSoundMethod class.now.methods }
+    requires count { made.number + length members.now < 2 ^ 17 }
+    ensures { Tells result (members_woven policy.now class.now made members.now) }
+{
+    let mut made = made;
+    let mut left = members;
+    while let [member, rest @ ..] = left {
+        made = member_woven(alloc, policy, class, made, member)?;
+        left = rest;
+    }
+    Ok(made)
+}
+
+fn member_woven(
+    alloc: Global,
+    policy: &Policy,
+    class: &LinkedClass,
+    made: Members,
+    member: &Member,
+) -> Result<Members, SpliceFault>
+    requires methods { AllByRecursion IsSoundMethod class.now.methods }
+    requires count { made.number < 2 ^ 17 }
+    ensures is { Tells result (member_woven policy.now class.now made member.now) }
+    ensures count { IfOk result (λ next. next.number ≡ made.number + 1) }
+{
+    let Some(method) = class.methods.as_slice().get(made.number as usize) else {
+        let made = bare_put(alloc, made, member)?;
+        return Ok(made);
+    };
+    match first_code(member.attrs.as_slice()) {
+        Some(code) => body_woven(alloc, policy, &class.name, made, member, method, code),
+        None => {
+            let made = bare_put(alloc, made, member)?;
+            Ok(made)
+        }
+    }
+}
+
+fn bare_put(alloc: Global, made: Members, member: &Member) -> Result<Members, NoMemory>
+    requires { made.number < 2 ^ 17 }
+    ensures { IfOk result (λ next. next ≡ bare_put made member.now) }
+{
+    let Members {
+        number,
+        entries,
+        items,
+        origins,
+    } = made;
+    let mut items = items;
+    items.push(member.copy(alloc)?)?;
+    Ok(Members {
+        number: number + 1,
+        entries,
+        items,
+        origins,
+    })
+}
+
+fn body_woven(
+    alloc: Global,
+    policy: &Policy,
+    class: &Bytes,
+    made: Members,
+    member: &Member,
+    method: &Method,
+    code: &Code,
+) -> Result<Members, SpliceFault>
+    requires method { IsSoundMethod method.now }
+    requires count { made.number < 2 ^ 17 }
+    ensures is { Tells result (body_woven policy.now class.now made member.now (Some method.now) (Some code.now)) }
+    ensures count { IfOk result (λ next. next.number ≡ made.number + 1) }
+{
+    let Members {
+        number,
+        entries,
+        items,
+        origins,
+    } = made;
+    let woven = code_woven(alloc, policy, class, number, entries, method, code)?;
+    let WovenCode {
+        code,
+        entries,
+        origins: of_code,
+    } = woven;
+    let mut items = items;
+    let mut origins = origins;
+    items.push(member_with(alloc, member, code)?)?;
+    origins.push(of_code)?;
+    Ok(Members {
+        number: number + 1,
+        entries,
+        items,
+        origins,
+    })
+}
+
+/// The first code among attributes.
+fn first_code(attrs: &[Attr]) -> Option<&Code>
+    ensures { option_copied result ≡ first_code attrs.now }
+{
+    let mut left = attrs;
+    while let [attr, rest @ ..] = left {
+        if let Attr::Code(code) = attr {
+            return Some(code);
+        }
+        left = rest;
+    }
+    None
+}
+
+/// The member with another code.
+fn member_with(alloc: Global, member: &Member, code: Code) -> Result<Member, NoMemory>
+    ensures { IfOk result (λ other. other ≡ member_with member.now code) }
+{
+    let mut attrs = List::new(alloc);
+    for attr in member.attrs.as_slice() {
+        attrs.push(attr_with(alloc, &code, attr)?)?;
+    }
+    Ok(Member {
+        flags: member.flags,
+        name: member.name,
+        desc: member.desc,
+        attrs,
+    })
+}
+
+fn attr_with(alloc: Global, code: &Code, attr: &Attr) -> Result<Attr, NoMemory>
+    ensures { IfOk result (λ other. other ≡ attr_with code.now attr.now) }
+{
+    match attr {
+        Attr::Code(_) => Ok(Attr::Code(copy_code(alloc, code)?)),
+        Attr::Other(_) => attr.copy(alloc),
+    }
+}

@@ -1,0 +1,344 @@
+//! Small programs that are woven, against bytes that were worked out by hand.
+
+use crate::{Woven, inline};
+use api_listing::{Listing, read};
+use bytecode_model::{Program, Side, link};
+use class_codec::{Attr, ClassFile, Code, Const, Member};
+use conspec_automaton::{Policy, build};
+use conspec_parse::parse;
+use mon_base::{Bytes, List};
+use offset_patch::{Origin, Size, SpliceFault};
+use std::alloc::Global;
+use std::process::Abort;
+use std::test::Fail;
+
+const LISTING: &[u8] = b"class api/Net extends java/lang/Object\nstatic api/Net send ()V\n\
+    static api/Net put (II)I\n";
+
+const POLICY: &[u8] = b"MAXINT 1 SCOPE Session SECURITY STATE \
+    BEFORE void api.Net.send() PERFORM BEFORE int api.Net.put(int a, int b) PERFORM";
+
+fn text(alloc: Global, text: &[u8]) -> Result<Const, Fail> {
+    Ok(Const::Utf8(Bytes::from_slice(alloc, text)?))
+}
+
+/// The pool of a class `a/S` under Object with `main`: `send` is the method 13, and what follows begins at 14.
+fn pool(alloc: Global) -> Result<List<Const>, Fail> {
+    let mut pool = List::new(alloc);
+    pool.push(Const::Second)?;
+    pool.push(text(alloc, b"a/S".as_slice())?)?;
+    pool.push(Const::Class(1))?;
+    pool.push(text(alloc, b"java/lang/Object".as_slice())?)?;
+    pool.push(Const::Class(3))?;
+    pool.push(text(alloc, b"main".as_slice())?)?;
+    pool.push(text(alloc, b"([Ljava/lang/String;)V".as_slice())?)?;
+    pool.push(text(alloc, b"Code".as_slice())?)?;
+    pool.push(text(alloc, b"api/Net".as_slice())?)?;
+    pool.push(Const::Class(8))?;
+    pool.push(text(alloc, b"send".as_slice())?)?;
+    pool.push(text(alloc, b"()V".as_slice())?)?;
+    pool.push(Const::NameAndType(10, 11))?;
+    pool.push(Const::Method(9, 12))?;
+    Ok(pool)
+}
+
+/// The class file with this pool and code.
+fn file(
+    alloc: Global,
+    pool: List<Const>,
+    max_stack: u16,
+    max_locals: u16,
+    code: Bytes,
+) -> Result<ClassFile, Fail> {
+    let mut attrs = List::new(alloc);
+    attrs.push(Attr::Code(Code {
+        name: 7,
+        max_stack,
+        max_locals,
+        code,
+        table: List::new(alloc),
+        attrs: List::new(alloc),
+    }))?;
+    let mut methods = List::new(alloc);
+    methods.push(Member {
+        flags: 9,
+        name: 5,
+        desc: 6,
+        attrs,
+    })?;
+    Ok(ClassFile {
+        minor: 0,
+        pool,
+        flags: 0x21,
+        this_class: 2,
+        super_class: 4,
+        interfaces: List::new(alloc),
+        fields: List::new(alloc),
+        methods,
+        attrs: List::new(alloc),
+    })
+}
+
+fn policy(alloc: Global, listing: &Listing) -> Result<Policy, Fail> {
+    match parse(alloc, POLICY, listing) {
+        Ok(tree) => Ok(build(alloc, &tree)?),
+        Err(_) => Err("the policy".into()),
+    }
+}
+
+/// What weaving makes of the class.
+fn woven(alloc: Global, class: ClassFile) -> Result<Result<Woven, SpliceFault>, Fail> {
+    let Ok(listing) = read(alloc, LISTING) else {
+        return Err("the listing".into());
+    };
+    let policy = policy(alloc, &listing)?;
+    let mut files = List::new(alloc);
+    files.push(class)?;
+    let main = Bytes::from_slice(alloc, b"a/S".as_slice())?;
+    match link(alloc, files, listing, &main, Side::Original) {
+        Ok(program) => Ok(inline(alloc, &program, &policy)),
+        Err(_) => Err("linking".into()),
+    }
+}
+
+/// The files and origins of a class with this code.
+fn of_code(alloc: Global, max_stack: u16, max_locals: u16, code: &[u8]) -> Result<Woven, Fail> {
+    let code = Bytes::from_slice(alloc, code)?;
+    match woven(alloc, file(alloc, pool(alloc)?, max_stack, max_locals, code)?)? {
+        Ok(woven) => Ok(woven),
+        Err(_) => Err("weaving".into()),
+    }
+}
+
+fn code_of(woven: &Woven) -> Result<&Code, Fail> {
+    let [class, _] = woven.files.as_slice() else {
+        return Err("two files".into());
+    };
+    let [method] = class.methods.as_slice() else {
+        return Err("one method".into());
+    };
+    match method.attrs.as_slice() {
+        [Attr::Code(code)] => Ok(code),
+        _ => Err("one code".into()),
+    }
+}
+
+fn origins_of(woven: &Woven) -> Result<&[Origin], Fail> {
+    match woven.origins.as_slice() {
+        [class, state] => match class.as_slice() {
+            [method] => Ok(method.as_slice()),
+            _ => Err("one method".into()),
+        },
+        _ => Err("two classes".into()),
+    }
+}
+
+fn pool_of(woven: &Woven) -> Result<&[Const], Fail> {
+    match woven.files.as_slice() {
+        [class, _] => Ok(class.pool.as_slice()),
+        _ => Err("two files".into()),
+    }
+}
+
+/// `invokestatic api/Net.send; return` in a method with one local.
+#[test]
+fn a_denied_call_stands_in_its_block(rt: HostRuntime) -> Result<(), Fail> {
+    let woven = of_code(rt.alloc(), 0, 1, &[0xB8, 0, 13, 0xB1])?;
+    let code = code_of(&woven)?;
+    let wanted = [
+        0x13, 0, 15, 0xC2, 0x10, 77, 0xB8, 0, 21, 1, 0xBF, 0x13, 0, 15, 0xC3, 0xB8, 0, 13, 0xB1,
+    ];
+    assert_eq!(&rt; code.code.as_slice(), wanted.as_slice());
+    assert_eq!(&rt; code.max_stack, 3);
+    assert_eq!(&rt; code.max_locals, 1);
+    assert_eq!(&rt; pool_of(&woven)?.len(), 22);
+    let origins = origins_of(&woven)?;
+    assert_eq!(&rt; origins.len(), 10);
+    assert!(&rt; origins[7] == Origin::Block { site: 0, place: 7 });
+    assert!(&rt; origins[8] == Origin::Client(0));
+    assert!(&rt; origins[9] == Origin::Client(1));
+    Ok(())
+}
+
+/// The pool, and behind it the method `put` of two ints as 17.
+fn pool_with_put(alloc: Global) -> Result<List<Const>, Fail> {
+    let mut pool = pool(alloc)?;
+    pool.push(text(alloc, b"put".as_slice())?)?;
+    pool.push(text(alloc, b"(II)I".as_slice())?)?;
+    pool.push(Const::NameAndType(14, 15))?;
+    pool.push(Const::Method(9, 16))?;
+    Ok(pool)
+}
+
+/// `iconst_1; iconst_2; invokestatic api/Net.put; pop; return`.
+const PUT: [u8; 7] = [4, 5, 0xB8, 0, 17, 0x57, 0xB1];
+
+fn woven_put(
+    alloc: Global,
+    max_stack: u16,
+    max_locals: u16,
+) -> Result<Result<Woven, SpliceFault>, Fail> {
+    let code = Bytes::from_slice(alloc, PUT.as_slice())?;
+    let class = file(alloc, pool_with_put(alloc)?, max_stack, max_locals, code)?;
+    woven(alloc, class)
+}
+
+/// The arguments are in locals behind the three of the client.
+#[test]
+fn arguments_are_kept(rt: HostRuntime) -> Result<(), Fail> {
+    let Ok(woven) = woven_put(rt.alloc(), 2, 3)? else {
+        return Err("weaving".into());
+    };
+    let code = code_of(&woven)?;
+    let wanted = [
+        4, 5, 0x36, 4, 0x3E, 0x13, 0, 19, 0xC2, 0x10, 77, 0xB8, 0, 25, 1, 0xBF, 0x13, 0, 19, 0xC3,
+        0x1D, 0x15, 4, 0xB8, 0, 17, 0x57, 0xB1,
+    ];
+    assert_eq!(&rt; code.code.as_slice(), wanted.as_slice());
+    assert_eq!(&rt; code.max_stack, 5);
+    assert_eq!(&rt; code.max_locals, 5);
+    Ok(())
+}
+
+/// Locals 255 and 256, of which the second stands after `wide`.
+#[test]
+fn a_far_local_is_wide(rt: HostRuntime) -> Result<(), Fail> {
+    let Ok(woven) = woven_put(rt.alloc(), 2, 255)? else {
+        return Err("weaving".into());
+    };
+    let code = code_of(&woven)?.code.as_slice();
+    assert_eq!(&rt; &code[2..8], [0xC4, 0x36, 1, 0, 0x36, 255].as_slice());
+    assert_eq!(&rt; &code[23..29], [0x15, 255, 0xC4, 0x15, 1, 0].as_slice());
+    Ok(())
+}
+
+/// `nop`, the call, and `goto` to the call.
+#[test]
+fn a_branch_to_a_denied_call_goes_to_its_front(rt: HostRuntime) -> Result<(), Fail> {
+    let woven = of_code(rt.alloc(), 0, 1, &[0, 0xB8, 0, 13, 0xA7, 0xFF, 0xFD])?;
+    let wanted = [
+        0, 0x13, 0, 15, 0xC2, 0x10, 77, 0xB8, 0, 21, 1, 0xBF, 0x13, 0, 15, 0xC3, 0xB8, 0, 13, 0xA7,
+        0xFF, 0xEE,
+    ];
+    assert_eq!(&rt; code_of(&woven)?.code.as_slice(), wanted.as_slice());
+    Ok(())
+}
+
+#[test]
+fn each_denied_call_has_a_block(rt: HostRuntime) -> Result<(), Fail> {
+    let woven = of_code(rt.alloc(), 0, 1, &[0xB8, 0, 13, 0xB8, 0, 13, 0xB1])?;
+    let wanted = [
+        0x13, 0, 15, 0xC2, 0x10, 77, 0xB8, 0, 21, 1, 0xBF, 0x13, 0, 15, 0xC3, 0xB8, 0, 13, 0x13, 0,
+        15, 0xC2, 0x10, 77, 0xB8, 0, 21, 1, 0xBF, 0x13, 0, 15, 0xC3, 0xB8, 0, 13, 0xB1,
+    ];
+    assert_eq!(&rt; code_of(&woven)?.code.as_slice(), wanted.as_slice());
+    assert_eq!(&rt; pool_of(&woven)?.len(), 22);
+    Ok(())
+}
+
+#[test]
+fn a_method_without_a_denied_call_stays(rt: HostRuntime) -> Result<(), Fail> {
+    let woven = of_code(rt.alloc(), 7, 1, &[0, 0xB1])?;
+    let code = code_of(&woven)?;
+    assert_eq!(&rt; code.code.as_slice(), [0, 0xB1].as_slice());
+    assert_eq!(&rt; code.max_stack, 7);
+    assert_eq!(&rt; pool_of(&woven)?.len(), 14);
+    assert_eq!(&rt; origins_of(&woven)?.len(), 2);
+    Ok(())
+}
+
+/// Of two texts `exit` the first is used, and the name and type that is there.
+#[test]
+fn an_entry_that_is_there_is_used(rt: HostRuntime) -> Result<(), Fail> {
+    let alloc = rt.alloc();
+    let mut pool = pool(alloc)?;
+    pool.push(text(alloc, b"exit".as_slice())?)?;
+    pool.push(text(alloc, b"(I)V".as_slice())?)?;
+    pool.push(Const::NameAndType(14, 15))?;
+    pool.push(text(alloc, b"exit".as_slice())?)?;
+    let code = Bytes::from_slice(alloc, &[0xB8, 0, 13, 0xB1])?;
+    let Ok(woven) = woven(alloc, file(alloc, pool, 0, 1, code)?)? else {
+        return Err("weaving".into());
+    };
+    let pool = pool_of(&woven)?;
+    assert_eq!(&rt; pool.len(), 23);
+    assert!(&rt; pool[22] == Const::Method(21, 16));
+    let code = code_of(&woven)?.code.as_slice();
+    let wanted = [0x13, 0, 19, 0xC2, 0x10, 77, 0xB8, 0, 22, 1];
+    assert_eq!(&rt; &code[0..10], wanted.as_slice());
+    Ok(())
+}
+
+/// Whether weaving answers this size.
+fn overflows(answer: Result<Woven, SpliceFault>, size: Size, wanted: i64) -> bool {
+    match answer {
+        Err(SpliceFault::Overflow {
+            class,
+            method,
+            what,
+            value,
+        }) => method == 0 && what == size && value == wanted,
+        _ => false,
+    }
+}
+
+#[test]
+fn the_stack_is_tried_before_the_locals(rt: HostRuntime) -> Result<(), Fail> {
+    let alloc = rt.alloc();
+    assert!(&rt; overflows(woven_put(alloc, 65_533, 65_535)?, Size::Stack, 65_536));
+    assert!(&rt; overflows(woven_put(alloc, 65_532, 65_534)?, Size::Locals, 65_536));
+    assert!(&rt; woven_put(alloc, 65_532, 65_533)?.is_ok());
+    Ok(())
+}
+
+/// `goto` over the call and this many `nop`, to `return`.
+fn over(alloc: Global, nops: u16) -> Result<Result<Woven, SpliceFault>, Fail> {
+    let offset = nops.wrapping_add(6).to_be_bytes();
+    let mut code = Bytes::from_slice(alloc, &[0xA7, offset[0], offset[1], 0xB8, 0, 13])?;
+    for _ in 0..nops {
+        code.push(0)?;
+    }
+    code.push(0xB1)?;
+    woven(alloc, file(alloc, pool(alloc)?, 0, 1, code)?)
+}
+
+/// The block is 15 bytes longer than the call.
+#[test]
+fn a_branch_may_become_too_long(rt: HostRuntime) -> Result<(), Fail> {
+    assert!(&rt; over(rt.alloc(), 32_767 - 21)?.is_ok());
+    assert!(&rt; overflows(over(rt.alloc(), 32_768 - 21)?, Size::Branch, 32_768));
+    Ok(())
+}
+
+/// 4,000 calls, of which each has a block of 18 bytes.
+#[test]
+fn a_code_may_become_too_long(rt: HostRuntime) -> Result<(), Fail> {
+    let alloc = rt.alloc();
+    let mut code = Bytes::new(alloc);
+    for _ in 0..4_000 {
+        code.extend(&[0xB8, 0, 13])?;
+    }
+    code.push(0xB1)?;
+    let answer = woven(alloc, file(alloc, pool(alloc)?, 0, 1, code)?)?;
+    assert!(&rt; overflows(answer, Size::Length, 72_001));
+    Ok(())
+}
+
+/// What weaving makes of a class with this many constants.
+fn with_constants(alloc: Global, count: usize) -> Result<Result<Woven, SpliceFault>, Fail> {
+    let mut pool = pool(alloc)?;
+    for _ in 14..count {
+        pool.push(Const::Integer(0))?;
+    }
+    let code = Bytes::from_slice(alloc, &[0xB8, 0, 13, 0xB1])?;
+    woven(alloc, file(alloc, pool, 0, 1, code)?)
+}
+
+/// Eight entries are added.
+#[test]
+fn a_pool_may_become_too_large(rt: HostRuntime) -> Result<(), Fail> {
+    assert!(&rt; with_constants(rt.alloc(), 65_527)?.is_ok());
+    assert!(&rt; overflows(with_constants(rt.alloc(), 65_528)?, Size::Pool, 65_536));
+    assert!(&rt; overflows(with_constants(rt.alloc(), 65_535)?, Size::Pool, 65_543));
+    Ok(())
+}

@@ -1,0 +1,146 @@
+//! A program and a policy become class files with blocks.
+
+ghost use Rattle.std.specs.Prelude.{◌≡◌, ◌≤◌, IfOk};
+ghost use Rattle.std.specs.List.{AllByRecursion};
+ghost use Rattle.class_codec.specs.Fits.{CanSpell};
+ghost use Rattle.bytecode_model.specs.Sound.{IsSound, IsSoundClass};
+ghost use Rattle.conspec_automaton.specs.Denying.{DeniesOnly};
+ghost use Rattle.offset_patch.specs.Fault.{Tells};
+ghost use Rattle.inline_release.specs.Woven.{none_made, file_with, file_put, class_woven, classes_woven, state_put, woven};
+
+use crate::members::{Members, members_woven};
+use block_template::state_class;
+use bytecode_model::{LinkedClass, Program};
+use class_codec::{ClassFile, Member, copy_list};
+use conspec_automaton::Policy;
+use mon_base::{List, NoMemory};
+use offset_patch::{Entries, Origin, SpliceFault};
+use std::alloc::Global;
+
+/// Class files with blocks, and for each class, each of its methods with code and each instruction of that where it comes
+/// from. The last class is `conspec/State`.
+#[derive(Drop)]
+pub struct Woven {
+    pub files: List<ClassFile>,
+    pub origins: List<List<List<Origin>>>,
+}
+
+/// The class files of a program with a block for each call that the policy denies, and behind them `conspec/State`; or the
+/// first size that does not fit. A policy denies calls outright.
+pub fn inline(alloc: Global, program: &Program, policy: &Policy) -> Result<Woven, SpliceFault>
+    requires sound { IsSound program.now }
+    requires denies { DeniesOnly policy.now }
+    ensures exact { Tells result (woven program.now policy.now) }
+    // The files can be written.
+    ensures spells { IfOk result (λ made. AllByRecursion CanSpell made.files) }
+{
+    all_woven(alloc, program, policy)
+}
+
+fn all_woven(alloc: Global, program: &Program, policy: &Policy) -> Result<Woven, SpliceFault>
+    requires sound { IsSound program.now }
+    requires denies { DeniesOnly policy.now }
+    ensures { Tells result (woven program.now policy.now) }
+{
+    let none = Woven {
+        files: List::new(alloc),
+        origins: List::new(alloc),
+    };
+    let woven = classes_woven(alloc, policy, none, program.classes.as_slice())?;
+    let woven = state_put(alloc, policy, woven)?;
+    Ok(woven)
+}
+
+fn state_put(alloc: Global, policy: &Policy, woven: Woven) -> Result<Woven, NoMemory>
+    requires { DeniesOnly policy.now }
+    ensures { IfOk result (λ other. other ≡ state_put policy.now woven) }
+{
+    let Woven { files, origins } = woven;
+    let mut files = files;
+    let mut origins = origins;
+    files.push(state_class(alloc, policy)?)?;
+    origins.push(List::new(alloc))?;
+    Ok(Woven { files, origins })
+}
+
+fn classes_woven(
+    alloc: Global,
+    policy: &Policy,
+    woven: Woven,
+    classes: &[LinkedClass],
+) -> Result<Woven, SpliceFault>
+    requires { AllByRecursion IsSoundClass classes.now }
+    ensures { Tells result (classes_woven policy.now woven classes.now) }
+{
+    let mut woven = woven;
+    let mut left = classes;
+    while let [class, rest @ ..] = left {
+        woven = class_woven(alloc, policy, woven, class)?;
+        left = rest;
+    }
+    Ok(woven)
+}
+
+fn class_woven(
+    alloc: Global,
+    policy: &Policy,
+    woven: Woven,
+    class: &LinkedClass,
+) -> Result<Woven, SpliceFault>
+    requires { IsSoundClass class.now }
+    ensures { Tells result (class_woven policy.now woven class.now) }
+{
+    let none = Members {
+        number: 0,
+        entries: Entries::new(alloc, copy_list(alloc, &class.file.pool)?),
+        items: List::new(alloc),
+        origins: List::new(alloc),
+    };
+    let made = members_woven(alloc, policy, class, none, class.file.methods.as_slice())?;
+    let woven = file_put(alloc, woven, class, made)?;
+    Ok(woven)
+}
+
+fn file_put(
+    alloc: Global,
+    woven: Woven,
+    class: &LinkedClass,
+    made: Members,
+) -> Result<Woven, NoMemory>
+    ensures { IfOk result (λ other. other ≡ file_put woven class.now made) }
+{
+    let Woven { files, origins } = woven;
+    let mut files = files;
+    let mut origins = origins;
+    let Members {
+        number,
+        entries,
+        items,
+        origins: of_class,
+    } = made;
+    files.push(file_with(alloc, &class.file, entries, items)?)?;
+    origins.push(of_class)?;
+    Ok(Woven { files, origins })
+}
+
+/// The file with these methods and constants; all else is as it was.
+fn file_with(
+    alloc: Global,
+    file: &ClassFile,
+    entries: Entries,
+    methods: List<Member>,
+) -> Result<ClassFile, NoMemory>
+    ensures { IfOk result (λ other. other ≡ file_with file.now entries methods) }
+{
+    Ok(ClassFile {
+        minor: file.minor,
+        pool: entries.into_list(alloc)?,
+        flags: file.flags,
+        this_class: file.this_class,
+        super_class: file.super_class,
+        interfaces: copy_list(alloc, &file.interfaces)?,
+        fields: copy_list(alloc, &file.fields)?,
+        methods,
+        attrs: copy_list(alloc, &file.attrs)?,
+    })
+}

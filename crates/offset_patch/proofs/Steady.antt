@@ -1,0 +1,246 @@
+-- An entry that was added stays where it is: what is added later stands behind it.
+use Rattle.std.proofs.Common.{◌≡◌, cond, ℕ, zero, suc, ◌+◌, Bool, true, false, List, [], ◌∷◌, ◌++◌, length, Option, Some, None, option_map, map, refl, sym, ap, subst, ◌∙◌, append_assoc, append-nil, zero-add, arith}
+use Rattle.std.specs.Prelude.{bytes_eq, ◌==◌, ◌&&◌, codes}
+use Rattle.std.specs.List.{position_from}
+use Rattle.std.proofs.lemmas.List.{length-append, length-map, map-append}
+use Rattle.class_codec.specs.declared.tree.Const.{Const}
+use Rattle.class_codec.specs.declared.tree.Const.TheVariants as constants
+use Rattle.offset_patch.specs.declared.block.PoolWant.{PoolWant}
+use Rattle.offset_patch.specs.declared.constants.Added.{Added}
+use Rattle.offset_patch.specs.Added.{const_of, with_added}
+use Rattle.offset_patch.specs.declared.block.PoolWant.TheVariants as wants
+use Rattle.offset_patch.specs.Entries.{same, Placed, placed, place_of, entry, text, class, name_and_type, name_and_type_of, method, method_of, wanted, IsKept}
+
+-- the first that passes stays the first
+pub place_stays : {X : Type 0} (p : X → Bool) (at : ℕ) (xs ys : List X) (i : ℕ) → position_from p at xs ≡ Some i → position_from p at (xs ++ ys) ≡ Some i
+place_stays p at [] ys i e = absurd cc
+place_stays p at (x ∷ xs) ys i e = by (p x) (place_stays p (at + 1) xs ys i) e
+  where
+    by : (b : Bool) → (position_from p (at + 1) xs ≡ Some i → position_from p (at + 1) (xs ++ ys) ≡ Some i)
+        → cond b (Some at) (position_from p (at + 1) xs) ≡ Some i → cond b (Some at) (position_from p (at + 1) (xs ++ ys)) ≡ Some i
+    by true others f = f
+    by false others f = others f
+
+-- what none passed, one more does
+pub place_new : {X : Type 0} (p : X → Bool) (at : ℕ) (xs : List X) (x : X) → p x ≡ true → position_from p at xs ≡ None → position_from p at (xs ++ x ∷ []) ≡ Some (at + length xs)
+place_new p at [] x passes e =
+    let n : at ≡ at + 0 = omega arith in
+    rw passes (ap Some n)
+place_new p at (y ∷ ys) x passes e = by (p y) (place_new p (at + 1) ys x passes) e
+  where
+    by : (b : Bool) → (position_from p (at + 1) ys ≡ None → position_from p (at + 1) (ys ++ x ∷ []) ≡ Some (at + 1 + length ys))
+        → cond b (Some at) (position_from p (at + 1) ys) ≡ None → cond b (Some at) (position_from p (at + 1) (ys ++ x ∷ [])) ≡ Some (at + length (y ∷ ys))
+    by true others f = absurd cc
+    by false others f =
+        let n : at + 1 + length ys ≡ at + length (y ∷ ys) = omega arith in
+        others f ∙ ap Some n
+
+-- What a step adds is behind, and once it is there, the step finds it again.
+pub record IsSteady (f : List Const → Placed) : Type 0 where
+  pub grows : (p : List Const) → (xs : List Const) × ((f p).0 ≡ p ++ xs)
+  pub settles : (p : List Const) → f (f p).0 ≡ f p
+  pub stays : (p xs : List Const) (i : ℕ) → f p ≡ (p, i) → f (p ++ xs) ≡ (p ++ xs, i)
+
+-- ---- one constant
+
+entry_at : (c : Const) (p : List Const) (i : ℕ) → place_of c p ≡ Some i → entry c p ≡ (p, i)
+entry_at c p i e = ap (placed p c) e
+
+entry_new : (c : Const) (p : List Const) → place_of c p ≡ None → entry c p ≡ (p ++ c ∷ [], length p)
+entry_new c p e = ap (placed p c) e
+
+longer : (p : List Const) (c : Const) → p ++ c ∷ [] ≡ p → ⊥
+longer [] c e = absurd cc
+longer (x ∷ p) c e = longer p c cc
+
+module _ (c : Const) (self : same c c ≡ true) where
+  grows_one : (p : List Const) → (xs : List Const) × ((entry c p).0 ≡ p ++ xs)
+  grows_one p = by (place_of c p)
+    where
+      by : (o : Option ℕ) → (xs : List Const) × ((placed p c o).0 ≡ p ++ xs)
+      by None = (c ∷ [], refl)
+      by (Some i) = ([], sym (append-nil p))
+
+  settles_one : (p : List Const) → entry c (entry c p).0 ≡ entry c p
+  settles_one p = by (place_of c p) refl
+    where
+      by : (o : Option ℕ) → place_of c p ≡ o → entry c (entry c p).0 ≡ entry c p
+      by None e =
+          let new = entry_new c p e in
+          let there : entry c (p ++ c ∷ []) ≡ (p ++ c ∷ [], length p) = entry_at c (p ++ c ∷ []) (length p) (place_new (same c) 0 p c self e ∙ ap Some (zero-add (length p))) in
+          subst (λ (z : Placed). entry c z.0 ≡ z) (sym new) there
+      by (Some i) e =
+          let old = entry_at c p i e in
+          subst (λ (z : Placed). entry c z.0 ≡ z) (sym old) old
+
+  stays_one : (p xs : List Const) (i : ℕ) → entry c p ≡ (p, i) → entry c (p ++ xs) ≡ (p ++ xs, i)
+  stays_one p xs i e = by (place_of c p) refl
+    where
+      by : (o : Option ℕ) → place_of c p ≡ o → entry c (p ++ xs) ≡ (p ++ xs, i)
+      by None n =
+          let same_pool : p ++ c ∷ [] ≡ p = ap (λ (z : Placed). z.0) (sym (entry_new c p n) ∙ e) in
+          absurd (longer p c same_pool)
+      by (Some j) n =
+          let same_place : j ≡ i = ap (λ (z : Placed). z.1) (sym (entry_at c p j n) ∙ e) in
+          entry_at c (p ++ xs) i (place_stays (same c) 0 p xs i (n ∙ ap Some same_place))
+
+  pub steady_entry : IsSteady (entry c)
+  steady_entry = record { grows = grows_one; settles = settles_one; stays = stays_one }
+
+-- ---- one step and then another, which depends on where the first found its constant
+
+module _ (f : List Const → Placed) (g : ℕ → List Const → Placed) (first : IsSteady f) (second : (j : ℕ) → IsSteady (g j)) where
+  abbrev then : List Const → Placed
+  then p = g (f p).1 (f p).0
+
+  grows_both : (p : List Const) → (xs : List Const) × ((then p).0 ≡ p ++ xs)
+  grows_both p =
+      let a = first.grows p in
+      let b = (second (f p).1).grows (f p).0 in
+      (a.0 ++ b.0, b.1 ∙ ap (λ (z : List Const). z ++ b.0) a.1 ∙ append_assoc p a.0 b.0)
+
+  again : (p : List Const) → f (then p).0 ≡ ((then p).0, (f p).1)
+  again p =
+      let b = (second (f p).1).grows (f p).0 in
+      let kept : f ((f p).0 ++ b.0) ≡ ((f p).0 ++ b.0, (f p).1) = first.stays (f p).0 b.0 (f p).1 (first.settles p) in
+      subst (λ (z : List Const). f z ≡ (z, (f p).1)) (sym b.1) kept
+
+  settles_both : (p : List Const) → then (then p).0 ≡ then p
+  settles_both p = ap (λ (z : Placed). g z.1 z.0) (again p) ∙ (second (f p).1).settles (f p).0
+
+  nothing_new : (p xs ys : List Const) → p ≡ (p ++ xs) ++ ys → p ++ xs ≡ p
+  nothing_new [] [] ys e = refl
+  nothing_new [] (x ∷ xs) ys e = absurd cc
+  nothing_new (x ∷ p) xs ys e = ap (λ (z : List Const). x ∷ z) (nothing_new p xs ys cc)
+
+  stays_both : (p xs : List Const) (i : ℕ) → then p ≡ (p, i) → then (p ++ xs) ≡ (p ++ xs, i)
+  stays_both p xs i e =
+      let a = first.grows p in
+      let b = (second (f p).1).grows (f p).0 in
+      let all : p ≡ (p ++ a.0) ++ b.0 = sym (ap (λ (z : Placed). z.0) e) ∙ b.1 ∙ ap (λ (z : List Const). z ++ b.0) a.1 in
+      let same_pool : (f p).0 ≡ p = a.1 ∙ nothing_new p a.0 b.0 all in
+      let one : f p ≡ (p, (f p).1) = ap (λ (z : List Const). (z, (f p).1)) same_pool in
+      let kept : f (p ++ xs) ≡ (p ++ xs, (f p).1) = first.stays p xs (f p).1 one in
+      let two : g (f p).1 p ≡ (p, i) = sym (ap (g (f p).1) same_pool) ∙ e in
+      ap (λ (z : Placed). g z.1 z.0) kept ∙ (second (f p).1).stays p xs i two
+
+  pub steady_then : IsSteady then
+  steady_then = record { grows = grows_both; settles = settles_both; stays = stays_both }
+
+-- ---- what blocks want
+
+same_number : (n : ℕ) → (n == n) ≡ true
+same_number n = grind arith
+
+same_bytes : (xs : List ℕ) → bytes_eq xs xs ≡ true
+same_bytes [] = refl
+same_bytes (x ∷ xs) = rw (same_number x) (same_bytes xs)
+
+pub steady_text : (bytes : List ℕ) → IsSteady (text bytes)
+steady_text bytes = steady_entry (constants.Utf8 bytes) (same_bytes bytes)
+
+pub steady_class_at : (j : ℕ) → IsSteady (entry (constants.Class j))
+steady_class_at j = steady_entry (constants.Class j) (same_number j)
+
+pub steady_class : (name : List ℕ) → IsSteady (class name)
+steady_class name = steady_then (text name) (λ j. entry (constants.Class j)) (steady_text name) steady_class_at
+
+pub steady_name_and_type_at : (i j : ℕ) → IsSteady (entry (constants.NameAndType i j))
+steady_name_and_type_at i j = steady_entry (constants.NameAndType i j) (rw (same_number i, same_number j) refl)
+
+pub steady_method_at : (i j : ℕ) → IsSteady (entry (constants.Method i j))
+steady_method_at i j = steady_entry (constants.Method i j) (rw (same_number i, same_number j) refl)
+
+pub steady_name_and_type : (name desc : List ℕ) → IsSteady (name_and_type name desc)
+steady_name_and_type name desc =
+    steady_then (text name) (λ i p. entry (constants.NameAndType i (text desc p).1) (text desc p).0) (steady_text name)
+    (λ i. steady_then (text desc) (λ j. entry (constants.NameAndType i j)) (steady_text desc) (steady_name_and_type_at i))
+
+pub steady_method : (owner name desc : List ℕ) → IsSteady (method owner name desc)
+steady_method owner name desc =
+    steady_then (class owner) (λ i p. entry (constants.Method i (name_and_type name desc p).1) (name_and_type name desc p).0) (steady_class owner)
+    (λ i. steady_then (name_and_type name desc) (λ j. entry (constants.Method i j)) (steady_name_and_type name desc) (steady_method_at i))
+
+pub steady_wanted : (want : PoolWant) → IsSteady (wanted want)
+steady_wanted wants.StateClass = steady_class (codes "conspec/State")
+steady_wanted wants.Exit = steady_method (codes "java/lang/System") (codes "exit") (codes "(I)V")
+
+-- ---- what is kept of an entry
+
+-- it is where it was found
+pub kept_new : (want : PoolWant) (old new : List Const) (at : ℕ) → wanted want old ≡ (new, at) → wanted want new ≡ (new, at)
+kept_new want old new at e = subst (λ (z : Placed). wanted want z.0 ≡ z) e ((steady_wanted want).settles old)
+
+-- and stays there when another is added
+pub kept_on : (want other : PoolWant) (kept : Option ℕ) (old new : List Const) (at : ℕ) → wanted other old ≡ (new, at) → IsKept want kept old → IsKept want kept new
+kept_on want other None old new at e k = tt
+kept_on want other (Some i) old new at e k =
+    let more = (steady_wanted other).grows old in
+    let is : new ≡ old ++ more.0 = sym (ap (λ (z : Placed). z.0) e) ∙ more.1 in
+    subst (λ (z : List Const). wanted want z ≡ (z, i)) (sym is) ((steady_wanted want).stays old more.0 i k)
+
+-- ---- places in a pool with what is added behind it
+
+place_map : {X Y : Type 0} (f : X → Y) (p : Y → Bool) (at : ℕ) (xs : List X) → position_from p at (map f xs) ≡ position_from (λ x. p (f x)) at xs
+place_map f p at [] = refl
+place_map f p at (x ∷ xs) = ap (λ (o : Option ℕ). cond (p (f x)) (Some at) o) (place_map f p (at + 1) xs)
+
+place_behind_none : {X : Type 0} (p : X → Bool) (at : ℕ) (xs ys : List X) → position_from p at xs ≡ None → position_from p at (xs ++ ys) ≡ position_from p (at + length xs) ys
+place_behind_none p at [] ys e =
+    let n : at ≡ at + 0 = omega arith in
+    ap (λ (k : ℕ). position_from p k ys) n
+place_behind_none p at (x ∷ xs) ys e = by (p x) (place_behind_none p (at + 1) xs ys) e
+  where
+    by : (b : Bool) → (position_from p (at + 1) xs ≡ None → position_from p (at + 1) (xs ++ ys) ≡ position_from p (at + 1 + length xs) ys)
+        → cond b (Some at) (position_from p (at + 1) xs) ≡ None → cond b (Some at) (position_from p (at + 1) (xs ++ ys)) ≡ position_from p (at + length (x ∷ xs)) ys
+    by true others f = absurd cc
+    by false others f =
+        let n : at + 1 + length xs ≡ at + length (x ∷ xs) = omega arith in
+        others f ∙ ap (λ (k : ℕ). position_from p k ys) n
+
+place_further : {X : Type 0} (p : X → Bool) (k at : ℕ) (xs : List X) → position_from p (k + at) xs ≡ option_map (λ (i : ℕ). k + i) (position_from p at xs)
+place_further p k at [] = refl
+place_further p k at (x ∷ xs) = by (p x) (place_further p k (at + 1) xs)
+  where
+    by : (b : Bool) → position_from p (k + (at + 1)) xs ≡ option_map (λ (i : ℕ). k + i) (position_from p (at + 1) xs)
+        → cond b (Some (k + at)) (position_from p (k + at + 1) xs) ≡ option_map (λ (i : ℕ). k + i) (cond b (Some at) (position_from p (at + 1) xs))
+    by true others = refl
+    by false others =
+        let n : k + at + 1 ≡ k + (at + 1) = omega arith in
+        ap (λ (j : ℕ). position_from p j xs) n ∙ others
+
+-- a constant that stands in the pool
+pub place_before : (c : Const) (pool : List Const) (added : List Added) (i : ℕ) → place_of c pool ≡ Some i → place_of c (with_added pool added) ≡ Some i
+place_before c pool added i e = place_stays (same c) 0 pool (map const_of added) i e
+
+-- one that stands behind it, or is not there
+pub place_after : (c : Const) (pool : List Const) (added : List Added) (o : Option ℕ) → place_of c pool ≡ None
+    → o ≡ position_from (λ other. same c (const_of other)) 0 added → place_of c (with_added pool added) ≡ option_map (λ (i : ℕ). length pool + i) o
+place_after c pool added o none is =
+    let behind : place_of c (with_added pool added) ≡ position_from (same c) (0 + length pool) (map const_of added) = place_behind_none (same c) 0 pool (map const_of added) none in
+    let n : 0 + length pool ≡ length pool + 0 = omega arith in
+    behind ∙ ap (λ (k : ℕ). position_from (same c) k (map const_of added)) n ∙ place_further (same c) (length pool) 0 (map const_of added)
+    ∙ ap (option_map (λ (i : ℕ). length pool + i)) (place_map const_of (same c) 0 added ∙ sym is)
+
+pub added_one : (pool : List Const) (added : List Added) (one : Added) → with_added pool (added ++ one ∷ []) ≡ with_added pool added ++ const_of one ∷ []
+added_one pool added one = ap (λ (xs : List Const). pool ++ xs) (map-append const_of added (one ∷ [])) ∙ sym (append_assoc pool (map const_of added) (const_of one ∷ []))
+
+pub entry_there : (c : Const) (pool : List Const) (i : ℕ) → Some i ≡ place_of c pool → entry c pool ≡ (pool, i)
+entry_there c pool i e = entry_at c pool i (sym e)
+
+pub entry_pushed : (c : Const) (pool : List Const) (added new : List Added) (one : Added) (at : ℕ) → None ≡ place_of c (with_added pool added) → c ≡ const_of one
+    → new ≡ added ++ one ∷ [] → at ≡ length pool + length added → entry c (with_added pool added) ≡ (with_added pool new, at)
+entry_pushed c pool added new one at none is pushed place =
+    let longer : with_added pool new ≡ with_added pool added ++ c ∷ [] = ap (with_added pool) pushed ∙ added_one pool added one ∙ ap (λ (x : Const). with_added pool added ++ x ∷ []) (sym is) in
+    let count : at ≡ length (with_added pool added) = place ∙ sym (length-append pool (map const_of added) ∙ ap (λ (n : ℕ). length pool + n) (length-map added const_of)) in
+    entry_new c (with_added pool added) (sym none) ∙ ap (λ (p : List Const). (p, length (with_added pool added))) (sym longer) ∙ ap (λ (n : ℕ). (with_added pool new, n)) (sym count)
+
+-- both of what is kept, once the entry v was added
+pub kept_after : (w v u : PoolWant) (kept taken : Option ℕ) (items slice : List Const) (old new : List Added) (at : ℕ) → w ≡ v → slice ≡ items
+    → wanted w (with_added slice old) ≡ (with_added slice new, at) → taken ≡ kept → IsKept u kept (with_added items old)
+    → (wanted v (with_added items new) ≡ (with_added items new, at)) × IsKept u taken (with_added items new)
+kept_after w v u kept taken items slice old new at is same_items e t k =
+    let e1 : wanted w (with_added items old) ≡ (with_added items new, at) = subst (λ (xs : List Const). wanted w (with_added xs old) ≡ (with_added xs new, at)) same_items e in
+    let e2 : wanted v (with_added items old) ≡ (with_added items new, at) = subst (λ (x : PoolWant). wanted x (with_added items old) ≡ (with_added items new, at)) is e1 in
+    let on = kept_on u v kept (with_added items old) (with_added items new) at e2 k in
+    (kept_new v (with_added items old) (with_added items new) at e2, subst (λ (o : Option ℕ). IsKept u o (with_added items new)) (sym t) on)

@@ -1,0 +1,77 @@
+-- The entries of a constant pool that blocks name. An entry that is there is used, the first of several; a new one stands
+-- at the end, behind the entries that it names itself, in the order in which it names them.
+use Rattle.std.specs.Prelude.{◌≡◌, ℕ, ◌==◌, ◌&&◌, Bool, false, bytes_eq, codes, List, [], ◌∷◌, ◌++◌, length, Option, Some, None}
+use Rattle.std.specs.List.{position_from}
+use Rattle.std.specs.Ordering.{int_eq}
+use Rattle.class_codec.specs.declared.tree.Const.{Const}
+use Rattle.class_codec.specs.declared.tree.Const.TheVariants as constants
+use Rattle.offset_patch.specs.declared.block.PoolWant.{PoolWant}
+use Rattle.offset_patch.specs.declared.block.PoolWant.TheVariants as wants
+
+-- whether two constants are one value, by the very indices that they name
+abbrev pub same : Const → Const → Bool
+same (constants.Utf8 a) (constants.Utf8 b) = bytes_eq a b
+same (constants.Class a) (constants.Class b) = a == b
+same (constants.Method a m) (constants.Method b n) = (a == b) && (m == n)
+same (constants.NameAndType a m) (constants.NameAndType b n) = (a == b) && (m == n)
+same a b = false
+
+-- a pool and the place of a constant in it
+abbrev pub Placed : Type 0
+Placed = List Const × ℕ
+
+abbrev pub placed : List Const → Const → Option ℕ → Placed
+placed pool constant (Some at) = (pool, at)
+placed pool constant None = (pool ++ constant ∷ [], length pool)
+
+-- where the constant stands
+abbrev pub place_of : Const → List Const → Option ℕ
+place_of constant pool = position_from (same constant) 0 pool
+
+-- The first that is equal, or a new one.
+abbrev pub entry : Const → List Const → Placed
+entry constant pool = placed pool constant (place_of constant pool)
+
+abbrev pub text : List ℕ → List Const → Placed
+text bytes pool = entry (constants.Utf8 bytes) pool
+
+abbrev pub class_of : Placed → Placed
+class_of name = entry (constants.Class name.1) name.0
+
+abbrev pub class : List ℕ → List Const → Placed
+class name pool = class_of (text name pool)
+
+abbrev pub name_and_type_of : Placed → List ℕ → Placed
+name_and_type_of name desc = entry (constants.NameAndType name.1 (text desc name.0).1) (text desc name.0).0
+
+abbrev pub name_and_type : List ℕ → List ℕ → List Const → Placed
+name_and_type name desc pool = name_and_type_of (text name pool) desc
+
+abbrev pub method_of : Placed → List ℕ → List ℕ → Placed
+method_of owner name desc = entry (constants.Method owner.1 (name_and_type name desc owner.0).1) (name_and_type name desc owner.0).0
+
+abbrev pub method : List ℕ → List ℕ → List ℕ → List Const → Placed
+method owner name desc pool = method_of (class owner pool) name desc
+
+-- the class whose monitor is the lock
+abbrev pub state_name : List ℕ
+state_name = codes "conspec/State"
+
+-- an entry that a block names
+abbrev pub wanted : PoolWant → List Const → Placed
+wanted wants.StateClass pool = class state_name pool
+wanted wants.Exit pool = method (codes "java/lang/System") (codes "exit") (codes "(I)V") pool
+
+-- the pool with the entries that are wanted, in the order of use
+abbrev pub with_wants : List Const → List PoolWant → List Const
+with_wants pool [] = pool
+with_wants pool (want ∷ wants) = with_wants (wanted want pool).0 wants
+
+-- the place of an entry that is there
+abbrev pub place_in : List Const → PoolWant → ℕ
+place_in pool want = (wanted want pool).1
+
+-- What is kept of an entry: where it is.
+abbrev pub IsKept : PoolWant → Option ℕ → List Const → Type 0
+IsKept want None pool = Unit {0}
+IsKept want (Some at) pool = wanted want pool ≡ (pool, at)

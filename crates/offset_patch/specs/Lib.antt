@@ -1,0 +1,6 @@
+pub mod Fault
+pub mod Added
+pub mod Entries
+pub mod Splicing
+pub mod Fits
+pub mod Length

@@ -1,0 +1,148 @@
+-- Blocks in the code of a method: each stands in the place of the instruction that it is for, and what goes to that
+-- instruction goes to the front of its block.
+use Rattle.std.specs.Prelude.{ℕ, zero, suc, ◌+◌, ◌*◌, Bool, true, false, is_some, List, [], ◌∷◌, ◌++◌, length, map, slice_index, Option, Some, None, Ok}
+use Rattle.std.specs.List.{flat_map, filter_map, list_any, enumerate_from}
+use Rattle.mon_base.specs.Reading.{◌>>=◌}
+use Rattle.class_codec.specs.declared.tree.Code.{Code}
+use Rattle.class_codec.specs.declared.tree.Const.{Const}
+use Rattle.class_codec.specs.declared.tree.TableEntry.{TableEntry}
+use Rattle.insn_codec.specs.declared.insn.Insn.{Insn}
+use Rattle.insn_codec.specs.declared.insn.Insn.TheVariants as insns
+use Rattle.insn_codec.specs.Spelling.{starts_of}
+use Rattle.insn_codec.specs.Writing.{written}
+use Rattle.bytecode_model.specs.declared.program.Handler.{Handler}
+use Rattle.bytecode_model.specs.declared.program.Method.{Method}
+use Rattle.offset_patch.specs.declared.block.Block.{Block}
+use Rattle.offset_patch.specs.declared.block.BlockInsn.{BlockInsn}
+use Rattle.offset_patch.specs.declared.block.BlockInsn.TheVariants.{Plain, Byte, Short, Local, Want, Jump, Call}
+use Rattle.offset_patch.specs.declared.block.Origin.{Origin}
+use Rattle.offset_patch.specs.declared.block.Origin.TheVariants as origin
+use Rattle.offset_patch.specs.declared.block.PoolWant.{PoolWant}
+use Rattle.offset_patch.specs.declared.fault.Size.TheVariants as sizes
+use Rattle.offset_patch.specs.Entries.{with_wants, place_in}
+use Rattle.offset_patch.specs.Fault.{Spliced, fitted, code_fitted}
+
+-- what stands for an instruction: its block, or the instruction alone
+abbrev pub part_of : Option Block → List BlockInsn
+part_of None = Call ∷ []
+part_of (Some block) = block.insns
+
+abbrev pub has_block : List (Option Block) → Bool
+has_block sites = list_any is_some sites
+
+-- ---- fronts
+
+-- where the part of each instruction begins, and where the last one ends
+abbrev pub fronts_from : ℕ → List (Option Block) → List ℕ
+fronts_from at [] = at ∷ []
+fronts_from at (site ∷ sites) = at ∷ fronts_from (at + length (part_of site)) sites
+
+abbrev pub fronts_of : List (Option Block) → List ℕ
+fronts_of sites = fronts_from 0 sites
+
+-- the instruction, with each target at its front
+abbrev pub aimed : List ℕ → Insn → Insn
+aimed fronts (insns.Branch op to) = insns.Branch op (slice_index fronts to)
+aimed fronts (insns.GotoW to) = insns.GotoW (slice_index fronts to)
+aimed fronts (insns.Table other low targets) = insns.Table (slice_index fronts other) low (map (slice_index fronts) targets)
+aimed fronts (insns.Lookup other keys targets) = insns.Lookup (slice_index fronts other) keys (map (slice_index fronts) targets)
+aimed fronts other = other
+
+-- ---- instructions
+
+-- an instruction of the part, which begins at `begin`, of a client's instruction
+abbrev pub put : List Const → List ℕ → ℕ → Insn → BlockInsn → Insn
+put pool fronts begin own (Plain op) = insns.Plain op
+put pool fronts begin own (Byte n) = insns.Byte n
+put pool fronts begin own (Short n) = insns.Short n
+put pool fronts begin own (Local op slot wide) = insns.Local op slot wide
+put pool fronts begin own (Want op want) = insns.Pool op (place_in pool want)
+put pool fronts begin own (Jump op place) = insns.Branch op (begin + place)
+put pool fronts begin own Call = aimed fronts own
+
+-- the parts one after another, of which the first begins at `begin`
+abbrev pub parts_from : List Const → List ℕ → ℕ → List Insn → List (Option Block) → List Insn
+parts_from pool fronts begin [] sites = []
+parts_from pool fronts begin (insn ∷ others) [] = []
+parts_from pool fronts begin (insn ∷ others) (site ∷ sites) =
+    map (put pool fronts begin insn) (part_of site) ++ parts_from pool fronts (begin + length (part_of site)) others sites
+
+-- the instructions with the blocks in their places
+abbrev pub spliced : List Const → List Insn → List (Option Block) → List Insn
+spliced pool insns sites = parts_from pool (fronts_of sites) 0 insns sites
+
+-- ---- origins
+
+-- where an instruction of the part of the client's instruction `site` comes from
+abbrev pub origin_of : ℕ → ℕ × BlockInsn → Origin
+origin_of site (place, Call) = origin.Client site
+origin_of site (place, other) = origin.Block site place
+
+abbrev pub part_origins : ℕ × Option Block → List Origin
+part_origins site = map (origin_of site.0) (enumerate_from 0 (part_of site.1))
+
+abbrev pub origins_of : List (Option Block) → List Origin
+origins_of sites = flat_map part_origins (enumerate_from 0 sites)
+
+-- ---- the constant pool
+
+abbrev pub want_of : BlockInsn → Option PoolWant
+want_of (Want op want) = Some want
+want_of other = None
+
+-- what a block names in the constant pool
+abbrev pub block_wants : Option Block → List PoolWant
+block_wants site = filter_map want_of (part_of site)
+
+abbrev pub wants_of : List (Option Block) → List PoolWant
+wants_of sites = flat_map block_wants sites
+
+abbrev pub grown : List Const → List (Option Block) → List Const
+grown pool sites = with_wants pool (wants_of sites)
+
+-- ---- the exception table
+
+-- An entry covers the fronts of what it covered, where the instructions begin at these bytes.
+abbrev pub moved : List ℕ → List ℕ → Handler × TableEntry → TableEntry
+moved starts fronts (handler, entry) = record {
+  from = slice_index starts (slice_index fronts handler.from);
+  to = slice_index starts (slice_index fronts handler.to);
+  at = slice_index starts (slice_index fronts handler.at);
+  class = entry.class;
+}
+
+abbrev pub table_moved : List ℕ → List ℕ → List Handler → List TableEntry → List TableEntry
+table_moved starts fronts [] entries = []
+table_moved starts fronts (handler ∷ handlers) [] = []
+table_moved starts fronts (handler ∷ handlers) (entry ∷ entries) = moved starts fronts (handler, entry) ∷ table_moved starts fronts handlers entries
+
+-- ---- a method with a block
+
+-- how many operands a block needs beside the client's
+abbrev pub operands_needed : ℕ
+operands_needed = 3
+
+-- the room that blocks need, which use this many locals at most
+abbrev pub room : List ℕ → ℕ → Code → ℕ → Spliced (Unit {0})
+room class method code locals = do
+  stack ← fitted class method sizes.Stack (code.max_stack + operands_needed)
+  fitted class method sizes.Locals (code.max_locals + locals)
+
+-- the code with these instructions and bytes, without the attributes that it had
+abbrev pub code_with : Code → ℕ → List ℕ → List Handler → List Insn → List ℕ → Code
+code_with code locals fronts handlers insns bytes = record {
+  name = code.name;
+  max_stack = code.max_stack + operands_needed;
+  max_locals = code.max_locals + locals;
+  code = bytes;
+  table = table_moved (starts_of insns) fronts handlers code.table;
+  attrs = [];
+}
+
+-- the code with the blocks, in a pool that has what they name
+abbrev pub code_spliced : List ℕ → ℕ → List Const → Method → Code → ℕ → List (Option Block) → Spliced Code
+code_spliced class number pool method code locals sites = do
+  entries ← fitted class number sizes.Entries (length code.table)
+  count ← fitted class number sizes.Pool (length pool)
+  bytes ← code_fitted class number (written (spliced pool method.insns sites))
+  Ok (code_with code locals (fronts_of sites) method.handlers (spliced pool method.insns sites) bytes)

@@ -1,0 +1,50 @@
+//! What is put into the code of a method, and where each instruction of the output comes from.
+
+use mon_base::List;
+
+/// An entry of the constant pool that a block names.
+#[derive(Clone, Copy, Debug, PartialEq, Eq)]
+pub enum PoolWant {
+    /// The class `conspec/State`.
+    StateClass,
+    /// The method `java/lang/System.exit (I)V`.
+    Exit,
+}
+
+/// An instruction of a block.
+#[derive(Clone, Copy, Debug, PartialEq, Eq)]
+pub enum BlockInsn {
+    /// An opcode alone.
+    Plain(u8),
+    /// `bipush`.
+    Byte(i8),
+    /// `sipush`.
+    Short(i16),
+    /// A load or store of a local variable.
+    Local {
+        op: u8,
+        slot: u16,
+        wide: bool,
+    },
+    /// An opcode and the index of an entry of the constant pool.
+    Want { op: u8, want: PoolWant },
+    /// A jump to an instruction of the block, by its place; the block's length is what stands behind it.
+    Jump { op: u8, place: u32 },
+    /// The client's instruction for which the block stands.
+    Call,
+}
+
+/// A block. It stands in the place of a client's instruction.
+#[derive(Debug, Drop, PartialEq, Eq)]
+pub struct Block {
+    pub insns: List<BlockInsn>,
+}
+
+/// Where an instruction of the output comes from.
+#[derive(Clone, Copy, Debug, PartialEq, Eq)]
+pub enum Origin {
+    /// The client's instruction of this index.
+    Client(u32),
+    /// An instruction of the block that stands for the client's instruction `site`.
+    Block { site: u32, place: u32 },
+}

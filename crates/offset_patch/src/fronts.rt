@@ -1,0 +1,184 @@
+//! Where the part of each instruction begins, and where instructions of the output come from.
+
+ghost use Rattle.std.specs.Prelude.{◌≡◌, ◌+◌, ◌++◌, IfOk, OnOk, length, map, slice_index};
+ghost use Rattle.std.specs.List.{AllByRecursion, enumerate_from};
+ghost use Rattle.insn_codec.specs.Fits.{IsInsn};
+ghost use Rattle.offset_patch.specs.Splicing.{part_of, has_block, fronts_of, aimed, origin_of, part_origins, origins_of};
+
+use crate::block::{Block, BlockInsn, Origin};
+use insn_codec::Insn;
+use mon_base::{List, NoMemory};
+use std::alloc::Global;
+
+/// What stands for an instruction that has no block.
+const ALONE: &[BlockInsn] = &[BlockInsn::Call];
+
+/// What stands for an instruction: its block, or the instruction alone.
+pub fn part_of(site: &Option<Block>) -> &[BlockInsn]
+    ensures { result.now ≡ part_of site.now }
+{
+    match site {
+        Some(block) => block.insns.as_slice(),
+        None => ALONE,
+    }
+}
+
+/// Whether one of the instructions has a block.
+pub fn has_block(sites: &[Option<Block>]) -> bool
+    ensures { result ≡ has_block sites.now }
+{
+    sites.iter().any(|site| site.is_some())
+}
+
+/// Where the part of each instruction begins, and where the last one ends.
+pub fn fronts(alloc: Global, sites: &[Option<Block>]) -> Result<List<u32>, NoMemory>
+    ensures { IfOk result (λ fronts. fronts ≡ fronts_of sites.now) }
+{
+    let mut fronts = List::new(alloc);
+    let mut at: u32 = 0;
+    let mut left = sites;
+    while let [site, rest @ ..] = left {
+        fronts.push(at)?;
+        at = behind(at, part_of(site).len())?;
+        left = rest;
+    }
+    fronts.push(at)?;
+    Ok(fronts)
+}
+
+/// The place that many instructions further on. No memory holds more than a number of 32 bits counts.
+pub fn behind(at: u32, count: usize) -> Result<u32, NoMemory>
+    ensures { IfOk result (λ place. place ≡ at + count) }
+{
+    let Ok(count) = u32::try_from(count) else {
+        return Err(NoMemory);
+    };
+    match at.checked_add(count) {
+        Some(place) => Ok(place),
+        None => Err(NoMemory),
+    }
+}
+
+/// The front of an instruction.
+pub fn front(fronts: &[u32], to: u32) -> u32
+    ensures { result ≡ slice_index fronts.now to }
+{
+    match fronts.get(to as usize) {
+        Some(front) => *front,
+        None => 0,
+    }
+}
+
+fn all_fronts(alloc: Global, fronts: &[u32], targets: &[u32]) -> Result<List<u32>, NoMemory>
+    ensures { IfOk result (λ all. all ≡ map (slice_index fronts.now) targets.now) }
+{
+    let mut all = List::new(alloc);
+    for to in targets {
+        all.push(front(fronts, *to))?;
+    }
+    Ok(all)
+}
+
+fn copy_keys(alloc: Global, keys: &List<i32>) -> Result<List<i32>, NoMemory>
+    ensures { IfOk result (λ copy. copy ≡ keys.now) }
+{
+    let items = Vec::from_slice(alloc, keys.as_slice())?;
+    Ok(List::from_vec(items))
+}
+
+/// The instruction, with each target at its front.
+pub fn aimed(alloc: Global, fronts: &[u32], insn: &Insn) -> Result<Insn, NoMemory>
+    ensures { IfOk result (λ other. other ≡ aimed fronts.now insn.now) }
+{
+    match insn {
+        Insn::Plain(op) => Ok(Insn::Plain(*op)),
+        Insn::Byte(n) => Ok(Insn::Byte(*n)),
+        Insn::Short(n) => Ok(Insn::Short(*n)),
+        Insn::Ldc(index) => Ok(Insn::Ldc(*index)),
+        Insn::Pool { op, index } => Ok(Insn::Pool {
+            op: *op,
+            index: *index,
+        }),
+        Insn::Iface { index, count } => Ok(Insn::Iface {
+            index: *index,
+            count: *count,
+        }),
+        Insn::Local { op, slot, wide } => Ok(Insn::Local {
+            op: *op,
+            slot: *slot,
+            wide: *wide,
+        }),
+        Insn::Inc { slot, by, wide } => Ok(Insn::Inc {
+            slot: *slot,
+            by: *by,
+            wide: *wide,
+        }),
+        Insn::NewArray(kind) => Ok(Insn::NewArray(*kind)),
+        Insn::Branch { op, to } => Ok(Insn::Branch {
+            op: *op,
+            to: front(fronts, *to),
+        }),
+        Insn::GotoW { to } => Ok(Insn::GotoW {
+            to: front(fronts, *to),
+        }),
+        Insn::Table {
+            other,
+            low,
+            targets,
+        } => Ok(Insn::Table {
+            other: front(fronts, *other),
+            low: *low,
+            targets: all_fronts(alloc, fronts, targets.as_slice())?,
+        }),
+        Insn::Lookup {
+            other,
+            keys,
+            targets,
+        } => Ok(Insn::Lookup {
+            other: front(fronts, *other),
+            keys: copy_keys(alloc, keys)?,
+            targets: all_fronts(alloc, fronts, targets.as_slice())?,
+        }),
+    }
+}
+
+/// Where each instruction of the output comes from.
+pub fn origins_of(alloc: Global, sites: &[Option<Block>]) -> Result<List<Origin>, NoMemory>
+    ensures { IfOk result (λ origins. origins ≡ origins_of sites.now) }
+{
+    let mut origins = List::new(alloc);
+    let mut site: u32 = 0;
+    let mut left = sites;
+    while let [first, rest @ ..] = left {
+        put_origins(&mut origins, site, part_of(first))?;
+        site = behind(site, 1)?;
+        left = rest;
+    }
+    Ok(origins)
+}
+
+fn put_origins(
+    origins: &mut List<Origin>,
+    site: u32,
+    part: &[BlockInsn],
+) -> Result<(), NoMemory>
+    ensures { OnOk result (origins.new ≡ origins.old ++ map (origin_of site) (enumerate_from 0 part.now)) }
+{
+    let mut place: u32 = 0;
+    let mut left = part;
+    while let [insn, rest @ ..] = left {
+        origins.push(origin_of(site, place, *insn))?;
+        place = behind(place, 1)?;
+        left = rest;
+    }
+    Ok(())
+}
+
+fn origin_of(site: u32, place: u32, insn: BlockInsn) -> Origin
+    ensures { result ≡ origin_of site (place, insn) }
+{
+    match insn {
+        BlockInsn::Call => Origin::Client(site),
+        _ => Origin::Block { site, place },
+    }
+}

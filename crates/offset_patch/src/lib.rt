@@ -1,0 +1,27 @@
+//! Blocks of instructions in the code of a method.
+//!
+//! A block stands in the place of an instruction, which it holds; what goes to that instruction goes to the block's
+//! front. Entries that blocks name are found in the constant pool of the class, or are added to it. Sizes that do not fit
+//! are told in a fixed order. (docs/BLOCKS.md)
+#![tactic(auto)]
+
+mod block;
+mod entries;
+mod fault;
+mod adding;
+mod constants;
+mod fronts;
+mod length;
+mod sizes;
+mod splicing;
+mod tables;
+
+pub use block::{Block, BlockInsn, Origin, PoolWant};
+pub use entries::Entries;
+pub use fault::{Size, SpliceFault};
+pub use fronts::{has_block, origins_of};
+pub use sizes::room;
+pub use splicing::splice;
+
+#[cfg(test)]
+mod tests;

@@ -1,0 +1,34 @@
+//! Entries of constant pools.
+
+use crate::{Entries, PoolWant};
+use class_codec::Const;
+use mon_base::{Bytes, List};
+use std::alloc::Global;
+use std::process::Abort;
+use std::test::Fail;
+
+fn text(alloc: Global, text: &str) -> Result<Const, Fail> {
+    Ok(Const::Utf8(Bytes::from_slice(alloc, text.as_bytes())?))
+}
+
+#[test]
+fn components_stand_before_an_entry(rt: HostRuntime) -> Result<(), Fail> {
+    let alloc = rt.alloc();
+    let mut pool = List::new(alloc);
+    pool.push(Const::Second)?;
+    pool.push(text(alloc, "exit")?)?;
+    let mut entries = Entries::new(alloc, pool);
+    entries.add(alloc, PoolWant::Exit)?;
+    assert_eq!(&rt; entries.place(PoolWant::Exit)?, 6);
+    let pool = entries.into_list(alloc)?;
+    let mut wanted = List::new(alloc);
+    wanted.push(Const::Second)?;
+    wanted.push(text(alloc, "exit")?)?;
+    wanted.push(text(alloc, "java/lang/System")?)?;
+    wanted.push(Const::Class(2))?;
+    wanted.push(text(alloc, "(I)V")?)?;
+    wanted.push(Const::NameAndType(1, 4))?;
+    wanted.push(Const::Method(3, 5))?;
+    assert!(&rt; pool == wanted);
+    Ok(())
+}
