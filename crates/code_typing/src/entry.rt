@@ -65,13 +65,15 @@ fn arguments_fit(program: &Program, text: &[u8], to: &[VType]) -> bool
     are_top(program, to)
 }
 
-fn is_static(flags: u16) -> bool
+/// Whether a method with these flags has no object.
+pub fn is_static(flags: u16) -> bool
     ensures { result ≡ is_static flags }
 {
     flags & 8 != 0
 }
 
-fn this_type<'a>(place: &PlaceRef<'a>) -> TypeRef<'a>
+/// What an instance method finds in local 0.
+pub fn this_type<'a>(place: &PlaceRef<'a>) -> TypeRef<'a>
     ensures { type_lent result ≡ this_type place.now }
 {
     if is_maker(place.method) {

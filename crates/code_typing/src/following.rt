@@ -91,7 +91,7 @@ fn frame_takes(
 }
 
 /// Whether the frame afterwards is assignable to this one.
-fn goes_well(place: &PlaceRef, frame: &FrameType, to: &FrameType) -> bool
+pub fn goes_well(place: &PlaceRef, frame: &FrameType, to: &FrameType) -> bool
     ensures { result ≡ goes_well place.now frame.now to.now }
 {
     let (below, taken) = split_top(frame.stack.as_slice(), count_taken(place));

@@ -25,14 +25,15 @@ use type_lattice::{TypeRef, is_below, lend, lent_fits};
 /// The class that each other is below that is caught.
 const THROWABLE: &[u8] = b"java/lang/Throwable";
 
-fn covers(at: u32, handler: &Handler) -> bool
+/// Whether the handler covers the instruction of this index.
+pub fn covers(at: u32, handler: &Handler) -> bool
     ensures { result ≡ covers at handler.now }
 {
     handler.from <= at && at < handler.to
 }
 
 /// The class of what is caught.
-fn class_caught(handler: &Handler) -> &[u8]
+pub fn class_caught(handler: &Handler) -> &[u8]
     ensures { result.now ≡ class_caught handler.now }
 {
     match &handler.class {
@@ -42,7 +43,7 @@ fn class_caught(handler: &Handler) -> &[u8]
 }
 
 /// A local as a handler finds it.
-fn when_thrown(t: &VType) -> TypeRef<'_>
+pub fn when_thrown(t: &VType) -> TypeRef<'_>
     ensures { type_lent result ≡ when_thrown t.now }
 {
     match t {
@@ -100,7 +101,8 @@ fn is_alone(class: &[u8], stack: &[VType]) -> bool
     }
 }
 
-fn catches_well(place: &PlaceRef, frame: &FrameType, handler: &Handler, to: &FrameType) -> bool
+/// Whether the handler's frame takes what is caught and the locals.
+pub fn catches_well(place: &PlaceRef, frame: &FrameType, handler: &Handler, to: &FrameType) -> bool
     ensures { result ≡ catches_well place.now frame.now handler.now to.now }
 {
     is_alone(class_caught(handler), to.stack.as_slice())

@@ -5,6 +5,7 @@
 //! Machine Specification, section 4.10; docs/TYPING.md.)
 #![tactic(auto)]
 
+mod after;
 mod change;
 mod depth;
 mod described;
@@ -22,9 +23,15 @@ mod typing;
 mod wanted;
 mod yielded;
 
+pub use after::{entry_locals, locals_after, locals_thrown, stack_after, stack_thrown};
+pub use change::is_same_object;
 pub use fault::TypeFault;
+pub use following::goes_well;
+pub use handlers::{catches_well, covers};
 pub use laws::{typed_effect, typed_is_closed};
-pub use typing::{check_row, check_typing};
+pub use place::{PlaceRef, is_maker};
+pub use row::is_alone_met;
+pub use typing::{check_row, check_typing, row_in};
 
 #[cfg(test)]
 mod tests;

@@ -58,7 +58,7 @@ fn stores(shape: Shape, j: usize) -> bool
 }
 
 /// The type of a local afterwards.
-fn local_told<'a>(
+pub fn local_told<'a>(
     shape: Shape,
     change: Change<'a>,
     locals: &'a [VType],

@@ -1,7 +1,7 @@
 //! The rules of one instruction, in order.
 
-ghost use Rattle.std.specs.Prelude.{◌≡◌, option_copied};
-ghost use Rattle.code_typing.specs.Rules.{Operand, rule_failing, row_failing};
+ghost use Rattle.std.specs.Prelude.{◌≡◌, ◌&&◌, option_copied};
+ghost use Rattle.code_typing.specs.Rules.{Depth, Operand, Local, Made, rule_failing, row_failing};
 
 use crate::depth::{is_deep, split_top};
 use crate::entry::is_entered;
@@ -19,6 +19,17 @@ fn has_operands(place: &PlaceRef, frame: &FrameType) -> bool
 {
     let (_, taken) = split_top(frame.stack.as_slice(), count_taken(place));
     are_operands(place, taken)
+}
+
+/// The rules 2 to 5, which ask nothing of other instructions.
+pub fn is_alone_met(place: &PlaceRef, frame: &FrameType) -> bool
+    ensures { result ≡ (Depth place.now frame.now
+        && (Operand place.now frame.now && (Local place.now frame.now && Made place.now frame.now))) }
+{
+    is_deep(place, frame)
+        && has_operands(place, frame)
+        && has_locals(place, frame)
+        && is_made(place, frame)
 }
 
 /// The first of the rules 2 to 7 that fails at an instruction that is reached.

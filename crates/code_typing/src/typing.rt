@@ -28,7 +28,7 @@ use cert_format::{FrameType, Typing};
 use mon_base::List;
 
 /// The first rule that fails at an instruction of a method with these frames.
-fn row_in(
+pub fn row_in(
     program: &Program,
     own: u32,
     class: &LinkedClass,

@@ -42,7 +42,7 @@ pub fn type_at(list: &[VType], i: usize) -> TypeRef<'_>
 // ---- each type that is pushed
 
 /// The operands that a form puts back, counted from the top of those taken, the lowest first.
-fn put_back(form: StackForm) -> &'static [u8]
+pub fn put_back(form: StackForm) -> &'static [u8]
     ensures value { result.now ≡ reverse (order_of form) }
     ensures few { length result.now ≤ 6 }
 {
@@ -59,7 +59,8 @@ fn put_back(form: StackForm) -> &'static [u8]
     }
 }
 
-fn moved_from(depth: u8, taken: &[VType], i: u8) -> TypeRef<'_>
+/// The operand that a form puts back, counted from the top of those taken.
+pub fn moved_from(depth: u8, taken: &[VType], i: u8) -> TypeRef<'_>
     ensures { type_lent result ≡ moved_from depth taken.now i }
 {
     type_at(
@@ -69,7 +70,7 @@ fn moved_from(depth: u8, taken: &[VType], i: u8) -> TypeRef<'_>
 }
 
 /// The type of the constant that is named.
-fn constant_type<'a>(target: Option<&'a Target>) -> TypeRef<'a>
+pub fn constant_type<'a>(target: Option<&'a Target>) -> TypeRef<'a>
     ensures { type_lent result ≡ constant_type (target_or_none (option_copied target.entry)) }
 {
     match target {
@@ -90,7 +91,8 @@ fn item_described(name: &[u8]) -> TypeRef<'_>
     }
 }
 
-fn read_type<'a>(item: Item, taken: &'a [VType]) -> TypeRef<'a>
+/// The type of an item that is read.
+pub fn read_type<'a>(item: Item, taken: &'a [VType]) -> TypeRef<'a>
     ensures { type_lent result ≡ read_type item taken.now }
 {
     match item {
@@ -115,7 +117,7 @@ fn read_from(array: &VType) -> TypeRef<'_>
 }
 
 /// The array that `newarray` makes.
-fn array_named(kind: u8) -> &'static [u8]
+pub fn array_named(kind: u8) -> &'static [u8]
     ensures { result.now ≡ array_named kind }
 {
     match kind {

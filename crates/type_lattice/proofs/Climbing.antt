@@ -1,5 +1,5 @@
 -- Classes of a joined list, and the way up.
-use Rattle.std.proofs.Common.{◌≡◌, ℕ, zero, suc, ◌+◌, ◌-◌, ◌<◌, Bool, true, false, List, [], ◌∷◌, ◌++◌, Option, Some, None, refl, sym, ap, ◌∙◌, inl, inr, arith}
+use Rattle.std.proofs.Common.{◌≡◌, ℕ, zero, suc, ◌+◌, ◌-◌, ◌<◌, Bool, true, false, cond, List, [], ◌∷◌, ◌++◌, Option, Some, None, refl, sym, ap, ◌∙◌, inl, inr, arith}
 use Rattle.std.specs.Prelude.{bytes_eq, find, option_map, ◌||◌}
 use Rattle.std.specs.List.{list_any}
 use Rattle.std.specs.Option.{option_map_or}
@@ -52,5 +52,37 @@ climbs n i classes at above step less e =
 
 pub ends : (n i : ℕ) (classes : List ListedClass) (at above : List ℕ) → i < n → step_from classes at ≡ None → one_named above (upwards (n - i) classes at) ≡ false
 ends n i classes at above less e =
+    let k : n - i ≡ suc (n - (i + 1)) = omega arith in
+    rw (k, none_up (class_named classes at) e) refl
+
+-- ---- the first on the way up that passes a test
+
+abbrev pub first_named : (List ℕ → Bool) → List ListedClass → Option (List ℕ)
+first_named test classes = option_map (λ (c : ListedClass). c.name) (find (λ (c : ListedClass). test c.name) classes)
+
+named_cond : (b : Bool) (c : ListedClass) (o : Option ListedClass)
+    → option_map (λ (k : ListedClass). k.name) (cond b (Some c) o) ≡ cond b (Some c.name) (option_map (λ (k : ListedClass). k.name) o)
+named_cond true c o = refl
+named_cond false c o = refl
+
+next_first : (test : List ℕ → Bool) (found : Option ListedClass) (step : Step) (n : ℕ) (classes : List ListedClass) → option_map step_of found ≡ Some step
+    → first_named test (option_map_or (λ (c : ListedClass). c ∷ upwards n classes c.parent) found [])
+    ≡ cond (test step.name) (Some step.name) (first_named test (upwards n classes step.parent))
+next_first test None step n classes e = absurd cc
+next_first test (Some c) step n classes e =
+    let same : step_of c ≡ step = cc in
+    named_cond (test c.name) c _
+    ∙ ap (λ (s : Step). cond (test s.name) (Some s.name) (first_named test (upwards n classes s.parent))) same
+
+-- with i of n classes behind, the next one and those above it
+pub climbs_first : (test : List ℕ → Bool) (n i : ℕ) (classes : List ListedClass) (at : List ℕ) (step : Step) → i < n → step_from classes at ≡ Some step
+    → first_named test (upwards (n - i) classes at) ≡ cond (test step.name) (Some step.name) (first_named test (upwards (n - (i + 1)) classes step.parent))
+climbs_first test n i classes at step less e =
+    let k : n - i ≡ suc (n - (i + 1)) = omega arith in
+    rw k (next_first test (class_named classes at) step (n - (i + 1)) classes e)
+
+pub ends_first : (test : List ℕ → Bool) (n i : ℕ) (classes : List ListedClass) (at : List ℕ) → i < n → step_from classes at ≡ None
+    → first_named test (upwards (n - i) classes at) ≡ None
+ends_first test n i classes at less e =
     let k : n - i ≡ suc (n - (i + 1)) = omega arith in
     rw (k, none_up (class_named classes at) e) refl

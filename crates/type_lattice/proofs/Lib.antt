@@ -1,2 +1,7 @@
 pub mod Climbing
 pub mod Arrays
+pub mod Within
+mod Upwards
+mod Orders
+mod Bounds
+mod Least

@@ -2,3 +2,5 @@ pub mod Classes
 pub mod Assigning
 pub mod Rising
 pub mod Lending
+pub mod Merging
+pub mod Laws

@@ -14,7 +14,7 @@ use bytecode_model::Program;
 use cert_format::VType;
 
 /// The class that each other is below, and each array.
-const OBJECT: &[u8] = b"java/lang/Object";
+pub const OBJECT: &[u8] = b"java/lang/Object";
 
 /// Whether a value of the one type may stand where one of the other is wanted. It takes no memory.
 pub fn assignable(program: &Program, from: &VType, to: &VType) -> bool
@@ -152,7 +152,8 @@ fn leaf_fits(program: &Program, from: &[u8], to: &[u8]) -> bool
     }
 }
 
-fn reference_of<'a>(component: &'a [u8]) -> Option<&'a [u8]>
+/// The name of the class or array that a component is, if it is one.
+pub fn reference_of<'a>(component: &'a [u8]) -> Option<&'a [u8]>
     ensures { option_copied result ≡ reference_of component.now }
 {
     if is_array(component) {
@@ -162,7 +163,8 @@ fn reference_of<'a>(component: &'a [u8]) -> Option<&'a [u8]>
     }
 }
 
-fn is_array(text: &[u8]) -> bool
+/// Whether the name is that of an array.
+pub fn is_array(text: &[u8]) -> bool
     ensures { result ≡ is_array text.now }
 {
     match text {

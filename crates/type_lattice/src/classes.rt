@@ -1,6 +1,8 @@
 //! The classes of a program, by name. Nothing here takes memory.
 
-ghost use Rattle.std.specs.Prelude.{◌≡◌, map, option_map};
+ghost use Rattle.std.specs.Prelude.{◌≡◌, map, option_map, option_copied, find, length};
+ghost use Rattle.api_listing.specs.declared.types.ListedClass.{ListedClass};
+ghost use Rattle.api_listing.specs.Nearest.{upwards};
 ghost use Rattle.bytecode_model.specs.declared.program.LinkedClass.{LinkedClass};
 ghost use Rattle.bytecode_model.specs.Heads.{head_of, class_at};
 ghost use Rattle.type_lattice.specs.Classes.{classes_of, is_below, is_interface};
@@ -101,4 +103,26 @@ pub fn is_below(program: &Program, class: &[u8], above: &[u8]) -> bool
         at = rung.parent;
     }
     false
+}
+
+/// The name of the first class upwards from the one that the other is below, too.
+pub fn first_above<'a>(program: &'a Program, class: &[u8], other: &[u8]) -> Option<&'a [u8]>
+    ensures { option_copied result ≡ option_map (λ (c : ListedClass). c.name)
+        (find (λ (c : ListedClass). is_below program.now other.now c.name)
+        (upwards (length (classes_of program.now)) (classes_of program.now) class.now)) }
+{
+    let listed = program.listing.classes.as_slice();
+    let given = program.classes.as_slice();
+    let number = listed.len() + given.len();
+    let mut at = class;
+    for _ in 0..number {
+        let Some(rung) = rung_of(program, at) else {
+            return None;
+        };
+        if is_below(program, other, rung.name) {
+            return Some(rung.name);
+        }
+        at = rung.parent;
+    }
+    None
 }

@@ -1,9 +1,12 @@
 //! Types that stand nowhere as a whole.
 
-ghost use Rattle.std.specs.Prelude.{◌≡◌};
+ghost use Rattle.std.specs.Prelude.{◌≡◌, IfOk};
 ghost use Rattle.type_lattice.specs.Lending.{type_lent};
 
+use crate::merging::push_described;
 use cert_format::VType;
+use mon_base::{Bytes, NoMemory};
+use std::alloc::Global;
 
 /// A type of the verifier whose name is lent.
 #[derive(Clone, Copy)]
@@ -29,5 +32,25 @@ pub fn lend(of: &VType) -> TypeRef<'_>
         VType::Ref(name) => TypeRef::Ref(name.as_slice()),
         VType::UninitThis => TypeRef::UninitThis,
         VType::Uninit(at) => TypeRef::Uninit(*at),
+    }
+}
+
+/// The type, with a copy of the name that is lent.
+pub fn own(alloc: Global, lent: TypeRef) -> Result<VType, NoMemory>
+    ensures { IfOk result (λ t. t ≡ type_lent lent.entry) }
+{
+    match lent {
+        TypeRef::Top => Ok(VType::Top),
+        TypeRef::Int => Ok(VType::Int),
+        TypeRef::Null => Ok(VType::Null),
+        TypeRef::Ref(name) => Ok(VType::Ref(Bytes::from_slice(alloc, name)?)),
+        TypeRef::ArrayOf(item) => {
+            let mut name = Bytes::new(alloc);
+            name.push(b'[')?;
+            push_described(&mut name, item)?;
+            Ok(VType::Ref(name))
+        }
+        TypeRef::UninitThis => Ok(VType::UninitThis),
+        TypeRef::Uninit(at) => Ok(VType::Uninit(at)),
     }
 }

@@ -4,11 +4,15 @@
 
 mod assigning;
 mod classes;
+mod laws;
 mod lending;
+mod merging;
 
 pub use assigning::{assignable, fits_class, lent_fits};
 pub use classes::{is_below, is_interface};
-pub use lending::{TypeRef, lend};
+pub use laws::{assignable_is_an_order, merge_is_the_least};
+pub use lending::{TypeRef, lend, own};
+pub use merging::merge;
 
 #[cfg(test)]
 mod tests;

@@ -144,3 +144,55 @@ fn arrays_of_items(rt: HostRuntime) -> Result<(), Fail> {
     assert!(rt; lent_fits(&program, TypeRef::ArrayOf(b"a/A"), &object));
     Ok(())
 }
+
+/// Whether the merge of references to the two is one to the third, whichever comes first.
+fn refs_merge(
+    alloc: Global,
+    program: &Program,
+    a: &[u8],
+    b: &[u8],
+    above: &[u8],
+) -> Result<bool, NoMemory> {
+    let a = VType::Ref(Bytes::from_slice(alloc, a)?);
+    let b = VType::Ref(Bytes::from_slice(alloc, b)?);
+    let above = VType::Ref(Bytes::from_slice(alloc, above)?);
+    Ok(merge(alloc, program, &a, &b)? == above && merge(alloc, program, &b, &a)? == above)
+}
+
+#[test]
+fn merges_of_references(rt: HostRuntime) -> Result<(), Fail> {
+    let alloc = rt.alloc();
+    let program = program_of(alloc)?;
+    let object = b"java/lang/Object".as_slice();
+    let null = b"java/lang/NullPointerException".as_slice();
+    let sum = b"java/lang/ArithmeticException".as_slice();
+    assert!(rt; refs_merge(alloc, &program, null, sum, b"java/lang/RuntimeException")?);
+    assert!(rt; refs_merge(alloc, &program, b"a/B", b"a/A", b"a/A")?);
+    assert!(rt; refs_merge(alloc, &program, b"a/B", b"a/C", object)?);
+    assert!(rt; refs_merge(alloc, &program, b"a/B", b"a/I", object)?);
+    assert!(rt; refs_merge(alloc, &program, b"x/U", b"x/U", b"x/U")?);
+    assert!(rt; refs_merge(alloc, &program, b"x/U", b"a/A", object)?);
+    assert!(rt; refs_merge(alloc, &program, b"[La/B;", b"[La/A;", b"[La/A;")?);
+    assert!(rt; refs_merge(alloc, &program, b"[[La/B;", b"[[La/A;", b"[[La/A;")?);
+    assert!(rt; refs_merge(alloc, &program, b"[I", b"[B", object)?);
+    assert!(rt; refs_merge(alloc, &program, b"[I", b"[La/A;", object)?);
+    assert!(rt; refs_merge(alloc, &program, b"[[I", b"[[B", b"[Ljava/lang/Object;")?);
+    assert!(rt; refs_merge(alloc, &program, b"[[I", b"[La/A;", b"[Ljava/lang/Object;")?);
+    assert!(rt; refs_merge(alloc, &program, b"[La/A;", b"a/A", object)?);
+    Ok(())
+}
+
+#[test]
+fn merges_of_others(rt: HostRuntime) -> Result<(), Fail> {
+    let alloc = rt.alloc();
+    let program = program_of(alloc)?;
+    let class = VType::Ref(Bytes::from_slice(alloc, b"a/A")?);
+    assert!(rt; merge(alloc, &program, &VType::Null, &class)? == class);
+    assert!(rt; merge(alloc, &program, &class, &VType::Null)? == class);
+    assert!(rt; merge(alloc, &program, &VType::Int, &VType::Int)? == VType::Int);
+    assert!(rt; merge(alloc, &program, &VType::Int, &class)? == VType::Top);
+    assert!(rt; merge(alloc, &program, &VType::Uninit(1), &VType::Uninit(1))? == VType::Uninit(1));
+    assert!(rt; merge(alloc, &program, &VType::Uninit(1), &VType::Uninit(2))? == VType::Top);
+    assert!(rt; merge(alloc, &program, &VType::UninitThis, &class)? == VType::Top);
+    Ok(())
+}

@@ -148,15 +148,10 @@ fn a_store_fails_at_each_write_in_turn(rt: HostRuntime) -> Result<(), Fail> {
             "{name}"
         );
         for (number, output) in OUTPUTS.iter().enumerate() {
-            let wanted = if number < place {
-                bytes_of(&done.files, output)
-            } else {
-                None
-            };
-            assert!(rt;
-                bytes_of(&ended.files, output) == wanted,
-                "{output} where {name} fails"
-            );
+            let stands = bytes_of(&ended.files, output);
+            let same = stands == bytes_of(&done.files, output);
+            assert!(rt; same == (number < place), "{output} where {name} fails");
+            assert!(rt; stands.is_some() == (number < place), "{output} where {name} fails");
         }
     }
     // The sink fails once all is written.

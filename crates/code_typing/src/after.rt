@@ -1,0 +1,187 @@
+//! The frame after an instruction that is reached, and the one that a handler or a method begins with.
+
+ghost use Rattle.std.specs.Prelude.{◌≡◌, ◌∷◌, [], ◌++◌, ℕ, length, map, option_map, IfOk, OnOk};
+ghost use Rattle.std.specs.Option.{option_to_list};
+ghost use Rattle.cert_format.specs.declared.typing.VType.TheVariants.{Ref};
+ghost use Rattle.type_lattice.specs.Lending.{type_lent};
+ghost use Rattle.code_typing.specs.Described.{types_at, type_described};
+ghost use Rattle.code_typing.specs.Makes.{form_yields, heap_yields, yields, stack_after, local_after, type_at};
+ghost use Rattle.code_typing.specs.Rules.{arguments_typed, entry_locals, class_caught, when_thrown, taken};
+ghost use Rattle.code_typing.specs.Wants.{takes};
+
+use crate::change::{change_of, change_told};
+use crate::depth::split_top;
+use crate::described::{arguments_text, next_type, result_type, type_described};
+use crate::entry::{is_static, this_type};
+use crate::handlers::{class_caught, when_thrown};
+use crate::locals::local_told;
+use crate::operands::count_taken;
+use crate::place::{PlaceRef, class_of, desc_referred};
+use crate::yielded::{array_named, constant_type, moved_from, put_back, read_type, type_at};
+use bytecode_model::{Handler, Method};
+use cert_format::{FrameType, VType};
+use insn_effect::{Heap, Shape, StackForm, depth_of, shape_of};
+use mon_base::{Bytes, List, NoMemory};
+use std::alloc::Global;
+use type_lattice::{TypeRef, own};
+
+// ---- what is pushed
+
+/// What an instruction pushes that works on more than its frame.
+fn heap_yielded<'a>(place: &PlaceRef<'a>, taken: &'a [VType], what: Heap) -> Option<TypeRef<'a>>
+    ensures { option_to_list (option_map type_lent result) ≡ heap_yields place.now taken.now what }
+{
+    match what {
+        Heap::Constant => Some(constant_type(place.target)),
+        Heap::ReadItem(item) => Some(read_type(item, taken)),
+        Heap::ReadStatic | Heap::ReadField => Some(type_described(desc_referred(place))),
+        Heap::Call => result_type(desc_referred(place)),
+        Heap::New => Some(TypeRef::Uninit(place.at)),
+        Heap::NewArray(kind) => Some(TypeRef::Ref(array_named(kind))),
+        Heap::NewArrayOf => Some(TypeRef::ArrayOf(class_of(place.target))),
+        Heap::Cast => Some(TypeRef::Ref(class_of(place.target))),
+        Heap::Divide { .. } | Heap::Length | Heap::IsInstance => Some(TypeRef::Int),
+        _ => None,
+    }
+}
+
+/// Appends what a stack form puts back.
+fn push_moved(
+    alloc: Global,
+    out: &mut List<VType>,
+    form: StackForm,
+    taken: &[VType],
+) -> Result<(), NoMemory>
+    ensures { OnOk result (out.new ≡ out.old ++ form_yields form taken.now) }
+{
+    let depth = depth_of(form);
+    let order = put_back(form);
+    for place in order {
+        out.push(own(alloc, moved_from(depth, taken, *place))?)?;
+    }
+    Ok(())
+}
+
+/// Appends the type, if there is one.
+fn push_one(alloc: Global, out: &mut List<VType>, lent: Option<TypeRef>) -> Result<(), NoMemory>
+    ensures { OnOk result (out.new ≡ out.old ++ option_to_list (option_map type_lent lent.entry)) }
+{
+    match lent {
+        None => Ok(()),
+        Some(t) => out.push(own(alloc, t)?),
+    }
+}
+
+/// Appends what the instruction pushes.
+fn push_yields(
+    alloc: Global,
+    out: &mut List<VType>,
+    place: &PlaceRef,
+    locals: &[VType],
+    taken: &[VType],
+) -> Result<(), NoMemory>
+    ensures { OnOk result (out.new ≡ out.old ++ yields place.now locals.now taken.now) }
+{
+    match shape_of(place.insn) {
+        Shape::Push(_) | Shape::Two(_) | Shape::One(_) => out.push(VType::Int),
+        Shape::PushNull => out.push(VType::Null),
+        Shape::Load { slot, .. } => { out.push(own(alloc, type_at(locals, usize::from(slot)))?) }
+        Shape::Move(form) => push_moved(alloc, out, form, taken),
+        Shape::Heap(what) => push_one(alloc, out, heap_yielded(place, taken, what)),
+        _ => Ok(()),
+    }
+}
+
+// ---- the frame afterwards
+
+/// The operands after an instruction that is reached with the frame.
+pub fn stack_after(
+    alloc: Global,
+    place: &PlaceRef,
+    frame: &FrameType,
+) -> Result<List<VType>, NoMemory>
+    ensures { IfOk result (λ stack. stack ≡ stack_after place.now frame.now.locals (length (takes place.now)) frame.now.stack) }
+{
+    let (below, taken) = split_top(frame.stack.as_slice(), count_taken(place));
+    let change = change_of(place, taken);
+    let mut stack = List::new(alloc);
+    for t in below {
+        stack.push(own(alloc, change_told(change, t))?)?;
+    }
+    push_yields(alloc, &mut stack, place, frame.locals.as_slice(), taken)?;
+    Ok(stack)
+}
+
+/// How many locals there may be after an instruction that finds so many.
+fn count_after(shape: Shape, count: usize) -> usize {
+    match shape {
+        Shape::Store { slot, .. } => count.max(usize::from(slot) + 1),
+        _ => count,
+    }
+}
+
+/// The locals after it.
+pub fn locals_after(
+    alloc: Global,
+    place: &PlaceRef,
+    frame: &FrameType,
+) -> Result<List<VType>, NoMemory> {
+    let (_, taken) = split_top(frame.stack.as_slice(), count_taken(place));
+    let change = change_of(place, taken);
+    let shape = shape_of(place.insn);
+    let found = frame.locals.as_slice();
+    let mut locals = List::new(alloc);
+    for j in 0..count_after(shape, found.len()) {
+        locals.push(own(alloc, local_told(shape, change, found, taken, j))?)?;
+    }
+    Ok(locals)
+}
+
+// ---- the frames that handlers and methods begin with
+
+/// The locals that a handler finds where one of these is left.
+pub fn locals_thrown(alloc: Global, locals: &[VType]) -> Result<List<VType>, NoMemory>
+    ensures { IfOk result (λ found. found ≡ map when_thrown locals.now) }
+{
+    let mut found = List::new(alloc);
+    for t in locals {
+        found.push(own(alloc, when_thrown(t))?)?;
+    }
+    Ok(found)
+}
+
+/// The operands that a handler finds.
+pub fn stack_thrown(alloc: Global, handler: &Handler) -> Result<List<VType>, NoMemory>
+    ensures { IfOk result (λ stack. stack ≡ Ref (class_caught handler.now) ∷ []) }
+{
+    let mut stack = List::new(alloc);
+    stack.push(VType::Ref(Bytes::from_slice(alloc, class_caught(handler))?))?;
+    Ok(stack)
+}
+
+/// Appends the types of a method's arguments.
+fn push_arguments(alloc: Global, out: &mut List<VType>, method: &Method) -> Result<(), NoMemory>
+    ensures { OnOk result (out.new ≡ out.old ++ arguments_typed method.now) }
+{
+    let mut text = arguments_text(method.desc.as_slice());
+    for _ in 0..255usize {
+        let Some((desc, behind)) = next_type(text) else {
+            return Ok(());
+        };
+        out.push(own(alloc, type_described(desc))?)?;
+        text = behind;
+    }
+    Ok(())
+}
+
+/// The locals with which a method begins.
+pub fn entry_locals(alloc: Global, place: &PlaceRef) -> Result<List<VType>, NoMemory>
+    ensures { IfOk result (λ locals. locals ≡ entry_locals place.now) }
+{
+    let mut locals = List::new(alloc);
+    if !is_static(place.method.flags) {
+        locals.push(own(alloc, this_type(place))?)?;
+    }
+    push_arguments(alloc, &mut locals, place.method)?;
+    Ok(locals)
+}

@@ -1,0 +1,10 @@
+use Rattle.std.proofs.Common.{◌-◌, ◌<◌, ◌≤◌}
+use Rattle.type_infer.specs.Untyped.{CanBeMet}
+use Rattle.type_infer.proofs.failing.first_failing.Given as goal
+
+abbrev pub invariant-halving : goal.invariant-halving
+invariant-halving l =
+    (l.met < l.unmet) × (l.unmet ≤ l.n) × CanBeMet l.body.program.now l.body.own l.body.class.now l.body.method.now l.met
+
+abbrev pub decreases-halving : goal.decreases-halving
+decreases-halving l = l.unmet - l.met

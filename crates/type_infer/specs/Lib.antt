@@ -1,0 +1,4 @@
+pub mod Fault
+pub mod Fits
+pub mod Shape
+pub mod Untyped

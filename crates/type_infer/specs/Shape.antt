@@ -1,0 +1,8 @@
+-- How many instructions each method of a class with code has.
+use Rattle.std.specs.Prelude.{ℕ, List, length, map}
+use Rattle.bytecode_model.specs.declared.program.LinkedClass.{LinkedClass}
+use Rattle.bytecode_model.specs.declared.program.Method.{Method}
+use Rattle.code_typing.specs.Shape.{coded}
+
+abbrev pub class_shape : LinkedClass → List ℕ
+class_shape class = map (λ (method : Method). length method.insns) (coded class.methods)

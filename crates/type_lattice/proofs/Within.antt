@@ -1,0 +1,29 @@
+-- Two arrays, and what is within both.
+use Rattle.std.proofs.Common.{◌≡◌, ℕ, Bool, true, false, cond, List, [], ◌∷◌, Option, Some, None, refl, sym, ap}
+use Rattle.std.specs.Prelude.{◌==◌, ◌&&◌}
+use Rattle.api_listing.specs.BuiltIn.{object}
+use Rattle.bytecode_model.specs.declared.program.Program.{Program}
+use Rattle.type_lattice.specs.Lending.{described}
+use Rattle.type_lattice.specs.Merging.{both_within, items_merged, arrays_merged}
+
+within_some : (b : Bool) (x y u v : List ℕ) (P : List ℕ) (Q : List ℕ → List ℕ → List ℕ) → ◌≡◌ {A = Option (List ℕ × List ℕ)} (cond b (Some (x, y)) None) (Some (u, v))
+    → cond b (91 ∷ Q x y) P ≡ 91 ∷ Q u v
+within_some true x y u v P Q e = let p : ◌≡◌ {A = List ℕ × List ℕ} (x, y) (u, v) = cc in ap (λ (r : List ℕ × List ℕ). 91 ∷ Q r.0 r.1) p
+within_some false x y u v P Q e = absurd cc
+
+-- both are arrays
+pub merged_within : (program : Program) (otherwise a b x y : List ℕ) → both_within a b ≡ Some (x, y)
+    → arrays_merged program otherwise a b ≡ 91 ∷ arrays_merged program (described object) x y
+merged_within program otherwise [] b x y e = absurd cc
+merged_within program otherwise (c ∷ a) [] x y e = absurd cc
+merged_within program otherwise (c ∷ a) (d ∷ b) x y e = within_some ((c == 91) && (d == 91)) a b x y _ (arrays_merged program (described object)) e
+
+within_none : (b : Bool) (x y : List ℕ) (P Q : List ℕ) → ◌≡◌ {A = Option (List ℕ × List ℕ)} (cond b (Some (x, y)) None) None → cond b Q P ≡ P
+within_none true x y P Q e = absurd cc
+within_none false x y P Q e = refl
+
+-- they are not
+pub merged_apart : (program : Program) (otherwise a b : List ℕ) → both_within a b ≡ None → arrays_merged program otherwise a b ≡ items_merged program otherwise a b
+merged_apart program otherwise [] b e = refl
+merged_apart program otherwise (c ∷ a) [] e = refl
+merged_apart program otherwise (c ∷ a) (d ∷ b) e = within_none ((c == 91) && (d == 91)) a b _ _ e
