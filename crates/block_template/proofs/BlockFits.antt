@@ -12,9 +12,14 @@ use Rattle.conspec_parse.specs.declared.types.Kind.TheVariants as kinds
 use Rattle.offset_patch.specs.declared.block.Block.{Block}
 use Rattle.offset_patch.specs.declared.block.BlockInsn.{BlockInsn}
 use Rattle.offset_patch.specs.declared.block.BlockInsn.TheVariants.{Plain, Local, Call}
-use Rattle.offset_patch.specs.Fits.{IsBlockInsn, IsBlock}
+use Rattle.offset_patch.specs.Fits.{IsBlockInsn, IsBlock, IsSite}
 use Rattle.offset_patch.proofs.Lists.{all_append}
-use Rattle.block_template.specs.Blocks.{local, store, load, save, loads, lock, stop, unlock, denial}
+use Rattle.std.specs.Option.{option_map_or}
+use Rattle.bytecode_model.specs.declared.program.Target.{Target}
+use Rattle.bytecode_model.specs.declared.program.Target.TheVariants as target
+use Rattle.conspec_automaton.specs.declared.policy.Clause.{Clause}
+use Rattle.conspec_automaton.specs.declared.policy.Policy.{Policy}
+use Rattle.block_template.specs.Blocks.{local, store, load, save, loads, lock, stop, unlock, denial, block, clause_of, locals_used, site, site_locals}
 
 four : (P : ℕ → Type 0) → P 0 → P 1 → P 2 → P 3 → (k : ℕ) → k < 4 → P k
 four P a b c d zero h = a
@@ -107,3 +112,23 @@ pub one_named : {X : Type 0} (p : X → Bool) (xs : List X) (found : Option X) (
 one_named p xs found x is some none =
     let any : list_any p xs ≡ true = found_any p xs ∙ ap is_some (sym is ∙ some) in
     absurd cc
+
+-- ---- sites
+
+block_fits : (policy : Policy) (method base : ℕ) → base + locals_used policy method < 2 ^ 16 → IsSite (block policy method base)
+block_fits policy method base = by (clause_of policy method)
+  where
+    by : (o : Option Clause) → base + option_map_or (λ (c : Clause). length c.args) o 0 < 2 ^ 16 → IsSite (option_map (λ (c : Clause). denial base c.args) o)
+    by None few = tt
+    by (Some clause) few = denial_fits base clause.args few
+
+pub site_fits : (policy : Policy) (base : ℕ) (ref : Target) → base + site_locals policy ref < 2 ^ 16 → IsSite (site policy base ref)
+site_fits policy base (target.ApiMethod method) few = block_fits policy method base few
+site_fits policy base target.None few = tt
+site_fits policy base (target.Builtin index) few = tt
+site_fits policy base (target.Method class method) few = tt
+site_fits policy base (target.Field class field) few = tt
+site_fits policy base (target.ApiField index) few = tt
+site_fits policy base (target.ClassName name) few = tt
+site_fits policy base (target.Number n) few = tt
+site_fits policy base (target.Literal index) few = tt

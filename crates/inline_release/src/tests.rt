@@ -159,3 +159,186 @@ fn a_denied_call_stands_in_its_block(rt: HostRuntime) -> Result<(), Fail> {
     assert!(&rt; origins[9] == Origin::Client(1));
     Ok(())
 }
+
+/// The pool, and behind it the method `put` of two ints as 17.
+fn pool_with_put(alloc: Global) -> Result<List<Const>, Fail> {
+    let mut pool = pool(alloc)?;
+    pool.push(text(alloc, b"put".as_slice())?)?;
+    pool.push(text(alloc, b"(II)I".as_slice())?)?;
+    pool.push(Const::NameAndType(14, 15))?;
+    pool.push(Const::Method(9, 16))?;
+    Ok(pool)
+}
+
+/// `iconst_1; iconst_2; invokestatic api/Net.put; pop; return`.
+const PUT: [u8; 7] = [4, 5, 0xB8, 0, 17, 0x57, 0xB1];
+
+fn woven_put(
+    alloc: Global,
+    max_stack: u16,
+    max_locals: u16,
+) -> Result<Result<Woven, SpliceFault>, Fail> {
+    let code = Bytes::from_slice(alloc, PUT.as_slice())?;
+    let class = file(alloc, pool_with_put(alloc)?, max_stack, max_locals, code)?;
+    woven(alloc, class)
+}
+
+/// The arguments are in locals behind the three of the client.
+#[test]
+fn arguments_are_kept(rt: HostRuntime) -> Result<(), Fail> {
+    let Ok(woven) = woven_put(rt.alloc(), 2, 3)? else {
+        return Err("weaving".into());
+    };
+    let code = code_of(&woven)?;
+    let wanted = [
+        4, 5, 0x36, 4, 0x3E, 0x13, 0, 19, 0xC2, 0x10, 77, 0xB8, 0, 25, 1, 0xBF, 0x13, 0, 19, 0xC3,
+        0x1D, 0x15, 4, 0xB8, 0, 17, 0x57, 0xB1,
+    ];
+    assert_eq!(&rt; code.code.as_slice(), wanted.as_slice());
+    assert_eq!(&rt; code.max_stack, 5);
+    assert_eq!(&rt; code.max_locals, 5);
+    Ok(())
+}
+
+/// Locals 255 and 256, of which the second stands after `wide`.
+#[test]
+fn a_far_local_is_wide(rt: HostRuntime) -> Result<(), Fail> {
+    let Ok(woven) = woven_put(rt.alloc(), 2, 255)? else {
+        return Err("weaving".into());
+    };
+    let code = code_of(&woven)?.code.as_slice();
+    assert_eq!(&rt; &code[2..8], [0xC4, 0x36, 1, 0, 0x36, 255].as_slice());
+    assert_eq!(&rt; &code[23..29], [0x15, 255, 0xC4, 0x15, 1, 0].as_slice());
+    Ok(())
+}
+
+/// `nop`, the call, and `goto` to the call.
+#[test]
+fn a_branch_to_a_denied_call_goes_to_its_front(rt: HostRuntime) -> Result<(), Fail> {
+    let woven = of_code(rt.alloc(), 0, 1, &[0, 0xB8, 0, 13, 0xA7, 0xFF, 0xFD])?;
+    let wanted = [
+        0, 0x13, 0, 15, 0xC2, 0x10, 77, 0xB8, 0, 21, 1, 0xBF, 0x13, 0, 15, 0xC3, 0xB8, 0, 13, 0xA7,
+        0xFF, 0xEE,
+    ];
+    assert_eq!(&rt; code_of(&woven)?.code.as_slice(), wanted.as_slice());
+    Ok(())
+}
+
+#[test]
+fn each_denied_call_has_a_block(rt: HostRuntime) -> Result<(), Fail> {
+    let woven = of_code(rt.alloc(), 0, 1, &[0xB8, 0, 13, 0xB8, 0, 13, 0xB1])?;
+    let wanted = [
+        0x13, 0, 15, 0xC2, 0x10, 77, 0xB8, 0, 21, 1, 0xBF, 0x13, 0, 15, 0xC3, 0xB8, 0, 13, 0x13, 0,
+        15, 0xC2, 0x10, 77, 0xB8, 0, 21, 1, 0xBF, 0x13, 0, 15, 0xC3, 0xB8, 0, 13, 0xB1,
+    ];
+    assert_eq!(&rt; code_of(&woven)?.code.as_slice(), wanted.as_slice());
+    assert_eq!(&rt; pool_of(&woven)?.len(), 22);
+    Ok(())
+}
+
+#[test]
+fn a_method_without_a_denied_call_stays(rt: HostRuntime) -> Result<(), Fail> {
+    let woven = of_code(rt.alloc(), 7, 1, &[0, 0xB1])?;
+    let code = code_of(&woven)?;
+    assert_eq!(&rt; code.code.as_slice(), [0, 0xB1].as_slice());
+    assert_eq!(&rt; code.max_stack, 7);
+    assert_eq!(&rt; pool_of(&woven)?.len(), 14);
+    assert_eq!(&rt; origins_of(&woven)?.len(), 2);
+    Ok(())
+}
+
+/// Of two texts `exit` the first is used, and the name and type that is there.
+#[test]
+fn an_entry_that_is_there_is_used(rt: HostRuntime) -> Result<(), Fail> {
+    let alloc = rt.alloc();
+    let mut pool = pool(alloc)?;
+    pool.push(text(alloc, b"exit".as_slice())?)?;
+    pool.push(text(alloc, b"(I)V".as_slice())?)?;
+    pool.push(Const::NameAndType(14, 15))?;
+    pool.push(text(alloc, b"exit".as_slice())?)?;
+    let code = Bytes::from_slice(alloc, &[0xB8, 0, 13, 0xB1])?;
+    let Ok(woven) = woven(alloc, file(alloc, pool, 0, 1, code)?)? else {
+        return Err("weaving".into());
+    };
+    let pool = pool_of(&woven)?;
+    assert_eq!(&rt; pool.len(), 23);
+    assert!(&rt; pool[22] == Const::Method(21, 16));
+    let code = code_of(&woven)?.code.as_slice();
+    let wanted = [0x13, 0, 19, 0xC2, 0x10, 77, 0xB8, 0, 22, 1];
+    assert_eq!(&rt; &code[0..10], wanted.as_slice());
+    Ok(())
+}
+
+/// Whether weaving answers this size.
+fn overflows(answer: Result<Woven, SpliceFault>, size: Size, wanted: i64) -> bool {
+    match answer {
+        Err(SpliceFault::Overflow {
+            class,
+            method,
+            what,
+            value,
+        }) => method == 0 && what == size && value == wanted,
+        _ => false,
+    }
+}
+
+#[test]
+fn the_stack_is_tried_before_the_locals(rt: HostRuntime) -> Result<(), Fail> {
+    let alloc = rt.alloc();
+    assert!(&rt; overflows(woven_put(alloc, 65_533, 65_535)?, Size::Stack, 65_536));
+    assert!(&rt; overflows(woven_put(alloc, 65_532, 65_534)?, Size::Locals, 65_536));
+    assert!(&rt; woven_put(alloc, 65_532, 65_533)?.is_ok());
+    Ok(())
+}
+
+/// `goto` over the call and this many `nop`, to `return`.
+fn over(alloc: Global, nops: u16) -> Result<Result<Woven, SpliceFault>, Fail> {
+    let offset = nops.wrapping_add(6).to_be_bytes();
+    let mut code = Bytes::from_slice(alloc, &[0xA7, offset[0], offset[1], 0xB8, 0, 13])?;
+    for _ in 0..nops {
+        code.push(0)?;
+    }
+    code.push(0xB1)?;
+    woven(alloc, file(alloc, pool(alloc)?, 0, 1, code)?)
+}
+
+/// The block is 15 bytes longer than the call.
+#[test]
+fn a_branch_may_become_too_long(rt: HostRuntime) -> Result<(), Fail> {
+    assert!(&rt; over(rt.alloc(), 32_767 - 21)?.is_ok());
+    assert!(&rt; overflows(over(rt.alloc(), 32_768 - 21)?, Size::Branch, 32_768));
+    Ok(())
+}
+
+/// 4,000 calls, of which each has a block of 18 bytes.
+#[test]
+fn a_code_may_become_too_long(rt: HostRuntime) -> Result<(), Fail> {
+    let alloc = rt.alloc();
+    let mut code = Bytes::new(alloc);
+    for _ in 0..4_000 {
+        code.extend(&[0xB8, 0, 13])?;
+    }
+    code.push(0xB1)?;
+    let answer = woven(alloc, file(alloc, pool(alloc)?, 0, 1, code)?)?;
+    assert!(&rt; overflows(answer, Size::Length, 72_001));
+    Ok(())
+}
+
+/// What weaving makes of a class with this many constants.
+fn with_constants(alloc: Global, count: usize) -> Result<Result<Woven, SpliceFault>, Fail> {
+    let mut pool = pool(alloc)?;
+    for _ in 14..count {
+        pool.push(Const::Integer(0))?;
+    }
+    let code = Bytes::from_slice(alloc, &[0xB8, 0, 13, 0xB1])?;
+    woven(alloc, file(alloc, pool, 0, 1, code)?)
+}
+
+/// Eight entries are added.
+#[test]
+fn a_pool_may_become_too_large(rt: HostRuntime) -> Result<(), Fail> {
+    assert!(&rt; with_constants(rt.alloc(), 65_527)?.is_ok());
+    assert!(&rt; overflows(with_constants(rt.alloc(), 65_528)?, Size::Pool, 65_536));
+    assert!(&rt; overflows(with_constants(rt.alloc(), 65_535)?, Size::Pool, 65_543));
+    Ok(())
+}

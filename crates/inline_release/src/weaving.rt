@@ -31,6 +31,16 @@ pub fn inline(alloc: Global, program: &Program, policy: &Policy) -> Result<Woven
     requires sound { IsSound program.now }
     requires denies { DeniesOnly policy.now }
     ensures exact { Tells result (woven program.now policy.now) }
+    // The files can be written.
+    ensures spells { IfOk result (λ made. AllByRecursion CanSpell made.files) }
+{
+    all_woven(alloc, program, policy)
+}
+
+fn all_woven(alloc: Global, program: &Program, policy: &Policy) -> Result<Woven, SpliceFault>
+    requires sound { IsSound program.now }
+    requires denies { DeniesOnly policy.now }
+    ensures { Tells result (woven program.now policy.now) }
 {
     let none = Woven {
         files: List::new(alloc),

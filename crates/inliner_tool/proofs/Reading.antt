@@ -8,6 +8,8 @@ use Rattle.inliner_tool.specs.declared.files.Stop.{Stop}
 use Rattle.inliner_tool.specs.declared.inputs.ReadClasses.{ReadClasses as Classes}
 use Rattle.inliner_tool.specs.Forms.{IsRead, ReadsForm}
 use Rattle.event_record.specs.declared.reading.Record.{Record}
+use Rattle.inliner_tool.specs.InlineInputs.{ReadsInline}
+use Rattle.inliner_tool.specs.InlineWords.{NamedInline}
 use Rattle.inliner_tool.specs.Inputs.{ReadsCheck, ReadsClasses, ReadsPolicy, ReadsShow, AreClasses}
 use Rattle.inliner_tool.specs.Kinds.{certificate_form, listing_form, policy_form, record_form}
 use Rattle.inliner_tool.specs.Words.{NamedCheck, NamedPolicy, NamedShow}
@@ -44,3 +46,9 @@ module _ (files : Files) (named : NamedPolicy) (first begun now : ℕ) (last : L
   pub record_stops : (policy : PolicyTree) → IsRead files named.policy (policy_form listing) (Ok policy) → (stop : Stop)
       → ReadsForm files (counted begun now last) named.recorded (record_form listing) (Err stop) → ReadsPolicy files (counted first now last) named (Err stop)
   record_stops policy has stop form = inr (listing, listed, inr (policy, has, inl (stops_since files (record_form listing) named.recorded first begun now last stop le form)))
+
+pub inline_stops : (files : Files) (named : NamedInline) (first begun now : ℕ) (last : List ℕ) → first ≤ begun → (listing : Listing) → IsRead files named.listing listing_form (Ok listing)
+    → (policy : PolicyTree) → IsRead files named.policy (policy_form listing) (Ok policy) → (stop : Stop)
+    → ReadsClasses files (counted begun now last) named.classes (Err stop) → ReadsInline files (counted first now last) named (Err stop)
+inline_stops files named first begun now last le listing listed policy has stop reads =
+    inr (listing, listed, inr (policy, has, inl (among_since files named.classes first begun now last stop le reads)))

@@ -63,11 +63,11 @@ ReadsText files count name limit (Err Memory) = Unit {0}
 -- ---- one after the other
 
 -- Reading one thing, and then another that depends on it: what stops the first, or the second after the first was read.
-abbrev pub Then : {A B : Type 0} → (Result A Stop → Type 0) → (A → Result B Stop → Type 0) → Result B Stop → Type 0
+abbrev pub Then : {A B E : Type 0} → (Result A E → Type 0) → (A → Result B E → Type 0) → Result B E → Type 0
 Then {A = A} First Second (Ok b) = (a : A) × First (Ok a) × Second a (Ok b)
 Then {A = A} First Second (Err stop) = First (Err stop) ⊎ ((a : A) × First (Ok a) × Second a (Err stop))
 
 -- This is given, and nothing is read.
-abbrev pub Gives : {A : Type 0} → A → Result A Stop → Type 0
+abbrev pub Gives : {A E : Type 0} → A → Result A E → Type 0
 Gives a (Ok b) = b ≡ a
 Gives a (Err stop) = ⊥

@@ -23,10 +23,19 @@ use Rattle.conspec_automaton.specs.Verdict.{is_refused, verdict as judged}
 use Rattle.conspec_parse.specs.declared.types.PolicyTree.{PolicyTree}
 use Rattle.inliner_tool.specs.declared.answer.Answer.{Answer}
 use Rattle.inliner_tool.specs.declared.answer.Answer.TheVariants as answers
+use Rattle.inliner_tool.specs.declared.files.Stop.{Stop}
+use Rattle.inliner_tool.specs.declared.files.Stop.TheVariants as stops
 use Rattle.inliner_tool.specs.declared.inputs.CheckInputs.{CheckInputs}
 use Rattle.inliner_tool.specs.declared.inputs.PolicyInputs.{PolicyInputs}
 use Rattle.inliner_tool.specs.declared.inputs.ShowInputs.{ShowInputs}
 use Rattle.inliner_tool.specs.Built.{is_built}
+
+-- ---- where the reading of files stopped
+
+abbrev pub stopped : Stop → Answer
+stopped (stops.Input name fault) = answers.Input name fault
+stopped (stops.Unread name) = answers.Unread name
+stopped stops.Memory = answers.Memory
 
 -- ---- no
 
@@ -98,6 +107,7 @@ abbrev pub EndsWell : Answer → Type 0
 EndsWell (answers.Accepted accepted) = Unit {0}
 EndsWell (answers.Shown text) = Unit {0}
 EndsWell (answers.Judged verdict) = is_refused verdict ≡ false
+EndsWell (answers.Inlined accepted classes) = Unit {0}
 EndsWell other = ⊥
 
 -- The program is accepted with the certificate, and obeys the policy for every list of guest steps.

@@ -4,8 +4,12 @@ pub mod Forms
 pub mod Built
 pub mod Kinds
 pub mod Inputs
+pub mod InlineWords
+pub mod InlineInputs
 pub mod Words
 pub mod Judging
 pub mod Lines
 pub mod Status
+pub mod Weaving
+pub mod Inlining
 pub mod Tool

@@ -1,5 +1,6 @@
 -- What is printed for an answer.
 use Rattle.std.specs.Prelude.{ℕ, Bool, true, false, List, [], ◌∷◌, ◌++◌, codes, decimal, if◌then◌else◌}
+use Rattle.std.specs.Fmt.{signed_decimal}
 use Rattle.api_listing.specs.declared.fault.ListFault.{ListFault}
 use Rattle.api_listing.specs.declared.fault.ListFault.TheVariants as listings
 use Rattle.bytecode_model.specs.declared.fault.LinkFault.{LinkFault}
@@ -22,6 +23,8 @@ use Rattle.event_record.specs.declared.fault.RecordFault.TheVariants as records
 use Rattle.insn_codec.specs.declared.fault.CodeFault.{CodeFault}
 use Rattle.insn_codec.specs.declared.fault.CodeFault.TheVariants as codes_of
 use Rattle.insn_codec.specs.Fault.{number_of as code_number}
+use Rattle.offset_patch.specs.declared.fault.Size.{Size}
+use Rattle.offset_patch.specs.declared.fault.Size.TheVariants as sizes
 use Rattle.inliner_tool.specs.declared.answer.Answer.{Answer}
 use Rattle.inliner_tool.specs.declared.answer.Answer.TheVariants as answers
 use Rattle.inliner_tool.specs.declared.fault.InputFault.{InputFault}
@@ -111,6 +114,16 @@ link_fields (links.Name class) = word class
 link_fields (links.Operand class method at) = word class ++ field method ++ field at
 link_fields links.Memory = []
 
+-- ---- overflow
+
+abbrev pub size_name : Size → List ℕ
+size_name sizes.Stack = codes "stack"
+size_name sizes.Locals = codes "locals"
+size_name sizes.Entries = codes "entries"
+size_name sizes.Pool = codes "pool"
+size_name sizes.Length = codes "length"
+size_name sizes.Branch = codes "branch"
+
 -- ---- the line
 
 abbrev pub mode_name : Mode → List ℕ
@@ -134,11 +147,18 @@ line_text (answers.Accepted accepted) = codes "accepted" ++ word (mode_name acce
 line_text (answers.Denied fault label) = codes "denied" ++ field (check_number fault) ++ check_fields fault label
 line_text (answers.Shown text) = text
 line_text (answers.Judged verdict) = verdict_text verdict
+line_text (answers.Inlined accepted classes) =
+    codes "inlined" ++ word (mode_name accepted.mode) ++ codes " sites" ++ field accepted.sites ++ codes " classes" ++ field classes
 line_text (answers.Input name fault) = refused (number_of fault) name (input_fields fault)
 line_text (answers.TotalLong len) = refused 152 (codes "-") (field len)
 line_text (answers.Link fault) = refused (link_number fault) (codes "-") (link_fields fault)
+line_text (answers.Untyped class method at) = refused 201 (codes "-") (word class ++ field method ++ field at)
 line_text answers.NotBuilt = refused 199 (codes "-") []
+line_text (answers.Overflow class method what value) =
+    codes "overflow" ++ word class ++ field method ++ word (size_name what) ++ word (signed_decimal value)
+line_text (answers.LongCertificate value) = codes "overflow - 0 certificate" ++ field value
 line_text (answers.Unread name) = codes "store" ++ word name
+line_text (answers.Unwritten name) = codes "store" ++ word name
 line_text answers.Usage = codes "usage: conspecj COMMAND WORD.."
 line_text answers.Memory = []
 

@@ -1,13 +1,14 @@
 -- The exit status of the program.
 use Rattle.std.specs.Prelude.{ℕ}
 use Rattle.inliner_tool.specs.declared.tool.Status.{Status}
-use Rattle.inliner_tool.specs.declared.tool.Status.TheVariants.{Done, Denied, Usage, Input, StoreFault, SinkFault, Memory}
+use Rattle.inliner_tool.specs.declared.tool.Status.TheVariants.{Done, Denied, Usage, Input, Overflow, StoreFault, SinkFault, Memory}
 
 abbrev pub code_of : Status → ℕ
 code_of Done = 0
 code_of Denied = 1
 code_of Usage = 2
 code_of Input = 3
+code_of Overflow = 4
 code_of StoreFault = 5
 code_of SinkFault = 6
 code_of Memory = 7

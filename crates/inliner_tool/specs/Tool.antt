@@ -7,15 +7,15 @@ use Rattle.conspec_automaton.specs.declared.running.Verdict.TheVariants as verdi
 use Rattle.inliner_tool.specs.declared.answer.Answer.{Answer}
 use Rattle.inliner_tool.specs.declared.answer.Answer.TheVariants as answers
 use Rattle.inliner_tool.specs.declared.files.Stop.{Stop}
-use Rattle.inliner_tool.specs.declared.files.Stop.TheVariants.{Input, Unread, Memory}
 use Rattle.inliner_tool.specs.declared.inputs.CheckInputs.{CheckInputs}
 use Rattle.inliner_tool.specs.declared.tool.Status.{Status}
 use Rattle.inliner_tool.specs.declared.tool.Status.TheVariants as statuses
 use Rattle.inliner_tool.specs.Forms.{Count}
 use Rattle.inliner_tool.specs.Inputs.{ReadsCheck, ReadsPolicy, ReadsShow}
-use Rattle.inliner_tool.specs.Judging.{IsChecked, check_answer, policy_answer, show_answer}
+use Rattle.inliner_tool.specs.Inlining.{Inlines}
+use Rattle.inliner_tool.specs.Judging.{IsChecked, check_answer, policy_answer, show_answer, stopped}
 use Rattle.inliner_tool.specs.Lines.{text_of}
-use Rattle.inliner_tool.specs.Words.{NamedCheck, NamedCommand, Check, Show, Policy, IsCheck, IsCommand}
+use Rattle.inliner_tool.specs.Words.{NamedCheck, NamedCommand, Check, Show, Policy, Inline, IsCheck, IsCommand}
 
 -- ---- the headline
 
@@ -28,20 +28,17 @@ pub record Holds (files : Files) (count : Count) (named : NamedCheck) : Type 0 w
 
 -- ---- the answer
 
-abbrev pub stopped : Stop → Answer
-stopped (Input name fault) = answers.Input name fault
-stopped (Unread name) = answers.Unread name
-stopped Memory = answers.Memory
-
 -- The files are read, and this is the answer to what they are; or the reading of them stops, and this says where.
 abbrev pub Ends : {A : Type 0} → (Result A Stop → Type 0) → (A → Answer) → Answer → Type 0
 Ends {A = A} Reads judge answer =
     ((inputs : A) × Reads (Ok inputs) × (answer ≡ judge inputs)) ⊎ ((stop : Stop) × Reads (Err stop) × (answer ≡ stopped stop))
 
-abbrev pub Answers : Files → Count → NamedCommand → Answer → Type 0
-Answers files count (Check named) answer = Ends (ReadsCheck files count named) (check_answer named.main) answer
-Answers files count (Show named) answer = Ends (ReadsShow files count named) show_answer answer
-Answers files count (Policy named) answer = Ends (ReadsPolicy files count named) policy_answer answer
+-- What a command answers, and what stands in the store then.
+abbrev pub Answers : Files → Files → Count → NamedCommand → Answer → Type 0
+Answers old new count (Check named) answer = Ends (ReadsCheck old count named) (check_answer named.main) answer × (new ≡ old)
+Answers old new count (Show named) answer = Ends (ReadsShow old count named) show_answer answer × (new ≡ old)
+Answers old new count (Policy named) answer = Ends (ReadsPolicy old count named) policy_answer answer × (new ≡ old)
+Answers old new count (Inline named) answer = Inlines old new count named answer
 
 -- It is such an answer, or memory ran out.
 abbrev pub IsAnswer : (Answer → Type 0) → Answer → Type 0
@@ -50,10 +47,10 @@ IsAnswer P answers.Usage = ⊥
 IsAnswer P answer = P answer
 
 -- When the top call gives an answer: each comes where, and only where, its own case holds; but want of memory is free.
-abbrev pub Says : Files → Count → List (List ℕ) → Answer → Type 0
-Says files count words answers.Usage = (named : NamedCommand) → IsCommand words named → ⊥
-Says files count words answers.Memory = Unit {0}
-Says files count words answer = (named : NamedCommand) × IsCommand words named × Answers files count named answer
+abbrev pub Says : Files → Files → Count → List (List ℕ) → Answer → Type 0
+Says old new count words answers.Usage = ((named : NamedCommand) → IsCommand words named → ⊥) × (new ≡ old)
+Says old new count words answers.Memory = Unit {0}
+Says old new count words answer = (named : NamedCommand) × IsCommand words named × Answers old new count named answer
 
 -- ---- status and output
 
@@ -67,23 +64,28 @@ status_of (answers.Accepted accepted) = statuses.Done
 status_of (answers.Denied fault label) = statuses.Denied
 status_of (answers.Shown text) = statuses.Done
 status_of (answers.Judged verdict) = judged_status verdict
+status_of (answers.Inlined accepted classes) = statuses.Done
 status_of (answers.Input name fault) = statuses.Input
 status_of (answers.TotalLong len) = statuses.Input
 status_of (answers.Link fault) = statuses.Input
+status_of (answers.Untyped class method at) = statuses.Input
 status_of answers.NotBuilt = statuses.Input
+status_of (answers.Overflow class method what value) = statuses.Overflow
+status_of (answers.LongCertificate value) = statuses.Overflow
 status_of (answers.Unread name) = statuses.StoreFault
+status_of (answers.Unwritten name) = statuses.StoreFault
 status_of answers.Usage = statuses.Usage
 status_of answers.Memory = statuses.Memory
 
 -- There is an answer whose case holds, and of which this is so.
-pub record Answered (files : Files) (count : Count) (words : List (List ℕ)) (P : Answer → Type 0) : Type 0 where
+pub record Answered (old new : Files) (count : Count) (words : List (List ℕ)) (P : Answer → Type 0) : Type 0 where
   pub answer : Answer
-  pub says : Says files count words answer
+  pub says : Says old new count words answer
   pub so : P answer
 
 -- The status of a call, and what became of the sink's text. A fault of the sink takes the place of the status that would
 -- have come; its text may then have a front of the output. Without memory nothing is printed.
-abbrev pub Replies : Files → Count → List (List ℕ) → Option (List ℕ) → Option (List ℕ) → Type 0 → Status → Type 0
-Replies files count words old new rose statuses.Memory = new ≡ old
-Replies files count words old new rose statuses.SinkFault = rose × Answered files count words (λ answer. AppendsFront old new (text_of answer))
-Replies files count words old new rose status = Answered files count words (λ answer. (status ≡ status_of answer) × Appends old new (text_of answer))
+abbrev pub Replies : Files → Files → Count → List (List ℕ) → Option (List ℕ) → Option (List ℕ) → Type 0 → Status → Type 0
+Replies old new count words text after rose statuses.Memory = after ≡ text
+Replies old new count words text after rose statuses.SinkFault = rose × Answered old new count words (λ answer. AppendsFront text after (text_of answer))
+Replies old new count words text after rose status = Answered old new count words (λ answer. (status ≡ status_of answer) × Appends text after (text_of answer))

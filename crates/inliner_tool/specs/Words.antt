@@ -6,6 +6,7 @@ use Rattle.inliner_tool.specs.declared.words.Command.{Command}
 use Rattle.inliner_tool.specs.declared.words.Command.TheVariants as commands
 use Rattle.inliner_tool.specs.declared.words.PolicyWords.{PolicyWords}
 use Rattle.inliner_tool.specs.declared.words.ShowWords.{ShowWords}
+use Rattle.inliner_tool.specs.InlineWords.{IsInline, NamedInline, inline_named}
 
 -- the files of a check, and the name of its main class
 pub record NamedCheck : Type 0 where
@@ -30,6 +31,7 @@ pub data NamedCommand : Type 0 where
   Check : NamedCheck → NamedCommand
   Show : NamedShow → NamedCommand
   Policy : NamedPolicy → NamedCommand
+  Inline : NamedInline → NamedCommand
 
 abbrev pub check_named : CheckWords → NamedCheck
 check_named words = record {
@@ -50,6 +52,7 @@ abbrev pub named_by : Command → NamedCommand
 named_by (commands.Check words) = Check (check_named words)
 named_by (commands.Show words) = Show (show_named words)
 named_by (commands.Policy words) = Policy (policy_named words)
+named_by (commands.Inline words) = Inline (inline_named words)
 
 -- check POLICY LISTING CERT MAIN CLASS..
 pub record IsCheck (words : List (List ℕ)) (named : NamedCheck) : Type 0 where
@@ -69,6 +72,7 @@ abbrev pub Spells : List (List ℕ) → NamedCommand → Type 0
 Spells words (Check named) = IsCheck words named
 Spells words (Show named) = IsShow words named
 Spells words (Policy named) = IsPolicyCommand words named
+Spells words (Inline named) = IsInline words named
 
 -- The words are those of the command, and none of them is empty.
 pub record IsCommand (words : List (List ℕ)) (named : NamedCommand) : Type 0 where

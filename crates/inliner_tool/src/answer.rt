@@ -5,6 +5,7 @@ use bytecode_model::LinkFault;
 use cert_checker::{Accepted, CheckFault};
 use conspec_automaton::Verdict;
 use mon_base::Bytes;
+use offset_patch::Size;
 
 /// What is answered to a command.
 #[derive(Debug, Drop, PartialEq, Eq)]
@@ -17,16 +18,42 @@ pub enum Answer {
     Shown(Bytes),
     /// What a policy says of the events of a run.
     Judged(Verdict),
+    /// The program was woven, checked and written, in so many class files.
+    Inlined {
+        accepted: Accepted,
+        classes: u64,
+    },
     /// The first file that is not what it is named for, and why.
     Input(Bytes, InputFault),
     /// The class files have so many bytes in all, which is too many.
-    TotalLong { len: u64 },
+    TotalLong {
+        len: u64,
+    },
     /// The first condition of linking that fails.
     Link(LinkFault),
-    /// The program, or the policy, is not of the form that is built so far.
+    /// No types fit at an instruction: the name of its class, its method and its index.
+    Untyped {
+        class: Bytes,
+        method: u32,
+        at: u32,
+    },
+    /// The program, the policy, or the mode, is not of the form that is built so far.
     NotBuilt,
+    /// A method, by its class and its index there, would have this size, which does not fit.
+    Overflow {
+        class: Bytes,
+        method: u32,
+        what: Size,
+        value: i64,
+    },
+    /// The certificate would have so many bytes, which is too many.
+    LongCertificate {
+        value: u64,
+    },
     /// The file that could not be read.
     Unread(Bytes),
+    /// The file that could not be written.
+    Unwritten(Bytes),
     /// The words are no command's.
     Usage,
     /// Memory ran out.

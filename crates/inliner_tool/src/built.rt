@@ -159,7 +159,8 @@ fn is_state(alloc: Global, file: &ClassFile) -> Result<bool, NoMemory>
     Ok(text.as_slice() == STATE)
 }
 
-fn is_built_class(methods: &[ListedMethod], class: &LinkedClass) -> bool
+/// Whether the class is of the form that is built so far.
+pub fn is_built_class(methods: &[ListedMethod], class: &LinkedClass) -> bool
     ensures { result ≡ is_built_class methods.now class.now }
 {
     class.parent.as_slice() == b"java/lang/Object".as_slice()

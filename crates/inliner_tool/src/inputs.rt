@@ -70,7 +70,7 @@ fn of_name<T: Drop>(alloc: Global, name: &Bytes, read: Result<T, InputFault>) ->
 }
 
 /// The listing that a file spells.
-fn listing_of<S: Store>(alloc: Global, store: &mut S, name: &Bytes) -> Result<Listing, Stop>
+pub fn listing_of<S: Store>(alloc: Global, store: &mut S, name: &Bytes) -> Result<Listing, Stop>
     ensures form { ReadsForm (S.files store.old) (since (S.faults store.old) (S.faults store.new) (S.last store.new))
         name.now listing_form result }
     ensures few { IfOk result IsFew }
@@ -82,7 +82,7 @@ fn listing_of<S: Store>(alloc: Global, store: &mut S, name: &Bytes) -> Result<Li
 }
 
 /// The policy that a file spells, over the methods of the listing.
-fn policy_of<S: Store>(
+pub fn policy_of<S: Store>(
     alloc: Global,
     store: &mut S,
     name: &Bytes,
@@ -146,7 +146,11 @@ fn class_of<S: Store>(alloc: Global, store: &mut S, name: &Bytes) -> Result<Read
 }
 
 /// The class files of these names.
-fn classes_of<S: Store>(alloc: Global, store: &mut S, names: &[Bytes]) -> Result<ReadClasses, Stop>
+pub fn classes_of<S: Store>(
+    alloc: Global,
+    store: &mut S,
+    names: &[Bytes],
+) -> Result<ReadClasses, Stop>
     ensures read { ReadsFiles (S.files store.old) (since (S.faults store.old) (S.faults store.new) (S.last store.new))
         names.now result }
     ensures fits { IfOk result (λ classes. AllByRecursion CanSpell classes.files) }

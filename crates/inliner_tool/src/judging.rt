@@ -33,7 +33,7 @@ use mon_base::{Bytes, NoMemory};
 use std::alloc::Global;
 
 /// The greatest number of bytes that the class files of a command may have in all.
-const TOTAL_LIMIT: u64 = 16_777_216;
+pub const TOTAL_LIMIT: u64 = 16_777_216;
 
 /// What is answered to a check of these inputs.
 pub fn check_answer(alloc: Global, inputs: CheckInputs, main: &Bytes) -> Answer
@@ -108,7 +108,7 @@ fn denied(alloc: Global, program: &Program, fault: CheckFault) -> Answer
 }
 
 /// The number of the class that a fault speaks of.
-fn class_of(fault: &CheckFault) -> u32
+pub fn class_of(fault: &CheckFault) -> u32
     ensures { result ≡ number_of_class fault.now }
 {
     match fault {
@@ -119,7 +119,7 @@ fn class_of(fault: &CheckFault) -> u32
 }
 
 /// The name of a class of the program, or `-` where it has none of this number.
-fn label_of(alloc: Global, program: &Program, class: u32) -> Result<Bytes, NoMemory>
+pub fn label_of(alloc: Global, program: &Program, class: u32) -> Result<Bytes, NoMemory>
     ensures { IfOk result (λ label. label ≡ label_of program.now class) }
 {
     match program.classes.as_slice().get(class as usize) {

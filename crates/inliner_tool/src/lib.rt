@@ -9,10 +9,15 @@ mod built;
 mod fault;
 mod files;
 mod forms;
+mod inline_inputs;
+mod inline_words;
+mod inlining;
 mod inputs;
 mod judging;
 mod lines;
+mod refusal;
 mod tool;
+mod weaving;
 mod words;
 
 pub use answer::Answer;

@@ -16,6 +16,7 @@ ghost use Rattle.inliner_tool.specs.Lines.{
   policy_fields,
   record_fields,
   refused,
+  size_name,
   text_of,
   verdict_text,
   word,
@@ -32,7 +33,8 @@ use conspec_automaton::Verdict;
 use conspec_parse::PolicyFault;
 use event_record::RecordFault;
 use insn_codec::CodeFault;
-use mon_base::{Bytes, NoMemory, push_count};
+use mon_base::{Bytes, NoMemory, push_count, push_number};
+use offset_patch::Size;
 use std::alloc::Global;
 
 /// The whole output for an answer: a line, or the text of class files.
@@ -61,6 +63,7 @@ fn push_line(text: &mut Bytes, answer: &Answer) -> Result<(), NoMemory>
         Answer::Denied(fault, label) => push_denied(text, fault, label),
         Answer::Shown(shown) => text.extend(shown.as_slice()),
         Answer::Judged(verdict) => push_verdict(text, *verdict),
+        Answer::Inlined { accepted, classes } => push_inlined(text, *accepted, *classes),
         Answer::Input(name, fault) => push_input(text, name, fault),
         Answer::TotalLong { len } => {
             push_refused(text, 152, b"-")?;
@@ -70,12 +73,18 @@ fn push_line(text: &mut Bytes, answer: &Answer) -> Result<(), NoMemory>
             push_refused(text, fault.number(), b"-")?;
             push_link_fields(text, fault)
         }
+        Answer::Untyped { class, method, at } => push_untyped(text, class, *method, *at),
         Answer::NotBuilt => push_refused(text, 199, b"-"),
-        Answer::Unread(name) => {
-            text.extend(b"store")?;
-            push_word(text, name.as_slice())
-        }
-        Answer::Usage => text.extend(b"usage: conspecj COMMAND WORD.."),
+        Answer::Overflow {
+            class,
+            method,
+            what,
+            value,
+        } => push_overflow(text, class, *method, *what, *value),
+        Answer::LongCertificate { value } => push_long(text, *value),
+        Answer::Unread(name) => push_store(text, name),
+        Answer::Unwritten(name) => push_store(text, name),
+        Answer::Usage => push_usage(text),
         Answer::Memory => Ok(()),
     }
 }
@@ -87,6 +96,17 @@ fn push_accepted(text: &mut Bytes, accepted: Accepted) -> Result<(), NoMemory>
     push_word(text, mode_name(accepted.mode))?;
     text.extend(b" sites")?;
     push_field(text, accepted.sites)
+}
+
+fn push_inlined(text: &mut Bytes, accepted: Accepted, classes: u64) -> Result<(), NoMemory>
+    ensures { OnOk result (text.new ≡ text.old ++ line_text (answers.Inlined accepted classes)) }
+{
+    text.extend(b"inlined")?;
+    push_word(text, mode_name(accepted.mode))?;
+    text.extend(b" sites")?;
+    push_field(text, accepted.sites)?;
+    text.extend(b" classes")?;
+    push_field(text, classes)
 }
 
 fn mode_name(mode: Mode) -> &'static [u8]
@@ -119,6 +139,65 @@ fn push_denied(text: &mut Bytes, fault: &CheckFault, label: &Bytes) -> Result<()
             ..
         } => push_place(text, *method, *at, *rule),
     }
+}
+
+fn push_untyped(text: &mut Bytes, class: &Bytes, method: u32, at: u32) -> Result<(), NoMemory>
+    ensures { OnOk result (text.new ≡ text.old ++ line_text (answers.Untyped class.now method at)) }
+{
+    push_refused(text, 201, b"-")?;
+    push_word(text, class.as_slice())?;
+    push_field(text, u64::from(method))?;
+    push_field(text, u64::from(at))
+}
+
+fn push_overflow(
+    text: &mut Bytes,
+    class: &Bytes,
+    method: u32,
+    what: Size,
+    value: i64,
+) -> Result<(), NoMemory>
+    ensures { OnOk result (text.new ≡ text.old ++ line_text (answers.Overflow class.now method what value)) }
+{
+    text.extend(b"overflow")?;
+    push_word(text, class.as_slice())?;
+    push_field(text, u64::from(method))?;
+    push_word(text, size_name(what))?;
+    text.push(b' ')?;
+    push_number(text, value)
+}
+
+fn push_long(text: &mut Bytes, value: u64) -> Result<(), NoMemory>
+    ensures { OnOk result (text.new ≡ text.old ++ line_text (answers.LongCertificate value)) }
+{
+    text.extend(b"overflow - 0 certificate")?;
+    push_field(text, value)
+}
+
+fn push_usage(text: &mut Bytes) -> Result<(), NoMemory>
+    ensures { OnOk result (text.new ≡ text.old ++ line_text answers.Usage) }
+{
+    text.extend(b"usage: conspecj COMMAND WORD..")
+}
+
+fn size_name(what: Size) -> &'static [u8]
+    ensures { result.now ≡ size_name what }
+{
+    match what {
+        Size::Stack => b"stack",
+        Size::Locals => b"locals",
+        Size::Entries => b"entries",
+        Size::Pool => b"pool",
+        Size::Length => b"length",
+        Size::Branch => b"branch",
+    }
+}
+
+fn push_store(text: &mut Bytes, name: &Bytes) -> Result<(), NoMemory>
+    ensures { OnOk result (text.new ≡ text.old ++ line_text (answers.Unwritten name.now)) }
+{
+    text.extend(b"store")?;
+    push_word(text, name.as_slice())
 }
 
 /// Method, instruction and rule.

@@ -2,6 +2,7 @@
 
 mod answers;
 mod files;
+mod inline;
 mod limits;
 mod notes;
 mod policy;

@@ -4,13 +4,16 @@ ghost use Rattle.std.specs.Prelude.{◌≡◌, ◌≤◌, ◌↔◌, IsTrue};
 ghost use Rattle.mon_store.specs.Store.{Rose};
 ghost use Rattle.inliner_tool.specs.declared.answer.Answer.TheVariants as answers;
 ghost use Rattle.inliner_tool.specs.Forms.{since};
-ghost use Rattle.inliner_tool.specs.Judging.{EndsWell};
+ghost use Rattle.inliner_tool.specs.Inlining.{IsInlined, Leaves};
+ghost use Rattle.inliner_tool.specs.InlineWords.{IsInline, NamedInline};
+ghost use Rattle.inliner_tool.specs.Judging.{EndsWell, stopped};
 ghost use Rattle.inliner_tool.specs.Status.{code_of};
-ghost use Rattle.inliner_tool.specs.Tool.{Answers, Holds, IsAnswer, Replies, Says, judged_status, status_of, stopped};
+ghost use Rattle.inliner_tool.specs.Tool.{Answers, Holds, IsAnswer, Replies, Says, judged_status, status_of};
 ghost use Rattle.inliner_tool.specs.Words.{Check, IsCheck, NamedCheck, Policy, Show, check_named, policy_named, show_named};
 
 use crate::answer::Answer;
 use crate::files::Stop;
+use crate::inlining::answer_inline;
 use crate::inputs::{read_check, read_policy, read_show};
 use crate::judging::{check_answer, policy_answer, show_answer};
 use crate::lines::text_of;
@@ -31,7 +34,9 @@ pub enum Status {
     Usage,
     /// A named file is not what it is named for, or the files do not link.
     Input,
-    /// The store failed at a named file, or lacks it.
+    /// A size of what was to be woven does not fit.
+    Overflow,
+    /// The store failed at a named file or an output, or lacks a named file.
     StoreFault,
     /// The sink failed.
     SinkFault,
@@ -49,6 +54,7 @@ impl Status {
             Status::Denied => 1,
             Status::Usage => 2,
             Status::Input => 3,
+            Status::Overflow => 4,
             Status::StoreFault => 5,
             Status::SinkFault => 6,
             Status::Memory => 7,
@@ -58,9 +64,10 @@ impl Status {
 
 /// A command: `check POLICY LISTING CERT MAIN CLASS..` links the classes and checks the program with its certificate;
 /// `show LISTING CLASS..` gives the text of class files; `policy POLICY LISTING RECORD` says of the events of a run whether
-/// they obey the policy.
+/// they obey the policy; `inline POLICY LISTING MAIN OUTDIR MODE CLASS..` weaves blocks into the classes, checks the program
+/// that they make with its certificate, and writes all of it.
 ///
-/// It changes no file. One output is put into the sink, which says the answer.
+/// Other commands change no file. One output is put into the sink, which says the answer.
 pub fn run_tool<S: Store, K: Sink>(
     alloc: Global,
     words: &[Bytes],
@@ -72,12 +79,18 @@ pub fn run_tool<S: Store, K: Sink>(
     ensures headline { (named : NamedCheck) → IsCheck words.now named → result ≡ Status.Done
         → Holds (S.files store.old) (since (S.faults store.old) (S.faults store.new) (S.last store.new)) named }
 
+    // Where weaving ends well, what is written is the program with its blocks, and is accepted with its certificate.
+    ensures inlined { (named : NamedInline) → IsInline words.now named → result ≡ Status.Done
+        → IsInlined (S.files store.old) (S.files store.new) (since (S.faults store.old) (S.faults store.new) (S.last store.new)) named }
+
     // The answer that its case gives, and the output for it.
-    ensures answer { Replies (S.files store.old) (since (S.faults store.old) (S.faults store.new) (S.last store.new)) words.now
+    ensures answer { Replies (S.files store.old) (S.files store.new)
+        (since (S.faults store.old) (S.faults store.new) (S.last store.new)) words.now
         (K.text out.old) (K.text out.new) (Rose (K.faults out.old) (K.faults out.new)) result }
 
     // What stands.
-    ensures files { S.files store.new ≡ S.files store.old }
+    ensures files { Leaves (S.files store.old) (S.files store.new)
+        (since (S.faults store.old) (S.faults store.new) (S.last store.new)) words.now }
     ensures faults { S.faults store.old ≤ S.faults store.new }
     ensures sink_faults { K.faults out.old ≤ K.faults out.new }
 {
@@ -103,23 +116,28 @@ fn is_memory(answer: &Answer) -> bool
 
 /// The answer to the words, over the store's files.
 fn answer_to<S: Store>(alloc: Global, words: &[Bytes], store: &mut S) -> Answer
-    ensures says { Says (S.files store.old) (since (S.faults store.old) (S.faults store.new) (S.last store.new)) words.now result }
+    ensures says { Says (S.files store.old) (S.files store.new)
+        (since (S.faults store.old) (S.faults store.new) (S.last store.new)) words.now result }
     ensures holds { (named : NamedCheck) → IsCheck words.now named → EndsWell result
         → Holds (S.files store.old) (since (S.faults store.old) (S.faults store.new) (S.last store.new)) named }
-    ensures files { S.files store.new ≡ S.files store.old }
+    ensures inlined { (named : NamedInline) → IsInline words.now named → EndsWell result
+        → IsInlined (S.files store.old) (S.files store.new) (since (S.faults store.old) (S.faults store.new) (S.last store.new)) named }
+    ensures files { Leaves (S.files store.old) (S.files store.new)
+        (since (S.faults store.old) (S.faults store.new) (S.last store.new)) words.now }
     ensures faults { S.faults store.old ≤ S.faults store.new }
 {
     match command_of(words) {
         Some(Command::Check(words)) => answer_check(alloc, &words, store),
         Some(Command::Show(words)) => answer_show(alloc, &words, store),
         Some(Command::Policy(words)) => answer_policy(alloc, &words, store),
+        Some(Command::Inline(words)) => answer_inline(alloc, &words, store),
         None => Answer::Usage,
     }
 }
 
 /// The answer to `check`.
 fn answer_check<S: Store>(alloc: Global, words: &CheckWords, store: &mut S) -> Answer
-    ensures says { IsAnswer (λ answer. Answers (S.files store.old) (since (S.faults store.old) (S.faults store.new) (S.last store.new))
+    ensures says { IsAnswer (λ answer. Answers (S.files store.old) (S.files store.new) (since (S.faults store.old) (S.faults store.new) (S.last store.new))
         (Check (check_named words.now)) answer) result }
     ensures holds { EndsWell result
         → Holds (S.files store.old) (since (S.faults store.old) (S.faults store.new) (S.last store.new)) (check_named words.now) }
@@ -134,7 +152,7 @@ fn answer_check<S: Store>(alloc: Global, words: &CheckWords, store: &mut S) -> A
 
 /// The answer to `show`.
 fn answer_show<S: Store>(alloc: Global, words: &ShowWords, store: &mut S) -> Answer
-    ensures says { IsAnswer (λ answer. Answers (S.files store.old) (since (S.faults store.old) (S.faults store.new) (S.last store.new))
+    ensures says { IsAnswer (λ answer. Answers (S.files store.old) (S.files store.new) (since (S.faults store.old) (S.faults store.new) (S.last store.new))
         (Show (show_named words.now)) answer) result }
     ensures files { S.files store.new ≡ S.files store.old }
     ensures faults { S.faults store.old ≤ S.faults store.new }
@@ -147,7 +165,7 @@ fn answer_show<S: Store>(alloc: Global, words: &ShowWords, store: &mut S) -> Ans
 
 /// The answer to `policy`.
 fn answer_policy<S: Store>(alloc: Global, words: &PolicyWords, store: &mut S) -> Answer
-    ensures says { IsAnswer (λ answer. Answers (S.files store.old) (since (S.faults store.old) (S.faults store.new) (S.last store.new))
+    ensures says { IsAnswer (λ answer. Answers (S.files store.old) (S.files store.new) (since (S.faults store.old) (S.faults store.new) (S.last store.new))
         (Policy (policy_named words.now)) answer) result }
     ensures files { S.files store.new ≡ S.files store.old }
     ensures faults { S.faults store.old ≤ S.faults store.new }
@@ -159,7 +177,7 @@ fn answer_policy<S: Store>(alloc: Global, words: &PolicyWords, store: &mut S) ->
 }
 
 /// The answer where the reading of files stopped.
-fn stopped(stop: Stop) -> Answer
+pub fn stopped(stop: Stop) -> Answer
     ensures { result ≡ stopped stop }
 {
     match stop {
@@ -178,11 +196,16 @@ fn status_of(answer: &Answer) -> Status
         Answer::Denied(_, _) => Status::Denied,
         Answer::Shown(_) => Status::Done,
         Answer::Judged(verdict) => judged_status(*verdict),
+        Answer::Inlined { .. } => Status::Done,
         Answer::Input(_, _) => Status::Input,
         Answer::TotalLong { .. } => Status::Input,
         Answer::Link(_) => Status::Input,
+        Answer::Untyped { .. } => Status::Input,
         Answer::NotBuilt => Status::Input,
+        Answer::Overflow { .. } => Status::Overflow,
+        Answer::LongCertificate { .. } => Status::Overflow,
         Answer::Unread(_) => Status::StoreFault,
+        Answer::Unwritten(_) => Status::StoreFault,
         Answer::Usage => Status::Usage,
         Answer::Memory => Status::Memory,
     }

@@ -17,6 +17,7 @@ ghost use Rattle.inliner_tool.specs.Words.{
   show_named,
 };
 
+use crate::inline_words::{InlineWords, inline_words};
 use mon_base::Bytes;
 
 /// The words of the command `check`, each the name of a file but `main`.
@@ -52,6 +53,7 @@ pub enum Command<'a> {
     Check(CheckWords<'a>),
     Show(ShowWords<'a>),
     Policy(PolicyWords<'a>),
+    Inline(InlineWords<'a>),
 }
 
 /// The command whose words these are. No word is empty, and where classes are named there is at least one.
@@ -62,20 +64,19 @@ pub fn command_of(words: &[Bytes]) -> Option<Command<'_>>
     if !are_full(words) {
         return None;
     }
-    match check_words(words) {
-        Some(words) => Some(Command::Check(words)),
-        None => {
-            match show_words(words) {
-                Some(words) => Some(Command::Show(words)),
-                None => {
-                    match policy_words(words) {
-                        Some(words) => Some(Command::Policy(words)),
-                        None => None,
-                    }
-                }
-            }
-        }
+    if let Some(words) = check_words(words) {
+        return Some(Command::Check(words));
     }
+    if let Some(words) = show_words(words) {
+        return Some(Command::Show(words));
+    }
+    if let Some(words) = policy_words(words) {
+        return Some(Command::Policy(words));
+    }
+    if let Some(words) = inline_words(words) {
+        return Some(Command::Inline(words));
+    }
+    None
 }
 
 fn check_words(words: &[Bytes]) -> Option<CheckWords<'_>>
@@ -144,7 +145,7 @@ fn are_full(words: &[Bytes]) -> bool
 }
 
 /// The first word and the others.
-fn first_of(words: &[Bytes]) -> Option<(&Bytes, &[Bytes])>
+pub fn first_of(words: &[Bytes]) -> Option<(&Bytes, &[Bytes])>
     ensures found { IfSome result (λ parts. words.now ≡ parts.0.now ∷ parts.1.now) }
     ensures none { IfNone result (words.now ≡ []) }
 {

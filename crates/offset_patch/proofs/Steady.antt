@@ -139,16 +139,16 @@ same_bytes (x ∷ xs) = rw (same_number x) (same_bytes xs)
 pub steady_text : (bytes : List ℕ) → IsSteady (text bytes)
 steady_text bytes = steady_entry (constants.Utf8 bytes) (same_bytes bytes)
 
-steady_class_at : (j : ℕ) → IsSteady (entry (constants.Class j))
+pub steady_class_at : (j : ℕ) → IsSteady (entry (constants.Class j))
 steady_class_at j = steady_entry (constants.Class j) (same_number j)
 
 pub steady_class : (name : List ℕ) → IsSteady (class name)
 steady_class name = steady_then (text name) (λ j. entry (constants.Class j)) (steady_text name) steady_class_at
 
-steady_name_and_type_at : (i j : ℕ) → IsSteady (entry (constants.NameAndType i j))
+pub steady_name_and_type_at : (i j : ℕ) → IsSteady (entry (constants.NameAndType i j))
 steady_name_and_type_at i j = steady_entry (constants.NameAndType i j) (rw (same_number i, same_number j) refl)
 
-steady_method_at : (i j : ℕ) → IsSteady (entry (constants.Method i j))
+pub steady_method_at : (i j : ℕ) → IsSteady (entry (constants.Method i j))
 steady_method_at i j = steady_entry (constants.Method i j) (rw (same_number i, same_number j) refl)
 
 pub steady_name_and_type : (name desc : List ℕ) → IsSteady (name_and_type name desc)

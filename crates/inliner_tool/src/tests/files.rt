@@ -157,11 +157,12 @@ fn replaced(alloc: Global, text: &[u8], at: usize, gone: usize, new: &[u8]) -> R
     Ok(whole)
 }
 
-/// How the command ended, and all that it printed.
+/// How the command ended, all that it printed, and the files that stand then.
 #[derive(Drop)]
 pub struct Ended {
     pub status: Status,
     pub printed: Bytes,
+    pub files: List<(Bytes, Bytes)>,
 }
 
 /// Runs the command over these files. The store and the sink fail at the calls of these numbers.
@@ -180,7 +181,15 @@ pub fn run(
     let words = words_of(alloc, words)?;
     let status = run_tool(alloc, words.as_slice(), &mut store, &mut sink);
     let printed = sink.text().copy(alloc)?;
-    Ok(Ended { status, printed })
+    let mut files = List::new(alloc);
+    for (name, bytes) in store.files().as_slice() {
+        files.push((name.copy(alloc)?, bytes.copy(alloc)?))?;
+    }
+    Ok(Ended {
+        status,
+        printed,
+        files,
+    })
 }
 
 fn words_of(alloc: Global, words: &[&str]) -> Result<List<Bytes>, Fail> {

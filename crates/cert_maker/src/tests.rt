@@ -1,0 +1,1 @@
+//! The certificate of a class with one denied call.

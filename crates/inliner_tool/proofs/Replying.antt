@@ -1,0 +1,24 @@
+-- What the status of a call says of the answer.
+use Rattle.std.proofs.Common.{◌≡◌}
+use Rattle.inliner_tool.specs.declared.answer.Answer.{Answer}
+use Rattle.inliner_tool.specs.declared.answer.Answer.TheVariants as answers
+use Rattle.inliner_tool.specs.declared.tool.Status.TheVariants as statuses
+use Rattle.inliner_tool.specs.Judging.{EndsWell}
+use Rattle.inliner_tool.specs.Tool.{status_of}
+
+pub ends_well : (answer : Answer) → status_of answer ≡ statuses.Done → EndsWell answer
+ends_well (answers.Accepted accepted) is = tt
+ends_well (answers.Denied fault label) is = absurd cc
+ends_well (answers.Shown text) is = tt
+ends_well (answers.Inlined accepted classes) is = tt
+ends_well (answers.Input name fault) is = absurd cc
+ends_well (answers.TotalLong len) is = absurd cc
+ends_well (answers.Link fault) is = absurd cc
+ends_well (answers.Untyped class method at) is = absurd cc
+ends_well answers.NotBuilt is = absurd cc
+ends_well (answers.Overflow class method what value) is = absurd cc
+ends_well (answers.LongCertificate value) is = absurd cc
+ends_well (answers.Unread name) is = absurd cc
+ends_well (answers.Unwritten name) is = absurd cc
+ends_well answers.Usage is = absurd cc
+ends_well answers.Memory is = absurd cc

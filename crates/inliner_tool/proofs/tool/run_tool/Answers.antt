@@ -1,0 +1,22 @@
+use Rattle.std.proofs.Common.{◌≡◌, ◌∙◌, Err, ap, subst, sym}
+use Rattle.mon_store.specs.Sink.{AppendsFront}
+use Rattle.inliner_tool.proofs.Replying.{ends_well}
+use Rattle.inliner_tool.proofs.tool.run_tool.Goals as goal
+
+pub returns-in-Ok-put-clause-headline : goal.returns-in-Ok-put-clause-headline
+returns-in-Ok-put-clause-headline g c = λ named is done. c.answer_to-answer.ensures.holds named is (ends_well c.answer_to-answer.result (sym c.status_of.ensures ∙ done))
+
+pub returns-in-Ok-put-clause-inlined : goal.returns-in-Ok-put-clause-inlined
+returns-in-Ok-put-clause-inlined g c = λ named is done. c.answer_to-answer.ensures.inlined named is (ends_well c.answer_to-answer.result (sym c.status_of.ensures ∙ done))
+
+pub returns-in-Err-Failed-clause-answer : goal.returns-in-Err-Failed-clause-answer
+returns-in-Err-Failed-clause-answer g c =
+    let failed = ap Err c.in-Err-Failed.field-0-is in
+    let torn = c.in-Err-Failed.ensures.torn failed in (
+      c.in-Err-Failed.ensures.failed failed,
+      record {
+        answer = c.answer_to-answer.result;
+        says = c.answer_to-answer.ensures.says;
+        so = subst (AppendsFront (g.K.Sink.text c.args.out.now) (g.K.Sink.text c.put.new.self)) (c.as_slice.ensures ∙ c.in-Ok.ensures) torn;
+      },
+    )

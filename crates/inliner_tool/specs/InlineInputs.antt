@@ -1,0 +1,26 @@
+-- What the files are of which a program is woven.
+use Rattle.std.specs.Prelude.{◌≤◌, length, Result}
+use Rattle.std.specs.List.{AllByRecursion}
+use Rattle.mon_store.specs.Store.{Files}
+use Rattle.api_listing.specs.Listing.{IsFew}
+use Rattle.class_codec.specs.Fits.{CanSpell}
+use Rattle.inliner_tool.specs.declared.files.Stop.{Stop}
+use Rattle.inliner_tool.specs.declared.inline_inputs.InlineInputs.{InlineInputs}
+use Rattle.inliner_tool.specs.Forms.{Count, ReadsForm, Then, Gives}
+use Rattle.inliner_tool.specs.InlineWords.{NamedInline}
+use Rattle.inliner_tool.specs.Inputs.{ReadsClasses}
+use Rattle.inliner_tool.specs.Kinds.{listing_form, policy_form}
+
+-- listing, policy, classes
+abbrev pub ReadsInline : Files → Count → NamedInline → Result InlineInputs Stop → Type 0
+ReadsInline files count named =
+    Then (ReadsForm files count named.listing listing_form) (λ listing.
+    Then (ReadsForm files count named.policy (policy_form listing)) (λ policy.
+    Then (ReadsClasses files count named.classes) (λ classes.
+    Gives (record { listing = listing; policy = policy; classes = classes }))))
+
+-- What is known of inputs that were read.
+pub record InlineSound (inputs : InlineInputs) : Type 0 where
+  pub listing : IsFew inputs.listing
+  pub vars : length inputs.policy.vars ≤ 16
+  pub classes : AllByRecursion CanSpell inputs.classes.files

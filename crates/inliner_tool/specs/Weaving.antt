@@ -1,0 +1,183 @@
+-- What is woven of inputs, judged, and then written; or the first thing for which nothing is written.
+use Rattle.std.specs.Prelude.{◌≡◌, ◌⊎◌, ℕ, ◌&&◌, not, nat_lt, Bool, true, false, List, [], ◌∷◌, ◌++◌, codes, length, map, if◌then◌else◌, Result, Ok, Err}
+use Rattle.mon_store.specs.declared.outputs.Output.{Output}
+use Rattle.api_listing.specs.declared.types.Listing.{Listing}
+use Rattle.bytecode_model.specs.declared.fault.LinkFault.{LinkFault}
+use Rattle.bytecode_model.specs.declared.fault.LinkFault.TheVariants as links
+use Rattle.bytecode_model.specs.declared.program.LinkedClass.{LinkedClass}
+use Rattle.bytecode_model.specs.declared.program.Program.{Program}
+use Rattle.bytecode_model.specs.declared.program.Side.TheVariants.{Inlined, Original}
+use Rattle.bytecode_model.specs.Fault.{Linked}
+use Rattle.bytecode_model.specs.Linking.{linked, unlinked}
+use Rattle.cert_checker.specs.declared.checking.Accepted.{Accepted}
+use Rattle.cert_checker.specs.declared.fault.CheckFault.{CheckFault}
+use Rattle.cert_checker.specs.Acceptance.{IsAccepted, verdict}
+use Rattle.cert_checker.specs.Secure.{Secure}
+use Rattle.cert_format.specs.declared.certificate.Certificate.{Certificate}
+use Rattle.cert_format.specs.declared.typing.Typing.{Typing}
+use Rattle.cert_format.specs.Spelling.{spell_certificate}
+use Rattle.cert_maker.specs.Noting.{certificate_of}
+use Rattle.class_codec.specs.declared.tree.ClassFile.{ClassFile}
+use Rattle.class_codec.specs.Spelling.{spelling}
+use Rattle.code_typing.specs.Typed.{IsTyped}
+use Rattle.conspec_automaton.specs.declared.policy.Policy.{Policy}
+use Rattle.conspec_automaton.specs.Building.{built}
+use Rattle.conspec_automaton.specs.Denying.{asks_nothing}
+use Rattle.conspec_parse.specs.declared.types.PolicyTree.{PolicyTree}
+use Rattle.inline_release.specs.declared.weaving.Woven.{Woven}
+use Rattle.inline_release.specs.Woven.{woven}
+use Rattle.offset_patch.specs.declared.fault.SpliceFault.{SpliceFault}
+use Rattle.offset_patch.specs.declared.fault.SpliceFault.TheVariants as splices
+use Rattle.inliner_tool.specs.declared.inline_inputs.InlineInputs.{InlineInputs}
+use Rattle.inliner_tool.specs.declared.inline_words.Weaving.{Weaving}
+use Rattle.inliner_tool.specs.declared.inline_words.Weaving.TheVariants as weavings
+use Rattle.inliner_tool.specs.declared.inputs.ReadClasses.{ReadClasses as Classes}
+use Rattle.inliner_tool.specs.declared.refusal.Refusal.{Refusal}
+use Rattle.inliner_tool.specs.declared.refusal.Refusal.TheVariants as refusals
+use Rattle.inliner_tool.specs.declared.weaving.Ready.{Ready}
+use Rattle.inliner_tool.specs.Built.{is_built_class}
+use Rattle.inliner_tool.specs.Forms.{Gives, Then}
+use Rattle.inliner_tool.specs.InlineWords.{NamedInline}
+use Rattle.inliner_tool.specs.Judging.{label_of, number_of_class}
+
+-- ---- the steps
+
+-- a step's value, or why nothing is written
+abbrev pub Step : Type 0 → Type 0
+Step A = Result A Refusal
+
+abbrev pub link_refusal : LinkFault → Refusal
+link_refusal links.Memory = refusals.Memory
+link_refusal fault = refusals.Link fault
+
+abbrev pub link_step : Linked Program → Step Program
+link_step (Ok program) = Ok program
+link_step (Err fault) = Err (link_refusal fault)
+
+-- The class files have at most 16 MiB in all, and link as those of a compiler.
+abbrev pub original : Listing → Classes → List ℕ → Step Program
+original listing classes main =
+    if nat_lt 16777216 classes.total then Err (refusals.TotalLong classes.total) else link_step (linked classes.files listing main Original)
+
+-- Types fit; or they fit nowhere that was found, and the instruction is told.
+abbrev pub Types : Program → Step Typing → Type 0
+Types program (Ok typing) = IsTyped program typing
+Types program (Err (refusals.Untyped label method at)) = (class : ℕ) × (label ≡ label_of program class)
+Types program (Err other) = ⊥
+
+-- one class, and no other
+abbrev pub are_one_class : Listing → List LinkedClass → Bool
+are_one_class listing (client ∷ []) = is_built_class listing.methods client
+are_one_class listing other = false
+
+abbrev pub is_built_client : Program → Bool
+is_built_client program = are_one_class program.listing program.classes
+
+-- the blocks let the lock go before the call
+abbrev pub lets_go : Weaving → Bool
+lets_go weavings.Hold = false
+lets_go other = true
+
+-- the policy, where this program is of the form that is woven so far, and the policy denies calls outright
+abbrev pub denying : Weaving → PolicyTree → Program → Step Policy
+denying weaving policy program =
+    if lets_go weaving && (is_built_client program && asks_nothing policy) then Ok (built policy) else Err refusals.NotBuilt
+
+abbrev pub weave_step : Result Woven SpliceFault → Step Woven
+weave_step (Ok made) = Ok made
+weave_step (Err (splices.Overflow class method what value)) = Err (refusals.Overflow class method what value)
+weave_step (Err splices.Memory) = Err refusals.Memory
+
+-- The files link as those of this tool.
+abbrev pub relinked : Listing → List ClassFile → List ℕ → Step Program
+relinked listing files main = link_step (linked files listing main Inlined)
+
+abbrev pub verdict_step : Program → Result Accepted CheckFault → Step Accepted
+verdict_step program (Ok accepted) = Ok accepted
+verdict_step program (Err fault) = Err (refusals.Denied fault (label_of program (number_of_class fault)))
+
+-- ---- the outputs
+
+-- FOLDER/NAME.class
+abbrev pub class_output : List ℕ → LinkedClass → Output
+class_output folder class = record { name = folder ++ 47 ∷ class.name ++ codes ".class"; bytes = spelling class.file }
+
+abbrev pub certificate_output : List ℕ → List ℕ → Output
+certificate_output folder bytes = record { name = folder ++ codes "/certificate"; bytes = bytes }
+
+-- the classes in their order, and last the certificate
+abbrev pub outputs_of : List ℕ → Program → Certificate → List Output
+outputs_of folder program certificate = map (class_output folder) program.classes ++ certificate_output folder (spell_certificate certificate) ∷ []
+
+-- A certificate has at most 64 MiB.
+abbrev pub outputs_step : List ℕ → Program → Certificate → Step (List Output)
+outputs_step folder program certificate =
+    if nat_lt 67108864 (length (spell_certificate certificate)) then Err (refusals.LongCertificate (length (spell_certificate certificate)))
+    else Ok (outputs_of folder program certificate)
+
+-- ---- all steps
+
+-- It is what this definition gives.
+abbrev pub Equals : {A : Type 0} → Step A → Step A → Type 0
+Equals wanted result = result ≡ wanted
+
+-- The woven program is accepted with its certificate, and the outputs fit.
+abbrev pub Accepting : List ℕ → Program → Certificate → Accepted → Step Ready → Type 0
+Accepting folder program certificate accepted =
+    Then (Equals (outputs_step folder program certificate)) (λ outputs.
+    Gives (record { outputs = outputs; accepted = accepted; classes = length program.classes }))
+
+abbrev pub Judging : List ℕ → Policy → Program → Certificate → Step Ready → Type 0
+Judging folder policy program certificate =
+    Then (Equals (verdict_step program (verdict program policy certificate))) (Accepting folder program certificate)
+
+-- It is typed, too; the certificate has these types.
+abbrev pub Retyping : List ℕ → List LinkedClass → Policy → Woven → Program → Step Ready → Type 0
+Retyping folder classes policy made program =
+    Then (Types program) (λ typing. Judging folder policy program (certificate_of classes policy made.origins typing))
+
+-- What is woven links.
+abbrev pub Relinking : List ℕ → List ℕ → Program → Policy → Woven → Step Ready → Type 0
+Relinking main folder client policy made =
+    Then (Equals (relinked client.listing made.files main)) (Retyping folder client.classes policy made)
+
+-- The program is woven, where it and the policy are of the form that is built so far.
+abbrev pub Weaves : List ℕ → List ℕ → Program → Policy → Step Ready → Type 0
+Weaves main folder client policy = Then (Equals (weave_step (woven client policy))) (Relinking main folder client policy)
+
+abbrev pub Denying : NamedInline → PolicyTree → Program → Step Ready → Type 0
+Denying named policy client = Then (Equals (denying named.weaving policy client)) (Weaves named.main named.folder client)
+
+-- It is typed.
+abbrev pub Typed : NamedInline → PolicyTree → Program → Step Ready → Type 0
+Typed named policy client = Then (Types client) (λ typing. Denying named policy client)
+
+-- The inputs link. These are all steps, each after the one above it: the first that fails is the answer.
+abbrev pub Plans : NamedInline → InlineInputs → Step Ready → Type 0
+Plans named inputs = Then (Equals (original inputs.listing inputs.classes named.main)) (Typed named inputs.policy)
+
+-- It is so, or memory ran out.
+abbrev pub UnlessMemory : {A : Type 0} → (Step A → Type 0) → Step A → Type 0
+UnlessMemory Says (Ok value) = Says (Ok value)
+UnlessMemory Says (Err refusal) = Says (Err refusal) ⊎ (refusal ≡ refusals.Memory)
+
+-- ---- what is known of what is ready
+
+-- What is woven links to a program of these files, which is accepted with a certificate, and obeys the policy for every
+-- list of guest steps; it and the certificate are to be written.
+pub record IsRewoven (main folder : List ℕ) (listing : Listing) (policy : Policy) (files : List ClassFile) (ready : Ready) : Type 0 where
+  pub program : Program
+  pub links : relinked listing files main ≡ Ok program
+  pub same : unlinked program ≡ files
+  pub certificate : Certificate
+  pub accepted : IsAccepted program policy certificate
+  pub secure : Secure program policy
+  pub outputs : ready.outputs ≡ outputs_of folder program certificate
+
+-- The inputs link to a program, and what the weaving of the policy makes of it is to be written.
+pub record IsPlanned (named : NamedInline) (inputs : InlineInputs) (ready : Ready) : Type 0 where
+  pub client : Program
+  pub links : original inputs.listing inputs.classes named.main ≡ Ok client
+  pub made : Woven
+  pub woven : woven client (built inputs.policy) ≡ Ok made
+  pub rewoven : IsRewoven named.main named.folder inputs.listing (built inputs.policy) made.files ready

@@ -1,0 +1,51 @@
+//! Why nothing is written of what was to be woven.
+
+ghost use Rattle.std.specs.Prelude.{◌≡◌};
+ghost use Rattle.inliner_tool.specs.declared.refusal.Refusal.TheVariants as refusals;
+
+use bytecode_model::LinkFault;
+use cert_checker::CheckFault;
+use mon_base::{Bytes, NoMemory};
+use offset_patch::Size;
+
+/// Why nothing is written of what was to be woven.
+#[derive(Debug, Drop, PartialEq, Eq)]
+pub enum Refusal {
+    /// The class files have so many bytes in all, which is too many.
+    TotalLong {
+        len: u64,
+    },
+    /// The first condition of linking that fails.
+    Link(LinkFault),
+    /// No types fit at an instruction: the name of its class, its method and its index.
+    Untyped {
+        class: Bytes,
+        method: u32,
+        at: u32,
+    },
+    /// The program, the policy or the mode is not of the form that is built so far.
+    NotBuilt,
+    /// A method, by its class and its index there, would have this size.
+    Overflow {
+        class: Bytes,
+        method: u32,
+        what: Size,
+        value: i64,
+    },
+    /// The first test that fails, and the name of its class.
+    Denied(CheckFault, Bytes),
+    /// The certificate would have so many bytes.
+    LongCertificate {
+        value: u64,
+    },
+    /// Memory ran out.
+    Memory,
+}
+
+impl From<NoMemory> for Refusal {
+    ghost from_gives = { λ _ e. e ≡ refusals.Memory };
+
+    fn from(_error: NoMemory) -> Refusal {
+        Refusal::Memory
+    }
+}

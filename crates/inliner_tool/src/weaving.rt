@@ -1,0 +1,342 @@
+//! What is woven of inputs, and judged before anything is written.
+
+ghost use Rattle.std.specs.Prelude.{◌≡◌, map, IfOk, OnOk, Ok};
+ghost use Rattle.std.specs.List.{AllByRecursion};
+ghost use Rattle.api_listing.specs.Listing.{IsFew};
+ghost use Rattle.bytecode_model.specs.Sound.{IsSound};
+ghost use Rattle.cert_checker.specs.Secure.{Secure};
+ghost use Rattle.class_codec.specs.Fits.{CanSpell};
+ghost use Rattle.conspec_automaton.specs.Building.{built};
+ghost use Rattle.conspec_automaton.specs.Denying.{DeniesOnly};
+ghost use Rattle.inliner_tool.specs.InlineInputs.{InlineSound};
+ghost use Rattle.inliner_tool.specs.InlineWords.{inline_named};
+ghost use Rattle.inliner_tool.specs.Weaving.{
+  Equals,
+  IsPlanned,
+  IsRewoven,
+  Judging,
+  Plans,
+  Relinking,
+  Types,
+  UnlessMemory,
+  are_one_class,
+  class_output,
+  certificate_output,
+  denying,
+  is_built_client,
+  lets_go,
+  link_refusal,
+  link_step,
+  original,
+  outputs_of,
+  outputs_step,
+  verdict_step,
+  weave_step,
+};
+ghost use Rattle.bytecode_model.specs.Linking.{linked, unlinked};
+ghost use Rattle.cert_checker.specs.Acceptance.{IsAccepted, verdict};
+ghost use Rattle.inline_release.specs.Woven.{woven};
+
+use crate::built::is_built_class;
+use crate::inline_inputs::InlineInputs;
+use crate::inline_words::{InlineWords, Weaving};
+use crate::inputs::ReadClasses;
+use crate::judging::{TOTAL_LIMIT, class_of, label_of};
+use crate::refusal::Refusal;
+use api_listing::{ListedMethod, Listing};
+use bytecode_model::{LinkFault, LinkedClass, Program, Side, link};
+use cert_checker::{Accepted, check};
+use cert_format::{CertLong, Certificate, Typing};
+use cert_maker::make;
+use class_codec::ClassFile;
+use conspec_automaton::{Policy, asks_nothing, build};
+use conspec_parse::PolicyTree;
+use inline_release::{Woven, inline};
+use mon_base::{Bytes, List, NoMemory};
+use mon_store::Output;
+use offset_patch::SpliceFault;
+use std::alloc::Global;
+use type_infer::{InferFault, infer};
+
+/// What is to be written, and what is said of it.
+#[derive(Debug, Drop, PartialEq, Eq)]
+pub struct Ready {
+    pub outputs: List<Output>,
+    pub accepted: Accepted,
+    /// The number of class files among the outputs.
+    pub classes: u64,
+}
+
+/// Links and types the inputs, weaves them, and links, types and checks what is woven.
+pub fn plan(alloc: Global, inputs: InlineInputs, words: &InlineWords) -> Result<Ready, Refusal>
+    requires { InlineSound inputs }
+    // The first step that fails is told.
+    ensures plans { UnlessMemory (Plans (inline_named words.now) inputs) result }
+    // What is ready is the program with its blocks, and is accepted.
+    ensures planned { IfOk result (λ ready. IsPlanned (inline_named words.now) inputs ready) }
+{
+    let InlineInputs {
+        listing,
+        policy,
+        classes,
+    } = inputs;
+    let client = original(alloc, listing, classes, words.main)?;
+    types_of(alloc, &client)?;
+    let policy = denying(alloc, words.weaving, &policy, &client)?;
+    let made = woven(alloc, &client, &policy)?;
+    rewoven(alloc, words.main, words.folder, client, &policy, made)
+}
+
+/// The program that the inputs link to.
+fn original(
+    alloc: Global,
+    listing: Listing,
+    classes: ReadClasses,
+    main: &Bytes,
+) -> Result<Program, Refusal>
+    requires few { IsFew listing }
+    requires fits { AllByRecursion CanSpell classes.files }
+    ensures is { UnlessMemory (Equals (original listing classes main.now)) result }
+    ensures listing { IfOk result (λ program. program.listing ≡ listing) }
+    ensures sound { IfOk result IsSound }
+{
+    let total = classes.total;
+    if total > TOTAL_LIMIT {
+        return Err(Refusal::TotalLong { len: total });
+    }
+    linked(alloc, classes.files, listing, main, Side::Original)
+}
+
+fn linked(
+    alloc: Global,
+    files: List<ClassFile>,
+    listing: Listing,
+    main: &Bytes,
+    side: Side,
+) -> Result<Program, Refusal>
+    requires few { IsFew listing }
+    requires fits { AllByRecursion CanSpell files }
+    ensures is { UnlessMemory (Equals (link_step (linked files listing main.now side))) result }
+    ensures back { IfOk result (λ program. unlinked program ≡ files) }
+    ensures listing { IfOk result (λ program. program.listing ≡ listing) }
+    ensures sound { IfOk result IsSound }
+{
+    match link(alloc, files, listing, main, side) {
+        Ok(program) => Ok(program),
+        Err(fault) => Err(link_refusal(fault)),
+    }
+}
+
+fn link_refusal(fault: LinkFault) -> Refusal
+    ensures { result ≡ link_refusal fault }
+{
+    match fault {
+        LinkFault::Memory => Refusal::Memory,
+        fault => Refusal::Link(fault),
+    }
+}
+
+/// The types of a program.
+fn types_of(alloc: Global, program: &Program) -> Result<Typing, Refusal>
+    requires { IsSound program.now }
+    ensures { UnlessMemory (Types program.now) result }
+{
+    match infer(alloc, program) {
+        Ok(typing) => Ok(typing),
+        Err(InferFault::Untyped { class, method, at }) => {
+            let class = label_of(alloc, program, class)?;
+            Err(Refusal::Untyped { class, method, at })
+        }
+        Err(InferFault::Memory) => Err(Refusal::Memory),
+    }
+}
+
+/// The policy, where what is asked for is of the form that is built so far.
+fn denying(
+    alloc: Global,
+    weaving: Weaving,
+    policy: &PolicyTree,
+    program: &Program,
+) -> Result<Policy, Refusal>
+    ensures is { UnlessMemory (Equals (denying weaving policy.now program.now)) result }
+    ensures built { IfOk result (λ made. made ≡ built policy.now) }
+    ensures denies { IfOk result DeniesOnly }
+{
+    if !lets_go(weaving) || !is_built_client(program) || !asks_nothing(policy) {
+        return Err(Refusal::NotBuilt);
+    }
+    let policy = build(alloc, policy)?;
+    Ok(policy)
+}
+
+fn lets_go(weaving: Weaving) -> bool
+    ensures { result ≡ lets_go weaving }
+{
+    !matches!(weaving, Weaving::Hold)
+}
+
+/// Whether the program is one class of the form that is built so far.
+fn is_built_client(program: &Program) -> bool
+    ensures { result ≡ is_built_client program.now }
+{
+    match program.classes.as_slice() {
+        [client] => is_built_class(program.listing.methods.as_slice(), client),
+        _ => false,
+    }
+}
+
+/// The woven files.
+fn woven(alloc: Global, client: &Program, policy: &Policy) -> Result<Woven, Refusal>
+    requires sound { IsSound client.now }
+    requires denies { DeniesOnly policy.now }
+    ensures is { UnlessMemory (Equals (weave_step (woven client.now policy.now))) result }
+    ensures exact { IfOk result (λ made. woven client.now policy.now ≡ Ok made) }
+    ensures fits { IfOk result (λ made. AllByRecursion CanSpell made.files) }
+{
+    match inline(alloc, client, policy) {
+        Ok(made) => Ok(made),
+        Err(
+            SpliceFault::Overflow {
+                class,
+                method,
+                what,
+                value,
+            },
+        ) => Err(Refusal::Overflow {
+            class,
+            method,
+            what,
+            value,
+        }),
+        Err(SpliceFault::Memory) => Err(Refusal::Memory),
+    }
+}
+
+/// What is woven is linked and typed, and judged with its certificate.
+fn rewoven(
+    alloc: Global,
+    main: &Bytes,
+    folder: &Bytes,
+    client: Program,
+    policy: &Policy,
+    made: Woven,
+) -> Result<Ready, Refusal>
+    requires few { IsFew client.listing }
+    requires fits { AllByRecursion CanSpell made.files }
+    ensures steps { UnlessMemory (Relinking main.now folder.now client policy.now made) result }
+    ensures rewoven { IfOk result (λ ready. IsRewoven main.now folder.now client.listing policy.now made.files ready) }
+{
+    let Program {
+        classes,
+        listing,
+        ..
+    } = client;
+    let Woven { files, origins } = made;
+    let program = linked(alloc, files, listing, main, Side::Inlined)?;
+    let typing = types_of(alloc, &program)?;
+    let certificate = make(
+        alloc,
+        classes.as_slice(),
+        policy,
+        origins.as_slice(),
+        typing,
+    )?;
+    judged(alloc, folder, policy, &program, &certificate)
+}
+
+/// What is to be written of a woven program, once it is checked with its certificate.
+fn judged(
+    alloc: Global,
+    folder: &Bytes,
+    policy: &Policy,
+    program: &Program,
+    certificate: &Certificate,
+) -> Result<Ready, Refusal>
+    requires { IsSound program.now }
+    ensures steps { UnlessMemory (Judging folder.now policy.now program.now certificate.now) result }
+    ensures accepted { OnOk result (IsAccepted program.now policy.now certificate.now) }
+    ensures secure { OnOk result (Secure program.now policy.now) }
+    ensures outputs { IfOk result (λ ready. ready.outputs ≡ outputs_of folder.now program.now certificate.now) }
+{
+    let accepted = accepted(alloc, policy, program, certificate)?;
+    let outputs = outputs_of(alloc, folder, program, certificate)?;
+    Ok(Ready {
+        outputs,
+        accepted,
+        classes: program.classes.len() as u64,
+    })
+}
+
+fn accepted(
+    alloc: Global,
+    policy: &Policy,
+    program: &Program,
+    certificate: &Certificate,
+) -> Result<Accepted, Refusal>
+    requires { IsSound program.now }
+    ensures is { UnlessMemory (Equals (verdict_step program.now (verdict program.now policy.now certificate.now))) result }
+    ensures accepted { OnOk result (IsAccepted program.now policy.now certificate.now) }
+    ensures secure { OnOk result (Secure program.now policy.now) }
+{
+    match check(program, policy, certificate) {
+        Ok(accepted) => Ok(accepted),
+        Err(fault) => {
+            let label = label_of(alloc, program, class_of(&fault))?;
+            Err(Refusal::Denied(fault, label))
+        }
+    }
+}
+
+/// The class files in their order, and behind them the certificate.
+fn outputs_of(
+    alloc: Global,
+    folder: &Bytes,
+    program: &Program,
+    certificate: &Certificate,
+) -> Result<List<Output>, Refusal>
+    ensures is { UnlessMemory (Equals (outputs_step folder.now program.now certificate.now)) result }
+    ensures outputs { IfOk result (λ outputs. outputs ≡ outputs_of folder.now program.now certificate.now) }
+{
+    let mut outputs = class_outputs(alloc, folder, program.classes.as_slice())?;
+    match cert_format::encode(alloc, certificate) {
+        Ok(bytes) => {
+            outputs.push(certificate_output(alloc, folder, bytes)?)?;
+            Ok(outputs)
+        }
+        Err(CertLong::Certificate { value }) => Err(Refusal::LongCertificate { value }),
+        Err(CertLong::Memory) => Err(Refusal::Memory),
+    }
+}
+
+fn class_outputs(
+    alloc: Global,
+    folder: &Bytes,
+    classes: &[LinkedClass],
+) -> Result<List<Output>, NoMemory>
+    ensures { IfOk result (λ outputs. outputs ≡ map (class_output folder.now) classes.now) }
+{
+    let mut outputs = List::new(alloc);
+    for class in classes {
+        outputs.push(class_output(alloc, folder, class)?)?;
+    }
+    Ok(outputs)
+}
+
+fn class_output(alloc: Global, folder: &Bytes, class: &LinkedClass) -> Result<Output, NoMemory>
+    ensures { IfOk result (λ output. output ≡ class_output folder.now class.now) }
+{
+    let mut name = folder.copy(alloc)?;
+    name.push(b'/')?;
+    name.extend(class.name.as_slice())?;
+    name.extend(b".class")?;
+    let bytes = class_codec::encode(alloc, &class.file)?;
+    Ok(Output { name, bytes })
+}
+
+fn certificate_output(alloc: Global, folder: &Bytes, bytes: Bytes) -> Result<Output, NoMemory>
+    ensures { IfOk result (λ output. output ≡ certificate_output folder.now bytes) }
+{
+    let mut name = folder.copy(alloc)?;
+    name.extend(b"/certificate")?;
+    Ok(Output { name, bytes })
+}

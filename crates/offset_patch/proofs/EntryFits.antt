@@ -1,0 +1,235 @@
+-- Entries that blocks name can be spelled in the pool to which they were added, if it is not too long.
+use Rattle.std.proofs.Common.{◌≡◌, cond, ℕ, zero, suc, ◌+◌, ◌<◌, ◌≤◌, ◌^◌, Bool, true, false, List, [], ◌∷◌, ◌++◌, length, Option, Some, None, refl, sym, ap, subst, ◌∙◌, append_assoc, append-nil, arith}
+use Rattle.std.specs.Prelude.{slice_get, nat_lt, ◌&&◌, ◌==◌, codes, bytes_eq}
+use Rattle.std.specs.List.{AllByRecursion, list_all, position_from}
+use Rattle.std.proofs.lemmas.Bool.Decides.{nat_tests}
+use Rattle.std.proofs.lemmas.List.{length-append}
+use Rattle.std.proofs.lemmas.Option.{slice_get_within}
+use Rattle.class_codec.specs.declared.pool.Kind.{Kind}
+use Rattle.class_codec.specs.declared.pool.Kind.TheVariants as kinds
+use Rattle.class_codec.specs.declared.tree.Const.{Const}
+use Rattle.class_codec.specs.declared.tree.Const.TheVariants as constants
+use Rattle.class_codec.specs.Pool.{is_of, is_one_of, names}
+use Rattle.class_codec.specs.Fits.{IsTextByte, FitsConst, is_second, takes_two, HasSeconds, IsNamed, FitsPool}
+use Rattle.offset_patch.specs.declared.block.PoolWant.{PoolWant}
+use Rattle.offset_patch.specs.declared.block.PoolWant.TheVariants as wants
+use Rattle.offset_patch.specs.Entries.{same, Placed, placed, place_of, entry, text, class, name_and_type, method, wanted, with_wants}
+use Rattle.offset_patch.proofs.Lists.{all_append}
+use Rattle.offset_patch.proofs.PoolFits.{names_on, named_on, each_on}
+use Rattle.offset_patch.proofs.Steady.{IsSteady, steady_text, steady_class, steady_class_at, steady_name_and_type, steady_name_and_type_at, steady_method_at, steady_wanted}
+
+-- ---- texts
+
+both : (a b : Bool) → (a && b) ≡ true → (a ≡ true) × (b ≡ true)
+both true true e = (refl, refl)
+both true false e = absurd cc
+both false b e = absurd cc
+
+abbrev is_text_byte : ℕ → Bool
+is_text_byte b = nat_lt 0 b && nat_lt b 240
+
+-- each byte may stand in a text
+pub text_bytes : (bytes : List ℕ) → list_all is_text_byte bytes ≡ true → AllByRecursion IsTextByte bytes
+text_bytes [] e = tt
+text_bytes (b ∷ bytes) e =
+    let parts = both (is_text_byte b) (list_all is_text_byte bytes) e in
+    let ends = both (nat_lt 0 b) (nat_lt b 240) parts.0 in
+    let low = ends.0 in
+    let high = ends.1 in
+    ((grind (arith, nat_tests), grind (arith, nat_tests)), text_bytes bytes parts.1)
+
+-- ---- one constant more
+
+seconds_on : (second : Bool) (pool : List Const) (c : Const) → is_second c ≡ false → takes_two c ≡ false → HasSeconds second pool → HasSeconds second (pool ++ c ∷ [])
+seconds_on second [] c one two h = (one ∙ sym h, two)
+seconds_on second (x ∷ pool) c one two h = (h.0, seconds_on (takes_two x) pool c one two h.1)
+
+pub record IsGood (pool : List Const) (c : Const) : Type 0 where
+  pub fits : FitsConst c
+  pub one : is_second c ≡ false
+  pub narrow : takes_two c ≡ false
+  pub named : IsNamed pool c
+
+pushed_fits : (pool : List Const) (c : Const) → FitsPool pool → IsGood pool c → length (pool ++ c ∷ []) ≤ 65535 → FitsPool (pool ++ c ∷ [])
+pushed_fits pool c p g short = record {
+  count = omega arith;
+  each = all_append FitsConst pool (c ∷ []) p.each (g.fits, tt);
+  seconds = seconds_on true pool c g.one g.narrow p.seconds;
+  named = all_append (IsNamed (pool ++ c ∷ [])) pool (c ∷ []) (each_on (IsNamed pool) (IsNamed (pool ++ c ∷ [])) (named_on pool (c ∷ [])) pool p.named) (named_on pool (c ∷ []) c g.named, tt);
+}
+
+entry_fits : (pool : List Const) (c : Const) → FitsPool pool → IsGood pool c → length (entry c pool).0 ≤ 65535 → FitsPool (entry c pool).0
+entry_fits pool c p g short = by (place_of c pool) short
+  where
+    by : (o : Option ℕ) → length (placed pool c o).0 ≤ 65535 → FitsPool (placed pool c o).0
+    by None s = pushed_fits pool c p g s
+    by (Some i) s = p
+
+-- ---- what an entry's place names
+
+get_last : {X : Type 0} (xs : List X) (x : X) → slice_get (xs ++ x ∷ []) (length xs) ≡ Some x
+get_last [] x = refl
+get_last (y ∷ xs) x = get_last xs x
+
+place_found : {X : Type 0} (p : X → Bool) (at : ℕ) (xs : List X) (i : ℕ) → position_from p at xs ≡ Some i → (k : ℕ) × (x : X) × ((i ≡ at + k) × (slice_get xs k ≡ Some x) × (p x ≡ true))
+place_found {X = X} p at [] i e = absurd cc
+place_found {X = X} p at (x ∷ xs) i e = by (p x) refl (place_found p (at + 1) xs i) e
+  where
+    by : (b : Bool) → p x ≡ b → (position_from p (at + 1) xs ≡ Some i → (k : ℕ) × (y : X) × ((i ≡ at + 1 + k) × (slice_get xs k ≡ Some y) × (p y ≡ true)))
+        → cond b (Some at) (position_from p (at + 1) xs) ≡ Some i → (k : ℕ) × (y : X) × ((i ≡ at + k) × (slice_get (x ∷ xs) k ≡ Some y) × (p y ≡ true))
+    by true passes others f =
+        let here : at ≡ i = cc in
+        (0, x, (omega arith, refl, passes))
+    by false passes others f =
+        let later = others f in
+        (suc later.0, later.1, (omega (arith, later.2.0), later.2.1, later.2.2))
+
+alike_text : (bytes : List ℕ) (x : Const) → same (constants.Utf8 bytes) x ≡ true → is_of kinds.Utf8 x ≡ true
+alike_text bytes (constants.Utf8 b) e = refl
+alike_text bytes x e = absurd cc
+
+alike_class : (name : ℕ) (x : Const) → same (constants.Class name) x ≡ true → is_of kinds.Class x ≡ true
+alike_class name (constants.Class b) e = refl
+alike_class name x e = absurd cc
+
+alike_member : (name desc : ℕ) (x : Const) → same (constants.NameAndType name desc) x ≡ true → is_of kinds.NameAndType x ≡ true
+alike_member name desc (constants.NameAndType a b) e = refl
+alike_member name desc x e = absurd cc
+
+entry_named : (kind : Kind) (c : Const) → is_of kind c ≡ true → ((x : Const) → same c x ≡ true → is_of kind x ≡ true) → (pool : List Const) → names kind (entry c pool).0 (entry c pool).1 ≡ true
+unfolding names
+entry_named kind c own alike pool = by (place_of c pool) refl
+  where
+    by : (o : Option ℕ) → place_of c pool ≡ o → is_one_of kind (slice_get (placed pool c o).0 (placed pool c o).1) ≡ true
+    by None e = ap (is_one_of kind) (get_last pool c) ∙ own
+    by (Some i) e =
+        let found = place_found (same c) 0 pool i e in
+        let at : i ≡ found.0 = omega (arith, found.2.0) in
+        ap (λ (k : ℕ). is_one_of kind (slice_get pool k)) at ∙ ap (is_one_of kind) found.2.1 ∙ alike found.1 found.2.2
+
+text_named : (bytes : List ℕ) (pool : List Const) → names kinds.Utf8 (text bytes pool).0 (text bytes pool).1 ≡ true
+text_named bytes pool = entry_named kinds.Utf8 (constants.Utf8 bytes) refl (alike_text bytes) pool
+
+class_named : (name : List ℕ) (pool : List Const) → names kinds.Class (class name pool).0 (class name pool).1 ≡ true
+class_named name pool = entry_named kinds.Class (constants.Class (text name pool).1) refl (alike_class (text name pool).1) (text name pool).0
+
+within : (kind : Kind) (pool : List Const) (i : ℕ) → names kind pool i ≡ true → i < length pool
+unfolding names
+within kind pool i e = by (slice_get pool i) refl e
+  where
+    by : (o : Option Const) → slice_get pool i ≡ o → is_one_of kind o ≡ true → i < length pool
+    by None n f = absurd cc
+    by (Some x) n f = slice_get_within pool i x n
+
+-- ---- the entries
+
+pub record IsText (bytes : List ℕ) : Type 0 where
+  pub few : length bytes < 2 ^ 16
+  pub each : AllByRecursion IsTextByte bytes
+
+longer : (f : List Const → Placed) → IsSteady f → (pool : List Const) → length pool ≤ length (f pool).0
+longer f steady pool =
+    let more = steady.grows pool in
+    omega (arith, ap length more.1, length-append pool more.0)
+
+kept : (kind : Kind) (f : List Const → Placed) → IsSteady f → (pool : List Const) (i : ℕ) → names kind pool i ≡ true → names kind (f pool).0 i ≡ true
+kept kind f steady pool i e =
+    let more = steady.grows pool in
+    subst (λ (p : List Const). names kind p i ≡ true) (sym more.1) (names_on kind pool more.0 i e)
+
+text_fits : (bytes : List ℕ) → IsText bytes → (pool : List Const) → FitsPool pool → length (text bytes pool).0 ≤ 65535 → FitsPool (text bytes pool).0
+text_fits bytes t pool p short = entry_fits pool (constants.Utf8 bytes) p (record { fits = (t.few, t.each); one = refl; narrow = refl; named = tt }) short
+
+class_fits : (name : List ℕ) → IsText name → (pool : List Const) → FitsPool pool → length (class name pool).0 ≤ 65535 → FitsPool (class name pool).0
+class_fits name t pool p short =
+    let one = (text name pool).0 in
+    let i = (text name pool).1 in
+    let less = longer (entry (constants.Class i)) (steady_class_at i) one in
+    let first = text_fits name t pool p (omega arith) in
+    let told = text_named name pool in
+    let few = within kinds.Utf8 one i told in
+    entry_fits one (constants.Class i) first (record { fits = omega arith; one = refl; narrow = refl; named = told }) short
+
+member_named : (name desc : List ℕ) (pool : List Const) → names kinds.NameAndType (name_and_type name desc pool).0 (name_and_type name desc pool).1 ≡ true
+member_named name desc pool =
+    let two = text desc (text name pool).0 in
+    entry_named kinds.NameAndType (constants.NameAndType (text name pool).1 two.1) refl (alike_member (text name pool).1 two.1) two.0
+
+member_fits : (name desc : List ℕ) → IsText name → IsText desc → (pool : List Const) → FitsPool pool → length (name_and_type name desc pool).0 ≤ 65535 → FitsPool (name_and_type name desc pool).0
+member_fits name desc t u pool p short =
+    let one = (text name pool).0 in
+    let i = (text name pool).1 in
+    let two = (text desc one).0 in
+    let j = (text desc one).1 in
+    let less2 = longer (entry (constants.NameAndType i j)) (steady_name_and_type_at i j) two in
+    let less1 = longer (text desc) (steady_text desc) one in
+    let first = text_fits name t pool p (omega arith) in
+    let second = text_fits desc u one first (omega arith) in
+    let told_i = kept kinds.Utf8 (text desc) (steady_text desc) one i (text_named name pool) in
+    let told_j = text_named desc one in
+    let few_i = within kinds.Utf8 two i told_i in
+    let few_j = within kinds.Utf8 two j told_j in
+    entry_fits two (constants.NameAndType i j) second (record { fits = (omega arith, omega arith); one = refl; narrow = refl; named = (told_i, told_j) }) short
+
+method_fits : (owner name desc : List ℕ) → IsText owner → IsText name → IsText desc → (pool : List Const) → FitsPool pool → length (method owner name desc pool).0 ≤ 65535
+    → FitsPool (method owner name desc pool).0
+method_fits owner name desc s t u pool p short =
+    let one = (class owner pool).0 in
+    let i = (class owner pool).1 in
+    let two = (name_and_type name desc one).0 in
+    let j = (name_and_type name desc one).1 in
+    let less2 = longer (entry (constants.Method i j)) (steady_method_at i j) two in
+    let less1 = longer (name_and_type name desc) (steady_name_and_type name desc) one in
+    let first = class_fits owner s pool p (omega arith) in
+    let second = member_fits name desc t u one first (omega arith) in
+    let told_i = kept kinds.Class (name_and_type name desc) (steady_name_and_type name desc) one i (class_named owner pool) in
+    let told_j = member_named name desc one in
+    let few_i = within kinds.Class two i told_i in
+    let few_j = within kinds.NameAndType two j told_j in
+    entry_fits two (constants.Method i j) second (record { fits = (omega arith, omega arith); one = refl; narrow = refl; named = (told_i, told_j) }) short
+
+-- ---- what blocks want
+
+known : (bytes : List ℕ) → length bytes < 2 ^ 16 → list_all is_text_byte bytes ≡ true → IsText bytes
+known bytes few e = record { few = few; each = text_bytes bytes e }
+
+wanted_fits : (want : PoolWant) (pool : List Const) → FitsPool pool → length (wanted want pool).0 ≤ 65535 → FitsPool (wanted want pool).0
+wanted_fits wants.StateClass pool p short = class_fits (codes "conspec/State") (known (codes "conspec/State") (omega arith) refl) pool p short
+wanted_fits wants.Exit pool p short =
+    method_fits (codes "java/lang/System") (codes "exit") (codes "(I)V") (known (codes "java/lang/System") (omega arith) refl) (known (codes "exit") (omega arith) refl)
+    (known (codes "(I)V") (omega arith) refl) pool p short
+
+-- wants only add behind
+pub wants_grow : (wants : List PoolWant) (pool : List Const) → (more : List Const) × (with_wants pool wants ≡ pool ++ more)
+wants_grow [] pool = ([], sym (append-nil pool))
+wants_grow (want ∷ others) pool =
+    let one = (steady_wanted want).grows pool in
+    let rest = wants_grow others (wanted want pool).0 in
+    (one.0 ++ rest.0, rest.1 ∙ ap (λ (p : List Const). p ++ rest.0) one.1 ∙ append_assoc pool one.0 rest.0)
+
+pub wants_fit : (wants : List PoolWant) (pool : List Const) → FitsPool pool → length (with_wants pool wants) ≤ 65535 → FitsPool (with_wants pool wants)
+wants_fit [] pool p short = p
+wants_fit (want ∷ others) pool p short =
+    let rest = wants_grow others (wanted want pool).0 in
+    let less : length (wanted want pool).0 ≤ 65535 = omega (arith, ap length rest.1, length-append (wanted want pool).0 rest.0) in
+    wants_fit others (wanted want pool).0 (wanted_fits want pool p less) short
+
+-- ---- places
+
+entry_few : (c : Const) (pool : List Const) → (entry c pool).1 < length (entry c pool).0
+entry_few c pool = by (place_of c pool) refl
+  where
+    by : (o : Option ℕ) → place_of c pool ≡ o → (placed pool c o).1 < length (placed pool c o).0
+    by None e = omega (arith, length-append pool (c ∷ []))
+    by (Some i) e =
+        let found = place_found (same c) 0 pool i e in
+        let few = slice_get_within pool found.0 found.1 found.2.1 in
+        omega (arith, found.2.0, few)
+
+-- an entry stands within the pool
+pub place_few : (want : PoolWant) (pool : List Const) → (wanted want pool).1 < length (wanted want pool).0
+place_few wants.StateClass pool = entry_few (constants.Class (text (codes "conspec/State") pool).1) (text (codes "conspec/State") pool).0
+place_few wants.Exit pool =
+    let one = class (codes "java/lang/System") pool in
+    let two = name_and_type (codes "exit") (codes "(I)V") one.0 in
+    entry_few (constants.Method one.1 two.1) two.0
