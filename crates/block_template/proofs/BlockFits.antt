@@ -1,5 +1,5 @@
 -- The block of a denied call is one.
-use Rattle.std.proofs.Common.{◌≡◌, ℕ, zero, suc, ◌+◌, ◌<◌, ◌≤◌, ◌^◌, Bool, true, false, List, [], ◌∷◌, ◌++◌, length, refl, sym, ap, subst, ◌∙◌, arith}
+use Rattle.std.proofs.Common.{◌≡◌, ℕ, zero, suc, ◌+◌, ◌<◌, ◌^◌, Bool, true, false, List, [], ◌∷◌, ◌++◌, length, refl, sym, ap, ◌∙◌, arith}
 use Rattle.std.specs.Prelude.{nat_lt, nat_le, if◌then◌else◌, find, Option, Some, None, option_map, is_some, ◌||◌}
 use Rattle.std.specs.List.{AllByRecursion, list_any}
 use Rattle.std.proofs.lemmas.Bool.Decides.{nat_tests}
@@ -9,7 +9,6 @@ use Rattle.insn_codec.specs.Opcodes.{opcode_at, operands_of}
 use Rattle.insn_codec.specs.Fits.{IsU1, FitsSlot}
 use Rattle.conspec_parse.specs.declared.types.Kind.{Kind}
 use Rattle.conspec_parse.specs.declared.types.Kind.TheVariants as kinds
-use Rattle.offset_patch.specs.declared.block.Block.{Block}
 use Rattle.offset_patch.specs.declared.block.BlockInsn.{BlockInsn}
 use Rattle.offset_patch.specs.declared.block.BlockInsn.TheVariants.{Plain, Local, Call}
 use Rattle.offset_patch.specs.Fits.{IsBlockInsn, IsBlock, IsSite}
@@ -85,10 +84,25 @@ behind base arguments = lock ++ (stop ++ (unlock ++ (loads base arguments ++ Cal
 behind_fits : (base : ℕ) (kinds : List Kind) → base + length kinds < 2 ^ 16 → AllByRecursion IsBlockInsn (behind base kinds)
 unfolding opcode_at
 behind_fits base kinds few =
-    let last = all_append IsBlockInsn (loads base kinds) (Call ∷ []) (loads_fit base kinds few) (tt, tt) in
-    ((omega arith, refl), ((omega arith, refl),
-    (grind arith, ((omega arith, refl), ((omega arith, refl), ((omega arith, refl),
-    ((omega arith, refl), ((omega arith, refl), last))))))))
+    let last = all_append IsBlockInsn (loads base kinds) (Call ∷ []) (loads_fit base kinds few) (tt, tt) in (
+      (omega arith, refl),
+      (
+        (omega arith, refl),
+        (
+          grind arith,
+          (
+            (omega arith, refl),
+            (
+              (omega arith, refl),
+              (
+                (omega arith, refl),
+                ((omega arith, refl), ((omega arith, refl), last)),
+              ),
+            ),
+          ),
+        ),
+      ),
+    )
 
 pub denial_fits : (base : ℕ) (kinds : List Kind) → base + length kinds < 2 ^ 16 → IsBlock (denial base kinds)
 denial_fits base kinds few = record {

@@ -1,5 +1,5 @@
 -- Stores and loads of arguments, one after another.
-use Rattle.std.proofs.Common.{◌≡◌, ℕ, ◌+◌, ◌<◌, List, [], ◌∷◌, ◌++◌, length, get_or, take, refl, sym, ap, ◌∙◌, append_assoc, append-nil, arith}
+use Rattle.std.proofs.Common.{◌≡◌, ℕ, ◌+◌, ◌<◌, List, [], ◌∷◌, ◌++◌, length, get_or, take, sym, ap, ◌∙◌, append_assoc, arith}
 use Rattle.std.proofs.lemmas.List.{take_more, length-take-le}
 use Rattle.conspec_parse.specs.declared.types.Kind.{Kind}
 use Rattle.offset_patch.specs.declared.block.BlockInsn.{BlockInsn}
@@ -19,7 +19,7 @@ pub save_step : (base at : ℕ) (kinds : List Kind) (d : Kind) (out new total : 
 save_step base at kinds d out new total within pushed so_far =
     let n : length (take at kinds) ≡ at = length-take-le at kinds (omega arith) in
     let last : save base (take (at + 1) kinds) ≡ store (get_or kinds at d) (base + at) ∷ save base (take at kinds) =
-        ap (save base) (take_more kinds at d within) ∙ save_last base (take at kinds) (get_or kinds at d)
-        ∙ ap (λ (k : ℕ). store (get_or kinds at d) (base + k) ∷ save base (take at kinds)) n in
+    ap (save base) (take_more kinds at d within) ∙ save_last base (take at kinds) (get_or kinds at d)
+    ∙ ap (λ (k : ℕ). store (get_or kinds at d) (base + k) ∷ save base (take at kinds)) n in
     ap (λ (xs : List BlockInsn). xs ++ save base (take at kinds)) pushed ∙ append_assoc out (store (get_or kinds at d) (base + at) ∷ []) (save base (take at kinds))
     ∙ ap (λ (xs : List BlockInsn). out ++ xs) (sym last) ∙ so_far

@@ -1,10 +1,10 @@
 -- The class file without variables can be spelled.
-use Rattle.std.proofs.Common.{◌≡◌, ℕ, ◌<◌, ◌^◌, Bool, true, false, List, [], ◌∷◌, length, refl, sym, ap, subst, arith}
+use Rattle.std.proofs.Common.{◌≡◌, ℕ, Bool, true, false, List, [], ◌∷◌, refl, sym, subst, arith}
 use Rattle.std.specs.Prelude.{nat_lt, ◌&&◌, codes}
 use Rattle.std.specs.List.{AllByRecursion, list_all}
 use Rattle.std.proofs.lemmas.Bool.Decides.{nat_tests}
 use Rattle.class_codec.specs.Pool.{names}
-use Rattle.class_codec.specs.Fits.{IsTextByte, FitsConst, HasSeconds, IsNamed, FitsPool, CanSpell}
+use Rattle.class_codec.specs.Fits.{IsTextByte, FitsConst, HasSeconds, IsNamed, CanSpell}
 use Rattle.conspec_parse.specs.declared.types.Var.{Var}
 use Rattle.offset_patch.specs.Entries.{state_name}
 use Rattle.block_template.specs.State.{head, state_file}
@@ -27,9 +27,22 @@ text_fits (b ∷ bytes) e =
     ((grind (arith, nat_tests), grind (arith, nat_tests)), text_fits bytes parts.1)
 
 head_fits : AllByRecursion FitsConst head
-head_fits =
-    (tt, ((omega arith, text_fits state_name refl), (omega arith, ((omega arith, text_fits (codes "java/lang/Object") refl), (omega arith,
-    ((omega arith, text_fits (codes "ConstantValue") refl), ((omega arith, text_fits (codes "I") refl), ((omega arith, text_fits (codes "Z") refl), tt))))))))
+head_fits = (
+  tt,
+  (
+    (omega arith, text_fits state_name refl),
+    (
+      omega arith,
+      (
+        (omega arith, text_fits (codes "java/lang/Object") refl),
+        (
+          omega arith,
+          ((omega arith, text_fits (codes "ConstantValue") refl), ((omega arith, text_fits (codes "I") refl), ((omega arith, text_fits (codes "Z") refl), tt))),
+        ),
+      ),
+    ),
+  ),
+)
 
 seconds : HasSeconds true head
 seconds = (refl, (refl, (refl, (refl, (refl, (refl, (refl, (refl, refl))))))))

@@ -1,6 +1,6 @@
 -- The block that stands for a call that the policy denies: it keeps the arguments, takes the lock of conspec/State and
 -- stops the program. What stands behind that is never reached, and gives the call what it had.
-use Rattle.std.specs.Prelude.{ℕ, ◌+◌, ◌==◌, Bool, false, nat_lt, nat_le, if◌then◌else◌, pos, List, [], ◌∷◌, ◌++◌, length, find, Option, Some, None, option_map}
+use Rattle.std.specs.Prelude.{ℕ, ◌+◌, ◌==◌, Bool, false, nat_lt, nat_le, if◌then◌else◌, pos, List, [], ◌∷◌, ◌++◌, length, find, Option, None, option_map}
 use Rattle.std.specs.Option.{option_map_or}
 use Rattle.bytecode_model.specs.declared.program.Target.{Target}
 use Rattle.bytecode_model.specs.declared.program.Target.TheVariants as target

@@ -83,11 +83,7 @@ fn save(alloc: Global, base: u16, arguments: &[Kind]) -> Result<Vec<BlockInsn>, 
 }
 
 /// Appends the loads of the arguments.
-fn put_loads(
-    insns: &mut Vec<BlockInsn>,
-    base: u16,
-    arguments: &[Kind],
-) -> Result<(), NoMemory>
+fn put_loads(insns: &mut Vec<BlockInsn>, base: u16, arguments: &[Kind]) -> Result<(), NoMemory>
     requires { base + length arguments.now < 2 ^ 16 }
     ensures { OnOk result (insns.new.items ≡ insns.old.items ++ loads base arguments.now) }
 {

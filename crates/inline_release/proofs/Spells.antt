@@ -138,7 +138,7 @@ coded_fits policy class pool made member method code w m h sound first e =
     let more = c.grown.0 in
     let on = λ (x : Member) (f : FitsMember made.entries true x). subst (λ (q : List Const). FitsMember q true x) (sym c.grown.1) (member_on made.entries more true x f) in
     let read : is_read_as_code w.entries true w.code.name ≡ true =
-        ap (is_read_as_code w.entries true) c.named ∙ ap (λ (q : List Const). is_read_as_code q true code.name) c.grown.1 ∙ read_on made.entries more true true code.name old.1.name.named old.0 in
+    ap (is_read_as_code w.entries true) c.named ∙ ap (λ (q : List Const). is_read_as_code q true code.name) c.grown.1 ∙ read_on made.entries more true true code.name old.1.name.named old.0 in
     let one = with_fits w.entries member w.code (on member here) (read, c.code_fits) in
     record {
       grown = (m.grown.0 ++ more, c.grown.1 ∙ ap (λ (q : List Const). q ++ more) m.grown.1 ∙ append_assoc pool m.grown.0 more);

@@ -54,7 +54,11 @@ pub fn code_woven(
 fn is_woven(policy: &Policy, method: &Method) -> bool
     ensures { result ≡ is_woven policy.now method.now }
 {
-    method.refs.as_slice().iter().any(|target| has_block(policy, target))
+    method
+        .refs
+        .as_slice()
+        .iter()
+        .any(|target| has_block(policy, target))
 }
 
 fn blocks_put(
@@ -67,13 +71,23 @@ fn blocks_put(
     code: &Code,
 ) -> Result<WovenCode, SpliceFault>
     requires { IsSoundMethod method.now }
-    ensures { Tells result (blocks_put policy.now class.now number entries method.now code.now (sites_of policy.now code.now.max_locals method.now)) }
+    ensures { Tells result (blocks_put policy.now class.now number entries method.now code.now
+        (sites_of policy.now code.now.max_locals method.now)) }
 {
     let locals = most_locals(policy, method.refs.as_slice())?;
     room(alloc, class, number, code, locals)?;
     let sites = sites_of(alloc, policy, code.max_locals, method.refs.as_slice())?;
     let mut entries = entries;
-    let code = splice(alloc, class, number, &mut entries, method, code, locals, sites.as_slice())?;
+    let code = splice(
+        alloc,
+        class,
+        number,
+        &mut entries,
+        method,
+        code,
+        locals,
+        sites.as_slice(),
+    )?;
     let origins = origins_of(alloc, sites.as_slice())?;
     Ok(WovenCode {
         code,

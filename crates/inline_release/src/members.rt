@@ -4,7 +4,8 @@ ghost use Rattle.std.specs.Prelude.{◌≡◌, ◌<◌, ◌^◌, ◌+◌, IfOk, 
 ghost use Rattle.std.specs.List.{AllByRecursion};
 ghost use Rattle.bytecode_model.specs.Sound.{IsSoundMethod};
 ghost use Rattle.offset_patch.specs.Fault.{Tells};
-ghost use Rattle.inline_release.specs.Woven.{first_code, attr_with, member_with, bare_put, code_put, body_woven, member_woven, members_woven, none_made};
+ghost use Rattle.inline_release.specs.Woven.{first_code, attr_with, member_with, bare_put};
+ghost use Rattle.inline_release.specs.Woven.{code_put, body_woven, member_woven, members_woven, none_made};
 
 use crate::code::{WovenCode, code_woven, copy_code};
 use bytecode_model::{LinkedClass, Method};

@@ -104,7 +104,10 @@ fn woven(alloc: Global, class: ClassFile) -> Result<Result<Woven, SpliceFault>, 
 /// The files and origins of a class with this code.
 fn of_code(alloc: Global, max_stack: u16, max_locals: u16, code: &[u8]) -> Result<Woven, Fail> {
     let code = Bytes::from_slice(alloc, code)?;
-    match woven(alloc, file(alloc, pool(alloc)?, max_stack, max_locals, code)?)? {
+    match woven(
+        alloc,
+        file(alloc, pool(alloc)?, max_stack, max_locals, code)?,
+    )? {
         Ok(woven) => Ok(woven),
         Err(_) => Err("weaving".into()),
     }
@@ -272,12 +275,14 @@ fn an_entry_that_is_there_is_used(rt: HostRuntime) -> Result<(), Fail> {
 /// Whether weaving answers this size.
 fn overflows(answer: Result<Woven, SpliceFault>, size: Size, wanted: i64) -> bool {
     match answer {
-        Err(SpliceFault::Overflow {
-            class,
-            method,
-            what,
-            value,
-        }) => method == 0 && what == size && value == wanted,
+        Err(
+            SpliceFault::Overflow {
+                class,
+                method,
+                what,
+                value,
+            },
+        ) => method == 0 && what == size && value == wanted,
         _ => false,
     }
 }

@@ -13,15 +13,14 @@ use Rattle.class_codec.specs.declared.tree.Const.{Const}
 use Rattle.class_codec.specs.declared.tree.TableEntry.{TableEntry}
 use Rattle.class_codec.specs.declared.tree.Other.{Other}
 use Rattle.class_codec.specs.Spelling as spell
-use Rattle.class_codec.specs.Fits.{IsU2, IsIndex, FitCounted, FitsTableEntry, FitsOther, FitsCode}
-use Rattle.class_codec.specs.declared.pool.Kind.TheVariants as kinds
+use Rattle.class_codec.specs.Fits.{FitsTableEntry, FitsCode}
 use Rattle.insn_codec.specs.declared.fault.CodeOverflow.{CodeOverflow}
 use Rattle.insn_codec.specs.declared.fault.CodeOverflow.TheVariants as codes
 use Rattle.insn_codec.specs.declared.insn.Insn.{Insn}
 use Rattle.insn_codec.specs.Fits.{IsInsn}
 use Rattle.insn_codec.specs.Spelling.{size, starts_of, starts_from, len_from, spelling}
 use Rattle.insn_codec.specs.Writing.{written, reach_from}
-use Rattle.insn_codec.proofs.Standing.{len_first, len_none, size-some}
+use Rattle.insn_codec.proofs.Standing.{len_first, size-some}
 use Rattle.insn_codec.proofs.WriteLaws.{len_is}
 use Rattle.bytecode_model.specs.declared.program.Handler.{Handler}
 use Rattle.bytecode_model.specs.declared.program.Method.{Method}
@@ -30,8 +29,8 @@ use Rattle.offset_patch.specs.declared.fault.Size.{Size}
 use Rattle.offset_patch.specs.declared.fault.Size.TheVariants as sizes
 use Rattle.offset_patch.specs.declared.fault.SpliceFault.{SpliceFault}
 use Rattle.offset_patch.specs.declared.fault.SpliceFault.TheVariants as faults
-use Rattle.offset_patch.specs.Fault.{Spliced, fitted, code_fitted}
-use Rattle.offset_patch.specs.Splicing.{fronts_of, spliced, moved, table_moved, room, code_with, code_spliced}
+use Rattle.offset_patch.specs.Fault.{fitted, code_fitted}
+use Rattle.offset_patch.specs.Splicing.{fronts_of, spliced, table_moved, room, code_with, code_spliced}
 
 -- ---- sizes that fit
 
@@ -107,8 +106,18 @@ entries_len (e ∷ entries) =
     let b = big_bytes 2 e.to in
     let c = big_bytes 2 e.at in
     let d = big_bytes 2 e.class in
-    omega (arith, length-append (spell.table_entry e) (flat_map spell.table_entry entries), length-append (a ++ b ++ c) d, length-append (a ++ b) c, length-append a b,
-    length-bytes_high_first 2 e.from, length-bytes_high_first 2 e.to, length-bytes_high_first 2 e.at, length-bytes_high_first 2 e.class, entries_len entries)
+    omega (
+      arith,
+      length-append (spell.table_entry e) (flat_map spell.table_entry entries),
+      length-append (a ++ b ++ c) d,
+      length-append (a ++ b) c,
+      length-append a b,
+      length-bytes_high_first 2 e.from,
+      length-bytes_high_first 2 e.to,
+      length-bytes_high_first 2 e.at,
+      length-bytes_high_first 2 e.class,
+      entries_len entries,
+    )
 
 contents_len : (c : Code) → length c.code ≤ 65535 → length c.table < 2 ^ 16 → c.attrs ≡ [] → length (spell.contents c) < 2 ^ 32
 contents_len c short few none =
@@ -117,10 +126,21 @@ contents_len c short few none =
     let table = spell.counted spell.table_entry c.table in
     let attrs = spell.counted spell.other c.attrs in
     let attrs_len : length attrs ≡ 2 = ap (λ (others : List Other). length (spell.counted spell.other others)) none ∙ length-append (spell.u2 0) [] ∙ rw (length-bytes_high_first 2 0) refl in
-    omega (arith, length-append head (code ++ (table ++ attrs)), length-append code (table ++ attrs), length-append table attrs, attrs_len,
-    length-append (spell.u2 c.max_stack) (spell.u2 c.max_locals), length-bytes_high_first 2 c.max_stack, length-bytes_high_first 2 c.max_locals,
-    length-append (spell.u4 (length c.code)) c.code, length-bytes_high_first 4 (length c.code),
-    length-append (spell.u2 (length c.table)) (flat_map spell.table_entry c.table), length-bytes_high_first 2 (length c.table), entries_len c.table)
+    omega (
+      arith,
+      length-append head (code ++ (table ++ attrs)),
+      length-append code (table ++ attrs),
+      length-append table attrs,
+      attrs_len,
+      length-append (spell.u2 c.max_stack) (spell.u2 c.max_locals),
+      length-bytes_high_first 2 c.max_stack,
+      length-bytes_high_first 2 c.max_locals,
+      length-append (spell.u4 (length c.code)) c.code,
+      length-bytes_high_first 4 (length c.code),
+      length-append (spell.u2 (length c.table)) (flat_map spell.table_entry c.table),
+      length-bytes_high_first 2 (length c.table),
+      entries_len c.table,
+    )
 
 -- ---- the code
 

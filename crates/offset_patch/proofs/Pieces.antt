@@ -1,11 +1,11 @@
 -- The parts of a code, one after another, what they want, and how many bytes they have.
-use Rattle.std.proofs.Common.{◌≡◌, ℕ, ◌+◌, ◌*◌, ◌≤◌, ◌<◌, ◌^◌, true, false, List, [], ◌∷◌, ◌++◌, length, map, Option, refl, sym, ap, subst, ◌∙◌, append_assoc, arith}
+use Rattle.std.proofs.Common.{◌≡◌, ℕ, ◌+◌, ◌≤◌, ◌<◌, ◌^◌, true, false, List, [], ◌∷◌, ◌++◌, length, map, Option, refl, sym, ap, ◌∙◌, append_assoc, arith}
 use Rattle.std.specs.Prelude.{sum_by}
 use Rattle.std.specs.List.{filter_map}
 use Rattle.std.proofs.lemmas.List.Sums.{sum_by-cons}
 use Rattle.insn_codec.specs.declared.insn.Insn.{Insn}
 use Rattle.insn_codec.specs.declared.insn.Insn.TheVariants.{Plain, Byte, Short, Ldc, Pool, Iface, Local, Inc, Branch, GotoW, NewArray, Table, Lookup}
-use Rattle.insn_codec.specs.Spelling.{size, len_from, padding}
+use Rattle.insn_codec.specs.Spelling.{size, len_from}
 use Rattle.insn_codec.proofs.Standing.{len_first, len_none}
 use Rattle.class_codec.specs.declared.tree.Const.{Const}
 use Rattle.offset_patch.specs.declared.block.Block.{Block}

@@ -1,8 +1,7 @@
 -- A pool to which entries were added can be spelled, if it is not too long.
-use Rattle.std.proofs.Common.{◌≡◌, cond, ℕ, zero, suc, ◌+◌, ◌<◌, ◌≤◌, ◌^◌, Bool, true, false, List, [], ◌∷◌, ◌++◌, length, Option, Some, None, refl, sym, ap, subst, ◌∙◌, append_assoc, append-nil, arith}
+use Rattle.std.proofs.Common.{◌≡◌, ℕ, zero, suc, Bool, true, false, List, [], ◌∷◌, ◌++◌, Option, Some, None, refl, sym, ap, ◌∙◌}
 use Rattle.std.specs.Prelude.{slice_get, ◌||◌, ◌==◌}
-use Rattle.std.specs.List.{AllByRecursion, position_from}
-use Rattle.std.proofs.lemmas.List.{length-append}
+use Rattle.std.specs.List.{AllByRecursion}
 use Rattle.class_codec.specs.declared.pool.Kind.{Kind}
 use Rattle.class_codec.specs.declared.pool.Kind.TheVariants as kinds
 use Rattle.class_codec.specs.declared.tree.Const.{Const}
@@ -13,9 +12,8 @@ use Rattle.class_codec.specs.declared.tree.Code.{Code}
 use Rattle.class_codec.specs.declared.tree.Attr.{Attr}
 use Rattle.class_codec.specs.declared.tree.Attr.TheVariants as attributes
 use Rattle.class_codec.specs.declared.tree.Member.{Member}
-use Rattle.class_codec.specs.Pool.{is_of, is_one_of, names, utf8_at, is_code, text_of}
-use Rattle.class_codec.specs.Fits.{IsU2, FitCounted, FitsConst, is_second, takes_two, HasSeconds, IsNamed, FitsPool, IsIndex, FitsTableEntry, FitsOther, FitsCode, FitsAttr, FitsMember, is_read_as_code}
-use Rattle.offset_patch.proofs.Lists.{all_append}
+use Rattle.class_codec.specs.Pool.{is_of, is_one_of, names, utf8_at, text_of}
+use Rattle.class_codec.specs.Fits.{FitCounted, IsNamed, IsIndex, FitsTableEntry, FitsOther, FitsCode, FitsAttr, FitsMember, is_read_as_code}
 
 -- ---- what stays as the pool grows
 

@@ -1,6 +1,6 @@
 -- An entry that was added stays where it is: what is added later stands behind it.
-use Rattle.std.proofs.Common.{◌≡◌, cond, ℕ, zero, suc, ◌+◌, Bool, true, false, List, [], ◌∷◌, ◌++◌, length, Option, Some, None, option_map, map, refl, sym, ap, subst, ◌∙◌, append_assoc, append-nil, zero-add, arith}
-use Rattle.std.specs.Prelude.{bytes_eq, ◌==◌, ◌&&◌, codes}
+use Rattle.std.proofs.Common.{◌≡◌, cond, ℕ, ◌+◌, Bool, true, false, List, [], ◌∷◌, ◌++◌, length, Option, Some, None, option_map, map, refl, sym, ap, subst, ◌∙◌, append_assoc, append-nil, zero-add, arith}
+use Rattle.std.specs.Prelude.{bytes_eq, ◌==◌, codes}
 use Rattle.std.specs.List.{position_from}
 use Rattle.std.proofs.lemmas.List.{length-append, length-map, map-append}
 use Rattle.class_codec.specs.declared.tree.Const.{Const}
@@ -9,7 +9,7 @@ use Rattle.offset_patch.specs.declared.block.PoolWant.{PoolWant}
 use Rattle.offset_patch.specs.declared.constants.Added.{Added}
 use Rattle.offset_patch.specs.Added.{const_of, with_added}
 use Rattle.offset_patch.specs.declared.block.PoolWant.TheVariants as wants
-use Rattle.offset_patch.specs.Entries.{same, Placed, placed, place_of, entry, text, class, name_and_type, name_and_type_of, method, method_of, wanted, IsKept}
+use Rattle.offset_patch.specs.Entries.{same, Placed, placed, place_of, entry, text, class, name_and_type, method, wanted, IsKept}
 
 -- the first that passes stays the first
 pub place_stays : {X : Type 0} (p : X → Bool) (at : ℕ) (xs ys : List X) (i : ℕ) → position_from p at xs ≡ Some i → position_from p at (xs ++ ys) ≡ Some i

@@ -2,7 +2,6 @@
 -- at the end, behind the entries that it names itself, in the order in which it names them.
 use Rattle.std.specs.Prelude.{◌≡◌, ℕ, ◌==◌, ◌&&◌, Bool, false, bytes_eq, codes, List, [], ◌∷◌, ◌++◌, length, Option, Some, None}
 use Rattle.std.specs.List.{position_from}
-use Rattle.std.specs.Ordering.{int_eq}
 use Rattle.class_codec.specs.declared.tree.Const.{Const}
 use Rattle.class_codec.specs.declared.tree.Const.TheVariants as constants
 use Rattle.offset_patch.specs.declared.block.PoolWant.{PoolWant}

@@ -1,5 +1,5 @@
 -- What blocks are made of.
-use Rattle.std.specs.Prelude.{◌≡◌, ℕ, ◌≤◌, List, length, FitsSigned, Option, Some, None, ⊤}
+use Rattle.std.specs.Prelude.{◌≡◌, ◌≤◌, length, FitsSigned, Option, Some, None, ⊤}
 use Rattle.std.specs.List.{AllByRecursion}
 use Rattle.std.specs.Int.{w8, w16}
 use Rattle.insn_codec.specs.declared.opcode.Operands.TheVariants as ops

@@ -1,6 +1,6 @@
 -- Blocks in the code of a method: each stands in the place of the instruction that it is for, and what goes to that
 -- instruction goes to the front of its block.
-use Rattle.std.specs.Prelude.{ℕ, zero, suc, ◌+◌, ◌*◌, Bool, true, false, is_some, List, [], ◌∷◌, ◌++◌, length, map, slice_index, Option, Some, None, Ok}
+use Rattle.std.specs.Prelude.{ℕ, ◌+◌, Bool, is_some, List, [], ◌∷◌, ◌++◌, length, map, slice_index, Option, Some, None, Ok}
 use Rattle.std.specs.List.{flat_map, filter_map, list_any, enumerate_from}
 use Rattle.mon_base.specs.Reading.{◌>>=◌}
 use Rattle.class_codec.specs.declared.tree.Code.{Code}

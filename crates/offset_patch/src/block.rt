@@ -21,11 +21,7 @@ pub enum BlockInsn {
     /// `sipush`.
     Short(i16),
     /// A load or store of a local variable.
-    Local {
-        op: u8,
-        slot: u16,
-        wide: bool,
-    },
+    Local { op: u8, slot: u16, wide: bool },
     /// An opcode and the index of an entry of the constant pool.
     Want { op: u8, want: PoolWant },
     /// A jump to an instruction of the block, by its place; the block's length is what stands behind it.

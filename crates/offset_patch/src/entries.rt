@@ -7,7 +7,7 @@ ghost use Rattle.offset_patch.specs.Entries.{wanted, place_in};
 use crate::adding::wanted;
 use crate::block::PoolWant;
 use crate::constants::Added;
-use class_codec::{Const};
+use class_codec::Const;
 use mon_base::{List, NoMemory};
 use std::alloc::Global;
 use std::marker::Model;

@@ -157,11 +157,7 @@ pub fn origins_of(alloc: Global, sites: &[Option<Block>]) -> Result<List<Origin>
     Ok(origins)
 }
 
-fn put_origins(
-    origins: &mut List<Origin>,
-    site: u32,
-    part: &[BlockInsn],
-) -> Result<(), NoMemory>
+fn put_origins(origins: &mut List<Origin>, site: u32, part: &[BlockInsn]) -> Result<(), NoMemory>
     ensures { OnOk result (origins.new ≡ origins.old ++ map (origin_of site) (enumerate_from 0 part.now)) }
 {
     let mut place: u32 = 0;

@@ -5,11 +5,11 @@
 //! are told in a fixed order. (docs/BLOCKS.md)
 #![tactic(auto)]
 
+mod adding;
 mod block;
+mod constants;
 mod entries;
 mod fault;
-mod adding;
-mod constants;
 mod fronts;
 mod length;
 mod sizes;

@@ -8,7 +8,8 @@ ghost use Rattle.insn_codec.specs.Writing.{written};
 ghost use Rattle.offset_patch.specs.Entries.{with_wants};
 ghost use Rattle.offset_patch.specs.Fault.{Tells, Fails, code_fitted};
 ghost use Rattle.offset_patch.specs.Fits.{IsBlockInsn, IsSite};
-ghost use Rattle.offset_patch.specs.Splicing.{want_of, part_of, fronts_of, put, parts_from, spliced, wants_of, block_wants, grown, code_with, code_spliced};
+ghost use Rattle.offset_patch.specs.Splicing.{want_of, part_of, fronts_of, put, parts_from};
+ghost use Rattle.offset_patch.specs.Splicing.{spliced, wants_of, block_wants, grown, code_with, code_spliced};
 
 use crate::block::{Block, BlockInsn};
 use crate::entries::Entries;
@@ -47,10 +48,22 @@ pub fn splice(
     let count = entries.count()?;
     fitted(alloc, class, number, Size::Pool, count)?;
     let fronts = fronts(alloc, sites)?;
-    let insns = parts(alloc, entries, fronts.as_slice(), method.insns.as_slice(), sites)?;
+    let insns = parts(
+        alloc,
+        entries,
+        fronts.as_slice(),
+        method.insns.as_slice(),
+        sites,
+    )?;
     let bytes = written(alloc, class, number, insns.as_slice())?;
     let starts = starts(alloc, insns.as_slice())?;
-    let table = table_moved(alloc, starts.as_slice(), fronts.as_slice(), method.handlers.as_slice(), code.table.as_slice())?;
+    let table = table_moved(
+        alloc,
+        starts.as_slice(),
+        fronts.as_slice(),
+        method.handlers.as_slice(),
+        code.table.as_slice(),
+    )?;
     Ok(Code {
         name: code.name,
         max_stack: code.max_stack + OPERANDS,
@@ -62,12 +75,7 @@ pub fn splice(
 }
 
 /// The bytes of the instructions.
-fn written(
-    alloc: Global,
-    class: &Bytes,
-    number: u32,
-    insns: &[Insn],
-) -> Result<Bytes, SpliceFault>
+fn written(alloc: Global, class: &Bytes, number: u32, insns: &[Insn]) -> Result<Bytes, SpliceFault>
     requires { AllByRecursion IsInsn insns.now }
     ensures code { Tells result (code_fitted class.now number (written insns.now)) }
     ensures short { OnOk result (len_from 0 insns.now < 2 ^ 32) }
@@ -104,11 +112,7 @@ fn told(alloc: Global, class: &Bytes, method: u32, overflow: CodeOverflow) -> Sp
 }
 
 /// What the blocks name is added to the pool, in the order of use.
-fn add_wants(
-    alloc: Global,
-    entries: &mut Entries,
-    sites: &[Option<Block>],
-) -> Result<(), NoMemory>
+fn add_wants(alloc: Global, entries: &mut Entries, sites: &[Option<Block>]) -> Result<(), NoMemory>
     ensures { OnOk result (entries.new ≡ grown entries.old sites.now) }
 {
     let mut left = sites;

@@ -2,7 +2,6 @@ use Rattle.std.proofs.Common.{List, sym, ap, subst, ◌∙◌}
 use Rattle.offset_patch.specs.declared.block.Block.{Block}
 use Rattle.offset_patch.specs.declared.block.BlockInsn.{BlockInsn}
 use Rattle.offset_patch.specs.Fits.{IsBlock}
-use Rattle.block_template.specs.Blocks.{denial}
 use Rattle.block_template.proofs.BlockFits.{denial_fits}
 use Rattle.block_template.proofs.blocks.denial.Goals as goal
 

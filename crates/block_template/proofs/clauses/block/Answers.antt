@@ -1,4 +1,4 @@
-use Rattle.std.proofs.Common.{◌≡◌, Bool, Some, None, refl}
+use Rattle.std.proofs.Common.{Bool, Some, None, refl}
 use Rattle.std.specs.Prelude.{◌==◌}
 use Rattle.conspec_automaton.specs.declared.policy.Clause.{Clause}
 use Rattle.block_template.proofs.BlockFits.{none_named, one_named}

@@ -10,5 +10,5 @@ invariant_of-self-in-StateClass c =
 pub invariant_of-self-in-Exit : goal.invariant_of-self-in-Exit
 invariant_of-self-in-Exit c =
     let both = kept_after c.args.want Exit StateClass c.self.inside.state_class c.take-state_class.result c.self.inside.items c.as_slice.result.now c.self.inside.added c.wanted.new.added c.in_ok-place.place
-        c.in-Exit.is c.as_slice.ensures c.in_ok-place.ensures c.take-state_class.ensures.value c.self.invariant.0 in
+    c.in-Exit.is c.as_slice.ensures c.in_ok-place.ensures c.take-state_class.ensures.value c.self.invariant.0 in
     (both.1, both.0)
