@@ -4,7 +4,6 @@ mod answers;
 mod files;
 mod limits;
 mod notes;
-mod policy;
 mod reading;
 mod refusals;
 mod show;
