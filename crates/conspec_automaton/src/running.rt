@@ -61,7 +61,8 @@ fn next_by(policy: &Policy, clause: &Clause, state: &mut State, event: &Event) -
     requires policy { IsPolicy policy.now }
     requires clause { IsClauseIn policy.now.vars policy.now.maxint clause.now }
     requires ranged { IsTrue (in_range policy.now state.old) }
-    ensures is { MatchBool result (next_by clause.now state.old event.now ≡ Some state.new) (next_by clause.now state.old event.now ≡ None) }
+    ensures is { MatchBool result (next_by clause.now state.old event.now ≡ Some state.new)
+        (next_by clause.now state.old event.now ≡ None) }
     ensures same { result ≡ false → state.new ≡ state.old }
     ensures ranged { IsTrue (in_range policy.now state.new) }
 {

@@ -14,6 +14,7 @@ const LISTING: &[u8] =
     static api/Net send ()V\nstatic api/Net read ()I\nmethod api/Net push (I)V\n\
     method api/Net find (ILjava/lang/String;)[Ljava/lang/String;\n";
 
+/// What is read of the text.
 pub fn record_of(alloc: Global, text: &[u8]) -> Result<Result<Record, RecordFault>, Fail> {
     let Ok(listing) = read(alloc, LISTING) else {
         return Err("the listing".into());

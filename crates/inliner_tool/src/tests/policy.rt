@@ -62,19 +62,17 @@ static TABLE: [(&str, &str, Status, &str); 8] = [
 
 fn files_of(alloc: Global, policy: &str, recorded: &str) -> Result<List<(Bytes, Bytes)>, NoMemory> {
     let mut files = List::new(alloc);
-    for (name, text) in [
-        ("POLICY", policy),
-        ("LISTING", LISTING),
-        ("RECORD", recorded),
-    ]
-    .iter()
-    {
-        files.push((
-            Bytes::from_slice(alloc, name.as_bytes())?,
-            Bytes::from_slice(alloc, text.as_bytes())?,
-        ))?;
-    }
+    files.push(file(alloc, "POLICY", policy)?)?;
+    files.push(file(alloc, "LISTING", LISTING)?)?;
+    files.push(file(alloc, "RECORD", recorded)?)?;
     Ok(files)
+}
+
+fn file(alloc: Global, name: &str, text: &str) -> Result<(Bytes, Bytes), NoMemory> {
+    Ok((
+        Bytes::from_slice(alloc, name.as_bytes())?,
+        Bytes::from_slice(alloc, text.as_bytes())?,
+    ))
 }
 
 #[test]
