@@ -137,8 +137,8 @@ fn answer_to<S: Store>(alloc: Global, words: &[Bytes], store: &mut S) -> Answer
 
 /// The answer to `check`.
 fn answer_check<S: Store>(alloc: Global, words: &CheckWords, store: &mut S) -> Answer
-    ensures says { IsAnswer (λ answer. Answers (S.files store.old) (S.files store.new) (since (S.faults store.old) (S.faults store.new) (S.last store.new))
-        (Check (check_named words.now)) answer) result }
+    ensures says { IsAnswer (λ answer. Answers (S.files store.old) (S.files store.new)
+        (since (S.faults store.old) (S.faults store.new) (S.last store.new)) (Check (check_named words.now)) answer) result }
     ensures holds { EndsWell result
         → Holds (S.files store.old) (since (S.faults store.old) (S.faults store.new) (S.last store.new)) (check_named words.now) }
     ensures files { S.files store.new ≡ S.files store.old }
@@ -152,8 +152,8 @@ fn answer_check<S: Store>(alloc: Global, words: &CheckWords, store: &mut S) -> A
 
 /// The answer to `show`.
 fn answer_show<S: Store>(alloc: Global, words: &ShowWords, store: &mut S) -> Answer
-    ensures says { IsAnswer (λ answer. Answers (S.files store.old) (S.files store.new) (since (S.faults store.old) (S.faults store.new) (S.last store.new))
-        (Show (show_named words.now)) answer) result }
+    ensures says { IsAnswer (λ answer. Answers (S.files store.old) (S.files store.new)
+        (since (S.faults store.old) (S.faults store.new) (S.last store.new)) (Show (show_named words.now)) answer) result }
     ensures files { S.files store.new ≡ S.files store.old }
     ensures faults { S.faults store.old ≤ S.faults store.new }
 {

@@ -151,7 +151,10 @@ fn a_store_fails_at_each_write_in_turn(rt: HostRuntime) -> Result<(), Fail> {
             let stands = bytes_of(&ended.files, output);
             let same = stands == bytes_of(&done.files, output);
             assert!(rt; same == (number < place), "{output} where {name} fails");
-            assert!(rt; stands.is_some() == (number < place), "{output} where {name} fails");
+            assert!(rt;
+                stands.is_some() == (number < place),
+                "{output} where {name} fails"
+            );
         }
     }
     // The sink fails once all is written.
@@ -176,7 +179,12 @@ fn long_class(alloc: Global, long: Long) -> Result<List<(Bytes, Bytes)>, Fail> {
     let mut text = Bytes::new(alloc);
     if let Some(file) = files.get(5) {
         // The class up to the length of its attribute `Code`.
-        text.extend(file.1.as_slice().get(..138).ok_or("the front of the class")?)?;
+        text.extend(
+            file.1
+                .as_slice()
+                .get(..138)
+                .ok_or("the front of the class")?,
+        )?;
     }
     text.extend(&long.attribute.to_be_bytes())?;
     text.extend(b"\x00\x01\x00\x01")?;
