@@ -1,5 +1,6 @@
 -- What the status of a call says of the answer.
-use Rattle.std.proofs.Common.{◌≡◌}
+use Rattle.std.proofs.Common.{◌≡◌, refl}
+use Rattle.conspec_automaton.specs.declared.running.Verdict.TheVariants as verdicts
 use Rattle.inliner_tool.specs.declared.answer.Answer.{Answer}
 use Rattle.inliner_tool.specs.declared.answer.Answer.TheVariants as answers
 use Rattle.inliner_tool.specs.declared.tool.Status.TheVariants as statuses
@@ -11,6 +12,9 @@ ends_well (answers.Accepted accepted) is = tt
 ends_well (answers.Denied fault label) is = absurd cc
 ends_well (answers.Shown text) is = tt
 ends_well (answers.Inlined accepted classes) is = tt
+ends_well (answers.Judged verdicts.Accepted) is = refl
+ends_well (answers.Judged (verdicts.StoppedAt index)) is = refl
+ends_well (answers.Judged (verdicts.Refused index)) is = absurd cc
 ends_well (answers.Input name fault) is = absurd cc
 ends_well (answers.TotalLong len) is = absurd cc
 ends_well (answers.Link fault) is = absurd cc

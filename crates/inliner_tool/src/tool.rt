@@ -165,8 +165,8 @@ fn answer_show<S: Store>(alloc: Global, words: &ShowWords, store: &mut S) -> Ans
 
 /// The answer to `policy`.
 fn answer_policy<S: Store>(alloc: Global, words: &PolicyWords, store: &mut S) -> Answer
-    ensures says { IsAnswer (λ answer. Answers (S.files store.old) (S.files store.new) (since (S.faults store.old) (S.faults store.new) (S.last store.new))
-        (Policy (policy_named words.now)) answer) result }
+    ensures says { IsAnswer (λ answer. Answers (S.files store.old) (S.files store.new)
+        (since (S.faults store.old) (S.faults store.new) (S.last store.new)) (Policy (policy_named words.now)) answer) result }
     ensures files { S.files store.new ≡ S.files store.old }
     ensures faults { S.faults store.old ≤ S.faults store.new }
 {
