@@ -7,6 +7,3 @@ mod making;
 mod notes;
 
 pub use making::make;
-
-#[cfg(test)]
-mod tests;
