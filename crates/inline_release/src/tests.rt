@@ -1,10 +1,10 @@
 //! Small programs that are woven, against bytes that were worked out by hand.
 
 use crate::{Woven, inline};
-use api_listing::{Listing, read};
-use bytecode_model::{Program, Side, link};
-use class_codec::{Attr, ClassFile, Code, Const, Member};
-use conspec_automaton::{Policy, build};
+use api_listing::read;
+use bytecode_model::{Side, link};
+use class_codec::{Attr, ClassFile, Code, Const, Member, decode, encode};
+use conspec_automaton::{asks_nothing, build};
 use conspec_parse::parse;
 use mon_base::{Bytes, List};
 use offset_patch::{Origin, Size, SpliceFault};
@@ -79,19 +79,22 @@ fn file(
     })
 }
 
-fn policy(alloc: Global, listing: &Listing) -> Result<Policy, Fail> {
-    match parse(alloc, POLICY, listing) {
-        Ok(tree) => Ok(build(alloc, &tree)?),
-        Err(_) => Err("the policy".into()),
-    }
-}
-
 /// What weaving makes of the class.
 fn woven(alloc: Global, class: ClassFile) -> Result<Result<Woven, SpliceFault>, Fail> {
     let Ok(listing) = read(alloc, LISTING) else {
         return Err("the listing".into());
     };
-    let policy = policy(alloc, &listing)?;
+    let Ok(tree) = parse(alloc, POLICY, &listing) else {
+        return Err("the policy".into());
+    };
+    if !asks_nothing(&tree) {
+        return Err("the policy".into());
+    }
+    let policy = build(alloc, &tree)?;
+    let bytes = encode(alloc, &class)?;
+    let Ok(class) = decode(alloc, bytes.as_slice()) else {
+        return Err("the class".into());
+    };
     let mut files = List::new(alloc);
     files.push(class)?;
     let main = Bytes::from_slice(alloc, b"a/S".as_slice())?;
