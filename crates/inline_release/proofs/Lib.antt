@@ -1,1 +1,3 @@
 pub mod Spells
+pub mod Aims
+pub mod Again

@@ -42,7 +42,7 @@ use Rattle.inline_release.specs.Woven.{folded, is_woven, sites_of, most_locals, 
 
 -- ---- the code of a method
 
-refs_fit : (policy : Policy) (base : ℕ) (refs : List Target) → base + most_locals policy refs < 2 ^ 16 → AllByRecursion IsSite (map (site policy base) refs)
+pub refs_fit : (policy : Policy) (base : ℕ) (refs : List Target) → base + most_locals policy refs < 2 ^ 16 → AllByRecursion IsSite (map (site policy base) refs)
 refs_fit policy base [] few = tt
 refs_fit policy base (ref ∷ refs) few = (site_fits policy base ref (omega arith), refs_fit policy base refs (omega arith))
 
