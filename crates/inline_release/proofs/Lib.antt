@@ -1,3 +1,5 @@
 pub mod Spells
 pub mod Aims
 pub mod Again
+pub mod Texts
+pub mod Steps
