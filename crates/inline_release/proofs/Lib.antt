@@ -3,3 +3,4 @@ pub mod Aims
 pub mod Again
 pub mod Texts
 pub mod Steps
+pub mod Whole
