@@ -146,7 +146,6 @@ names_on old new member h more is = (
 )
 
 module _ (policy : Policy) (file : ClassFile) (files : List ClassFile) (listing : Listing) (new : ClassFile) (others : List ClassFile) (after : Listing) where
-
   -- What one member more makes of what was made.
   pub record IsStep (made next : Members) (m : Method) : Type 0 where
     pub item : Member

@@ -52,7 +52,6 @@ first_linked one at x xs ys e =
 -- ---- the methods of a class
 
 module _ (policy : Policy) (class : LinkedClass) (files : List ClassFile) (listing : Listing) (new : ClassFile) (others : List ClassFile) (after : Listing) where
-
   -- What the members that are left make of what was made.
   record IsRest (made last : Members) (left : List Method) : Type 0 where
     items : List Member
@@ -125,7 +124,7 @@ class_joined policy files others before after old new sound of_old of_new w =
     let super : new.file.super_class ≡ old.file.super_class = ap (λ (f : ClassFile). f.super_class) (sym w.is) in
     let items : new.file.methods ≡ made.items = ap (λ (f : ClassFile). f.methods) (sym w.is) in
     let rest = members_rest policy old files before new.file others after old.file.methods (none_made old.file.pool) made [] old.methods refl refl sound.methods fits.methods.each
-        of_old.methods w.all pool in
+    of_old.methods w.all pool in
     let all : made.items ≡ rest.items = rest.are in
     let more = rest.more.0 in
     let longer : new.file.pool ≡ old.file.pool ++ more = sym pool ∙ rest.more.1 in
