@@ -25,7 +25,7 @@ use Rattle.offset_patch.specs.declared.block.Block.{Block}
 use Rattle.offset_patch.specs.declared.fault.Size.TheVariants as sizes
 use Rattle.offset_patch.specs.declared.fault.SpliceFault.{SpliceFault}
 use Rattle.offset_patch.specs.Fault.{fitted, code_fitted}
-use Rattle.offset_patch.specs.Splicing.{grown, fronts_of, origins_of, room, spliced, code_with, code_spliced}
+use Rattle.offset_patch.specs.Splicing.{grown, fronts_of, origins_of, room, spliced, code_with, code_spliced, table_moved}
 use Rattle.offset_patch.proofs.CodeFits.{room_is, pool_short}
 use Rattle.offset_patch.proofs.InsnFits.{wants_there, parts_fit}
 use Rattle.block_template.specs.Blocks.{has_block, site}
@@ -137,6 +137,7 @@ made_of class number pool method code locals sites new e =
 pub record IsRead (policy : Policy) (pool : List Const) (method : Method) (code : Code) (w : WovenCode) : Type 0 where
   pub entries : w.entries ≡ grown pool (sites_of policy code.max_locals method)
   pub insns : code_of w.code.code ≡ Ok (spliced w.entries method.insns (sites_of policy code.max_locals method))
+  pub table : w.code.table ≡ table_moved (starts_of (spliced w.entries method.insns (sites_of policy code.max_locals method))) (fronts_of (sites_of policy code.max_locals method)) method.handlers code.table
   pub max_stack : w.code.max_stack ≡ code.max_stack + 3
   pub max_locals : w.code.max_locals ≡ code.max_locals + locals_of policy method
 
@@ -163,6 +164,7 @@ put_reads policy class number pool method code w sound e =
     subst (IsRead policy pool method code) is (record {
       entries = refl;
       insns = there;
+      table = ap (λ (c : Code). c.table) (sym h.is);
       max_stack = ap (λ (c : Code). c.max_stack) (sym h.is);
       max_locals = ap (λ (c : Code). c.max_locals) (sym h.is);
     })

@@ -112,6 +112,18 @@ front_below [] at to h few = absurd (omega arith)
 front_below (site ∷ sites) at zero h few = omega (arith, part_some (part_of site) h.0)
 front_below (site ∷ sites) at (suc to) h few = omega (arith, front_below sites (at + length (part_of site)) to h.1 (omega arith))
 
+front_within : (sites : List (Option Block)) (at to : ℕ) → to ≤ length sites → slice_index (fronts_from at sites) to ≤ at + many sites
+front_within [] at zero few = omega arith
+front_within [] at (suc to) few = absurd (omega arith)
+front_within (site ∷ sites) at zero few = omega arith
+front_within (site ∷ sites) at (suc to) few = omega (arith, front_within sites (at + length (part_of site)) to (omega arith))
+
+pub spliced_within : (pool : List Const) (own : List Insn) (sites : List (Option Block)) → length sites ≡ length own → (to : ℕ) → to ≤ length own
+    → slice_index (fronts_of sites) to ≤ length (spliced pool own sites)
+spliced_within pool own sites same to few =
+    let count : length (spliced pool own sites) ≡ many sites = parts_many pool (fronts_of sites) 0 own sites (sym same) in
+    omega (arith, count, front_within sites 0 to (omega (arith, same, few)))
+
 -- ---- targets
 
 all_aimed : (fronts : List ℕ) (n m : ℕ) → ((to : ℕ) → to < n → slice_index fronts to < m) → (targets : List ℕ) → AllByRecursion (λ to. to < n) targets

@@ -99,7 +99,7 @@ woven_fits policy class number pool method code w p h sound = by (is_woven polic
 
 -- ---- members
 
-first_fits : (pool : List Const) (attrs : List Attr) (code : Code) → AllByRecursion (FitsAttr pool true) attrs → first_code attrs ≡ Some code → FitsAttr pool true (attributes.Code code)
+pub first_fits : (pool : List Const) (attrs : List Attr) (code : Code) → AllByRecursion (FitsAttr pool true) attrs → first_code attrs ≡ Some code → FitsAttr pool true (attributes.Code code)
 first_fits pool [] code h e = absurd cc
 first_fits pool (attributes.Code c ∷ attrs) code h e =
     let is : c ≡ code = cc in

@@ -48,6 +48,15 @@ use Rattle.inline_release.specs.Woven.{is_woven, sites_of, locals_of, clients_fr
 use Rattle.inline_release.specs.Outcome.{insns_woven, stack_woven, locals_woven, IsWovenMethod}
 use Rattle.inline_release.proofs.Again.{IsRead, put_reads}
 use Rattle.inline_release.proofs.Texts.{text_on}
+use Rattle.std.proofs.lemmas.List.{length-map}
+use Rattle.class_codec.specs.declared.tree.TableEntry.{TableEntry}
+use Rattle.class_codec.specs.Fits.{FitsPool, FitsTableEntry}
+use Rattle.block_template.specs.Blocks.{site}
+use Rattle.offset_patch.specs.Splicing.{table_moved}
+use Rattle.inline_release.specs.Outcome.{Each, at_fronts, handlers_woven}
+use Rattle.inline_release.proofs.Aims.{spliced_within}
+use Rattle.inline_release.proofs.Spells.{first_fits}
+use Rattle.inline_release.proofs.Tables.{IsHandlerOf, handlers_of, handlers_kept, handlers_moved}
 
 -- ---- a block in a pool that grew
 
@@ -107,6 +116,7 @@ record IsCoded (file : ClassFile) (member : Member) (code : Code) (m : Method) :
   max_stack : m.max_stack ≡ code.max_stack
   max_locals : m.max_locals ≡ code.max_locals
   insns : code_of code.code ≡ Ok m.insns
+  handlers : Each (IsHandlerOf file.pool (starts_of m.insns)) code.table m.handlers
 
 read_is : (class : List ℕ) (method : ℕ) (r : Result (List Insn) CodeFault) (xs : List Insn) → read_of class method r ≡ Ok xs → r ≡ Ok xs
 read_is class method (Ok ys) xs e = ap Ok (ok_is LinkFault ys xs e)
@@ -122,7 +132,7 @@ coded files listing file at member code m e =
     let b = bind_ok (refs_of a.0) (λ refs. table_of a.0 >>= λ handlers. Ok (with_code file member code a.0 refs handlers)) m a.2 in
     let c = bind_ok (table_of a.0) (λ handlers. Ok (with_code file member code a.0 b.0 handlers)) m b.2 in
     let is : with_code file member code a.0 b.0 c.0 ≡ m = ok_is LinkFault (with_code file member code a.0 b.0 c.0) m c.2 in
-    subst (IsCoded file member code) is (record { flags = refl; name = refl; desc = refl; max_stack = refl; max_locals = refl; insns = read_is class at (code_of code.code) a.0 a.1 })
+    subst (IsCoded file member code) is (record { flags = refl; name = refl; desc = refl; max_stack = refl; max_locals = refl; insns = read_is class at (code_of code.code) a.0 a.1; handlers = handlers_of files listing class file.pool at (length a.0) (starts_of a.0) 0 code.table c.0 c.1 })
 
 -- the conditions that a method meets aside
 body_is : (files : List ClassFile) (listing : Listing) (file : ClassFile) (at : ℕ) (member : Member) (m : Method) → method_linked files listing file at member ≡ Ok m
@@ -166,7 +176,7 @@ module _ (policy : Policy) (file : ClassFile) (files : List ClassFile) (listing 
         let body : body_linked others after new at member None ≡ Ok other = ap (body_linked others after new at member) (sym none) ∙ body_is others after new at member other e in
         let it : bare new member ≡ other = ok_is LinkFault (bare new member) other body in
         let text = names_on file.pool new.pool member fits zs longer in
-        let same : IsWovenMethod policy new.pool (bare file member) (bare new member) = record { flags = refl; name = text.0; desc = text.1; max_stack = refl; max_locals = refl; insns = refl } in
+        let same : IsWovenMethod policy new.pool (bare file member) (bare new member) = record { flags = refl; name = text.0; desc = text.1; max_stack = refl; max_locals = refl; insns = refl; handlers = refl } in
         subst (λ (x : Method). IsWovenMethod policy new.pool x other) is (subst (IsWovenMethod policy new.pool (bare file member)) it same);
   }
 
@@ -176,6 +186,8 @@ module _ (policy : Policy) (file : ClassFile) (files : List ClassFile) (listing 
     insns : (ys : List Const) → code_of w.code.code ≡ Ok (insns_woven policy (w.entries ++ ys) m)
     max_stack : w.code.max_stack ≡ stack_woven policy m
     max_locals : w.code.max_locals ≡ locals_woven policy m
+    handlers : (zs : List Const) → new.pool ≡ file.pool ++ zs → FitsPool file.pool → AllByRecursion (FitsTableEntry file.pool) code.table → (ys : List Const) (hs : List Handler)
+        → Each (IsHandlerOf new.pool (starts_of (insns_woven policy (w.entries ++ ys) m))) w.code.table hs → hs ≡ handlers_woven policy m
 
   woven_is : (class : List ℕ) (number : ℕ) (pool : List Const) (m : Method) (member : Member) (code : Code) (w : WovenCode) → IsSoundMethod m → IsCoded file member code m
       → code_woven policy class number pool m code ≡ Ok w → IsWovenCode pool m code w
@@ -189,15 +201,26 @@ module _ (policy : Policy) (file : ClassFile) (files : List ClassFile) (listing 
           let sites = sites_of policy code.max_locals m in
           let more = wants_grow (wants_of sites) pool in
           let same : sites_of policy code.max_locals m ≡ sites_of policy m.max_locals m = ap (λ (n : ℕ). sites_of policy n m) (sym old.max_locals) in
+          let spliced_is : (ys : List Const) → spliced w.entries m.insns sites ≡ insns_woven policy (w.entries ++ ys) m = λ ys.
+              let one : spliced w.entries m.insns sites ≡ spliced (w.entries ++ ys) m.insns sites = subst (λ (p : List Const). spliced p m.insns sites ≡ spliced (p ++ ys) m.insns sites) (sym h.entries) (spliced_on pool ys m.insns sites) in
+              let two : spliced w.entries m.insns sites ≡ spliced (w.entries ++ ys) m.insns (sites_of policy m.max_locals m) = one ∙ ap (spliced (w.entries ++ ys) m.insns) same in
+              let three : insns_woven policy (w.entries ++ ys) m ≡ spliced (w.entries ++ ys) m.insns (sites_of policy m.max_locals m) = ap (λ (b : Bool). if b then spliced (w.entries ++ ys) m.insns (sites_of policy m.max_locals m) else m.insns) some in
+              two ∙ sym three in
+          let count : length sites ≡ length m.insns = length-map m.refs (site policy code.max_locals) ∙ sound.refs in
           record {
             more = (more.0, h.entries ∙ more.1);
-            insns = λ ys.
-                let one : spliced w.entries m.insns sites ≡ spliced (w.entries ++ ys) m.insns sites = subst (λ (p : List Const). spliced p m.insns sites ≡ spliced (p ++ ys) m.insns sites) (sym h.entries) (spliced_on pool ys m.insns sites) in
-                let two : spliced w.entries m.insns sites ≡ spliced (w.entries ++ ys) m.insns (sites_of policy m.max_locals m) = one ∙ ap (spliced (w.entries ++ ys) m.insns) same in
-                let three : insns_woven policy (w.entries ++ ys) m ≡ spliced (w.entries ++ ys) m.insns (sites_of policy m.max_locals m) = ap (λ (b : Bool). if b then spliced (w.entries ++ ys) m.insns (sites_of policy m.max_locals m) else m.insns) some in
-                h.insns ∙ ap Ok (two ∙ sym three);
+            insns = λ ys. h.insns ∙ ap Ok (spliced_is ys);
             max_stack = h.max_stack ∙ ap (λ (n : ℕ). n + 3) (sym old.max_stack) ∙ sym (ap (λ (b : Bool). if b then m.max_stack + 3 else m.max_stack) some);
             max_locals = h.max_locals ∙ ap (λ (n : ℕ). n + locals_of policy m) (sym old.max_locals) ∙ sym (ap (λ (b : Bool). if b then m.max_locals + locals_of policy m else m.max_locals) some);
+            handlers = λ zs longer p fits ys hs each.
+                let xs = spliced w.entries m.insns sites in
+                let one : Each (IsHandlerOf new.pool (starts_of xs)) w.code.table hs = subst (λ (q : List Insn). Each (IsHandlerOf new.pool (starts_of q)) w.code.table hs) (sym (spliced_is ys)) each in
+                let two : Each (IsHandlerOf new.pool (starts_of xs)) (table_moved (starts_of xs) (fronts_of sites) m.handlers code.table) hs = subst (λ (t : List TableEntry). Each (IsHandlerOf new.pool (starts_of xs)) t hs) h.table one in
+                let within = spliced_within w.entries m.insns sites count in
+                let is : hs ≡ map (at_fronts (fronts_of sites)) m.handlers =
+                handlers_moved file.pool new.pool zs p longer (starts_of m.insns) (fronts_of sites) (length m.insns) xs within code.table m.handlers hs sound.handlers fits old.handlers two in
+                let again : handlers_woven policy m ≡ map (at_fronts (fronts_of (sites_of policy m.max_locals m))) m.handlers = ap (λ (b : Bool). if b then map (at_fronts (fronts_of (sites_of policy m.max_locals m))) m.handlers else m.handlers) some in
+                is ∙ ap (λ (q : List (Option Block)). map (at_fronts (fronts_of q)) m.handlers) same ∙ sym again;
           }
       by false none e =
           let same : WovenCode = record { code = code; entries = pool; origins = clients_from 0 m.insns } in
@@ -206,14 +229,19 @@ module _ (policy : Policy) (file : ClassFile) (files : List ClassFile) (listing 
             insns = λ ys. old.insns ∙ ap Ok (sym (ap (λ (b : Bool). if b then spliced (pool ++ ys) m.insns (sites_of policy m.max_locals m) else m.insns) none));
             max_stack = sym old.max_stack ∙ sym (ap (λ (b : Bool). if b then m.max_stack + 3 else m.max_stack) none);
             max_locals = sym old.max_locals ∙ sym (ap (λ (b : Bool). if b then m.max_locals + locals_of policy m else m.max_locals) none);
+            handlers = λ zs longer p fits ys hs each.
+                let kept : insns_woven policy (pool ++ ys) m ≡ m.insns = ap (λ (b : Bool). if b then spliced (pool ++ ys) m.insns (sites_of policy m.max_locals m) else m.insns) none in
+                let one : Each (IsHandlerOf new.pool (starts_of m.insns)) code.table hs = subst (λ (q : List Insn). Each (IsHandlerOf new.pool (starts_of q)) code.table hs) kept each in
+                handlers_kept file.pool new.pool zs p longer (starts_of m.insns) code.table m.handlers hs fits old.handlers one
+                ∙ sym (ap (λ (b : Bool). if b then map (at_fronts (fronts_of (sites_of policy m.max_locals m))) m.handlers else m.handlers) none);
           })
 
   same_insns : (r : Result (List Insn) CodeFault) (xs ys : List Insn) → r ≡ Ok xs → r ≡ Ok ys → xs ≡ ys
   same_insns r xs ys a b = ok_is CodeFault xs ys (sym a ∙ b)
 
-  coded_step : (class : List ℕ) (made : Members) (member : Member) (m : Method) (code : Code) (w : WovenCode) → FitsMember file.pool true member → IsSoundMethod m
+  coded_step : (class : List ℕ) (made : Members) (member : Member) (m : Method) (code : Code) (w : WovenCode) → FitsPool file.pool → FitsMember file.pool true member → IsSoundMethod m
       → first_code member.attrs ≡ Some code → IsCoded file member code m → code_woven policy class made.number made.entries m code ≡ Ok w → IsStep made (code_put made member w) m
-  coded_step class made member m code w fits sound first old e =
+  coded_step class made member m code w p fits sound first old e =
       let h = woven_is class made.number made.entries m member code w sound old e in
       record {
         item = member_with member w.code;
@@ -227,19 +255,25 @@ module _ (policy : Policy) (file : ClassFile) (files : List ClassFile) (listing 
             let it = coded others after new at item w.code other body in
             let text = names_on file.pool new.pool member fits zs longer in
             let read : code_of w.code.code ≡ Ok (insns_woven policy new.pool m) = h.insns ys ∙ ap (λ (p : List Const). Ok (insns_woven policy p m)) (sym grown) in
+            let insns = same_insns (code_of w.code.code) other.insns (insns_woven policy new.pool m) it.insns read in
+            let same : other.insns ≡ insns_woven policy (w.entries ++ ys) m = insns ∙ ap (λ (q : List Const). insns_woven policy q m) grown in
+            let entries = (first_fits file.pool member.attrs code fits.attrs.each first).1.table.each in
+            let table : Each (IsHandlerOf new.pool (starts_of (insns_woven policy (w.entries ++ ys) m))) w.code.table other.handlers =
+            subst (λ (q : List Insn). Each (IsHandlerOf new.pool (starts_of q)) w.code.table other.handlers) same it.handlers in
             record {
               flags = it.flags ∙ sym old.flags;
               name = it.name ∙ text.0 ∙ sym old.name;
               desc = it.desc ∙ text.1 ∙ sym old.desc;
               max_stack = it.max_stack ∙ h.max_stack;
               max_locals = it.max_locals ∙ h.max_locals;
-              insns = same_insns (code_of w.code.code) other.insns (insns_woven policy new.pool m) it.insns read;
+              insns = insns;
+              handlers = h.handlers zs longer p entries ys other.handlers table;
             };
       }
 
-  pub one_step : (class : List ℕ) (made next : Members) (member : Member) (m : Method) → FitsMember file.pool true member → IsSoundMethod m
+  pub one_step : (class : List ℕ) (made next : Members) (member : Member) (m : Method) → FitsPool file.pool → FitsMember file.pool true member → IsSoundMethod m
       → method_linked files listing file made.number member ≡ Ok m → body_woven policy class made member (Some m) (first_code member.attrs) ≡ Ok next → IsStep made next m
-  one_step class made next member m fits sound linked = by (first_code member.attrs) refl (body_is files listing file made.number member m linked)
+  one_step class made next member m p fits sound linked = by (first_code member.attrs) refl (body_is files listing file made.number member m linked)
     where
       by : (c : Option Code) → first_code member.attrs ≡ c → body_linked files listing file made.number member c ≡ Ok m → body_woven policy class made member (Some m) c ≡ Ok next → IsStep made next m
       by None none body e =
@@ -247,4 +281,4 @@ module _ (policy : Policy) (file : ClassFile) (files : List ClassFile) (listing 
       by (Some code) first body e =
           let one = bind_ok (code_woven policy class made.number made.entries m code) (λ w. Ok (code_put made member w)) next e in
           let old = coded files listing file made.number member code m body in
-          subst (λ (x : Members). IsStep made x m) (ok_is SpliceFault (code_put made member one.0) next one.2) (coded_step class made member m code one.0 fits sound first old one.1)
+          subst (λ (x : Members). IsStep made x m) (ok_is SpliceFault (code_put made member one.0) next one.2) (coded_step class made member m code one.0 p fits sound first old one.1)

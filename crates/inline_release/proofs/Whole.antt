@@ -34,20 +34,14 @@ use Rattle.inline_release.specs.Woven.{folded, first_code, body_woven, member_wo
 use Rattle.inline_release.specs.Outcome.{Each, IsWovenMethod, IsWovenClass, IsState, IsWoven, WovenLinksSo}
 use Rattle.inline_release.proofs.Steps.{IsStep, one_step}
 use Rattle.inline_release.proofs.Texts.{class_on}
+use Rattle.inline_release.proofs.Tables.{first_linked}
+use Rattle.class_codec.specs.Fits.{FitsPool}
 
 -- ---- lists
 
 get_behind : {X : Type 0} (xs : List X) (x : X) (ys : List X) → slice_get (xs ++ x ∷ ys) (length xs) ≡ Some x
 get_behind [] x ys = refl
 get_behind (z ∷ xs) x ys = get_behind xs x ys
-
--- what is linked of a first item and the others
-first_linked : {X Y : Type 0} (one : ℕ → X → Linked Y) (at : ℕ) (x : X) (xs : List X) (ys : List Y) → linked_from one at (x ∷ xs) ≡ Ok ys
-    → (y : Y) × (zs : List Y) × (one at x ≡ Ok y) × (linked_from one (at + 1) xs ≡ Ok zs) × (y ∷ zs ≡ ys)
-first_linked one at x xs ys e =
-    let a = bind_ok (one at x) (λ y. linked_from one (at + 1) xs >>= λ zs. Ok (y ∷ zs)) ys e in
-    let b = bind_ok (linked_from one (at + 1) xs) (λ zs. Ok (a.0 ∷ zs)) ys a.2 in
-    (a.0, b.0, a.1, b.1, ok_is LinkFault (a.0 ∷ b.0) ys b.2)
 
 -- ---- the methods of a class
 
@@ -67,13 +61,13 @@ module _ (policy : Policy) (class : LinkedClass) (files : List ClassFile) (listi
     each = λ zs longer linked e. subst (Each (IsWovenMethod policy new.pool) []) (ok_is LinkFault [] linked e) tt;
   }
 
-  members_rest : (members : List Member) (made last : Members) (done left : List Method) → class.methods ≡ done ++ left → length done ≡ made.number → AllByRecursion IsSoundMethod left
+  members_rest : FitsPool class.file.pool → (members : List Member) (made last : Members) (done left : List Method) → class.methods ≡ done ++ left → length done ≡ made.number → AllByRecursion IsSoundMethod left
       → AllByRecursion (FitsMember class.file.pool true) members → linked_from (method_linked files listing class.file) made.number members ≡ Ok left
       → folded (member_woven policy class) made members ≡ Ok last → last.entries ≡ new.pool → IsRest made last left
-  members_rest [] made last done left split count sound fits e w pool =
+  members_rest p [] made last done left split count sound fits e w pool =
       let none : [] ≡ left = ok_is LinkFault [] left e in
       subst (IsRest made last) none (subst (λ (x : Members). IsRest made x []) (ok_is SpliceFault made last w) (none_left made))
-  members_rest (member ∷ members) made last done left split count sound fits e w pool =
+  members_rest p (member ∷ members) made last done left split count sound fits e w pool =
       let a = first_linked (method_linked files listing class.file) made.number member members left e in
       let m = a.0 in
       let rest = a.1 in
@@ -84,10 +78,10 @@ module _ (policy : Policy) (class : LinkedClass) (files : List ClassFile) (listi
       let next = one.0 in
       let woven : body_woven policy class.name made member (Some m) (first_code member.attrs) ≡ Ok next =
       ap (λ (o : Option Method). body_woven policy class.name made member o (first_code member.attrs)) (sym here) ∙ one.1 in
-      let step = one_step policy class.file files listing new others after class.name made next member m fits.0 sound'.0 a.2 woven in
+      let step = one_step policy class.file files listing new others after class.name made next member m p fits.0 sound'.0 a.2 woven in
       let linked' : linked_from (method_linked files listing class.file) next.number members ≡ Ok rest = ap (λ (n : ℕ). linked_from (method_linked files listing class.file) n members) step.number ∙ a.3 in
       let count' : length (done ++ m ∷ []) ≡ next.number = length-append done (m ∷ []) ∙ ap (λ (n : ℕ). n + 1) count ∙ sym step.number in
-      let later = members_rest members next last (done ++ m ∷ []) rest (split' ∙ sym (append_assoc done (m ∷ []) rest)) count' sound'.1 fits.1 linked' one.2 pool in
+      let later = members_rest p members next last (done ++ m ∷ []) rest (split' ∙ sym (append_assoc done (m ∷ []) rest)) count' sound'.1 fits.1 linked' one.2 pool in
       let both : IsRest made last (m ∷ rest) = record {
         items = step.item ∷ later.items;
         are = later.are ∙ ap (λ (xs : List Member). xs ++ later.items) step.items ∙ append_assoc made.items (step.item ∷ []) later.items;
@@ -123,7 +117,7 @@ class_joined policy files others before after old new sound of_old of_new w =
     let this : new.file.this_class ≡ old.file.this_class = ap (λ (f : ClassFile). f.this_class) (sym w.is) in
     let super : new.file.super_class ≡ old.file.super_class = ap (λ (f : ClassFile). f.super_class) (sym w.is) in
     let items : new.file.methods ≡ made.items = ap (λ (f : ClassFile). f.methods) (sym w.is) in
-    let rest = members_rest policy old files before new.file others after old.file.methods (none_made old.file.pool) made [] old.methods refl refl sound.methods fits.methods.each
+    let rest = members_rest policy old files before new.file others after fits.pool old.file.methods (none_made old.file.pool) made [] old.methods refl refl sound.methods fits.methods.each
     of_old.methods w.all pool in
     let all : made.items ≡ rest.items = rest.are in
     let more = rest.more.0 in

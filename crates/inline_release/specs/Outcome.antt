@@ -1,10 +1,11 @@
 -- What class files that were woven link to: the classes of the program, in which each call that is denied stands in its
 -- block, and behind them conspec/State.
-use Rattle.std.specs.Prelude.{◌≡◌, ℕ, ◌+◌, if◌then◌else◌, List, [], ◌∷◌, ◌++◌, Ok, ⊤}
+use Rattle.std.specs.Prelude.{◌≡◌, ℕ, ◌+◌, if◌then◌else◌, List, [], ◌∷◌, ◌++◌, map, slice_index, Ok, ⊤}
 use Rattle.class_codec.specs.declared.tree.ClassFile.{ClassFile}
 use Rattle.class_codec.specs.declared.tree.Const.{Const}
 use Rattle.insn_codec.specs.declared.insn.Insn.{Insn}
 use Rattle.api_listing.specs.declared.types.Listing.{Listing}
+use Rattle.bytecode_model.specs.declared.program.Handler.{Handler}
 use Rattle.bytecode_model.specs.declared.program.LinkedClass.{LinkedClass}
 use Rattle.bytecode_model.specs.declared.program.Method.{Method}
 use Rattle.bytecode_model.specs.declared.program.Program.{Program}
@@ -13,7 +14,7 @@ use Rattle.bytecode_model.specs.Linking.{linked}
 use Rattle.bytecode_model.specs.Sound.{IsSound}
 use Rattle.conspec_automaton.specs.declared.policy.Policy.{Policy}
 use Rattle.offset_patch.specs.Entries.{state_name}
-use Rattle.offset_patch.specs.Splicing.{spliced, operands_needed}
+use Rattle.offset_patch.specs.Splicing.{fronts_of, spliced, operands_needed}
 use Rattle.block_template.specs.State.{state_class}
 use Rattle.inline_release.specs.declared.weaving.Woven.{Woven}
 use Rattle.inline_release.specs.Woven.{is_woven, sites_of, locals_of, woven}
@@ -36,6 +37,19 @@ stack_woven policy method = if is_woven policy method then method.max_stack + op
 abbrev pub locals_woven : Policy → Method → ℕ
 locals_woven policy method = if is_woven policy method then method.max_locals + locals_of policy method else method.max_locals
 
+-- a handler whose bounds and target are at their fronts
+abbrev pub at_fronts : List ℕ → Handler → Handler
+at_fronts fronts handler = record {
+  from = slice_index fronts handler.from;
+  to = slice_index fronts handler.to;
+  at = slice_index fronts handler.at;
+  class = handler.class;
+}
+
+abbrev pub handlers_woven : Policy → Method → List Handler
+handlers_woven policy method =
+    if is_woven policy method then map (at_fronts (fronts_of (sites_of policy method.max_locals method))) method.handlers else method.handlers
+
 -- What a method was, and what it is.
 pub record IsWovenMethod (policy : Policy) (pool : List Const) (old new : Method) : Type 0 where
   pub flags : new.flags ≡ old.flags
@@ -44,6 +58,7 @@ pub record IsWovenMethod (policy : Policy) (pool : List Const) (old new : Method
   pub max_stack : new.max_stack ≡ stack_woven policy old
   pub max_locals : new.max_locals ≡ locals_woven policy old
   pub insns : new.insns ≡ insns_woven policy pool old
+  pub handlers : new.handlers ≡ handlers_woven policy old
 
 -- The blocks name constants of the new file.
 pub record IsWovenClass (policy : Policy) (old new : LinkedClass) : Type 0 where
