@@ -1,6 +1,6 @@
 -- A code with blocks is read as the instructions that were put together.
-use Rattle.std.proofs.Common.{◌≡◌, ℕ, ℤ, ◌+◌, ◌<◌, ◌≤◌, ◌^◌, Bool, true, false, List, [], ◌∷◌, length, Option, Result, Ok, Err, refl, sym, ap, subst, ◌∙◌, FitsSigned, arith}
-use Rattle.std.specs.Prelude.{slice_index, nat_le}
+use Rattle.std.proofs.Common.{◌≡◌, ℕ, ℤ, ◌+◌, ◌≤◌, Bool, true, false, List, [], ◌∷◌, length, Option, Result, Ok, Err, refl, sym, ap, subst, ◌∙◌, FitsSigned, arith}
+use Rattle.std.specs.Prelude.{nat_le}
 use Rattle.std.specs.Int.{w16, w32}
 use Rattle.std.specs.List.{AllByRecursion}
 use Rattle.std.proofs.lemmas.Int.{ints}
@@ -13,7 +13,7 @@ use Rattle.insn_codec.specs.declared.fault.CodeOverflow.{CodeOverflow}
 use Rattle.insn_codec.specs.declared.fault.CodeOverflow.TheVariants as overflows
 use Rattle.insn_codec.specs.declared.insn.Insn.{Insn}
 use Rattle.insn_codec.specs.declared.insn.Insn.TheVariants.{Plain, Byte, Short, Ldc, Pool, Iface, Local, Inc, Branch, GotoW, NewArray, Table, Lookup}
-use Rattle.insn_codec.specs.Fits.{IsInsn, AimsWithin, Ends, Reaches, ReachFrom, CanSpell, SpellsCode}
+use Rattle.insn_codec.specs.Fits.{IsInsn, AimsWithin, Ends, Reaches, ReachFrom}
 use Rattle.insn_codec.specs.Reading.{code_of}
 use Rattle.insn_codec.specs.Spelling.{size, offset, starts_of, len_from, spelling}
 use Rattle.insn_codec.specs.Writing.{held_by_2, held_by_4, near, far, all_far, reach, reach_from, written}
@@ -28,9 +28,9 @@ use Rattle.offset_patch.specs.Fault.{fitted, code_fitted}
 use Rattle.offset_patch.specs.Splicing.{grown, fronts_of, origins_of, room, spliced, code_with, code_spliced, table_moved}
 use Rattle.offset_patch.proofs.CodeFits.{room_is, pool_short}
 use Rattle.offset_patch.proofs.InsnFits.{wants_there, parts_fit}
-use Rattle.block_template.specs.Blocks.{has_block, site}
+use Rattle.block_template.specs.Blocks.{site}
 use Rattle.inline_release.specs.declared.code.WovenCode.{WovenCode}
-use Rattle.inline_release.specs.Woven.{is_woven, sites_of, locals_of, clients_from, blocks_put, code_woven}
+use Rattle.inline_release.specs.Woven.{sites_of, locals_of, blocks_put}
 use Rattle.inline_release.proofs.Aims.{sites_part, spliced_aims, spliced_ends}
 use Rattle.inline_release.proofs.Spells.{refs_fit}
 

@@ -1,6 +1,6 @@
 -- Code with blocks aims within itself, and control does not leave it.
 use Rattle.std.proofs.Common.{◌≡◌, ℕ, zero, suc, ◌+◌, ◌<◌, ◌≤◌, Bool, true, false, List, [], ◌∷◌, ◌++◌, length, map, Option, Some, None, refl, sym, ap, subst, ◌∙◌, append_assoc, append-nil, arith}
-use Rattle.std.specs.Prelude.{slice_index, nat_lt, nat_le, if◌then◌else◌, ⊤, find, option_map}
+use Rattle.std.specs.Prelude.{slice_index, nat_lt, nat_le, if◌then◌else◌, ⊤, option_map}
 use Rattle.std.specs.List.{AllByRecursion}
 use Rattle.std.proofs.lemmas.List.{length-append, length-map}
 use Rattle.class_codec.specs.declared.tree.Const.{Const}

@@ -1,11 +1,9 @@
 -- What becomes of a method: its member before and after weaving, and what each links to.
-use Rattle.std.proofs.Common.{◌≡◌, ℕ, zero, suc, ◌+◌, Bool, true, false, List, [], ◌∷◌, ◌++◌, length, map, Option, Some, None, Result, Ok, Err, refl, sym, ap, subst, ◌∙◌, append_assoc, append-nil, arith}
+use Rattle.std.proofs.Common.{◌≡◌, ℕ, ◌+◌, Bool, true, false, List, [], ◌∷◌, ◌++◌, length, map, Option, Some, None, Result, Ok, Err, refl, sym, ap, subst, ◌∙◌, append-nil}
 use Rattle.std.specs.Prelude.{slice_get, if◌then◌else◌, not}
 use Rattle.std.specs.List.{AllByRecursion, filter_map}
-use Rattle.std.specs.Option.{option_map_or}
 use Rattle.mon_base.specs.Reading.{◌>>=◌, need}
 use Rattle.mon_base.proofs.Reading.{bind_ok, ok_is, need_ok}
-use Rattle.class_codec.specs.declared.pool.Kind.TheVariants as kinds
 use Rattle.class_codec.specs.declared.tree.Attr.{Attr}
 use Rattle.class_codec.specs.declared.tree.Attr.TheVariants as attributes
 use Rattle.class_codec.specs.declared.tree.ClassFile.{ClassFile}
@@ -13,9 +11,7 @@ use Rattle.class_codec.specs.declared.tree.Code.{Code}
 use Rattle.class_codec.specs.declared.tree.Const.{Const}
 use Rattle.class_codec.specs.declared.tree.Member.{Member}
 use Rattle.class_codec.specs.Fits.{FitsMember}
-use Rattle.class_codec.specs.Pool.{utf8_at}
 use Rattle.insn_codec.specs.declared.fault.CodeFault.{CodeFault}
-use Rattle.insn_codec.specs.declared.fault.CodeFault.TheVariants as codes
 use Rattle.insn_codec.specs.declared.insn.Insn.{Insn}
 use Rattle.insn_codec.specs.Reading.{code_of}
 use Rattle.insn_codec.specs.Spelling.{starts_of}
@@ -29,7 +25,7 @@ use Rattle.bytecode_model.specs.Conditions.{codes_of, code_in, is_allowed, overr
 use Rattle.bytecode_model.specs.Heads.{head_of, all_classes, name_of, desc_of}
 use Rattle.bytecode_model.specs.Operands.{operands_linked}
 use Rattle.bytecode_model.specs.Handlers.{handlers_linked}
-use Rattle.bytecode_model.specs.Linking.{bare, with_code, code_told, read_of, code_linked, body_linked, method_linked}
+use Rattle.bytecode_model.specs.Linking.{bare, with_code, read_of, code_linked, body_linked, method_linked}
 use Rattle.bytecode_model.specs.Sound.{IsSoundMethod}
 use Rattle.conspec_automaton.specs.declared.policy.Policy.{Policy}
 use Rattle.offset_patch.specs.declared.block.Block.{Block}
@@ -46,7 +42,7 @@ use Rattle.inline_release.specs.declared.code.WovenCode.{WovenCode}
 use Rattle.inline_release.specs.declared.members.Members.{Members}
 use Rattle.inline_release.specs.Woven.{is_woven, sites_of, locals_of, clients_from, blocks_put, code_woven, first_code, attr_with, member_with, bare_put, code_put, body_woven}
 use Rattle.inline_release.specs.Outcome.{insns_woven, stack_woven, locals_woven, IsWovenMethod}
-use Rattle.inline_release.proofs.Again.{IsRead, put_reads}
+use Rattle.inline_release.proofs.Again.{put_reads}
 use Rattle.inline_release.proofs.Texts.{text_on}
 use Rattle.std.proofs.lemmas.List.{length-map}
 use Rattle.class_codec.specs.declared.tree.TableEntry.{TableEntry}
@@ -202,10 +198,10 @@ module _ (policy : Policy) (file : ClassFile) (files : List ClassFile) (listing 
           let more = wants_grow (wants_of sites) pool in
           let same : sites_of policy code.max_locals m ≡ sites_of policy m.max_locals m = ap (λ (n : ℕ). sites_of policy n m) (sym old.max_locals) in
           let spliced_is : (ys : List Const) → spliced w.entries m.insns sites ≡ insns_woven policy (w.entries ++ ys) m = λ ys.
-              let one : spliced w.entries m.insns sites ≡ spliced (w.entries ++ ys) m.insns sites = subst (λ (p : List Const). spliced p m.insns sites ≡ spliced (p ++ ys) m.insns sites) (sym h.entries) (spliced_on pool ys m.insns sites) in
-              let two : spliced w.entries m.insns sites ≡ spliced (w.entries ++ ys) m.insns (sites_of policy m.max_locals m) = one ∙ ap (spliced (w.entries ++ ys) m.insns) same in
-              let three : insns_woven policy (w.entries ++ ys) m ≡ spliced (w.entries ++ ys) m.insns (sites_of policy m.max_locals m) = ap (λ (b : Bool). if b then spliced (w.entries ++ ys) m.insns (sites_of policy m.max_locals m) else m.insns) some in
-              two ∙ sym three in
+          let one : spliced w.entries m.insns sites ≡ spliced (w.entries ++ ys) m.insns sites = subst (λ (p : List Const). spliced p m.insns sites ≡ spliced (p ++ ys) m.insns sites) (sym h.entries) (spliced_on pool ys m.insns sites) in
+          let two : spliced w.entries m.insns sites ≡ spliced (w.entries ++ ys) m.insns (sites_of policy m.max_locals m) = one ∙ ap (spliced (w.entries ++ ys) m.insns) same in
+          let three : insns_woven policy (w.entries ++ ys) m ≡ spliced (w.entries ++ ys) m.insns (sites_of policy m.max_locals m) = ap (λ (b : Bool). if b then spliced (w.entries ++ ys) m.insns (sites_of policy m.max_locals m) else m.insns) some in
+          two ∙ sym three in
           let count : length sites ≡ length m.insns = length-map m.refs (site policy code.max_locals) ∙ sound.refs in
           record {
             more = (more.0, h.entries ∙ more.1);

@@ -1,5 +1,5 @@
 -- The exception table of a code with blocks links to the handlers at their fronts.
-use Rattle.std.proofs.Common.{◌≡◌, ℕ, zero, suc, ◌+◌, ◌<◌, ◌≤◌, Bool, true, false, List, [], ◌∷◌, ◌++◌, length, map, Option, Some, None, Result, Ok, Err, refl, sym, ap, subst, ◌∙◌, arith}
+use Rattle.std.proofs.Common.{◌≡◌, ℕ, zero, suc, ◌+◌, ◌<◌, ◌≤◌, Bool, true, false, List, [], ◌∷◌, ◌++◌, length, map, Option, Some, None, Ok, refl, sym, ap, subst, ◌∙◌, arith}
 use Rattle.std.specs.Prelude.{slice_index, nat_lt, ◌==◌, ◌||◌, if◌then◌else◌, option_and_then, ok_or}
 use Rattle.std.specs.List.{AllByRecursion, position_from}
 use Rattle.std.proofs.lemmas.Bool.Decides.{nat_tests}
@@ -17,16 +17,14 @@ use Rattle.insn_codec.proofs.Standing.{size-some}
 use Rattle.api_listing.specs.declared.types.Listing.{Listing}
 use Rattle.bytecode_model.specs.declared.fault.LinkFault.{LinkFault}
 use Rattle.bytecode_model.specs.declared.fault.LinkFault.TheVariants as faults
-use Rattle.bytecode_model.specs.declared.operand.OperandFault.{OperandFault}
 use Rattle.bytecode_model.specs.declared.program.Handler.{Handler}
 use Rattle.bytecode_model.specs.declared.program.Target.{Target}
 use Rattle.bytecode_model.specs.Fault.{Linked, linked_from}
-use Rattle.bytecode_model.specs.Handlers.{index_at, insn_at, caught, handler_linked, handlers_linked}
+use Rattle.bytecode_model.specs.Handlers.{index_at, insn_at, caught, handler_linked}
 use Rattle.bytecode_model.specs.Heads.{class_at}
 use Rattle.bytecode_model.specs.Operands.{class_linked, known_in, told_at}
 use Rattle.bytecode_model.specs.Sound.{IsWithin}
-use Rattle.offset_patch.specs.declared.block.Block.{Block}
-use Rattle.offset_patch.specs.Splicing.{part_of, fronts_from, moved, table_moved}
+use Rattle.offset_patch.specs.Splicing.{table_moved}
 use Rattle.inline_release.specs.Outcome.{Each, at_fronts}
 use Rattle.inline_release.proofs.Texts.{class_on}
 
@@ -154,7 +152,7 @@ module _ (pool new zs : List Const) (p : FitsPool pool) (longer : new ≡ pool +
   handlers_kept starts (entry ∷ entries) (h ∷ hs) [] fits a b = absurd b
   handlers_kept starts (entry ∷ entries) (h ∷ hs) (o ∷ others) fits a b =
       let first : o ≡ h = same_handler o h (some_same (index_at starts entry.from) o.from h.from b.0.from a.0.from) (some_same (index_at starts entry.to) o.to h.to b.0.to a.0.to)
-          (some_same (index_at starts entry.at) o.at h.at b.0.at a.0.at) (b.0.class ∙ class_same pool new zs entry p fits.0 longer ∙ sym a.0.class) in
+      (some_same (index_at starts entry.at) o.at h.at b.0.at a.0.at) (b.0.class ∙ class_same pool new zs entry p fits.0 longer ∙ sym a.0.class) in
       let rest = handlers_kept starts entries hs others fits.1 a.1 b.1 in
       rw (first, rest) refl
 
@@ -169,9 +167,9 @@ module _ (pool new zs : List Const) (p : FitsPool pool) (longer : new ≡ pool +
   handlers_moved starts fronts count xs few (entry ∷ entries) (h ∷ hs) [] within fits a b = absurd b
   handlers_moved starts fronts count xs few (entry ∷ entries) (h ∷ hs) (o ∷ others) within fits a b =
       let there : (i j : ℕ) → i ≤ count → index_at (starts_of xs) (slice_index (starts_of xs) (slice_index fronts i)) ≡ Some j → j ≡ slice_index fronts i = λ i j h e.
-          let back = index_back xs 0 0 (slice_index fronts i) (few i h) in
-          some_same (index_at (starts_of xs) (slice_index (starts_of xs) (slice_index fronts i))) j (0 + slice_index fronts i) e back ∙ omega arith in
+      let back = index_back xs 0 0 (slice_index fronts i) (few i h) in
+      some_same (index_at (starts_of xs) (slice_index (starts_of xs) (slice_index fronts i))) j (0 + slice_index fronts i) e back ∙ omega arith in
       let first : o ≡ at_fronts fronts h = same_handler o (at_fronts fronts h) (there h.from o.from (omega (arith, within.0.from)) b.0.from) (there h.to o.to within.0.to b.0.to)
-          (there h.at o.at (omega (arith, within.0.at)) b.0.at) (b.0.class ∙ class_same pool new zs entry p fits.0 longer ∙ sym a.0.class) in
+      (there h.at o.at (omega (arith, within.0.at)) b.0.at) (b.0.class ∙ class_same pool new zs entry p fits.0 longer ∙ sym a.0.class) in
       let rest = handlers_moved starts fronts count xs few entries hs others within.1 fits.1 a.1 b.1 in
       rw (first, rest) refl

@@ -1,7 +1,6 @@
 -- What indices name stays as the pool grows.
-use Rattle.std.proofs.Common.{◌≡◌, ℕ, true, List, [], ◌∷◌, ◌++◌, Option, Some, None, refl, sym, ap, ◌∙◌}
+use Rattle.std.proofs.Common.{◌≡◌, ℕ, true, List, ◌++◌, Option, Some, None, refl, sym, ap, ◌∙◌}
 use Rattle.std.specs.Prelude.{slice_get}
-use Rattle.std.specs.List.{AllByRecursion}
 use Rattle.bytecode_model.specs.Heads.{text_at, class_at}
 use Rattle.bytecode_model.proofs.Lists.{all_get}
 use Rattle.class_codec.specs.declared.pool.Kind.{Kind}

@@ -1,14 +1,14 @@
 -- What files that were woven link to.
-use Rattle.std.proofs.Common.{◌≡◌, ℕ, zero, suc, ◌+◌, Bool, true, false, List, [], ◌∷◌, ◌++◌, length, map, Option, Some, None, Result, Ok, Err, refl, sym, ap, subst, ◌∙◌, append_assoc, append-nil, arith}
+use Rattle.std.proofs.Common.{◌≡◌, ℕ, ◌+◌, true, List, [], ◌∷◌, ◌++◌, length, map, Option, Some, Ok, refl, sym, ap, subst, ◌∙◌, append_assoc, append-nil}
 use Rattle.std.specs.Prelude.{slice_get, not, nat_lt, ok_or}
 use Rattle.std.specs.List.{AllByRecursion}
 use Rattle.std.proofs.lemmas.List.{length-append}
-use Rattle.mon_base.specs.Reading.{◌>>=◌, need}
+use Rattle.mon_base.specs.Reading.{◌>>=◌}
 use Rattle.mon_base.proofs.Reading.{bind_ok, ok_is, need_ok}
 use Rattle.class_codec.specs.declared.tree.ClassFile.{ClassFile}
 use Rattle.class_codec.specs.declared.tree.Const.{Const}
 use Rattle.class_codec.specs.declared.tree.Member.{Member}
-use Rattle.class_codec.specs.Fits.{CanSpell, FitsMember}
+use Rattle.class_codec.specs.Fits.{FitsMember}
 use Rattle.class_codec.specs.Pool.{utf8_at, class_name_at}
 use Rattle.api_listing.specs.declared.types.Listing.{Listing}
 use Rattle.bytecode_model.specs.declared.fault.LinkFault.{LinkFault}
@@ -19,20 +19,19 @@ use Rattle.bytecode_model.specs.declared.program.Program.{Program}
 use Rattle.bytecode_model.specs.declared.program.Side.{Side}
 use Rattle.bytecode_model.specs.Conditions.{classes_linked}
 use Rattle.bytecode_model.specs.Fault.{Linked, linked_from}
-use Rattle.bytecode_model.specs.Heads.{class_at, head_of, heads_of}
+use Rattle.bytecode_model.specs.Heads.{class_at, heads_of}
 use Rattle.bytecode_model.specs.Operands.{literals_of}
-use Rattle.bytecode_model.specs.Linking.{method_linked, methods_linked, class_with, each_linked, classes_with, members_of, main_of, max_files, linked}
-use Rattle.bytecode_model.specs.Sound.{IsSoundMethod, IsSoundClass, IsSound}
+use Rattle.bytecode_model.specs.Linking.{method_linked, methods_linked, each_linked, classes_with, members_of, main_of, max_files, linked}
+use Rattle.bytecode_model.specs.Sound.{IsSoundMethod, IsSoundClass}
 use Rattle.conspec_automaton.specs.declared.policy.Policy.{Policy}
 use Rattle.offset_patch.specs.declared.fault.SpliceFault.{SpliceFault}
-use Rattle.offset_patch.specs.Fault.{Spliced}
 use Rattle.offset_patch.specs.Entries.{state_name}
 use Rattle.block_template.specs.State.{state_class}
 use Rattle.inline_release.specs.declared.members.Members.{Members}
 use Rattle.inline_release.specs.declared.weaving.Woven.{Woven}
 use Rattle.inline_release.specs.Woven.{folded, first_code, body_woven, member_woven, members_woven, none_made, file_with, file_put, class_woven, classes_woven, state_put, woven}
-use Rattle.inline_release.specs.Outcome.{Each, IsWovenMethod, IsWovenClass, IsState, IsWoven, WovenLinksSo}
-use Rattle.inline_release.proofs.Steps.{IsStep, one_step}
+use Rattle.inline_release.specs.Outcome.{Each, IsWovenMethod, IsWovenClass, IsState, WovenLinksSo}
+use Rattle.inline_release.proofs.Steps.{one_step}
 use Rattle.inline_release.proofs.Texts.{class_on}
 use Rattle.inline_release.proofs.Tables.{first_linked}
 use Rattle.class_codec.specs.Fits.{FitsPool}

@@ -31,13 +31,14 @@ abbrev pub insns_woven : Policy → List Const → Method → List Insn
 insns_woven policy pool method =
     if is_woven policy method then spliced pool method.insns (sites_of policy method.max_locals method) else method.insns
 
+-- a method with a block needs this many operands and local variables
 abbrev pub stack_woven : Policy → Method → ℕ
 stack_woven policy method = if is_woven policy method then method.max_stack + operands_needed else method.max_stack
 
 abbrev pub locals_woven : Policy → Method → ℕ
 locals_woven policy method = if is_woven policy method then method.max_locals + locals_of policy method else method.max_locals
 
--- a handler whose bounds and target are at their fronts
+-- the handler with its bounds and its target at their fronts
 abbrev pub at_fronts : List ℕ → Handler → Handler
 at_fronts fronts handler = record {
   from = slice_index fronts handler.from;
