@@ -1,1 +1,7 @@
 pub mod Spells
+pub mod Aims
+pub mod Again
+pub mod Texts
+pub mod Tables
+pub mod Steps
+pub mod Whole

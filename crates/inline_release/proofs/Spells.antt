@@ -1,6 +1,6 @@
 -- The files of a program that was woven can be spelled.
-use Rattle.std.proofs.Common.{◌≡◌, ℕ, zero, suc, ◌+◌, ◌<◌, ◌≤◌, ◌^◌, Bool, true, false, List, [], ◌∷◌, ◌++◌, length, map, Option, Some, None, Result, Ok, Err, refl, sym, ap, subst, ◌∙◌, append_assoc, append-nil, arith}
-use Rattle.std.specs.Prelude.{max, slice_get, if◌then◌else◌, IfOk}
+use Rattle.std.proofs.Common.{◌≡◌, ℕ, zero, suc, ◌+◌, ◌<◌, ◌≤◌, ◌^◌, Bool, true, false, List, [], ◌∷◌, ◌++◌, length, map, Option, Some, None, Ok, Err, refl, sym, ap, subst, ◌∙◌, append_assoc, append-nil, arith}
+use Rattle.std.specs.Prelude.{slice_get, if◌then◌else◌, IfOk}
 use Rattle.std.specs.List.{AllByRecursion, list_any}
 use Rattle.std.proofs.lemmas.List.{length-append, length-map}
 use Rattle.mon_base.specs.Reading.{◌>>=◌}
@@ -13,7 +13,6 @@ use Rattle.class_codec.specs.declared.tree.Const.{Const}
 use Rattle.class_codec.specs.declared.tree.Member.{Member}
 use Rattle.class_codec.specs.declared.pool.Kind.TheVariants as kinds
 use Rattle.class_codec.specs.Fits.{FitsPool, FitsCode, FitsAttr, FitsMember, FitCounted, IsIndex, CanSpell, is_read_as_code}
-use Rattle.insn_codec.specs.Fits.{IsInsn}
 use Rattle.bytecode_model.specs.declared.program.LinkedClass.{LinkedClass}
 use Rattle.bytecode_model.specs.declared.program.Method.{Method}
 use Rattle.bytecode_model.specs.declared.program.Program.{Program}
@@ -21,17 +20,16 @@ use Rattle.bytecode_model.specs.declared.program.Target.{Target}
 use Rattle.bytecode_model.specs.Sound.{IsSoundMethod, IsSoundClass, IsSound}
 use Rattle.conspec_automaton.specs.declared.policy.Policy.{Policy}
 use Rattle.conspec_automaton.specs.Denying.{DeniesOnly}
-use Rattle.offset_patch.specs.declared.block.Block.{Block}
 use Rattle.offset_patch.specs.declared.fault.SpliceFault.{SpliceFault}
 use Rattle.offset_patch.specs.Fault.{Spliced, Tells}
 use Rattle.offset_patch.specs.Fits.{IsSite}
-use Rattle.offset_patch.specs.Splicing.{grown, wants_of, fronts_of, origins_of, room, code_spliced, spliced}
+use Rattle.offset_patch.specs.Splicing.{grown, wants_of, fronts_of, origins_of, room, code_spliced}
 use Rattle.offset_patch.proofs.Lists.{all_append}
-use Rattle.offset_patch.proofs.PoolFits.{code_on, member_on, attrs_on, index_on, counted_on, each_on, read_on, attr_on}
+use Rattle.offset_patch.proofs.PoolFits.{code_on, member_on, attrs_on, index_on, counted_on, each_on, read_on}
 use Rattle.offset_patch.proofs.EntryFits.{wants_grow, wants_fit}
 use Rattle.offset_patch.proofs.InsnFits.{wants_there, parts_fit, parts_some}
 use Rattle.offset_patch.proofs.CodeFits.{room_is, code_fits, code_named, pool_short}
-use Rattle.block_template.specs.Blocks.{has_block, site, site_locals}
+use Rattle.block_template.specs.Blocks.{has_block, site}
 use Rattle.block_template.specs.State.{state_class}
 use Rattle.block_template.proofs.BlockFits.{site_fits}
 use Rattle.block_template.proofs.StateFits.{state_fits}
@@ -42,7 +40,7 @@ use Rattle.inline_release.specs.Woven.{folded, is_woven, sites_of, most_locals, 
 
 -- ---- the code of a method
 
-refs_fit : (policy : Policy) (base : ℕ) (refs : List Target) → base + most_locals policy refs < 2 ^ 16 → AllByRecursion IsSite (map (site policy base) refs)
+pub refs_fit : (policy : Policy) (base : ℕ) (refs : List Target) → base + most_locals policy refs < 2 ^ 16 → AllByRecursion IsSite (map (site policy base) refs)
 refs_fit policy base [] few = tt
 refs_fit policy base (ref ∷ refs) few = (site_fits policy base ref (omega arith), refs_fit policy base refs (omega arith))
 
@@ -99,7 +97,7 @@ woven_fits policy class number pool method code w p h sound = by (is_woven polic
 
 -- ---- members
 
-first_fits : (pool : List Const) (attrs : List Attr) (code : Code) → AllByRecursion (FitsAttr pool true) attrs → first_code attrs ≡ Some code → FitsAttr pool true (attributes.Code code)
+pub first_fits : (pool : List Const) (attrs : List Attr) (code : Code) → AllByRecursion (FitsAttr pool true) attrs → first_code attrs ≡ Some code → FitsAttr pool true (attributes.Code code)
 first_fits pool [] code h e = absurd cc
 first_fits pool (attributes.Code c ∷ attrs) code h e =
     let is : c ≡ code = cc in
