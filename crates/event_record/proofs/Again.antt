@@ -97,7 +97,7 @@ no_sign : (text : List ℕ) → AllDigits 10 text → AllByRecursion (λ b. (b =
 no_sign [] all = tt
 no_sign (c ∷ text) all = (not_at c all.0, no_sign text all.1)
 
-front_of : (class rest : List ℕ) → take (length class) (class ++ rest) ≡ class
+pub front_of : (class rest : List ℕ) → take (length class) (class ++ rest) ≡ class
 front_of [] rest = refl
 front_of (b ∷ class) rest = ap (λ (t : List ℕ). b ∷ t) (front_of class rest)
 
@@ -105,7 +105,7 @@ behind_suc : (class rest : List ℕ) → drop (suc (length class)) (class ++ 64 
 behind_suc [] rest = refl
 behind_suc (b ∷ class) rest = behind_suc class rest
 
-behind_of : (class rest : List ℕ) → drop (length class + 1) (class ++ 64 ∷ rest) ≡ rest
+pub behind_of : (class rest : List ℕ) → drop (length class + 1) (class ++ 64 ∷ rest) ≡ rest
 behind_of class rest = rw add-one (behind_suc class rest)
 
 some_of : (class : List ℕ) → class ≢ [] → nat_lt 0 (length class) ≡ true

@@ -3,3 +3,5 @@ pub mod Numbers
 pub mod Hex
 pub mod Again
 pub mod EventsAgain
+pub mod Found
+pub mod LineLaws
