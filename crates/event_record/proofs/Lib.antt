@@ -5,3 +5,4 @@ pub mod Again
 pub mod EventsAgain
 pub mod Found
 pub mod LineLaws
+pub mod TextLaws
