@@ -6,3 +6,4 @@ pub mod EventsAgain
 pub mod Found
 pub mod LineLaws
 pub mod TextLaws
+pub mod Indices

@@ -1,5 +1,5 @@
 -- Which record a text spells: its lines, as people read them.
-use Rattle.std.specs.Prelude.{◌≡◌, ℕ, ℤ, ◌<◌, ◌≤◌, ◌^◌, FitsSigned, List, [], ◌∷◌, ◌++◌, length, replicate, decimal, codes, IsTrue}
+use Rattle.std.specs.Prelude.{◌≡◌, ◌≢◌, ℕ, ℤ, ◌<◌, ◌≤◌, ◌^◌, FitsSigned, List, [], ◌∷◌, ◌++◌, length, replicate, decimal, codes, slice_get, Some, IsTrue}
 use Rattle.std.specs.Fmt.{signed_decimal}
 use Rattle.std.specs.Int.{w32, w64}
 use Rattle.std.specs.List.{AllByRecursion, flat_map}
@@ -8,6 +8,7 @@ use Rattle.api_listing.specs.Words.{pieces}
 use Rattle.api_listing.specs.declared.events.ApiAnswer.{ApiAnswer}
 use Rattle.api_listing.specs.declared.events.ApiAnswer.TheVariants as answers
 use Rattle.api_listing.specs.declared.events.Event.{Event}
+use Rattle.api_listing.specs.declared.types.ListedMethod.{ListedMethod}
 use Rattle.api_listing.specs.declared.types.Listing.{Listing}
 use Rattle.guest_model.specs.declared.machine.Step.{Step}
 use Rattle.event_record.specs.declared.entry.Entry.{Entry}
@@ -107,6 +108,13 @@ SpellsEntry library words (Go thread count) = SpellsGo words thread count
 SpellsEntry library words (Answer thread answer) = SpellsAnswer library words thread answer
 SpellsEntry library words (Seen event) = SpellsEvent library words event
 SpellsEntry library words End = SpellsEnd words
+
+-- At the index stands the method with this class, name and descriptor, the first of those in the listing.
+pub record IsFirst (methods : List ListedMethod) (id : MethodId) (index : ℕ) : Type 0 where
+  pub method : ListedMethod
+  pub there : slice_get methods index ≡ Some method
+  pub named : method.id ≡ id
+  pub first : (j : ℕ) (m : ListedMethod) → j < index → slice_get methods j ≡ Some m → m.id ≢ id
 
 -- ---- the text of a record
 
