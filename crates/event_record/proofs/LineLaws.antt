@@ -1,6 +1,6 @@
 -- What is read of a line is spelled so, and what is spelled so is read.
-use Rattle.std.proofs.Common.{◌≡◌, ◌≢◌, ℕ, ◌<◌, ◌≤◌, ◌^◌, ℤ, pos, negsuc, Bool, true, false, cond, List, [], ◌∷◌, ◌++◌, length, drop, map, Option, Some, None, Ok, Err, refl, sym, ap, ◌∙◌, subst, arith, FitsSigned, IsTrue, append_assoc}
-use Rattle.std.specs.Prelude.{◌&&◌, ◌||◌, ◌==◌, nat_lt, bytes_eq, codes, decimal, ok_or}
+use Rattle.std.proofs.Common.{◌≡◌, ℕ, ◌<◌, ◌^◌, ℤ, pos, negsuc, Bool, true, false, cond, List, [], ◌∷◌, ◌++◌, length, map, Option, Some, None, Ok, Err, refl, sym, ap, ◌∙◌, subst, arith, FitsSigned, append_assoc}
+use Rattle.std.specs.Prelude.{◌&&◌, ◌||◌, ◌==◌, nat_lt, codes, decimal, ok_or}
 use Rattle.std.specs.Fmt.{signed_decimal}
 use Rattle.std.specs.Int.{w32, w64}
 use Rattle.std.specs.List.{AllByRecursion}
@@ -14,7 +14,6 @@ use Rattle.api_listing.specs.Fault.{Read}
 use Rattle.api_listing.specs.declared.events.ApiAnswer.{ApiAnswer}
 use Rattle.api_listing.specs.declared.events.ApiAnswer.TheVariants as answers
 use Rattle.api_listing.specs.declared.events.ApiValue.{ApiValue}
-use Rattle.api_listing.specs.declared.events.Event.{Event}
 use Rattle.api_listing.specs.declared.events.Event.TheVariants.{Call, Return, Except}
 use Rattle.api_listing.specs.declared.fault.FormFault.TheVariants.{NoForm}
 use Rattle.event_record.specs.declared.entry.Entry.{Entry}
@@ -22,8 +21,8 @@ use Rattle.event_record.specs.declared.entry.Entry.TheVariants.{Go, Answer, Seen
 use Rattle.event_record.specs.Entry.{answer_line, answer_of, answer_with, arg_answer, bare_answer, call_event, end_line, ends, entry_of, event_line, event_of, except_event, fresh_answer, gives_nothing, go_line, id_of, index_at, int_answer, is, is_count, is_end, is_int, line_of, method_event, result_of, return_event, text_answer, throws_answer, values_from}
 use Rattle.event_record.specs.Library.{Library}
 use Rattle.event_record.specs.Number.{as_count, index_of, int_of, number_of}
-use Rattle.event_record.specs.Printing.{IsEventOf, IsGiven, IsValue, event_words, result_words}
-use Rattle.event_record.specs.Spelling.{Ending, Finished, Deadlock, Stopped, Budget, Device, Running, IsAnswer, IsStopValue, SpellsAnswer, SpellsEnd, SpellsEntry, SpellsEvent, SpellsGo, answer_words, ending_words, steps_told}
+use Rattle.event_record.specs.Printing.{IsGiven, IsValue, result_words}
+use Rattle.event_record.specs.Spelling.{Ending, Finished, Deadlock, Stopped, Budget, Device, Running, IsAnswer, IsStopValue, SpellsEnd, SpellsEntry, SpellsEvent, answer_words, ending_words, steps_told}
 use Rattle.event_record.specs.Value.{hex_at, value_at, value_word}
 use Rattle.event_record.proofs.Again.{hex_again, index_again, int_again}
 use Rattle.event_record.proofs.EventsAgain.{words_again}

@@ -1,5 +1,5 @@
 -- What is read of a text is spelled so, and what is spelled so is read.
-use Rattle.std.proofs.Common.{◌≡◌, ℕ, ◌+◌, ◌≤◌, Bool, true, false, cond, List, [], ◌∷◌, ◌++◌, length, replicate, Result, Ok, Err, refl, sym, ap, ap₂, ◌∙◌, subst, arith, append_assoc, length-append}
+use Rattle.std.proofs.Common.{◌≡◌, ℕ, ◌+◌, ◌≤◌, true, false, cond, List, [], ◌∷◌, ◌++◌, length, replicate, Result, Ok, Err, refl, sym, ap, ap₂, ◌∙◌, subst, arith, append_assoc, length-append}
 use Rattle.std.specs.Prelude.{nat_lt, IfOk, MatchResult}
 use Rattle.std.specs.List.{flat_map}
 use Rattle.std.proofs.lemmas.Bool.{and_parts, le-ltb, ltb-false, false≢true}
@@ -19,7 +19,7 @@ use Rattle.event_record.specs.declared.reading.Told.{Told}
 use Rattle.event_record.specs.Entry.{entry_of}
 use Rattle.event_record.specs.Fault.{Answers, Refuses}
 use Rattle.event_record.specs.Library.{Library, library_of}
-use Rattle.event_record.specs.Record.{after_line, after_lines, answered, empty_record, ended, goes_on, is_none, is_over, more_steps, over, plain, reading, with_entry, with_event, with_read, with_steps}
+use Rattle.event_record.specs.Record.{after_line, after_lines, answered, empty_record, ended, goes_on, is_none, is_over, more_steps, over, plain, reading, with_entry, with_read, with_steps}
 use Rattle.event_record.specs.Spelling.{AreEntries, GoesOn, SpellsEnd, SpellsEntry, SpellsRecord, events_of, record_of, steps_of}
 use Rattle.event_record.proofs.Found.{either, ok_is, then_ok}
 use Rattle.event_record.proofs.LineLaws.{entry_again, entry_found}
