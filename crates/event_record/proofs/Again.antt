@@ -1,20 +1,20 @@
 -- What is printed is read again: values.
-use Rattle.std.proofs.Common.{◌≡◌, ◌≢◌, ◌≤ℤ◌, ℕ, zero, suc, add-one, ◌+◌, ◌-◌, ◌*◌, ◌/◌, ◌%◌, ◌<◌, ◌≤◌, ◌^◌, ℤ, pos, negsuc, Bool, true, false, cond, List, [], ◌∷◌, ◌++◌, length, get_or, take, drop, Option, Some, None, Ok, Err, refl, sym, ap, ◌∙◌, subst, arith, FitsSigned, append_assoc}
-use Rattle.std.specs.Prelude.{◌&&◌, ◌==◌, nat_eq, nat_le, nat_lt, int_le, bytes_eq, codes, decimal, option_and_then}
+use Rattle.std.proofs.Common.{◌≡◌, ◌≢◌, ◌≤ℤ◌, ℕ, suc, add-one, ◌+◌, ◌*◌, ◌/◌, ◌%◌, ◌<◌, ◌^◌, ℤ, pos, negsuc, Bool, true, false, cond, List, [], ◌∷◌, ◌++◌, length, take, drop, Option, Some, None, Ok, refl, sym, ap, ◌∙◌, subst, arith, FitsSigned, append_assoc}
+use Rattle.std.specs.Prelude.{◌==◌, nat_lt, int_le, bytes_eq, codes, decimal, option_and_then}
 use Rattle.std.specs.Fmt.{signed_decimal}
 use Rattle.std.specs.Int.{w32, w64}
-use Rattle.std.specs.List.{AllByRecursion, flat_map, starts_with}
+use Rattle.std.specs.List.{AllByRecursion, flat_map}
 use Rattle.std.specs.Char.{digit_value}
 use Rattle.std.specs.Str.Parse.{AllDigits}
 use Rattle.std.proofs.lemmas.Bool.{lt-ltb, eqb-true}
 use Rattle.std.proofs.lemmas.Fmt.{decimal_is_IsNumeral, decimal_nonempty}
 use Rattle.std.proofs.lemmas.Int.{ints}
 use Rattle.std.proofs.lemmas.Slice.Eq.{bytes_eq-Decides}
-use Rattle.mon_base.specs.Reading.{◌>>=◌, need}
+use Rattle.mon_base.specs.Reading.{◌>>=◌}
 use Rattle.api_listing.specs.Fault.{Read}
 use Rattle.api_listing.specs.declared.events.ApiValue.{ApiValue}
 use Rattle.api_listing.specs.declared.events.ApiValue.TheVariants.{Int, Null, Text, Obj, Class}
-use Rattle.event_record.specs.Number.{as_index, as_int, index_of, int_of, number_of}
+use Rattle.event_record.specs.Number.{as_index, as_int, index_of, int_of}
 use Rattle.event_record.specs.Printing.{IsValue}
 use Rattle.event_record.specs.Value.{byte_at, bytes_from, class_value, digit_at, hex, hex_at, hex_byte, hex_digit, int_value, last_at, object_parts, object_value, text_value, value_at, value_word}
 use Rattle.event_record.proofs.Numbers.{number_again}
@@ -97,7 +97,7 @@ no_sign : (text : List ℕ) → AllDigits 10 text → AllByRecursion (λ b. (b =
 no_sign [] all = tt
 no_sign (c ∷ text) all = (not_at c all.0, no_sign text all.1)
 
-front_of : (class rest : List ℕ) → take (length class) (class ++ rest) ≡ class
+pub front_of : (class rest : List ℕ) → take (length class) (class ++ rest) ≡ class
 front_of [] rest = refl
 front_of (b ∷ class) rest = ap (λ (t : List ℕ). b ∷ t) (front_of class rest)
 
@@ -105,7 +105,7 @@ behind_suc : (class rest : List ℕ) → drop (suc (length class)) (class ++ 64 
 behind_suc [] rest = refl
 behind_suc (b ∷ class) rest = behind_suc class rest
 
-behind_of : (class rest : List ℕ) → drop (length class + 1) (class ++ 64 ∷ rest) ≡ rest
+pub behind_of : (class rest : List ℕ) → drop (length class + 1) (class ++ 64 ∷ rest) ≡ rest
 behind_of class rest = rw add-one (behind_suc class rest)
 
 some_of : (class : List ℕ) → class ≢ [] → nat_lt 0 (length class) ≡ true

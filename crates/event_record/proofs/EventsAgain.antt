@@ -1,8 +1,7 @@
 -- What is printed is read again: the lines of events.
-use Rattle.std.proofs.Common.{◌≡◌, ℕ, Bool, true, false, List, [], ◌∷◌, ◌++◌, map, Option, Some, None, Ok, refl, sym, ap, subst, ◌∙◌, append_assoc}
-use Rattle.std.specs.Prelude.{◌==◌, All, codes, decimal, slice_get}
+use Rattle.std.proofs.Common.{◌≡◌, ℕ, List, [], ◌∷◌, ◌++◌, map, Option, Some, None, Ok, refl, sym, ap, subst, ◌∙◌, append_assoc}
+use Rattle.std.specs.Prelude.{◌==◌, codes, decimal, slice_get}
 use Rattle.std.specs.List.{AllByRecursion, flat_map}
-use Rattle.std.specs.Option.{option_map_or}
 use Rattle.std.proofs.lemmas.List.Splits.{slice_split_at, slice_split_none}
 use Rattle.mon_base.specs.Reading.{◌>>=◌}
 use Rattle.mon_base.specs.declared.method.MethodId.{MethodId}
@@ -16,7 +15,7 @@ use Rattle.event_record.specs.declared.entry.Entry.TheVariants.{Seen}
 use Rattle.event_record.specs.Entry.{call_event, entry_of, event_line, event_of, except_event, line_of, method_event, result_of, return_event, values_from}
 use Rattle.event_record.specs.Library.{Library}
 use Rattle.event_record.specs.Printing.{HasNoSpace, IsEventOf, IsValue, behind, event_text, event_words, method_of, result_behind, result_words, value_behind}
-use Rattle.event_record.specs.Value.{value_at, value_word}
+use Rattle.event_record.specs.Value.{value_word}
 use Rattle.event_record.proofs.Again.{index_again, value_again}
 
 -- ---- words

@@ -1,7 +1,7 @@
 -- The names of a listing in a set and a map.
-use Rattle.std.proofs.Common.{◌≡◌, ℕ, ◌+◌, ◌-◌, ◌<◌, ◌≤◌, Bool, true, false, cond, ◌&&◌, ◌||◌, List, [], ◌∷◌, ◌++◌, length, get_or, take, drop, Option, Some, None, refl, sym, ap, subst, ◌∙◌, ap₂, arith}
+use Rattle.std.proofs.Common.{◌≡◌, ℕ, ◌+◌, ◌-◌, ◌<◌, ◌≤◌, Bool, true, false, cond, ◌&&◌, ◌||◌, List, [], ◌∷◌, length, get_or, take, drop, Option, Some, None, refl, sym, ap, subst, ◌∙◌, ap₂, arith}
 use Rattle.std.specs.Prelude.{bytes_eq}
-use Rattle.std.specs.List.{list_any, position_from}
+use Rattle.std.specs.List.{position_from}
 use Rattle.std.specs.Option.{option_or, is_some}
 use Rattle.std.specs.Ordering.{is_eq, nat_cmp, ordering_then}
 use Rattle.std.specs.declared.cmp.Ordering.{Ordering}
@@ -21,10 +21,9 @@ use Rattle.api_listing.specs.BuiltIn.{is_method}
 use Rattle.api_listing.specs.Listing.{is_known}
 use Rattle.api_listing.specs.Seen.{id_cmp}
 use Rattle.std.proofs.Math.Path.{fun_ext}
-use Rattle.api_listing.specs.Seen.{has_name}
 use Rattle.api_listing.specs.declared.types.Listing.{Listing}
 use Rattle.event_record.specs.declared.names.Names.{Names}
-use Rattle.event_record.specs.Library.{AddsFirst, AreNames, Library, index_in, index_of_one, library_in, library_of, place_of}
+use Rattle.event_record.specs.Library.{AddsFirst, AreNames, Library, library_in, library_of, place_of}
 
 -- ---- lists
 

@@ -7,7 +7,6 @@ use Rattle.api_listing.specs.Fault.{Read}
 use Rattle.api_listing.specs.declared.events.ApiAnswer.{ApiAnswer}
 use Rattle.api_listing.specs.declared.events.ApiAnswer.TheVariants as answers
 use Rattle.api_listing.specs.declared.events.ApiValue.{ApiValue}
-use Rattle.api_listing.specs.declared.events.Event.{Event}
 use Rattle.api_listing.specs.declared.events.Event.TheVariants.{Call, Return, Except}
 use Rattle.api_listing.specs.declared.fault.FormFault.TheVariants.{NoForm}
 use Rattle.event_record.specs.declared.entry.Entry.{Entry}

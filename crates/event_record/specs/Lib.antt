@@ -5,3 +5,4 @@ pub mod Value
 pub mod Entry
 pub mod Record
 pub mod Printing
+pub mod Spelling

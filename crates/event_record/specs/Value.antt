@@ -1,9 +1,7 @@
 -- Values as words: how they are spelled, and how they are read.
-use Rattle.std.specs.Prelude.{◌≡◌, ◌≢◌, ℕ, ◌+◌, ◌-◌, ◌*◌, ◌/◌, ◌%◌, ◌<◌, ◌==◌, ◌&&◌, ℤ, Bool, true, false, nat_eq, nat_le, nat_lt, bytes_eq, codes, List, [], ◌∷◌, ◌++◌, length, take, drop, decimal, Option, Some, None, Ok, Err, ok_or, FitsSigned, if◌then◌else◌}
+use Rattle.std.specs.Prelude.{ℕ, ◌+◌, ◌-◌, ◌*◌, ◌/◌, ◌%◌, ◌==◌, ◌&&◌, Bool, nat_eq, nat_le, nat_lt, bytes_eq, codes, List, [], ◌∷◌, ◌++◌, length, take, drop, decimal, Option, Some, None, Ok, Err, ok_or, if◌then◌else◌}
 use Rattle.std.specs.Fmt.{signed_decimal}
-use Rattle.std.specs.Int.{w32}
 use Rattle.std.specs.List.{flat_map, starts_with}
-use Rattle.std.specs.Option.{option_map_or}
 use Rattle.mon_base.specs.Reading.{◌>>=◌, need}
 use Rattle.api_listing.specs.Fault.{Read}
 use Rattle.api_listing.specs.declared.events.ApiValue.{ApiValue}

@@ -14,6 +14,7 @@ mod value;
 mod words;
 
 pub use fault::RecordFault;
+pub use names::methods_are_found;
 pub use printing::{events_are_read_again, push_event, push_value, values_are_read_again};
 pub use reading::{Record, read_record};
 

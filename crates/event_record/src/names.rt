@@ -1,10 +1,12 @@
 //! The names of a listing, in an ordered set and an ordered map that are made once.
 
-ghost use Rattle.std.specs.Prelude.{◌≡◌, ◌<◌, ◌^◌, ◌||◌, ℕ, List, length, bytes_eq, IfOk, OnOk};
+ghost use Rattle.std.specs.Prelude.{◌≡◌, ◌<◌, ◌^◌, ◌||◌, ℕ, List, length, bytes_eq, IfOk, OnOk, Some};
 ghost use Rattle.api_listing.specs.Listing.{is_known};
 ghost use Rattle.api_listing.specs.Seen.{has_name};
+ghost use Rattle.api_listing.specs.declared.types.ListedMethod.{ListedMethod};
 ghost use Rattle.mon_base.specs.declared.method.MethodId.{MethodId};
 ghost use Rattle.event_record.specs.Library.{AddsFirst, AreNames, index_in, place_of};
+ghost use Rattle.event_record.specs.Spelling.{IsFirst};
 
 use api_listing::{ListedClass, ListedMethod, Listing};
 use mon_base::{Bytes, MethodId, NoMemory};
@@ -28,6 +30,14 @@ pub fn names_of(alloc: Global, listing: &Listing) -> Result<Names, NoMemory>
         methods: methods_of(alloc, listing.methods.as_slice())?,
     })
 }
+
+/// The index of a method is that of the first method of the listing with its class, name and descriptor.
+pub fn methods_are_found()
+    ensures found { (methods : List ListedMethod) (id : MethodId) (index : ℕ)
+        → index_in methods id ≡ Some index → IsFirst methods id index }
+    ensures only { (methods : List ListedMethod) (id : MethodId) (index : ℕ)
+        → IsFirst methods id index → index_in methods id ≡ Some index }
+{}
 
 fn classes_of(alloc: Global, classes: &[ListedClass]) -> Result<BTreeSet<Bytes>, NoMemory>
     ensures { IfOk result (λ names. (q : List ℕ) → has_name names q ≡ is_known classes.now q) }

@@ -1,7 +1,9 @@
 //! A record out of its text.
 
-ghost use Rattle.std.specs.Prelude.{◌≡◌, ◌<◌, ◌+◌, ◌++◌, ◌^◌, false, nat_lt, length, map, replicate, OnOk};
+ghost use Rattle.std.specs.Prelude.{◌≡◌, ◌<◌, ◌+◌, ◌++◌, ◌^◌, false, nat_lt, length, map, replicate, IfOk, MatchResult, OnOk};
 ghost use Rattle.api_listing.specs.Words.{pieces};
+ghost use Rattle.event_record.specs.declared.fault.RecordFault.TheVariants.{Memory};
+ghost use Rattle.event_record.specs.declared.reading.Record.{Record};
 ghost use Rattle.event_record.specs.Fault.{Answers};
 ghost use Rattle.event_record.specs.Library.{library_in, library_of};
 ghost use Rattle.event_record.specs.Record.{
@@ -15,6 +17,7 @@ ghost use Rattle.event_record.specs.Record.{
   reading,
   with_entry,
 };
+ghost use Rattle.event_record.specs.Spelling.{SpellsRecord};
 
 use crate::entry::{Entry, entry_of};
 use crate::fault::RecordFault;
@@ -44,6 +47,18 @@ pub fn read_record(alloc: Global, text: &[u8], listing: &Listing) -> Result<Reco
     requires listed { length listing.now.methods < 2 ^ 32 }
     // What is read decides the answer, and which line is the first that is wrong.
     ensures exact { Answers result (reading text.now listing.now) }
+    // What is read is spelled so.
+    ensures found { IfOk result (λ r. SpellsRecord listing.now text.now r) }
+    // What is spelled so is read, unless memory runs out.
+    ensures only { (told : Record) → SpellsRecord listing.now text.now told
+        → MatchResult result (λ read. read ≡ told) (λ e. e ≡ Memory) }
+{
+    read_text(alloc, text, listing)
+}
+
+fn read_text(alloc: Global, text: &[u8], listing: &Listing) -> Result<Record, RecordFault>
+    requires { length listing.now.methods < 2 ^ 32 }
+    ensures { Answers result (reading text.now listing.now) }
 {
     let names = names_of(alloc, listing)?;
     let lines = parts_of(alloc, text, b'\n')?;

@@ -1,4 +1,4 @@
-use Rattle.std.proofs.Common.{ap, arith}
+use Rattle.std.proofs.Common.{arith}
 use Rattle.event_record.proofs.Naming.{front_is, goes_on, is_done, none_left, rest_length}
 use Rattle.event_record.proofs.names.methods_of.Goals as goal
 

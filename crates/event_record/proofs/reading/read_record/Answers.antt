@@ -1,20 +1,8 @@
-use Rattle.std.proofs.Common.{◌≡◌, ℕ, List, Result, map, sym, ap, subst, ◌∙◌}
-use Rattle.std.proofs.Math.Path.{fun_ext}
-use Rattle.api_listing.specs.Words.{pieces}
-use Rattle.event_record.specs.declared.fault.RecordFault.{RecordFault}
-use Rattle.event_record.specs.declared.reading.Record.{Record}
-use Rattle.event_record.specs.Fault.{Answers}
-use Rattle.event_record.specs.Library.{Library, library_in, library_of}
-use Rattle.event_record.specs.Record.{after_lines, empty_record, reading}
-use Rattle.event_record.proofs.Naming.{same_library}
+use Rattle.event_record.proofs.TextLaws.{answer_found, answer_only}
 use Rattle.event_record.proofs.reading.read_record.Goals as goal
 
-pub returns : goal.returns
-unfolding reading
-returns c =
-    let listing = c.args.listing.now in
-    let library : library_in c.in_ok-names.names ≡ library_of listing = same_library listing c.in_ok-names.names c.in_ok-names.ensures in
-    let lines : map (λ p. p.now) c.as_slice.result.now ≡ pieces 10 c.args.text.now = ap (map (λ p. p.now)) c.as_slice.ensures.value ∙ c.in_ok-lines.ensures in
-    let is : after_lines (library_in c.in_ok-names.names) 1 empty_record (map (λ p. p.now) c.as_slice.result.now) ≡ after_lines (library_of listing) 1 empty_record (pieces 10 c.args.text.now) =
-    ap (λ (l : Library). after_lines l 1 empty_record (map (λ p. p.now) c.as_slice.result.now)) library ∙ ap (after_lines (library_of listing) 1 empty_record) lines in
-    record { exact = subst (λ (read : Result Record RecordFault). Answers c.read_lines.result read) is c.read_lines.ensures }
+pub returns-clause-found : goal.returns-clause-found
+returns-clause-found c = answer_found c.args.listing.now c.args.text.now c.read_text.result c.read_text.ensures
+
+pub returns-clause-only : goal.returns-clause-only
+returns-clause-only c = answer_only c.args.listing.now c.args.text.now c.read_text.result c.read_text.ensures
