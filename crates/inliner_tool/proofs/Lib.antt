@@ -4,3 +4,4 @@ pub mod Reading
 pub mod NeverUsage
 pub mod Planning
 pub mod Replying
+mod Blocks

@@ -25,6 +25,7 @@ use Rattle.conspec_automaton.specs.Building.{built}
 use Rattle.conspec_automaton.specs.Denying.{asks_nothing}
 use Rattle.conspec_parse.specs.declared.types.PolicyTree.{PolicyTree}
 use Rattle.inline_release.specs.declared.weaving.Woven.{Woven}
+use Rattle.inline_release.specs.Outcome.{IsWoven}
 use Rattle.inline_release.specs.Woven.{woven}
 use Rattle.offset_patch.specs.declared.fault.SpliceFault.{SpliceFault}
 use Rattle.offset_patch.specs.declared.fault.SpliceFault.TheVariants as splices
@@ -174,10 +175,12 @@ pub record IsRewoven (main folder : List ℕ) (listing : Listing) (policy : Poli
   pub secure : Secure program policy
   pub outputs : ready.outputs ≡ outputs_of folder program certificate
 
--- The inputs link to a program, and what the weaving of the policy makes of it is to be written.
+-- The inputs link to a program, and what the weaving of the policy makes of it is to be written: it links to the same
+-- classes in their order, where each denied call, and no other, stands in its block, and conspec/State behind them.
 pub record IsPlanned (named : NamedInline) (inputs : InlineInputs) (ready : Ready) : Type 0 where
   pub client : Program
   pub links : original inputs.listing inputs.classes named.main ≡ Ok client
   pub made : Woven
   pub woven : woven client (built inputs.policy) ≡ Ok made
   pub rewoven : IsRewoven named.main named.folder inputs.listing (built inputs.policy) made.files ready
+  pub blocks : IsWoven client (built inputs.policy) rewoven.program

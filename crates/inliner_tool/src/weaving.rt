@@ -51,7 +51,7 @@ use cert_maker::make;
 use class_codec::ClassFile;
 use conspec_automaton::{Policy, asks_nothing, build};
 use conspec_parse::PolicyTree;
-use inline_release::{Woven, inline};
+use inline_release::{Woven, inline, woven_is_linked_so};
 use mon_base::{Bytes, List, NoMemory};
 use mon_store::Output;
 use offset_patch::SpliceFault;
@@ -84,6 +84,7 @@ pub fn plan(alloc: Global, inputs: InlineInputs, words: &InlineWords) -> Result<
     types_of(alloc, &client)?;
     let policy = denying(alloc, words.weaving, &policy, &client)?;
     let made = woven(alloc, &client, &policy)?;
+    woven_is_linked_so();
     rewoven(alloc, words.main, words.folder, client, &policy, made)
 }
 

@@ -1,8 +1,9 @@
-use Rattle.std.proofs.Common.{Err}
+use Rattle.std.proofs.Common.{Err, sym}
 use Rattle.std.proofs.lemmas.Result.{err_from_is_err_and}
 use Rattle.inline_release.specs.Woven.{woven}
 use Rattle.inliner_tool.specs.InlineWords.{NamedInline, inline_named}
 use Rattle.inliner_tool.specs.Weaving.{Denying, Equals, Relinking, Typed, Types, UnlessMemory, Weaves, denying, original, weave_step}
+use Rattle.inliner_tool.proofs.Blocks.{planned}
 use Rattle.inliner_tool.proofs.Planning.{first_fails, later}
 use Rattle.inliner_tool.proofs.weaving.plan.Goals as goal
 
@@ -31,3 +32,9 @@ returns-clause-plans c =
     (later (Types client) (λ typing. Denying named inputs.policy client) c.in_ok-types_of.field-0 c.in_ok-types_of.ensures result
     (later (Equals (denying named.weaving inputs.policy client)) (Weaves named.main named.folder client) policy c.in_ok-policy.ensures.is result
     (later (Equals (weave_step (woven client policy))) (Relinking named.main named.folder client policy) made c.in_ok-made.ensures.is result c.rewoven.ensures.steps)))
+
+pub returns-clause-planned : goal.returns-clause-planned
+returns-clause-planned c =
+    planned c.woven_is_linked_so.ensures.woven (inline_named c.args.words.now) c.args.inputs c.in_ok-client.client c.in_ok-made.made c.in_ok-client.ensures.sound
+    (sym c.in_ok-client.ensures.is) c.in_ok-policy.policy c.rewoven.result c.in_ok-policy.ensures.built c.in_ok-client.ensures.listing
+    c.in_ok-made.ensures.exact c.rewoven.ensures.rewoven
