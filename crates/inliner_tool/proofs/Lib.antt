@@ -5,3 +5,4 @@ pub mod NeverUsage
 pub mod Planning
 pub mod Replying
 mod Blocks
+mod NamedOnce
