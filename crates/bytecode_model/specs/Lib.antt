@@ -1,5 +1,6 @@
 pub mod Fault
 pub mod Heads
+pub mod Classes
 pub mod SearchOrder
 pub mod Members
 pub mod Conditions

@@ -18,7 +18,7 @@ use Rattle.bytecode_model.specs.declared.program.Method.{Method}
 use Rattle.bytecode_model.specs.declared.program.Program.{Program}
 use Rattle.bytecode_model.specs.Heads.{is_static}
 use Rattle.type_lattice.specs.Assigning.{assignable}
-use Rattle.type_lattice.specs.Classes.{is_below}
+use Rattle.bytecode_model.specs.Classes.{is_below}
 use Rattle.code_typing.specs.Described.{arguments, type_described}
 use Rattle.code_typing.specs.Makes.{type_at, class_made, is_same_object, local_after, topmost, stack_after}
 use Rattle.code_typing.specs.Place.{Place, calls_static, calls_maker, is_maker}

@@ -13,7 +13,8 @@ use Rattle.guest_heap.specs.declared.frame.Frame.{Frame}
 use Rattle.guest_heap.specs.declared.thread.Doing.TheVariants as doings
 use Rattle.guest_heap.specs.declared.value.Value.{Value}
 use Rattle.guest_model.specs.declared.machine.Machine.{Machine}
-use Rattle.guest_model.specs.Places.{is_below, method_at, moved_to}
+use Rattle.bytecode_model.specs.Classes.{is_below}
+use Rattle.guest_model.specs.Places.{method_at, moved_to}
 use Rattle.guest_model.specs.Standing.{Places, IsClosed}
 use Rattle.guest_model.specs.Stepping.{Made, thrown_thread, throws, throws_new}
 use Rattle.guest_model.specs.Throwing.{catches, handler_of, caught_in, unwound}

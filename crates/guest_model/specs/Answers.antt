@@ -6,7 +6,7 @@ use Rattle.api_listing.specs.declared.descriptor.FieldType.{FieldType}
 use Rattle.api_listing.specs.BuiltIn.{throwable}
 use Rattle.api_listing.specs.Listing.{is_known}
 use Rattle.bytecode_model.specs.declared.program.Program.{Program}
-use Rattle.guest_model.specs.Places.{is_below}
+use Rattle.bytecode_model.specs.Classes.{is_below}
 
 abbrev pub between : ℤ → ℤ → ℤ → Bool
 between low high n = int_le low n && int_le n high

@@ -13,7 +13,7 @@ use Rattle.guest_heap.specs.declared.object.Object.{Object}
 use Rattle.guest_heap.specs.declared.object.Object.TheVariants as objects
 use Rattle.guest_heap.specs.declared.value.Value.{Value}
 use Rattle.guest_heap.specs.declared.value.Value.TheVariants as values
-use Rattle.guest_model.specs.Places.{classes_of}
+use Rattle.bytecode_model.specs.Classes.{classes_of}
 
 -- ---- descriptors
 

@@ -1,32 +1,23 @@
 -- Where a frame stands in a program.
 use Rattle.std.specs.Prelude.{◌≡◌, ℕ, ◌+◌, Bool, true, false, bytes_eq, nat_lt, if◌then◌else◌, List, [], ◌∷◌, ◌++◌, length, map, Option, Some, None, option_map, option_and_then, slice_get}
-use Rattle.std.specs.List.{position_from, list_any}
+use Rattle.std.specs.List.{position_from}
 use Rattle.std.specs.Option.{option_map_or, option_or}
 use Rattle.api_listing.specs.declared.types.ListedClass.{ListedClass}
-use Rattle.api_listing.specs.Nearest.{class_named, upwards}
 use Rattle.insn_codec.specs.declared.insn.Insn.{Insn}
 use Rattle.bytecode_model.specs.declared.program.LinkedClass.{LinkedClass}
 use Rattle.bytecode_model.specs.declared.program.Method.{Method}
 use Rattle.bytecode_model.specs.declared.program.Program.{Program}
 use Rattle.bytecode_model.specs.declared.program.Target.{Target}
-use Rattle.bytecode_model.specs.Heads.{head_of}
+use Rattle.bytecode_model.specs.Classes.{classes_of}
 use Rattle.guest_heap.specs.declared.frame.Frame.{Frame}
 use Rattle.guest_heap.specs.declared.value.Value.{Value}
 use Rattle.guest_heap.specs.Stack.{Operands}
 
 -- ---- classes
 
--- the classes of the listing, and then the given ones
-abbrev pub classes_of : Program → List ListedClass
-classes_of program = program.listing.classes ++ map (λ (c : LinkedClass). head_of c.file) program.classes
-
--- the index of a class among them
+-- the index of a class among those of the listing and the given ones
 abbrev pub class_index : Program → List ℕ → Option ℕ
 class_index program name = position_from (λ (c : ListedClass). bytes_eq c.name name) 0 (classes_of program)
-
--- the class is of this name, or one of its superclasses is
-abbrev pub is_below : Program → List ℕ → List ℕ → Bool
-is_below program class above = list_any (λ (c : ListedClass). bytes_eq c.name above) (upwards (length (classes_of program)) (classes_of program) class)
 
 -- ---- methods and instructions
 

@@ -38,7 +38,8 @@ use Rattle.guest_model.specs.declared.machine.Step.{Step}
 use Rattle.guest_model.specs.Answers.{fits_number, may_throw}
 use Rattle.guest_model.specs.Calls.{types_of, arity, Taken, taken, value_seen, values_seen_by}
 use Rattle.guest_model.specs.Monitors.{entered, left, all_given_up}
-use Rattle.guest_model.specs.Places.{classes_of, class_index, method_at, insn_at, moved_to, fitted, after}
+use Rattle.bytecode_model.specs.Classes.{classes_of}
+use Rattle.guest_model.specs.Places.{class_index, method_at, insn_at, moved_to, fitted, after}
 use Rattle.guest_model.specs.Throwing.{unwound, locks_left, bare_object}
 use Rattle.guest_model.specs.Values.{values_moved, values_seen, fits, is_null}
 

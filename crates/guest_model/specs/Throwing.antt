@@ -9,7 +9,8 @@ use Rattle.guest_heap.specs.declared.object.Object.{Object}
 use Rattle.guest_heap.specs.declared.object.Object.TheVariants as objects
 use Rattle.guest_heap.specs.declared.value.Value.{Value}
 use Rattle.guest_heap.specs.declared.value.Value.TheVariants as values
-use Rattle.guest_model.specs.Places.{is_below, method_at, moved_to}
+use Rattle.bytecode_model.specs.Classes.{is_below}
+use Rattle.guest_model.specs.Places.{method_at, moved_to}
 
 -- the handler catches what is thrown at this instruction
 abbrev pub catches : Program → ℕ → List ℕ → Handler → Bool

@@ -8,7 +8,7 @@ use Rattle.std.proofs.lemmas.List.{length-append, get_or-append-add}
 use Rattle.std.proofs.lemmas.Slice.Eq.{bytes_eq-Decides}
 use Rattle.api_listing.specs.BuiltIn.{object}
 use Rattle.bytecode_model.specs.declared.program.Program.{Program}
-use Rattle.type_lattice.specs.Classes.{is_interface}
+use Rattle.bytecode_model.specs.Classes.{is_interface}
 use Rattle.type_lattice.specs.Assigning.{is_array, named, leaf_fits, class_fits, component_fits, array_fits, name_fits}
 use Rattle.type_lattice.specs.Lending.{described, array_of}
 

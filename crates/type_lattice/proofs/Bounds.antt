@@ -10,7 +10,7 @@ use Rattle.bytecode_model.specs.declared.program.Program.{Program}
 use Rattle.cert_format.specs.declared.typing.VType.{VType}
 use Rattle.cert_format.specs.declared.typing.VType.TheVariants as types
 use Rattle.type_lattice.specs.Assigning.{is_array, named, reference_of, class_fits, leaf_fits, component_fits, array_fits, name_fits, assignable}
-use Rattle.type_lattice.specs.Classes.{classes_of, is_below, is_interface}
+use Rattle.bytecode_model.specs.Classes.{classes_of, is_below, is_interface}
 use Rattle.type_lattice.specs.Laws.{IsInOrder, IsPlain, is_plain}
 use Rattle.type_lattice.specs.Lending.{described, array_of}
 use Rattle.type_lattice.specs.Merging.{class_above, class_merged, leaf_merged, items_merged, arrays_merged, names_merged, merged}

@@ -5,7 +5,7 @@ use Rattle.api_listing.specs.BuiltIn.{object}
 use Rattle.bytecode_model.specs.declared.program.Program.{Program}
 use Rattle.cert_format.specs.declared.typing.VType.{VType}
 use Rattle.cert_format.specs.declared.typing.VType.TheVariants as types
-use Rattle.type_lattice.specs.Classes.{is_below, is_interface}
+use Rattle.bytecode_model.specs.Classes.{is_below, is_interface}
 
 -- ---- references, by the name of their class or the descriptor of their array
 

@@ -7,7 +7,7 @@ use Rattle.bytecode_model.specs.declared.program.Program.{Program}
 use Rattle.cert_format.specs.declared.typing.VType.{VType}
 use Rattle.cert_format.specs.declared.typing.VType.TheVariants as types
 use Rattle.type_lattice.specs.Assigning.{is_array, named, assignable}
-use Rattle.type_lattice.specs.Classes.{classes_of, is_below, is_interface}
+use Rattle.bytecode_model.specs.Classes.{classes_of, is_below, is_interface}
 use Rattle.type_lattice.specs.Merging.{merged}
 
 -- The classes are in order: each way up ends, Object is at the top, an interface is below nothing else, and no class is

@@ -8,7 +8,7 @@ use Rattle.bytecode_model.specs.declared.program.Program.{Program}
 use Rattle.cert_format.specs.declared.typing.VType.{VType}
 use Rattle.cert_format.specs.declared.typing.VType.TheVariants as types
 use Rattle.type_lattice.specs.Assigning.{is_array, reference_of}
-use Rattle.type_lattice.specs.Classes.{classes_of, is_below, is_interface}
+use Rattle.bytecode_model.specs.Classes.{classes_of, is_below, is_interface}
 use Rattle.type_lattice.specs.Lending.{described, array_of}
 
 -- ---- two references, by the name of their class or the descriptor of their array

@@ -5,7 +5,7 @@ ghost use Rattle.api_listing.specs.declared.types.ListedClass.{ListedClass};
 ghost use Rattle.api_listing.specs.Nearest.{upwards};
 ghost use Rattle.bytecode_model.specs.declared.program.LinkedClass.{LinkedClass};
 ghost use Rattle.bytecode_model.specs.Heads.{head_of, class_at};
-ghost use Rattle.type_lattice.specs.Classes.{classes_of, is_below, is_interface};
+ghost use Rattle.bytecode_model.specs.Classes.{classes_of, is_below, is_interface};
 ghost use Rattle.type_lattice.specs.Rising.{step_from};
 
 use api_listing::find_class;

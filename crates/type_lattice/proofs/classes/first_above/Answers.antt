@@ -3,7 +3,7 @@ use Rattle.std.proofs.lemmas.List.{length-append, length-map}
 use Rattle.api_listing.specs.Nearest.{upwards}
 use Rattle.bytecode_model.specs.declared.program.LinkedClass.{LinkedClass}
 use Rattle.bytecode_model.specs.Heads.{head_of}
-use Rattle.type_lattice.specs.Classes.{classes_of, is_below}
+use Rattle.bytecode_model.specs.Classes.{classes_of, is_below}
 use Rattle.type_lattice.specs.Rising.{Step}
 use Rattle.type_lattice.proofs.Climbing.{climbs_first, first_named}
 use Rattle.type_lattice.proofs.classes.first_above.Goals as goal

@@ -4,7 +4,7 @@ use Rattle.std.proofs.lemmas.List.{length-append, length-map}
 use Rattle.api_listing.specs.Nearest.{upwards}
 use Rattle.bytecode_model.specs.declared.program.LinkedClass.{LinkedClass}
 use Rattle.bytecode_model.specs.Heads.{head_of}
-use Rattle.type_lattice.specs.Classes.{classes_of}
+use Rattle.bytecode_model.specs.Classes.{classes_of}
 use Rattle.type_lattice.specs.Rising.{Step}
 use Rattle.type_lattice.proofs.Climbing.{climbs, one_named}
 use Rattle.type_lattice.proofs.classes.is_below.Goals as goal

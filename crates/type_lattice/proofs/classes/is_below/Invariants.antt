@@ -1,6 +1,6 @@
 use Rattle.std.proofs.Common.{◌≡◌, ◌-◌, length}
 use Rattle.api_listing.specs.Nearest.{upwards}
-use Rattle.type_lattice.specs.Classes.{classes_of, is_below}
+use Rattle.bytecode_model.specs.Classes.{classes_of, is_below}
 use Rattle.type_lattice.proofs.Climbing.{one_named}
 use Rattle.type_lattice.proofs.classes.is_below.Given as goal
 
