@@ -10,3 +10,4 @@ pub mod Steps
 pub mod Typed
 pub mod Closed
 pub mod Moving
+pub mod Order
