@@ -1,5 +1,5 @@
 -- The types in order: what holds of assignability and of the least type above two.
-use Rattle.std.specs.Prelude.{◌≡◌, ℕ, suc, Bool, true, false, ◌⊎◌, List, length, None, Ok}
+use Rattle.std.specs.Prelude.{◌≡◌, ℕ, suc, true, false, ◌⊎◌, List, length, None, Ok}
 use Rattle.api_listing.specs.declared.types.Listing.{Listing}
 use Rattle.api_listing.specs.BuiltIn.{object, throwable}
 use Rattle.api_listing.specs.Listing.{SpellsListing}
