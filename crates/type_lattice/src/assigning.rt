@@ -1,8 +1,8 @@
 //! Which type may stand in the place of which. (The Java Virtual Machine Specification, section 4.10.1.2.)
 
 ghost use Rattle.std.specs.Prelude.{◌≡◌, option_copied};
-ghost use Rattle.type_lattice.specs.Assigning.{class_fits, class_name, named, is_array, reference_of, leaf_fits, component_fits, array_fits};
-ghost use Rattle.type_lattice.specs.Assigning.{name_fits, assignable};
+ghost use Rattle.type_lattice.specs.Assigning.{is_array, class_name, named, reference_of, class_fits, leaf_fits};
+ghost use Rattle.type_lattice.specs.Assigning.{component_fits, array_fits, name_fits, assignable};
 ghost use Rattle.type_lattice.specs.Lending.{array_of, described, type_lent};
 ghost use Rattle.type_lattice.specs.declared.lending.TypeRef.{TypeRef};
 ghost use Rattle.bytecode_model.specs.declared.program.Program.{Program};

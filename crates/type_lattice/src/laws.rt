@@ -5,6 +5,7 @@ ghost use Rattle.type_lattice.specs.Laws.{
   IsMergeAbove,
   IsMergeLeast,
   IsReflexive,
+  IsThrownAlone,
   IsTransitive,
 };
 
@@ -17,7 +18,7 @@ ghost use Rattle.type_lattice.specs.Laws.{
 pub fn assignable_is_an_order()
     ensures reflexive { IsReflexive }
     ensures transitive { IsTransitive }
-// ensures thrown { IsThrownAlone }
+    ensures thrown { IsThrownAlone }
 {}
 
 /// The merge of two types is the least to which both are assignable, in a program whose classes are in order.
