@@ -5,3 +5,4 @@ mod Upwards
 mod Orders
 mod Bounds
 mod Least
+mod Alone
