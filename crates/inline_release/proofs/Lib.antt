@@ -1,3 +1,4 @@
+pub mod Above
 pub mod Spells
 pub mod Aims
 pub mod Again
