@@ -1,4 +1,6 @@
 pub mod Above
+pub mod Free
+pub mod Listed
 pub mod Spells
 pub mod Aims
 pub mod Again
