@@ -2,6 +2,7 @@ pub mod Above
 pub mod Free
 pub mod Listed
 pub mod Kept
+pub mod Same
 pub mod Spells
 pub mod Aims
 pub mod Again

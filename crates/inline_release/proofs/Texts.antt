@@ -16,7 +16,7 @@ one_of : (kind : Kind) (o : Option Const) → is_one_of kind o ≡ true → (c :
 one_of kind None e = absurd cc
 one_of kind (Some c) e = (c, (refl, e))
 
-utf8_on : (pool more : List Const) (i : ℕ) → names kinds.Utf8 pool i ≡ true → utf8_at (pool ++ more) i ≡ utf8_at pool i
+pub utf8_on : (pool more : List Const) (i : ℕ) → names kinds.Utf8 pool i ≡ true → utf8_at (pool ++ more) i ≡ utf8_at pool i
 unfolding names utf8_at
 utf8_on pool more i e =
     let one = one_of kinds.Utf8 (slice_get pool i) e in
