@@ -18,15 +18,23 @@ use Rattle.conspec_parse.specs.declared.types.Kind.TheVariants as kinds
 use Rattle.offset_patch.specs.declared.block.Block.{Block}
 use Rattle.offset_patch.specs.declared.block.BlockInsn.{BlockInsn}
 use Rattle.offset_patch.specs.declared.block.BlockInsn.TheVariants.{Plain, Byte, Short, Local, Want, Jump, Call}
+use Rattle.offset_patch.specs.declared.block.PoolWant.{PoolWant}
+use Rattle.offset_patch.specs.declared.block.PoolWant.TheVariants as wants
 use Rattle.offset_patch.specs.Splicing.{part_of, fronts_from, fronts_of, aimed, put, parts_from, spliced}
 use Rattle.offset_patch.proofs.Lists.{all_append}
 use Rattle.block_template.specs.Blocks.{local, store, load, save, loads, lock, stop, unlock, denial, clause_of, site}
 
 -- ---- the block of a call that is denied
 
--- An instruction that does not jump within its block.
-abbrev IsStill : BlockInsn → Type 0
+-- the opcode by which a block names an entry
+abbrev pub opcode_for : PoolWant → ℕ
+opcode_for wants.StateClass = 0x13
+opcode_for wants.Exit = 0xB8
+
+-- An instruction that does not jump within its block, and names what its opcode takes.
+abbrev pub IsStill : BlockInsn → Type 0
 IsStill (Jump op place) = ⊥
+IsStill (Want op want) = op ≡ opcode_for want
 IsStill other = ⊤
 
 -- What stands for an instruction: nothing in it jumps, and the instruction itself is the last.
@@ -68,7 +76,7 @@ denial_part base kinds =
     let last = all_append IsStill (loads base kinds) (Call ∷ []) (loads_still base kinds) (tt, tt) in
     record {
       still = all_append IsStill (save base kinds) (lock ++ (stop ++ (unlock ++ (loads base kinds ++ Call ∷ [])))) (save_still base kinds)
-          (tt, (tt, (tt, (tt, (tt, (tt, (tt, (tt, last))))))));
+          (refl, (tt, (tt, (refl, (tt, (tt, (refl, (tt, last))))))));
       last = (save base kinds ++ between base kinds, sym (append_assoc (save base kinds) (between base kinds) (Call ∷ [])));
     }
 

@@ -3,6 +3,7 @@ pub mod Free
 pub mod Listed
 pub mod Kept
 pub mod Same
+pub mod Wanted
 pub mod Spells
 pub mod Aims
 pub mod Again
