@@ -4,6 +4,8 @@ pub mod Listed
 pub mod Kept
 pub mod Same
 pub mod Wanted
+pub mod Pairs
+pub mod Named
 pub mod Spells
 pub mod Aims
 pub mod Again
