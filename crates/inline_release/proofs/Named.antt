@@ -17,6 +17,7 @@ use Rattle.api_listing.specs.declared.descriptor.Element.TheVariants as elements
 use Rattle.api_listing.specs.declared.descriptor.FieldType.{FieldType}
 use Rattle.api_listing.specs.declared.types.Listing.{Listing}
 use Rattle.api_listing.specs.Descriptor.{method_type, whole_type}
+use Rattle.api_listing.specs.Descriptor as descriptors
 use Rattle.api_listing.specs.Fault.{Read}
 use Rattle.bytecode_model.specs.declared.declared.Found.{Found}
 use Rattle.bytecode_model.specs.declared.fault.LinkFault.{LinkFault}
@@ -176,12 +177,17 @@ module _ (files others : List ClassFile) (listing : Listing) (added : IsAdded fi
         ap (λ (o : Option Const). ok_or o operand.Wrong >>= used others listing pool uses.Load) c.there
         ∙ ap (class_linked false (known_in others listing)) (name_told pool c.at state_name c.named) ∙ named
 
+    way_out_described : is_ok (method_type way_out.desc) ≡ true
+    unfolding method_type descriptors.after_first descriptors.arguments_at descriptors.type_at descriptors.element_at descriptors.result_of
+    way_out_described = refl
+
     stop_named : IsThere pool wants.Exit → Names (insns.Pool 0xB8 (place_in pool wants.Exit)) (target.Builtin way_out_index)
     stop_named there =
         let m = exit_there pool there in
         let found : call_linked others listing true way_out ≡ Ok (target.Builtin way_out_index) =
         ap (λ (o : Option Found). need (is_ok (method_type way_out.desc)) operand.Wrong >>= λ described. ok_or o (operand.Missing way_out.name) >>= λ found. need (beq found.is_static true) (operand.Missing way_out.name) >>= λ fits. Ok found.target)
-        added.out in
+        added.out
+        ∙ ap (λ (b : Bool). need b operand.Wrong >>= λ described. Ok (target.Builtin way_out_index)) way_out_described in
         ap (λ (o : Option Const). ok_or o operand.Wrong >>= used others listing pool (uses.Call true false)) m.there
         ∙ ap (call_linked others listing true) (id_told pool (place_in pool wants.Exit) way_out.class way_out.name way_out.desc m) ∙ found
 
