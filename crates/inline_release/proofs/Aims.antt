@@ -132,6 +132,12 @@ spliced_within pool own sites same to few =
     let count : length (spliced pool own sites) ≡ many sites = parts_many pool (fronts_of sites) 0 own sites (sym same) in
     omega (arith, count, front_within sites 0 to (omega (arith, same, few)))
 
+pub spliced_below : (pool : List Const) (own : List Insn) (sites : List (Option Block)) → length sites ≡ length own → AllByRecursion EndsInCall sites → (to : ℕ) → to < length own
+    → slice_index (fronts_of sites) to < length (spliced pool own sites)
+spliced_below pool own sites same h to few =
+    let count : length (spliced pool own sites) ≡ many sites = parts_many pool (fronts_of sites) 0 own sites (sym same) in
+    omega (arith, count, front_below sites 0 to h (omega (arith, same, few)))
+
 -- ---- targets
 
 all_aimed : (fronts : List ℕ) (n m : ℕ) → ((to : ℕ) → to < n → slice_index fronts to < m) → (targets : List ℕ) → AllByRecursion (λ to. to < n) targets
@@ -181,9 +187,7 @@ parts_aim pool fronts n m f begin (insn ∷ own) (site ∷ sites) h s =
 pub spliced_aims : (pool : List Const) (own : List Insn) (sites : List (Option Block)) → length sites ≡ length own → AllByRecursion (AimsWithin (length own)) own
     → AllByRecursion EndsInCall sites → AllByRecursion (AimsWithin (length (spliced pool own sites))) (spliced pool own sites)
 spliced_aims pool own sites same h s =
-    let count : length (spliced pool own sites) ≡ many sites = parts_many pool (fronts_of sites) 0 own sites (sym same) in
-    let below : (to : ℕ) → to < length own → slice_index (fronts_of sites) to < length (spliced pool own sites) = λ to few. omega (arith, count, front_below sites 0 to s (omega (arith, same, few))) in
-    parts_aim pool (fronts_of sites) (length own) (length (spliced pool own sites)) below 0 own sites h s
+    parts_aim pool (fronts_of sites) (length own) (length (spliced pool own sites)) (spliced_below pool own sites same s) 0 own sites h s
 
 -- ---- the end
 
