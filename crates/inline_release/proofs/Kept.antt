@@ -106,6 +106,9 @@ same_codes code [] = refl
 same_codes code (attributes.Code old ∷ attrs) = ap suc (same_codes code attrs)
 same_codes code (attributes.Other other ∷ attrs) = same_codes code attrs
 
+pub with_kept : (member : Member) (code : Code) → IsKeptMember member (member_with member code)
+with_kept member code = record { flags = refl; name = refl; desc = refl; codes = same_codes code member.attrs }
+
 -- What one member more makes of what was made.
 pub record IsNext (made next : Members) (member : Member) : Type 0 where
   pub longer : IsLonger made.entries next.entries
@@ -140,7 +143,7 @@ body_next policy class made next member (Some m) (Some code) e =
       longer = code_longer policy class made.number made.entries m code one.0 one.1;
       item = member_with member one.0.code;
       items = refl;
-      kept = record { flags = refl; name = refl; desc = refl; codes = same_codes one.0.code member.attrs };
+      kept = with_kept member one.0.code;
     })
 body_next policy class made next member None c e = bare_next made next member (ok_is SpliceFault (bare_put made member) next e)
 body_next policy class made next member (Some m) None e = bare_next made next member (ok_is SpliceFault (bare_put made member) next e)

@@ -49,7 +49,7 @@ use Rattle.inline_release.proofs.Kept.{IsLonger}
 use Rattle.inline_release.proofs.Pairs.{each_append}
 use Rattle.inline_release.proofs.Same.{class_longer, text_longer}
 use Rattle.inline_release.proofs.Texts.{id_on}
-use Rattle.inline_release.proofs.Wanted.{name_told, id_told, state_there, exit_there}
+use Rattle.inline_release.proofs.Wanted.{split_all, name_told, id_told, state_there, exit_there}
 
 -- What of others is as it is of the files, and what they have beside it.
 pub record IsAdded (files others : List ClassFile) (listing : Listing) : Type 0 where
@@ -68,12 +68,6 @@ if_still false c x t fault f e = absurd cc
 and_still : (a b c : Bool) → (b ≡ true → c ≡ true) → (a && b) ≡ true → (a && c) ≡ true
 and_still true b c f e = f e
 and_still false b c f e = e
-
-split_all : {X : Type 0} (P : X → Type 0) (xs ys : List X) → AllByRecursion P (xs ++ ys) → AllByRecursion P xs × AllByRecursion P ys
-split_all P [] ys h = (tt, h)
-split_all P (x ∷ xs) ys h =
-    let rest = split_all P xs ys h.1 in
-    ((h.0, rest.0), rest.1)
 
 module _ (files others : List ClassFile) (listing : Listing) (added : IsAdded files others listing) where
   -- ---- classes, fields and methods

@@ -1,8 +1,10 @@
 -- What stands at the places that blocks name: the class conspec/State, and the method that stops the program.
 use Rattle.std.proofs.Common.{◌≡◌, ℕ, ◌+◌, Bool, true, false, List, [], ◌∷◌, ◌++◌, Option, Some, None, refl, sym, ap, subst, ◌∙◌, arith}
-use Rattle.std.specs.Prelude.{slice_get, codes, ◌==◌, ◌&&◌}
+use Rattle.std.specs.Prelude.{slice_get, codes, ◌==◌, ◌&&◌, ◌||◌, find, map, option_map}
+use Rattle.std.specs.List.{AllByRecursion, filter_map, list_any}
 use Rattle.std.specs.Option.{option_map_or}
-use Rattle.std.proofs.lemmas.Bool.{eqb-true}
+use Rattle.std.proofs.lemmas.Bool.{eqb-true, false≢true}
+use Rattle.std.proofs.lemmas.List.Elements.{filter_map-append}
 use Rattle.mon_base.specs.declared.method.MethodId.{MethodId}
 use Rattle.class_codec.specs.declared.tree.Const.{Const}
 use Rattle.class_codec.specs.declared.tree.Const.TheVariants as constants
@@ -17,7 +19,15 @@ use Rattle.offset_patch.proofs.EntryFits.{get_last, place_found}
 use Rattle.offset_patch.proofs.InsnFits.{IsThere}
 use Rattle.offset_patch.proofs.PoolFits.{get_on}
 use Rattle.offset_patch.proofs.Steady.{IsSteady, steady_text, steady_class_at, steady_name_and_type_at, steady_name_and_type, steady_method_at, steady_wanted}
-use Rattle.inline_release.specs.Outcome.{way_out}
+use Rattle.offset_patch.specs.Splicing.{want_of, block_wants, wants_of}
+use Rattle.offset_patch.specs.declared.block.BlockInsn.TheVariants.{Call}
+use Rattle.bytecode_model.specs.declared.program.Target.{Target}
+use Rattle.bytecode_model.specs.declared.program.Target.TheVariants as target
+use Rattle.conspec_parse.specs.declared.types.Kind.{Kind}
+use Rattle.conspec_automaton.specs.declared.policy.Clause.{Clause}
+use Rattle.conspec_automaton.specs.declared.policy.Policy.{Policy}
+use Rattle.block_template.specs.Blocks.{save, loads, lock, stop, unlock, denial, has_block, site}
+use Rattle.inline_release.proofs.Above.{find_some}
 
 -- ---- an entry
 
@@ -164,3 +174,39 @@ pub there_on : (want : PoolWant) (pool more : List Const) → IsThere pool want 
 there_on want pool more there =
     let here : wanted want pool ≡ (pool, place_in pool want) = ap (λ (p : List Const). (p, place_in pool want)) there.same in
     record { same = ap (λ (z : Placed). z.0) ((steady_wanted want).stays pool more (place_in pool want) here) }
+
+-- ---- a method with a block wants the way out
+
+clause_there : (method : ℕ) (clauses : List Clause) → list_any (λ (c : Clause). c.method == method) clauses ≡ true → (c : Clause) × (find (λ (c : Clause). c.method == method) clauses ≡ Some c)
+clause_there method clauses e = find_some (λ (c : Clause). c.method == method) clauses e
+
+pub split_all : {X : Type 0} (P : X → Type 0) (xs ys : List X) → AllByRecursion P (xs ++ ys) → AllByRecursion P xs × AllByRecursion P ys
+split_all P [] ys h = (tt, h)
+split_all P (x ∷ xs) ys h =
+    let rest = split_all P xs ys h.1 in
+    ((h.0, rest.0), rest.1)
+
+module _ (pool : List Const) where
+  denial_wants : (base : ℕ) (kinds : List Kind) → AllByRecursion (IsThere pool) (filter_map want_of (denial base kinds).insns) → IsThere pool wants.Exit
+  denial_wants base kinds h =
+      let front = save base kinds in
+      let behind = lock ++ (stop ++ (unlock ++ (loads base kinds ++ Call ∷ []))) in
+      let both = subst (AllByRecursion (IsThere pool)) (filter_map-append want_of front behind) h in
+      (split_all (IsThere pool) (filter_map want_of front) (filter_map want_of behind) both).1.1.0
+
+  site_wants : (policy : Policy) (base : ℕ) (ref : Target) → has_block policy ref ≡ true → AllByRecursion (IsThere pool) (block_wants (site policy base ref)) → IsThere pool wants.Exit
+  site_wants policy base (target.ApiMethod method) e h =
+      let c = clause_there method policy.clauses e in
+      denial_wants base c.0.args (subst (λ (o : Option Clause). AllByRecursion (IsThere pool) (block_wants (option_map (λ (c : Clause). denial base c.args) o))) c.1 h)
+  site_wants policy base ref e h = absurd (false≢true e)
+
+  pub exit_wanted : (policy : Policy) (base : ℕ) (refs : List Target) → list_any (has_block policy) refs ≡ true → AllByRecursion (IsThere pool) (wants_of (map (site policy base) refs)) → IsThere pool wants.Exit
+  exit_wanted policy base [] e h = absurd (false≢true e)
+  exit_wanted policy base (ref ∷ refs) e h =
+      let both = split_all (IsThere pool) (block_wants (site policy base ref)) (wants_of (map (site policy base) refs)) h in
+      by (has_block policy ref) refl e (λ f. exit_wanted policy base refs f both.1) both.0
+    where
+      by : (b : Bool) → has_block policy ref ≡ b → (b || list_any (has_block policy) refs) ≡ true → (list_any (has_block policy) refs ≡ true → IsThere pool wants.Exit)
+          → AllByRecursion (IsThere pool) (block_wants (site policy base ref)) → IsThere pool wants.Exit
+      by true is e rest here = site_wants policy base ref is here
+      by false is e rest here = rest e
