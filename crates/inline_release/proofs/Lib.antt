@@ -6,6 +6,7 @@ pub mod Same
 pub mod Wanted
 pub mod Pairs
 pub mod Named
+pub mod Standing
 pub mod Spells
 pub mod Aims
 pub mod Again
