@@ -94,7 +94,7 @@ abbrev pub ordered : List ListedClass → List ListedClass → Bool
 ordered before [] = true
 ordered before (c ∷ classes) = (is_known before c.parent || bytes_eq c.parent []) && ordered (before ++ c ∷ []) classes
 
-and_both : (a b : Bool) → (a && b) ≡ true → (a ≡ true) × (b ≡ true)
+pub and_both : (a b : Bool) → (a && b) ≡ true → (a ≡ true) × (b ≡ true)
 and_both true b e = (refl, e)
 and_both false b e = absurd (false≢true e)
 

@@ -7,6 +7,7 @@ pub mod Wanted
 pub mod Pairs
 pub mod Named
 pub mod Standing
+pub mod Added
 pub mod Spells
 pub mod Aims
 pub mod Again

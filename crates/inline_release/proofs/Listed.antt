@@ -72,7 +72,7 @@ module _ (listing : Listing) (said : List Declaration) (named : AreNamed listing
 
 -- ---- names
 
-nameless : is_class_name [] ≡ false
+pub nameless : is_class_name [] ≡ false
 nameless = refl
 
 named_from : (lines : List (List ℕ)) (said : List Declaration) → AreSaid lines said → AllByRecursion (λ (c : ListedClass). c.name ≢ []) (filter_map class_declared said)

@@ -2,6 +2,7 @@ use Rattle.inline_release.proofs.Above.{order_same}
 use Rattle.inline_release.proofs.Free.{class_free}
 use Rattle.inline_release.proofs.Texts.{id_on}
 use Rattle.inline_release.proofs.Listed.{listed}
+use Rattle.inline_release.proofs.Added.{is_added}
 use Rattle.inline_release.proofs.Standing.{classes_stand}
 use Rattle.inline_release.proofs.Steps.{one_step}
 use Rattle.inline_release.proofs.Tables.{handlers_moved}
