@@ -108,21 +108,21 @@ first_with new code (attributes.Other other ∷ attrs) e = first_with new code a
 -- ---- what a member was linked to
 
 -- What a method is that was linked of a member with this code.
-record IsCoded (files : List ClassFile) (listing : Listing) (file : ClassFile) (member : Member) (code : Code) (m : Method) : Type 0 where
-  flags : m.flags ≡ member.flags
-  name : m.name ≡ name_of file.pool member
-  desc : m.desc ≡ desc_of file.pool member
-  max_stack : m.max_stack ≡ code.max_stack
-  max_locals : m.max_locals ≡ code.max_locals
-  insns : code_of code.code ≡ Ok m.insns
-  refs : Each (λ (x : Insn) (t : Target). operand_linked files listing file.pool x ≡ Ok t) m.insns m.refs
-  handlers : Each (IsHandlerOf files listing file.pool (starts_of m.insns)) code.table m.handlers
+pub record IsCoded (files : List ClassFile) (listing : Listing) (file : ClassFile) (member : Member) (code : Code) (m : Method) : Type 0 where
+  pub flags : m.flags ≡ member.flags
+  pub name : m.name ≡ name_of file.pool member
+  pub desc : m.desc ≡ desc_of file.pool member
+  pub max_stack : m.max_stack ≡ code.max_stack
+  pub max_locals : m.max_locals ≡ code.max_locals
+  pub insns : code_of code.code ≡ Ok m.insns
+  pub refs : Each (λ (x : Insn) (t : Target). operand_linked files listing file.pool x ≡ Ok t) m.insns m.refs
+  pub handlers : Each (IsHandlerOf files listing file.pool (starts_of m.insns)) code.table m.handlers
 
 read_is : (class : List ℕ) (method : ℕ) (r : Result (List Insn) CodeFault) (xs : List Insn) → read_of class method r ≡ Ok xs → r ≡ Ok xs
 read_is class method (Ok ys) xs e = ap Ok (ok_is LinkFault ys xs e)
 read_is class method (Err fault) xs e = absurd cc
 
-coded : (files : List ClassFile) (listing : Listing) (file : ClassFile) (at : ℕ) (member : Member) (code : Code) (m : Method) → code_linked files listing file at member code ≡ Ok m
+pub coded : (files : List ClassFile) (listing : Listing) (file : ClassFile) (at : ℕ) (member : Member) (code : Code) (m : Method) → code_linked files listing file at member code ≡ Ok m
     → IsCoded files listing file member code m
 coded files listing file at member code m e =
     let class = (head_of file).name in
@@ -145,7 +145,7 @@ coded files listing file at member code m e =
     })
 
 -- the conditions that a method meets, and its body
-conditions_of : (files : List ClassFile) (listing : Listing) (file : ClassFile) (at : ℕ) (member : Member) (m : Method) → method_linked files listing file at member ≡ Ok m
+pub conditions_of : (files : List ClassFile) (listing : Listing) (file : ClassFile) (at : ℕ) (member : Member) (m : Method) → method_linked files listing file at member ≡ Ok m
     → (is_allowed file.pool member ≡ true) × (not (overrides (all_classes listing files) listing (head_of file).name file.pool member) ≡ true)
     × (body_linked files listing file at member (first_code member.attrs) ≡ Ok m)
 conditions_of files listing file at member m e =
