@@ -15,3 +15,4 @@ pub mod Texts
 pub mod Tables
 pub mod Steps
 pub mod Whole
+pub mod Original
