@@ -1,5 +1,5 @@
 -- The classes above a class end, and stay the same with one class more that none of them names.
-use Rattle.std.proofs.Common.{◌≡◌, ◌≢◌, ℕ, zero, suc, ◌+◌, ◌-◌, ◌≤◌, Bool, true, false, ◌||◌, ◌&&◌, List, [], ◌∷◌, ◌++◌, length, Option, Some, None, refl, sym, ap, subst, ◌∙◌, append_assoc, append-nil, arith}
+use Rattle.std.proofs.Common.{◌≡◌, ◌≢◌, ℕ, zero, suc, ◌+◌, Bool, true, false, ◌||◌, ◌&&◌, List, [], ◌∷◌, ◌++◌, length, Option, Some, None, refl, sym, ap, subst, ◌∙◌, append_assoc, append-nil, arith}
 use Rattle.std.specs.Prelude.{bytes_eq, find, if◌then◌else◌}
 use Rattle.std.specs.List.{AllByRecursion, list_any}
 use Rattle.std.specs.Option.{option_map_or, option_or}
@@ -7,7 +7,6 @@ use Rattle.std.proofs.lemmas.Bool.{false≢true}
 use Rattle.std.proofs.lemmas.Grind.{flat_map-append}
 use Rattle.std.proofs.lemmas.List.{length-append}
 use Rattle.std.proofs.lemmas.List.Folds.{find-append, list_any-append}
-use Rattle.std.proofs.lemmas.Slice.Eq.{bytes_eq-Decides}
 use Rattle.api_listing.specs.declared.types.ListedClass.{ListedClass}
 use Rattle.api_listing.specs.Listing.{is_known}
 use Rattle.api_listing.specs.Nearest.{class_named, upwards, names_of, interfaces_of}
@@ -83,11 +82,6 @@ ends_later zero n classes name e =
 ends_later (suc k) n classes name e =
     let j : suc (n + k) ≡ n + suc k = omega arith in
     subst (λ (i : ℕ). Ends i classes name) j (ends_next (n + k) classes name (ends_later k n classes name e))
-
-ends_by : (n m : ℕ) (classes : List ListedClass) (name : List ℕ) → n ≤ m → Ends n classes name → Ends m classes name
-ends_by n m classes name le e =
-    let j : n + (m - n) ≡ m = omega (arith, le) in
-    subst (λ (i : ℕ). Ends i classes name) j (ends_later (m - n) n classes name e)
 
 -- Each class is below one before it, or below none.
 abbrev pub ordered : List ListedClass → List ListedClass → Bool
@@ -170,20 +164,20 @@ module _ (classes : List ListedClass) (s : ListedClass) (parents : AllByRecursio
   upwards_same (suc n) name other =
       ap (λ (o : Option ListedClass). option_map_or (λ (c : ListedClass). c ∷ upwards n (classes ++ s ∷ []) c.parent) o []) (named_same name other)
       ∙ by (class_named classes name) refl (λ parent. upwards_same n parent) where
-    by : (o : Option ListedClass) → class_named classes name ≡ o → ((parent : List ℕ) → parent ≢ s.name → upwards n (classes ++ s ∷ []) parent ≡ upwards n classes parent)
-        → option_map_or (λ (c : ListedClass). c ∷ upwards n (classes ++ s ∷ []) c.parent) o [] ≡ option_map_or (λ (c : ListedClass). c ∷ upwards n classes c.parent) o []
-    by None is later = refl
-    by (Some c) is later = ap (λ (xs : List ListedClass). c ∷ xs) (later c.parent (parent_is name c is))
+        by : (o : Option ListedClass) → class_named classes name ≡ o → ((parent : List ℕ) → parent ≢ s.name → upwards n (classes ++ s ∷ []) parent ≡ upwards n classes parent)
+            → option_map_or (λ (c : ListedClass). c ∷ upwards n (classes ++ s ∷ []) c.parent) o [] ≡ option_map_or (λ (c : ListedClass). c ∷ upwards n classes c.parent) o []
+        by None is later = refl
+        by (Some c) is later = ap (λ (xs : List ListedClass). c ∷ xs) (later c.parent (parent_is name c is))
 
   stays_same : (n : ℕ) (name : List ℕ) → name ≢ s.name → stays_within n (classes ++ s ∷ []) name ≡ stays_within n classes name
   stays_same zero name other = refl
   stays_same (suc n) name other =
       ap (λ (o : Option ListedClass). option_map_or (λ (c : ListedClass). stays_within n (classes ++ s ∷ []) c.parent) o false) (named_same name other)
       ∙ by (class_named classes name) refl (λ parent. stays_same n parent) where
-    by : (o : Option ListedClass) → class_named classes name ≡ o → ((parent : List ℕ) → parent ≢ s.name → stays_within n (classes ++ s ∷ []) parent ≡ stays_within n classes parent)
-        → option_map_or (λ (c : ListedClass). stays_within n (classes ++ s ∷ []) c.parent) o false ≡ option_map_or (λ (c : ListedClass). stays_within n classes c.parent) o false
-    by None is later = refl
-    by (Some c) is later = later c.parent (parent_is name c is)
+        by : (o : Option ListedClass) → class_named classes name ≡ o → ((parent : List ℕ) → parent ≢ s.name → stays_within n (classes ++ s ∷ []) parent ≡ stays_within n classes parent)
+            → option_map_or (λ (c : ListedClass). stays_within n (classes ++ s ∷ []) c.parent) o false ≡ option_map_or (λ (c : ListedClass). stays_within n classes c.parent) o false
+        by None is later = refl
+        by (Some c) is later = later c.parent (parent_is name c is)
 
   -- a way that is left is left further up too
   stays_less : (n : ℕ) (name : List ℕ) → stays_within n classes name ≡ false → stays_within (suc n) classes name ≡ false
@@ -203,10 +197,10 @@ module _ (classes : List ListedClass) (s : ListedClass) (parents : AllByRecursio
     above_same : (name : List ℕ) → interfaces_above (classes ++ s ∷ []) name ≡ interfaces_above classes name
     above_same name =
         ap (λ (o : Option ListedClass). option_map_or (λ (c : ListedClass). c.interfaces) o []) (find-append (has_name name) classes (s ∷ [])) ∙ by (class_named classes name) (bytes_eq s.name name) where
-      by : (o : Option ListedClass) (b : Bool) → option_map_or (λ (c : ListedClass). c.interfaces) (option_or o (if b then Some s else None)) [] ≡ option_map_or (λ (c : ListedClass). c.interfaces) o []
-      by (Some c) b = refl
-      by None true = alone
-      by None false = refl
+          by : (o : Option ListedClass) (b : Bool) → option_map_or (λ (c : ListedClass). c.interfaces) (option_or o (if b then Some s else None)) [] ≡ option_map_or (λ (c : ListedClass). c.interfaces) o []
+          by (Some c) b = refl
+          by None true = alone
+          by None false = refl
 
     waiting_same : (found : List Name) (name : Name) (waiting : List Name) → with_above (classes ++ s ∷ []) found name waiting ≡ with_above classes found name waiting
     waiting_same found name waiting = ap (λ (xs : List Name). if is_one_of found name then waiting else waiting ++ xs) (above_same name)

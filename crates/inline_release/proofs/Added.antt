@@ -1,13 +1,11 @@
 -- What is known, searched, declared and written down in a program stays the same with conspec/State behind its classes.
-use Rattle.std.proofs.Common.{◌≡◌, ◌≢◌, ℕ, suc, ◌+◌, ◌-◌, ◌≤◌, Bool, true, false, ◌||◌, ◌&&◌, List, [], ◌∷◌, ◌++◌, length, Option, Some, None, Ok, refl, sym, ap, subst, ◌∙◌, append_assoc, arith}
-use Rattle.std.specs.Prelude.{bytes_eq, codes, not}
-use Rattle.std.specs.List.{AllByRecursion, list_any, list_all}
+use Rattle.std.proofs.Common.{◌≡◌, ◌≢◌, ℕ, suc, ◌+◌, Bool, true, false, ◌||◌, ◌&&◌, List, [], ◌∷◌, ◌++◌, length, Option, Some, None, Ok, refl, sym, ap, subst, ◌∙◌, append_assoc}
+use Rattle.std.specs.Prelude.{bytes_eq, not}
+use Rattle.std.specs.List.{AllByRecursion, list_all}
 use Rattle.std.specs.Option.{option_map_or, option_or}
 use Rattle.std.proofs.lemmas.Bool.{false≢true}
 use Rattle.std.proofs.lemmas.List.{length-append}
-use Rattle.std.proofs.lemmas.Slice.Eq.{bytes_eq-Decides}
-use Rattle.std.proofs.lemmas.List.Folds.{find-append, list_any-append}
-use Rattle.mon_base.specs.declared.method.MethodId.{MethodId}
+use Rattle.std.proofs.lemmas.List.Folds.{list_any-append}
 use Rattle.class_codec.specs.declared.tree.ClassFile.{ClassFile}
 use Rattle.class_codec.specs.declared.tree.Const.{Const}
 use Rattle.class_codec.specs.declared.tree.Member.{Member}
@@ -17,7 +15,7 @@ use Rattle.api_listing.specs.declared.types.ListedMethod.{ListedMethod}
 use Rattle.api_listing.specs.declared.types.Listing.{Listing}
 use Rattle.api_listing.specs.BuiltIn.{object, class_rows, built_in_classes, method_rows, is_method}
 use Rattle.api_listing.specs.Listing.{is_known, has_method}
-use Rattle.api_listing.specs.Nearest.{class_named, upwards, names_of}
+use Rattle.api_listing.specs.Nearest.{class_named}
 use Rattle.api_listing.specs.Words.{is_class_name}
 use Rattle.bytecode_model.specs.declared.declared.Found.{Found}
 use Rattle.bytecode_model.specs.declared.declared.MemberKind.{MemberKind}
@@ -25,8 +23,8 @@ use Rattle.bytecode_model.specs.declared.declared.MemberKind.TheVariants as memb
 use Rattle.bytecode_model.specs.declared.program.Side.TheVariants as sides
 use Rattle.bytecode_model.specs.declared.program.Target.TheVariants as target
 use Rattle.bytecode_model.specs.Conditions.{stays_within, runs_in_circle, stands_below, is_good_interface, has_supers, is_super, is_above, classes_linked}
-use Rattle.bytecode_model.specs.Heads.{class_at, head_of, heads_of, all_classes}
-use Rattle.bytecode_model.specs.Members.{Declared, members_from, file_members, given_from, listed_from, listed_fields_from, rows_from, methods_declared, fields_declared, first_of, first_found, in_class, method_of}
+use Rattle.bytecode_model.specs.Heads.{head_of, heads_of, all_classes}
+use Rattle.bytecode_model.specs.Members.{Declared, members_from, file_members, given_from, listed_from, listed_fields_from, rows_from, methods_declared, fields_declared, first_of, first_found, method_of}
 use Rattle.bytecode_model.specs.SearchOrder.{Name, search_order}
 use Rattle.bytecode_model.proofs.Declaring.{first_of-append}
 use Rattle.bytecode_model.proofs.Lists.{all_append, not_true}
@@ -49,16 +47,6 @@ none_named : (name : List ℕ) (classes : List ListedClass) → AllByRecursion (
 none_named name [] h = refl
 none_named name (c ∷ classes) h = rw (other_name c.name name h.0, none_named name classes h.1) refl
 
-all_named : (name : List ℕ) (classes : List ListedClass) → is_known classes name ≡ false → AllByRecursion (λ (c : ListedClass). c.name ≢ name) classes
-all_named name [] e = tt
-all_named name (c ∷ classes) e = by (bytes_eq c.name name) refl e (all_named name classes) where
-  by : (b : Bool) → bytes_eq c.name name ≡ b → (b || is_known classes name) ≡ false → (is_known classes name ≡ false → AllByRecursion (λ (c : ListedClass). c.name ≢ name) classes)
-      → AllByRecursion (λ (c : ListedClass). c.name ≢ name) (c ∷ classes)
-  by true is e rest = absurd (false≢true (sym e))
-  by false is e rest = (λ same. false≢true (sym is ∙ itself c.name name same), rest e) where
-    itself : (a b : List ℕ) → a ≡ b → bytes_eq a b ≡ true
-    itself a b same = (bytes_eq-Decides a b).1 same
-
 -- no class of an ordered list is below one that it lacks
 parents_other : (name : List ℕ) → bytes_eq name [] ≡ false → (before classes : List ListedClass) → ordered before classes ≡ true → is_known (before ++ classes) name ≡ false
     → AllByRecursion (λ (c : ListedClass). c.parent ≢ name) classes
@@ -70,9 +58,9 @@ parents_other name some before (c ∷ classes) e none =
     let known : is_known before name ≡ true = left_of (is_known before name) (sym (ap (λ (x : List ℕ). is_known before x || bytes_eq x []) same ∙ ap (λ (b : Bool). is_known before name || b) some) ∙ both.0) in
     false≢true (sym none ∙ list_any-append (has_name name) before (c ∷ classes) ∙ or_left (is_known before name) (is_known (c ∷ classes) name) known) in
     (first, parents_other name some (before ++ c ∷ []) classes both.1 (ap (λ (xs : List ListedClass). is_known xs name) longer ∙ none)) where
-  left_of : (a : Bool) → (a || false) ≡ true → a ≡ true
-  left_of true e = refl
-  left_of false e = e
+      left_of : (a : Bool) → (a || false) ≡ true → a ≡ true
+      left_of true e = refl
+      left_of false e = e
 
 -- ---- the rows of what is built in
 
@@ -120,9 +108,9 @@ none_given class (file ∷ files) none =
     first_of-append (file_members members.Method class file) (given_from members.Method (class + 1) files) way_out
     ∙ ap (λ (o : Option Found). option_or o (first_of (given_from members.Method (class + 1) files) way_out)) (none_of members.Method c file.pool class 0 file.methods both.0)
     ∙ none_given (class + 1) files both.1 where
-  or_none : (a b : Bool) → (a || b) ≡ false → (a ≡ false) × (b ≡ false)
-  or_none true b e = absurd (false≢true (sym e))
-  or_none false b e = (refl, e)
+      or_none : (a b : Bool) → (a || b) ≡ false → (a ≡ false) × (b ≡ false)
+      or_none true b e = absurd (false≢true (sym e))
+      or_none false b e = (refl, e)
 
 none_listed : (i : ℕ) (ms : List ListedMethod) → has_method ms way_out ≡ false → first_of (listed_from i ms) way_out ≡ None
 none_listed i [] e = refl
@@ -177,9 +165,9 @@ module _ (listing : Listing) (l : IsListed listing) (olds news : List ClassFile)
       let first = parents_other state_name refl [] built_in_classes built_in_placed none in
       let rest = parents_other state_name refl built_in_classes l.others l.placed free in
       subst (AllByRecursion (λ (c : ListedClass). c.parent ≢ state_name)) (sym l.classes) (all_append (λ (c : ListedClass). c.parent ≢ state_name) built_in_classes l.others first rest) where
-    left_none : (a b : Bool) → (a || b) ≡ false → a ≡ false
-    left_none true b e = e
-    left_none false b e = refl
+        left_none : (a b : Bool) → (a || b) ≡ false → a ≡ false
+        left_none true b e = e
+        left_none false b e = refl
 
   parents : AllByRecursion (λ (c : ListedClass). c.parent ≢ state_head.name) all
   parents =

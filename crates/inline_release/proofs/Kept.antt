@@ -1,6 +1,6 @@
 -- What weaving keeps of a class file: all but codes. The constants that it adds stand behind the others, and none of them
 -- is a string.
-use Rattle.std.proofs.Common.{◌≡◌, ℕ, suc, ◌+◌, Bool, true, false, List, [], ◌∷◌, ◌++◌, length, map, Option, Some, None, Ok, refl, sym, ap, subst, ◌∙◌, append_assoc, append-nil}
+use Rattle.std.proofs.Common.{◌≡◌, ℕ, suc, Bool, true, false, List, [], ◌∷◌, ◌++◌, length, map, Option, Some, None, Ok, refl, sym, ap, subst, ◌∙◌, append_assoc, append-nil}
 use Rattle.std.specs.Prelude.{slice_get, if◌then◌else◌, codes, ⊤}
 use Rattle.std.specs.List.{AllByRecursion, filter_map}
 use Rattle.mon_base.specs.Reading.{◌>>=◌}
@@ -22,7 +22,7 @@ use Rattle.offset_patch.specs.declared.block.Block.{Block}
 use Rattle.offset_patch.specs.declared.block.PoolWant.{PoolWant}
 use Rattle.offset_patch.specs.declared.block.PoolWant.TheVariants as wants
 use Rattle.offset_patch.specs.declared.fault.SpliceFault.{SpliceFault}
-use Rattle.offset_patch.specs.Entries.{placed, place_of, entry, text, class, class_of, name_and_type, method, wanted, with_wants}
+use Rattle.offset_patch.specs.Entries.{placed, place_of, entry, text, class, name_and_type, method, wanted, with_wants}
 use Rattle.offset_patch.specs.Splicing.{wants_of, grown, origins_of, room, code_spliced}
 use Rattle.block_template.specs.State.{state_class}
 use Rattle.inline_release.specs.declared.code.WovenCode.{WovenCode}

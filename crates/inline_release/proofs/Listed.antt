@@ -1,6 +1,6 @@
 -- What holds of the listing that a text spells: each class is below one before it, and none is the tool's own.
-use Rattle.std.proofs.Common.{◌≡◌, ◌≢◌, ℕ, Bool, true, false, ◌||◌, ◌&&◌, List, [], ◌∷◌, ◌++◌, length, Option, Some, None, refl, sym, ap, subst, ◌∙◌, append_assoc, append-nil}
-use Rattle.std.specs.Prelude.{bytes_eq, not, filter, IsTrue}
+use Rattle.std.proofs.Common.{◌≡◌, ◌≢◌, ℕ, Bool, true, false, ◌||◌, ◌&&◌, List, [], ◌∷◌, ◌++◌, refl, sym, ap, subst, ◌∙◌, append_assoc, append-nil}
+use Rattle.std.specs.Prelude.{bytes_eq, filter}
 use Rattle.std.specs.List.{AllByRecursion, list_all, list_any, filter_map}
 use Rattle.std.proofs.lemmas.Bool.{false≢true}
 use Rattle.std.proofs.lemmas.List.Elements.{filter_map-append}
@@ -9,12 +9,11 @@ use Rattle.mon_base.specs.declared.method.MethodId.{MethodId}
 use Rattle.api_listing.specs.declared.lines.Declaration.{Declaration}
 use Rattle.api_listing.specs.declared.lines.Declaration.TheVariants.{Class, Method, Field}
 use Rattle.api_listing.specs.declared.types.ListedClass.{ListedClass}
-use Rattle.api_listing.specs.declared.types.ListedMethod.{ListedMethod}
 use Rattle.api_listing.specs.declared.types.Listing.{Listing}
 use Rattle.api_listing.specs.BuiltIn.{class_rows, built_in_classes, method_rows, is_method, is_built_in}
-use Rattle.api_listing.specs.Words.{is_class_name, pieces}
+use Rattle.api_listing.specs.Words.{is_class_name}
 use Rattle.api_listing.specs.Lines.{says_something}
-use Rattle.api_listing.specs.Listing.{is_known, has_method, own_class, is_below, stands_already, names_known, listing_of, class_declared, method_declared, AreSaid, AreOnce, AreNamed, SpellsListing}
+use Rattle.api_listing.specs.Listing.{is_known, has_method, own_class, stands_already, listing_of, class_declared, method_declared, AreSaid, AreOnce, AreNamed, SpellsListing}
 use Rattle.bytecode_model.proofs.Lists.{not_true}
 use Rattle.bytecode_model.proofs.Names.{same_id}
 use Rattle.bytecode_model.proofs.Placing.{test_cases}

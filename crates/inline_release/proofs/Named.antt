@@ -1,6 +1,6 @@
 -- What operands name: a client's the same as before, and a block's the class conspec/State and the way out.
-use Rattle.std.proofs.Common.{◌≡◌, ◌≢◌, ℕ, ◌+◌, Bool, true, false, List, [], ◌∷◌, ◌++◌, length, map, Option, Some, None, Result, Ok, Err, refl, sym, ap, subst, ◌∙◌}
-use Rattle.std.specs.Prelude.{slice_get, slice_index, codes, if◌then◌else◌, ◌&&◌, ok_or, is_ok}
+use Rattle.std.proofs.Common.{◌≡◌, ◌≢◌, ℕ, ◌+◌, Bool, true, false, List, [], ◌∷◌, length, map, Option, Some, Result, Ok, Err, refl, sym, ap, subst, ◌∙◌}
+use Rattle.std.specs.Prelude.{slice_get, if◌then◌else◌, ◌&&◌, ok_or, is_ok}
 use Rattle.std.specs.Bool.{beq}
 use Rattle.std.specs.List.{AllByRecursion, filter_map}
 use Rattle.mon_base.specs.Reading.{◌>>=◌, need}
@@ -27,11 +27,10 @@ use Rattle.bytecode_model.specs.declared.operand.Use.{Use}
 use Rattle.bytecode_model.specs.declared.operand.Use.TheVariants as uses
 use Rattle.bytecode_model.specs.declared.program.Target.{Target}
 use Rattle.bytecode_model.specs.declared.program.Target.TheVariants as target
-use Rattle.bytecode_model.specs.Fault.{Linked}
 use Rattle.bytecode_model.specs.Heads.{all_classes, text_at}
-use Rattle.bytecode_model.specs.Members.{methods_declared, fields_declared, first_of, first_found, method_of, field_of}
-use Rattle.bytecode_model.specs.Operands.{known_in, literals_of, place_of, is_array, element_is_known, array_linked, class_linked, field_fits, field_linked, call_linked, id_at, used, use_of, index_of, is_nothing, operand_linked, told, told_at, operand_at}
-use Rattle.bytecode_model.specs.SearchOrder.{Name, search_order}
+use Rattle.bytecode_model.specs.Members.{methods_declared, fields_declared, method_of, field_of}
+use Rattle.bytecode_model.specs.Operands.{known_in, literals_of, is_array, element_is_known, array_linked, class_linked, field_fits, field_linked, call_linked, id_at, used, use_of, index_of, is_nothing, operand_linked, told_at}
+use Rattle.bytecode_model.specs.SearchOrder.{search_order}
 use Rattle.bytecode_model.proofs.Lists.{all_get}
 use Rattle.offset_patch.specs.declared.block.Block.{Block}
 use Rattle.offset_patch.specs.declared.block.BlockInsn.{BlockInsn}
@@ -40,16 +39,16 @@ use Rattle.offset_patch.specs.declared.block.PoolWant.{PoolWant}
 use Rattle.offset_patch.specs.declared.block.PoolWant.TheVariants as wants
 use Rattle.offset_patch.specs.Entries.{state_name, place_in}
 use Rattle.offset_patch.specs.Splicing.{part_of, aimed, put, parts_from, want_of, block_wants, wants_of}
-use Rattle.offset_patch.proofs.InsnFits.{IsThere}
+use Rattle.offset_patch.proofs.InsnFits.{split_all, IsThere}
 use Rattle.offset_patch.proofs.PoolFits.{get_on}
 use Rattle.inline_release.specs.Outcome.{Each, way_out, way_out_index, want_named, part_named, parts_named}
 use Rattle.inline_release.proofs.Aims.{IsStill, opcode_for, EndsInCall}
 use Rattle.inline_release.proofs.Free.{IsFree, class_free}
 use Rattle.inline_release.proofs.Kept.{IsLonger}
 use Rattle.inline_release.proofs.Pairs.{each_append}
-use Rattle.inline_release.proofs.Same.{class_longer, text_longer}
+use Rattle.inline_release.proofs.Same.{text_longer}
 use Rattle.inline_release.proofs.Texts.{id_on}
-use Rattle.inline_release.proofs.Wanted.{split_all, name_told, id_told, state_there, exit_there}
+use Rattle.inline_release.proofs.Wanted.{name_told, id_told, state_there, exit_there}
 
 -- What of others is as it is of the files, and what they have beside it.
 pub record IsAdded (files others : List ClassFile) (listing : Listing) : Type 0 where

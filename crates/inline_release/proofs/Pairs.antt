@@ -1,6 +1,5 @@
 -- Two lists whose items belong together, and what lists link to, item by item.
-use Rattle.std.proofs.Common.{◌≡◌, ℕ, ◌+◌, List, [], ◌∷◌, ◌++◌, map, Ok, refl, sym, subst, ◌∙◌}
-use Rattle.std.specs.List.{AllByRecursion}
+use Rattle.std.proofs.Common.{◌≡◌, ℕ, ◌+◌, List, [], ◌∷◌, ◌++◌, Ok, refl, subst}
 use Rattle.mon_base.specs.Reading.{◌>>=◌}
 use Rattle.mon_base.proofs.Reading.{bind_ok, ok_is}
 use Rattle.bytecode_model.specs.declared.fault.LinkFault.{LinkFault}

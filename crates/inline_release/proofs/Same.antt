@@ -1,8 +1,7 @@
 -- What class files say and declare stays the same where they are kept.
 use Rattle.std.proofs.Common.{◌≡◌, ℕ, ◌+◌, Bool, true, false, List, [], ◌∷◌, ◌++◌, map, Option, Some, None, refl, sym, ap, subst, ◌∙◌, append-nil}
-use Rattle.std.specs.Prelude.{bytes_eq, if◌then◌else◌, slice_get}
+use Rattle.std.specs.Prelude.{bytes_eq, if◌then◌else◌}
 use Rattle.std.specs.List.{AllByRecursion, filter_map, flat_map, fold}
-use Rattle.std.proofs.lemmas.Grind.{flat_map-append}
 use Rattle.std.proofs.lemmas.List.Elements.{filter_map-append}
 use Rattle.class_codec.specs.declared.pool.Kind.TheVariants as kinds
 use Rattle.class_codec.specs.declared.tree.ClassFile.{ClassFile}
@@ -10,17 +9,15 @@ use Rattle.class_codec.specs.declared.tree.Const.{Const}
 use Rattle.class_codec.specs.declared.tree.Const.TheVariants as constants
 use Rattle.class_codec.specs.declared.tree.Member.{Member}
 use Rattle.class_codec.specs.Fits.{CanSpell, FitsMember, FitsPool, IsIndex, IsNamed}
-use Rattle.class_codec.specs.Pool.{names, utf8_at, class_name_at}
+use Rattle.class_codec.specs.Pool.{names, utf8_at}
 use Rattle.api_listing.specs.declared.types.ListedClass.{ListedClass}
 use Rattle.bytecode_model.specs.declared.declared.MemberKind.{MemberKind}
 use Rattle.bytecode_model.specs.declared.declared.MemberKind.TheVariants as members
-use Rattle.bytecode_model.specs.declared.declared.Found.{Found}
-use Rattle.bytecode_model.specs.Heads.{text_at, class_at, head_of, heads_of, is_interface, is_static, is_member, name_of, desc_of, main_name, main_desc}
+use Rattle.bytecode_model.specs.Heads.{text_at, class_at, head_of, heads_of, is_interface, is_static, name_of, desc_of}
 use Rattle.bytecode_model.specs.Members.{Declared, member_declared, members_from, file_members, given_from, target_in}
 use Rattle.bytecode_model.specs.Operands.{text_of_string, strings_in, literals_of}
-use Rattle.bytecode_model.specs.Linking.{if_static, static_main, main_from, main_of}
+use Rattle.bytecode_model.specs.Linking.{static_main, main_from}
 use Rattle.bytecode_model.specs.SearchOrder.{Name, with_name}
-use Rattle.offset_patch.specs.Entries.{state_name}
 use Rattle.block_template.specs.State.{state_file}
 use Rattle.inline_release.specs.Outcome.{Each}
 use Rattle.inline_release.proofs.Kept.{IsLonger, IsPlain, IsKeptMember, same_member, IsKept}
@@ -155,11 +152,11 @@ main_kept s main begin class (old ∷ olds) (new ∷ news) fits k e =
     ∙ ap (λ (x : Option (ℕ × ℕ)). if bytes_eq (class_at old.pool old.this_class) main then x else main_from (class + 1) (news ++ s ∷ []) main)
     (static_kept class old.pool new.pool k.0.longer 0 old.methods new.methods fits.0.methods.each k.0.methods) in
     one ∙ by (bytes_eq (class_at old.pool old.this_class) main) e (main_kept s main begin (class + 1) olds news fits.1 k.1) where
-  by : (b : Bool) → (if b then static_main class old.pool 0 old.methods else main_from (class + 1) olds main) ≡ Some begin
-      → (main_from (class + 1) olds main ≡ Some begin → main_from (class + 1) (news ++ s ∷ []) main ≡ Some begin)
-      → (if b then static_main class old.pool 0 old.methods else main_from (class + 1) (news ++ s ∷ []) main) ≡ Some begin
-  by true e rest = e
-  by false e rest = rest e
+      by : (b : Bool) → (if b then static_main class old.pool 0 old.methods else main_from (class + 1) olds main) ≡ Some begin
+          → (main_from (class + 1) olds main ≡ Some begin → main_from (class + 1) (news ++ s ∷ []) main ≡ Some begin)
+          → (if b then static_main class old.pool 0 old.methods else main_from (class + 1) (news ++ s ∷ []) main) ≡ Some begin
+      by true e rest = e
+      by false e rest = rest e
 
 -- ---- conspec/State without variables
 

@@ -1,6 +1,6 @@
 -- The classes of woven files meet the conditions of classes.
-use Rattle.std.proofs.Common.{◌≡◌, ◌≢◌, ℕ, suc, ◌+◌, Bool, true, false, ◌||◌, ◌&&◌, List, [], ◌∷◌, ◌++◌, length, map, Option, Some, None, Ok, refl, sym, ap, subst, ◌∙◌, append_assoc, arith}
-use Rattle.std.specs.Prelude.{bytes_eq, find, not}
+use Rattle.std.proofs.Common.{◌≡◌, ◌≢◌, ℕ, suc, Bool, true, false, ◌||◌, ◌&&◌, List, [], ◌∷◌, ◌++◌, length, Option, Some, None, Ok, refl, sym, ap, ◌∙◌, arith}
+use Rattle.std.specs.Prelude.{bytes_eq, not}
 use Rattle.std.specs.List.{AllByRecursion, list_all, list_any}
 use Rattle.std.specs.Option.{option_map_or, option_or}
 use Rattle.std.proofs.lemmas.Bool.{false≢true}
@@ -19,25 +19,19 @@ use Rattle.api_listing.specs.Nearest.{class_named}
 use Rattle.api_listing.specs.Words.{is_class_name}
 use Rattle.bytecode_model.specs.declared.fault.LinkFault.{LinkFault}
 use Rattle.bytecode_model.specs.declared.fault.LinkFault.TheVariants as faults
-use Rattle.bytecode_model.specs.declared.program.Side.{Side}
 use Rattle.bytecode_model.specs.declared.program.Side.TheVariants as sides
 use Rattle.bytecode_model.specs.Fault.{Linked}
 use Rattle.bytecode_model.specs.Conditions.{is_free, names_own_class, may_be_extended, is_super, is_above, stays_within, runs_in_circle, stands_below, is_good_interface, has_supers, class_linked, classes_linked}
 use Rattle.bytecode_model.specs.Heads.{head_of, heads_of}
 use Rattle.bytecode_model.proofs.Lists.{not_true}
-use Rattle.bytecode_model.proofs.Placing.{test_cases, same_name}
 use Rattle.offset_patch.specs.Entries.{state_name}
 use Rattle.inline_release.specs.Outcome.{Each}
-use Rattle.inline_release.proofs.Above.{has_name, find_none, other_name, no_circle}
+use Rattle.inline_release.proofs.Above.{and_both, has_name, find_none, other_name, no_circle}
 use Rattle.inline_release.proofs.Free.{IsFree, class_free}
 use Rattle.inline_release.proofs.Kept.{IsKept}
 use Rattle.inline_release.proofs.Same.{bare_state, head_kept}
 
 -- ---- tests
-
-and_both : (a b : Bool) → (a && b) ≡ true → (a ≡ true) × (b ≡ true)
-and_both true b e = (refl, e)
-and_both false b e = absurd (false≢true e)
 
 and_holds : (a b : Bool) → a ≡ true → b ≡ true → (a && b) ≡ true
 and_holds true b e f = f

@@ -37,7 +37,7 @@ use Rattle.offset_patch.specs.declared.fault.SpliceFault.{SpliceFault}
 use Rattle.offset_patch.specs.Entries.{Placed, wanted, place_in}
 use Rattle.offset_patch.specs.Splicing.{part_of, fronts_of, put, parts_from, spliced, want_of, block_wants, wants_of, grown}
 use Rattle.offset_patch.proofs.EntryFits.{wants_grow}
-use Rattle.offset_patch.proofs.InsnFits.{IsThere, wants_there}
+use Rattle.offset_patch.proofs.InsnFits.{split_all, IsThere, wants_there}
 use Rattle.offset_patch.proofs.Steady.{steady_wanted}
 use Rattle.inline_release.specs.declared.code.WovenCode.{WovenCode}
 use Rattle.inline_release.specs.declared.members.Members.{Members}
@@ -52,7 +52,7 @@ use Rattle.inline_release.proofs.Pairs.{each_as, each_linked, linked_each}
 use Rattle.inline_release.proofs.Same.{name_kept, desc_kept}
 use Rattle.inline_release.proofs.Spells.{first_fits}
 use Rattle.inline_release.proofs.Tables.{IsHandlerOf, handlers_of, of_handlers, handlers_kept, handlers_moved}
-use Rattle.inline_release.proofs.Wanted.{split_all, exit_there, reference_told, there_on, exit_wanted}
+use Rattle.inline_release.proofs.Wanted.{exit_there, reference_told, there_on, exit_wanted}
 use Rattle.std.proofs.lemmas.Bool.{false≢true}
 use Rattle.std.proofs.lemmas.List.{length-map}
 use Rattle.class_codec.specs.declared.tree.TableEntry.{TableEntry}

@@ -1,22 +1,21 @@
 -- What stands at the places that blocks name: the class conspec/State, and the method that stops the program.
-use Rattle.std.proofs.Common.{◌≡◌, ℕ, ◌+◌, Bool, true, false, List, [], ◌∷◌, ◌++◌, Option, Some, None, refl, sym, ap, subst, ◌∙◌, arith}
-use Rattle.std.specs.Prelude.{slice_get, codes, ◌==◌, ◌&&◌, ◌||◌, find, map, option_map}
+use Rattle.std.proofs.Common.{◌≡◌, ℕ, Bool, true, false, List, [], ◌∷◌, ◌++◌, Option, Some, None, refl, sym, ap, subst, ◌∙◌, arith}
+use Rattle.std.specs.Prelude.{slice_get, codes, ◌==◌, ◌&&◌, ◌||◌, map, option_map}
 use Rattle.std.specs.List.{AllByRecursion, filter_map, list_any}
 use Rattle.std.specs.Option.{option_map_or}
 use Rattle.std.proofs.lemmas.Bool.{eqb-true, false≢true}
 use Rattle.std.proofs.lemmas.List.Elements.{filter_map-append}
-use Rattle.mon_base.specs.declared.method.MethodId.{MethodId}
 use Rattle.class_codec.specs.declared.tree.Const.{Const}
 use Rattle.class_codec.specs.declared.tree.Const.TheVariants as constants
 use Rattle.class_codec.specs.Pool.{utf8_at, text_of, class_name_at, class_name_of, name_and_type_at, name_and_type_of, both, reference_at, reference_of, member_id}
-use Rattle.bytecode_model.specs.Heads.{text_at, class_at}
+use Rattle.bytecode_model.specs.Heads.{text_at}
 use Rattle.bytecode_model.specs.Operands.{id_at}
 use Rattle.bytecode_model.proofs.Placing.{same_name}
 use Rattle.offset_patch.specs.declared.block.PoolWant.{PoolWant}
 use Rattle.offset_patch.specs.declared.block.PoolWant.TheVariants as wants
 use Rattle.offset_patch.specs.Entries.{same, Placed, placed, place_of, entry, text, class, name_and_type, method, state_name, wanted, place_in}
 use Rattle.offset_patch.proofs.EntryFits.{get_last, place_found}
-use Rattle.offset_patch.proofs.InsnFits.{IsThere}
+use Rattle.offset_patch.proofs.InsnFits.{split_all, IsThere}
 use Rattle.offset_patch.proofs.PoolFits.{get_on}
 use Rattle.offset_patch.proofs.Steady.{IsSteady, steady_text, steady_class_at, steady_name_and_type_at, steady_name_and_type, steady_method_at, steady_wanted}
 use Rattle.offset_patch.specs.Splicing.{want_of, block_wants, wants_of}
@@ -177,15 +176,6 @@ there_on want pool more there =
 
 -- ---- a method with a block wants the way out
 
-clause_there : (method : ℕ) (clauses : List Clause) → list_any (λ (c : Clause). c.method == method) clauses ≡ true → (c : Clause) × (find (λ (c : Clause). c.method == method) clauses ≡ Some c)
-clause_there method clauses e = find_some (λ (c : Clause). c.method == method) clauses e
-
-pub split_all : {X : Type 0} (P : X → Type 0) (xs ys : List X) → AllByRecursion P (xs ++ ys) → AllByRecursion P xs × AllByRecursion P ys
-split_all P [] ys h = (tt, h)
-split_all P (x ∷ xs) ys h =
-    let rest = split_all P xs ys h.1 in
-    ((h.0, rest.0), rest.1)
-
 module _ (pool : List Const) where
   denial_wants : (base : ℕ) (kinds : List Kind) → AllByRecursion (IsThere pool) (filter_map want_of (denial base kinds).insns) → IsThere pool wants.Exit
   denial_wants base kinds h =
@@ -196,7 +186,7 @@ module _ (pool : List Const) where
 
   site_wants : (policy : Policy) (base : ℕ) (ref : Target) → has_block policy ref ≡ true → AllByRecursion (IsThere pool) (block_wants (site policy base ref)) → IsThere pool wants.Exit
   site_wants policy base (target.ApiMethod method) e h =
-      let c = clause_there method policy.clauses e in
+      let c = find_some (λ (c : Clause). c.method == method) policy.clauses e in
       denial_wants base c.0.args (subst (λ (o : Option Clause). AllByRecursion (IsThere pool) (block_wants (option_map (λ (c : Clause). denial base c.args) o))) c.1 h)
   site_wants policy base ref e h = absurd (false≢true e)
 
