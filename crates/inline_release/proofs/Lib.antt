@@ -1,3 +1,13 @@
+pub mod Above
+pub mod Free
+pub mod Listed
+pub mod Kept
+pub mod Same
+pub mod Wanted
+pub mod Pairs
+pub mod Named
+pub mod Standing
+pub mod Added
 pub mod Spells
 pub mod Aims
 pub mod Again
@@ -5,3 +15,4 @@ pub mod Texts
 pub mod Tables
 pub mod Steps
 pub mod Whole
+pub mod Original

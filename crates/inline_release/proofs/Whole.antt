@@ -1,15 +1,16 @@
--- What files that were woven link to.
-use Rattle.std.proofs.Common.{◌≡◌, ℕ, ◌+◌, true, List, [], ◌∷◌, ◌++◌, length, map, Option, Some, Ok, refl, sym, ap, subst, ◌∙◌, append_assoc, append-nil}
+-- Files that were woven link to the program with its blocks.
+use Rattle.std.proofs.Common.{◌≡◌, ℕ, ◌+◌, ◌≤◌, true, List, [], ◌∷◌, ◌++◌, length, map, Option, Some, Ok, refl, sym, ap, subst, ◌∙◌, append_assoc, append-nil, arith}
 use Rattle.std.specs.Prelude.{slice_get, not, nat_lt, ok_or}
 use Rattle.std.specs.List.{AllByRecursion}
-use Rattle.std.proofs.lemmas.List.{length-append}
+use Rattle.std.proofs.lemmas.Bool.Decides.{nat_tests}
+use Rattle.std.proofs.lemmas.List.{length-append, length-map}
 use Rattle.mon_base.specs.Reading.{◌>>=◌}
-use Rattle.mon_base.proofs.Reading.{bind_ok, ok_is, need_ok}
+use Rattle.mon_base.proofs.Reading.{bind_ok, ok_is, need_ok, ok_or_ok}
 use Rattle.class_codec.specs.declared.tree.ClassFile.{ClassFile}
 use Rattle.class_codec.specs.declared.tree.Const.{Const}
 use Rattle.class_codec.specs.declared.tree.Member.{Member}
-use Rattle.class_codec.specs.Fits.{FitsMember}
-use Rattle.class_codec.specs.Pool.{utf8_at, class_name_at}
+use Rattle.class_codec.specs.Fits.{CanSpell, FitsMember, FitsPool}
+use Rattle.api_listing.specs.declared.types.ListedClass.{ListedClass}
 use Rattle.api_listing.specs.declared.types.Listing.{Listing}
 use Rattle.bytecode_model.specs.declared.fault.LinkFault.{LinkFault}
 use Rattle.bytecode_model.specs.declared.fault.LinkFault.TheVariants as faults
@@ -17,24 +18,28 @@ use Rattle.bytecode_model.specs.declared.program.LinkedClass.{LinkedClass}
 use Rattle.bytecode_model.specs.declared.program.Method.{Method}
 use Rattle.bytecode_model.specs.declared.program.Program.{Program}
 use Rattle.bytecode_model.specs.declared.program.Side.{Side}
+use Rattle.bytecode_model.specs.declared.program.Side.TheVariants as sides
 use Rattle.bytecode_model.specs.Conditions.{classes_linked}
 use Rattle.bytecode_model.specs.Fault.{Linked, linked_from}
-use Rattle.bytecode_model.specs.Heads.{class_at, heads_of}
+use Rattle.bytecode_model.specs.Heads.{class_at, head_of, heads_of}
 use Rattle.bytecode_model.specs.Operands.{literals_of}
-use Rattle.bytecode_model.specs.Linking.{method_linked, methods_linked, each_linked, classes_with, members_of, main_of, max_files, linked}
+use Rattle.bytecode_model.specs.Linking.{method_linked, methods_linked, each_linked, class_with, classes_with, members_of, main_of, max_files, linked}
 use Rattle.bytecode_model.specs.Sound.{IsSoundMethod, IsSoundClass}
 use Rattle.conspec_automaton.specs.declared.policy.Policy.{Policy}
 use Rattle.offset_patch.specs.declared.fault.SpliceFault.{SpliceFault}
-use Rattle.offset_patch.specs.Entries.{state_name}
-use Rattle.block_template.specs.State.{state_class}
+use Rattle.block_template.specs.State.{state_file, state_class}
 use Rattle.inline_release.specs.declared.members.Members.{Members}
-use Rattle.inline_release.specs.declared.weaving.Woven.{Woven}
-use Rattle.inline_release.specs.Woven.{folded, first_code, body_woven, member_woven, members_woven, none_made, file_with, file_put, class_woven, classes_woven, state_put, woven}
-use Rattle.inline_release.specs.Outcome.{Each, IsWovenMethod, IsWovenClass, IsState, WovenLinksSo}
+use Rattle.inline_release.specs.Woven.{folded, first_code, body_woven, member_woven, none_made}
+use Rattle.inline_release.specs.Outcome.{Each, IsWovenMethod, IsWovenClass, WovenLinks}
+use Rattle.inline_release.proofs.Added.{is_added, new_stand}
+use Rattle.inline_release.proofs.Free.{IsFree}
+use Rattle.inline_release.proofs.Kept.{IsLonger, IsKept, IsFileOf, file_kept, files_made}
+use Rattle.inline_release.proofs.Listed.{listed}
+use Rattle.inline_release.proofs.Named.{IsAdded}
+use Rattle.inline_release.proofs.Pairs.{first_linked}
+use Rattle.inline_release.proofs.Same.{bare_state, head_kept, main_kept}
+use Rattle.inline_release.proofs.Standing.{IsGood, all_good, state_says, state_head_name}
 use Rattle.inline_release.proofs.Steps.{one_step}
-use Rattle.inline_release.proofs.Texts.{class_on}
-use Rattle.inline_release.proofs.Tables.{first_linked}
-use Rattle.class_codec.specs.Fits.{FitsPool}
 
 -- ---- lists
 
@@ -44,29 +49,27 @@ get_behind (z ∷ xs) x ys = get_behind xs x ys
 
 -- ---- the methods of a class
 
-module _ (policy : Policy) (class : LinkedClass) (files : List ClassFile) (listing : Listing) (new : ClassFile) (others : List ClassFile) (after : Listing) where
-  -- What the members that are left make of what was made.
+module _ (policy : Policy) (class : LinkedClass) (new : ClassFile) (files others : List ClassFile) (listing : Listing) (added : IsAdded files others listing)
+    (p : FitsPool class.file.pool) (free : IsFree class.file.pool) (longer : IsLonger class.file.pool new.pool) (named : (head_of new).name ≡ (head_of class.file).name) where
+  -- What the members that are left make of what was made, and what these link to.
   record IsRest (made last : Members) (left : List Method) : Type 0 where
     items : List Member
     are : last.items ≡ made.items ++ items
     more : (xs : List Const) × (last.entries ≡ made.entries ++ xs)
-    each : (zs : List Const) → new.pool ≡ class.file.pool ++ zs → (linked : List Method) → linked_from (method_linked others after new) made.number items ≡ Ok linked → Each (IsWovenMethod policy new.pool) left linked
+    linked : List Method
+    links : linked_from (method_linked others listing new) made.number items ≡ Ok linked
+    each : Each (IsWovenMethod policy new.pool) left linked
 
   none_left : (made : Members) → IsRest made made []
-  none_left made = record {
-    items = [];
-    are = sym (append-nil made.items);
-    more = ([], sym (append-nil made.entries));
-    each = λ zs longer linked e. subst (Each (IsWovenMethod policy new.pool) []) (ok_is LinkFault [] linked e) tt;
-  }
+  none_left made = record { items = []; are = sym (append-nil made.items); more = ([], sym (append-nil made.entries)); linked = []; links = refl; each = tt }
 
-  members_rest : FitsPool class.file.pool → (members : List Member) (made last : Members) (done left : List Method) → class.methods ≡ done ++ left → length done ≡ made.number → AllByRecursion IsSoundMethod left
+  members_rest : (members : List Member) (made last : Members) (done left : List Method) → class.methods ≡ done ++ left → length done ≡ made.number → AllByRecursion IsSoundMethod left
       → AllByRecursion (FitsMember class.file.pool true) members → linked_from (method_linked files listing class.file) made.number members ≡ Ok left
       → folded (member_woven policy class) made members ≡ Ok last → last.entries ≡ new.pool → IsRest made last left
-  members_rest p [] made last done left split count sound fits e w pool =
+  members_rest [] made last done left split count sound fits e w pool =
       let none : [] ≡ left = ok_is LinkFault [] left e in
       subst (IsRest made last) none (subst (λ (x : Members). IsRest made x []) (ok_is SpliceFault made last w) (none_left made))
-  members_rest p (member ∷ members) made last done left split count sound fits e w pool =
+  members_rest (member ∷ members) made last done left split count sound fits e w pool =
       let a = first_linked (method_linked files listing class.file) made.number member members left e in
       let m = a.0 in
       let rest = a.1 in
@@ -77,19 +80,21 @@ module _ (policy : Policy) (class : LinkedClass) (files : List ClassFile) (listi
       let next = one.0 in
       let woven : body_woven policy class.name made member (Some m) (first_code member.attrs) ≡ Ok next =
       ap (λ (o : Option Method). body_woven policy class.name made member o (first_code member.attrs)) (sym here) ∙ one.1 in
-      let step = one_step policy class.file files listing new others after class.name made next member m p fits.0 sound'.0 a.2 woven in
+      let step = one_step policy class.file new files others listing added p free longer named class.name made next member m fits.0 sound'.0 a.2 woven in
       let linked' : linked_from (method_linked files listing class.file) next.number members ≡ Ok rest = ap (λ (n : ℕ). linked_from (method_linked files listing class.file) n members) step.number ∙ a.3 in
       let count' : length (done ++ m ∷ []) ≡ next.number = length-append done (m ∷ []) ∙ ap (λ (n : ℕ). n + 1) count ∙ sym step.number in
-      let later = members_rest p members next last (done ++ m ∷ []) rest (split' ∙ sym (append_assoc done (m ∷ []) rest)) count' sound'.1 fits.1 linked' one.2 pool in
+      let later = members_rest members next last (done ++ m ∷ []) rest (split' ∙ sym (append_assoc done (m ∷ []) rest)) count' sound'.1 fits.1 linked' one.2 pool in
+      let first = step.is later.more.0 (sym pool ∙ later.more.1) made.number in
+      let again : linked_from (method_linked others listing new) (made.number + 1) later.items ≡ Ok later.linked =
+      ap (λ (n : ℕ). linked_from (method_linked others listing new) n later.items) (sym step.number) ∙ later.links in
       let both : IsRest made last (m ∷ rest) = record {
         items = step.item ∷ later.items;
         are = later.are ∙ ap (λ (xs : List Member). xs ++ later.items) step.items ∙ append_assoc made.items (step.item ∷ []) later.items;
         more = (step.more.0 ++ later.more.0, later.more.1 ∙ ap (λ (xs : List Const). xs ++ later.more.0) step.more.1 ∙ append_assoc made.entries step.more.0 later.more.0);
-        each = λ zs longer linked e.
-            let b = first_linked (method_linked others after new) made.number step.item later.items linked e in
-            let first = step.is later.more.0 (sym pool ∙ later.more.1) zs longer made.number b.0 b.2 in
-            let again : linked_from (method_linked others after new) next.number later.items ≡ Ok b.1 = ap (λ (n : ℕ). linked_from (method_linked others after new) n later.items) step.number ∙ b.3 in
-            subst (Each (IsWovenMethod policy new.pool) (m ∷ rest)) b.4 (first, later.each zs longer b.1 again);
+        linked = first.0 ∷ later.linked;
+        links = ap (λ (r : Linked Method). r >>= λ x. linked_from (method_linked others listing new) (made.number + 1) later.items >>= λ xs. Ok (x ∷ xs)) first.1
+            ∙ ap (λ (r : Linked (List Method)). r >>= λ xs. Ok (first.0 ∷ xs)) again;
+        each = (first.2, later.each);
       } in
       subst (IsRest made last) a.4 both
 
@@ -101,37 +106,58 @@ pub record IsOf (files : List ClassFile) (listing : Listing) (class : LinkedClas
   pub parent : class.parent ≡ class_at class.file.pool class.file.super_class
   pub methods : methods_linked files listing class.file ≡ Ok class.methods
 
--- What a class was woven to.
-record IsFileOf (policy : Policy) (class : LinkedClass) (file : ClassFile) : Type 0 where
-  made : Members
-  all : members_woven policy class (none_made class.file.pool) class.file.methods ≡ Ok made
-  is : file_with class.file made.entries made.items ≡ file
+module _ (policy : Policy) (files others : List ClassFile) (listing : Listing) (added : IsAdded files others listing) where
+  class_joined : (old : LinkedClass) (new : ClassFile) → IsSoundClass old → IsFree old.file.pool → IsOf files listing old → IsFileOf policy old new
+      → (methods : List Method) × (methods_linked others listing new ≡ Ok methods) × IsWovenClass policy old (class_with new methods)
+  class_joined old new sound free of w =
+      let k = file_kept policy old new w in
+      let head : head_of new ≡ head_of old.file = head_kept old.file new sound.fits k in
+      let named : (head_of new).name ≡ (head_of old.file).name = ap (λ (c : ListedClass). c.name) head in
+      let pool : w.made.entries ≡ new.pool = ap (λ (f : ClassFile). f.pool) w.is in
+      let rest = members_rest policy old new files others listing added sound.fits.pool free k.longer named old.file.methods (none_made old.file.pool) w.made [] old.methods refl refl sound.methods
+      sound.fits.methods.each of.methods w.all pool in
+      let items : new.methods ≡ rest.items = ap (λ (f : ClassFile). f.methods) (sym w.is) ∙ rest.are in
+      let links : methods_linked others listing new ≡ Ok rest.linked = ap (linked_from (method_linked others listing new) 0) items ∙ rest.links in (
+        rest.linked,
+        links,
+        record {
+          name = named ∙ sym of.name;
+          parent = ap (λ (c : ListedClass). c.parent) head ∙ sym of.parent;
+          head = head;
+          added = k.longer.more;
+          pool = k.longer.is;
+          methods = rest.each;
+        },
+      )
 
-class_joined : (policy : Policy) (files others : List ClassFile) (before after : Listing) (old new : LinkedClass) → IsSoundClass old → IsOf files before old → IsOf others after new
-    → IsFileOf policy old new.file → IsWovenClass policy old new
-class_joined policy files others before after old new sound of_old of_new w =
-    let made = w.made in
-    let fits = sound.fits in
-    let pool : made.entries ≡ new.file.pool = ap (λ (f : ClassFile). f.pool) w.is in
-    let this : new.file.this_class ≡ old.file.this_class = ap (λ (f : ClassFile). f.this_class) (sym w.is) in
-    let super : new.file.super_class ≡ old.file.super_class = ap (λ (f : ClassFile). f.super_class) (sym w.is) in
-    let items : new.file.methods ≡ made.items = ap (λ (f : ClassFile). f.methods) (sym w.is) in
-    let rest = members_rest policy old files before new.file others after fits.pool old.file.methods (none_made old.file.pool) made [] old.methods refl refl sound.methods fits.methods.each
-    of_old.methods w.all pool in
-    let all : made.items ≡ rest.items = rest.are in
-    let more = rest.more.0 in
-    let longer : new.file.pool ≡ old.file.pool ++ more = sym pool ∙ rest.more.1 in
-    let linked : linked_from (method_linked others after new.file) 0 rest.items ≡ Ok new.methods = ap (λ (xs : List Member). linked_from (method_linked others after new.file) 0 xs) (sym (items ∙ all)) ∙ of_new.methods in
-    record {
-      name = of_new.name ∙ ap (class_at new.file.pool) this ∙ ap (λ (p : List Const). class_at p old.file.this_class) longer ∙ class_on old.file.pool more old.file.this_class fits.pool fits.this_class.named ∙ sym of_old.name;
-      parent = of_new.parent ∙ ap (class_at new.file.pool) super ∙ ap (λ (p : List Const). class_at p old.file.super_class) longer
-          ∙ class_on old.file.pool more old.file.super_class fits.pool fits.super_class.named ∙ sym of_old.parent;
-      methods = rest.each more longer new.methods linked;
-    }
+  -- What the files link to, behind which conspec/State stands.
+  record AreJoined (at : ℕ) (olds : List LinkedClass) (news : List ClassFile) : Type 0 where
+    methods : List (List Method)
+    links : linked_from (λ i. methods_linked others listing) at (news ++ bare_state ∷ []) ≡ Ok methods
+    own : List LinkedClass
+    are : classes_with (news ++ bare_state ∷ []) methods ≡ own ++ class_with bare_state [] ∷ []
+    classes : Each (IsWovenClass policy) olds own
 
--- ---- the classes
+  classes_joined : (at : ℕ) (olds : List LinkedClass) (news : List ClassFile) → AllByRecursion IsSoundClass olds → AllByRecursion (λ (c : LinkedClass). IsFree c.file.pool) olds
+      → AllByRecursion (IsOf files listing) olds → Each (IsFileOf policy) olds news → AreJoined at olds news
+  classes_joined at [] [] sound free of w = record { methods = [] ∷ []; links = refl; own = []; are = refl; classes = tt }
+  classes_joined at [] (new ∷ news) sound free of w = absurd w
+  classes_joined at (old ∷ olds) [] sound free of w = absurd w
+  classes_joined at (old ∷ olds) (new ∷ news) sound free of w =
+      let one = class_joined old new sound.0 free.0 of.0 w.0 in
+      let rest = classes_joined (at + 1) olds news sound.1 free.1 of.1 w.1 in
+      record {
+        methods = one.0 ∷ rest.methods;
+        links = ap (λ (r : Linked (List Method)). r >>= λ x. linked_from (λ i. methods_linked others listing) (at + 1) (news ++ bare_state ∷ []) >>= λ xs. Ok (x ∷ xs)) one.1
+            ∙ ap (λ (r : Linked (List (List Method))). r >>= λ xs. Ok (one.0 ∷ xs)) rest.links;
+        own = class_with new one.0 ∷ rest.own;
+        are = ap (λ (xs : List LinkedClass). class_with new one.0 ∷ xs) rest.are;
+        classes = (one.2, rest.classes);
+      }
 
-abbrev files_of : List LinkedClass → List ClassFile
+-- ---- a program that was linked
+
+abbrev pub files_of : List LinkedClass → List ClassFile
 files_of classes = map (λ (c : LinkedClass). c.file) classes
 
 module _ (files : List ClassFile) (listing : Listing) where
@@ -148,9 +174,15 @@ module _ (files : List ClassFile) (listing : Listing) where
       let later = classes_of (at + 1) some methods (a.3 ∙ ap Ok rest) in
       ((record { name = refl; parent = refl; methods = a.2 ∙ ap Ok front }, later.0), ap (λ (xs : List ClassFile). file ∷ xs) later.1)
 
--- the classes of a program that was linked
-program_of : (files : List ClassFile) (listing : Listing) (main : List ℕ) (side : Side) (p : Program) → linked files listing main side ≡ Ok p
-    → AllByRecursion (IsOf files listing) p.classes × (files_of p.classes ≡ files)
+-- What was linked.
+pub record IsProgramOf (files : List ClassFile) (listing : Listing) (main : List ℕ) (side : Side) (p : Program) : Type 0 where
+  pub good : classes_linked side (heads_of files) listing.classes files ≡ Ok tt
+  pub classes : AllByRecursion (IsOf files listing) p.classes
+  pub files_are : files_of p.classes ≡ files
+  pub begin : (b : ℕ × ℕ) × (main_of files main ≡ Some b)
+  pub listing_is : p.listing ≡ listing
+
+pub program_of : (files : List ClassFile) (listing : Listing) (main : List ℕ) (side : Side) (p : Program) → linked files listing main side ≡ Ok p → IsProgramOf files listing main side p
 program_of files listing main side p e =
     let built : List (List Method) × List (List ℕ) → ℕ × ℕ → Program = λ members begin. record { classes = classes_with files members.0; listing = listing; literals = members.1; main_class = begin.0; main_method = begin.1 } in
     let ending : List (List Method) × List (List ℕ) → Linked Program = λ members. ok_or (main_of files main) faults.NoMain >>= λ begin. Ok (built members begin) in
@@ -163,96 +195,80 @@ program_of files listing main side p e =
     let f = bind_ok (each_linked files listing files) (λ ms. Ok (pair ms)) c.0 c.1 in
     let same : f.0 ≡ c.0.0 = ap (λ (z : List (List Method) × List (List ℕ)). z.0) (ok_is LinkFault (pair f.0) c.0 f.2) in
     let of = classes_of files listing 0 files c.0.0 (f.1 ∙ ap Ok same) in
-    subst (λ (x : Program). AllByRecursion (IsOf files listing) x.classes × (files_of x.classes ≡ files)) is of
+    subst (IsProgramOf files listing main side) is (record {
+      good = b.1;
+      classes = of.0;
+      files_are = of.1;
+      begin = (d.0, ok_or_ok (main_of files main) faults.NoMain d.0 d.1);
+      listing_is = refl;
+    })
 
--- ---- the files that were made
+linked_by : (files : List ClassFile) (listing : Listing) (main : List ℕ) (side : Side) (methods : List (List Method)) (begin : ℕ × ℕ) → not (nat_lt max_files (length files)) ≡ true
+    → classes_linked side (heads_of files) listing.classes files ≡ Ok tt → each_linked files listing files ≡ Ok methods → main_of files main ≡ Some begin
+    → linked files listing main side ≡ Ok (record { classes = classes_with files methods; listing = listing; literals = literals_of files; main_class = begin.0; main_method = begin.1 })
+linked_by files listing main side methods begin few good each is = rw (few, good, each, is) refl
 
-classes_made : (policy : Policy) (made last : Woven) (classes : List LinkedClass) → folded (class_woven policy) made classes ≡ Ok last
-    → (files : List ClassFile) × (last.files ≡ made.files ++ files) × Each (IsFileOf policy) classes files
-classes_made policy made last [] e = ([], ap (λ (w : Woven). w.files) (sym (ok_is SpliceFault made last e)) ∙ sym (append-nil made.files), tt)
-classes_made policy made last (class ∷ classes) e =
-    let one = bind_ok (class_woven policy made class) (λ next. folded (class_woven policy) next classes) last e in
-    let two = bind_ok (members_woven policy class (none_made class.file.pool) class.file.methods) (λ done. Ok (file_put made class done)) one.0 one.1 in
-    let file = file_with class.file two.0.entries two.0.items in
-    let put : one.0.files ≡ made.files ++ file ∷ [] = ap (λ (w : Woven). w.files) (sym (ok_is SpliceFault (file_put made class two.0) one.0 two.2)) in
-    let later = classes_made policy one.0 last classes one.2 in (
-      file ∷ later.0,
-      later.1 ∙ ap (λ (xs : List ClassFile). xs ++ later.0) put ∙ append_assoc made.files (file ∷ []) later.0,
-      (record { made = two.0; all = two.1; is = refl }, later.2),
-    )
+-- ---- the law
 
-files_made : (policy : Policy) (old : Program) (made : Woven) → woven old policy ≡ Ok made
-    → (files : List ClassFile) × (made.files ≡ files ++ state_class policy ∷ []) × Each (IsFileOf policy) old.classes files
-files_made policy old made e =
-    let none : Woven = record { files = []; origins = [] } in
-    let one = bind_ok (classes_woven policy none old.classes) (λ w. Ok (state_put policy w)) made e in
-    let all = classes_made policy none one.0 old.classes one.1 in
-    let put : made.files ≡ one.0.files ++ state_class policy ∷ [] = ap (λ (w : Woven). w.files) (sym (ok_is SpliceFault (state_put policy one.0) made one.2)) in
-    (all.0, put ∙ ap (λ (xs : List ClassFile). xs ++ state_class policy ∷ []) all.1, all.2)
+module _ (policy : Policy) where
+  all_kept : (classes : List LinkedClass) (news : List ClassFile) → Each (IsFileOf policy) classes news → Each IsKept (files_of classes) news
+  all_kept [] [] w = tt
+  all_kept [] (new ∷ news) w = absurd w
+  all_kept (class ∷ classes) [] w = absurd w
+  all_kept (class ∷ classes) (new ∷ news) w = (file_kept policy class new w.0, all_kept classes news w.1)
 
--- ---- the program
+  as_many : (classes : List LinkedClass) (news : List ClassFile) → Each (IsFileOf policy) classes news → length news ≡ length classes
+  as_many [] [] w = refl
+  as_many [] (new ∷ news) w = absurd w
+  as_many (class ∷ classes) [] w = absurd w
+  as_many (class ∷ classes) (new ∷ news) w = omega (arith, as_many classes news w.1)
 
--- What new classes are, of which the last is the one that stands behind.
-record IsSplit (policy : Policy) (old new : List LinkedClass) (Is : LinkedClass → Type 0) : Type 0 where
-  own : List LinkedClass
-  state : LinkedClass
-  are : new ≡ own ++ state ∷ []
-  classes : Each (IsWovenClass policy) old own
-  last : Is state
+all_fit : (classes : List LinkedClass) → AllByRecursion IsSoundClass classes → AllByRecursion CanSpell (files_of classes)
+all_fit [] h = tt
+all_fit (class ∷ classes) h = (h.0.fits, all_fit classes h.1)
 
-module _ (policy : Policy) (files others : List ClassFile) (before after : Listing) where
-  abbrev IsLast : LinkedClass → Type 0
-  IsLast class = IsOf others after class × (class.file ≡ state_class policy)
+all_free : (heads : List ListedClass) (classes : List LinkedClass) → AllByRecursion (IsGood heads) (files_of classes) → AllByRecursion (λ (c : LinkedClass). IsFree c.file.pool) classes
+all_free heads [] h = tt
+all_free heads (class ∷ classes) h = (h.0.free, all_free heads classes h.1)
 
-  classes_joined : (old : List LinkedClass) (made : List ClassFile) (new : List LinkedClass) → AllByRecursion IsSoundClass old → AllByRecursion (IsOf files before) old
-      → Each (IsFileOf policy) old made → AllByRecursion (IsOf others after) new → files_of new ≡ made ++ state_class policy ∷ []
-      → IsSplit policy old new IsLast
-  classes_joined [] [] [] sound of_old w of_new is = absurd cc
-  classes_joined [] [] (class ∷ []) sound of_old w of_new is =
-      let file : class.file ≡ state_class policy = cc (is) in
-      record { own = []; state = class; are = refl; classes = tt; last = (of_new.0, file) }
-  classes_joined [] [] (class ∷ next ∷ new) sound of_old w of_new is = absurd cc
-  classes_joined [] (file ∷ made) new sound of_old w of_new is = absurd w
-  classes_joined (first ∷ old) [] new sound of_old w of_new is = absurd w
-  classes_joined (first ∷ old) (file ∷ made) [] sound of_old w of_new is = absurd cc
-  classes_joined (first ∷ old) (file ∷ made) (class ∷ new) sound of_old w of_new is =
-      let same : file ≡ class.file = cc (is) in
-      let rest : files_of new ≡ made ++ state_class policy ∷ [] = cc (is) in
-      let later = classes_joined old made new sound.1 of_old.1 w.1 of_new.1 rest in
-      let here = class_joined policy files others before after first class sound.0 of_old.0 of_new.0 (subst (IsFileOf policy first) same w.0) in
-      record {
-        own = class ∷ later.own;
-        state = later.state;
-        are = ap (λ (xs : List LinkedClass). class ∷ xs) later.are;
-        classes = (here, later.classes);
-        last = later.last;
-      }
+pub free_classes : (files : List ClassFile) (listing : Listing) (main : List ℕ) (p : Program) → IsProgramOf files listing main sides.Original p → AllByRecursion (λ (c : LinkedClass). IsFree c.file.pool) p.classes
+free_classes files listing main p h =
+    all_free (heads_of files) p.classes (subst (AllByRecursion (IsGood (heads_of files))) (sym h.files_are) (all_good (heads_of files) listing.classes files h.good))
 
-  -- conspec/State
-  state_named : class_at (state_class policy).pool (state_class policy).this_class ≡ state_name
-  unfolding class_name_at utf8_at
-  state_named = refl
+still_few : (n : ℕ) → n ≤ 1000 → not (nat_lt max_files n) ≡ true
+still_few n h = grind (arith, nat_tests)
 
-  state_is : (class : LinkedClass) → IsLast class → IsState policy class
-  state_is class h =
-      let named : class.name ≡ class_at (state_class policy).pool (state_class policy).this_class = h.0.name ∙ ap (λ (f : ClassFile). class_at f.pool f.this_class) h.1 in
-      let none : methods_linked others after (state_class policy) ≡ Ok class.methods = ap (methods_linked others after) (sym h.1) ∙ h.0.methods in
-      record {
-        name = named ∙ state_named;
-        file = h.1;
-        methods = sym (ok_is LinkFault [] class.methods none);
-      }
-
-pub links_so : WovenLinksSo
-links_so files before after begin main side other old new policy made first sound w second =
-    let of_old = program_of files before begin side old first in
-    let of_new = program_of made.files after main other new second in
+pub links : WovenLinks
+links text listing files main old policy made spelled first sound denies few w =
+    let p = program_of files listing main sides.Original old first in
     let all = files_made policy old made w in
-    let split = classes_joined policy files made.files before after old.classes all.0 new.classes sound.classes of_old.0 all.2 of_new.0 (of_new.1 ∙ all.1) in
-    record {
-      own = split.own;
-      state = split.state;
-      are = split.are;
-      classes = split.classes;
-      last = state_is policy files made.files before after split.state split.last;
-    }
+    let news = all.0 in
+    let others = news ++ bare_state ∷ [] in
+    let bare : state_class policy ≡ bare_state = ap state_file denies.vars in
+    let is : others ≡ made.files = ap (λ (s : ClassFile). news ++ s ∷ []) (sym bare) ∙ sym all.1 in
+    let fits : AllByRecursion CanSpell files = subst (AllByRecursion CanSpell) p.files_are (all_fit old.classes sound.classes) in
+    let kept : Each IsKept files news = subst (λ (fs : List ClassFile). Each IsKept fs news) p.files_are (all_kept policy old.classes news all.2) in
+    let l = listed text listing spelled in
+    let added = is_added listing l files news fits kept p.good in
+    let free = free_classes files listing main old p in
+    let joined = classes_joined policy files others listing added 0 old.classes news sound.classes free p.classes all.2 in
+    let begin = p.begin.0 in
+    let main_is : main_of others main ≡ Some begin = main_kept bare_state main begin 0 files news fits kept p.begin.1 in
+    let same : length old.classes ≡ length files = sym (length-map old.classes (λ (c : LinkedClass). c.file)) ∙ ap length p.files_are in
+    let count : length others ≤ 1000 = omega (arith, length-append news (bare_state ∷ []), as_many policy old.classes news all.2, same, few) in
+    let new : Program = record { classes = classes_with others joined.methods; listing = listing; literals = literals_of others; main_class = begin.0; main_method = begin.1 } in
+    let linked_is : linked others listing main sides.Inlined ≡ Ok new =
+    linked_by others listing main sides.Inlined joined.methods begin (still_few (length others) count) (new_stand listing l files news fits kept p.good) joined.links main_is in (
+      new,
+      (
+        subst (λ (fs : List ClassFile). linked fs listing main sides.Inlined ≡ Ok new) is linked_is,
+        record {
+          own = joined.own;
+          state = class_with bare_state [];
+          are = joined.are;
+          classes = joined.classes;
+          last = record { name = ap (λ (c : ListedClass). c.name) state_says ∙ state_head_name; file = sym bare; methods = refl };
+          listing = sym p.listing_is;
+        },
+      ),
+    )

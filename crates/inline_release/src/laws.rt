@@ -1,12 +1,13 @@
 //! What holds of what is woven.
 
-ghost use Rattle.inline_release.specs.Outcome.{WovenLinksSo};
+ghost use Rattle.inline_release.specs.Outcome.{OriginalIsFree, WovenLinks};
 
-/// Of a program that was linked: if the files that are woven of it link, with any listing and any main class, then to its
-/// classes in their order, and `conspec/State` behind them. Each method has its name, descriptor and flags, and the
-/// client's instructions in their order; each call that is denied, and no other, stands in its block. What went to an
-/// instruction goes to the front of what stands for it, and so do the bounds and targets of its handlers.
-/// (docs/BLOCKS.md)
-pub fn woven_is_linked_so()
-    ensures woven { WovenLinksSo }
+/// Class files that were woven link to the program with its blocks.
+pub fn woven_files_link()
+    ensures links { WovenLinks }
+{}
+
+/// What a compiler's class files link to names nothing of what the tool keeps for itself.
+pub fn original_is_free()
+    ensures free { OriginalIsFree }
 {}

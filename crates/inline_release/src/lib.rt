@@ -9,7 +9,7 @@ mod laws;
 mod members;
 mod weaving;
 
-pub use laws::woven_is_linked_so;
+pub use laws::{original_is_free, woven_files_link};
 pub use weaving::{Woven, inline};
 
 #[cfg(test)]
