@@ -3,5 +3,3 @@ pub mod Aims
 pub mod Again
 pub mod Texts
 pub mod Tables
-pub mod Steps
-pub mod Whole

@@ -1,20 +1,33 @@
 -- What class files that were woven link to: the classes of the program, in which each call that is denied stands in its
 -- block, and behind them conspec/State.
-use Rattle.std.specs.Prelude.{◌≡◌, ℕ, ◌+◌, if◌then◌else◌, List, [], ◌∷◌, ◌++◌, map, slice_index, Ok, ⊤}
+use Rattle.mon_base.specs.declared.method.MethodId.{MethodId}
+use Rattle.std.specs.Prelude.{◌≡◌, ◌≢◌, ℕ, ◌+◌, ◌<◌, true, codes, if◌then◌else◌, List, [], ◌∷◌, ◌++◌, length, map, slice_get, slice_index, Option, Some, Ok, ⊤}
+use Rattle.std.specs.List.{AllByRecursion}
 use Rattle.class_codec.specs.declared.tree.ClassFile.{ClassFile}
 use Rattle.class_codec.specs.declared.tree.Const.{Const}
 use Rattle.insn_codec.specs.declared.insn.Insn.{Insn}
 use Rattle.api_listing.specs.declared.types.Listing.{Listing}
+use Rattle.api_listing.specs.Listing.{SpellsListing}
+use Rattle.bytecode_model.specs.declared.program.Side.TheVariants as sides
+use Rattle.bytecode_model.specs.declared.program.Target.{Target}
+use Rattle.bytecode_model.specs.declared.program.Target.TheVariants as target
+use Rattle.bytecode_model.specs.Heads.{head_of}
+use Rattle.class_codec.specs.Pool.{reference_at}
+use Rattle.conspec_automaton.specs.Denying.{DeniesOnly}
+use Rattle.offset_patch.specs.declared.block.Block.{Block}
+use Rattle.offset_patch.specs.declared.block.BlockInsn.{BlockInsn}
+use Rattle.offset_patch.specs.declared.block.BlockInsn.TheVariants.{Want, Call}
+use Rattle.offset_patch.specs.declared.block.PoolWant.{PoolWant}
+use Rattle.offset_patch.specs.declared.block.PoolWant.TheVariants as wants
 use Rattle.bytecode_model.specs.declared.program.Handler.{Handler}
 use Rattle.bytecode_model.specs.declared.program.LinkedClass.{LinkedClass}
 use Rattle.bytecode_model.specs.declared.program.Method.{Method}
 use Rattle.bytecode_model.specs.declared.program.Program.{Program}
-use Rattle.bytecode_model.specs.declared.program.Side.{Side}
 use Rattle.bytecode_model.specs.Linking.{linked}
 use Rattle.bytecode_model.specs.Sound.{IsSound}
 use Rattle.conspec_automaton.specs.declared.policy.Policy.{Policy}
-use Rattle.offset_patch.specs.Entries.{state_name}
-use Rattle.offset_patch.specs.Splicing.{fronts_of, spliced, operands_needed}
+use Rattle.offset_patch.specs.Entries.{state_name, place_in}
+use Rattle.offset_patch.specs.Splicing.{part_of, fronts_of, spliced, operands_needed}
 use Rattle.block_template.specs.State.{state_class}
 use Rattle.inline_release.specs.declared.weaving.Woven.{Woven}
 use Rattle.inline_release.specs.Woven.{is_woven, sites_of, locals_of, woven}
@@ -51,6 +64,38 @@ abbrev pub handlers_woven : Policy → Method → List Handler
 handlers_woven policy method =
     if is_woven policy method then map (at_fronts (fronts_of (sites_of policy method.max_locals method))) method.handlers else method.handlers
 
+-- ---- what operands name
+
+-- the method that stops the program
+abbrev pub way_out : MethodId
+way_out = record { class = codes "java/lang/System"; name = codes "exit"; desc = codes "(I)V" }
+
+-- the place of that method in the table of the built-in ones
+abbrev pub way_out_index : ℕ
+way_out_index = 7
+
+abbrev pub want_named : PoolWant → Target
+want_named wants.StateClass = target.ClassName state_name
+want_named wants.Exit = target.Builtin way_out_index
+
+-- what the operand of an instruction of a part names, where that of the client's instruction names `own`
+abbrev pub part_named : Target → BlockInsn → Target
+part_named own (Want op want) = want_named want
+part_named own Call = own
+part_named own other = target.None
+
+-- the operands of the parts one after another
+abbrev pub parts_named : List Target → List (Option Block) → List Target
+parts_named [] sites = []
+parts_named (own ∷ refs) [] = []
+parts_named (own ∷ refs) (site ∷ sites) = map (part_named own) (part_of site) ++ parts_named refs sites
+
+abbrev pub refs_woven : Policy → Method → List Target
+refs_woven policy method =
+    if is_woven policy method then parts_named method.refs (sites_of policy method.max_locals method) else method.refs
+
+-- ---- methods, classes and programs
+
 -- What a method was, and what it is.
 pub record IsWovenMethod (policy : Policy) (pool : List Const) (old new : Method) : Type 0 where
   pub flags : new.flags ≡ old.flags
@@ -60,11 +105,17 @@ pub record IsWovenMethod (policy : Policy) (pool : List Const) (old new : Method
   pub max_locals : new.max_locals ≡ locals_woven policy old
   pub insns : new.insns ≡ insns_woven policy pool old
   pub handlers : new.handlers ≡ handlers_woven policy old
+  pub refs : new.refs ≡ refs_woven policy old
+  -- the way out is that of the pool that the blocks name
+  pub out : is_woven policy old ≡ true → reference_at pool (place_in pool wants.Exit) ≡ Some way_out
 
--- The blocks name constants of the new file.
+-- The blocks name constants of the new file, which has all of the old one, each in its place.
 pub record IsWovenClass (policy : Policy) (old new : LinkedClass) : Type 0 where
   pub name : new.name ≡ old.name
   pub parent : new.parent ≡ old.parent
+  pub head : head_of new.file ≡ head_of old.file
+  pub added : List Const
+  pub pool : new.file.pool ≡ old.file.pool ++ added
   pub methods : Each (IsWovenMethod policy new.file.pool) old.methods new.methods
 
 -- The class conspec/State, which has no method.
@@ -80,10 +131,30 @@ pub record IsWoven (old : Program) (policy : Policy) (new : Program) : Type 0 wh
   pub are : new.classes ≡ own ++ state ∷ []
   pub classes : Each (IsWovenClass policy) old.classes own
   pub last : IsState policy state
+  pub listing : new.listing ≡ old.listing
 
--- Of a program that was linked, whatever the files that were woven link to is the woven program.
-abbrev pub WovenLinksSo : Type 0
-WovenLinksSo =
-    (files : List ClassFile) (before after : Listing) (begin main : List ℕ) (side other : Side) (old new : Program) (policy : Policy) (made : Woven)
-    → linked files before begin side ≡ Ok old → IsSound old → woven old policy ≡ Ok made → linked made.files after main other ≡ Ok new
-    → IsWoven old policy new
+-- ---- the laws
+
+-- The operand names nothing of conspec/State.
+abbrev pub IsFreeTarget : Target → Type 0
+IsFreeTarget (target.ClassName name) = name ≢ state_name
+IsFreeTarget other = ⊤
+
+-- Nothing of the program is named as what the tool keeps for itself.
+pub record IsFreeOfState (program : Program) : Type 0 where
+  pub classes : AllByRecursion (λ (c : LinkedClass). c.name ≢ state_name) program.classes
+  pub operands : AllByRecursion (λ (c : LinkedClass). AllByRecursion (λ (m : Method). AllByRecursion IsFreeTarget m.refs) c.methods) program.classes
+
+-- A program of a compiler's class files is free of it.
+abbrev pub OriginalIsFree : Type 0
+OriginalIsFree =
+    (text : List ℕ) (listing : Listing) (files : List ClassFile) (main : List ℕ) (program : Program)
+    → SpellsListing text listing → linked files listing main sides.Original ≡ Ok program → IsFreeOfState program
+
+-- Of a program that was linked of a compiler's files, what is woven links to the woven program. (One class is added, so
+-- there is to be room for one.)
+abbrev pub WovenLinks : Type 0
+WovenLinks =
+    (text : List ℕ) (listing : Listing) (files : List ClassFile) (main : List ℕ) (old : Program) (policy : Policy) (made : Woven)
+    → SpellsListing text listing → linked files listing main sides.Original ≡ Ok old → IsSound old → DeniesOnly policy → length files < 1000
+    → woven old policy ≡ Ok made → (new : Program) × ((linked made.files listing main sides.Inlined ≡ Ok new) × IsWoven old policy new)

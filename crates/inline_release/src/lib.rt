@@ -5,11 +5,9 @@
 #![tactic(auto)]
 
 mod code;
-mod laws;
 mod members;
 mod weaving;
 
-pub use laws::woven_is_linked_so;
 pub use weaving::{Woven, inline};
 
 #[cfg(test)]

@@ -1,0 +1,6 @@
+pub mod Kept
+pub mod Taking
+pub mod Yielding
+pub mod Rows
+pub mod Parts
+pub mod Larger
