@@ -4,3 +4,5 @@ pub mod Yielding
 pub mod Rows
 pub mod Parts
 pub mod Larger
+pub mod Stacks
+pub mod Steps
