@@ -6,3 +6,5 @@ pub mod Parts
 pub mod Larger
 pub mod Stacks
 pub mod Steps
+pub mod Unwoven
+pub mod Places

@@ -44,7 +44,7 @@ some_is x y e = cc
 
 -- ---- blocks
 
-saved_length : (base : ℕ) (kinds : List Kind) → length (save base kinds) ≡ length kinds
+pub saved_length : (base : ℕ) (kinds : List Kind) → length (save base kinds) ≡ length kinds
 saved_length base [] = refl
 saved_length base (kind ∷ kinds) = omega (arith, length-append (save (base + 1) kinds) (store kind base ∷ []), saved_length (base + 1) kinds)
 

@@ -4,10 +4,6 @@
 //! call; what stands behind the way out of a block has none. (docs/TYPING.md, docs/BLOCKS.md)
 #![tactic(auto)]
 
-ghost use Rattle.std.specs.Prelude.{◌≡◌};
+mod laws;
 
-pub fn placeholder(n: u64) -> u64
-    ensures { result ≡ n }
-{
-    n
-}
+pub use laws::{linked_operands_are_right, policy_tells_arguments};
