@@ -6,3 +6,5 @@ pub mod Orders
 mod Bounds
 mod Least
 mod Alone
+mod Listed
+mod Linked

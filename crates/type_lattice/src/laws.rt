@@ -7,12 +7,13 @@ ghost use Rattle.type_lattice.specs.Laws.{
   IsReflexive,
   IsThrownAlone,
   IsTransitive,
+  LinkedIsInOrder,
 };
 
-// The classes of a linked program are in order.
-// pub fn linked_is_in_order()
-//     ensures { LinkedIsInOrder }
-// {}
+/// The classes of a linked program are in order.
+pub fn linked_is_in_order()
+    ensures { LinkedIsInOrder }
+{}
 
 /// Assignability is an order of the types of a program whose classes are in order.
 pub fn assignable_is_an_order()

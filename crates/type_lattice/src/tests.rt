@@ -125,6 +125,9 @@ fn arrays(rt: HostRuntime) -> Result<(), Fail> {
     assert!(rt; !refs_fit(alloc, &program, b"[La/B;", b"[[La/B;")?);
     assert!(rt; !refs_fit(alloc, &program, b"a/A", b"[La/A;")?);
     assert!(rt; !refs_fit(alloc, &program, b"[La/A;", b"a/A")?);
+    assert!(rt; refs_fit(alloc, &program, b"[L[La/B;;", b"[L[La/B;;")?);
+    assert!(rt; !refs_fit(alloc, &program, b"[L[La/B;;", b"[L[La/A;;")?);
+    assert!(rt; !refs_fit(alloc, &program, b"[L[La/B;;", b"[Ljava/lang/Object;")?);
     Ok(())
 }
 
@@ -179,6 +182,8 @@ fn merges_of_references(rt: HostRuntime) -> Result<(), Fail> {
     assert!(rt; refs_merge(alloc, &program, b"[[I", b"[[B", b"[Ljava/lang/Object;")?);
     assert!(rt; refs_merge(alloc, &program, b"[[I", b"[La/A;", b"[Ljava/lang/Object;")?);
     assert!(rt; refs_merge(alloc, &program, b"[La/A;", b"a/A", object)?);
+    assert!(rt; refs_merge(alloc, &program, b"[L[I;", b"[L[I;", b"[L[I;")?);
+    assert!(rt; refs_merge(alloc, &program, b"[L[I;", b"[La/A;", object)?);
     Ok(())
 }
 
