@@ -18,13 +18,13 @@ use Rattle.woven_typing.specs.Renaming.{renamed}
 
 -- ---- shapes
 
--- the shape with another target
-abbrev pub retargeted : ℕ → Shape → Shape
-retargeted to (shapes.Test relation from) = shapes.Test relation to
-retargeted to (shapes.Compare relation from) = shapes.Compare relation to
-retargeted to (shapes.CompareReferences same from) = shapes.CompareReferences same to
-retargeted to (shapes.TestNull null from) = shapes.TestNull null to
-retargeted to (shapes.Goto from) = shapes.Goto to
+-- the shape with its target elsewhere
+abbrev pub retargeted : (ℕ → ℕ) → Shape → Shape
+retargeted to (shapes.Test relation from) = shapes.Test relation (to from)
+retargeted to (shapes.Compare relation from) = shapes.Compare relation (to from)
+retargeted to (shapes.CompareReferences same from) = shapes.CompareReferences same (to from)
+retargeted to (shapes.TestNull null from) = shapes.TestNull null (to from)
+retargeted to (shapes.Goto from) = shapes.Goto (to from)
 retargeted to other = other
 
 -- ---- places
@@ -44,7 +44,7 @@ pub record IsKept (moved : ℕ → ℕ) (p q : Place) : Type 0 where
   pub news : (i : ℕ) → new_at q.method (moved i) ≡ new_at p.method i
   pub at : q.at ≡ moved p.at
   pub opcode : opcode_of q.insn ≡ opcode_of p.insn
-  pub to : ℕ
+  pub to : ℕ → ℕ
   pub shape : shape_of q.insn ≡ retargeted to (shape_of p.insn)
   pub reference : referred q ≡ referred p
   pub ref : q.ref ≡ p.ref

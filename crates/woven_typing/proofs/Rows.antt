@@ -88,7 +88,7 @@ module _ (moved : ℕ → ℕ) (p q : Place) (kept : IsKept moved p q) where
 
   -- ---- 3: operands
 
-  returns_shape : (to : ℕ) (shape : Shape) → returns_well q (retargeted to shape) ≡ returns_well p shape
+  returns_shape : (to : ℕ → ℕ) (shape : Shape) → returns_well q (retargeted to shape) ≡ returns_well p shape
   returns_shape to (shapes.Heap (heap.Return k)) = ap (λ (d : List ℕ). is_result_of k (result_type d)) kept.desc
   returns_shape to (shapes.Heap heap.Constant) = refl
   returns_shape to (shapes.Heap (heap.ReadItem item)) = refl
@@ -139,7 +139,7 @@ module _ (moved : ℕ → ℕ) (p q : Place) (kept : IsKept moved p q) where
       (λ e. lt_more slot p.method.max_locals q.method.max_locals e kept.locals)
       (λ e. ap (of_kind k) (type_renamed moved locals slot) ∙ kind moved p q kept k (type_at locals slot) e)
 
-  uses_kept : (locals : List VType) (to : ℕ) (shape : Shape) → uses_local p.method locals shape ≡ true → uses_local q.method (map new locals) (retargeted to shape) ≡ true
+  uses_kept : (locals : List VType) (to : ℕ → ℕ) (shape : Shape) → uses_local p.method locals shape ≡ true → uses_local q.method (map new locals) (retargeted to shape) ≡ true
   uses_kept locals to (shapes.Load k slot) = local_met k locals slot
   uses_kept locals to (shapes.Store k slot) = λ e. lt_more slot p.method.max_locals q.method.max_locals e kept.locals
   uses_kept locals to (shapes.Increment slot by) = local_met kinds.Int locals slot
@@ -187,7 +187,7 @@ module _ (moved : ℕ → ℕ) (p q : Place) (kept : IsKept moved p q) where
   new_same : (f : FrameType) → has_object (types.Uninit q.at) (map new f.stack) ≡ has_object (types.Uninit p.at) f.stack
   new_same f = ap (λ (i : ℕ). has_object (types.Uninit i) (map new f.stack)) kept.at ∙ object_same (types.Uninit p.at) f.stack
 
-  made_shape : (f : FrameType) (to : ℕ) (shape : Shape) → made_well q (again f) (retargeted to shape) ≡ made_well p f shape
+  made_shape : (f : FrameType) (to : ℕ → ℕ) (shape : Shape) → made_well q (again f) (retargeted to shape) ≡ made_well p f shape
   made_shape f to (shapes.Heap heap.Call) = receiver_same f
   made_shape f to (shapes.Heap heap.New) = ap not (new_same f)
   made_shape f to (shapes.Heap (heap.Return k)) = leaves_same f

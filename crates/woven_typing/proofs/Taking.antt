@@ -194,7 +194,7 @@ module _ (moved : ℕ → ℕ) (p q : Place) (kept : IsKept moved p q) where
   any_kept zero = tt
   any_kept (suc n) = (λ t e. refl, any_kept n)
 
-  shape_kept : (to : ℕ) (shape : Shape) → WantsKept (takes_of p shape) (takes_of q (retargeted to shape))
+  shape_kept : (to : ℕ → ℕ) (shape : Shape) → WantsKept (takes_of p shape) (takes_of q (retargeted to shape))
   shape_kept to shapes.Nothing = tt
   shape_kept to (shapes.Push n) = tt
   shape_kept to shapes.PushNull = tt

@@ -97,7 +97,7 @@ module _ (moved : ℕ → ℕ) (p q : Place) (kept : IsKept moved p q) where
   heap_pushes taken heap.Exit = refl
   heap_pushes taken (heap.Return kind) = refl
 
-  shape_pushes : (to : ℕ) (locals taken : List VType) (shape : Shape) → yields_of q (map new locals) (map new taken) (retargeted to shape) ≡ map new (yields_of p locals taken shape)
+  shape_pushes : (to : ℕ → ℕ) (locals taken : List VType) (shape : Shape) → yields_of q (map new locals) (map new taken) (retargeted to shape) ≡ map new (yields_of p locals taken shape)
   shape_pushes to locals taken shapes.Nothing = refl
   shape_pushes to locals taken (shapes.Push n) = refl
   shape_pushes to locals taken shapes.PushNull = refl
@@ -203,7 +203,7 @@ module _ (moved : ℕ → ℕ) (p q : Place) (kept : IsKept moved p q) where
   heap_changes taken t heap.Exit = refl
   heap_changes taken t (heap.Return kind) = refl
 
-  shape_changes : (to : ℕ) (taken : List VType) (t : VType) (shape : Shape) → changed_by q (map new taken) (retargeted to shape) (new t) ≡ new (changed_by p taken shape t)
+  shape_changes : (to : ℕ → ℕ) (taken : List VType) (t : VType) (shape : Shape) → changed_by q (map new taken) (retargeted to shape) (new t) ≡ new (changed_by p taken shape t)
   shape_changes to taken t (shapes.Heap what) = heap_changes taken t what
   shape_changes to taken t shapes.Nothing = refl
   shape_changes to taken t (shapes.Push n) = refl
@@ -230,7 +230,7 @@ module _ (moved : ℕ → ℕ) (p q : Place) (kept : IsKept moved p q) where
 
   -- ---- afterwards
 
-  stores_same : (to : ℕ) (shape : Shape) (j : ℕ) → stores (retargeted to shape) j ≡ stores shape j
+  stores_same : (to : ℕ → ℕ) (shape : Shape) (j : ℕ) → stores (retargeted to shape) j ≡ stores shape j
   stores_same to (shapes.Heap what) j = refl
   stores_same to shapes.Nothing j = refl
   stores_same to (shapes.Push n) j = refl
