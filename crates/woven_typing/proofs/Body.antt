@@ -258,3 +258,7 @@ module _ (policy : Policy) (old new : Program) (class other : LinkedClass) (meth
 
   pub made_long : length made.insns ≡ total policy base refs
   made_long = ap length insns_are ∙ insns_many policy base other.file.pool fronts 0 method.insns refs (sym same_length)
+
+  -- What is behind the code is behind the woven code.
+  pub moved_past : (i : ℕ) → n ≤ i → length made.insns ≤ moved i
+  moved_past i le = omega (arith, made_long, end_is, moved_behind i le, least refs n (omega (arith, same_length)), le)

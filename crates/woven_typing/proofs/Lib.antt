@@ -11,3 +11,5 @@ pub mod Places
 pub mod Blocks
 pub mod Aiming
 pub mod Body
+pub mod Passing
+pub mod Woven

@@ -41,7 +41,7 @@ module _ (moved : ℕ → ℕ) (p q : Place) (kept : IsKept moved p q) where
   abbrev new : VType → VType
   new t = renamed moved t
 
-  abbrev again : FrameType → FrameType
+  abbrev pub again : FrameType → FrameType
   again f = frame_renamed moved f
 
   -- ---- lists
