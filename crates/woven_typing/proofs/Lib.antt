@@ -13,3 +13,4 @@ pub mod Aiming
 pub mod Body
 pub mod Passing
 pub mod Woven
+pub mod Client

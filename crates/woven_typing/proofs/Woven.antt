@@ -60,7 +60,7 @@ slice_there [] i lt = absurd (omega arith)
 slice_there (x ∷ xs) zero lt = (x, refl)
 slice_there (x ∷ xs) (suc i) lt = slice_there xs i (omega arith)
 
-all_get : {A : Type 0} (P : A → Type 0) (xs : List A) (i : ℕ) (x : A) → AllByRecursion P xs → slice_get xs i ≡ Some x → P x
+pub all_get : {A : Type 0} (P : A → Type 0) (xs : List A) (i : ℕ) (x : A) → AllByRecursion P xs → slice_get xs i ≡ Some x → P x
 all_get P [] i x h e = absurd cc
 all_get P (y ∷ xs) zero x h e =
     let same : y ≡ x = cc in
