@@ -251,3 +251,67 @@ module _ (policy : Policy) (old new : Program) (own : ℕ) (class other : Linked
         before_reaches x y lt most is =
             let next : fr (suc x) ≡ fr x + length (part policy b0 ref) = rw is (before_next policy b0 method.refs i ref names) in
             omega (arith, next, before_grows_too (suc x) y (omega (arith, lt)) most)
+
+    -- What is caught of the client's instruction is caught of each instruction of its part, which has its locals.
+    module _ (k : ℕ) (less : k < length (part policy b0 ref)) (x : Insn) (r : Target) (g2 : FrameType) (locals : g2.locals ≡ map (renamed mv) f.locals) where
+      abbrev spot : Place
+      spot = here (fr i + k) x r
+
+      handler_there : (h : Handler) → h.at < count → (o : Option FrameType) → frame_of frames h.at ≡ o → 1 ≤ method.max_stack
+          → option_map_or (catches_well (client i insn) f h) o false ≡ true
+          → option_map_or (catches_well spot g2 (at_fronts fs h)) (frame_of woven (slice_index fs h.at)) false ≡ true
+      handler_there h lt None is room e = absurd cc
+      handler_there h lt (Some to) is room e =
+          let alone = and_parts (is_alone (class_caught h) to.stack) (locals_fit old (local_caught f.locals) 0 to.locals) e in
+          let low : length to.stack ≤ method.max_stack = omega (arith, alone_height (class_caught h) to.stack alone.0, room) in
+          let at : slice_index fs h.at ≡ mv h.at = front_of policy old new class other method made body h.at lt in
+          ap (λ (m : ℕ). option_map_or (catches_well spot g2 (at_fronts fs h)) (frame_of woven m) false) at
+          ∙ ap (λ (o : Option FrameType). option_map_or (catches_well spot g2 (at_fronts fs h)) o false) (frame_front h.at to is low)
+          ∙ catches_kept mv (client i insn) (here (mv i) (aimed fs insn) ref) kept f.locals f.locals f g2 to h (at_fronts fs h) refl locals refl e
+
+      handled : (h : Handler) → IsWithin count h → is_handled frames (client i insn) f h ≡ true → is_handled woven spot g2 (at_fronts fs h) ≡ true
+      handled h within e =
+          let same = covers_same k h less within in
+          let parts : covers i h ≡ true → (nat_le 1 method.max_stack ≡ true) × (is_below old (class_caught h) throwable ≡ true) × (option_map_or (catches_well (client i insn) f h) (frame_of frames h.at) false ≡ true) =
+          handled_parts (covers i h) (nat_le 1 method.max_stack) (is_below old (class_caught h) throwable) (option_map_or (catches_well (client i insn) f h) (frame_of frames h.at) false) e in
+          handled_from (covers (fr i + k) (at_fronts fs h)) (nat_le 1 made.max_stack) (is_below new (class_caught (at_fronts fs h)) throwable) _
+          (λ c. le_more 1 method.max_stack made.max_stack (parts (sym same ∙ c)).0 (stack_more policy old new class other method made body))
+          (λ c. below_kept old new body.larger (class_caught h) throwable (parts (sym same ∙ c)).1)
+          (λ c. handler_there h within.at (frame_of frames h.at) refl (leb-true _ _ (parts (sym same ∙ c)).0) (parts (sym same ∙ c)).2)
+
+      pub caught_kept : Caught woven spot g2 ≡ true
+      caught_kept =
+          ap (list_all (is_handled woven spot g2)) (handlers_are policy old new class other method made body)
+          ∙ all_also (is_handled frames (client i insn) f) (is_handled woven spot g2) (at_fronts fs) (IsWithin count) handled method.handlers body.sound.handlers row.caught
+
+    -- ---- the row of an instruction without a block
+
+    -- At the front of the code the frame takes the arguments.
+    pub entry_there : (at : ℕ) (x : Insn) (r : Target) → at ≡ mv i → (at == 0) ≡ true → Entry (here at x r) g ≡ true
+    entry_there at x r is begins_there =
+        let first : at ≡ 0 = eqb-true at 0 begins_there in
+        let lt : i < count = slice_get_within method.insns i insn there in
+        let none : i ≡ 0 =
+        elim (cases_Bool (nat_lt 0 i)) [
+          | inl later ↦
+              absurd (omega (arith, is, first, moved_is policy old new class other method made body i lt,
+              before_grows policy b0 method.refs 0 i (ltb-true _ _ later) (omega (arith, lt, same_length policy old new class other method made body))))
+          | inr fails ↦ grind (arith, nat_tests)
+        ] in
+        let begins : (i == 0) ≡ true = rw none refl in
+        entry_kept mv (client i insn) (here (mv i) (aimed fs insn) ref) kept f (row.entry begins)
+
+    pub client_row : length (part policy b0 ref) ≡ 1 → Passes woven (here (mv i) (aimed fs insn) ref) g
+    client_row single =
+        let p = client i insn in
+        let q = here (mv i) (aimed fs insn) ref in
+        let at : fr i + 0 ≡ mv i = omega (arith, moved_is policy old new class other method made body i (slice_get_within method.insns i insn there)) in
+        record {
+          entry = entry_there (mv i) (aimed fs insn) ref refl;
+          depth = depth_kept mv p q kept f row.depth;
+          operand = operand_kept mv p q kept f row.operand;
+          local = local_kept mv p q kept f row.local;
+          made = made_kept mv p q kept f ∙ row.made;
+          successor = successors_kept single;
+          caught = subst (λ (m : ℕ). Caught woven (here m (aimed fs insn) ref) g ≡ true) at (caught_kept 0 (omega (arith, single)) (aimed fs insn) ref g refl);
+        }
