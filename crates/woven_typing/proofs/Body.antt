@@ -183,7 +183,7 @@ module _ (policy : Policy) (old new : Program) (class other : LinkedClass) (meth
   pub front_of : (i : ℕ) → i < n → slice_index fronts i ≡ moved i
   front_of i lt = fronts_are i (omega (arith, lt)) ∙ sym (moved_is i lt)
 
-  least : (rs : List Target) (i : ℕ) → i ≤ length rs → i ≤ before policy base rs i
+  pub least : (rs : List Target) (i : ℕ) → i ≤ length rs → i ≤ before policy base rs i
   least [] zero le = omega arith
   least [] (suc i) le = absurd (omega arith)
   least (r ∷ rs) zero le = omega arith

@@ -14,3 +14,4 @@ pub mod Body
 pub mod Passing
 pub mod Woven
 pub mod Client
+pub mod Denied
