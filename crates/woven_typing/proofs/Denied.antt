@@ -265,3 +265,155 @@ module _ (policy : Policy) (old new : Program) (own : ℕ) (class other : Linked
           (ref_there policy old new class other method made body i k ref b names (stands k b e) ∙ ap Some named)
           (frame_place k (Some now) lt framed)
           (row_met all (spot k x r) now passes)
+
+      -- ---- arguments are stored
+
+      abbrev aims : List ℕ
+      aims = fs policy old new own class other method made body frames told met
+
+      frame_height : length frame.stack ≡ length f.stack
+      frame_height = length-map f.stack (renamed (mv policy old new own class other method made body frames told met))
+
+      few_locals : length frame.locals ≤ base
+      few_locals =
+          let e = and_parts (nat_le (length f.locals) method.max_locals) _ row.local in
+          omega (arith, leb-true _ _ e.0, length-map f.locals (renamed (mv policy old new own class other method made body frames told met)))
+
+      high_enough : length frame.stack + 3 ≤ made.max_stack
+      high_enough =
+          omega (arith, frame_height, small, stack_three policy old new class other method made body (woven_at policy old new class other method made body i ref args names has))
+
+      room_for : base + m ≤ made.max_locals
+      room_for = slots policy old new class other method made body i ref args names has
+
+      starts_with_it : (k : ℕ) → k ≡ 0 → without k frame ≡ frame
+      starts_with_it k e = rw e (ap (λ (s : List VType). record { locals = frame.locals; stack = s }) (below_none frame.stack))
+
+      stored_row : (k : ℕ) → k < m → row_in new own other made all (start + k) ≡ None
+      stored_row k lt =
+          let a = has_arguments.each (m - 1 - k) (omega (arith, lt)) in
+          let many : m ≤ length f.stack = has_arguments.many in
+          let slot : ℕ = base + (m - 1 - k) in
+          let b : BlockInsn = store a.kind slot in
+          let x : Insn = put other.file.pool aims start insn b in
+          let is = store_is other.file.pool aims start insn ref a.kind slot in
+          let at : length frame.stack - 1 - k ≡ length f.stack - length args + (m - 1 - k) = omega (arith, frame_height, lt, many) in
+          let t : VType = renamed (mv policy old new own class other method made body frames told met) a.type in
+          let type_there : slice_get frame.stack (length frame.stack - 1 - k) ≡ Some t =
+          ap (slice_get frame.stack) at ∙ slice_get-map (renamed (mv policy old new own class other method made body frames told met)) f.stack (length f.stack - length args + (m - 1 - k))
+          ∙ ap (option_map (renamed (mv policy old new own class other method made body frames told met))) a.type_there in
+          let fits : of_kind (held a.kind) t ≡ true =
+          kind (mv policy old new own class other method made body frames told met) p q (at_front policy old new own class other method made body frames told met i insn ref there names) (held a.kind) a.type a.fits in
+          let does : Does (spot k x target.None) (without k frame) (without (k + 1) frame) =
+          stores_one new own other made (start + k) x (held a.kind) slot is.shape (without k frame) t k frame.stack refl (omega (arith, frame_height, lt, many)) type_there fits
+          (omega (arith, high_enough)) (omega (arith, few_locals)) (omega (arith, room_for, lt)) in
+          met_at k b target.None (without k frame) (omega (arith, lt)) (store_at base args k a.kind lt a.kind_there) is.none
+          (stored_at m frame k (omega (arith, lt)))
+          (goes_next k (omega (arith, lt)) x target.None (without k frame) (without (k + 1) frame) does refl (starts_with_it k) (is.next (start + k)) (omega (arith, lt))
+          (stored_at m frame (k + 1) (omega (arith, lt))))
+
+      -- ---- the lock is taken, and the program is stopped
+
+      abbrev bare : FrameType
+      bare = without m frame
+
+      bare_height : length bare.stack + 1 ≤ made.max_stack
+      bare_height = omega (arith, high_enough, length-take-le (length frame.stack - m) frame.stack (omega arith))
+
+      bare_locals : length bare.locals ≤ made.max_locals
+      bare_locals = omega (arith, few_locals, room_for)
+
+      begins_bare : (r : ℕ) → m + r ≡ 0 → bare ≡ frame
+      begins_bare r e = starts_with_it m (omega (arith, e))
+
+      later : (r : ℕ) (now : FrameType) → 0 < r → m + r ≡ 0 → now ≡ frame
+      later r now lt e = absurd (omega (arith, lt, e))
+
+      abbrev class_type : VType
+      class_type = types.Ref (codes "java/lang/Class")
+
+      next_place : (r : ℕ) (x : Option FrameType) → slice_get (block_framed m frame) (m + (r + 1)) ≡ Some x → slice_get (block_framed m frame) (m + r + 1) ≡ Some x
+      next_place r x e =
+          let at : m + r + 1 ≡ m + (r + 1) = omega arith in
+          ap (slice_get (block_framed m frame)) at ∙ e
+
+      class_row : row_in new own other made all (start + (m + 0)) ≡ None
+      unfolding opcode_at
+      class_row =
+          met_at (m + 0) (Wanted 0x13 StateClass) (target.ClassName state_name) bare (omega arith) (behind_at base args 0) refl (framed_at m frame 0)
+          (goes_next (m + 0) (omega arith) (insns.Pool 19 (place_in other.file.pool StateClass)) (target.ClassName state_name) bare (with class_type bare)
+          (pushes_class new own other made (start + (m + 0)) bare bare_locals bare_height (place_in other.file.pool StateClass) state_name) refl (begins_bare 0) refl (omega arith)
+          (next_place 0 (Some (with class_type bare)) (framed_at m frame 1)))
+
+      enter_row : row_in new own other made all (start + (m + 1)) ≡ None
+      unfolding opcode_at
+      enter_row =
+          met_at (m + 1) (Plain 0xC2) target.None (with class_type bare) (omega arith) (behind_at base args 1) refl (framed_at m frame 1)
+          (goes_next (m + 1) (omega arith) (insns.Plain 194) target.None (with class_type bare) bare
+          (enters new own other made (start + (m + 1)) bare bare_locals bare_height (codes "java/lang/Class")) refl (later 1 (with class_type bare) (omega arith)) refl (omega arith)
+          (next_place 1 (Some bare) (framed_at m frame 2)))
+
+      number_row : row_in new own other made all (start + (m + 2)) ≡ None
+      unfolding opcode_at
+      number_row =
+          met_at (m + 2) (Byte (pos 77)) target.None bare (omega arith) (behind_at base args 2) refl (framed_at m frame 2)
+          (goes_next (m + 2) (omega arith) (insns.Byte (pos 77)) target.None bare (with types.Int bare)
+          (pushes_number new own other made (start + (m + 2)) bare bare_locals bare_height (pos 77)) refl (later 2 bare (omega arith)) refl (omega arith)
+          (next_place 2 (Some (with types.Int bare)) (framed_at m frame 3)))
+
+      exit_row : row_in new own other made all (start + (m + 3)) ≡ None
+      unfolding opcode_at
+      exit_row =
+          met_at (m + 3) (Wanted 0xB8 Exit) (target.Builtin way_out_index) (with types.Int bare) (omega arith) (behind_at base args 3) refl (framed_at m frame 3)
+          (goes_next (m + 3) (omega arith) (insns.Pool 184 (place_in other.file.pool Exit)) (target.Builtin way_out_index) (with types.Int bare) bare
+          (exits new own other made (start + (m + 3)) bare bare_locals bare_height (place_in other.file.pool Exit) way_out_index
+          (body.of_method.out (woven_at policy old new class other method made body i ref args names has)))
+          refl (later 3 (with types.Int bare) (omega arith)) refl (omega arith)
+          (next_place 3 (Some bare) (framed_at m frame 4)))
+
+      null_row : row_in new own other made all (start + (m + 4)) ≡ None
+      unfolding opcode_at
+      null_row =
+          met_at (m + 4) (Plain 0x01) target.None bare (omega arith) (behind_at base args 4) refl (framed_at m frame 4)
+          (goes_next (m + 4) (omega arith) (insns.Plain 1) target.None bare (with types.Null bare)
+          (pushes_null new own other made (start + (m + 4)) bare bare_locals bare_height) refl (later 4 bare (omega arith)) refl (omega arith)
+          (next_place 4 (Some (with types.Null bare)) (framed_at m frame 5)))
+
+      throw_row : row_in new own other made all (start + (m + 5)) ≡ None
+      unfolding opcode_at
+      throw_row =
+          met_at (m + 5) (Plain 0xBF) target.None (with types.Null bare) (omega arith) (behind_at base args 5) refl (framed_at m frame 5)
+          (goes_nowhere (m + 5) (omega arith) (insns.Plain 191) target.None (with types.Null bare) bare
+          (throws new own other made (start + (m + 5)) bare bare_locals bare_height) refl (later 5 (with types.Null bare) (omega arith)) refl)
+
+      -- ---- behind the way out
+
+      unreached_row : (k : ℕ) → m + 6 ≤ k → k < m + m + 9 → row_in new own other made all (start + k) ≡ None
+      unreached_row k le lt =
+          let b = slice_there (part policy base ref) k (omega (arith, lt, long)) in
+          let no : ((start + k) == 0) ≡ false = ne_eqb (start + k) 0 (λ e. absurd (omega (arith, e, le))) in
+          let x : Insn = put other.file.pool aims start insn b.0 in
+          row_here policy old new own class other method made body frames told met (start + k) x (part_named ref b.0) None
+          (insn_there policy old new class other method made body i k insn ref b.0 there names b.1)
+          (ref_there policy old new class other method made body i k ref b.0 names b.1)
+          (frame_place k None lt (unreached_at m frame k le lt))
+          (ap (λ (z : Bool). cond z (Some 1) None) no)
+
+      pub block_row : (k : ℕ) → k < m + m + 9 → row_in new own other made all (start + k) ≡ None
+      block_row k lt =
+          elim (cases_Bool (nat_lt k m)) [
+            | inl is ↦ stored_row k (ltb-true _ _ is)
+            | inr fails ↦
+                let le : m ≤ k = grind (arith, nat_tests) in
+                let at : k ≡ m + (k - m) = omega (arith, le) in
+                rw at (by (k - m) (omega (arith, lt, le)))
+          ]
+        where
+          by : (r : ℕ) → m + r < m + m + 9 → row_in new own other made all (start + (m + r)) ≡ None
+          by zero lt = class_row
+          by (suc zero) lt = enter_row
+          by (suc (suc zero)) lt = number_row
+          by (suc (suc (suc zero))) lt = exit_row
+          by (suc (suc (suc (suc zero)))) lt = null_row
+          by (suc (suc (suc (suc (suc zero))))) lt = throw_row
+          by (suc (suc (suc (suc (suc (suc r)))))) lt = unreached_row (m + suc (suc (suc (suc (suc (suc r)))))) (omega arith) lt
