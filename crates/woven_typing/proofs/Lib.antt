@@ -15,3 +15,4 @@ pub mod Passing
 pub mod Woven
 pub mod Client
 pub mod Denied
+pub mod Whole
