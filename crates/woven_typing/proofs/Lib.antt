@@ -8,3 +8,6 @@ pub mod Stacks
 pub mod Steps
 pub mod Unwoven
 pub mod Places
+mod LinkedMembers
+mod LinkedOperands
+mod Linked
