@@ -11,3 +11,5 @@ pub mod Places
 mod LinkedMembers
 mod LinkedOperands
 mod Linked
+pub mod Descriptors
+mod Policies
