@@ -355,9 +355,6 @@ module _ (files : List ClassFile) (listing : Listing) where
   pub operand_right : (class : LinkedClass) (insn : Insn) (ref : Target) → CanSpell class.file → 0 < length class.file.pool → IsInsn insn → operand_linked files listing class.file.pool insn ≡ Ok ref
       → IsRightOperand listing class insn ref
   operand_right class insn ref fits some is e = by (is_nothing (use_of insn)) refl e where
-    pool : List Const
-    pool = class.file.pool
-
     by : (b : Bool) → is_nothing (use_of insn) ≡ b → cond b (Ok target.None) (ok_or (slice_get class.file.pool (index_of insn)) operand.Wrong >>= used files listing class.file.pool (use_of insn)) ≡ Ok ref → IsRightOperand listing class insn ref
     by true none e =
         let zero_is : index_of insn ≡ 0 = nothing_named insn is none in
