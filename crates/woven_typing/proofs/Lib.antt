@@ -16,3 +16,8 @@ pub mod Woven
 pub mod Client
 pub mod Denied
 pub mod Whole
+mod LinkedMembers
+mod LinkedOperands
+mod Linked
+pub mod Descriptors
+mod Policies
