@@ -47,7 +47,7 @@ pub record IsWovenBody (policy : Policy) (old new : Program) (class other : Link
   pub of_class : IsWovenClass policy class other
   pub of_method : IsWovenMethod policy other.file.pool method made
   pub sound : IsSoundMethod method
-  pub right : (at : ℕ) (insn : Insn) (ref : Target) → slice_get method.insns at ≡ Some insn → slice_get method.refs at ≡ Some ref → IsRightOperand old.listing class insn ref
+  pub right : (at : ℕ) (insn : Insn) (ref : Target) → slice_get method.insns at ≡ Some insn → slice_get method.refs at ≡ Some ref → IsRightOperand old class insn ref
   pub references : (at : ℕ) (insn : Insn) → slice_get method.insns at ≡ Some insn → reference_at other.file.pool (index_of insn) ≡ reference_at class.file.pool (index_of insn)
   pub tells : TellsArguments old.listing policy
 

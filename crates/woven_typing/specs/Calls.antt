@@ -37,17 +37,19 @@ pub record IsListedCall (listing : Listing) (class : LinkedClass) (insn : Insn) 
   pub calls : shape_of insn ≡ shapes.Heap heap.Call
   pub desc : desc_told class insn ≡ method.id.desc
 
--- The constant of the instruction is in the pool, and what names a method of the listing calls it.
-pub record IsRightOperand (listing : Listing) (class : LinkedClass) (insn : Insn) (ref : Target) : Type 0 where
+-- The constant of the instruction is in the pool, what names a method of the listing calls it, and a field that is named
+-- is of one of the classes.
+pub record IsRightOperand (program : Program) (class : LinkedClass) (insn : Insn) (ref : Target) : Type 0 where
   pub constant : index_of insn < length class.file.pool
-  pub listed : (index : ℕ) → ref ≡ target.ApiMethod index → IsListedCall listing class insn index
+  pub listed : (index : ℕ) → ref ≡ target.ApiMethod index → IsListedCall program.listing class insn index
+  pub field : (of index : ℕ) → ref ≡ target.Field of index → of < length program.classes
 
 -- It is so for each instruction of the program.
 abbrev pub AreRightOperands : Program → Type 0
 AreRightOperands program =
     (own index at : ℕ) (class : LinkedClass) (method : Method) (insn : Insn) (ref : Target) → slice_get program.classes own ≡ Some class
     → slice_get class.methods index ≡ Some method → slice_get method.insns at ≡ Some insn → slice_get method.refs at ≡ Some ref
-    → IsRightOperand program.listing class insn ref
+    → IsRightOperand program class insn ref
 
 abbrev pub LinkedOperandsAreRight : Type 0
 LinkedOperandsAreRight =
