@@ -1,13 +1,14 @@
-mod Choices
+pub mod Choices
 pub mod Describing
 pub mod Fitting
 pub mod Faults
-mod Reaching
+pub mod Reaching
 pub mod Closed
 pub mod Moving
 pub mod Afterwards
-mod OrderLists
-mod OrderWants
-mod OrderYields
-mod OrderChanges
-mod OrderRows
+pub mod OrderLists
+pub mod OrderWants
+pub mod OrderYields
+pub mod OrderChanges
+pub mod OrderRows
+pub mod Descriptors

@@ -11,3 +11,4 @@ pub mod Typed
 pub mod Closed
 pub mod Moving
 pub mod Order
+pub mod Agreeing

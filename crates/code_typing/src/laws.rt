@@ -1,6 +1,7 @@
 //! What holds of each typed program.
 
 ghost use Rattle.std.specs.Prelude.{◌≡◌};
+ghost use Rattle.code_typing.specs.Agreeing.{DescriptorsAgree};
 ghost use Rattle.code_typing.specs.Closed.{BeginsReached, GoesToReached, IsCaughtReached};
 ghost use Rattle.code_typing.specs.Moving.{IsEffectTyped};
 ghost use Rattle.code_typing.specs.Order.{
@@ -37,4 +38,9 @@ pub fn rows_follow_the_order()
     // Frames are in order.
     ensures reflexive { FrameIsBelowItself }
     ensures transitive { FramesAreInOrder }
+{}
+
+/// The types that are read off a method's descriptor are those that api_listing reads of it.
+pub fn descriptors_agree()
+    ensures agree { DescriptorsAgree }
 {}

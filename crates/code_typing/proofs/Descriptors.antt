@@ -1,0 +1,194 @@
+-- What is read off a descriptor is what it spells.
+use Rattle.std.proofs.Common.{◌≡◌, ◌≢◌, ℕ, zero, suc, ◌+◌, ◌≤◌, Bool, true, false, ◌&&◌, List, [], ◌∷◌, ◌++◌, ◌⊎◌, length, map, replicate, Some, Ok, refl, sym, ap, ◌∙◌, inl, inr, eqb, append_assoc, arith}
+use Rattle.std.specs.Prelude.{◌||◌, ◌==◌}
+use Rattle.std.specs.List.{AllByRecursion, list_all, flat_map, onto_first}
+use Rattle.std.proofs.lemmas.Bool.{false≢true}
+use Rattle.std.proofs.lemmas.Bool.Decides.{eqb_tells}
+use Rattle.std.proofs.lemmas.List.{take_at, drop_at, length-append}
+use Rattle.std.proofs.lemmas.List.Splits.{slice_split-cons_yes, slice_split-cons_no}
+use Rattle.api_listing.specs.declared.descriptor.Element.{Element}
+use Rattle.api_listing.specs.declared.descriptor.Element.TheVariants as elements
+use Rattle.api_listing.specs.declared.descriptor.FieldType.{FieldType}
+use Rattle.api_listing.specs.declared.descriptor.MethodType.{MethodType}
+use Rattle.api_listing.specs.Descriptor.{class_spelled, element_spelled, type_spelled, result_spelled, is_element, is_type, method_type, SpellsDescriptor}
+use Rattle.api_listing.specs.Words.{pieces, is_name_byte, is_segment, is_class_name}
+use Rattle.api_listing.proofs.DescriptorLaws.{both, method_found}
+use Rattle.code_typing.specs.Described.{Descriptor, name_length, type_length, first_type, behind_type, next_type, types_at, arguments, result_text}
+
+-- ---- names of classes
+
+-- a byte of a class's name
+abbrev pub is_path_byte : ℕ → Bool
+is_path_byte b = is_name_byte b || b == 47
+
+abbrev pub is_path : List ℕ → Bool
+is_path name = list_all is_path_byte name
+
+path_byte : (b : ℕ) → is_name_byte b ≡ true → is_path_byte b ≡ true
+path_byte b e = rw e refl
+
+-- no byte of a name is one that is none of a name
+apart : (b other : ℕ) → is_path_byte other ≡ false → is_path_byte b ≡ true → (b == other) ≡ false
+apart b other none is = by (eqb_tells b other) where
+  by : ((eqb b other ≡ true) × (b ≡ other)) ⊎ ((eqb b other ≡ false) × (b ≢ other)) → eqb b other ≡ false
+  by (inl p) = absurd (false≢true (sym none ∙ ap is_path_byte (sym p.1) ∙ is))
+  by (inr p) = p.0
+
+pub path_of_name : (name : List ℕ) → list_all is_name_byte name ≡ true → is_path name ≡ true
+path_of_name [] e = refl
+path_of_name (b ∷ name) e =
+    let p = both (is_name_byte b) (list_all is_name_byte name) e in
+    let first = path_byte b p.0 in
+    rw (first, path_of_name name p.1) refl
+
+abbrev all_pieces : List (List ℕ) → Bool
+all_pieces parts = list_all (list_all is_name_byte) parts
+
+segments : (parts : List (List ℕ)) → list_all is_segment parts ≡ true → all_pieces parts ≡ true
+segments [] e = refl
+segments ([] ∷ parts) e = absurd (false≢true e)
+segments ((b ∷ bytes) ∷ parts) e =
+    let p = both (is_segment (b ∷ bytes)) (list_all is_segment parts) e in
+    rw (p.0, segments parts p.1) refl
+
+first_part : (b : ℕ) (parts : List (List ℕ)) → all_pieces (onto_first b parts) ≡ true → (is_name_byte b ≡ true) × (all_pieces parts ≡ true)
+first_part b [] e = ((both (is_name_byte b) true (both (is_name_byte b && true) true e).0).0, refl)
+first_part b (part ∷ parts) e =
+    let p = both (is_name_byte b && list_all is_name_byte part) (all_pieces parts) e in
+    let q = both (is_name_byte b) (list_all is_name_byte part) p.0 in
+    (q.0, rw (q.1, p.1) refl)
+
+joined_path : (name : List ℕ) → all_pieces (pieces 47 name) ≡ true → is_path name ≡ true
+joined_path [] e = refl
+joined_path (b ∷ bytes) e = by (eqb_tells b 47) (joined_path bytes) where
+  by : ((eqb b 47 ≡ true) × (b ≡ 47)) ⊎ ((eqb b 47 ≡ false) × (b ≢ 47)) → (all_pieces (pieces 47 bytes) ≡ true → is_path bytes ≡ true) → is_path (b ∷ bytes) ≡ true
+  by (inl p) later =
+      let rest : all_pieces (pieces 47 bytes) ≡ true = sym (ap all_pieces (slice_split-cons_yes (λ x. eqb x 47) b bytes p.0)) ∙ e in
+      rw (p.1, later rest) refl
+  by (inr p) later =
+      let q = first_part b (pieces 47 bytes) (sym (ap all_pieces (slice_split-cons_no (λ x. eqb x 47) b bytes p.0)) ∙ e) in
+      let first = path_byte b q.0 in
+      rw (first, later q.1) refl
+
+pub path_of_class : (name : List ℕ) → is_class_name name ≡ true → is_path name ≡ true
+path_of_class name e = joined_path name (segments (pieces 47 name) e)
+
+name_long : (name rest : List ℕ) → is_path name ≡ true → name_length (name ++ 59 ∷ rest) ≡ length name + 1
+name_long [] rest e = refl
+name_long (b ∷ name) rest e =
+    let p = both (is_path_byte b) (is_path name) e in
+    let other = apart b 59 refl p.0 in
+    rw (other, name_long name rest p.1) (omega arith)
+
+name_passed : (name rest : List ℕ) → is_path name ≡ true → result_text (name ++ 59 ∷ rest) ≡ result_text rest
+name_passed [] rest e = refl
+name_passed (b ∷ name) rest e =
+    let p = both (is_path_byte b) (is_path name) e in
+    let other = apart b 41 refl p.0 in
+    rw other (name_passed name rest p.1)
+
+-- ---- types
+
+-- The text is read as one type, and closes no arguments.
+pub record IsTypeText (text : List ℕ) : Type 0 where
+  pub long : (rest : List ℕ) → type_length (text ++ rest) ≡ length text
+  pub begins : (rest : List ℕ) → next_type (text ++ rest) ≡ Some (first_type (text ++ rest), behind_type (text ++ rest))
+  pub passed : (rest : List ℕ) → result_text (text ++ rest) ≡ result_text rest
+
+pub boolean_text : IsTypeText (90 ∷ [])
+boolean_text = record { long = λ rest. refl; begins = λ rest. refl; passed = λ rest. refl }
+
+pub byte_text : IsTypeText (66 ∷ [])
+byte_text = record { long = λ rest. refl; begins = λ rest. refl; passed = λ rest. refl }
+
+pub char_text : IsTypeText (67 ∷ [])
+char_text = record { long = λ rest. refl; begins = λ rest. refl; passed = λ rest. refl }
+
+pub short_text : IsTypeText (83 ∷ [])
+short_text = record { long = λ rest. refl; begins = λ rest. refl; passed = λ rest. refl }
+
+pub int_text : IsTypeText (73 ∷ [])
+int_text = record { long = λ rest. refl; begins = λ rest. refl; passed = λ rest. refl }
+
+pub void_text : IsTypeText (86 ∷ [])
+void_text = record { long = λ rest. refl; begins = λ rest. refl; passed = λ rest. refl }
+
+pub class_text : (name : List ℕ) → is_path name ≡ true → IsTypeText (class_spelled name)
+class_text name e =
+    let around : (rest : List ℕ) → (name ++ 59 ∷ []) ++ rest ≡ name ++ 59 ∷ rest = λ rest. append_assoc name (59 ∷ []) rest in
+    record {
+      long = λ rest. ap (λ (t : List ℕ). name_length t + 1) (around rest) ∙ ap (λ (n : ℕ). n + 1) (name_long name rest e) ∙ omega (arith, length-append name (59 ∷ []));
+      begins = λ rest. refl;
+      passed = λ rest. ap result_text (around rest) ∙ name_passed name rest e;
+    }
+
+deeper_text : (text : List ℕ) → IsTypeText text → IsTypeText (91 ∷ text)
+deeper_text text is = record { long = λ rest. omega (arith, is.long rest); begins = λ rest. refl; passed = is.passed }
+
+pub array_text : (n : ℕ) (text : List ℕ) → IsTypeText text → IsTypeText (replicate n 91 ++ text)
+array_text zero text is = is
+array_text (suc n) text is = deeper_text (replicate n 91 ++ text) (array_text n text is)
+
+element_text : (e : Element) → is_element e ≡ true → IsTypeText (element_spelled e)
+element_text elements.Boolean good = boolean_text
+element_text elements.Byte good = byte_text
+element_text elements.Char good = char_text
+element_text elements.Short good = short_text
+element_text elements.Int good = int_text
+element_text (elements.Class name) good = class_text name (path_of_class name good)
+
+pub type_text : (t : FieldType) → is_type t ≡ true → IsTypeText (type_spelled t)
+type_text t good = array_text t.dimensions (element_spelled t.element) (element_text t.element good)
+
+next_is : (text rest : List ℕ) → IsTypeText text → next_type (text ++ rest) ≡ Some (text, rest)
+next_is text rest is =
+    let front : first_type (text ++ rest) ≡ text = take_at text rest (type_length (text ++ rest)) (sym (is.long rest)) in
+    let back : behind_type (text ++ rest) ≡ rest = drop_at text rest (type_length (text ++ rest)) (sym (is.long rest)) in
+    is.begins rest ∙ ap (λ (t : List ℕ). Some (t, behind_type (text ++ rest))) front ∙ ap (λ (t : List ℕ). Some (text, t)) back
+
+-- ---- arguments
+
+module _ {X : Type 0} (spell : X → List ℕ) where
+  types_read : (n : ℕ) (xs : List X) (rest : List ℕ) → length xs ≤ n → AllByRecursion (λ x. IsTypeText (spell x)) xs → types_at n (flat_map spell xs ++ 41 ∷ rest) ≡ map spell xs
+  unfolding types_at
+  types_read zero [] rest few are = refl
+  types_read (suc n) [] rest few are = refl
+  types_read zero (x ∷ xs) rest few are = absurd (omega arith)
+  types_read (suc n) (x ∷ xs) rest few are =
+      let behind : List ℕ = flat_map spell xs ++ 41 ∷ rest in
+      let split : (spell x ++ flat_map spell xs) ++ 41 ∷ rest ≡ spell x ++ behind = append_assoc (spell x) (flat_map spell xs) (41 ∷ rest) in
+      let first : next_type ((spell x ++ flat_map spell xs) ++ 41 ∷ rest) ≡ Some (spell x, behind) = ap next_type split ∙ next_is (spell x) behind are.0 in
+      rw first (ap (λ (ts : List Descriptor). spell x ∷ ts) (types_read n xs rest (omega (arith, few)) are.1))
+
+  passed : (xs : List X) (rest : List ℕ) → AllByRecursion (λ x. IsTypeText (spell x)) xs → result_text (flat_map spell xs ++ 41 ∷ rest) ≡ rest
+  passed [] rest are = refl
+  passed (x ∷ xs) rest are =
+      ap result_text (append_assoc (spell x) (flat_map spell xs) (41 ∷ rest)) ∙ are.0.passed (flat_map spell xs ++ 41 ∷ rest) ∙ passed xs rest are.1
+
+  -- The arguments of a descriptor that is spelled of texts of types are those.
+  pub arguments_spelled : (desc : List ℕ) (xs : List X) (result : List ℕ) → desc ≡ 40 ∷ (flat_map spell xs ++ 41 ∷ result) → length xs ≤ 255 → AllByRecursion (λ x. IsTypeText (spell x)) xs
+      → arguments desc ≡ map spell xs
+  arguments_spelled desc xs result is few are = ap arguments is ∙ types_read 255 xs result few are
+
+  pub result_spelled_so : (desc : List ℕ) (xs : List X) (result : List ℕ) → desc ≡ 40 ∷ (flat_map spell xs ++ 41 ∷ result) → AllByRecursion (λ x. IsTypeText (spell x)) xs → result_text desc ≡ result
+  result_spelled_so desc xs result is are = ap result_text is ∙ passed xs result are
+
+-- ---- descriptors of methods
+
+type_texts : (ts : List FieldType) → list_all is_type ts ≡ true → AllByRecursion (λ (t : FieldType). IsTypeText (type_spelled t)) ts
+type_texts [] good = tt
+type_texts (t ∷ ts) good =
+    let p = both (is_type t) (list_all is_type ts) good in
+    (type_text t p.0, type_texts ts p.1)
+
+-- the types of the arguments and of the result are those that the descriptor spells
+pub described_so : (desc : List ℕ) (m : MethodType) → SpellsDescriptor desc m → (arguments desc ≡ map type_spelled m.arguments) × (result_text desc ≡ result_spelled m.result)
+described_so desc m s =
+    let texts = type_texts m.arguments s.arguments in (
+      arguments_spelled type_spelled desc m.arguments (result_spelled m.result) s.spelled s.places texts,
+      result_spelled_so type_spelled desc m.arguments (result_spelled m.result) s.spelled texts,
+    )
+
+-- What is read off a descriptor is what the listing reads of it.
+pub read_so : (desc : List ℕ) (m : MethodType) → method_type desc ≡ Ok m → (arguments desc ≡ map type_spelled m.arguments) × (result_text desc ≡ result_spelled m.result)
+read_so desc m e = described_so desc m (method_found desc m e)
