@@ -16,8 +16,9 @@ pub mod Woven
 pub mod Client
 pub mod Denied
 pub mod Whole
+pub mod Longer
+pub mod Programs
 mod LinkedMembers
 mod LinkedOperands
 mod Linked
-pub mod Descriptors
 mod Policies

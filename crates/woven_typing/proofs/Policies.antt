@@ -48,7 +48,7 @@ use Rattle.conspec_automaton.specs.Building.{clause_built}
 use Rattle.code_typing.specs.Described.{Descriptor, arguments}
 use Rattle.woven_typing.specs.Calls.{PolicyTellsArguments}
 use Rattle.woven_typing.specs.Framing.{IsOfKind, AreOfKinds}
-use Rattle.woven_typing.proofs.Descriptors.{is_path_byte, is_path, path_of_name, IsTypeText, boolean_text, byte_text, char_text, short_text, int_text, void_text, class_text, array_text, arguments_spelled, described_so}
+use Rattle.code_typing.proofs.Descriptors.{is_path_byte, is_path, path_of_name, IsTypeText, boolean_text, byte_text, char_text, short_text, int_text, void_text, class_text, array_text, arguments_spelled, described_so}
 
 -- ---- lists
 

@@ -6,4 +6,4 @@
 
 mod laws;
 
-pub use laws::{linked_operands_are_right, policy_tells_arguments};
+pub use laws::{linked_operands_are_right, policy_tells_arguments, woven_is_typed};
