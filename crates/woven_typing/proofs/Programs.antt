@@ -1,6 +1,6 @@
 -- Each method of a woven program.
 use Rattle.std.proofs.Common.{◌≡◌, ℕ, zero, suc, ◌+◌, ◌-◌, ◌<◌, ◌≤◌, Bool, true, false, cond, List, [], ◌∷◌, ◌++◌, length, map, take, drop, filter, Option, Some, None, refl, sym, ap, subst, ◌∙◌, inl, inr, arith, length-append}
-use Rattle.std.specs.Prelude.{nat_lt, slice_get, option_and_then}
+use Rattle.std.specs.Prelude.{nat_lt, replicate, slice_get, slice_index, option_map, option_and_then}
 use Rattle.std.specs.List.{AllByRecursion}
 use Rattle.std.specs.Option.{option_map_or}
 use Rattle.std.proofs.lemmas.Bool.{cases_Bool, ltb-true, lt-ltb}
@@ -19,17 +19,22 @@ use Rattle.bytecode_model.specs.Operands.{index_of}
 use Rattle.bytecode_model.specs.Sound.{IsSound, IsSoundClass, IsSoundMethod}
 use Rattle.class_codec.specs.Pool.{reference_at}
 use Rattle.conspec_automaton.specs.declared.policy.Policy.{Policy}
-use Rattle.code_typing.specs.Rules.{Frames}
+use Rattle.code_typing.specs.Rules.{Frames, frame_of}
 use Rattle.code_typing.specs.Shape.{has_code, coded, program_shape, shape_of, IsShaped}
 use Rattle.code_typing.specs.Typed.{IsTyped, row_in, row_of_method, row_fault, list_at, frames_in, frames_told}
 use Rattle.inline_release.specs.Outcome.{Each, IsWovenMethod, IsWovenClass, IsState, IsWoven, refs_woven}
 use Rattle.woven_typing.specs.Calls.{IsRightOperand, AreRightOperands}
-use Rattle.woven_typing.specs.Framing.{TellsArguments, frames_woven}
+use Rattle.conspec_parse.specs.declared.types.Kind.{Kind}
+use Rattle.inline_release.specs.Woven.{sites_of}
+use Rattle.offset_patch.specs.Splicing.{fronts_of}
+use Rattle.woven_typing.specs.Framing.{TellsArguments, arguments_of, moved_in, part_framed, low, frames_woven}
+use Rattle.woven_typing.specs.Renaming.{frame_renamed}
 use Rattle.woven_typing.specs.Laws.{IsWovenOf, IsMetWoven, WovenIsTyped}
 use Rattle.woven_typing.proofs.Body.{IsWovenBody, made_long, same_length}
 use Rattle.woven_typing.proofs.Larger.{woven_larger}
 use Rattle.woven_typing.proofs.Longer.{reference_longer}
-use Rattle.woven_typing.proofs.Parts.{get_left, get_right, total, part_some}
+use Rattle.woven_typing.proofs.Parts.{get_left, get_right, part, part_denied, before, total, front_is, frame_at, denial_length}
+use Rattle.woven_typing.proofs.Places.{unreached_at}
 use Rattle.woven_typing.proofs.Whole.{all_met}
 use Rattle.woven_typing.proofs.Woven.{slice_there, all_get}
 
@@ -144,6 +149,32 @@ rows_met program typing own index c m typed e f at =
     ∙ ap (option_and_then (λ (x : Method). row_in program own c x (frames_in c.methods (frames_told typing own) index) at)) f)
     ∙ typed own index at
 
+-- ---- behind the way out
+
+stopped : (policy : Policy) (method : Method) (frames : Frames) → IsSoundMethod method → length frames ≡ length method.insns → (i k : ℕ) (ref : Target) (args : List Kind)
+    → slice_get method.refs i ≡ Some ref → arguments_of policy ref ≡ Some args → length args + 6 ≤ k → k < length args + length args + 9
+    → frame_of (frames_woven policy method frames) (slice_index (fronts_of (sites_of policy method.max_locals method)) i + k) ≡ None
+stopped policy method frames sound told i k ref args g has le lt =
+    let base : ℕ = method.max_locals in
+    let inside : i < length method.refs = slice_get_within method.refs i ref g in
+    let x = slice_there frames i (omega (arith, inside, told, sound.refs)) in
+    let renew : Option FrameType → Option FrameType = λ f. option_map (frame_renamed (moved_in policy method)) (low method.max_stack f) in
+    let at : slice_index (fronts_of (sites_of policy base method)) i ≡ before policy base method.refs i = front_is policy base method.refs 0 i (omega (arith, inside)) ∙ omega arith in
+    let long : length (part policy base ref) ≡ length args + length args + 9 = ap length (part_denied policy base ref args has) ∙ denial_length base args in
+    ap (λ (n : ℕ). frame_of (frames_woven policy method frames) (n + k)) at
+    ∙ ap (λ (o : Option (Option FrameType)). option_map_or (λ (f : Option FrameType). f) o None)
+    (frame_at policy base method.refs (map renew frames) i k ref (renew x.0) g (slice_get-map renew frames i ∙ ap (option_map renew) x.1) (omega (arith, lt, long))
+    ∙ ap (λ (o : Option (List Kind)). slice_get (part_framed o (renew x.0)) k) has)
+    ∙ by (renew x.0)
+  where
+    filled : (m k : ℕ) → option_map_or (λ (f : Option FrameType). f) (slice_get (replicate {A = Option FrameType} m None) k) None ≡ None
+    filled zero k = refl
+    filled (suc m) zero = refl
+    filled (suc m) (suc k) = filled m k
+    by : (y : Option FrameType) → option_map_or (λ (f : Option FrameType). f) (slice_get (part_framed (Some args) y) k) None ≡ None
+    by None = filled (length args + length args + 9) k
+    by (Some f) = ap (λ (o : Option (Option FrameType)). option_map_or (λ (z : Option FrameType). z) o None) (unreached_at (length args) f k le lt)
+
 -- ---- the law
 
 -- a method without instructions has no parts
@@ -178,6 +209,12 @@ woven_typed old new policy typing sound right tells woven typed shaped own index
         let told = told_count pair.class.methods (frames_told typing own) index back.0 (class_told old.classes typing.frames own pair.class shaped pair.there) back.1 some in
         all_met policy old new own pair.class other back.0 made body (frames_in pair.class.methods (frames_told typing own) index) told
         (λ i less. rows_met old typing own index pair.class back.0 typed pair.there back.1 i) at lt;
+      stops = λ i k ref args g has le lt.
+        let sound_class : IsSoundClass pair.class = all_get IsSoundClass old.classes own pair.class sound.classes pair.there in
+        let sound_method : IsSoundMethod back.0 = all_get IsSoundMethod pair.class.methods index back.0 sound_class.methods back.1 in
+        let inside : i < length back.0.insns = omega (arith, sound_method.refs, slice_get_within back.0.refs i ref g) in
+        let told = told_count pair.class.methods (frames_told typing own) index back.0 (class_told old.classes typing.frames own pair.class shaped pair.there) back.1 (omega (arith, inside)) in
+        stopped policy back.0 (frames_in pair.class.methods (frames_told typing own) index) sound_method told i k ref args g has le lt;
     }
   where
     nothing_of : (policy : Policy) (base : ℕ) (refs : List Target) → length refs ≡ 0 → total policy base refs ≡ 0
