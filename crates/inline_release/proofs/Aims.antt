@@ -18,15 +18,23 @@ use Rattle.conspec_parse.specs.declared.types.Kind.TheVariants as kinds
 use Rattle.offset_patch.specs.declared.block.Block.{Block}
 use Rattle.offset_patch.specs.declared.block.BlockInsn.{BlockInsn}
 use Rattle.offset_patch.specs.declared.block.BlockInsn.TheVariants.{Plain, Byte, Short, Local, Want, Jump, Call}
+use Rattle.offset_patch.specs.declared.block.PoolWant.{PoolWant}
+use Rattle.offset_patch.specs.declared.block.PoolWant.TheVariants as wants
 use Rattle.offset_patch.specs.Splicing.{part_of, fronts_from, fronts_of, aimed, put, parts_from, spliced}
 use Rattle.offset_patch.proofs.Lists.{all_append}
 use Rattle.block_template.specs.Blocks.{local, store, load, save, loads, lock, stop, unlock, denial, clause_of, site}
 
 -- ---- the block of a call that is denied
 
--- An instruction that does not jump within its block.
-abbrev IsStill : BlockInsn → Type 0
+-- the opcode by which a block names an entry
+abbrev pub opcode_for : PoolWant → ℕ
+opcode_for wants.StateClass = 0x13
+opcode_for wants.Exit = 0xB8
+
+-- An instruction that does not jump within its block, and names what its opcode takes.
+abbrev pub IsStill : BlockInsn → Type 0
 IsStill (Jump op place) = ⊥
+IsStill (Want op want) = op ≡ opcode_for want
 IsStill other = ⊤
 
 -- What stands for an instruction: nothing in it jumps, and the instruction itself is the last.
@@ -68,7 +76,7 @@ denial_part base kinds =
     let last = all_append IsStill (loads base kinds) (Call ∷ []) (loads_still base kinds) (tt, tt) in
     record {
       still = all_append IsStill (save base kinds) (lock ++ (stop ++ (unlock ++ (loads base kinds ++ Call ∷ [])))) (save_still base kinds)
-          (tt, (tt, (tt, (tt, (tt, (tt, (tt, (tt, last))))))));
+          (refl, (tt, (tt, (refl, (tt, (tt, (refl, (tt, last))))))));
       last = (save base kinds ++ between base kinds, sym (append_assoc (save base kinds) (between base kinds) (Call ∷ [])));
     }
 
@@ -124,6 +132,12 @@ spliced_within pool own sites same to few =
     let count : length (spliced pool own sites) ≡ many sites = parts_many pool (fronts_of sites) 0 own sites (sym same) in
     omega (arith, count, front_within sites 0 to (omega (arith, same, few)))
 
+pub spliced_below : (pool : List Const) (own : List Insn) (sites : List (Option Block)) → length sites ≡ length own → AllByRecursion EndsInCall sites → (to : ℕ) → to < length own
+    → slice_index (fronts_of sites) to < length (spliced pool own sites)
+spliced_below pool own sites same h to few =
+    let count : length (spliced pool own sites) ≡ many sites = parts_many pool (fronts_of sites) 0 own sites (sym same) in
+    omega (arith, count, front_below sites 0 to h (omega (arith, same, few)))
+
 -- ---- targets
 
 all_aimed : (fronts : List ℕ) (n m : ℕ) → ((to : ℕ) → to < n → slice_index fronts to < m) → (targets : List ℕ) → AllByRecursion (λ to. to < n) targets
@@ -173,9 +187,7 @@ parts_aim pool fronts n m f begin (insn ∷ own) (site ∷ sites) h s =
 pub spliced_aims : (pool : List Const) (own : List Insn) (sites : List (Option Block)) → length sites ≡ length own → AllByRecursion (AimsWithin (length own)) own
     → AllByRecursion EndsInCall sites → AllByRecursion (AimsWithin (length (spliced pool own sites))) (spliced pool own sites)
 spliced_aims pool own sites same h s =
-    let count : length (spliced pool own sites) ≡ many sites = parts_many pool (fronts_of sites) 0 own sites (sym same) in
-    let below : (to : ℕ) → to < length own → slice_index (fronts_of sites) to < length (spliced pool own sites) = λ to few. omega (arith, count, front_below sites 0 to s (omega (arith, same, few))) in
-    parts_aim pool (fronts_of sites) (length own) (length (spliced pool own sites)) below 0 own sites h s
+    parts_aim pool (fronts_of sites) (length own) (length (spliced pool own sites)) (spliced_below pool own sites same s) 0 own sites h s
 
 -- ---- the end
 

@@ -2,20 +2,21 @@
 use Rattle.std.proofs.Common.{◌≡◌, ℕ, true, List, ◌++◌, Option, Some, None, refl, sym, ap, ◌∙◌}
 use Rattle.std.specs.Prelude.{slice_get}
 use Rattle.bytecode_model.specs.Heads.{text_at, class_at}
+use Rattle.bytecode_model.specs.Operands.{id_at}
 use Rattle.bytecode_model.proofs.Lists.{all_get}
 use Rattle.class_codec.specs.declared.pool.Kind.{Kind}
 use Rattle.class_codec.specs.declared.pool.Kind.TheVariants as kinds
 use Rattle.class_codec.specs.declared.tree.Const.{Const}
 use Rattle.class_codec.specs.declared.tree.Const.TheVariants as constants
 use Rattle.class_codec.specs.Fits.{FitsPool, IsNamed}
-use Rattle.class_codec.specs.Pool.{is_of, is_one_of, names, utf8_at, text_of, class_name_at, class_name_of}
+use Rattle.class_codec.specs.Pool.{is_of, is_one_of, names, utf8_at, text_of, class_name_at, class_name_of, both, name_and_type_at, name_and_type_of}
 use Rattle.offset_patch.proofs.PoolFits.{get_on}
 
 one_of : (kind : Kind) (o : Option Const) → is_one_of kind o ≡ true → (c : Const) × ((o ≡ Some c) × (is_of kind c ≡ true))
 one_of kind None e = absurd cc
 one_of kind (Some c) e = (c, (refl, e))
 
-utf8_on : (pool more : List Const) (i : ℕ) → names kinds.Utf8 pool i ≡ true → utf8_at (pool ++ more) i ≡ utf8_at pool i
+pub utf8_on : (pool more : List Const) (i : ℕ) → names kinds.Utf8 pool i ≡ true → utf8_at (pool ++ more) i ≡ utf8_at pool i
 unfolding names utf8_at
 utf8_on pool more i e =
     let one = one_of kinds.Utf8 (slice_get pool i) e in
@@ -49,3 +50,35 @@ class_name_on pool more i fits e =
 
 pub class_on : (pool more : List Const) (i : ℕ) → FitsPool pool → names kinds.Class pool i ≡ true → class_at (pool ++ more) i ≡ class_at pool i
 class_on pool more i fits e = rw (class_name_on pool more i fits e) refl
+
+-- ---- names and descriptors
+
+is_name_and_type : (c : Const) → is_of kinds.NameAndType c ≡ true → (name : ℕ) × (desc : ℕ) × (c ≡ constants.NameAndType name desc)
+is_name_and_type (constants.NameAndType name desc) e = (name, desc, refl)
+is_name_and_type (constants.Class name) e = absurd cc
+is_name_and_type (constants.Utf8 text) e = absurd cc
+is_name_and_type (constants.Integer n) e = absurd cc
+is_name_and_type (constants.Float n) e = absurd cc
+is_name_and_type (constants.Long n) e = absurd cc
+is_name_and_type (constants.Double n) e = absurd cc
+is_name_and_type (constants.Str text) e = absurd cc
+is_name_and_type (constants.Field class name) e = absurd cc
+is_name_and_type (constants.Method class name) e = absurd cc
+is_name_and_type (constants.IMethod class name) e = absurd cc
+is_name_and_type constants.Second e = absurd cc
+
+pub name_and_type_on : (pool more : List Const) (i : ℕ) → FitsPool pool → names kinds.NameAndType pool i ≡ true → name_and_type_at (pool ++ more) i ≡ name_and_type_at pool i
+unfolding names name_and_type_at
+name_and_type_on pool more i fits e =
+    let one = one_of kinds.NameAndType (slice_get pool i) e in
+    let m = is_name_and_type one.0 one.1.1 in
+    let c = constants.NameAndType m.0 m.1 in
+    let there : slice_get pool i ≡ Some c = one.1.0 ∙ ap Some m.2 in
+    let named : IsNamed pool c = all_get (IsNamed pool) pool i c fits.named there in
+    ap (name_and_type_of (pool ++ more)) (get_on pool more i c there)
+    ∙ ap (λ (o : Option (List ℕ)). both o (utf8_at (pool ++ more) m.1)) (utf8_on pool more m.0 named.0) ∙ ap (both (utf8_at pool m.0)) (utf8_on pool more m.1 named.1)
+    ∙ sym (ap (name_and_type_of pool) there)
+
+pub id_on : (pool more : List Const) (class member : ℕ) → FitsPool pool → names kinds.Class pool class ≡ true → names kinds.NameAndType pool member ≡ true
+    → id_at (pool ++ more) class member ≡ id_at pool class member
+id_on pool more class member fits c m = rw (class_on pool more class fits c, name_and_type_on pool more member fits m) refl

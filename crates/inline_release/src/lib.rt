@@ -5,9 +5,11 @@
 #![tactic(auto)]
 
 mod code;
+mod laws;
 mod members;
 mod weaving;
 
+pub use laws::{original_is_free, woven_files_link};
 pub use weaving::{Woven, inline};
 
 #[cfg(test)]

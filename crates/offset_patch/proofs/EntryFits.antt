@@ -67,11 +67,11 @@ entry_fits pool c p g short = by (place_of c pool) short
 
 -- ---- what an entry's place names
 
-get_last : {X : Type 0} (xs : List X) (x : X) → slice_get (xs ++ x ∷ []) (length xs) ≡ Some x
+pub get_last : {X : Type 0} (xs : List X) (x : X) → slice_get (xs ++ x ∷ []) (length xs) ≡ Some x
 get_last [] x = refl
 get_last (y ∷ xs) x = get_last xs x
 
-place_found : {X : Type 0} (p : X → Bool) (at : ℕ) (xs : List X) (i : ℕ) → position_from p at xs ≡ Some i → (k : ℕ) × (x : X) × ((i ≡ at + k) × (slice_get xs k ≡ Some x) × (p x ≡ true))
+pub place_found : {X : Type 0} (p : X → Bool) (at : ℕ) (xs : List X) (i : ℕ) → position_from p at xs ≡ Some i → (k : ℕ) × (x : X) × ((i ≡ at + k) × (slice_get xs k ≡ Some x) × (p x ≡ true))
 place_found {X = X} p at [] i e = absurd cc
 place_found {X = X} p at (x ∷ xs) i e = by (p x) refl (place_found p (at + 1) xs i) e
   where

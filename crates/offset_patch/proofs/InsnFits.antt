@@ -80,7 +80,8 @@ part_fits pool fronts begin own (Want op want ∷ part) short o h w =
 part_fits pool fronts begin own (Jump op place ∷ part) short o h w = (h.0, part_fits pool fronts begin own part short o h.1 w)
 part_fits pool fronts begin own (Call ∷ part) short o h w = (aimed_fits fronts own o, part_fits pool fronts begin own part short o h.1 w)
 
-split_all : {X : Type 0} (P : X → Type 0) (xs ys : List X) → AllByRecursion P (xs ++ ys) → AllByRecursion P xs × AllByRecursion P ys
+-- what holds of each of two lists together holds of each of either
+pub split_all : {X : Type 0} (P : X → Type 0) (xs ys : List X) → AllByRecursion P (xs ++ ys) → AllByRecursion P xs × AllByRecursion P ys
 split_all P [] ys h = (tt, h)
 split_all P (x ∷ xs) ys h =
     let rest = split_all P xs ys h.1 in

@@ -1,0 +1,257 @@
+-- What is known, searched, declared and written down in a program stays the same with conspec/State behind its classes.
+use Rattle.std.proofs.Common.{◌≡◌, ◌≢◌, ℕ, suc, ◌+◌, Bool, true, false, ◌||◌, ◌&&◌, List, [], ◌∷◌, ◌++◌, length, Option, Some, None, Ok, refl, sym, ap, subst, ◌∙◌, append_assoc}
+use Rattle.std.specs.Prelude.{bytes_eq, not}
+use Rattle.std.specs.List.{AllByRecursion, list_all}
+use Rattle.std.specs.Option.{option_map_or, option_or}
+use Rattle.std.proofs.lemmas.Bool.{false≢true}
+use Rattle.std.proofs.lemmas.List.{length-append}
+use Rattle.std.proofs.lemmas.List.Folds.{list_any-append}
+use Rattle.class_codec.specs.declared.tree.ClassFile.{ClassFile}
+use Rattle.class_codec.specs.declared.tree.Const.{Const}
+use Rattle.class_codec.specs.declared.tree.Member.{Member}
+use Rattle.class_codec.specs.Fits.{CanSpell}
+use Rattle.api_listing.specs.declared.types.ListedClass.{ListedClass}
+use Rattle.api_listing.specs.declared.types.ListedMethod.{ListedMethod}
+use Rattle.api_listing.specs.declared.types.Listing.{Listing}
+use Rattle.api_listing.specs.BuiltIn.{object, class_rows, built_in_classes, method_rows, is_method}
+use Rattle.api_listing.specs.Listing.{is_known, has_method}
+use Rattle.api_listing.specs.Nearest.{class_named}
+use Rattle.api_listing.specs.Words.{is_class_name}
+use Rattle.bytecode_model.specs.declared.declared.Found.{Found}
+use Rattle.bytecode_model.specs.declared.declared.MemberKind.{MemberKind}
+use Rattle.bytecode_model.specs.declared.declared.MemberKind.TheVariants as members
+use Rattle.bytecode_model.specs.declared.program.Side.TheVariants as sides
+use Rattle.bytecode_model.specs.declared.program.Target.TheVariants as target
+use Rattle.bytecode_model.specs.Conditions.{stays_within, runs_in_circle, stands_below, is_good_interface, has_supers, is_super, is_above, classes_linked}
+use Rattle.bytecode_model.specs.Heads.{head_of, heads_of, all_classes}
+use Rattle.bytecode_model.specs.Members.{Declared, members_from, file_members, given_from, listed_from, listed_fields_from, rows_from, methods_declared, fields_declared, first_of, first_found, method_of}
+use Rattle.bytecode_model.specs.SearchOrder.{Name, search_order}
+use Rattle.bytecode_model.proofs.Declaring.{first_of-append}
+use Rattle.bytecode_model.proofs.Lists.{all_append, not_true}
+use Rattle.bytecode_model.proofs.Placing.{same_name}
+use Rattle.offset_patch.specs.Entries.{state_name}
+use Rattle.inline_release.specs.Outcome.{Each, way_out, way_out_index}
+use Rattle.inline_release.proofs.Above.{has_name, find_none, found_fits, other_name, and_both, Ends, ordered, climbs, leaves, order_same}
+use Rattle.inline_release.proofs.Free.{class_free}
+use Rattle.inline_release.proofs.Kept.{IsKept}
+use Rattle.inline_release.proofs.Listed.{IsListed, nameless}
+use Rattle.inline_release.proofs.Named.{IsAdded}
+use Rattle.inline_release.proofs.Same.{bare_state, state_methods, state_fields, state_strings, heads_kept, given_kept, literals_kept}
+use Rattle.inline_release.proofs.Standing.{or_left, or_right, state_head, state_says, state_head_name, state_head_alone, IsGood, all_good, none_taken, classes_stand}
+
+heads_append : (files : List ClassFile) (s : ClassFile) → heads_of (files ++ s ∷ []) ≡ heads_of files ++ head_of s ∷ []
+heads_append [] s = refl
+heads_append (file ∷ files) s = ap (λ (xs : List ListedClass). head_of file ∷ xs) (heads_append files s)
+
+none_named : (name : List ℕ) (classes : List ListedClass) → AllByRecursion (λ (c : ListedClass). c.name ≢ name) classes → is_known classes name ≡ false
+none_named name [] h = refl
+none_named name (c ∷ classes) h = rw (other_name c.name name h.0, none_named name classes h.1) refl
+
+-- no class of an ordered list is below one that it lacks
+parents_other : (name : List ℕ) → bytes_eq name [] ≡ false → (before classes : List ListedClass) → ordered before classes ≡ true → is_known (before ++ classes) name ≡ false
+    → AllByRecursion (λ (c : ListedClass). c.parent ≢ name) classes
+parents_other name some before [] e none = tt
+parents_other name some before (c ∷ classes) e none =
+    let both = and_both (is_known before c.parent || bytes_eq c.parent []) (ordered (before ++ c ∷ []) classes) e in
+    let longer : (before ++ c ∷ []) ++ classes ≡ before ++ c ∷ classes = append_assoc before (c ∷ []) classes in
+    let first : c.parent ≢ name = λ same.
+    let known : is_known before name ≡ true = left_of (is_known before name) (sym (ap (λ (x : List ℕ). is_known before x || bytes_eq x []) same ∙ ap (λ (b : Bool). is_known before name || b) some) ∙ both.0) in
+    false≢true (sym none ∙ list_any-append (has_name name) before (c ∷ classes) ∙ or_left (is_known before name) (is_known (c ∷ classes) name) known) in
+    (first, parents_other name some (before ++ c ∷ []) classes both.1 (ap (λ (xs : List ListedClass). is_known xs name) longer ∙ none)) where
+      left_of : (a : Bool) → (a || false) ≡ true → a ≡ true
+      left_of true e = refl
+      left_of false e = e
+
+-- ---- the rows of what is built in
+
+built_in_placed : ordered [] built_in_classes ≡ true
+unfolding class_rows
+built_in_placed = refl
+
+built_in_named : is_known built_in_classes [] ≡ false
+unfolding class_rows
+built_in_named = refl
+
+built_in_object : is_known built_in_classes object ≡ true
+unfolding class_rows
+built_in_object = refl
+
+built_in_system : is_known built_in_classes way_out.class ≡ true
+unfolding class_rows
+built_in_system = refl
+
+system_other : way_out.class ≢ state_name
+system_other e =
+    let same : bytes_eq way_out.class way_out.class ≡ bytes_eq way_out.class state_name = ap (bytes_eq way_out.class) e in
+    false≢true (sym same)
+
+-- the first class that is looked in for the way out
+system_first : (others : List ListedClass) → (names : List Name) × (search_order (built_in_classes ++ others) way_out.class ≡ way_out.class ∷ names)
+unfolding class_rows
+system_first others = (_, refl)
+
+row_out : first_of (rows_from 0 method_rows) way_out ≡ Some (record { target = target.Builtin way_out_index; is_static = true })
+unfolding method_rows
+row_out = refl
+
+-- ---- who declares the way out
+
+none_of : (kind : MemberKind) (name : Name) (pool : List Const) (class i : ℕ) (ms : List Member) → bytes_eq name way_out.class ≡ false → first_of (members_from kind name pool class i ms) way_out ≡ None
+none_of kind name pool class i [] other = refl
+none_of kind name pool class i (m ∷ ms) other = rw other (none_of kind name pool class (i + 1) ms other)
+
+none_given : (class : ℕ) (files : List ClassFile) → is_known (heads_of files) way_out.class ≡ false → first_of (given_from members.Method class files) way_out ≡ None
+none_given class [] none = refl
+none_given class (file ∷ files) none =
+    let c = (head_of file).name in
+    let both = or_none (bytes_eq c way_out.class) (is_known (heads_of files) way_out.class) none in
+    first_of-append (file_members members.Method class file) (given_from members.Method (class + 1) files) way_out
+    ∙ ap (λ (o : Option Found). option_or o (first_of (given_from members.Method (class + 1) files) way_out)) (none_of members.Method c file.pool class 0 file.methods both.0)
+    ∙ none_given (class + 1) files both.1 where
+      or_none : (a b : Bool) → (a || b) ≡ false → (a ≡ false) × (b ≡ false)
+      or_none true b e = absurd (false≢true (sym e))
+      or_none false b e = (refl, e)
+
+none_listed : (i : ℕ) (ms : List ListedMethod) → has_method ms way_out ≡ false → first_of (listed_from i ms) way_out ≡ None
+none_listed i [] e = refl
+none_listed i (m ∷ ms) e = by (is_method way_out.class way_out.name way_out.desc m.id) refl e (none_listed (i + 1) ms) where
+  by : (b : Bool) → is_method way_out.class way_out.name way_out.desc m.id ≡ b → (b || has_method ms way_out) ≡ false → (has_method ms way_out ≡ false → first_of (listed_from (i + 1) ms) way_out ≡ None)
+      → first_of (listed_from i (m ∷ ms)) way_out ≡ None
+  by true is e rest = absurd (false≢true (sym e))
+  by false is e rest = rw is (rest e)
+
+-- ---- the program
+
+module _ (listing : Listing) (l : IsListed listing) (olds news : List ClassFile) (fits : AllByRecursion CanSpell olds) (kept : Each IsKept olds news)
+    (good : classes_linked sides.Original (heads_of olds) listing.classes olds ≡ Ok tt) where
+  abbrev heads : List ListedClass
+  heads = heads_of olds
+
+  abbrev all : List ListedClass
+  all = all_classes listing olds
+
+  abbrev new_files : List ClassFile
+  new_files = news ++ bare_state ∷ []
+
+  new_heads : heads_of new_files ≡ heads ++ state_head ∷ []
+  new_heads = heads_append news bare_state ∙ ap (λ (xs : List ListedClass). xs ++ head_of bare_state ∷ []) (heads_kept olds news fits kept) ∙ ap (λ (h : ListedClass). heads ++ h ∷ []) state_says
+
+  new_classes : all_classes listing new_files ≡ all ++ state_head ∷ []
+  new_classes = ap (λ (xs : List ListedClass). listing.classes ++ xs) new_heads ∙ sym (append_assoc listing.classes heads (state_head ∷ []))
+
+  goods : AllByRecursion (IsGood heads) olds
+  goods = all_good heads listing.classes olds good
+
+  -- no given class has a name that is listed
+  taken : (name : List ℕ) → is_known listing.classes name ≡ true → is_known heads name ≡ false
+  taken name known = none_taken heads listing.classes name known olds good
+
+  built_in : (name : List ℕ) → is_known built_in_classes name ≡ true → is_known listing.classes name ≡ true
+  built_in name e = ap (λ (xs : List ListedClass). is_known xs name) l.classes ∙ list_any-append (has_name name) built_in_classes l.others ∙ or_left (is_known built_in_classes name) (is_known l.others name) e
+
+  -- ---- the way up
+
+  heads_as : (P : ListedClass → Type 0) → ((file : ClassFile) → IsGood heads file → P (head_of file)) → (files : List ClassFile) → AllByRecursion (IsGood heads) files → AllByRecursion P (heads_of files)
+  heads_as P f [] h = tt
+  heads_as P f (file ∷ files) h = (f file h.0, heads_as P f files h.1)
+
+  below_other : AllByRecursion (λ (c : ListedClass). c.parent ≢ state_head.name) heads
+  below_other = heads_as (λ (c : ListedClass). c.parent ≢ state_head.name) (λ file g e. class_free file.pool file.super_class g.free (e ∙ state_head_name)) olds goods
+
+  listed_other : AllByRecursion (λ (c : ListedClass). c.parent ≢ state_name) listing.classes
+  listed_other =
+      let free : is_known (built_in_classes ++ l.others) state_name ≡ false = ap (λ (xs : List ListedClass). is_known xs state_name) (sym l.classes) ∙ l.free in
+      let none : is_known built_in_classes state_name ≡ false = left_none (is_known built_in_classes state_name) (is_known l.others state_name) (sym (list_any-append (has_name state_name) built_in_classes l.others) ∙ free) in
+      let first = parents_other state_name refl [] built_in_classes built_in_placed none in
+      let rest = parents_other state_name refl built_in_classes l.others l.placed free in
+      subst (AllByRecursion (λ (c : ListedClass). c.parent ≢ state_name)) (sym l.classes) (all_append (λ (c : ListedClass). c.parent ≢ state_name) built_in_classes l.others first rest) where
+        left_none : (a b : Bool) → (a || b) ≡ false → a ≡ false
+        left_none true b e = e
+        left_none false b e = refl
+
+  parents : AllByRecursion (λ (c : ListedClass). c.parent ≢ state_head.name) all
+  parents =
+      let listed = subst (λ (name : List ℕ). AllByRecursion (λ (c : ListedClass). c.parent ≢ name) listing.classes) (sym state_head_name) listed_other in
+      all_append (λ (c : ListedClass). c.parent ≢ state_head.name) listing.classes heads listed below_other
+
+  split : all ≡ built_in_classes ++ (l.others ++ heads)
+  split = ap (λ (xs : List ListedClass). xs ++ heads) l.classes ∙ append_assoc built_in_classes l.others heads
+
+  unnamed : class_named all [] ≡ None
+  unnamed =
+      let given = heads_as (λ (c : ListedClass). c.name ≢ []) (λ file g e. false≢true (sym nameless ∙ ap is_class_name (sym e) ∙ g.named)) olds goods in
+      let others = none_named [] (l.others ++ heads) (all_append (λ (c : ListedClass). c.name ≢ []) l.others heads l.named given) in
+      let none : is_known all [] ≡ false = ap (λ (xs : List ListedClass). is_known xs []) split ∙ list_any-append (has_name []) built_in_classes (l.others ++ heads)
+      ∙ ap (λ (b : Bool). b || is_known (l.others ++ heads) []) built_in_named ∙ others in
+      find_none (has_name []) all none
+
+  low : (name : List ℕ) → is_known listing.classes name ≡ true → Ends (length listing.classes) all name
+  low =
+      let first = climbs all unnamed [] built_in_classes (l.others ++ heads) split built_in_placed (λ name known. absurd (false≢true known)) in
+      let rest = climbs all unnamed built_in_classes l.others heads split l.placed first in
+      subst (λ (xs : List ListedClass). (name : List ℕ) → is_known xs name ≡ true → Ends (length xs) all name) (sym l.classes) rest
+
+  no_way_round : (name : List ℕ) → stays_within (suc (length heads)) heads name ≡ false
+  no_way_round name = by (class_named heads name) refl where
+    circles : AllByRecursion (λ (c : ListedClass). runs_in_circle heads c.name ≡ false) heads
+    circles = heads_as (λ (c : ListedClass). runs_in_circle heads c.name ≡ false) (λ file g. no_circle_of (head_of file) file.fields g.supers) olds goods where
+      no_circle_of : (c : ListedClass) (fields : List Member) → has_supers heads c fields ≡ true → runs_in_circle heads c.name ≡ false
+      no_circle_of c fields e =
+          let a = and_both (stands_below heads c) (is_good_interface c fields) e in
+          let b = and_both (is_super heads c.parent) (list_all (is_above heads) c.interfaces && not (runs_in_circle heads c.name)) a.0 in
+          not_true (runs_in_circle heads c.name) (and_both (list_all (is_above heads) c.interfaces) (not (runs_in_circle heads c.name)) b.1).1
+
+    by : (o : Option ListedClass) → class_named heads name ≡ o → stays_within (suc (length heads)) heads name ≡ false
+    by None is = ap (λ (o : Option ListedClass). option_map_or (λ (c : ListedClass). stays_within (length heads) heads c.parent) o false) is
+    by (Some c) is =
+        let found = found_fits (has_name name) (λ (x : ListedClass). runs_in_circle heads x.name ≡ false) heads c circles is in
+        subst (λ (x : List ℕ). stays_within (suc (length heads)) heads x ≡ false) (same_name c.name name found.1) found.0
+
+  ends : (name : List ℕ) → Ends (length all) all name
+  ends name = subst (λ (n : ℕ). Ends n all name) (sym (length-append listing.classes heads)) (leaves listing.classes heads low (length heads) name (no_way_round name))
+
+  order : (name : List ℕ) → name ≢ state_name → search_order (all_classes listing new_files) name ≡ search_order all name
+  order name other =
+      ap (λ (xs : List ListedClass). search_order xs name) new_classes ∙ order_same all state_head parents state_head_alone ends name (λ e. other (e ∙ state_head_name))
+
+  -- ---- what is declared
+
+  methods : methods_declared new_files listing ≡ methods_declared olds listing
+  methods = ap (λ (xs : List Declared). xs ++ (listed_from 0 listing.methods ++ rows_from 0 method_rows)) (given_kept members.Method bare_state state_methods 0 olds news fits kept)
+
+  fields : fields_declared new_files listing ≡ fields_declared olds listing
+  fields = ap (λ (xs : List Declared). xs ++ listed_fields_from 0 listing.fields) (given_kept members.Field bare_state state_fields 0 olds news fits kept)
+
+  out : method_of new_files listing way_out ≡ Some (record { target = target.Builtin way_out_index; is_static = true })
+  out =
+      let system : is_known heads way_out.class ≡ false = taken way_out.class (built_in way_out.class built_in_system) in
+      let look = first_of (methods_declared olds listing) in
+      let listed = first_of (listed_from 0 listing.methods ++ rows_from 0 method_rows) way_out in
+      let declared : look way_out ≡ Some (record { target = target.Builtin way_out_index; is_static = true }) =
+      first_of-append (given_from members.Method 0 olds) (listed_from 0 listing.methods ++ rows_from 0 method_rows) way_out
+      ∙ ap (λ (o : Option Found). option_or o listed) (none_given 0 olds system)
+      ∙ first_of-append (listed_from 0 listing.methods) (rows_from 0 method_rows) way_out
+      ∙ ap (λ (o : Option Found). option_or o (first_of (rows_from 0 method_rows) way_out)) (none_listed 0 listing.methods l.out) ∙ row_out in
+      let first = system_first (l.others ++ heads) in
+      ap (λ (d : List Declared). first_found (first_of d) way_out (search_order (all_classes listing new_files) way_out.class)) methods
+      ∙ ap (first_found look way_out) (order way_out.class system_other ∙ ap (λ (xs : List ListedClass). search_order xs way_out.class) split ∙ first.1)
+      ∙ ap (λ (o : Option Found). option_or o (first_found look way_out first.0)) declared
+
+  pub is_added : IsAdded olds new_files listing
+  is_added = record {
+    known = λ name e. ap (λ (xs : List ListedClass). is_known xs name) new_classes ∙ list_any-append (has_name name) all (state_head ∷ []) ∙ or_left (is_known all name) (is_known (state_head ∷ []) name) e;
+    state = ap (λ (xs : List ListedClass). is_known xs state_name) new_classes ∙ list_any-append (has_name state_name) all (state_head ∷ [])
+        ∙ or_right (is_known all state_name) (is_known (state_head ∷ []) state_name) (ap (λ (name : List ℕ). bytes_eq name state_name || false) state_head_name);
+    order = order;
+    methods = methods;
+    fields = fields;
+    literals = literals_kept bare_state state_strings olds news fits kept;
+    out = out;
+  }
+
+  -- the classes of the new files
+  pub new_stand : classes_linked sides.Inlined (heads_of new_files) listing.classes new_files ≡ Ok tt
+  new_stand =
+      let own : is_known heads state_name ≡ false = none_named state_name heads (heads_as (λ (c : ListedClass). c.name ≢ state_name) (λ file g. class_free file.pool file.this_class g.free) olds goods) in
+      ap (λ (xs : List ListedClass). classes_linked sides.Inlined xs listing.classes new_files) new_heads
+      ∙ classes_stand heads below_other listing.classes olds news fits kept good l.free own (taken object (built_in object built_in_object))

@@ -1,0 +1,365 @@
+-- What becomes of a method: its member before and after weaving, and what each links to.
+use Rattle.std.proofs.Common.{◌≡◌, ℕ, ◌+◌, Bool, true, false, List, [], ◌∷◌, ◌++◌, length, map, Option, Some, None, Result, Ok, Err, refl, sym, ap, subst, ◌∙◌, append-nil}
+use Rattle.std.specs.Prelude.{slice_get, bytes_eq, ◌&&◌, if◌then◌else◌, not}
+use Rattle.std.specs.List.{AllByRecursion, filter_map}
+use Rattle.mon_base.specs.Reading.{◌>>=◌, need}
+use Rattle.mon_base.proofs.Reading.{bind_ok, ok_is, need_ok}
+use Rattle.class_codec.specs.declared.tree.Attr.{Attr}
+use Rattle.class_codec.specs.declared.tree.Attr.TheVariants as attributes
+use Rattle.class_codec.specs.declared.tree.ClassFile.{ClassFile}
+use Rattle.class_codec.specs.declared.tree.Code.{Code}
+use Rattle.class_codec.specs.declared.tree.Const.{Const}
+use Rattle.class_codec.specs.declared.tree.Member.{Member}
+use Rattle.class_codec.specs.Fits.{FitsMember}
+use Rattle.insn_codec.specs.declared.fault.CodeFault.{CodeFault}
+use Rattle.insn_codec.specs.declared.insn.Insn.{Insn}
+use Rattle.insn_codec.specs.Reading.{code_of}
+use Rattle.insn_codec.specs.Spelling.{starts_of}
+use Rattle.api_listing.specs.declared.types.Listing.{Listing}
+use Rattle.bytecode_model.specs.declared.fault.LinkFault.{LinkFault}
+use Rattle.bytecode_model.specs.declared.fault.LinkFault.TheVariants as faults
+use Rattle.bytecode_model.specs.declared.program.Handler.{Handler}
+use Rattle.bytecode_model.specs.declared.program.Method.{Method}
+use Rattle.bytecode_model.specs.declared.program.Target.{Target}
+use Rattle.bytecode_model.specs.Conditions.{codes_of, code_in, is_allowed, overrides, overrides_in, id_of}
+use Rattle.bytecode_model.specs.Heads.{head_of, all_classes, name_of, desc_of, is_static, maker}
+use Rattle.bytecode_model.specs.Operands.{operand_linked, operand_at, operands_linked}
+use Rattle.bytecode_model.specs.SearchOrder.{Name}
+use Rattle.bytecode_model.specs.Handlers.{handlers_linked}
+use Rattle.bytecode_model.specs.Linking.{bare, with_code, read_of, code_linked, body_linked, method_linked}
+use Rattle.bytecode_model.specs.Sound.{IsSoundMethod}
+use Rattle.conspec_automaton.specs.declared.policy.Policy.{Policy}
+use Rattle.offset_patch.specs.declared.block.Block.{Block}
+use Rattle.offset_patch.specs.declared.block.BlockInsn.{BlockInsn}
+use Rattle.offset_patch.specs.declared.block.BlockInsn.TheVariants.{Plain, Byte, Short, Local, Want, Jump, Call}
+use Rattle.offset_patch.specs.declared.block.PoolWant.{PoolWant}
+use Rattle.offset_patch.specs.declared.fault.SpliceFault.{SpliceFault}
+use Rattle.offset_patch.specs.Entries.{Placed, wanted, place_in}
+use Rattle.offset_patch.specs.Splicing.{part_of, fronts_of, put, parts_from, spliced, want_of, block_wants, wants_of, grown}
+use Rattle.offset_patch.proofs.EntryFits.{wants_grow}
+use Rattle.offset_patch.proofs.InsnFits.{split_all, IsThere, wants_there}
+use Rattle.offset_patch.proofs.Steady.{steady_wanted}
+use Rattle.inline_release.specs.declared.code.WovenCode.{WovenCode}
+use Rattle.inline_release.specs.declared.members.Members.{Members}
+use Rattle.inline_release.specs.Woven.{is_woven, sites_of, locals_of, clients_from, blocks_put, code_woven, first_code, attr_with, member_with, bare_put, code_put, body_woven}
+use Rattle.inline_release.specs.Outcome.{Each, way_out, at_fronts, insns_woven, stack_woven, locals_woven, handlers_woven, parts_named, refs_woven, IsWovenMethod}
+use Rattle.inline_release.proofs.Again.{put_reads}
+use Rattle.inline_release.proofs.Aims.{sites_part, spliced_below, spliced_within}
+use Rattle.inline_release.proofs.Free.{IsFree, class_free}
+use Rattle.inline_release.proofs.Kept.{IsLonger, IsKeptMember, same_member, with_kept}
+use Rattle.inline_release.proofs.Named.{IsAdded, operand_still, parts_are_named, told_ok, ok_told}
+use Rattle.inline_release.proofs.Pairs.{each_as, each_linked, linked_each}
+use Rattle.inline_release.proofs.Same.{name_kept, desc_kept}
+use Rattle.inline_release.proofs.Spells.{first_fits}
+use Rattle.inline_release.proofs.Tables.{IsHandlerOf, handlers_of, of_handlers, handlers_kept, handlers_moved}
+use Rattle.inline_release.proofs.Wanted.{exit_there, reference_told, there_on, exit_wanted}
+use Rattle.std.proofs.lemmas.Bool.{false≢true}
+use Rattle.std.proofs.lemmas.List.{length-map}
+use Rattle.class_codec.specs.declared.tree.TableEntry.{TableEntry}
+use Rattle.class_codec.specs.Fits.{FitsPool, FitsTableEntry}
+use Rattle.class_codec.specs.Pool.{reference_at}
+use Rattle.block_template.specs.Blocks.{site}
+use Rattle.offset_patch.specs.Splicing.{table_moved}
+use Rattle.offset_patch.specs.declared.block.PoolWant.TheVariants as wants
+use Rattle.offset_patch.proofs.PoolFits.{each_on}
+
+-- ---- a block in a pool that grew
+
+place_on : (want : PoolWant) (pool more : List Const) → IsThere pool want → place_in pool want ≡ place_in (pool ++ more) want
+place_on want pool more there =
+    let here : wanted want pool ≡ (pool, place_in pool want) = ap (λ (p : List Const). (p, place_in pool want)) there.same in
+    let stays : wanted want (pool ++ more) ≡ (pool ++ more, place_in pool want) = (steady_wanted want).stays pool more (place_in pool want) here in
+    ap (λ (z : Placed). z.1) (sym stays)
+
+part_on : (pool more : List Const) (fronts : List ℕ) (begin : ℕ) (own : Insn) (part : List BlockInsn) → AllByRecursion (IsThere pool) (filter_map want_of part)
+    → map (put pool fronts begin own) part ≡ map (put (pool ++ more) fronts begin own) part
+part_on pool more fronts begin own [] w = refl
+part_on pool more fronts begin own (Plain op ∷ part) w = rw (part_on pool more fronts begin own part w) refl
+part_on pool more fronts begin own (Byte n ∷ part) w = rw (part_on pool more fronts begin own part w) refl
+part_on pool more fronts begin own (Short n ∷ part) w = rw (part_on pool more fronts begin own part w) refl
+part_on pool more fronts begin own (Local op slot wide ∷ part) w = rw (part_on pool more fronts begin own part w) refl
+part_on pool more fronts begin own (Want op want ∷ part) w = rw (part_on pool more fronts begin own part w.1, place_on want pool more w.0) refl
+part_on pool more fronts begin own (Jump op place ∷ part) w = rw (part_on pool more fronts begin own part w) refl
+part_on pool more fronts begin own (Call ∷ part) w = rw (part_on pool more fronts begin own part w) refl
+
+parts_on : (pool more : List Const) (fronts : List ℕ) (begin : ℕ) (own : List Insn) (sites : List (Option Block)) → AllByRecursion (IsThere pool) (wants_of sites)
+    → parts_from pool fronts begin own sites ≡ parts_from (pool ++ more) fronts begin own sites
+parts_on pool more fronts begin [] sites w = refl
+parts_on pool more fronts begin (insn ∷ own) [] w = refl
+parts_on pool more fronts begin (insn ∷ own) (site ∷ sites) w =
+    let wants = split_all (IsThere pool) (block_wants site) (wants_of sites) w in
+    rw (part_on pool more fronts begin insn (part_of site) wants.0, parts_on pool more fronts (begin + length (part_of site)) own sites wants.1) refl
+
+spliced_on : (pool more : List Const) (own : List Insn) (sites : List (Option Block)) → spliced (grown pool sites) own sites ≡ spliced (grown pool sites ++ more) own sites
+spliced_on pool more own sites = parts_on (grown pool sites) more (fronts_of sites) 0 own sites (wants_there sites pool)
+
+-- ---- the first code
+
+pub first_is : (attrs : List Attr) → slice_get (filter_map code_in attrs) 0 ≡ first_code attrs
+first_is [] = refl
+first_is (attributes.Code code ∷ attrs) = refl
+first_is (attributes.Other other ∷ attrs) = first_is attrs
+
+first_with : (new code : Code) (attrs : List Attr) → first_code attrs ≡ Some code → first_code (map (attr_with new) attrs) ≡ Some new
+first_with new code [] e = absurd cc
+first_with new code (attributes.Code old ∷ attrs) e = refl
+first_with new code (attributes.Other other ∷ attrs) e = first_with new code attrs e
+
+-- ---- what a member was linked to
+
+-- What a method is that was linked of a member with this code.
+pub record IsCoded (files : List ClassFile) (listing : Listing) (file : ClassFile) (member : Member) (code : Code) (m : Method) : Type 0 where
+  pub flags : m.flags ≡ member.flags
+  pub name : m.name ≡ name_of file.pool member
+  pub desc : m.desc ≡ desc_of file.pool member
+  pub max_stack : m.max_stack ≡ code.max_stack
+  pub max_locals : m.max_locals ≡ code.max_locals
+  pub insns : code_of code.code ≡ Ok m.insns
+  pub refs : Each (λ (x : Insn) (t : Target). operand_linked files listing file.pool x ≡ Ok t) m.insns m.refs
+  pub handlers : Each (IsHandlerOf files listing file.pool (starts_of m.insns)) code.table m.handlers
+
+read_is : (class : List ℕ) (method : ℕ) (r : Result (List Insn) CodeFault) (xs : List Insn) → read_of class method r ≡ Ok xs → r ≡ Ok xs
+read_is class method (Ok ys) xs e = ap Ok (ok_is LinkFault ys xs e)
+read_is class method (Err fault) xs e = absurd cc
+
+pub coded : (files : List ClassFile) (listing : Listing) (file : ClassFile) (at : ℕ) (member : Member) (code : Code) (m : Method) → code_linked files listing file at member code ≡ Ok m
+    → IsCoded files listing file member code m
+coded files listing file at member code m e =
+    let class = (head_of file).name in
+    let refs_of : List Insn → Result (List Target) LinkFault = operands_linked files listing class file.pool at in
+    let table_of : List Insn → Result (List Handler) LinkFault = λ insns. handlers_linked files listing class file.pool at (length insns) (starts_of insns) code.table in
+    let a = bind_ok (read_of class at (code_of code.code)) (λ insns. refs_of insns >>= λ refs. table_of insns >>= λ handlers. Ok (with_code file member code insns refs handlers)) m e in
+    let b = bind_ok (refs_of a.0) (λ refs. table_of a.0 >>= λ handlers. Ok (with_code file member code a.0 refs handlers)) m a.2 in
+    let c = bind_ok (table_of a.0) (λ handlers. Ok (with_code file member code a.0 b.0 handlers)) m b.2 in
+    let is : with_code file member code a.0 b.0 c.0 ≡ m = ok_is LinkFault (with_code file member code a.0 b.0 c.0) m c.2 in
+    subst (IsCoded files listing file member code) is (record {
+      flags = refl;
+      name = refl;
+      desc = refl;
+      max_stack = refl;
+      max_locals = refl;
+      insns = read_is class at (code_of code.code) a.0 a.1;
+      refs = each_linked (operand_at files listing class file.pool at) (λ (x : Insn) (t : Target). operand_linked files listing file.pool x ≡ Ok t)
+          (λ i x t. told_ok class at i (operand_linked files listing file.pool x) t) 0 a.0 b.0 b.1;
+      handlers = handlers_of files listing class file.pool at (length a.0) (starts_of a.0) code.table c.0 c.1;
+    })
+
+-- the conditions that a method meets, and its body
+pub conditions_of : (files : List ClassFile) (listing : Listing) (file : ClassFile) (at : ℕ) (member : Member) (m : Method) → method_linked files listing file at member ≡ Ok m
+    → (is_allowed file.pool member ≡ true) × (not (overrides (all_classes listing files) listing (head_of file).name file.pool member) ≡ true)
+    × (body_linked files listing file at member (first_code member.attrs) ≡ Ok m)
+conditions_of files listing file at member m e =
+    let class = (head_of file).name in
+    let name = name_of file.pool member in
+    let body = body_linked files listing file at member (slice_get (codes_of member) 0) in
+    let taken = overrides (all_classes listing files) listing class file.pool member in
+    let a = need_ok (is_allowed file.pool member) (faults.Method class name) (λ allowed. need (not taken) (faults.Overrides class name) >>= λ own. body) m e in
+    let b = need_ok (not taken) (faults.Overrides class name) (λ own. body) m a.1 in
+    (a.0, b.0, ap (body_linked files listing file at member) (sym (first_is member.attrs)) ∙ b.1)
+
+-- ---- one member
+
+module _ (policy : Policy) (file new : ClassFile) (files others : List ClassFile) (listing : Listing) (added : IsAdded files others listing)
+    (p : FitsPool file.pool) (free : IsFree file.pool) (longer : IsLonger file.pool new.pool) (named : (head_of new).name ≡ (head_of file).name) where
+  allowed_kept : (member item : Member) → FitsMember file.pool true member → IsKeptMember member item → is_allowed new.pool item ≡ is_allowed file.pool member
+  allowed_kept member item fits kept =
+      rw (kept.flags, name_kept file.pool new.pool member item true longer fits kept, desc_kept file.pool new.pool member item true longer fits kept, kept.codes) refl
+
+  overrides_kept : (member item : Member) → FitsMember file.pool true member → IsKeptMember member item
+      → overrides (all_classes listing others) listing (head_of new).name new.pool item ≡ overrides (all_classes listing files) listing (head_of file).name file.pool member
+  overrides_kept member item fits kept =
+      let class = (head_of file).name in
+      ap (λ (c : List ℕ). overrides (all_classes listing others) listing c new.pool item) named
+      ∙ ap (λ (names : List Name). not (is_static item.flags) && (not (bytes_eq (name_of new.pool item) maker) && overrides_in listing (id_of class new.pool item) names)) (added.order class (class_free file.pool file.this_class free))
+      ∙ rw (kept.flags, name_kept file.pool new.pool member item true longer fits kept, desc_kept file.pool new.pool member item true longer fits kept) refl
+
+  -- the conditions hold of the member that it became
+  links : (at here : ℕ) (member item : Member) (m other : Method) → FitsMember file.pool true member → IsKeptMember member item → method_linked files listing file here member ≡ Ok m
+      → body_linked others listing new at item (first_code item.attrs) ≡ Ok other → method_linked others listing new at item ≡ Ok other
+  links at here member item m other fits kept linked body =
+      let was = conditions_of files listing file here member m linked in
+      let allowed : is_allowed new.pool item ≡ true = allowed_kept member item fits kept ∙ was.0 in
+      let own : not (overrides (all_classes listing others) listing (head_of new).name new.pool item) ≡ true = ap not (overrides_kept member item fits kept) ∙ was.1 in
+      rw (allowed, own, first_is item.attrs) body
+
+  -- What one member more makes of what was made.
+  pub record IsStep (made next : Members) (m : Method) : Type 0 where
+    pub item : Member
+    pub items : next.items ≡ made.items ++ item ∷ []
+    pub number : next.number ≡ made.number + 1
+    pub more : (xs : List Const) × (next.entries ≡ made.entries ++ xs)
+    pub is : (ys : List Const) → new.pool ≡ next.entries ++ ys → (at : ℕ) → (other : Method) × (method_linked others listing new at item ≡ Ok other) × IsWovenMethod policy new.pool m other
+
+  bare_step : (made : Members) (member : Member) (m : Method) → FitsMember file.pool true member → method_linked files listing file made.number member ≡ Ok m → first_code member.attrs ≡ None
+      → bare file member ≡ m → IsStep made (bare_put made member) m
+  bare_step made member m fits linked none is = record {
+    item = member;
+    items = refl;
+    number = refl;
+    more = ([], sym (append-nil made.entries));
+    is = λ ys grown at.
+        let body : body_linked others listing new at member (first_code member.attrs) ≡ Ok (bare new member) = ap (body_linked others listing new at member) none in
+        let same : IsWovenMethod policy new.pool (bare file member) (bare new member) = record {
+          flags = refl;
+          name = name_kept file.pool new.pool member member true longer fits (same_member member);
+          desc = desc_kept file.pool new.pool member member true longer fits (same_member member);
+          max_stack = refl;
+          max_locals = refl;
+          insns = refl;
+          handlers = refl;
+          refs = refl;
+          out = λ e. absurd (false≢true e);
+        } in
+        (bare new member, links at made.number member member m (bare new member) fits (same_member member) linked body, subst (λ (x : Method). IsWovenMethod policy new.pool x (bare new member)) is same);
+  }
+
+  abbrev Names : Insn → Target → Type 0
+  Names x t = operand_linked others listing new.pool x ≡ Ok t
+
+  -- what a code was woven to
+  record IsWovenCode (pool : List Const) (m : Method) (code : Code) (w : WovenCode) : Type 0 where
+    more : (xs : List Const) × (w.entries ≡ pool ++ xs)
+    insns : (ys : List Const) → new.pool ≡ w.entries ++ ys → code_of w.code.code ≡ Ok (insns_woven policy new.pool m)
+    max_stack : w.code.max_stack ≡ stack_woven policy m
+    max_locals : w.code.max_locals ≡ locals_woven policy m
+    refs : (ys : List Const) → new.pool ≡ w.entries ++ ys → Each Names (insns_woven policy new.pool m) (refs_woven policy m)
+    handlers : (ys : List Const) → new.pool ≡ w.entries ++ ys → Each (IsHandlerOf others listing new.pool (starts_of (insns_woven policy new.pool m))) w.code.table (handlers_woven policy m)
+    out : (ys : List Const) → new.pool ≡ w.entries ++ ys → is_woven policy m ≡ true → reference_at new.pool (place_in new.pool wants.Exit) ≡ Some way_out
+
+  woven_is : (class : List ℕ) (number : ℕ) (pool : List Const) (m : Method) (member : Member) (code : Code) (w : WovenCode) → IsSoundMethod m → IsCoded files listing file member code m
+      → AllByRecursion (FitsTableEntry file.pool) code.table → code_woven policy class number pool m code ≡ Ok w → IsWovenCode pool m code w
+  woven_is class number pool m member code w sound old fits = by (is_woven policy m) refl
+    where
+      refs_still : Each Names m.insns m.refs
+      refs_still = each_as (λ (x : Insn) (t : Target). operand_linked files listing file.pool x ≡ Ok t) Names (operand_still files others listing added file.pool new.pool p free longer) m.insns m.refs old.refs
+
+      by : (b : Bool) → is_woven policy m ≡ b
+          → (if b then blocks_put policy class number pool m code (sites_of policy code.max_locals m) else Ok (record { code = code; entries = pool; origins = clients_from 0 m.insns })) ≡ Ok w
+          → IsWovenCode pool m code w
+      by true some e =
+          let h = put_reads policy class number pool m code w sound e in
+          let sites = sites_of policy code.max_locals m in
+          let fronts = fronts_of sites in
+          let xs = spliced new.pool m.insns sites in
+          let more = wants_grow (wants_of sites) pool in
+          let same : sites_of policy m.max_locals m ≡ sites = ap (λ (n : ℕ). sites_of policy n m) old.max_locals in
+          let insns_is : insns_woven policy new.pool m ≡ xs =
+          ap (λ (b : Bool). if b then spliced new.pool m.insns (sites_of policy m.max_locals m) else m.insns) some ∙ ap (spliced new.pool m.insns) same in
+          let refs_is : refs_woven policy m ≡ parts_named m.refs sites =
+          ap (λ (b : Bool). if b then parts_named m.refs (sites_of policy m.max_locals m) else m.refs) some ∙ ap (parts_named m.refs) same in
+          let handlers_is : handlers_woven policy m ≡ map (at_fronts fronts) m.handlers =
+          ap (λ (b : Bool). if b then map (at_fronts (fronts_of (sites_of policy m.max_locals m))) m.handlers else m.handlers) some ∙ ap (λ (q : List (Option Block)). map (at_fronts (fronts_of q)) m.handlers) same in
+          let there : (ys : List Const) → new.pool ≡ w.entries ++ ys → AllByRecursion (IsThere new.pool) (wants_of sites) = λ ys grown.
+          let all = each_on (IsThere (grown_by sites)) (IsThere (grown_by sites ++ ys)) (λ want. there_on want (grown_by sites) ys) (wants_of sites) (wants_there sites pool) in
+          subst (λ (q : List Const). AllByRecursion (IsThere q) (wants_of sites)) (sym (grown ∙ ap (λ (q : List Const). q ++ ys) h.entries)) all in
+          let spliced_same : (ys : List Const) → new.pool ≡ w.entries ++ ys → spliced w.entries m.insns sites ≡ xs = λ ys grown.
+          let one : spliced w.entries m.insns sites ≡ spliced (w.entries ++ ys) m.insns sites =
+          subst (λ (q : List Const). spliced q m.insns sites ≡ spliced (q ++ ys) m.insns sites) (sym h.entries) (spliced_on pool ys m.insns sites) in
+          one ∙ ap (λ (q : List Const). spliced q m.insns sites) (sym grown) in
+          let count : length sites ≡ length m.insns = length-map m.refs (site policy code.max_locals) ∙ sound.refs in
+          let parts = sites_part policy code.max_locals m.refs in
+          record {
+            more = (more.0, h.entries ∙ more.1);
+            insns = λ ys grown. h.insns ∙ ap Ok (spliced_same ys grown ∙ sym insns_is);
+            max_stack = h.max_stack ∙ ap (λ (n : ℕ). n + 3) (sym old.max_stack) ∙ sym (ap (λ (b : Bool). if b then m.max_stack + 3 else m.max_stack) some);
+            max_locals = h.max_locals ∙ ap (λ (n : ℕ). n + locals_of policy m) (sym old.max_locals) ∙ sym (ap (λ (b : Bool). if b then m.max_locals + locals_of policy m else m.max_locals) some);
+            refs = λ ys grown.
+                let all = parts_are_named files others listing added new.pool fronts 0 m.insns m.refs sites refs_still parts (there ys grown) in
+                subst (λ (q : List Insn). Each Names q (refs_woven policy m)) (sym insns_is) (subst (Each Names xs) (sym refs_is) all);
+            handlers = λ ys grown.
+                let below = spliced_below new.pool m.insns sites count parts in
+                let within = spliced_within new.pool m.insns sites count in
+                let all = handlers_moved files others listing added file.pool new.pool p longer (starts_of m.insns) fronts (length m.insns) xs below within code.table m.handlers sound.handlers fits old.handlers in
+                let table : w.code.table ≡ table_moved (starts_of xs) fronts m.handlers code.table = h.table ∙ ap (λ (q : List Insn). table_moved (starts_of q) fronts m.handlers code.table) (spliced_same ys grown) in
+                let one : Each (IsHandlerOf others listing new.pool (starts_of xs)) w.code.table (handlers_woven policy m) =
+                subst (λ (t : List TableEntry). Each (IsHandlerOf others listing new.pool (starts_of xs)) t (handlers_woven policy m)) (sym table)
+                (subst (Each (IsHandlerOf others listing new.pool (starts_of xs)) (table_moved (starts_of xs) fronts m.handlers code.table)) (sym handlers_is) all) in
+                subst (λ (q : List Insn). Each (IsHandlerOf others listing new.pool (starts_of q)) w.code.table (handlers_woven policy m)) (sym insns_is) one;
+            out = λ ys grown is.
+                let exit = exit_there new.pool (exit_wanted new.pool policy code.max_locals m.refs some (there ys grown)) in
+                reference_told new.pool (place_in new.pool wants.Exit) way_out.class way_out.name way_out.desc exit;
+          }
+        where
+          grown_by : List (Option Block) → List Const
+          grown_by sites = grown pool sites
+      by false none e =
+          let same : WovenCode = record { code = code; entries = pool; origins = clients_from 0 m.insns } in
+          let insns_is : insns_woven policy new.pool m ≡ m.insns = ap (λ (b : Bool). if b then spliced new.pool m.insns (sites_of policy m.max_locals m) else m.insns) none in
+          let refs_is : refs_woven policy m ≡ m.refs = ap (λ (b : Bool). if b then parts_named m.refs (sites_of policy m.max_locals m) else m.refs) none in
+          let handlers_is : handlers_woven policy m ≡ m.handlers = ap (λ (b : Bool). if b then map (at_fronts (fronts_of (sites_of policy m.max_locals m))) m.handlers else m.handlers) none in
+          subst (IsWovenCode pool m code) (ok_is SpliceFault same w e) (record {
+            more = ([], sym (append-nil pool));
+            insns = λ ys grown. old.insns ∙ ap Ok (sym insns_is);
+            max_stack = sym old.max_stack ∙ sym (ap (λ (b : Bool). if b then m.max_stack + 3 else m.max_stack) none);
+            max_locals = sym old.max_locals ∙ sym (ap (λ (b : Bool). if b then m.max_locals + locals_of policy m else m.max_locals) none);
+            refs = λ ys grown. subst (λ (q : List Insn). Each Names q (refs_woven policy m)) (sym insns_is) (subst (Each Names m.insns) (sym refs_is) refs_still);
+            handlers = λ ys grown.
+                let all = handlers_kept files others listing added file.pool new.pool p longer (starts_of m.insns) code.table m.handlers fits old.handlers in
+                subst (λ (q : List Insn). Each (IsHandlerOf others listing new.pool (starts_of q)) code.table (handlers_woven policy m)) (sym insns_is)
+                (subst (Each (IsHandlerOf others listing new.pool (starts_of m.insns)) code.table) (sym handlers_is) all);
+            out = λ ys grown is. absurd (false≢true (sym none ∙ is));
+          })
+
+  coded_step : (class : List ℕ) (made : Members) (member : Member) (m : Method) (code : Code) (w : WovenCode) → FitsMember file.pool true member → IsSoundMethod m
+      → method_linked files listing file made.number member ≡ Ok m → first_code member.attrs ≡ Some code → IsCoded files listing file member code m
+      → code_woven policy class made.number made.entries m code ≡ Ok w → IsStep made (code_put made member w) m
+  coded_step class made member m code w fits sound linked first old e =
+      let entries = (first_fits file.pool member.attrs code fits.attrs.each first).1.table.each in
+      let h = woven_is class made.number made.entries m member code w sound old entries e in
+      record {
+        item = member_with member w.code;
+        items = refl;
+        number = refl;
+        more = h.more;
+        is = λ ys grown at.
+            let item = member_with member w.code in
+            let kept = with_kept member w.code in
+            let name = (head_of new).name in
+            let insns = insns_woven policy new.pool m in
+            let refs = refs_woven policy m in
+            let handlers = handlers_woven policy m in
+            let other = with_code new item w.code insns refs handlers in
+            let operands : operands_linked others listing name new.pool at insns ≡ Ok refs =
+            linked_each (operand_at others listing name new.pool at) Names (λ i x t. ok_told name at i (operand_linked others listing new.pool x) t) 0 insns refs (h.refs ys grown) in
+            let table : handlers_linked others listing name new.pool at (length insns) (starts_of insns) w.code.table ≡ Ok handlers =
+            of_handlers others listing name new.pool at (length insns) (starts_of insns) w.code.table handlers (h.handlers ys grown) in
+            let coded_is : code_linked others listing new at item w.code ≡ Ok other = code_links at item w.code insns refs handlers (h.insns ys grown) operands table in
+            let body : body_linked others listing new at item (first_code item.attrs) ≡ Ok other = ap (body_linked others listing new at item) (first_with w.code code member.attrs first) ∙ coded_is in (
+              other,
+              links at made.number member item m other fits kept linked body,
+              record {
+                flags = sym old.flags;
+                name = name_kept file.pool new.pool member item true longer fits kept ∙ sym old.name;
+                desc = desc_kept file.pool new.pool member item true longer fits kept ∙ sym old.desc;
+                max_stack = h.max_stack;
+                max_locals = h.max_locals;
+                insns = refl;
+                handlers = refl;
+                refs = refl;
+                out = h.out ys grown;
+              },
+            );
+      }
+    where
+      code_links : (at : ℕ) (item : Member) (code : Code) (insns : List Insn) (refs : List Target) (handlers : List Handler) → code_of code.code ≡ Ok insns
+          → operands_linked others listing (head_of new).name new.pool at insns ≡ Ok refs
+          → handlers_linked others listing (head_of new).name new.pool at (length insns) (starts_of insns) code.table ≡ Ok handlers
+          → code_linked others listing new at item code ≡ Ok (with_code new item code insns refs handlers)
+      code_links at item code insns refs handlers a b c =
+          let class = (head_of new).name in
+          let table_of : List Insn → Result (List Handler) LinkFault = λ xs. handlers_linked others listing class new.pool at (length xs) (starts_of xs) code.table in
+          let ending : List Insn → List Target → Result Method LinkFault = λ xs ts. table_of xs >>= λ hs. Ok (with_code new item code xs ts hs) in
+          ap (λ (r : Result (List Insn) CodeFault). read_of class at r >>= λ xs. operands_linked others listing class new.pool at xs >>= λ ts. ending xs ts) a
+          ∙ ap (λ (r : Result (List Target) LinkFault). r >>= λ ts. ending insns ts) b ∙ ap (λ (r : Result (List Handler) LinkFault). r >>= λ hs. Ok (with_code new item code insns refs hs)) c
+
+  pub one_step : (class : List ℕ) (made next : Members) (member : Member) (m : Method) → FitsMember file.pool true member → IsSoundMethod m
+      → method_linked files listing file made.number member ≡ Ok m → body_woven policy class made member (Some m) (first_code member.attrs) ≡ Ok next → IsStep made next m
+  one_step class made next member m fits sound linked = by (first_code member.attrs) refl (conditions_of files listing file made.number member m linked).2
+    where
+      by : (c : Option Code) → first_code member.attrs ≡ c → body_linked files listing file made.number member c ≡ Ok m → body_woven policy class made member (Some m) c ≡ Ok next → IsStep made next m
+      by None none body e =
+          subst (λ (x : Members). IsStep made x m) (ok_is SpliceFault (bare_put made member) next e) (bare_step made member m fits linked none (ok_is LinkFault (bare file member) m body))
+      by (Some code) first body e =
+          let one = bind_ok (code_woven policy class made.number made.entries m code) (λ w. Ok (code_put made member w)) next e in
+          let old = coded files listing file made.number member code m body in
+          subst (λ (x : Members). IsStep made x m) (ok_is SpliceFault (code_put made member one.0) next one.2) (coded_step class made member m code one.0 fits sound linked first old one.1)

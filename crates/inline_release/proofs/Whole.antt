@@ -1,0 +1,274 @@
+-- Files that were woven link to the program with its blocks.
+use Rattle.std.proofs.Common.{◌≡◌, ℕ, ◌+◌, ◌≤◌, true, List, [], ◌∷◌, ◌++◌, length, map, Option, Some, Ok, refl, sym, ap, subst, ◌∙◌, append_assoc, append-nil, arith}
+use Rattle.std.specs.Prelude.{slice_get, not, nat_lt, ok_or}
+use Rattle.std.specs.List.{AllByRecursion}
+use Rattle.std.proofs.lemmas.Bool.Decides.{nat_tests}
+use Rattle.std.proofs.lemmas.List.{length-append, length-map}
+use Rattle.mon_base.specs.Reading.{◌>>=◌}
+use Rattle.mon_base.proofs.Reading.{bind_ok, ok_is, need_ok, ok_or_ok}
+use Rattle.class_codec.specs.declared.tree.ClassFile.{ClassFile}
+use Rattle.class_codec.specs.declared.tree.Const.{Const}
+use Rattle.class_codec.specs.declared.tree.Member.{Member}
+use Rattle.class_codec.specs.Fits.{CanSpell, FitsMember, FitsPool}
+use Rattle.api_listing.specs.declared.types.ListedClass.{ListedClass}
+use Rattle.api_listing.specs.declared.types.Listing.{Listing}
+use Rattle.bytecode_model.specs.declared.fault.LinkFault.{LinkFault}
+use Rattle.bytecode_model.specs.declared.fault.LinkFault.TheVariants as faults
+use Rattle.bytecode_model.specs.declared.program.LinkedClass.{LinkedClass}
+use Rattle.bytecode_model.specs.declared.program.Method.{Method}
+use Rattle.bytecode_model.specs.declared.program.Program.{Program}
+use Rattle.bytecode_model.specs.declared.program.Side.{Side}
+use Rattle.bytecode_model.specs.declared.program.Side.TheVariants as sides
+use Rattle.bytecode_model.specs.Conditions.{classes_linked}
+use Rattle.bytecode_model.specs.Fault.{Linked, linked_from}
+use Rattle.bytecode_model.specs.Heads.{class_at, head_of, heads_of}
+use Rattle.bytecode_model.specs.Operands.{literals_of}
+use Rattle.bytecode_model.specs.Linking.{method_linked, methods_linked, each_linked, class_with, classes_with, members_of, main_of, max_files, linked}
+use Rattle.bytecode_model.specs.Sound.{IsSoundMethod, IsSoundClass}
+use Rattle.conspec_automaton.specs.declared.policy.Policy.{Policy}
+use Rattle.offset_patch.specs.declared.fault.SpliceFault.{SpliceFault}
+use Rattle.block_template.specs.State.{state_file, state_class}
+use Rattle.inline_release.specs.declared.members.Members.{Members}
+use Rattle.inline_release.specs.Woven.{folded, first_code, body_woven, member_woven, none_made}
+use Rattle.inline_release.specs.Outcome.{Each, IsWovenMethod, IsWovenClass, WovenLinks}
+use Rattle.inline_release.proofs.Added.{is_added, new_stand}
+use Rattle.inline_release.proofs.Free.{IsFree}
+use Rattle.inline_release.proofs.Kept.{IsLonger, IsKept, IsFileOf, file_kept, files_made}
+use Rattle.inline_release.proofs.Listed.{listed}
+use Rattle.inline_release.proofs.Named.{IsAdded}
+use Rattle.inline_release.proofs.Pairs.{first_linked}
+use Rattle.inline_release.proofs.Same.{bare_state, head_kept, main_kept}
+use Rattle.inline_release.proofs.Standing.{IsGood, all_good, state_says, state_head_name}
+use Rattle.inline_release.proofs.Steps.{one_step}
+
+-- ---- lists
+
+get_behind : {X : Type 0} (xs : List X) (x : X) (ys : List X) → slice_get (xs ++ x ∷ ys) (length xs) ≡ Some x
+get_behind [] x ys = refl
+get_behind (z ∷ xs) x ys = get_behind xs x ys
+
+-- ---- the methods of a class
+
+module _ (policy : Policy) (class : LinkedClass) (new : ClassFile) (files others : List ClassFile) (listing : Listing) (added : IsAdded files others listing)
+    (p : FitsPool class.file.pool) (free : IsFree class.file.pool) (longer : IsLonger class.file.pool new.pool) (named : (head_of new).name ≡ (head_of class.file).name) where
+  -- What the members that are left make of what was made, and what these link to.
+  record IsRest (made last : Members) (left : List Method) : Type 0 where
+    items : List Member
+    are : last.items ≡ made.items ++ items
+    more : (xs : List Const) × (last.entries ≡ made.entries ++ xs)
+    linked : List Method
+    links : linked_from (method_linked others listing new) made.number items ≡ Ok linked
+    each : Each (IsWovenMethod policy new.pool) left linked
+
+  none_left : (made : Members) → IsRest made made []
+  none_left made = record { items = []; are = sym (append-nil made.items); more = ([], sym (append-nil made.entries)); linked = []; links = refl; each = tt }
+
+  members_rest : (members : List Member) (made last : Members) (done left : List Method) → class.methods ≡ done ++ left → length done ≡ made.number → AllByRecursion IsSoundMethod left
+      → AllByRecursion (FitsMember class.file.pool true) members → linked_from (method_linked files listing class.file) made.number members ≡ Ok left
+      → folded (member_woven policy class) made members ≡ Ok last → last.entries ≡ new.pool → IsRest made last left
+  members_rest [] made last done left split count sound fits e w pool =
+      let none : [] ≡ left = ok_is LinkFault [] left e in
+      subst (IsRest made last) none (subst (λ (x : Members). IsRest made x []) (ok_is SpliceFault made last w) (none_left made))
+  members_rest (member ∷ members) made last done left split count sound fits e w pool =
+      let a = first_linked (method_linked files listing class.file) made.number member members left e in
+      let m = a.0 in
+      let rest = a.1 in
+      let sound' : AllByRecursion IsSoundMethod (m ∷ rest) = subst (AllByRecursion IsSoundMethod) (sym a.4) sound in
+      let split' : class.methods ≡ done ++ m ∷ rest = split ∙ ap (λ (xs : List Method). done ++ xs) (sym a.4) in
+      let here : slice_get class.methods made.number ≡ Some m = ap (λ (n : ℕ). slice_get class.methods n) (sym count) ∙ ap (λ (xs : List Method). slice_get xs (length done)) split' ∙ get_behind done m rest in
+      let one = bind_ok (member_woven policy class made member) (λ next. folded (member_woven policy class) next members) last w in
+      let next = one.0 in
+      let woven : body_woven policy class.name made member (Some m) (first_code member.attrs) ≡ Ok next =
+      ap (λ (o : Option Method). body_woven policy class.name made member o (first_code member.attrs)) (sym here) ∙ one.1 in
+      let step = one_step policy class.file new files others listing added p free longer named class.name made next member m fits.0 sound'.0 a.2 woven in
+      let linked' : linked_from (method_linked files listing class.file) next.number members ≡ Ok rest = ap (λ (n : ℕ). linked_from (method_linked files listing class.file) n members) step.number ∙ a.3 in
+      let count' : length (done ++ m ∷ []) ≡ next.number = length-append done (m ∷ []) ∙ ap (λ (n : ℕ). n + 1) count ∙ sym step.number in
+      let later = members_rest members next last (done ++ m ∷ []) rest (split' ∙ sym (append_assoc done (m ∷ []) rest)) count' sound'.1 fits.1 linked' one.2 pool in
+      let first = step.is later.more.0 (sym pool ∙ later.more.1) made.number in
+      let again : linked_from (method_linked others listing new) (made.number + 1) later.items ≡ Ok later.linked =
+      ap (λ (n : ℕ). linked_from (method_linked others listing new) n later.items) (sym step.number) ∙ later.links in
+      let both : IsRest made last (m ∷ rest) = record {
+        items = step.item ∷ later.items;
+        are = later.are ∙ ap (λ (xs : List Member). xs ++ later.items) step.items ∙ append_assoc made.items (step.item ∷ []) later.items;
+        more = (step.more.0 ++ later.more.0, later.more.1 ∙ ap (λ (xs : List Const). xs ++ later.more.0) step.more.1 ∙ append_assoc made.entries step.more.0 later.more.0);
+        linked = first.0 ∷ later.linked;
+        links = ap (λ (r : Linked Method). r >>= λ x. linked_from (method_linked others listing new) (made.number + 1) later.items >>= λ xs. Ok (x ∷ xs)) first.1
+            ∙ ap (λ (r : Linked (List Method)). r >>= λ xs. Ok (first.0 ∷ xs)) again;
+        each = (first.2, later.each);
+      } in
+      subst (IsRest made last) a.4 both
+
+-- ---- a class
+
+-- What a class was linked of.
+pub record IsOf (files : List ClassFile) (listing : Listing) (class : LinkedClass) : Type 0 where
+  pub name : class.name ≡ class_at class.file.pool class.file.this_class
+  pub parent : class.parent ≡ class_at class.file.pool class.file.super_class
+  pub methods : methods_linked files listing class.file ≡ Ok class.methods
+
+module _ (policy : Policy) (files others : List ClassFile) (listing : Listing) (added : IsAdded files others listing) where
+  class_joined : (old : LinkedClass) (new : ClassFile) → IsSoundClass old → IsFree old.file.pool → IsOf files listing old → IsFileOf policy old new
+      → (methods : List Method) × (methods_linked others listing new ≡ Ok methods) × IsWovenClass policy old (class_with new methods)
+  class_joined old new sound free of w =
+      let k = file_kept policy old new w in
+      let head : head_of new ≡ head_of old.file = head_kept old.file new sound.fits k in
+      let named : (head_of new).name ≡ (head_of old.file).name = ap (λ (c : ListedClass). c.name) head in
+      let pool : w.made.entries ≡ new.pool = ap (λ (f : ClassFile). f.pool) w.is in
+      let rest = members_rest policy old new files others listing added sound.fits.pool free k.longer named old.file.methods (none_made old.file.pool) w.made [] old.methods refl refl sound.methods
+      sound.fits.methods.each of.methods w.all pool in
+      let items : new.methods ≡ rest.items = ap (λ (f : ClassFile). f.methods) (sym w.is) ∙ rest.are in
+      let links : methods_linked others listing new ≡ Ok rest.linked = ap (linked_from (method_linked others listing new) 0) items ∙ rest.links in (
+        rest.linked,
+        links,
+        record {
+          name = named ∙ sym of.name;
+          parent = ap (λ (c : ListedClass). c.parent) head ∙ sym of.parent;
+          head = head;
+          added = k.longer.more;
+          pool = k.longer.is;
+          methods = rest.each;
+        },
+      )
+
+  -- What the files link to, behind which conspec/State stands.
+  record AreJoined (at : ℕ) (olds : List LinkedClass) (news : List ClassFile) : Type 0 where
+    methods : List (List Method)
+    links : linked_from (λ i. methods_linked others listing) at (news ++ bare_state ∷ []) ≡ Ok methods
+    own : List LinkedClass
+    are : classes_with (news ++ bare_state ∷ []) methods ≡ own ++ class_with bare_state [] ∷ []
+    classes : Each (IsWovenClass policy) olds own
+
+  classes_joined : (at : ℕ) (olds : List LinkedClass) (news : List ClassFile) → AllByRecursion IsSoundClass olds → AllByRecursion (λ (c : LinkedClass). IsFree c.file.pool) olds
+      → AllByRecursion (IsOf files listing) olds → Each (IsFileOf policy) olds news → AreJoined at olds news
+  classes_joined at [] [] sound free of w = record { methods = [] ∷ []; links = refl; own = []; are = refl; classes = tt }
+  classes_joined at [] (new ∷ news) sound free of w = absurd w
+  classes_joined at (old ∷ olds) [] sound free of w = absurd w
+  classes_joined at (old ∷ olds) (new ∷ news) sound free of w =
+      let one = class_joined old new sound.0 free.0 of.0 w.0 in
+      let rest = classes_joined (at + 1) olds news sound.1 free.1 of.1 w.1 in
+      record {
+        methods = one.0 ∷ rest.methods;
+        links = ap (λ (r : Linked (List Method)). r >>= λ x. linked_from (λ i. methods_linked others listing) (at + 1) (news ++ bare_state ∷ []) >>= λ xs. Ok (x ∷ xs)) one.1
+            ∙ ap (λ (r : Linked (List (List Method))). r >>= λ xs. Ok (one.0 ∷ xs)) rest.links;
+        own = class_with new one.0 ∷ rest.own;
+        are = ap (λ (xs : List LinkedClass). class_with new one.0 ∷ xs) rest.are;
+        classes = (one.2, rest.classes);
+      }
+
+-- ---- a program that was linked
+
+abbrev pub files_of : List LinkedClass → List ClassFile
+files_of classes = map (λ (c : LinkedClass). c.file) classes
+
+module _ (files : List ClassFile) (listing : Listing) where
+  classes_of : (at : ℕ) (some : List ClassFile) (methods : List (List Method)) → linked_from (λ i. methods_linked files listing) at some ≡ Ok methods
+      → AllByRecursion (IsOf files listing) (classes_with some methods) × (files_of (classes_with some methods) ≡ some)
+  classes_of at [] methods e = (tt, refl)
+  classes_of at (file ∷ some) [] e =
+      let a = first_linked (λ i. methods_linked files listing) at file some [] e in
+      absurd (cc (a.4))
+  classes_of at (file ∷ some) (first ∷ methods) e =
+      let a = first_linked (λ i. methods_linked files listing) at file some (first ∷ methods) e in
+      let front : a.0 ≡ first = cc (a.4) in
+      let rest : a.1 ≡ methods = cc (a.4) in
+      let later = classes_of (at + 1) some methods (a.3 ∙ ap Ok rest) in
+      ((record { name = refl; parent = refl; methods = a.2 ∙ ap Ok front }, later.0), ap (λ (xs : List ClassFile). file ∷ xs) later.1)
+
+-- What was linked.
+pub record IsProgramOf (files : List ClassFile) (listing : Listing) (main : List ℕ) (side : Side) (p : Program) : Type 0 where
+  pub good : classes_linked side (heads_of files) listing.classes files ≡ Ok tt
+  pub classes : AllByRecursion (IsOf files listing) p.classes
+  pub files_are : files_of p.classes ≡ files
+  pub begin : (b : ℕ × ℕ) × (main_of files main ≡ Some b)
+  pub listing_is : p.listing ≡ listing
+
+pub program_of : (files : List ClassFile) (listing : Listing) (main : List ℕ) (side : Side) (p : Program) → linked files listing main side ≡ Ok p → IsProgramOf files listing main side p
+program_of files listing main side p e =
+    let built : List (List Method) × List (List ℕ) → ℕ × ℕ → Program = λ members begin. record { classes = classes_with files members.0; listing = listing; literals = members.1; main_class = begin.0; main_method = begin.1 } in
+    let ending : List (List Method) × List (List ℕ) → Linked Program = λ members. ok_or (main_of files main) faults.NoMain >>= λ begin. Ok (built members begin) in
+    let a = need_ok (not (nat_lt max_files (length files))) (faults.TooMany (length files)) (λ few. classes_linked side (heads_of files) listing.classes files >>= λ sound. members_of files listing >>= ending) p e in
+    let b = bind_ok (classes_linked side (heads_of files) listing.classes files) (λ sound. members_of files listing >>= ending) p a.1 in
+    let c = bind_ok (members_of files listing) ending p b.2 in
+    let d = bind_ok (ok_or (main_of files main) faults.NoMain) (λ begin. Ok (built c.0 begin)) p c.2 in
+    let is : built c.0 d.0 ≡ p = ok_is LinkFault (built c.0 d.0) p d.2 in
+    let pair : List (List Method) → List (List Method) × List (List ℕ) = λ ms. (ms, literals_of files) in
+    let f = bind_ok (each_linked files listing files) (λ ms. Ok (pair ms)) c.0 c.1 in
+    let same : f.0 ≡ c.0.0 = ap (λ (z : List (List Method) × List (List ℕ)). z.0) (ok_is LinkFault (pair f.0) c.0 f.2) in
+    let of = classes_of files listing 0 files c.0.0 (f.1 ∙ ap Ok same) in
+    subst (IsProgramOf files listing main side) is (record {
+      good = b.1;
+      classes = of.0;
+      files_are = of.1;
+      begin = (d.0, ok_or_ok (main_of files main) faults.NoMain d.0 d.1);
+      listing_is = refl;
+    })
+
+linked_by : (files : List ClassFile) (listing : Listing) (main : List ℕ) (side : Side) (methods : List (List Method)) (begin : ℕ × ℕ) → not (nat_lt max_files (length files)) ≡ true
+    → classes_linked side (heads_of files) listing.classes files ≡ Ok tt → each_linked files listing files ≡ Ok methods → main_of files main ≡ Some begin
+    → linked files listing main side ≡ Ok (record { classes = classes_with files methods; listing = listing; literals = literals_of files; main_class = begin.0; main_method = begin.1 })
+linked_by files listing main side methods begin few good each is = rw (few, good, each, is) refl
+
+-- ---- the law
+
+module _ (policy : Policy) where
+  all_kept : (classes : List LinkedClass) (news : List ClassFile) → Each (IsFileOf policy) classes news → Each IsKept (files_of classes) news
+  all_kept [] [] w = tt
+  all_kept [] (new ∷ news) w = absurd w
+  all_kept (class ∷ classes) [] w = absurd w
+  all_kept (class ∷ classes) (new ∷ news) w = (file_kept policy class new w.0, all_kept classes news w.1)
+
+  as_many : (classes : List LinkedClass) (news : List ClassFile) → Each (IsFileOf policy) classes news → length news ≡ length classes
+  as_many [] [] w = refl
+  as_many [] (new ∷ news) w = absurd w
+  as_many (class ∷ classes) [] w = absurd w
+  as_many (class ∷ classes) (new ∷ news) w = omega (arith, as_many classes news w.1)
+
+all_fit : (classes : List LinkedClass) → AllByRecursion IsSoundClass classes → AllByRecursion CanSpell (files_of classes)
+all_fit [] h = tt
+all_fit (class ∷ classes) h = (h.0.fits, all_fit classes h.1)
+
+all_free : (heads : List ListedClass) (classes : List LinkedClass) → AllByRecursion (IsGood heads) (files_of classes) → AllByRecursion (λ (c : LinkedClass). IsFree c.file.pool) classes
+all_free heads [] h = tt
+all_free heads (class ∷ classes) h = (h.0.free, all_free heads classes h.1)
+
+pub free_classes : (files : List ClassFile) (listing : Listing) (main : List ℕ) (p : Program) → IsProgramOf files listing main sides.Original p → AllByRecursion (λ (c : LinkedClass). IsFree c.file.pool) p.classes
+free_classes files listing main p h =
+    all_free (heads_of files) p.classes (subst (AllByRecursion (IsGood (heads_of files))) (sym h.files_are) (all_good (heads_of files) listing.classes files h.good))
+
+still_few : (n : ℕ) → n ≤ 1000 → not (nat_lt max_files n) ≡ true
+still_few n h = grind (arith, nat_tests)
+
+pub links : WovenLinks
+links text listing files main old policy made spelled first sound denies few w =
+    let p = program_of files listing main sides.Original old first in
+    let all = files_made policy old made w in
+    let news = all.0 in
+    let others = news ++ bare_state ∷ [] in
+    let bare : state_class policy ≡ bare_state = ap state_file denies.vars in
+    let is : others ≡ made.files = ap (λ (s : ClassFile). news ++ s ∷ []) (sym bare) ∙ sym all.1 in
+    let fits : AllByRecursion CanSpell files = subst (AllByRecursion CanSpell) p.files_are (all_fit old.classes sound.classes) in
+    let kept : Each IsKept files news = subst (λ (fs : List ClassFile). Each IsKept fs news) p.files_are (all_kept policy old.classes news all.2) in
+    let l = listed text listing spelled in
+    let added = is_added listing l files news fits kept p.good in
+    let free = free_classes files listing main old p in
+    let joined = classes_joined policy files others listing added 0 old.classes news sound.classes free p.classes all.2 in
+    let begin = p.begin.0 in
+    let main_is : main_of others main ≡ Some begin = main_kept bare_state main begin 0 files news fits kept p.begin.1 in
+    let same : length old.classes ≡ length files = sym (length-map old.classes (λ (c : LinkedClass). c.file)) ∙ ap length p.files_are in
+    let count : length others ≤ 1000 = omega (arith, length-append news (bare_state ∷ []), as_many policy old.classes news all.2, same, few) in
+    let new : Program = record { classes = classes_with others joined.methods; listing = listing; literals = literals_of others; main_class = begin.0; main_method = begin.1 } in
+    let linked_is : linked others listing main sides.Inlined ≡ Ok new =
+    linked_by others listing main sides.Inlined joined.methods begin (still_few (length others) count) (new_stand listing l files news fits kept p.good) joined.links main_is in (
+      new,
+      (
+        subst (λ (fs : List ClassFile). linked fs listing main sides.Inlined ≡ Ok new) is linked_is,
+        record {
+          own = joined.own;
+          state = class_with bare_state [];
+          are = joined.are;
+          classes = joined.classes;
+          last = record { name = ap (λ (c : ListedClass). c.name) state_says ∙ state_head_name; file = sym bare; methods = refl };
+          listing = sym p.listing_is;
+        },
+      ),
+    )

@@ -1,0 +1,13 @@
+//! What holds of what is woven.
+
+ghost use Rattle.inline_release.specs.Outcome.{OriginalIsFree, WovenLinks};
+
+/// Class files that were woven link to the program with its blocks.
+pub fn woven_files_link()
+    ensures links { WovenLinks }
+{}
+
+/// What a compiler's class files link to names nothing of what the tool keeps for itself.
+pub fn original_is_free()
+    ensures free { OriginalIsFree }
+{}
