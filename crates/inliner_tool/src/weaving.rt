@@ -8,7 +8,7 @@ ghost use Rattle.cert_checker.specs.Secure.{Secure};
 ghost use Rattle.class_codec.specs.Fits.{CanSpell};
 ghost use Rattle.conspec_automaton.specs.Building.{built};
 ghost use Rattle.conspec_automaton.specs.Denying.{DeniesOnly};
-ghost use Rattle.inliner_tool.specs.InlineInputs.{InlineSound};
+ghost use Rattle.inliner_tool.specs.InlineInputs.{InlineSound, IsListed};
 ghost use Rattle.inliner_tool.specs.InlineWords.{inline_named};
 ghost use Rattle.inliner_tool.specs.Weaving.{
   Accepts,
@@ -85,7 +85,6 @@ pub fn plan(alloc: Global, inputs: InlineInputs, words: &InlineWords) -> Result<
         policy,
         classes,
     } = inputs;
-    linked_is_in_order();
     let client = original(alloc, listing, classes, words.main)?;
     types_of(alloc, &client)?;
     let policy = denying(alloc, words.weaving, &policy, &client)?;
@@ -110,8 +109,11 @@ fn original(
     requires fits { AllByRecursion CanSpell classes.files }
     ensures is { UnlessMemory (Equals (original listing classes main.now)) result }
     ensures listing { IfOk result (λ program. program.listing ≡ listing) }
+    ensures back { IfOk result (λ program. unlinked program ≡ classes.files) }
     ensures sound { IfOk result IsSound }
+    ensures order { IsListed listing → IfOk result IsInOrder }
 {
+    linked_is_in_order();
     let total = classes.total;
     if total > TOTAL_LIMIT {
         return Err(Refusal::TotalLong { len: total });

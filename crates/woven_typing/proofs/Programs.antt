@@ -90,7 +90,7 @@ pair_of policy old new woven own other index made e f =
 -- ---- frames of a method
 
 -- the frames of a method with code are as many as its instructions
-told_count : (methods : List Method) (told : List Frames) (index : ℕ) (m : Method) → map length told ≡ map (λ (x : Method). length x.insns) (coded methods)
+pub told_count : (methods : List Method) (told : List Frames) (index : ℕ) (m : Method) → map length told ≡ map (λ (x : Method). length x.insns) (coded methods)
     → slice_get methods index ≡ Some m → 0 < length m.insns → length (frames_in methods told index) ≡ length m.insns
 told_count [] told index m shape e some = absurd cc
 told_count (x ∷ methods) told zero m shape e some =
@@ -128,7 +128,7 @@ told_count (x ∷ methods) told (suc index) m shape e some =
     behind (fs ∷ told) is later = later told cc
 
 -- the shape of what is told of a class
-class_told : (classes : List LinkedClass) (told : List (List Frames)) (own : ℕ) (c : LinkedClass)
+pub class_told : (classes : List LinkedClass) (told : List (List Frames)) (own : ℕ) (c : LinkedClass)
     → map (map length) told ≡ map (λ (class : LinkedClass). map (λ (m : Method). length m.insns) (coded class.methods)) classes → slice_get classes own ≡ Some c
     → map length (list_at told own) ≡ map (λ (m : Method). length m.insns) (coded c.methods)
 class_told [] told own c shape e = absurd cc
