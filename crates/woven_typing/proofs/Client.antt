@@ -247,6 +247,7 @@ module _ (policy : Policy) (old new : Program) (own : ℕ) (class other : Linked
                   let same : x ≡ y = grind (arith, nat_tests) in
                   rw same (omega arith)
             ]
+
         before_reaches : (x y : ℕ) → x < y → y ≤ count → (x ≡ i) → fr x + length (part policy b0 ref) ≤ fr y
         before_reaches x y lt most is =
             let next : fr (suc x) ≡ fr x + length (part policy b0 ref) = rw is (before_next policy b0 method.refs i ref names) in
@@ -294,8 +295,13 @@ module _ (policy : Policy) (old new : Program) (own : ℕ) (class other : Linked
         let none : i ≡ 0 =
         elim (cases_Bool (nat_lt 0 i)) [
           | inl later ↦
-              absurd (omega (arith, is, first, moved_is policy old new class other method made body i lt,
-              before_grows policy b0 method.refs 0 i (ltb-true _ _ later) (omega (arith, lt, same_length policy old new class other method made body))))
+              absurd (omega (
+                arith,
+                is,
+                first,
+                moved_is policy old new class other method made body i lt,
+                before_grows policy b0 method.refs 0 i (ltb-true _ _ later) (omega (arith, lt, same_length policy old new class other method made body)),
+              ))
           | inr fails ↦ grind (arith, nat_tests)
         ] in
         let begins : (i == 0) ≡ true = rw none refl in

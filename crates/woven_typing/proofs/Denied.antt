@@ -123,12 +123,15 @@ module _ (program : Program) (args : List Kind) (descs : List Descriptor) (are :
   without_receiver le e = record {
     many = omega (arith, le, wanted_count);
     each = λ j lt.
-      let h = held_at program args (topmost (length wanted) stack) j (all_held program args descs (topmost (length wanted) stack) are e) lt in
-      let at : length stack - length wanted + j ≡ length stack - length args + j = omega (arith, wanted_count) in
-      record {
-        kind = h.kind; kind_there = h.kind_there; type = h.type; fits = h.fits;
-        type_there = ap (slice_get stack) (sym at) ∙ sym (get_drop (length stack - length wanted) stack j) ∙ h.type_there;
-      };
+        let h = held_at program args (topmost (length wanted) stack) j (all_held program args descs (topmost (length wanted) stack) are e) lt in
+        let at : length stack - length wanted + j ≡ length stack - length args + j = omega (arith, wanted_count) in
+        record {
+          kind = h.kind;
+          kind_there = h.kind_there;
+          type = h.type;
+          fits = h.fits;
+          type_there = ap (slice_get stack) (sym at) ∙ sym (get_drop (length stack - length wanted) stack j) ∙ h.type_there;
+        };
   }
 
   with_receiver : (w : Want) → length (w ∷ wanted) ≤ length stack → all_met (w ∷ wanted) (topmost (length (w ∷ wanted)) stack) ≡ true → HasArguments args stack
@@ -137,13 +140,16 @@ module _ (program : Program) (args : List Kind) (descs : List Descriptor) (are :
       record {
         many = omega (arith, le, wanted_count);
         each = λ j lt.
-          let h = held_at program args first.1 j (all_held program args descs first.1 are first.3) lt in
-          let at : length stack - length (w ∷ wanted) + suc j ≡ length stack - length args + j = omega (arith, wanted_count, le) in
-          record {
-            kind = h.kind; kind_there = h.kind_there; type = h.type; fits = h.fits;
-            type_there =
-              ap (slice_get stack) (sym at) ∙ sym (get_drop (length stack - length (w ∷ wanted)) stack (suc j)) ∙ ap (λ (ts : List VType). slice_get ts (suc j)) first.2 ∙ h.type_there;
-          };
+            let h = held_at program args first.1 j (all_held program args descs first.1 are first.3) lt in
+            let at : length stack - length (w ∷ wanted) + suc j ≡ length stack - length args + j = omega (arith, wanted_count, le) in
+            record {
+              kind = h.kind;
+              kind_there = h.kind_there;
+              type = h.type;
+              fits = h.fits;
+              type_there =
+                  ap (slice_get stack) (sym at) ∙ sym (get_drop (length stack - length (w ∷ wanted)) stack (suc j)) ∙ ap (λ (ts : List VType). slice_get ts (suc j)) first.2 ∙ h.type_there;
+            };
       }
 
 module _ (policy : Policy) (old new : Program) (own : ℕ) (class other : LinkedClass) (method made : Method) (body : IsWovenBody policy old new class other method made)
@@ -234,7 +240,12 @@ module _ (policy : Policy) (old new : Program) (own : ℕ) (class other : Linked
         row_from successor =
             let a = alone (spot k x r) now next does in
             record {
-              entry = entry; depth = a.depth; operand = a.operand; local = a.local; made = a.made; successor = successor;
+              entry = entry;
+              depth = a.depth;
+              operand = a.operand;
+              local = a.local;
+              made = a.made;
+              successor = successor;
               caught = caught_kept policy old new own class other method made body frames told met i insn ref there names f row k (omega (arith, lt, long)) x r now locals;
             }
 
