@@ -232,7 +232,7 @@ module _ (policy : Policy) (old new : Program) (own : ℕ) (class other : Linked
             let none : start + k ≡ 0 = eqb-true (start + k) 0 e in
             let is : k ≡ 0 = omega (arith, none) in
             let at : start + k ≡ mv policy old new own class other method made body frames told met i =
-            omega (arith, is, moved_is policy old new class other method made body i (slice_get_within method.insns i insn there)) in
+            omega (arith, is, moved_is policy other.file.pool method made body.standing i (slice_get_within method.insns i insn there)) in
             subst (λ (h : FrameType). Entry (spot k x r) h ≡ true) (sym (first is))
             (entry_there policy old new own class other method made body frames told met i insn ref there names f row (start + k) x r at e)
 
@@ -272,8 +272,8 @@ module _ (policy : Policy) (old new : Program) (own : ℕ) (class other : Linked
       met_at k b r now lt e named framed passes =
           let x : Insn = put other.file.pool (fs policy old new own class other method made body frames told met) start insn b in
           row_here policy old new own class other method made body frames told met (start + k) x r (Some now)
-          (insn_there policy old new class other method made body i k insn ref b there names (stands k b e))
-          (ref_there policy old new class other method made body i k ref b names (stands k b e) ∙ ap Some named)
+          (insn_there policy other.file.pool method made body.standing i k insn ref b there names (stands k b e))
+          (ref_there policy other.file.pool method made body.standing i k ref b names (stands k b e) ∙ ap Some named)
           (frame_place k (Some now) lt framed)
           (row_met all (spot k x r) now passes)
 
@@ -292,10 +292,10 @@ module _ (policy : Policy) (old new : Program) (own : ℕ) (class other : Linked
 
       high_enough : length frame.stack + 3 ≤ made.max_stack
       high_enough =
-          omega (arith, frame_height, small, stack_three policy old new class other method made body (woven_at policy old new class other method made body i ref args names has))
+          omega (arith, frame_height, small, stack_three policy other.file.pool method made body.standing (woven_at policy other.file.pool method made body.standing i ref args names has))
 
       room_for : base + m ≤ made.max_locals
-      room_for = slots policy old new class other method made body i ref args names has
+      room_for = slots policy other.file.pool method made body.standing i ref args names has
 
       starts_with_it : (k : ℕ) → k ≡ 0 → without k frame ≡ frame
       starts_with_it k e = rw e (ap (λ (s : List VType). record { locals = frame.locals; stack = s }) (below_none frame.stack))
@@ -378,7 +378,7 @@ module _ (policy : Policy) (old new : Program) (own : ℕ) (class other : Linked
           met_at (m + 3) (Wanted 0xB8 Exit) (target.Builtin way_out_index) (with types.Int bare) (omega arith) (behind_at base args 3) refl (framed_at m frame 3)
           (goes_next (m + 3) (omega arith) (insns.Pool 184 (place_in other.file.pool Exit)) (target.Builtin way_out_index) (with types.Int bare) bare
           (exits new own other made (start + (m + 3)) bare bare_locals bare_height (place_in other.file.pool Exit) way_out_index
-          (body.of_method.out (woven_at policy old new class other method made body i ref args names has)))
+          (body.standing.of_method.out (woven_at policy other.file.pool method made body.standing i ref args names has)))
           refl (later 3 (with types.Int bare) (omega arith)) refl (omega arith)
           (next_place 3 (Some bare) (framed_at m frame 4)))
 
@@ -405,8 +405,8 @@ module _ (policy : Policy) (old new : Program) (own : ℕ) (class other : Linked
           let no : ((start + k) == 0) ≡ false = ne_eqb (start + k) 0 (λ e. absurd (omega (arith, e, le))) in
           let x : Insn = put other.file.pool aims start insn b.0 in
           row_here policy old new own class other method made body frames told met (start + k) x (part_named ref b.0) None
-          (insn_there policy old new class other method made body i k insn ref b.0 there names b.1)
-          (ref_there policy old new class other method made body i k ref b.0 names b.1)
+          (insn_there policy other.file.pool method made body.standing i k insn ref b.0 there names b.1)
+          (ref_there policy other.file.pool method made body.standing i k ref b.0 names b.1)
           (frame_place k None lt (unreached_at m frame k le lt))
           (ap (λ (z : Bool). cond z (Some 1) None) no)
 
