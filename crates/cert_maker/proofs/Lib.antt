@@ -1,0 +1,4 @@
+mod Linked
+mod Told
+mod Origins
+mod Noted
