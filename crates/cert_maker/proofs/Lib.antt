@@ -2,3 +2,5 @@ mod Linked
 mod Told
 mod Origins
 mod Noted
+mod Rules
+mod Standing

@@ -62,7 +62,7 @@ module _ (policy : Policy) (method : Method) where
   noted (o ∷ told) (x ∷ frames) (suc at) origin frame e f = noted told frames at origin frame e f
 
   -- an instruction with a frame
-  framed : (frames : List (Option FrameType)) (at : ℕ) → is_some (frame_of frames at) ≡ true → (frame : FrameType) × (slice_get frames at ≡ Some (Some frame))
+  pub framed : (frames : List (Option FrameType)) (at : ℕ) → is_some (frame_of frames at) ≡ true → (frame : FrameType) × (slice_get frames at ≡ Some (Some frame))
   framed frames at e = by (slice_get frames at) refl e
     where
       by : (o : Option (Option FrameType)) → slice_get frames at ≡ o → is_some (option_map_or (λ (f : Option FrameType). f) o None) ≡ true → (frame : FrameType) × (slice_get frames at ≡ Some (Some frame))

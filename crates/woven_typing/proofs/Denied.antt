@@ -63,7 +63,7 @@ pub record IsDenied (policy : Policy) (ref : Target) (args : List Kind) : Type 0
   pub of : clause_of policy index ≡ Some clause
   pub kinds : clause.args ≡ args
 
-denied : (policy : Policy) (ref : Target) (args : List Kind) → arguments_of policy ref ≡ Some args → IsDenied policy ref args
+pub denied : (policy : Policy) (ref : Target) (args : List Kind) → arguments_of policy ref ≡ Some args → IsDenied policy ref args
 denied policy (target.ApiMethod method) args e = by (clause_of policy method) refl e
   where
     by : (o : Option Clause) → clause_of policy method ≡ o → option_map (λ (c : Clause). c.args) o ≡ Some args → IsDenied policy (target.ApiMethod method) args
