@@ -4,3 +4,5 @@ mod Origins
 mod Noted
 mod Rules
 mod Standing
+mod Shape
+mod Accepted

@@ -31,6 +31,7 @@ use Rattle.bytecode_model.specs.Handlers.{handlers_linked}
 use Rattle.bytecode_model.specs.Heads.{head_of, heads_of, all_classes, name_of}
 use Rattle.bytecode_model.specs.Linking.{bare, with_code, read_of, code_linked, body_linked, method_linked, methods_linked, each_linked, classes_with, members_of, main_of, max_files, linked}
 use Rattle.bytecode_model.specs.Operands.{literals_of, operands_linked}
+use Rattle.bytecode_model.specs.Sound.{IsSound, IsSoundClass}
 use Rattle.code_typing.specs.Shape.{has_code}
 use Rattle.inline_release.specs.Outcome.{Each}
 use Rattle.inline_release.specs.Woven.{first_code}
@@ -138,7 +139,7 @@ module _ (files : List ClassFile) (listing : Listing) where
       let rest : b.0 ≡ methods = cc (b.2) in
       (a.1 ∙ ap Ok front, classes_of (at + 1) some methods (b.1 ∙ ap Ok rest))
 
-  pub classes_linked_of : (main : List ℕ) (side : Side) (program : Program) → linked files listing main side ≡ Ok program → AllByRecursion IsLinkedOf program.classes
+  classes_linked_of : (main : List ℕ) (side : Side) (program : Program) → linked files listing main side ≡ Ok program → AllByRecursion IsLinkedOf program.classes
   classes_linked_of main side program e =
       let made : List (List Method) × List (List ℕ) → ℕ × ℕ → Program = λ members begin. record { classes = classes_with files members.0; listing = listing; literals = members.1; main_class = begin.0; main_method = begin.1 } in
       let ending : List (List Method) × List (List ℕ) → Linked Program = λ members. ok_or (main_of files main) faults.NoMain >>= λ begin. Ok (made members begin) in
@@ -153,3 +154,10 @@ module _ (files : List ClassFile) (listing : Listing) where
       let same : each.0 ≡ members.0.0 = ap (λ (z : List (List Method) × List (List ℕ)). z.0) (ok_is LinkFault (pair each.0) members.0 each.2) in
       let all : AllByRecursion IsLinkedOf (classes_with files members.0.0) = classes_of 0 files members.0.0 (each.1 ∙ ap Ok same) in
       subst (λ (p : Program). AllByRecursion IsLinkedOf p.classes) is all
+
+  pub classes_of_files : (main : List ℕ) (side : Side) (program : Program) → linked files listing main side ≡ Ok program → IsSound program → AllByRecursion IsOfFile program.classes
+  classes_of_files main side program e sound = all program.classes (classes_linked_of main side program e) sound.classes
+    where
+      all : (classes : List LinkedClass) → AllByRecursion IsLinkedOf classes → AllByRecursion IsSoundClass classes → AllByRecursion IsOfFile classes
+      all [] of sound = tt
+      all (class ∷ classes) of sound = (members_are files listing class.file 0 class.file.methods class.methods sound.0.fits.methods.each of.0, all classes of.1 sound.1)

@@ -469,9 +469,9 @@ module _ (classes : List LinkedClass) (policy : Policy) (pool : List Const) (met
 
   -- ---- all instructions
 
-  pub passes : (at : ℕ) → at < length made.insns → Reached at → note_fault classes policy told made at ≡ None
-  passes at lt reached =
-      let l = locate policy base method.refs at (omega (arith, lt, made_long policy pool method made body)) in
+  pub passes : (at : ℕ) → Reached at → note_fault classes policy told made at ≡ None
+  passes at reached =
+      let l = locate policy base method.refs at (omega (arith, within at reached, made_long policy pool method made body)) in
       let few : l.own < n = omega (arith, slice_get_within method.refs l.own l.ref l.there, same_length policy pool method made body) in
       let insn = slice_there method.insns l.own few in
       subst (λ (k : ℕ). note_fault classes policy told made k ≡ None) (sym l.is)
