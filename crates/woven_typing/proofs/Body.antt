@@ -41,12 +41,16 @@ use Rattle.woven_typing.proofs.Larger.{IsLarger}
 use Rattle.woven_typing.proofs.Parts.{some_is, part, part_alone, part_denied, part_some, before, total, front_is, before_end, before_next, before_grows, Located, locate, named_at, insn_at, insns_many, denial_length}
 use Rattle.woven_typing.proofs.Unwoven.{AreAlone, all_alone, insns_alone, named_alone, handlers_same, front_alone}
 
+-- A method and what is woven of it, whose blocks name constants of the pool.
+pub record IsStanding (policy : Policy) (pool : List Const) (method made : Method) : Type 0 where
+  pub of_method : IsWovenMethod policy pool method made
+  pub sound : IsSoundMethod method
+
 -- A method of a linked program, and what it is in the woven one.
 pub record IsWovenBody (policy : Policy) (old new : Program) (class other : LinkedClass) (method made : Method) : Type 0 where
+  pub standing : IsStanding policy other.file.pool method made
   pub larger : IsLarger old new
   pub of_class : IsWovenClass policy class other
-  pub of_method : IsWovenMethod policy other.file.pool method made
-  pub sound : IsSoundMethod method
   pub right : (at : ℕ) (insn : Insn) (ref : Target) → slice_get method.insns at ≡ Some insn → slice_get method.refs at ≡ Some ref → IsRightOperand old class insn ref
   pub references : (at : ℕ) (insn : Insn) → slice_get method.insns at ≡ Some insn → reference_at other.file.pool (index_of insn) ≡ reference_at class.file.pool (index_of insn)
   pub tells : TellsArguments old.listing policy
@@ -88,7 +92,7 @@ alone_at policy base (r ∷ refs) a zero ref e =
     subst (λ (x : Target). arguments_of policy x ≡ None) same a.0
 alone_at policy base (r ∷ refs) a (suc i) ref e = alone_at policy base refs a.1 i ref e
 
-module _ (policy : Policy) (old new : Program) (class other : LinkedClass) (method made : Method) (body : IsWovenBody policy old new class other method made) where
+module _ (policy : Policy) (pool : List Const) (method made : Method) (body : IsStanding policy pool method made) where
   abbrev pub base : ℕ
   base = method.max_locals
 
@@ -119,11 +123,11 @@ module _ (policy : Policy) (old new : Program) (class other : LinkedClass) (meth
   is_alone fails = all_alone policy base refs fails
 
   insns_of : (b : Bool) → is_woven policy method ≡ b
-      → cond b (spliced other.file.pool method.insns sites) method.insns ≡ parts_from other.file.pool fronts 0 method.insns sites
+      → cond b (spliced pool method.insns sites) method.insns ≡ parts_from pool fronts 0 method.insns sites
   insns_of true e = refl
-  insns_of false e = sym (insns_alone policy base other.file.pool method.insns refs (is_alone e) (sym same_length) body.sound.targets)
+  insns_of false e = sym (insns_alone policy base pool method.insns refs (is_alone e) (sym same_length) body.sound.targets)
 
-  pub insns_are : made.insns ≡ parts_from other.file.pool fronts 0 method.insns sites
+  pub insns_are : made.insns ≡ parts_from pool fronts 0 method.insns sites
   insns_are = body.of_method.insns ∙ insns_of (is_woven policy method) refl
 
   refs_of : (b : Bool) → is_woven policy method ≡ b → cond b (parts_named refs sites) refs ≡ parts_named refs sites
@@ -242,13 +246,13 @@ module _ (policy : Policy) (old new : Program) (class other : LinkedClass) (meth
   -- ---- what stands there
 
   pub insn_there : (i k : ℕ) (insn : Insn) (ref : Target) (b : BlockInsn) → slice_get method.insns i ≡ Some insn → slice_get refs i ≡ Some ref
-      → slice_get (part policy base ref) k ≡ Some b → slice_get made.insns (front i + k) ≡ Some (put other.file.pool fronts (front i) insn b)
+      → slice_get (part policy base ref) k ≡ Some b → slice_get made.insns (front i + k) ≡ Some (put pool fronts (front i) insn b)
   insn_there i k insn ref b e f g =
       let zero_is : 0 + front i ≡ front i = omega arith in
       ap (λ (xs : List Insn). slice_get xs (front i + k)) insns_are
-      ∙ insn_at policy base other.file.pool fronts 0 method.insns refs i k insn ref e f (slice_get_within (part policy base ref) k b g)
-      ∙ ap (λ (m : ℕ). option_map (put other.file.pool fronts m insn) (slice_get (part policy base ref) k)) zero_is
-      ∙ ap (option_map (put other.file.pool fronts (front i) insn)) g
+      ∙ insn_at policy base pool fronts 0 method.insns refs i k insn ref e f (slice_get_within (part policy base ref) k b g)
+      ∙ ap (λ (m : ℕ). option_map (put pool fronts m insn) (slice_get (part policy base ref) k)) zero_is
+      ∙ ap (option_map (put pool fronts (front i) insn)) g
 
   pub ref_there : (i k : ℕ) (ref : Target) (b : BlockInsn) → slice_get refs i ≡ Some ref → slice_get (part policy base ref) k ≡ Some b
       → slice_get made.refs (front i + k) ≡ Some (part_named ref b)
@@ -257,7 +261,7 @@ module _ (policy : Policy) (old new : Program) (class other : LinkedClass) (meth
       ∙ ap (option_map (part_named ref)) g
 
   pub made_long : length made.insns ≡ total policy base refs
-  made_long = ap length insns_are ∙ insns_many policy base other.file.pool fronts 0 method.insns refs (sym same_length)
+  made_long = ap length insns_are ∙ insns_many policy base pool fronts 0 method.insns refs (sym same_length)
 
   -- What is behind the code is behind the woven code.
   pub moved_past : (i : ℕ) → n ≤ i → length made.insns ≤ moved i

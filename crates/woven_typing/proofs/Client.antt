@@ -88,7 +88,7 @@ module _ (policy : Policy) (old new : Program) (own : ℕ) (class other : Linked
   mv at = moved_in policy method at
 
   abbrev pub fs : List ℕ
-  fs = fronts policy old new class other method made body
+  fs = fronts policy other.file.pool method made body.standing
 
   abbrev pub woven : Frames
   woven = frames_woven policy method frames
@@ -114,16 +114,16 @@ module _ (policy : Policy) (old new : Program) (own : ℕ) (class other : Linked
   at_front i insn ref e f =
       let shape = has_shape fs insn in
       record {
-        once = moved_once policy old new class other method made body;
+        once = moved_once policy other.file.pool method made body.standing;
         assigns = assigns_kept old new body.larger mv;
         own = refl;
         class = body.of_class.name;
         parent = body.of_class.parent;
-        name = body.of_method.name;
-        desc = body.of_method.desc;
-        flags = body.of_method.flags;
-        stack = stack_more policy old new class other method made body;
-        locals = locals_more policy old new class other method made body;
+        name = body.standing.of_method.name;
+        desc = body.standing.of_method.desc;
+        flags = body.standing.of_method.flags;
+        stack = stack_more policy other.file.pool method made body.standing;
+        locals = locals_more policy other.file.pool method made body.standing;
         news = news policy old new class other method made body;
         at = refl;
         opcode = opcode_stays fs insn;
@@ -166,8 +166,8 @@ module _ (policy : Policy) (old new : Program) (own : ℕ) (class other : Linked
   frame_front i f e le =
       let there : slice_get frames i ≡ Some (Some f) = frame_is frames i f e in
       let lt : i < count = omega (arith, told, slice_get_within frames i (Some f) there) in
-      let r = slice_there method.refs i (omega (arith, lt, same_length policy old new class other method made body)) in
-      let at : mv i ≡ fr i + 0 = moved_is policy old new class other method made body i lt ∙ omega arith in
+      let r = slice_there method.refs i (omega (arith, lt, same_length policy other.file.pool method made body.standing)) in
+      let at : mv i ≡ fr i + 0 = moved_is policy other.file.pool method made body.standing i lt ∙ omega arith in
       ap (frame_of woven) at ∙ frame_in i 0 r.0 (Some f) r.1 there (part_some policy b0 r.0)
       ∙ ap (λ (y : Option FrameType). option_map_or (λ (f : Option FrameType). f) (slice_get (part_framed (arguments_of policy r.0) y) 0) None) (renewed_low f le)
       ∙ first_in (arguments_of policy r.0) (frame_renamed mv f)
@@ -201,9 +201,9 @@ module _ (policy : Policy) (old new : Program) (own : ℕ) (class other : Linked
     successors_kept single =
         let lt : i < count = slice_get_within method.insns i insn there in
         let next : mv i + 1 ≡ mv (i + 1) =
-        omega (arith, moved_is policy old new class other method made body i lt, moved_next policy old new class other method made body i lt, before_next policy b0 method.refs i ref names, single) in
+        omega (arith, moved_is policy other.file.pool method made body.standing i lt, moved_next policy other.file.pool method made body.standing i lt, before_next policy b0 method.refs i ref names, single) in
         let go : successors (mv i) (aimed fs insn) ≡ map mv (successors i insn) =
-        successors_moved fs count mv (front_of policy old new class other method made body) i insn (mv i) (all_get (AimsWithin count) method.insns i insn body.sound.targets there) next in
+        successors_moved fs count mv (front_of policy other.file.pool method made body.standing) i insn (mv i) (all_get (AimsWithin count) method.insns i insn body.standing.sound.targets there) next in
         ap (list_all (λ to. option_map_or (goes_well (here (mv i) (aimed fs insn) ref) g) (frame_of woven to) false)) go
         ∙ all_map (λ to. option_map_or (goes_well (client i insn) f) (frame_of frames to) false) (λ to. option_map_or (goes_well (here (mv i) (aimed fs insn) ref) g) (frame_of woven to) false) mv
         arrives (successors i insn) row.successor
@@ -213,8 +213,8 @@ module _ (policy : Policy) (old new : Program) (own : ℕ) (class other : Linked
     covers_same : (k : ℕ) (h : Handler) → k < length (part policy b0 ref) → IsWithin count h → covers (fr i + k) (at_fronts fs h) ≡ covers i h
     covers_same k h less within =
         let lt : i < count = slice_get_within method.insns i insn there in
-        let from : slice_index fs h.from ≡ fr h.from = fronts_are policy old new class other method made body h.from (omega (arith, within.from)) in
-        let to : slice_index fs h.to ≡ fr h.to = fronts_are policy old new class other method made body h.to within.to in
+        let from : slice_index fs h.from ≡ fr h.from = fronts_are policy other.file.pool method made body.standing h.from (omega (arith, within.from)) in
+        let to : slice_index fs h.to ≡ fr h.to = fronts_are policy other.file.pool method made body.standing h.to within.to in
         let a : nat_le (slice_index fs h.from) (fr i + k) ≡ nat_le h.from i =
         elim (cases_Bool (nat_lt i h.from)) [
           | inl is ↦
@@ -242,11 +242,12 @@ module _ (policy : Policy) (old new : Program) (own : ℕ) (class other : Linked
         before_grows_too : (x y : ℕ) → x ≤ y → y ≤ count → fr x ≤ fr y
         before_grows_too x y le most =
             elim (cases_Bool (nat_lt x y)) [
-              | inl is ↦ omega (arith, before_grows policy b0 method.refs x y (ltb-true _ _ is) (omega (arith, most, same_length policy old new class other method made body)))
+              | inl is ↦ omega (arith, before_grows policy b0 method.refs x y (ltb-true _ _ is) (omega (arith, most, same_length policy other.file.pool method made body.standing)))
               | inr fails ↦
                   let same : x ≡ y = grind (arith, nat_tests) in
                   rw same (omega arith)
             ]
+
         before_reaches : (x y : ℕ) → x < y → y ≤ count → (x ≡ i) → fr x + length (part policy b0 ref) ≤ fr y
         before_reaches x y lt most is =
             let next : fr (suc x) ≡ fr x + length (part policy b0 ref) = rw is (before_next policy b0 method.refs i ref names) in
@@ -264,7 +265,7 @@ module _ (policy : Policy) (old new : Program) (own : ℕ) (class other : Linked
       handler_there h lt (Some to) is room e =
           let alone = and_parts (is_alone (class_caught h) to.stack) (locals_fit old (local_caught f.locals) 0 to.locals) e in
           let low : length to.stack ≤ method.max_stack = omega (arith, alone_height (class_caught h) to.stack alone.0, room) in
-          let at : slice_index fs h.at ≡ mv h.at = front_of policy old new class other method made body h.at lt in
+          let at : slice_index fs h.at ≡ mv h.at = front_of policy other.file.pool method made body.standing h.at lt in
           ap (λ (m : ℕ). option_map_or (catches_well spot g2 (at_fronts fs h)) (frame_of woven m) false) at
           ∙ ap (λ (o : Option FrameType). option_map_or (catches_well spot g2 (at_fronts fs h)) o false) (frame_front h.at to is low)
           ∙ catches_kept mv (client i insn) (here (mv i) (aimed fs insn) ref) kept f.locals f.locals f g2 to h (at_fronts fs h) refl locals refl e
@@ -275,14 +276,14 @@ module _ (policy : Policy) (old new : Program) (own : ℕ) (class other : Linked
           let parts : covers i h ≡ true → (nat_le 1 method.max_stack ≡ true) × (is_below old (class_caught h) throwable ≡ true) × (option_map_or (catches_well (client i insn) f h) (frame_of frames h.at) false ≡ true) =
           handled_parts (covers i h) (nat_le 1 method.max_stack) (is_below old (class_caught h) throwable) (option_map_or (catches_well (client i insn) f h) (frame_of frames h.at) false) e in
           handled_from (covers (fr i + k) (at_fronts fs h)) (nat_le 1 made.max_stack) (is_below new (class_caught (at_fronts fs h)) throwable) _
-          (λ c. le_more 1 method.max_stack made.max_stack (parts (sym same ∙ c)).0 (stack_more policy old new class other method made body))
+          (λ c. le_more 1 method.max_stack made.max_stack (parts (sym same ∙ c)).0 (stack_more policy other.file.pool method made body.standing))
           (λ c. below_kept old new body.larger (class_caught h) throwable (parts (sym same ∙ c)).1)
           (λ c. handler_there h within.at (frame_of frames h.at) refl (leb-true _ _ (parts (sym same ∙ c)).0) (parts (sym same ∙ c)).2)
 
       pub caught_kept : Caught woven spot g2 ≡ true
       caught_kept =
-          ap (list_all (is_handled woven spot g2)) (handlers_are policy old new class other method made body)
-          ∙ all_also (is_handled frames (client i insn) f) (is_handled woven spot g2) (at_fronts fs) (IsWithin count) handled method.handlers body.sound.handlers row.caught
+          ap (list_all (is_handled woven spot g2)) (handlers_are policy other.file.pool method made body.standing)
+          ∙ all_also (is_handled frames (client i insn) f) (is_handled woven spot g2) (at_fronts fs) (IsWithin count) handled method.handlers body.standing.sound.handlers row.caught
 
     -- ---- the row of an instruction without a block
 
@@ -294,8 +295,13 @@ module _ (policy : Policy) (old new : Program) (own : ℕ) (class other : Linked
         let none : i ≡ 0 =
         elim (cases_Bool (nat_lt 0 i)) [
           | inl later ↦
-              absurd (omega (arith, is, first, moved_is policy old new class other method made body i lt,
-              before_grows policy b0 method.refs 0 i (ltb-true _ _ later) (omega (arith, lt, same_length policy old new class other method made body))))
+              absurd (omega (
+                arith,
+                is,
+                first,
+                moved_is policy other.file.pool method made body.standing i lt,
+                before_grows policy b0 method.refs 0 i (ltb-true _ _ later) (omega (arith, lt, same_length policy other.file.pool method made body.standing)),
+              ))
           | inr fails ↦ grind (arith, nat_tests)
         ] in
         let begins : (i == 0) ≡ true = rw none refl in
@@ -305,7 +311,7 @@ module _ (policy : Policy) (old new : Program) (own : ℕ) (class other : Linked
     client_row single =
         let p = client i insn in
         let q = here (mv i) (aimed fs insn) ref in
-        let at : fr i + 0 ≡ mv i = omega (arith, moved_is policy old new class other method made body i (slice_get_within method.insns i insn there)) in
+        let at : fr i + 0 ≡ mv i = omega (arith, moved_is policy other.file.pool method made body.standing i (slice_get_within method.insns i insn there)) in
         record {
           entry = entry_there (mv i) (aimed fs insn) ref refl;
           depth = depth_kept mv p q kept f row.depth;

@@ -63,7 +63,7 @@ pub record IsDenied (policy : Policy) (ref : Target) (args : List Kind) : Type 0
   pub of : clause_of policy index ≡ Some clause
   pub kinds : clause.args ≡ args
 
-denied : (policy : Policy) (ref : Target) (args : List Kind) → arguments_of policy ref ≡ Some args → IsDenied policy ref args
+pub denied : (policy : Policy) (ref : Target) (args : List Kind) → arguments_of policy ref ≡ Some args → IsDenied policy ref args
 denied policy (target.ApiMethod method) args e = by (clause_of policy method) refl e
   where
     by : (o : Option Clause) → clause_of policy method ≡ o → option_map (λ (c : Clause). c.args) o ≡ Some args → IsDenied policy (target.ApiMethod method) args
@@ -123,12 +123,15 @@ module _ (program : Program) (args : List Kind) (descs : List Descriptor) (are :
   without_receiver le e = record {
     many = omega (arith, le, wanted_count);
     each = λ j lt.
-      let h = held_at program args (topmost (length wanted) stack) j (all_held program args descs (topmost (length wanted) stack) are e) lt in
-      let at : length stack - length wanted + j ≡ length stack - length args + j = omega (arith, wanted_count) in
-      record {
-        kind = h.kind; kind_there = h.kind_there; type = h.type; fits = h.fits;
-        type_there = ap (slice_get stack) (sym at) ∙ sym (get_drop (length stack - length wanted) stack j) ∙ h.type_there;
-      };
+        let h = held_at program args (topmost (length wanted) stack) j (all_held program args descs (topmost (length wanted) stack) are e) lt in
+        let at : length stack - length wanted + j ≡ length stack - length args + j = omega (arith, wanted_count) in
+        record {
+          kind = h.kind;
+          kind_there = h.kind_there;
+          type = h.type;
+          fits = h.fits;
+          type_there = ap (slice_get stack) (sym at) ∙ sym (get_drop (length stack - length wanted) stack j) ∙ h.type_there;
+        };
   }
 
   with_receiver : (w : Want) → length (w ∷ wanted) ≤ length stack → all_met (w ∷ wanted) (topmost (length (w ∷ wanted)) stack) ≡ true → HasArguments args stack
@@ -137,13 +140,16 @@ module _ (program : Program) (args : List Kind) (descs : List Descriptor) (are :
       record {
         many = omega (arith, le, wanted_count);
         each = λ j lt.
-          let h = held_at program args first.1 j (all_held program args descs first.1 are first.3) lt in
-          let at : length stack - length (w ∷ wanted) + suc j ≡ length stack - length args + j = omega (arith, wanted_count, le) in
-          record {
-            kind = h.kind; kind_there = h.kind_there; type = h.type; fits = h.fits;
-            type_there =
-              ap (slice_get stack) (sym at) ∙ sym (get_drop (length stack - length (w ∷ wanted)) stack (suc j)) ∙ ap (λ (ts : List VType). slice_get ts (suc j)) first.2 ∙ h.type_there;
-          };
+            let h = held_at program args first.1 j (all_held program args descs first.1 are first.3) lt in
+            let at : length stack - length (w ∷ wanted) + suc j ≡ length stack - length args + j = omega (arith, wanted_count, le) in
+            record {
+              kind = h.kind;
+              kind_there = h.kind_there;
+              type = h.type;
+              fits = h.fits;
+              type_there =
+                  ap (slice_get stack) (sym at) ∙ sym (get_drop (length stack - length (w ∷ wanted)) stack (suc j)) ∙ ap (λ (ts : List VType). slice_get ts (suc j)) first.2 ∙ h.type_there;
+            };
       }
 
 module _ (policy : Policy) (old new : Program) (own : ℕ) (class other : LinkedClass) (method made : Method) (body : IsWovenBody policy old new class other method made)
@@ -226,7 +232,7 @@ module _ (policy : Policy) (old new : Program) (own : ℕ) (class other : Linked
             let none : start + k ≡ 0 = eqb-true (start + k) 0 e in
             let is : k ≡ 0 = omega (arith, none) in
             let at : start + k ≡ mv policy old new own class other method made body frames told met i =
-            omega (arith, is, moved_is policy old new class other method made body i (slice_get_within method.insns i insn there)) in
+            omega (arith, is, moved_is policy other.file.pool method made body.standing i (slice_get_within method.insns i insn there)) in
             subst (λ (h : FrameType). Entry (spot k x r) h ≡ true) (sym (first is))
             (entry_there policy old new own class other method made body frames told met i insn ref there names f row (start + k) x r at e)
 
@@ -234,7 +240,12 @@ module _ (policy : Policy) (old new : Program) (own : ℕ) (class other : Linked
         row_from successor =
             let a = alone (spot k x r) now next does in
             record {
-              entry = entry; depth = a.depth; operand = a.operand; local = a.local; made = a.made; successor = successor;
+              entry = entry;
+              depth = a.depth;
+              operand = a.operand;
+              local = a.local;
+              made = a.made;
+              successor = successor;
               caught = caught_kept policy old new own class other method made body frames told met i insn ref there names f row k (omega (arith, lt, long)) x r now locals;
             }
 
@@ -261,8 +272,8 @@ module _ (policy : Policy) (old new : Program) (own : ℕ) (class other : Linked
       met_at k b r now lt e named framed passes =
           let x : Insn = put other.file.pool (fs policy old new own class other method made body frames told met) start insn b in
           row_here policy old new own class other method made body frames told met (start + k) x r (Some now)
-          (insn_there policy old new class other method made body i k insn ref b there names (stands k b e))
-          (ref_there policy old new class other method made body i k ref b names (stands k b e) ∙ ap Some named)
+          (insn_there policy other.file.pool method made body.standing i k insn ref b there names (stands k b e))
+          (ref_there policy other.file.pool method made body.standing i k ref b names (stands k b e) ∙ ap Some named)
           (frame_place k (Some now) lt framed)
           (row_met all (spot k x r) now passes)
 
@@ -281,10 +292,10 @@ module _ (policy : Policy) (old new : Program) (own : ℕ) (class other : Linked
 
       high_enough : length frame.stack + 3 ≤ made.max_stack
       high_enough =
-          omega (arith, frame_height, small, stack_three policy old new class other method made body (woven_at policy old new class other method made body i ref args names has))
+          omega (arith, frame_height, small, stack_three policy other.file.pool method made body.standing (woven_at policy other.file.pool method made body.standing i ref args names has))
 
       room_for : base + m ≤ made.max_locals
-      room_for = slots policy old new class other method made body i ref args names has
+      room_for = slots policy other.file.pool method made body.standing i ref args names has
 
       starts_with_it : (k : ℕ) → k ≡ 0 → without k frame ≡ frame
       starts_with_it k e = rw e (ap (λ (s : List VType). record { locals = frame.locals; stack = s }) (below_none frame.stack))
@@ -367,7 +378,7 @@ module _ (policy : Policy) (old new : Program) (own : ℕ) (class other : Linked
           met_at (m + 3) (Wanted 0xB8 Exit) (target.Builtin way_out_index) (with types.Int bare) (omega arith) (behind_at base args 3) refl (framed_at m frame 3)
           (goes_next (m + 3) (omega arith) (insns.Pool 184 (place_in other.file.pool Exit)) (target.Builtin way_out_index) (with types.Int bare) bare
           (exits new own other made (start + (m + 3)) bare bare_locals bare_height (place_in other.file.pool Exit) way_out_index
-          (body.of_method.out (woven_at policy old new class other method made body i ref args names has)))
+          (body.standing.of_method.out (woven_at policy other.file.pool method made body.standing i ref args names has)))
           refl (later 3 (with types.Int bare) (omega arith)) refl (omega arith)
           (next_place 3 (Some bare) (framed_at m frame 4)))
 
@@ -394,8 +405,8 @@ module _ (policy : Policy) (old new : Program) (own : ℕ) (class other : Linked
           let no : ((start + k) == 0) ≡ false = ne_eqb (start + k) 0 (λ e. absurd (omega (arith, e, le))) in
           let x : Insn = put other.file.pool aims start insn b.0 in
           row_here policy old new own class other method made body frames told met (start + k) x (part_named ref b.0) None
-          (insn_there policy old new class other method made body i k insn ref b.0 there names b.1)
-          (ref_there policy old new class other method made body i k ref b.0 names b.1)
+          (insn_there policy other.file.pool method made body.standing i k insn ref b.0 there names b.1)
+          (ref_there policy other.file.pool method made body.standing i k ref b.0 names b.1)
           (frame_place k None lt (unreached_at m frame k le lt))
           (ap (λ (z : Bool). cond z (Some 1) None) no)
 

@@ -174,9 +174,9 @@ woven_larger old new policy woven =
     record {
       more = head_of woven.state.file ∷ [];
       classes =
-        ap (λ (cs : List ListedClass). cs ++ heads new.classes) (ap (λ l. l.classes) woven.listing)
-        ∙ ap (λ (cs : List LinkedClass). old.listing.classes ++ heads cs) woven.are
-        ∙ ap (λ (hs : List ListedClass). old.listing.classes ++ hs)
-        (map-append (λ (c : LinkedClass). head_of c.file) woven.own (woven.state ∷ []) ∙ ap (λ (hs : List ListedClass). hs ++ head_of woven.state.file ∷ []) (same_heads policy old.classes woven.own woven.classes))
-        ∙ sym (append_assoc old.listing.classes (heads old.classes) (head_of woven.state.file ∷ []));
+          ap (λ (cs : List ListedClass). cs ++ heads new.classes) (ap (λ l. l.classes) woven.listing)
+          ∙ ap (λ (cs : List LinkedClass). old.listing.classes ++ heads cs) woven.are
+          ∙ ap (λ (hs : List ListedClass). old.listing.classes ++ hs)
+          (map-append (λ (c : LinkedClass). head_of c.file) woven.own (woven.state ∷ []) ∙ ap (λ (hs : List ListedClass). hs ++ head_of woven.state.file ∷ []) (same_heads policy old.classes woven.own woven.classes))
+          ∙ sym (append_assoc old.listing.classes (heads old.classes) (head_of woven.state.file ∷ []));
     }

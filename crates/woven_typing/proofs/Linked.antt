@@ -1,5 +1,5 @@
 -- The operands of a program that files link to.
-use Rattle.std.proofs.Common.{◌≡◌, ℕ, ◌+◌, ◌<◌, not, true, List, [], ◌∷◌, length, Option, Some, None, Result, Ok, Err, refl, sym, ap, subst, ◌∙◌, arith}
+use Rattle.std.proofs.Common.{◌≡◌, ℕ, suc, ◌+◌, ◌<◌, not, true, List, [], ◌∷◌, length, Option, Some, None, Result, Ok, Err, refl, sym, ap, subst, ◌∙◌, arith}
 use Rattle.std.specs.Prelude.{slice_get, ok_or, nat_lt}
 use Rattle.std.specs.List.{AllByRecursion}
 use Rattle.std.proofs.lemmas.Option.{slice_get_within}
@@ -33,8 +33,8 @@ use Rattle.bytecode_model.specs.Linking.{bare, with_code, read_of, code_linked, 
 use Rattle.bytecode_model.specs.Operands.{literals_of, operand_linked, told_at, operand_at, operands_linked}
 use Rattle.bytecode_model.specs.Sound.{IsSound, IsSoundClass, IsSoundMethod}
 use Rattle.bytecode_model.proofs.Lists.{some_is, all_get}
-use Rattle.bytecode_model.proofs.Loop.{each_of, linked_at}
-use Rattle.woven_typing.specs.Calls.{AreRightOperands, IsRightOperand, LinkedOperandsAreRight}
+use Rattle.bytecode_model.proofs.Loop.{each_of, linked_at, same_length}
+use Rattle.woven_typing.specs.Calls.{AreRightOperands, LinkedOperandsAreRight}
 use Rattle.woven_typing.proofs.LinkedOperands.{operand_right}
 
 module _ (files : List ClassFile) (listing : Listing) where
@@ -117,6 +117,7 @@ some_constant pool index e = by pool (slice_get pool index) refl e where
 -- What linking tells of the operands of the program.
 record IsLinked (files : List ClassFile) (listing : Listing) (program : Program) : Type 0 where
   listing_is : program.listing ≡ listing
+  count : length program.classes ≡ length files
   classes : AllByRecursion (HaveOperands files listing) program.classes
 
 abbrev Members : Type 0
@@ -124,6 +125,12 @@ Members = List (List Method) × List (List ℕ)
 
 abbrev made : List ClassFile → Listing → Members → ℕ × ℕ → Program
 made files listing members begin = record { classes = classes_with files members.0; listing = listing; literals = members.1; main_class = begin.0; main_method = begin.1 }
+
+-- A class for each file.
+classes_many : (files : List ClassFile) (methods : List (List Method)) → length methods ≡ length files → length (classes_with files methods) ≡ length files
+classes_many [] methods e = refl
+classes_many (file ∷ files) [] e = absurd cc
+classes_many (file ∷ files) (first ∷ methods) e = ap suc (classes_many files methods (omega (arith, e)))
 
 is_linked : (files : List ClassFile) (listing : Listing) (main : List ℕ) (side : Side) (program : Program) → linked files listing main side ≡ Ok program → IsLinked files listing program
 is_linked files listing main side program e =
@@ -138,7 +145,8 @@ is_linked files listing main side program e =
     let each = bind_ok (each_linked files listing files) (λ ms. Ok (pair ms)) members.0 members.1 in
     let same : each.0 ≡ members.0.0 = ap (λ (z : Members). z.0) (ok_is LinkFault (pair each.0) members.0 each.2) in
     let have : AllByRecursion (HaveOperands files listing) (classes_with files members.0.0) = classes_have files listing 0 files members.0.0 (each.1 ∙ ap Ok same) in
-    let whole : IsLinked files listing (made files listing members.0 begin.0) = record { listing_is = refl; classes = have } in
+    let many : length members.0.0 ≡ length files = same_length (λ at. methods_linked files listing) 0 files members.0.0 (each.1 ∙ ap Ok same) in
+    let whole : IsLinked files listing (made files listing members.0 begin.0) = record { listing_is = refl; count = classes_many files members.0.0 many; classes = have } in
     subst (IsLinked files listing) is whole
 
 operands_right : (files : List ClassFile) (listing : Listing) (program : Program) → IsLinked files listing program → IsSound program → AreRightOperands program
@@ -150,7 +158,7 @@ operands_right files listing program is sound own index at class method insn ref
     let good : IsInsn insn = all_get IsInsn method.insns at insn sound_method.insns its_insn in
     let some : 0 < length class.file.pool = some_constant class.file.pool class.file.this_class sound_class.fits.this_class.named in
     let links = operand_is files listing class.file.pool method at insn ref has its_insn its_ref in
-    subst (λ (l : Listing). IsRightOperand l class insn ref) (sym is.listing_is) (operand_right files listing class insn ref sound_class.fits some good links)
+    operand_right files listing program is.listing_is is.count class insn ref sound_class.fits some good links
 
 pub all_right : LinkedOperandsAreRight
 all_right files listing main side program e sound = operands_right files listing program (is_linked files listing main side program e) sound

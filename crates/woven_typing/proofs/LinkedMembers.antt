@@ -1,6 +1,6 @@
--- What look-ups among declarations find: only those of the listing name its methods.
-use Rattle.std.proofs.Common.{◌≡◌, ℕ, suc, ◌+◌, Bool, true, false, cond, List, [], ◌∷◌, Option, Some, None, refl, sym, ap, subst, ◌∙◌, arith}
-use Rattle.std.specs.Prelude.{slice_get}
+-- What look-ups among declarations find: only those of the listing name its methods, and a field is of one of the files.
+use Rattle.std.proofs.Common.{◌≡◌, ℕ, suc, ◌+◌, ◌<◌, ◌≤◌, Bool, true, false, cond, List, [], ◌∷◌, length, Option, Some, None, refl, sym, ap, subst, ◌∙◌, arith}
+use Rattle.std.specs.Prelude.{slice_get, ⊤}
 use Rattle.std.specs.List.{AllByRecursion}
 use Rattle.std.specs.Option.{option_or}
 use Rattle.mon_base.specs.declared.method.MethodId.{MethodId}
@@ -13,6 +13,7 @@ use Rattle.api_listing.specs.BuiltIn.{MethodRow, method_rows, is_method}
 use Rattle.bytecode_model.specs.declared.declared.Found.{Found}
 use Rattle.bytecode_model.specs.declared.declared.MemberKind.{MemberKind}
 use Rattle.bytecode_model.specs.declared.declared.MemberKind.TheVariants as kinds
+use Rattle.bytecode_model.specs.declared.program.Target.{Target}
 use Rattle.bytecode_model.specs.declared.program.Target.TheVariants as target
 use Rattle.bytecode_model.specs.Members.{Declared, members_from, members_of, given_from, listed_from, listed_fields_from, rows_from, methods_declared, fields_declared, first_of, first_found, in_class, method_of, field_of}
 use Rattle.bytecode_model.proofs.Lists.{some_is, all_append}
@@ -49,71 +50,121 @@ nearest_is P declared id found (name ∷ names) all e = by (first_of declared (i
 
 -- ---- what is declared
 
--- the declaration is of no method of the listing
-abbrev pub IsElsewhere : Declared → Type 0
-IsElsewhere d = (index : ℕ) → d.1.target ≡ target.ApiMethod index → ⊥
+-- the target is no method of the listing, and a field is of one of the first n classes
+abbrev pub IsUnlisted : ℕ → Target → Type 0
+IsUnlisted n (target.ApiMethod index) = ⊥
+IsUnlisted n (target.Field of index) = of < n
+IsUnlisted n other = ⊤
 
--- a declaration that names a method of the listing is that method's
-abbrev pub IsOfListing : List ListedMethod → Declared → Type 0
-IsOfListing methods d = (index : ℕ) → d.1.target ≡ target.ApiMethod index → (m : ListedMethod) × ((slice_get methods index ≡ Some m) × (m.id ≡ d.0))
+-- the target is unlisted, or it is the method of the listing that has the name
+abbrev IsNamed : ℕ → List ListedMethod → MethodId → Target → Type 0
+IsNamed n methods id (target.ApiMethod index) = (m : ListedMethod) × ((slice_get methods index ≡ Some m) × (m.id ≡ id))
+IsNamed n methods id (target.Field of index) = of < n
+IsNamed n methods id other = ⊤
 
-elsewhere_fits : (methods : List ListedMethod) (declared : List Declared) → AllByRecursion IsElsewhere declared → AllByRecursion (IsOfListing methods) declared
-elsewhere_fits methods [] all = tt
-elsewhere_fits methods (d ∷ declared) all = ((λ index is. absurd (all.0 index is)), elsewhere_fits methods declared all.1)
+-- the same by its descriptor alone
+abbrev pub IsTold : ℕ → List ListedMethod → List ℕ → Target → Type 0
+IsTold n methods desc (target.ApiMethod index) = (m : ListedMethod) × ((slice_get methods index ≡ Some m) × (desc ≡ m.id.desc))
+IsTold n methods desc (target.Field of index) = of < n
+IsTold n methods desc other = ⊤
 
-members_elsewhere : (kind : MemberKind) (name : List ℕ) (pool : List Const) (class index : ℕ) (members : List Member) → AllByRecursion IsElsewhere (members_from kind name pool class index members)
-members_elsewhere kind name pool class index [] = tt
-members_elsewhere kinds.Method name pool class index (m ∷ members) = ((λ i is. absurd cc), members_elsewhere kinds.Method name pool class (index + 1) members)
-members_elsewhere kinds.Field name pool class index (m ∷ members) = ((λ i is. absurd cc), members_elsewhere kinds.Field name pool class (index + 1) members)
+unlisted_named : (n : ℕ) (methods : List ListedMethod) (id : MethodId) (t : Target) → IsUnlisted n t → IsNamed n methods id t
+unlisted_named n methods id (target.ApiMethod index) h = absurd h
+unlisted_named n methods id (target.Field of index) h = h
+unlisted_named n methods id target.None h = tt
+unlisted_named n methods id (target.Builtin i) h = tt
+unlisted_named n methods id (target.Method c m) h = tt
+unlisted_named n methods id (target.ApiField i) h = tt
+unlisted_named n methods id (target.ClassName name) h = tt
+unlisted_named n methods id (target.Number k) h = tt
+unlisted_named n methods id (target.Literal i) h = tt
 
-given_elsewhere : (kind : MemberKind) (class : ℕ) (files : List ClassFile) → AllByRecursion IsElsewhere (given_from kind class files)
-given_elsewhere kind class [] = tt
-given_elsewhere kind class (file ∷ files) =
-    all_append IsElsewhere _ (given_from kind (class + 1) files) (members_elsewhere kind _ file.pool class 0 (members_of kind file)) (given_elsewhere kind (class + 1) files)
+named_told : (n : ℕ) (methods : List ListedMethod) (key id : MethodId) (t : Target) → key.desc ≡ id.desc → IsNamed n methods key t → IsTold n methods id.desc t
+named_told n methods key id (target.ApiMethod index) e h = (h.0, (h.1.0, sym (ap (λ (i : MethodId). i.desc) h.1.1 ∙ e)))
+named_told n methods key id (target.Field of index) e h = h
+named_told n methods key id target.None e h = tt
+named_told n methods key id (target.Builtin i) e h = tt
+named_told n methods key id (target.Method c m) e h = tt
+named_told n methods key id (target.ApiField i) e h = tt
+named_told n methods key id (target.ClassName name) e h = tt
+named_told n methods key id (target.Number k) e h = tt
+named_told n methods key id (target.Literal i) e h = tt
 
-rows_elsewhere : (index : ℕ) (rows : List MethodRow) → AllByRecursion IsElsewhere (rows_from index rows)
-rows_elsewhere index [] = tt
-rows_elsewhere index (row ∷ rows) = ((λ i is. absurd cc), rows_elsewhere (index + 1) rows)
+pub unlisted_told : (n : ℕ) (methods : List ListedMethod) (desc : List ℕ) (t : Target) → IsUnlisted n t → IsTold n methods desc t
+unlisted_told n methods desc (target.ApiMethod index) h = absurd h
+unlisted_told n methods desc (target.Field of index) h = h
+unlisted_told n methods desc target.None h = tt
+unlisted_told n methods desc (target.Builtin i) h = tt
+unlisted_told n methods desc (target.Method c m) h = tt
+unlisted_told n methods desc (target.ApiField i) h = tt
+unlisted_told n methods desc (target.ClassName name) h = tt
+unlisted_told n methods desc (target.Number k) h = tt
+unlisted_told n methods desc (target.Literal i) h = tt
 
-fields_elsewhere : (index : ℕ) (fields : List MethodId) → AllByRecursion IsElsewhere (listed_fields_from index fields)
-fields_elsewhere index [] = tt
-fields_elsewhere index (id ∷ fields) = ((λ i is. absurd cc), fields_elsewhere (index + 1) fields)
+abbrev IsElsewhere : ℕ → Declared → Type 0
+IsElsewhere n d = IsUnlisted n d.1.target
 
-listed_fit : (all : List ListedMethod) (index : ℕ) (methods : List ListedMethod) → ((j : ℕ) → slice_get methods j ≡ slice_get all (index + j)) → AllByRecursion (IsOfListing all) (listed_from index methods)
-listed_fit all index [] there = tt
-listed_fit all index (m ∷ methods) there =
+abbrev IsOfListing : ℕ → List ListedMethod → Declared → Type 0
+IsOfListing n methods d = IsNamed n methods d.0 d.1.target
+
+elsewhere_fits : (n : ℕ) (methods : List ListedMethod) (declared : List Declared) → AllByRecursion (IsElsewhere n) declared → AllByRecursion (IsOfListing n methods) declared
+elsewhere_fits n methods [] all = tt
+elsewhere_fits n methods (d ∷ declared) all = (unlisted_named n methods d.0 d.1.target all.0, elsewhere_fits n methods declared all.1)
+
+members_elsewhere : (n : ℕ) (kind : MemberKind) (name : List ℕ) (pool : List Const) (class index : ℕ) (members : List Member) → class < n → AllByRecursion (IsElsewhere n) (members_from kind name pool class index members)
+members_elsewhere n kind name pool class index [] lt = tt
+members_elsewhere n kinds.Method name pool class index (m ∷ members) lt = (tt, members_elsewhere n kinds.Method name pool class (index + 1) members lt)
+members_elsewhere n kinds.Field name pool class index (m ∷ members) lt = (lt, members_elsewhere n kinds.Field name pool class (index + 1) members lt)
+
+given_elsewhere : (n : ℕ) (kind : MemberKind) (class : ℕ) (files : List ClassFile) → class + length files ≤ n → AllByRecursion (IsElsewhere n) (given_from kind class files)
+given_elsewhere n kind class [] le = tt
+given_elsewhere n kind class (file ∷ files) le =
+    all_append (IsElsewhere n) _ (given_from kind (class + 1) files) (members_elsewhere n kind _ file.pool class 0 (members_of kind file) (omega (arith, le)))
+    (given_elsewhere n kind (class + 1) files (omega (arith, le)))
+
+rows_elsewhere : (n index : ℕ) (rows : List MethodRow) → AllByRecursion (IsElsewhere n) (rows_from index rows)
+rows_elsewhere n index [] = tt
+rows_elsewhere n index (row ∷ rows) = (tt, rows_elsewhere n (index + 1) rows)
+
+fields_elsewhere : (n index : ℕ) (fields : List MethodId) → AllByRecursion (IsElsewhere n) (listed_fields_from index fields)
+fields_elsewhere n index [] = tt
+fields_elsewhere n index (id ∷ fields) = (tt, fields_elsewhere n (index + 1) fields)
+
+listed_fit : (n : ℕ) (all : List ListedMethod) (index : ℕ) (methods : List ListedMethod) → ((j : ℕ) → slice_get methods j ≡ slice_get all (index + j)) → AllByRecursion (IsOfListing n all) (listed_from index methods)
+listed_fit n all index [] there = tt
+listed_fit n all index (m ∷ methods) there =
     let none : index + 0 ≡ index = omega arith in
     let here : slice_get all index ≡ Some m = ap (slice_get all) (sym none) ∙ sym (there 0) in (
-      (λ i is.
-          let same : index ≡ i = cc in
-          (m, (subst (λ (k : ℕ). slice_get all k ≡ Some m) same here, refl))),
-      listed_fit all (index + 1) methods
+      (m, (here, refl)),
+      listed_fit n all (index + 1) methods
           (λ j.
           let more : index + suc j ≡ index + 1 + j = omega arith in
           there (suc j) ∙ ap (slice_get all) more),
     )
 
-methods_fit : (files : List ClassFile) (listing : Listing) → AllByRecursion (IsOfListing listing.methods) (methods_declared files listing)
+methods_fit : (files : List ClassFile) (listing : Listing) → AllByRecursion (IsOfListing (length files) listing.methods) (methods_declared files listing)
 methods_fit files listing =
-    let of = IsOfListing listing.methods in
-    all_append of (given_from kinds.Method 0 files) _ (elsewhere_fits listing.methods _ (given_elsewhere kinds.Method 0 files))
-    (all_append of (listed_from 0 listing.methods) _ (listed_fit listing.methods 0 listing.methods (λ j. let front : 0 + j ≡ j = omega arith in ap (slice_get listing.methods) (sym front)))
-    (elsewhere_fits listing.methods _ (rows_elsewhere 0 method_rows)))
+    let n = length files in
+    let of = IsOfListing n listing.methods in
+    all_append of (given_from kinds.Method 0 files) _ (elsewhere_fits n listing.methods _ (given_elsewhere n kinds.Method 0 files (omega arith)))
+    (all_append of (listed_from 0 listing.methods) _ (listed_fit n listing.methods 0 listing.methods (λ j. let front : 0 + j ≡ j = omega arith in ap (slice_get listing.methods) (sym front)))
+    (elsewhere_fits n listing.methods _ (rows_elsewhere n 0 method_rows)))
 
-all_fields_elsewhere : (files : List ClassFile) (listing : Listing) → AllByRecursion IsElsewhere (fields_declared files listing)
-all_fields_elsewhere files listing = all_append IsElsewhere (given_from kinds.Field 0 files) _ (given_elsewhere kinds.Field 0 files) (fields_elsewhere 0 listing.fields)
+all_fields_elsewhere : (files : List ClassFile) (listing : Listing) → AllByRecursion (IsElsewhere (length files)) (fields_declared files listing)
+all_fields_elsewhere files listing =
+    let n = length files in
+    all_append (IsElsewhere n) (given_from kinds.Field 0 files) _ (given_elsewhere n kinds.Field 0 files (omega arith)) (fields_elsewhere n 0 listing.fields)
 
 -- ---- what references find
 
 -- A reference that finds a method of the listing has its descriptor.
-pub method_found : (files : List ClassFile) (listing : Listing) (id : MethodId) (found : Found) (index : ℕ) → method_of files listing id ≡ Some found → found.target ≡ target.ApiMethod index
-    → (m : ListedMethod) × ((slice_get listing.methods index ≡ Some m) × (id.desc ≡ m.id.desc))
-method_found files listing id found index e is =
-    let one = nearest_is (IsOfListing listing.methods) (methods_declared files listing) id found _ (methods_fit files listing) e in
-    let m = one.said index is in
-    (m.0, (m.1.0, sym (ap (λ (i : MethodId). i.desc) m.1.1 ∙ one.desc)))
+pub method_found : (files : List ClassFile) (listing : Listing) (id : MethodId) (found : Found) → method_of files listing id ≡ Some found → IsTold (length files) listing.methods id.desc found.target
+method_found files listing id found e =
+    let one = nearest_is (IsOfListing (length files) listing.methods) (methods_declared files listing) id found _ (methods_fit files listing) e in
+    named_told (length files) listing.methods one.key id found.target one.desc one.said
 
-pub field_found : (files : List ClassFile) (listing : Listing) (id : MethodId) (found : Found) (index : ℕ) → field_of files listing id ≡ Some found → found.target ≡ target.ApiMethod index → ⊥
-field_found files listing id found index e is =
-    let one = nearest_is IsElsewhere (fields_declared files listing) id found _ (all_fields_elsewhere files listing) e in
-    one.said index is
+-- A reference that finds a field of the files finds the number of its file.
+pub field_found : (files : List ClassFile) (listing : Listing) (id : MethodId) (found : Found) → field_of files listing id ≡ Some found → IsUnlisted (length files) found.target
+field_found files listing id found e =
+    let one = nearest_is (IsElsewhere (length files)) (fields_declared files listing) id found _ (all_fields_elsewhere files listing) e in
+    one.said

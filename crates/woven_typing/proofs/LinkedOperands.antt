@@ -1,6 +1,6 @@
 -- What is known of an instruction whose operand links.
-use Rattle.std.proofs.Common.{◌≡◌, ℕ, ◌<◌, Bool, true, false, cond, not, List, [], length, Option, Some, None, Result, Ok, Err, refl, sym, ap, subst, ◌∙◌}
-use Rattle.std.specs.Prelude.{◌==◌, ◌||◌, ◌&&◌, slice_get, ok_or, is_ok}
+use Rattle.std.proofs.Common.{◌≡◌, ℕ, ◌<◌, Bool, true, false, cond, not, List, [], length, Option, Some, None, Result, Ok, Err, refl, sym, ap, subst, ◌∙◌, arith}
+use Rattle.std.specs.Prelude.{◌==◌, ◌||◌, ◌&&◌, slice_get, ok_or, is_ok, ⊤}
 use Rattle.std.specs.Bool.{beq}
 use Rattle.std.specs.Option.{option_map_or}
 use Rattle.std.proofs.lemmas.Bool.{false≢true}
@@ -36,14 +36,15 @@ use Rattle.bytecode_model.specs.declared.operand.OperandFault.TheVariants as ope
 use Rattle.bytecode_model.specs.declared.operand.Use.{Use}
 use Rattle.bytecode_model.specs.declared.operand.Use.TheVariants as uses
 use Rattle.bytecode_model.specs.declared.program.LinkedClass.{LinkedClass}
+use Rattle.bytecode_model.specs.declared.program.Program.{Program}
 use Rattle.bytecode_model.specs.declared.program.Target.{Target}
 use Rattle.bytecode_model.specs.declared.program.Target.TheVariants as target
 use Rattle.bytecode_model.specs.Heads.{text_at}
 use Rattle.bytecode_model.specs.Members.{method_of, field_of}
 use Rattle.bytecode_model.specs.Operands.{use_of, use_of_opcode, index_of, is_nothing, operand_linked, used, loaded, typed, field_used, called, call_linked, field_linked, field_fits, class_linked, array_linked, element_is_known, is_array, known_in, id_at}
 use Rattle.bytecode_model.proofs.Lists.{all_get}
-use Rattle.woven_typing.specs.Calls.{IsRightOperand}
-use Rattle.woven_typing.proofs.LinkedMembers.{method_found, field_found}
+use Rattle.woven_typing.specs.Calls.{desc_told, IsRightOperand}
+use Rattle.woven_typing.proofs.LinkedMembers.{IsUnlisted, IsTold, unlisted_told, method_found, field_found}
 
 -- ---- opcodes
 
@@ -194,77 +195,66 @@ module _ (pool : List Const) (fits : FitsPool pool) where
 
 -- ---- classes and fields name no method
 
-abbrev is_listed : Target → Bool
-is_listed (target.ApiMethod index) = true
-is_listed other = false
-
--- what links is no method of the listing
-abbrev Unlisted : Result Target OperandFault → Type 0
-Unlisted linked = (ref : Target) → linked ≡ Ok ref → is_listed ref ≡ false
-
 ok_same : (a b : Target) → ◌≡◌ {A = Result Target OperandFault} (Ok a) (Ok b) → a ≡ b
 ok_same a b e = cc
 
-ok_unlisted : (a : Target) → is_listed a ≡ false → Unlisted (Ok a)
-ok_unlisted a e ref is = subst (λ (t : Target). is_listed t ≡ false) (ok_same a ref is) e
+module _ (n : ℕ) where
+  -- what links is no method of the listing
+  abbrev Unlisted : Result Target OperandFault → Type 0
+  Unlisted linked = (ref : Target) → linked ≡ Ok ref → IsUnlisted n ref
 
-fault_unlisted : (fault : OperandFault) → Unlisted (Err fault)
-fault_unlisted fault ref is = absurd cc
+  ok_unlisted : (a : Target) → IsUnlisted n a → Unlisted (Ok a)
+  ok_unlisted a e ref is = subst (IsUnlisted n) (ok_same a ref is) e
 
-choice_unlisted : (b : Bool) (x y : Result Target OperandFault) → Unlisted x → Unlisted y → Unlisted (cond b x y)
-choice_unlisted true x y f g = f
-choice_unlisted false x y f g = g
+  fault_unlisted : (fault : OperandFault) → Unlisted (Err fault)
+  fault_unlisted fault ref is = absurd cc
 
-array_unlisted : (arrays : Bool) (known : List ℕ → Bool) (text : List ℕ) (t : Read FieldType) → Unlisted (array_linked arrays known text t)
-array_unlisted arrays known text (Err e) = fault_unlisted operand.Wrong
-array_unlisted arrays known text (Ok t) = choice_unlisted (arrays && element_is_known known t.element) _ _ (ok_unlisted (target.ClassName text) refl) (fault_unlisted (operand.Missing text))
+  choice_unlisted : (b : Bool) (x y : Result Target OperandFault) → Unlisted x → Unlisted y → Unlisted (cond b x y)
+  choice_unlisted true x y f g = f
+  choice_unlisted false x y f g = g
 
-class_unlisted : (arrays : Bool) (known : List ℕ → Bool) (text : List ℕ) → Unlisted (class_linked arrays known text)
-class_unlisted arrays known text =
-    choice_unlisted (is_array text) _ _ (array_unlisted arrays known text (whole_type text))
-    (choice_unlisted (known text) _ _ (ok_unlisted (target.ClassName text) refl) (fault_unlisted (operand.Missing text)))
+  array_unlisted : (arrays : Bool) (known : List ℕ → Bool) (text : List ℕ) (t : Read FieldType) → Unlisted (array_linked arrays known text t)
+  array_unlisted arrays known text (Err e) = fault_unlisted operand.Wrong
+  array_unlisted arrays known text (Ok t) = choice_unlisted (arrays && element_is_known known t.element) _ _ (ok_unlisted (target.ClassName text) tt) (fault_unlisted (operand.Missing text))
+
+  class_unlisted : (arrays : Bool) (known : List ℕ → Bool) (text : List ℕ) → Unlisted (class_linked arrays known text)
+  class_unlisted arrays known text =
+      choice_unlisted (is_array text) _ _ (array_unlisted arrays known text (whole_type text))
+      (choice_unlisted (known text) _ _ (ok_unlisted (target.ClassName text) tt) (fault_unlisted (operand.Missing text)))
 
 module _ (files : List ClassFile) (listing : Listing) where
-  loaded_unlisted : (pool : List Const) (c : Const) → Unlisted (loaded files listing pool c)
-  loaded_unlisted pool (constants.Integer n) = ok_unlisted _ refl
-  loaded_unlisted pool (constants.Str text) = ok_unlisted _ refl
-  loaded_unlisted pool (constants.Class name) = class_unlisted false (known_in files listing) (text_at pool name)
-  loaded_unlisted pool (constants.Utf8 text) = fault_unlisted operand.Wrong
-  loaded_unlisted pool (constants.Float n) = fault_unlisted operand.Wrong
-  loaded_unlisted pool (constants.Long n) = fault_unlisted operand.Wrong
-  loaded_unlisted pool (constants.Double n) = fault_unlisted operand.Wrong
-  loaded_unlisted pool (constants.Field class name) = fault_unlisted operand.Wrong
-  loaded_unlisted pool (constants.Method class name) = fault_unlisted operand.Wrong
-  loaded_unlisted pool (constants.IMethod class name) = fault_unlisted operand.Wrong
-  loaded_unlisted pool (constants.NameAndType name desc) = fault_unlisted operand.Wrong
-  loaded_unlisted pool constants.Second = fault_unlisted operand.Wrong
+  abbrev count : ℕ
+  count = length files
 
-  typed_unlisted : (arrays : Bool) (pool : List Const) (c : Const) → Unlisted (typed files listing arrays pool c)
-  typed_unlisted arrays pool (constants.Class name) = class_unlisted arrays (known_in files listing) (text_at pool name)
-  typed_unlisted arrays pool (constants.Integer n) = fault_unlisted operand.Wrong
-  typed_unlisted arrays pool (constants.Str text) = fault_unlisted operand.Wrong
-  typed_unlisted arrays pool (constants.Utf8 text) = fault_unlisted operand.Wrong
-  typed_unlisted arrays pool (constants.Float n) = fault_unlisted operand.Wrong
-  typed_unlisted arrays pool (constants.Long n) = fault_unlisted operand.Wrong
-  typed_unlisted arrays pool (constants.Double n) = fault_unlisted operand.Wrong
-  typed_unlisted arrays pool (constants.Field class name) = fault_unlisted operand.Wrong
-  typed_unlisted arrays pool (constants.Method class name) = fault_unlisted operand.Wrong
-  typed_unlisted arrays pool (constants.IMethod class name) = fault_unlisted operand.Wrong
-  typed_unlisted arrays pool (constants.NameAndType name desc) = fault_unlisted operand.Wrong
-  typed_unlisted arrays pool constants.Second = fault_unlisted operand.Wrong
+  loaded_unlisted : (pool : List Const) (c : Const) → Unlisted count (loaded files listing pool c)
+  loaded_unlisted pool (constants.Integer n) = ok_unlisted count _ tt
+  loaded_unlisted pool (constants.Str text) = ok_unlisted count _ tt
+  loaded_unlisted pool (constants.Class name) = class_unlisted count false (known_in files listing) (text_at pool name)
+  loaded_unlisted pool (constants.Utf8 text) = fault_unlisted count operand.Wrong
+  loaded_unlisted pool (constants.Float n) = fault_unlisted count operand.Wrong
+  loaded_unlisted pool (constants.Long n) = fault_unlisted count operand.Wrong
+  loaded_unlisted pool (constants.Double n) = fault_unlisted count operand.Wrong
+  loaded_unlisted pool (constants.Field class name) = fault_unlisted count operand.Wrong
+  loaded_unlisted pool (constants.Method class name) = fault_unlisted count operand.Wrong
+  loaded_unlisted pool (constants.IMethod class name) = fault_unlisted count operand.Wrong
+  loaded_unlisted pool (constants.NameAndType name desc) = fault_unlisted count operand.Wrong
+  loaded_unlisted pool constants.Second = fault_unlisted count operand.Wrong
 
-  never_listed : (t : Target) → ((index : ℕ) → t ≡ target.ApiMethod index → ⊥) → is_listed t ≡ false
-  never_listed (target.ApiMethod i) none = absurd (none i refl)
-  never_listed target.None none = refl
-  never_listed (target.Builtin i) none = refl
-  never_listed (target.Method c m) none = refl
-  never_listed (target.Field c f) none = refl
-  never_listed (target.ApiField i) none = refl
-  never_listed (target.ClassName name) none = refl
-  never_listed (target.Number n) none = refl
-  never_listed (target.Literal i) none = refl
+  typed_unlisted : (arrays : Bool) (pool : List Const) (c : Const) → Unlisted count (typed files listing arrays pool c)
+  typed_unlisted arrays pool (constants.Class name) = class_unlisted count arrays (known_in files listing) (text_at pool name)
+  typed_unlisted arrays pool (constants.Integer n) = fault_unlisted count operand.Wrong
+  typed_unlisted arrays pool (constants.Str text) = fault_unlisted count operand.Wrong
+  typed_unlisted arrays pool (constants.Utf8 text) = fault_unlisted count operand.Wrong
+  typed_unlisted arrays pool (constants.Float n) = fault_unlisted count operand.Wrong
+  typed_unlisted arrays pool (constants.Long n) = fault_unlisted count operand.Wrong
+  typed_unlisted arrays pool (constants.Double n) = fault_unlisted count operand.Wrong
+  typed_unlisted arrays pool (constants.Field class name) = fault_unlisted count operand.Wrong
+  typed_unlisted arrays pool (constants.Method class name) = fault_unlisted count operand.Wrong
+  typed_unlisted arrays pool (constants.IMethod class name) = fault_unlisted count operand.Wrong
+  typed_unlisted arrays pool (constants.NameAndType name desc) = fault_unlisted count operand.Wrong
+  typed_unlisted arrays pool constants.Second = fault_unlisted count operand.Wrong
 
-  field_unlisted : (static writes : Bool) (id : MethodId) → Unlisted (field_linked files listing static writes id)
+  field_unlisted : (static writes : Bool) (id : MethodId) → Unlisted count (field_linked files listing static writes id)
   field_unlisted static writes id ref e =
       let fits : Found → Result Target OperandFault = λ found. need (field_fits static writes found) (operand.Missing id.name) >>= λ _. Ok found.target in
       let described = need_ok (is_ok (whole_type id.desc)) operand.Wrong (λ _. ok_or (field_of files listing id) (operand.Missing id.name) >>= fits) ref e in
@@ -272,51 +262,74 @@ module _ (files : List ClassFile) (listing : Listing) where
       let last = need_ok (field_fits static writes found.0) (operand.Missing id.name) (λ _. Ok found.0.target) ref found.2 in
       let is : found.0.target ≡ ref = ok_same found.0.target ref last.1 in
       let there : field_of files listing id ≡ Some found.0 = ok_or_ok (field_of files listing id) (operand.Missing id.name) found.0 found.1 in
-      never_listed ref (λ index same. field_found files listing id found.0 index there (is ∙ same))
+      subst (IsUnlisted count) is (field_found files listing id found.0 there)
 
-  field_used_unlisted : (static writes : Bool) (pool : List Const) (c : Const) → Unlisted (field_used files listing static writes pool c)
+  field_used_unlisted : (static writes : Bool) (pool : List Const) (c : Const) → Unlisted count (field_used files listing static writes pool c)
   field_used_unlisted static writes pool (constants.Field class member) = field_unlisted static writes (id_at pool class member)
-  field_used_unlisted static writes pool (constants.Class name) = fault_unlisted operand.Wrong
-  field_used_unlisted static writes pool (constants.Integer n) = fault_unlisted operand.Wrong
-  field_used_unlisted static writes pool (constants.Str text) = fault_unlisted operand.Wrong
-  field_used_unlisted static writes pool (constants.Utf8 text) = fault_unlisted operand.Wrong
-  field_used_unlisted static writes pool (constants.Float n) = fault_unlisted operand.Wrong
-  field_used_unlisted static writes pool (constants.Long n) = fault_unlisted operand.Wrong
-  field_used_unlisted static writes pool (constants.Double n) = fault_unlisted operand.Wrong
-  field_used_unlisted static writes pool (constants.Method class name) = fault_unlisted operand.Wrong
-  field_used_unlisted static writes pool (constants.IMethod class name) = fault_unlisted operand.Wrong
-  field_used_unlisted static writes pool (constants.NameAndType name desc) = fault_unlisted operand.Wrong
-  field_used_unlisted static writes pool constants.Second = fault_unlisted operand.Wrong
+  field_used_unlisted static writes pool (constants.Class name) = fault_unlisted count operand.Wrong
+  field_used_unlisted static writes pool (constants.Integer n) = fault_unlisted count operand.Wrong
+  field_used_unlisted static writes pool (constants.Str text) = fault_unlisted count operand.Wrong
+  field_used_unlisted static writes pool (constants.Utf8 text) = fault_unlisted count operand.Wrong
+  field_used_unlisted static writes pool (constants.Float n) = fault_unlisted count operand.Wrong
+  field_used_unlisted static writes pool (constants.Long n) = fault_unlisted count operand.Wrong
+  field_used_unlisted static writes pool (constants.Double n) = fault_unlisted count operand.Wrong
+  field_used_unlisted static writes pool (constants.Method class name) = fault_unlisted count operand.Wrong
+  field_used_unlisted static writes pool (constants.IMethod class name) = fault_unlisted count operand.Wrong
+  field_used_unlisted static writes pool (constants.NameAndType name desc) = fault_unlisted count operand.Wrong
+  field_used_unlisted static writes pool constants.Second = fault_unlisted count operand.Wrong
 
   -- ---- calls
 
-  call_found : (static : Bool) (id : MethodId) (index : ℕ) → call_linked files listing static id ≡ Ok (target.ApiMethod index)
-      → (m : ListedMethod) × ((slice_get listing.methods index ≡ Some m) × (id.desc ≡ m.id.desc))
-  call_found static id index e =
-      let ref = target.ApiMethod index in
+  call_found : (static : Bool) (id : MethodId) (ref : Target) → call_linked files listing static id ≡ Ok ref → IsTold count listing.methods id.desc ref
+  call_found static id ref e =
       let fits : Found → Result Target OperandFault = λ found. need (beq found.is_static static) (operand.Missing id.name) >>= λ _. Ok found.target in
       let described = need_ok (is_ok (method_type id.desc)) operand.Wrong (λ _. ok_or (method_of files listing id) (operand.Missing id.name) >>= fits) ref e in
       let found = bind_ok (ok_or (method_of files listing id) (operand.Missing id.name)) fits ref described.1 in
       let last = need_ok (beq found.0.is_static static) (operand.Missing id.name) (λ _. Ok found.0.target) ref found.2 in
       let is : found.0.target ≡ ref = ok_same found.0.target ref last.1 in
       let there : method_of files listing id ≡ Some found.0 = ok_or_ok (method_of files listing id) (operand.Missing id.name) found.0 found.1 in
-      method_found files listing id found.0 index there is
+      subst (IsTold count listing.methods id.desc) is (method_found files listing id found.0 there)
 
-  module _ (pool : List Const) (fits : FitsPool pool) (i index : ℕ) where
+  -- a method of the listing is named by a call
+  abbrev Calls : Use → Target → Type 0
+  Calls purpose (target.ApiMethod index) = is_call purpose ≡ true
+  Calls purpose other = ⊤
+
+  unlisted_calls : (purpose : Use) (t : Target) → IsUnlisted count t → Calls purpose t
+  unlisted_calls purpose (target.ApiMethod index) h = absurd h
+  unlisted_calls purpose (target.Field of index) h = tt
+  unlisted_calls purpose target.None h = tt
+  unlisted_calls purpose (target.Builtin i) h = tt
+  unlisted_calls purpose (target.Method c m) h = tt
+  unlisted_calls purpose (target.ApiField i) h = tt
+  unlisted_calls purpose (target.ClassName name) h = tt
+  unlisted_calls purpose (target.Number k) h = tt
+  unlisted_calls purpose (target.Literal i) h = tt
+
+  call_calls : (purpose : Use) (t : Target) → is_call purpose ≡ true → Calls purpose t
+  call_calls purpose (target.ApiMethod index) h = h
+  call_calls purpose (target.Field of index) h = tt
+  call_calls purpose target.None h = tt
+  call_calls purpose (target.Builtin i) h = tt
+  call_calls purpose (target.Method c m) h = tt
+  call_calls purpose (target.ApiField i) h = tt
+  call_calls purpose (target.ClassName name) h = tt
+  call_calls purpose (target.Number k) h = tt
+  call_calls purpose (target.Literal i) h = tt
+
+  module _ (pool : List Const) (fits : FitsPool pool) (i : ℕ) (ref : Target) where
     abbrev Tells : Type 0
-    Tells = (m : ListedMethod) × ((slice_get listing.methods index ≡ Some m) × (option_map_or (λ (id : MethodId). id.desc) (reference_at pool i) [] ≡ m.id.desc))
+    Tells = IsTold count listing.methods (option_map_or (λ (id : MethodId). id.desc) (reference_at pool i) []) ref
 
-    called_method : (static : Bool) (class member : ℕ) → slice_get pool i ≡ Some (constants.Method class member) → call_linked files listing static (id_at pool class member) ≡ Ok (target.ApiMethod index) → Tells
+    called_method : (static : Bool) (class member : ℕ) → slice_get pool i ≡ Some (constants.Method class member) → call_linked files listing static (id_at pool class member) ≡ Ok ref → Tells
     called_method static class member there e =
-        let m = call_found static (id_at pool class member) index e in
-        (m.0, (m.1.0, method_told pool fits i class member there ∙ m.1.1))
+        subst (λ (desc : List ℕ). IsTold count listing.methods desc ref) (sym (method_told pool fits i class member there)) (call_found static (id_at pool class member) ref e)
 
-    called_interface : (static : Bool) (class member : ℕ) → slice_get pool i ≡ Some (constants.IMethod class member) → call_linked files listing static (id_at pool class member) ≡ Ok (target.ApiMethod index) → Tells
+    called_interface : (static : Bool) (class member : ℕ) → slice_get pool i ≡ Some (constants.IMethod class member) → call_linked files listing static (id_at pool class member) ≡ Ok ref → Tells
     called_interface static class member there e =
-        let m = call_found static (id_at pool class member) index e in
-        (m.0, (m.1.0, interface_told pool fits i class member there ∙ m.1.1))
+        subst (λ (desc : List ℕ). IsTold count listing.methods desc ref) (sym (interface_told pool fits i class member there)) (call_found static (id_at pool class member) ref e)
 
-    called_tells : (static of_interface : Bool) (c : Const) → slice_get pool i ≡ Some c → called files listing static of_interface pool c ≡ Ok (target.ApiMethod index) → Tells
+    called_tells : (static of_interface : Bool) (c : Const) → slice_get pool i ≡ Some c → called files listing static of_interface pool c ≡ Ok ref → Tells
     called_tells static false (constants.Method class member) there e = called_method static class member there e
     called_tells static true (constants.IMethod class member) there e = called_interface static class member there e
     called_tells static false (constants.IMethod class member) there e = absurd cc
@@ -342,33 +355,43 @@ module _ (files : List ClassFile) (listing : Listing) where
     called_tells static false constants.Second there e = absurd cc
     called_tells static true constants.Second there e = absurd cc
 
-    used_tells : (purpose : Use) (c : Const) → slice_get pool i ≡ Some c → used files listing pool purpose c ≡ Ok (target.ApiMethod index) → (is_call purpose ≡ true) × Tells
-    used_tells uses.Nothing c there e = absurd cc
-    used_tells uses.Load c there e = absurd (false≢true (sym (loaded_unlisted pool c (target.ApiMethod index) e)))
-    used_tells (uses.Field static writes) c there e = absurd (false≢true (sym (field_used_unlisted static writes pool c (target.ApiMethod index) e)))
-    used_tells (uses.Call static of_interface) c there e = (refl, called_tells static of_interface c there e)
-    used_tells uses.New c there e = absurd (false≢true (sym (typed_unlisted false pool c (target.ApiMethod index) e)))
-    used_tells uses.Type c there e = absurd (false≢true (sym (typed_unlisted true pool c (target.ApiMethod index) e)))
+    unlisted : (purpose : Use) → IsUnlisted count ref → Calls purpose ref × Tells
+    unlisted purpose h = (unlisted_calls purpose ref h, unlisted_told count listing.methods _ ref h)
+
+    used_tells : (purpose : Use) (c : Const) → slice_get pool i ≡ Some c → used files listing pool purpose c ≡ Ok ref → Calls purpose ref × Tells
+    used_tells uses.Nothing c there e = unlisted uses.Nothing (ok_unlisted count target.None tt ref e)
+    used_tells uses.Load c there e = unlisted uses.Load (loaded_unlisted pool c ref e)
+    used_tells (uses.Field static writes) c there e = unlisted (uses.Field static writes) (field_used_unlisted static writes pool c ref e)
+    used_tells (uses.Call static of_interface) c there e = (call_calls (uses.Call static of_interface) ref refl, called_tells static of_interface c there e)
+    used_tells uses.New c there e = unlisted uses.New (typed_unlisted false pool c ref e)
+    used_tells uses.Type c there e = unlisted uses.Type (typed_unlisted true pool c ref e)
 
   -- ---- an instruction
 
-  pub operand_right : (class : LinkedClass) (insn : Insn) (ref : Target) → CanSpell class.file → 0 < length class.file.pool → IsInsn insn → operand_linked files listing class.file.pool insn ≡ Ok ref
-      → IsRightOperand listing class insn ref
-  operand_right class insn ref fits some is e = by (is_nothing (use_of insn)) refl e where
-    by : (b : Bool) → is_nothing (use_of insn) ≡ b → cond b (Ok target.None) (ok_or (slice_get class.file.pool (index_of insn)) operand.Wrong >>= used files listing class.file.pool (use_of insn)) ≡ Ok ref → IsRightOperand listing class insn ref
-    by true none e =
-        let zero_is : index_of insn ≡ 0 = nothing_named insn is none in
-        let other : target.None ≡ ref = ok_same target.None ref e in
-        record {
-          constant = subst (λ (k : ℕ). k < length class.file.pool) (sym zero_is) some;
-          listed = λ index same. let h : target.None ≡ target.ApiMethod index = other ∙ same in absurd cc;
-        }
-    by false some e =
-        let c = bind_ok (ok_or (slice_get class.file.pool (index_of insn)) operand.Wrong) (used files listing class.file.pool (use_of insn)) ref e in
-        let there : slice_get class.file.pool (index_of insn) ≡ Some c.0 = ok_or_ok (slice_get class.file.pool (index_of insn)) operand.Wrong c.0 c.1 in
-        record {
-          constant = slice_get_within class.file.pool (index_of insn) c.0 there;
-          listed = λ index same.
-              let tells = used_tells class.file.pool fits.pool (index_of insn) index (use_of insn) c.0 there (c.2 ∙ ap Ok same) in
-              record { method = tells.1.0; there = tells.1.1.0; calls = call_shaped insn is tells.0; desc = tells.1.1.1 };
-        }
+  module _ (program : Program) (listing_is : program.listing ≡ listing) (classes : length program.classes ≡ length files) where
+    told_right : (class : LinkedClass) (insn : Insn) (ref : Target) → index_of insn < length class.file.pool → IsInsn insn → Calls (use_of insn) ref → IsTold count listing.methods (desc_told class insn) ref
+        → IsRightOperand program class insn ref
+    told_right class insn ref constant is calls tells = record {
+      constant = constant;
+      listed = λ index same.
+          let named : is_call (use_of insn) ≡ true = subst (Calls (use_of insn)) same calls in
+          let m : IsTold count listing.methods (desc_told class insn) (target.ApiMethod index) = subst (IsTold count listing.methods (desc_told class insn)) same tells in
+          record { method = m.0; there = ap (λ (l : Listing). slice_get l.methods index) listing_is ∙ m.1.0; calls = call_shaped insn is named; desc = m.1.1 };
+      field = λ of index same.
+          let less : of < count = subst (IsTold count listing.methods (desc_told class insn)) same tells in
+          omega (arith, less, classes);
+    }
+
+    pub operand_right : (class : LinkedClass) (insn : Insn) (ref : Target) → CanSpell class.file → 0 < length class.file.pool → IsInsn insn → operand_linked files listing class.file.pool insn ≡ Ok ref
+        → IsRightOperand program class insn ref
+    operand_right class insn ref fits some is e = by (is_nothing (use_of insn)) refl e where
+      by : (b : Bool) → is_nothing (use_of insn) ≡ b → cond b (Ok target.None) (ok_or (slice_get class.file.pool (index_of insn)) operand.Wrong >>= used files listing class.file.pool (use_of insn)) ≡ Ok ref → IsRightOperand program class insn ref
+      by true none e =
+          let zero_is : index_of insn ≡ 0 = nothing_named insn is none in
+          let other : IsUnlisted count ref = ok_unlisted count target.None tt ref e in
+          told_right class insn ref (subst (λ (k : ℕ). k < length class.file.pool) (sym zero_is) some) is (unlisted_calls (use_of insn) ref other) (unlisted_told count listing.methods _ ref other)
+      by false some e =
+          let c = bind_ok (ok_or (slice_get class.file.pool (index_of insn)) operand.Wrong) (used files listing class.file.pool (use_of insn)) ref e in
+          let there : slice_get class.file.pool (index_of insn) ≡ Some c.0 = ok_or_ok (slice_get class.file.pool (index_of insn)) operand.Wrong c.0 c.1 in
+          let tells = used_tells class.file.pool fits.pool (index_of insn) ref (use_of insn) c.0 there c.2 in
+          told_right class insn ref (slice_get_within class.file.pool (index_of insn) c.0 there) is tells.0 tells.1

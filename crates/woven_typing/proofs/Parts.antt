@@ -99,6 +99,7 @@ module _ (policy : Policy) (base : ℕ) where
       filled : (m : ℕ) → length (replicate {A = Option FrameType} m None) ≡ m
       filled zero = refl
       filled (suc m) = ap suc (filled m)
+
       by : (o : Option (List Kind)) → arguments_of policy ref ≡ o → (frame : Option FrameType) → length (part_framed o frame) ≡ length (part ref)
       by None e frame = sym (ap length (part_alone ref e))
       by (Some args) e None = filled (length args + length args + 9) ∙ sym (denial_length base args) ∙ sym (ap length (part_denied ref args e))
@@ -232,5 +233,9 @@ module _ (policy : Policy) (base : ℕ) where
   insns_many pool fronts begin (x ∷ own) [] e = absurd (omega arith)
   insns_many pool fronts begin (x ∷ own) (r ∷ refs) e =
       let here : List Insn = map (put pool fronts begin x) (part r) in
-      omega (arith, length-append here (parts_from pool fronts (begin + length (part r)) own (map (site policy base) refs)), length-map (part r) (put pool fronts begin x),
-      insns_many pool fronts (begin + length (part r)) own refs (omega arith))
+      omega (
+        arith,
+        length-append here (parts_from pool fronts (begin + length (part r)) own (map (site policy base) refs)),
+        length-map (part r) (put pool fronts begin x),
+        insns_many pool fronts (begin + length (part r)) own refs (omega arith),
+      )

@@ -36,6 +36,7 @@ locals_are program f k (t ∷ list) same =
   where
     nothing : (k : ℕ) → k + 0 ≡ k
     nothing k = omega arith
+
     next : (k j : ℕ) → (k + 1) + j ≡ k + suc j
     next k j = omega arith
 

@@ -71,12 +71,12 @@ module _ (place : Place) (frame next : FrameType) (does : Does place frame next)
   pub alone : MeetsAlone place frame
   alone = record {
     depth =
-      and_from (nat_le (length (takes place)) (length frame.stack)) (nat_le (length (stack_after place frame.locals (length (takes place)) frame.stack)) place.method.max_stack)
-      (ap (λ (n : ℕ). nat_le n (length frame.stack)) does.count ∙ le-leb does.n (length frame.stack) does.enough)
-      (ap (λ (s : List VType). nat_le (length s) place.method.max_stack) after ∙ le-leb (length next.stack) place.method.max_stack does.high);
+        and_from (nat_le (length (takes place)) (length frame.stack)) (nat_le (length (stack_after place frame.locals (length (takes place)) frame.stack)) place.method.max_stack)
+        (ap (λ (n : ℕ). nat_le n (length frame.stack)) does.count ∙ le-leb does.n (length frame.stack) does.enough)
+        (ap (λ (s : List VType). nat_le (length s) place.method.max_stack) after ∙ le-leb (length next.stack) place.method.max_stack does.high);
     operand =
-      and_from (all_met (takes place) (taken place frame)) (returns_well place (shape_of place.insn))
-      (ap (λ (ts : List VType). all_met (takes place) ts) takes_these ∙ does.met) does.returns;
+        and_from (all_met (takes place) (taken place frame)) (returns_well place (shape_of place.insn))
+        (ap (λ (ts : List VType). all_met (takes place) ts) takes_these ∙ does.met) does.returns;
     local = and_from (nat_le (length frame.locals) place.method.max_locals) (uses_local place.method frame.locals (shape_of place.insn)) (le-leb (length frame.locals) place.method.max_locals does.few) does.uses;
     made = does.made;
   }
@@ -116,43 +116,91 @@ module _ (program : Program) (own : ℕ) (class : LinkedClass) (method : Method)
     -- ldc_w of a class
     pub pushes_class : (index : ℕ) (name : List ℕ) → Does (here (insns.Pool 19 index) (target.ClassName name)) frame (with (types.Ref (codes "java/lang/Class")) frame)
     pushes_class index name = record {
-      n = 0; count = refl; enough = omega arith; met = ap (all_met []) (top_none frame.stack); returns = refl; stays = λ t. refl;
-      left = pushed (types.Ref (codes "java/lang/Class")); high = one_more (types.Ref (codes "java/lang/Class"));
-      few = few; uses = refl; made = refl; same = refl; locals = λ j lt. refl;
+      n = 0;
+      count = refl;
+      enough = omega arith;
+      met = ap (all_met []) (top_none frame.stack);
+      returns = refl;
+      stays = λ t. refl;
+      left = pushed (types.Ref (codes "java/lang/Class"));
+      high = one_more (types.Ref (codes "java/lang/Class"));
+      few = few;
+      uses = refl;
+      made = refl;
+      same = refl;
+      locals = λ j lt. refl;
     }
 
     -- bipush
     pub pushes_number : (n : ℤ) → Does (here (insns.Byte n) target.None) frame (with types.Int frame)
     pushes_number n = record {
-      n = 0; count = refl; enough = omega arith; met = ap (all_met []) (top_none frame.stack); returns = refl; stays = λ t. refl;
-      left = pushed types.Int; high = one_more types.Int;
-      few = few; uses = refl; made = refl; same = refl; locals = λ j lt. refl;
+      n = 0;
+      count = refl;
+      enough = omega arith;
+      met = ap (all_met []) (top_none frame.stack);
+      returns = refl;
+      stays = λ t. refl;
+      left = pushed types.Int;
+      high = one_more types.Int;
+      few = few;
+      uses = refl;
+      made = refl;
+      same = refl;
+      locals = λ j lt. refl;
     }
 
     -- aconst_null
     pub pushes_null : Does (here (insns.Plain 1) target.None) frame (with types.Null frame)
     pushes_null = record {
-      n = 0; count = refl; enough = omega arith; met = ap (all_met []) (top_none frame.stack); returns = refl; stays = λ t. refl;
-      left = pushed types.Null; high = one_more types.Null;
-      few = few; uses = refl; made = refl; same = refl; locals = λ j lt. refl;
+      n = 0;
+      count = refl;
+      enough = omega arith;
+      met = ap (all_met []) (top_none frame.stack);
+      returns = refl;
+      stays = λ t. refl;
+      left = pushed types.Null;
+      high = one_more types.Null;
+      few = few;
+      uses = refl;
+      made = refl;
+      same = refl;
+      locals = λ j lt. refl;
     }
 
     -- monitorenter of an object
     pub enters : (name : List ℕ) → Does (here (insns.Plain 194) target.None) (with (types.Ref name) frame) frame
     enters name = record {
-      n = 1; count = refl; enough = holds_one (types.Ref name);
-      met = ap (all_met (takes (here (insns.Plain 194) target.None))) (top_last frame.stack (types.Ref name)); returns = refl; stays = λ t. refl;
-      left = popped (types.Ref name); high = omega (arith, high);
-      few = few; uses = refl; made = refl; same = refl; locals = λ j lt. refl;
+      n = 1;
+      count = refl;
+      enough = holds_one (types.Ref name);
+      met = ap (all_met (takes (here (insns.Plain 194) target.None))) (top_last frame.stack (types.Ref name));
+      returns = refl;
+      stays = λ t. refl;
+      left = popped (types.Ref name);
+      high = omega (arith, high);
+      few = few;
+      uses = refl;
+      made = refl;
+      same = refl;
+      locals = λ j lt. refl;
     }
 
     -- athrow of null; nothing comes next
     pub throws : Does (here (insns.Plain 191) target.None) (with types.Null frame) frame
     throws = record {
-      n = 1; count = refl; enough = holds_one types.Null;
-      met = ap (all_met (takes (here (insns.Plain 191) target.None))) (top_last frame.stack types.Null); returns = refl; stays = λ t. refl;
-      left = popped types.Null; high = omega (arith, high);
-      few = few; uses = refl; made = refl; same = refl; locals = λ j lt. refl;
+      n = 1;
+      count = refl;
+      enough = holds_one types.Null;
+      met = ap (all_met (takes (here (insns.Plain 191) target.None))) (top_last frame.stack types.Null);
+      returns = refl;
+      stays = λ t. refl;
+      left = popped types.Null;
+      high = omega (arith, high);
+      few = few;
+      uses = refl;
+      made = refl;
+      same = refl;
+      locals = λ j lt. refl;
     }
 
     -- ---- the way out
@@ -174,12 +222,18 @@ module _ (program : Program) (own : ℕ) (class : LinkedClass) (method : Method)
         let no_maker : calls_maker place ≡ false = ap (λ (n : List ℕ). bytes_eq n maker) name in
         let still : (ts : List VType) (t : VType) → changed place ts t ≡ t = λ ts t. ap (λ (b : Bool). cond b (when_made place (type_at ts 0) t) t) no_maker in
         record {
-          n = 1; count = ap length takes_one; enough = holds_one types.Int;
+          n = 1;
+          count = ap length takes_one;
+          enough = holds_one types.Int;
           met = ap (λ (ws : List Want). all_met ws (topmost 1 (frame.stack ++ types.Int ∷ []))) takes_one ∙ ap (all_met (to_described program (codes "I") ∷ [])) (top_last frame.stack types.Int);
-          returns = refl; stays = still (topmost 1 (frame.stack ++ types.Int ∷ []));
+          returns = refl;
+          stays = still (topmost 1 (frame.stack ++ types.Int ∷ []));
           left = ap (λ (ts : List VType). below 1 (frame.stack ++ types.Int ∷ []) ++ ts) (gives_none frame.locals (topmost 1 (frame.stack ++ types.Int ∷ []))) ∙ popped types.Int;
           high = omega (arith, high);
-          few = few; uses = refl; made = rw no_maker refl; same = refl;
+          few = few;
+          uses = refl;
+          made = rw no_maker refl;
+          same = refl;
           locals = λ j lt. still (topmost 1 (frame.stack ++ types.Int ∷ [])) (type_at frame.locals j);
         }
 
@@ -199,20 +253,22 @@ module _ (program : Program) (own : ℕ) (class : LinkedClass) (method : Method)
       let gives_none : (ts : List VType) → yields place frame.locals ts ≡ [] = λ ts. ap (yields_of place frame.locals ts) shape in
       let rest : length (take (length stack - (k + 1)) stack) ≡ length stack - (k + 1) = length-take-le (length stack - (k + 1)) stack (omega arith) in
       record {
-        n = 1; count = ap length takes_one; enough = omega (arith, many, lt);
+        n = 1;
+        count = ap length takes_one;
+        enough = omega (arith, many, lt);
         met =
-          ap (λ (ws : List Want). all_met ws (topmost 1 frame.stack)) takes_one ∙ ap (all_met (of_kind kind ∷ [])) top ∙ and_from (of_kind kind t) true fits refl;
+            ap (λ (ws : List Want). all_met ws (topmost 1 frame.stack)) takes_one ∙ ap (all_met (of_kind kind ∷ [])) top ∙ and_from (of_kind kind t) true fits refl;
         returns = ap (returns_well place) shape;
         stays = still (topmost 1 frame.stack);
         left =
-          ap (λ (ts : List VType). below 1 frame.stack ++ ts) (gives_none (topmost 1 frame.stack)) ∙ append-nil (below 1 frame.stack) ∙ ap (below 1) is ∙ below_twice k stack;
+            ap (λ (ts : List VType). below 1 frame.stack ++ ts) (gives_none (topmost 1 frame.stack)) ∙ append-nil (below 1 frame.stack) ∙ ap (below 1) is ∙ below_twice k stack;
         high = omega (arith, rest, high);
         few = omega (arith, behind, within);
         uses = ap (uses_local method frame.locals) shape ∙ lt-ltb slot method.max_locals within;
         made = ap (made_well place frame) shape;
         same = refl;
         locals =
-          λ j less.
+            λ j less.
             let other : (j == slot) ≡ false = ne_eqb j slot (λ e. absurd (omega (arith, e, less, behind))) in
             ap (λ (sh : Shape). cond (stores sh j) (type_at (topmost 1 frame.stack) 0) (changed place (topmost 1 frame.stack) (type_at frame.locals j))) shape
             ∙ ap (λ (b : Bool). cond b (type_at (topmost 1 frame.stack) 0) (changed place (topmost 1 frame.stack) (type_at frame.locals j))) other

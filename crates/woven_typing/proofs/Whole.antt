@@ -72,7 +72,7 @@ module _ (policy : Policy) (old new : Program) (own : ℕ) (class other : Linked
     starts : start i + k ≡ 0 → i ≡ 0
     starts e =
         let lt : i < length method.insns = slice_get_within method.insns i insn there in
-        omega (arith, e, least policy old new class other method made body method.refs i (omega (arith, lt, same_length policy old new class other method made body)))
+        omega (arith, e, least policy other.file.pool method made body.standing method.refs i (omega (arith, lt, same_length policy other.file.pool method made body.standing)))
 
     -- an instruction without a frame, which is not the first
     unreached : frame_of all (start i + k) ≡ None → (start i + k ≡ 0 → ⊥) → row_in new own other made all (start i + k) ≡ None
@@ -81,8 +81,8 @@ module _ (policy : Policy) (old new : Program) (own : ℕ) (class other : Linked
         let no : ((start i + k) == 0) ≡ false = ne_eqb (start i + k) 0 (λ e. not_first e) in
         row_here policy old new own class other method made body frames told met (start i + k)
         (put other.file.pool (fs policy old new own class other method made body frames told met) (start i) insn b.0) (part_named ref b.0) None
-        (insn_there policy old new class other method made body i k insn ref b.0 there names b.1)
-        (ref_there policy old new class other method made body i k ref b.0 names b.1)
+        (insn_there policy other.file.pool method made body.standing i k insn ref b.0 there names b.1)
+        (ref_there policy other.file.pool method made body.standing i k ref b.0 names b.1)
         none
         (ap (λ (z : Bool). cond z (Some 1) None) no)
 
@@ -111,7 +111,7 @@ module _ (policy : Policy) (old new : Program) (own : ℕ) (class other : Linked
         let k_is : k ≡ 0 = omega (arith, less, single) in
         let call : slice_get (part policy method.max_locals ref) 0 ≡ Some Call = ap (λ (xs : List BlockInsn). slice_get xs 0) (part_alone policy method.max_locals ref none) in
         let lt : i < length method.insns = slice_get_within method.insns i insn there in
-        let at : mv policy old new own class other method made body frames told met i ≡ start i + 0 = moved_is policy old new class other method made body i lt ∙ omega arith in
+        let at : mv policy old new own class other method made body frames told met i ≡ start i + 0 = moved_is policy other.file.pool method made body.standing i lt ∙ omega arith in
         let g : FrameType = frame_renamed (mv policy old new own class other method made body frames told met) f in
         let x_is : slice_get frames i ≡ Some (Some f) = in_frames ∙ ap Some is in
         let row = row_of policy old new own class other method made body frames told met i insn f there (frame_told i (Some f) x_is) in
@@ -125,8 +125,8 @@ module _ (policy : Policy) (old new : Program) (own : ℕ) (class other : Linked
         ∙ ap (λ (o : Option (List Kind)). option_map_or (λ (z : Option FrameType). z) (slice_get (part_framed o (Some g)) 0) None) none in
         rw k_is
         (row_here policy old new own class other method made body frames told met (start i + 0) (aimed (fs policy old new own class other method made body frames told met) insn) ref (Some g)
-        (insn_there policy old new class other method made body i 0 insn ref Call there names call)
-        (ref_there policy old new class other method made body i 0 ref Call names call)
+        (insn_there policy other.file.pool method made body.standing i 0 insn ref Call there names call)
+        (ref_there policy other.file.pool method made body.standing i 0 ref Call names call)
         framed
         (row_met all (here policy old new own class other method made body frames told met (start i + 0) (aimed (fs policy old new own class other method made body frames told met) insn) ref) g here_is))
 
@@ -171,8 +171,8 @@ module _ (policy : Policy) (old new : Program) (own : ℕ) (class other : Linked
   -- The rules are met at each instruction of the woven method.
   pub all_met : (at : ℕ) → at < length made.insns → row_in new own other made all at ≡ None
   all_met at lt =
-      let l = locate policy method.max_locals method.refs at (omega (arith, lt, made_long policy old new class other method made body)) in
-      let few : l.own < length method.insns = omega (arith, slice_get_within method.refs l.own l.ref l.there, same_length policy old new class other method made body) in
+      let l = locate policy method.max_locals method.refs at (omega (arith, lt, made_long policy other.file.pool method made body.standing)) in
+      let few : l.own < length method.insns = omega (arith, slice_get_within method.refs l.own l.ref l.there, same_length policy other.file.pool method made body.standing) in
       let insn = slice_there method.insns l.own few in
       let x = slice_there frames l.own (omega (arith, told, few)) in
       rw (l.is) (row_there l.own l.place insn.0 l.ref x.0 insn.1 l.there x.1 l.within)

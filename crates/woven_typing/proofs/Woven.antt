@@ -146,57 +146,57 @@ module _ (policy : Policy) (old new : Program) (class other : LinkedClass) (meth
 
   -- what the first instruction of a block makes: nothing
   block_makes : (i : ℕ) (insn : Insn) (ref : Target) (args : List Kind) → slice_get method.insns i ≡ Some insn → slice_get method.refs i ≡ Some ref
-      → arguments_of policy ref ≡ Some args → new_at made (front policy old new class other method made body i + 0) ≡ []
+      → arguments_of policy ref ≡ Some args → new_at made (front policy other.file.pool method made body.standing i + 0) ≡ []
   block_makes i insn ref [] e f told =
       let first : slice_get (part policy b0 ref) 0 ≡ slice_get (denial b0 []).insns 0 = ap (λ (xs : List BlockInsn). slice_get xs 0) (part_denied policy b0 ref [] told) in
-      ap (λ (o : Option Insn). new_in o (slice_get made.refs (front policy old new class other method made body i + 0))) (insn_there policy old new class other method made body i 0 insn ref (Want 0x13 StateClass) e f first)
-      ∙ ap (λ (o : Option Target). new_in (Some (put other.file.pool (fronts policy old new class other method made body) (front policy old new class other method made body i) insn (Want 0x13 StateClass))) o)
-      (ref_there policy old new class other method made body i 0 ref (Want 0x13 StateClass) f first)
+      ap (λ (o : Option Insn). new_in o (slice_get made.refs (front policy other.file.pool method made body.standing i + 0))) (insn_there policy other.file.pool method made body.standing i 0 insn ref (Want 0x13 StateClass) e f first)
+      ∙ ap (λ (o : Option Target). new_in (Some (put other.file.pool (fronts policy other.file.pool method made body.standing) (front policy other.file.pool method made body.standing i) insn (Want 0x13 StateClass))) o)
+      (ref_there policy other.file.pool method made body.standing i 0 ref (Want 0x13 StateClass) f first)
   block_makes i insn ref (kind ∷ args) e f told =
       let last = slice_there (kind ∷ args) (length (kind ∷ args) - 1 - 0) (omega arith) in
       let b : BlockInsn = store last.0 (b0 + (length (kind ∷ args) - 1 - 0)) in
       let first : slice_get (part policy b0 ref) 0 ≡ Some b =
       ap (λ (xs : List BlockInsn). slice_get xs 0) (part_denied policy b0 ref (kind ∷ args) told) ∙ store_at b0 (kind ∷ args) 0 last.0 (omega arith) last.1 in
-      let is = store_is other.file.pool (fronts policy old new class other method made body) (front policy old new class other method made body i) insn ref last.0 (b0 + (length (kind ∷ args) - 1 - 0)) in
-      ap (λ (o : Option Insn). new_in o (slice_get made.refs (front policy old new class other method made body i + 0))) (insn_there policy old new class other method made body i 0 insn ref b e f first)
-      ∙ ap (λ (o : Option Target). new_in (Some (put other.file.pool (fronts policy old new class other method made body) (front policy old new class other method made body i) insn b)) o)
-      (ref_there policy old new class other method made body i 0 ref b f first)
+      let is = store_is other.file.pool (fronts policy other.file.pool method made body.standing) (front policy other.file.pool method made body.standing i) insn ref last.0 (b0 + (length (kind ∷ args) - 1 - 0)) in
+      ap (λ (o : Option Insn). new_in o (slice_get made.refs (front policy other.file.pool method made body.standing i + 0))) (insn_there policy other.file.pool method made body.standing i 0 insn ref b e f first)
+      ∙ ap (λ (o : Option Target). new_in (Some (put other.file.pool (fronts policy other.file.pool method made body.standing) (front policy other.file.pool method made body.standing i) insn b)) o)
+      (ref_there policy other.file.pool method made body.standing i 0 ref b f first)
       ∙ made_nothing _ (part_named ref b) (ap class_of is.none)
 
   client_makes : (i : ℕ) (insn : Insn) (ref : Target) → slice_get method.insns i ≡ Some insn → slice_get method.refs i ≡ Some ref
-      → arguments_of policy ref ≡ None → new_at made (front policy old new class other method made body i + 0) ≡ made_by (shape_of insn) ref
+      → arguments_of policy ref ≡ None → new_at made (front policy other.file.pool method made body.standing i + 0) ≡ made_by (shape_of insn) ref
   client_makes i insn ref e f told =
       let first : slice_get (part policy b0 ref) 0 ≡ Some Call = ap (λ (xs : List BlockInsn). slice_get xs 0) (part_alone policy b0 ref told) in
-      let shape = has_shape (fronts policy old new class other method made body) insn in
-      ap (λ (o : Option Insn). new_in o (slice_get made.refs (front policy old new class other method made body i + 0))) (insn_there policy old new class other method made body i 0 insn ref Call e f first)
-      ∙ ap (λ (o : Option Target). new_in (Some (aimed (fronts policy old new class other method made body) insn)) o) (ref_there policy old new class other method made body i 0 ref Call f first)
+      let shape = has_shape (fronts policy other.file.pool method made body.standing) insn in
+      ap (λ (o : Option Insn). new_in o (slice_get made.refs (front policy other.file.pool method made body.standing i + 0))) (insn_there policy other.file.pool method made body.standing i 0 insn ref Call e f first)
+      ∙ ap (λ (o : Option Target). new_in (Some (aimed (fronts policy other.file.pool method made body.standing) insn)) o) (ref_there policy other.file.pool method made body.standing i 0 ref Call f first)
       ∙ ap (λ (s : Shape). made_by s ref) shape.is ∙ made_elsewhere shape.to (shape_of insn) ref
 
   there_makes : (i : ℕ) (insn : Insn) (ref : Target) → slice_get method.insns i ≡ Some insn → slice_get method.refs i ≡ Some ref
-      → new_at made (front policy old new class other method made body i + 0) ≡ made_by (shape_of insn) ref
+      → new_at made (front policy other.file.pool method made body.standing i + 0) ≡ made_by (shape_of insn) ref
   there_makes i insn ref e f = by (arguments_of policy ref) refl (block_makes i insn ref) (client_makes i insn ref)
     where
       by : (o : Option (List Kind)) → arguments_of policy ref ≡ o
-          → ((args : List Kind) → slice_get method.insns i ≡ Some insn → slice_get method.refs i ≡ Some ref → arguments_of policy ref ≡ Some args → new_at made (front policy old new class other method made body i + 0) ≡ [])
-          → (slice_get method.insns i ≡ Some insn → slice_get method.refs i ≡ Some ref → arguments_of policy ref ≡ None → new_at made (front policy old new class other method made body i + 0) ≡ made_by (shape_of insn) ref)
-          → new_at made (front policy old new class other method made body i + 0) ≡ made_by (shape_of insn) ref
+          → ((args : List Kind) → slice_get method.insns i ≡ Some insn → slice_get method.refs i ≡ Some ref → arguments_of policy ref ≡ Some args → new_at made (front policy other.file.pool method made body.standing i + 0) ≡ [])
+          → (slice_get method.insns i ≡ Some insn → slice_get method.refs i ≡ Some ref → arguments_of policy ref ≡ None → new_at made (front policy other.file.pool method made body.standing i + 0) ≡ made_by (shape_of insn) ref)
+          → new_at made (front policy other.file.pool method made body.standing i + 0) ≡ made_by (shape_of insn) ref
       by None is block client = client e f is
       by (Some args) is block client = block args e f is ∙ sym (made_nothing (shape_of insn) ref (no_class policy ref args is))
 
   -- What is made at an index is made at its front.
-  pub news : (i : ℕ) → new_at made (moved policy old new class other method made body i) ≡ new_at method i
+  pub news : (i : ℕ) → new_at made (moved policy other.file.pool method made body.standing i) ≡ new_at method i
   news i =
       elim (cases_Bool (nat_lt i (length method.insns))) [
         | inl is ↦
             let lt : i < length method.insns = ltb-true _ _ is in
             let x = slice_there method.insns i lt in
-            let r = slice_there method.refs i (omega (arith, lt, same_length policy old new class other method made body)) in
-            let at : moved policy old new class other method made body i ≡ front policy old new class other method made body i + 0 = moved_is policy old new class other method made body i lt ∙ omega arith in
+            let r = slice_there method.refs i (omega (arith, lt, same_length policy other.file.pool method made body.standing)) in
+            let at : moved policy other.file.pool method made body.standing i ≡ front policy other.file.pool method made body.standing i + 0 = moved_is policy other.file.pool method made body.standing i lt ∙ omega arith in
             ap (new_at made) at ∙ there_makes i x.0 r.0 x.1 r.1
             ∙ sym (ap (λ (o : Option Insn). new_in o (slice_get method.refs i)) x.1 ∙ ap (λ (o : Option Target). new_in (Some x.0) o) r.1)
         | inr fails ↦
             let past : length method.insns ≤ i = grind (arith, nat_tests) in
-            let behind : length made.insns ≤ moved policy old new class other method made body i = moved_past policy old new class other method made body i past in
-            ap (λ (o : Option Insn). new_in o (slice_get made.refs (moved policy old new class other method made body i))) (slice_get_past made.insns (moved policy old new class other method made body i) behind)
+            let behind : length made.insns ≤ moved policy other.file.pool method made body.standing i = moved_past policy other.file.pool method made body.standing i past in
+            ap (λ (o : Option Insn). new_in o (slice_get made.refs (moved policy other.file.pool method made body.standing i))) (slice_get_past made.insns (moved policy other.file.pool method made body.standing i) behind)
             ∙ sym (ap (λ (o : Option Insn). new_in o (slice_get method.refs i)) (slice_get_past method.insns i past))
       ]
