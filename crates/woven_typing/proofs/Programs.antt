@@ -187,8 +187,7 @@ body_of old new policy sound right tells woven own index class other method made
     record {
       larger = woven_larger old new policy woven;
       of_class = of_class;
-      of_method = of_method;
-      sound = sound_method;
+      standing = record { of_method = of_method; sound = sound_method };
       right = λ at insn ref g h. right own index at class method insn ref e f g h;
       references = λ at insn g.
         let r = slice_there method.refs at (omega (arith, sound_method.refs, slice_get_within method.insns at insn g)) in
@@ -226,6 +225,6 @@ woven_typed old new policy typing sound right tells woven typed shaped own index
           | inl is ↦ ltb-true _ _ is
           | inr fails ↦
               let empty : length method.insns ≡ 0 = grind (arith, nat_tests) in
-              absurd (omega (arith, lt, made_long policy old new class other method made body,
-              nothing_of policy method.max_locals method.refs (omega (arith, empty, same_length policy old new class other method made body))))
+              absurd (omega (arith, lt, made_long policy other.file.pool method made body.standing,
+              nothing_of policy method.max_locals method.refs (omega (arith, empty, same_length policy other.file.pool method made body.standing))))
         ]
