@@ -1,25 +1,17 @@
 -- A woven program is accepted with the certificate that is made of its types.
 use Rattle.std.proofs.Common.{◌≡◌, ◌≢◌, ◌⊎◌, ℕ, zero, suc, ◌+◌, ◌<◌, ◌≤◌, Bool, true, false, cond, List, [], ◌∷◌, ◌++◌, length, map, take, Option, Some, None, Ok, refl, sym, ap, subst, ◌∙◌, inl, inr, arith}
-use Rattle.std.specs.Prelude.{◌&&◌, nat_lt, bytes_eq, is_some, slice_get, slice_index, option_and_then, Contains}
+use Rattle.std.specs.Prelude.{◌&&◌, nat_lt, bytes_eq, is_some, slice_get, slice_index, option_and_then}
 use Rattle.std.specs.List.{AllByRecursion}
-use Rattle.std.specs.Option.{option_map_or}
-use Rattle.std.specs.Bool.{Decides}
 use Rattle.std.proofs.lemmas.Bool.{cases_Bool, and_from, and_parts, lt-ltb, false≢true}
 use Rattle.std.proofs.lemmas.Option.{slice_get_within, slice_get_past}
 use Rattle.std.proofs.lemmas.Slice.Eq.{bytes_eq-Decides}
-use Rattle.class_codec.specs.declared.tree.ClassFile.{ClassFile}
 use Rattle.class_codec.specs.declared.tree.Const.{Const}
 use Rattle.insn_codec.specs.declared.insn.Insn.{Insn}
-use Rattle.insn_effect.specs.Control.{successors}
-use Rattle.api_listing.specs.declared.types.Listing.{Listing}
-use Rattle.bytecode_model.specs.declared.program.Handler.{Handler}
 use Rattle.bytecode_model.specs.declared.program.LinkedClass.{LinkedClass}
 use Rattle.bytecode_model.specs.declared.program.Method.{Method}
 use Rattle.bytecode_model.specs.declared.program.Program.{Program}
-use Rattle.bytecode_model.specs.declared.program.Side.{Side}
 use Rattle.bytecode_model.specs.declared.program.Target.{Target}
 use Rattle.bytecode_model.specs.declared.program.Target.TheVariants as target
-use Rattle.bytecode_model.specs.Linking.{linked}
 use Rattle.bytecode_model.specs.Sound.{IsSound, IsSoundClass, IsSoundMethod}
 use Rattle.bytecode_model.proofs.Lists.{all_get}
 use Rattle.cert_checker.specs.Acceptance.{notes_in, notes_told, reached_fault, fault_in_class, note_fault_at, IsAccepted}
@@ -34,15 +26,13 @@ use Rattle.code_typing.specs.Rules.{frame_of}
 use Rattle.code_typing.specs.Shape.{has_code, coded, IsShaped}
 use Rattle.code_typing.specs.Typed.{IsTyped, frames_in, frames_told, list_at, reached}
 use Rattle.code_typing.proofs.Closed.{goes_on, caught}
-use Rattle.conspec_parse.specs.declared.types.Kind.{Kind}
 use Rattle.conspec_automaton.specs.declared.policy.Policy.{Policy}
 use Rattle.offset_patch.specs.declared.block.Origin.{Origin}
 use Rattle.offset_patch.specs.Splicing.{fronts_of}
 use Rattle.inline_release.specs.declared.weaving.Woven.{Woven}
-use Rattle.inline_release.specs.Outcome.{Each, IsWovenMethod, IsWovenClass, IsState, IsWoven, IsFreeTarget, IsFreeOfState}
+use Rattle.inline_release.specs.Outcome.{Each, IsWovenMethod, IsWovenClass, IsWoven, IsFreeTarget, IsFreeOfState}
 use Rattle.inline_release.specs.Woven.{sites_of, woven}
 use Rattle.woven_typing.specs.Calls.{IsRightOperand, AreRightOperands}
-use Rattle.woven_typing.specs.Framing.{arguments_of}
 use Rattle.woven_typing.proofs.Body.{IsStanding, same_length}
 use Rattle.woven_typing.proofs.Woven.{slice_there}
 use Rattle.cert_maker.specs.Accepting.{IsStopped, WovenIsAccepted}

@@ -1,11 +1,10 @@
 -- The rules of the notes, at each kind of place.
-use Rattle.std.proofs.Common.{◌≡◌, ℕ, zero, suc, ◌+◌, ◌<◌, ◌≤◌, pos, Bool, true, false, not, cond, List, [], ◌∷◌, length, Option, Some, None, refl, sym, ap, subst, ◌∙◌, arith}
-use Rattle.std.specs.Prelude.{◌==◌, ◌&&◌, ◌||◌, slice_get, option_and_then}
-use Rattle.std.specs.List.{AllByRecursion, list_all}
+use Rattle.std.proofs.Common.{◌≡◌, ℕ, ◌+◌, ◌<◌, Bool, true, false, not, List, [], ◌∷◌, Option, Some, None, refl, ap, ◌∙◌, arith}
+use Rattle.std.specs.Prelude.{◌==◌, ◌&&◌, ◌||◌, slice_get}
+use Rattle.std.specs.List.{AllByRecursion}
 use Rattle.std.specs.Option.{option_map_or}
 use Rattle.std.proofs.lemmas.Bool.{and_from, eq-eqb, ne_eqb}
 use Rattle.insn_codec.specs.declared.insn.Insn.{Insn}
-use Rattle.insn_effect.specs.declared.shape.Shape.{Shape}
 use Rattle.insn_effect.specs.Control.{successors}
 use Rattle.insn_effect.specs.Shapes.{shape_of}
 use Rattle.bytecode_model.specs.declared.program.LinkedClass.{LinkedClass}
@@ -19,9 +18,9 @@ use Rattle.conspec_automaton.specs.declared.policy.Policy.{Policy}
 use Rattle.conspec_automaton.specs.Next.{has_clauses}
 use Rattle.cert_checker.specs.declared.wanted.Wanted.{Wanted}
 use Rattle.cert_checker.specs.declared.wanted.Wanted.TheVariants as wanted
-use Rattle.cert_checker.specs.Notes.{Here, next_meet, handlers_meet, client_fault, locking_fault, free_fault, takes_for_denied, taking_fault, is_on_way, stop_fault, row_fault, told_fault, note_fault}
+use Rattle.cert_checker.specs.Notes.{Here, next_meet, handlers_meet, free_fault, takes_for_denied, taking_fault, is_on_way, stop_fault, row_fault, note_fault}
 use Rattle.cert_checker.specs.Operands.{calls, enters, leaves, writes_static, pushes_state, is_variable, has_clause, is_way_out}
-use Rattle.cert_checker.specs.Wanted.{same_site, is_stop, is_stop_at, meets, denies_site, all_meet, handlers_of}
+use Rattle.cert_checker.specs.Wanted.{same_site, is_stop_at, meets, denies_site, all_meet, handlers_of}
 
 -- ---- the notes that come next
 

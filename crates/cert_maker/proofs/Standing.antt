@@ -1,6 +1,6 @@
 -- No rule of the notes fails at an instruction of a woven method that has a frame.
-use Rattle.std.proofs.Common.{◌≡◌, ◌≢◌, ℕ, zero, suc, ◌+◌, ◌-◌, ◌<◌, ◌≤◌, pos, Bool, true, false, not, cond, List, [], ◌∷◌, length, map, Option, Some, None, refl, sym, ap, subst, ◌∙◌, inl, inr, arith}
-use Rattle.std.specs.Prelude.{◌==◌, ◌&&◌, ◌||◌, min, nat_lt, nat_le, find, is_some, slice_get, slice_index, slice_index_or, option_map, Contains, ⊤}
+use Rattle.std.proofs.Common.{◌≡◌, ℕ, zero, suc, ◌+◌, ◌-◌, ◌<◌, ◌≤◌, pos, Bool, true, false, cond, List, [], ◌∷◌, length, map, Option, Some, None, refl, sym, ap, subst, ◌∙◌, inl, inr, arith}
+use Rattle.std.specs.Prelude.{◌==◌, ◌&&◌, ◌||◌, min, nat_lt, nat_le, find, is_some, slice_get, slice_index, option_map, Contains}
 use Rattle.std.specs.List.{AllByRecursion, list_any}
 use Rattle.std.specs.Option.{option_map_or}
 use Rattle.std.proofs.lemmas.Bool.{cases_Bool, and_parts, false≢true, leb-true, ltb-true}
@@ -33,12 +33,11 @@ use Rattle.conspec_automaton.specs.Next.{has_clauses}
 use Rattle.offset_patch.specs.declared.block.BlockInsn.{BlockInsn}
 use Rattle.offset_patch.specs.declared.block.BlockInsn.TheVariants.{Plain, Byte, Call, Want}
 use Rattle.offset_patch.specs.declared.block.PoolWant.TheVariants.{StateClass, Exit}
-use Rattle.offset_patch.specs.declared.block.Origin.{Origin}
 use Rattle.offset_patch.specs.declared.block.Origin.TheVariants as origins
 use Rattle.offset_patch.specs.Splicing.{aimed, put, fronts_of, origin_of}
 use Rattle.block_template.specs.Blocks.{clause_of, store, denial, locals_used}
 use Rattle.cert_checker.specs.declared.wanted.Wanted.TheVariants as wanted
-use Rattle.cert_checker.specs.Notes.{Here, next_meet, free_fault, taking_fault, stop_fault, row_fault, note_fault}
+use Rattle.cert_checker.specs.Notes.{Here, row_fault, note_fault}
 use Rattle.cert_checker.specs.Operands.{calls, loads_constant, pushes_state, is_state_name, is_variable, has_clause}
 use Rattle.cert_checker.specs.Wanted.{covers, handlers_of}
 use Rattle.guest_model.specs.Stepping.{is_exit}
@@ -50,12 +49,12 @@ use Rattle.woven_typing.proofs.Aiming.{successors_moved}
 use Rattle.woven_typing.proofs.Blocks.{store_is}
 use Rattle.woven_typing.proofs.Body.{IsStanding, fronts, front, moved, same_length, handlers_are, fronts_are, moved_is, front_of, moved_next, moved_past, insn_there, ref_there, made_long}
 use Rattle.woven_typing.proofs.Denied.{denied}
-use Rattle.woven_typing.proofs.Parts.{part, part_alone, part_denied, before, before_next, Located, locate, denial_length}
+use Rattle.woven_typing.proofs.Parts.{part, part_alone, part_denied, before_next, Located, locate, denial_length}
 use Rattle.woven_typing.proofs.Places.{store_at, behind_at}
 use Rattle.woven_typing.proofs.Woven.{slice_there}
 use Rattle.cert_maker.specs.Noting.{block_note, called, site_of, call_note, origin_note, method_notes}
 use Rattle.cert_maker.proofs.Noted.{first_notes, taking_note, stop_0, stop_1, stop_2, stop_3, framed, note_there}
-use Rattle.cert_maker.proofs.Origins.{parts_origins, origin_at, store_of}
+use Rattle.cert_maker.proofs.Origins.{origin_at, store_of}
 use Rattle.cert_maker.proofs.Rules.{IsFreeAt, none_meet, client_passes, lock_passes, taking_passes, stop_passes, next_stops, row_at}
 use Rattle.cert_maker.proofs.Told.{method_origins}
 

@@ -1,5 +1,5 @@
 -- What weaving tells of where instructions come from, class by class: the methods with code, each with its origins.
-use Rattle.std.proofs.Common.{◌≡◌, ℕ, zero, suc, ◌+◌, ◌<◌, Bool, true, false, cond, List, [], ◌∷◌, ◌++◌, length, map, filter, Option, Some, None, Ok, refl, sym, ap, subst, ◌∙◌, append_assoc, append-nil, arith}
+use Rattle.std.proofs.Common.{◌≡◌, ℕ, ◌+◌, Bool, true, false, cond, List, [], ◌∷◌, ◌++◌, length, map, Option, Some, None, Ok, refl, sym, ap, subst, ◌∙◌, append_assoc, append-nil, arith}
 use Rattle.std.specs.Prelude.{slice_get}
 use Rattle.std.specs.List.{AllByRecursion, flat_map, enumerate_from}
 use Rattle.std.proofs.lemmas.List.{length-append}
@@ -16,12 +16,10 @@ use Rattle.bytecode_model.specs.declared.program.Target.{Target}
 use Rattle.bytecode_model.specs.Sound.{IsSoundClass, IsSoundMethod}
 use Rattle.code_typing.specs.Shape.{has_code, coded}
 use Rattle.conspec_automaton.specs.declared.policy.Policy.{Policy}
-use Rattle.offset_patch.specs.declared.block.Block.{Block}
 use Rattle.offset_patch.specs.declared.block.BlockInsn.{BlockInsn}
 use Rattle.offset_patch.specs.declared.block.BlockInsn.TheVariants.{Call}
 use Rattle.offset_patch.specs.declared.block.Origin.{Origin}
 use Rattle.offset_patch.specs.declared.fault.SpliceFault.{SpliceFault}
-use Rattle.offset_patch.specs.Fault.{Spliced}
 use Rattle.offset_patch.specs.Splicing.{grown, room, code_spliced, origin_of, part_origins, origins_of}
 use Rattle.block_template.specs.Blocks.{site}
 use Rattle.inline_release.specs.declared.code.WovenCode.{WovenCode}

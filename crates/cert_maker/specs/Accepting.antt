@@ -31,8 +31,8 @@ IsStopped old policy new typing =
     → slice_get class.methods index ≡ Some method → slice_get method.refs i ≡ Some ref → arguments_of policy ref ≡ Some args → length args + 6 ≤ k
     → k < length args + length args + 9 → reached new typing own index (slice_index (fronts_of (sites_of policy method.max_locals method)) i + k) ≡ false
 
--- Of a program that was linked: where the types of the woven program are right, and no block goes on behind its way out, the program is accepted with the
--- certificate that is made of them.
+-- Of a program that was linked: where the types of the woven program are right, and no block goes on behind its way out, the
+-- woven program is accepted with the certificate that is made of them.
 abbrev pub WovenIsAccepted : Type 0
 WovenIsAccepted =
     (files : List ClassFile) (listing : Listing) (main : List ℕ) (side : Side) (old new : Program) (policy : Policy) (made : Woven) (typing : Typing)

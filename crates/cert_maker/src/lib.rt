@@ -9,3 +9,6 @@ mod notes;
 
 pub use laws::woven_is_accepted;
 pub use making::make;
+
+#[cfg(test)]
+mod tests;

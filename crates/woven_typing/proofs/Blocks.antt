@@ -1,8 +1,7 @@
 -- The rows of a block: each of its instructions meets the rules that ask nothing of others, and goes to the next one.
-use Rattle.std.proofs.Common.{◌≡◌, ℕ, zero, suc, ◌+◌, ◌-◌, ◌<◌, ◌≤◌, pos, Bool, true, false, cond, List, [], ◌∷◌, ◌++◌, length, map, Option, Some, None, refl, sym, ap, subst, ◌∙◌, inl, inr, arith, length-append}
-use Rattle.std.specs.Prelude.{◌&&◌, nat_lt, nat_le, codes, slice_get, option_map, ⊤}
-use Rattle.std.proofs.lemmas.Bool.{cases_Bool, ltb-true, and_parts}
-use Rattle.std.proofs.lemmas.Bool.Decides.{nat_tests}
+use Rattle.std.proofs.Common.{◌≡◌, ℕ, zero, suc, ◌+◌, ◌<◌, Bool, true, false, cond, List, [], ◌∷◌, length, map, Some, refl, sym, ap, subst, ◌∙◌, arith}
+use Rattle.std.specs.Prelude.{nat_lt, nat_le, slice_get}
+use Rattle.std.proofs.lemmas.Bool.{ltb-true, and_parts}
 use Rattle.cert_format.specs.declared.typing.VType.{VType}
 use Rattle.cert_format.specs.declared.typing.VType.TheVariants as types
 use Rattle.class_codec.specs.declared.tree.Const.{Const}
@@ -18,8 +17,7 @@ use Rattle.conspec_parse.specs.declared.types.Kind.{Kind}
 use Rattle.conspec_parse.specs.declared.types.Kind.TheVariants as kinds
 use Rattle.type_lattice.specs.Assigning.{assignable}
 use Rattle.code_typing.specs.Described.{Descriptor, type_described}
-use Rattle.code_typing.specs.Wants.{Want, all_met, of_kind, to_described}
-use Rattle.offset_patch.specs.declared.block.BlockInsn.{BlockInsn}
+use Rattle.code_typing.specs.Wants.{all_met, of_kind, to_described}
 use Rattle.offset_patch.specs.declared.block.BlockInsn.TheVariants.{Plain, Local}
 use Rattle.offset_patch.specs.Splicing.{put}
 use Rattle.block_template.specs.Blocks.{local, store}

@@ -1,19 +1,13 @@
 -- A method and what is woven of it: where its instructions stand.
-use Rattle.std.proofs.Common.{◌≡◌, ◌≢◌, ℕ, zero, suc, ◌+◌, ◌-◌, ◌<◌, ◌≤◌, Bool, true, false, cond, List, [], ◌∷◌, ◌++◌, length, map, Option, Some, None, refl, sym, ap, subst, ◌∙◌, inl, inr, arith}
-use Rattle.std.specs.Prelude.{◌&&◌, ◌||◌, ◌==◌, max, nat_lt, nat_le, slice_get, slice_index, option_map}
-use Rattle.std.specs.List.{AllByRecursion, list_any}
+use Rattle.std.proofs.Common.{◌≡◌, ℕ, zero, suc, ◌+◌, ◌-◌, ◌<◌, ◌≤◌, Bool, true, false, cond, List, [], ◌∷◌, length, map, Option, Some, None, refl, sym, ap, subst, ◌∙◌, inl, inr, arith}
+use Rattle.std.specs.Prelude.{max, nat_lt, slice_get, slice_index, option_map}
 use Rattle.std.specs.Option.{option_map_or}
-use Rattle.std.proofs.lemmas.Bool.{cases_Bool, ltb-true, lt-ltb, le-leb}
+use Rattle.std.proofs.lemmas.Bool.{cases_Bool, ltb-true, lt-ltb}
 use Rattle.std.proofs.lemmas.Bool.Decides.{nat_tests}
-use Rattle.std.proofs.lemmas.Option.{slice_get_within, slice_get_past, slice_get-get_or}
+use Rattle.std.proofs.lemmas.Option.{slice_get_within}
 use Rattle.class_codec.specs.declared.tree.Const.{Const}
 use Rattle.class_codec.specs.Pool.{reference_at}
 use Rattle.insn_codec.specs.declared.insn.Insn.{Insn}
-use Rattle.insn_effect.specs.declared.shape.Heap.TheVariants as heap
-use Rattle.insn_effect.specs.declared.shape.Shape.{Shape}
-use Rattle.insn_effect.specs.declared.shape.Shape.TheVariants as shapes
-use Rattle.insn_effect.specs.Shapes.{shape_of}
-use Rattle.bytecode_model.specs.declared.program.Handler.{Handler}
 use Rattle.bytecode_model.specs.declared.program.LinkedClass.{LinkedClass}
 use Rattle.bytecode_model.specs.declared.program.Method.{Method}
 use Rattle.bytecode_model.specs.declared.program.Program.{Program}
@@ -26,19 +20,14 @@ use Rattle.conspec_automaton.specs.declared.policy.Clause.{Clause}
 use Rattle.conspec_automaton.specs.declared.policy.Policy.{Policy}
 use Rattle.offset_patch.specs.declared.block.Block.{Block}
 use Rattle.offset_patch.specs.declared.block.BlockInsn.{BlockInsn}
-use Rattle.offset_patch.specs.declared.block.BlockInsn.TheVariants.{Call}
-use Rattle.offset_patch.specs.Splicing.{fronts_from, fronts_of, aimed, put, parts_from, spliced, operands_needed}
-use Rattle.block_template.specs.Blocks.{clause_of, site, has_block, site_locals, locals_used}
+use Rattle.offset_patch.specs.Splicing.{fronts_of, put, parts_from, spliced, operands_needed}
+use Rattle.block_template.specs.Blocks.{clause_of, site_locals}
 use Rattle.inline_release.specs.Outcome.{at_fronts, part_named, parts_named, IsWovenMethod, IsWovenClass}
 use Rattle.inline_release.specs.Woven.{is_woven, sites_of, most_locals, locals_of}
-use Rattle.code_typing.specs.Makes.{made_by, new_in, new_at}
-use Rattle.code_typing.specs.Place.{class_of}
 use Rattle.woven_typing.specs.Calls.{IsRightOperand}
-use Rattle.woven_typing.specs.Framing.{arguments_of, moved_by, moved_in, TellsArguments}
-use Rattle.woven_typing.proofs.Aiming.{HasShape, has_shape}
-use Rattle.woven_typing.proofs.Kept.{retargeted}
+use Rattle.woven_typing.specs.Framing.{arguments_of, moved_in, TellsArguments}
 use Rattle.woven_typing.proofs.Larger.{IsLarger}
-use Rattle.woven_typing.proofs.Parts.{some_is, part, part_alone, part_denied, part_some, before, total, front_is, before_end, before_next, before_grows, Located, locate, named_at, insn_at, insns_many, denial_length}
+use Rattle.woven_typing.proofs.Parts.{some_is, part, part_some, before, total, front_is, before_end, before_grows, named_at, insn_at, insns_many}
 use Rattle.woven_typing.proofs.Unwoven.{AreAlone, all_alone, insns_alone, named_alone, handlers_same, front_alone}
 
 -- A method and what is woven of it, whose blocks name constants of the pool.

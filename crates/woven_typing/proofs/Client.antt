@@ -1,11 +1,10 @@
 -- The frames of a woven method, and the rows of the client's instructions and handlers.
-use Rattle.std.proofs.Common.{◌≡◌, ℕ, zero, suc, ◌+◌, ◌-◌, ◌<◌, ◌≤◌, Bool, true, false, cond, List, [], ◌∷◌, ◌++◌, length, map, Option, Some, None, refl, sym, ap, subst, ◌∙◌, inl, inr, arith}
+use Rattle.std.proofs.Common.{◌≡◌, ℕ, suc, ◌+◌, ◌<◌, ◌≤◌, Bool, true, false, cond, List, [], ◌∷◌, length, map, Option, Some, None, refl, sym, ap, subst, ◌∙◌, inl, inr, arith}
 use Rattle.std.specs.Prelude.{◌&&◌, ◌||◌, ◌==◌, not, nat_lt, nat_le, slice_get, slice_index, option_map, option_and_then}
-use Rattle.std.specs.List.{AllByRecursion, list_all}
+use Rattle.std.specs.List.{list_all}
 use Rattle.std.specs.Option.{option_map_or}
-use Rattle.std.proofs.lemmas.Bool.{cases_Bool, ltb-true, leb-true, le-leb, lt-ltb, eqb-true, ne_eqb, and_parts, and_from}
+use Rattle.std.proofs.lemmas.Bool.{cases_Bool, ltb-true, leb-true, le-leb, eqb-true, and_parts}
 use Rattle.std.proofs.lemmas.Bool.Decides.{nat_tests}
-use Rattle.std.proofs.lemmas.List.{length-map}
 use Rattle.std.proofs.lemmas.Option.{slice_get_within, slice_get-map}
 use Rattle.api_listing.specs.BuiltIn.{throwable}
 use Rattle.class_codec.specs.Pool.{reference_at}
@@ -20,29 +19,26 @@ use Rattle.bytecode_model.specs.declared.program.Method.{Method}
 use Rattle.bytecode_model.specs.declared.program.Program.{Program}
 use Rattle.bytecode_model.specs.declared.program.Target.{Target}
 use Rattle.bytecode_model.specs.Classes.{is_below}
-use Rattle.bytecode_model.specs.Operands.{index_of}
 use Rattle.bytecode_model.specs.Sound.{IsWithin}
 use Rattle.conspec_parse.specs.declared.types.Kind.{Kind}
 use Rattle.conspec_automaton.specs.declared.policy.Policy.{Policy}
-use Rattle.code_typing.specs.Makes.{stack_after, local_after}
+use Rattle.code_typing.specs.Makes.{stack_after}
 use Rattle.code_typing.specs.Place.{Place, target_or_none}
-use Rattle.code_typing.specs.Rules.{Frames, frame_of, stack_fits, locals_fit, taken, goes_well, catches_well, covers, class_caught, local_caught, is_alone, is_handled, entry_locals, Entry, Depth, Successor, Caught, row_failing}
+use Rattle.code_typing.specs.Rules.{Frames, frame_of, stack_fits, locals_fit, goes_well, catches_well, covers, class_caught, local_caught, is_alone, is_handled, Entry, Successor, Caught, row_failing}
 use Rattle.code_typing.specs.Typed.{row_in, place_at}
 use Rattle.code_typing.specs.Wants.{takes}
-use Rattle.offset_patch.specs.declared.block.BlockInsn.{BlockInsn}
-use Rattle.offset_patch.specs.declared.block.BlockInsn.TheVariants.{Call}
 use Rattle.offset_patch.specs.Splicing.{aimed}
 use Rattle.inline_release.specs.Outcome.{at_fronts}
-use Rattle.woven_typing.specs.Framing.{arguments_of, moved_in, without, block_framed, part_framed, if_low, low, frames_woven}
+use Rattle.woven_typing.specs.Framing.{arguments_of, moved_in, without, part_framed, low, frames_woven}
 use Rattle.woven_typing.specs.Renaming.{renamed, frame_renamed}
 use Rattle.woven_typing.proofs.Aiming.{has_shape, opcode_stays, index_stays, successors_moved}
-use Rattle.woven_typing.proofs.Body.{IsWovenBody, fronts, front, same_length, handlers_are, stack_more, locals_more, fronts_are, moved_is, front_of, moved_next, moved_once, insn_there, ref_there}
+use Rattle.woven_typing.proofs.Body.{IsWovenBody, fronts, same_length, handlers_are, stack_more, locals_more, fronts_are, moved_is, front_of, moved_next, moved_once}
 use Rattle.woven_typing.proofs.Kept.{IsKept, and_kept}
 use Rattle.woven_typing.proofs.Larger.{assigns_kept, below_kept}
-use Rattle.woven_typing.proofs.Parts.{part, part_alone, part_some, before, before_grows, before_next, frame_at}
-use Rattle.woven_typing.proofs.Passing.{Passes, passes, row_met, all_also}
+use Rattle.woven_typing.proofs.Parts.{part, part_some, before, before_grows, before_next, frame_at}
+use Rattle.woven_typing.proofs.Passing.{Passes, passes, all_also}
 use Rattle.woven_typing.proofs.Places.{stored_at}
-use Rattle.woven_typing.proofs.Rows.{again, depth_kept, operand_kept, local_kept, made_kept, goes_kept, catches_kept, entry_kept, le_more}
+use Rattle.woven_typing.proofs.Rows.{depth_kept, operand_kept, local_kept, made_kept, goes_kept, catches_kept, entry_kept, le_more}
 use Rattle.woven_typing.proofs.Stacks.{below_none}
 use Rattle.woven_typing.proofs.Woven.{slice_there, all_get, frame_is, news}
 

@@ -1,22 +1,18 @@
 -- The rows of a block, and of all instructions of a woven method.
-use Rattle.std.proofs.Common.{◌≡◌, ℕ, zero, suc, ◌+◌, ◌-◌, ◌<◌, ◌≤◌, pos, Bool, true, false, cond, List, [], ◌∷◌, ◌++◌, length, map, drop, Option, Some, None, refl, sym, ap, subst, ◌∙◌, inl, inr, arith}
-use Rattle.std.specs.Prelude.{◌&&◌, ◌==◌, not, codes, nat_lt, nat_le, slice_get, option_map}
+use Rattle.std.proofs.Common.{◌≡◌, ℕ, zero, suc, ◌+◌, ◌-◌, ◌<◌, ◌≤◌, pos, Bool, true, false, cond, List, [], ◌∷◌, length, map, drop, Option, Some, None, refl, sym, ap, subst, ◌∙◌, inl, inr, arith}
+use Rattle.std.specs.Prelude.{◌&&◌, ◌==◌, codes, nat_lt, nat_le, slice_get, option_map}
 use Rattle.std.specs.List.{list_all}
 use Rattle.std.specs.Option.{option_map_or}
-use Rattle.std.proofs.lemmas.Bool.{cases_Bool, ltb-true, leb-true, eqb-true, eq-eqb, ne_eqb, and_parts}
+use Rattle.std.proofs.lemmas.Bool.{cases_Bool, ltb-true, leb-true, eqb-true, ne_eqb, and_parts}
 use Rattle.std.proofs.lemmas.Bool.Decides.{nat_tests}
 use Rattle.std.proofs.lemmas.List.{length-map, length-take-le}
-use Rattle.std.proofs.lemmas.Option.{slice_get_within, slice_get_past, slice_get-map}
-use Rattle.api_listing.specs.declared.types.ListedMethod.{ListedMethod}
+use Rattle.std.proofs.lemmas.Option.{slice_get_within, slice_get-map}
 use Rattle.cert_format.specs.declared.typing.FrameType.{FrameType}
 use Rattle.cert_format.specs.declared.typing.VType.{VType}
 use Rattle.cert_format.specs.declared.typing.VType.TheVariants as types
 use Rattle.insn_codec.specs.declared.insn.Insn.{Insn}
 use Rattle.insn_codec.specs.declared.insn.Insn.TheVariants as insns
 use Rattle.insn_codec.specs.Opcodes.{opcode_at}
-use Rattle.insn_effect.specs.declared.shape.Heap.TheVariants as heap
-use Rattle.insn_effect.specs.declared.shape.Shape.{Shape}
-use Rattle.insn_effect.specs.declared.shape.Shape.TheVariants as shapes
 use Rattle.insn_effect.specs.Control.{successors}
 use Rattle.bytecode_model.specs.declared.program.LinkedClass.{LinkedClass}
 use Rattle.bytecode_model.specs.declared.program.Method.{Method}
@@ -27,25 +23,25 @@ use Rattle.conspec_parse.specs.declared.types.Kind.{Kind}
 use Rattle.conspec_automaton.specs.declared.policy.Clause.{Clause}
 use Rattle.conspec_automaton.specs.declared.policy.Policy.{Policy}
 use Rattle.code_typing.specs.Described.{Descriptor, arguments}
-use Rattle.code_typing.specs.Makes.{topmost, below}
+use Rattle.code_typing.specs.Makes.{topmost}
 use Rattle.code_typing.specs.Place.{Place, desc_referred, calls_static}
-use Rattle.code_typing.specs.Rules.{Frames, frame_of, taken, goes_well, Entry, Operand, Successor, row_failing}
+use Rattle.code_typing.specs.Rules.{Frames, frame_of, taken, goes_well, Entry, Successor}
 use Rattle.code_typing.specs.Typed.{row_in, place_at}
 use Rattle.code_typing.specs.Wants.{Want, takes, takes_of, call_takes, to_arguments, to_described, to_receiver, all_met, of_kind, returns_well}
 use Rattle.offset_patch.specs.Entries.{state_name, place_in}
 use Rattle.offset_patch.specs.declared.block.BlockInsn.{BlockInsn}
-use Rattle.offset_patch.specs.declared.block.BlockInsn.TheVariants.{Plain, Byte, Want as Wanted, Call}
+use Rattle.offset_patch.specs.declared.block.BlockInsn.TheVariants.{Plain, Byte, Want as Wanted}
 use Rattle.offset_patch.specs.declared.block.PoolWant.TheVariants.{StateClass, Exit}
 use Rattle.offset_patch.specs.Splicing.{aimed, put}
 use Rattle.block_template.specs.Blocks.{store, denial, clause_of}
 use Rattle.inline_release.specs.Outcome.{part_named, way_out_index}
-use Rattle.woven_typing.specs.Calls.{IsRightOperand, IsListedCall, desc_told}
-use Rattle.woven_typing.specs.Framing.{arguments_of, without, with, block_framed, part_framed, low, AreOfKinds}
+use Rattle.woven_typing.specs.Calls.{IsListedCall}
+use Rattle.woven_typing.specs.Framing.{arguments_of, without, with, block_framed, part_framed, AreOfKinds}
 use Rattle.woven_typing.specs.Renaming.{renamed, frame_renamed}
-use Rattle.woven_typing.proofs.Blocks.{held, IsStore, store_is, AreHeld, HeldAt, all_held, held_at}
-use Rattle.woven_typing.proofs.Body.{IsWovenBody, same_length, stack_more, stack_three, slots, woven_at, moved_is, insn_there, ref_there, made_long, least}
-use Rattle.woven_typing.proofs.Client.{b0, count, fr, mv, fs, woven, client, here, row_here, row_of, at_front, renewed, renewed_low, frame_in, g, caught_kept, entry_there, client_row}
-use Rattle.woven_typing.proofs.Parts.{part, part_alone, part_denied, before_grows, Located, locate, denial_length, some_is}
+use Rattle.woven_typing.proofs.Blocks.{held, store_is, all_held, held_at}
+use Rattle.woven_typing.proofs.Body.{IsWovenBody, stack_three, slots, woven_at, moved_is, insn_there, ref_there}
+use Rattle.woven_typing.proofs.Client.{fr, mv, fs, woven, here, row_here, at_front, renewed_low, frame_in, caught_kept, entry_there}
+use Rattle.woven_typing.proofs.Parts.{part, part_denied, denial_length, some_is}
 use Rattle.woven_typing.proofs.Passing.{Passes, row_met}
 use Rattle.woven_typing.proofs.Places.{store_at, behind_at, stored_at, framed_at, unreached_at}
 use Rattle.woven_typing.proofs.Stacks.{below_none}

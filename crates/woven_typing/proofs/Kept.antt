@@ -1,6 +1,6 @@
 -- An instruction that stands elsewhere: what stays of its place.
-use Rattle.std.proofs.Common.{◌≡◌, ℕ, ◌≤◌, Bool, true, false, cond, List, [], ◌∷◌, map, Option, Some, None, refl, sym, ap, ◌∙◌}
-use Rattle.std.specs.Prelude.{◌&&◌, ◌||◌, ◌==◌, bytes_eq, slice_get, option_map}
+use Rattle.std.proofs.Common.{◌≡◌, ℕ, ◌≤◌, Bool, true, false, cond, List, [], ◌∷◌, map, Option, Some, None, refl, ap, ◌∙◌}
+use Rattle.std.specs.Prelude.{◌&&◌, ◌||◌, ◌==◌, slice_get, option_map}
 use Rattle.std.specs.Option.{option_map_or}
 use Rattle.std.proofs.lemmas.Option.{slice_get-map}
 use Rattle.mon_base.specs.declared.method.MethodId.{MethodId}
@@ -13,7 +13,7 @@ use Rattle.insn_effect.specs.Shapes.{shape_of}
 use Rattle.type_lattice.specs.Assigning.{assignable}
 use Rattle.code_typing.specs.Described.{type_described}
 use Rattle.code_typing.specs.Makes.{type_at, new_at}
-use Rattle.code_typing.specs.Place.{Place, referred, class_referred, name_referred, desc_referred, calls_static, calls_maker}
+use Rattle.code_typing.specs.Place.{Place, referred, class_referred, name_referred, desc_referred, calls_static}
 use Rattle.woven_typing.specs.Renaming.{renamed}
 
 -- ---- shapes

@@ -26,7 +26,6 @@ use Rattle.insn_effect.specs.declared.shape.Heap.TheVariants as heap
 use Rattle.insn_effect.specs.declared.shape.Shape.TheVariants as shapes
 use Rattle.insn_effect.specs.Shapes.{shape_of, pool_shape}
 use Rattle.api_listing.specs.declared.descriptor.FieldType.{FieldType}
-use Rattle.api_listing.specs.declared.types.ListedMethod.{ListedMethod}
 use Rattle.api_listing.specs.declared.types.Listing.{Listing}
 use Rattle.api_listing.specs.Descriptor.{method_type, whole_type}
 use Rattle.api_listing.specs.Fault.{Read}

@@ -1,8 +1,7 @@
 -- A row that does not fail: each of its rules is met.
-use Rattle.std.proofs.Common.{◌≡◌, ℕ, Bool, true, false, cond, List, [], ◌∷◌, map, Option, Some, None, refl, sym, ap, ◌∙◌}
+use Rattle.std.proofs.Common.{◌≡◌, ℕ, Bool, true, false, cond, List, [], ◌∷◌, map, Option, Some, None, refl, ◌∙◌}
 use Rattle.std.specs.Prelude.{◌&&◌, ◌==◌, not}
 use Rattle.std.specs.List.{AllByRecursion, list_all}
-use Rattle.std.proofs.lemmas.Bool.{eq-eqb, and_parts}
 use Rattle.cert_format.specs.declared.typing.FrameType.{FrameType}
 use Rattle.code_typing.specs.Place.{Place}
 use Rattle.code_typing.specs.Rules.{Frames, Entry, Depth, Operand, Local, Made, Successor, Caught, rule_failing, row_failing}

@@ -1,5 +1,5 @@
 -- What stands at each place of a block, and the frame there.
-use Rattle.std.proofs.Common.{◌≡◌, ℕ, zero, suc, ◌+◌, ◌-◌, ◌<◌, ◌≤◌, pos, Bool, true, false, List, [], ◌∷◌, ◌++◌, length, get_or, map, replicate, Option, Some, None, refl, sym, ap, subst, ◌∙◌, inl, inr, arith, length-append}
+use Rattle.std.proofs.Common.{◌≡◌, ℕ, zero, suc, ◌+◌, ◌-◌, ◌<◌, ◌≤◌, List, [], ◌∷◌, ◌++◌, length, map, replicate, Option, Some, None, refl, ap, ◌∙◌, inl, inr, arith}
 use Rattle.std.specs.Prelude.{slice_get, nat_lt}
 use Rattle.std.specs.List.{range_with_len}
 use Rattle.std.proofs.lemmas.Bool.{cases_Bool, ltb-true}
@@ -10,8 +10,7 @@ use Rattle.cert_format.specs.declared.typing.FrameType.{FrameType}
 use Rattle.conspec_parse.specs.declared.types.Kind.{Kind}
 use Rattle.code_typing.specs.Rules.{Frames}
 use Rattle.offset_patch.specs.declared.block.BlockInsn.{BlockInsn}
-use Rattle.offset_patch.specs.declared.block.BlockInsn.TheVariants.{Plain, Byte, Want, Call}
-use Rattle.offset_patch.specs.declared.block.PoolWant.TheVariants.{StateClass, Exit}
+use Rattle.offset_patch.specs.declared.block.BlockInsn.TheVariants.{Call}
 use Rattle.block_template.specs.Blocks.{store, save, loads, lock, stop, unlock, denial}
 use Rattle.woven_typing.specs.Framing.{without, stopping, block_framed}
 use Rattle.woven_typing.proofs.Parts.{get_left, get_right, saved_length}

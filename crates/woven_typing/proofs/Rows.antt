@@ -1,14 +1,12 @@
 -- The rules that an instruction meets it meets elsewhere.
-use Rattle.std.proofs.Common.{◌≡◌, ℕ, zero, suc, ◌+◌, ◌≤◌, Bool, true, false, cond, List, [], ◌∷◌, length, map, Option, Some, None, refl, sym, ap, subst, ◌∙◌, inl, inr, arith}
-use Rattle.std.specs.Prelude.{◌&&◌, ◌||◌, ◌==◌, not, nat_le, nat_lt, bytes_eq, option_map}
-use Rattle.std.specs.List.{list_any}
+use Rattle.std.proofs.Common.{◌≡◌, ℕ, suc, ◌+◌, ◌≤◌, Bool, true, false, cond, List, [], ◌∷◌, length, map, Option, refl, sym, ap, ◌∙◌, arith}
+use Rattle.std.specs.Prelude.{◌&&◌, ◌==◌, not, nat_le, nat_lt, bytes_eq}
 use Rattle.std.specs.Option.{option_map_or}
 use Rattle.std.proofs.lemmas.List.{length-map}
 use Rattle.std.proofs.lemmas.Bool.Decides.{nat_tests}
 use Rattle.cert_format.specs.declared.typing.FrameType.{FrameType}
 use Rattle.cert_format.specs.declared.typing.VType.{VType}
 use Rattle.cert_format.specs.declared.typing.VType.TheVariants as types
-use Rattle.insn_effect.specs.declared.shape.Heap.{Heap}
 use Rattle.insn_effect.specs.declared.shape.Heap.TheVariants as heap
 use Rattle.insn_effect.specs.declared.shape.Kind.{Kind}
 use Rattle.insn_effect.specs.declared.shape.Kind.TheVariants as kinds
@@ -16,18 +14,16 @@ use Rattle.insn_effect.specs.declared.shape.Shape.{Shape}
 use Rattle.insn_effect.specs.declared.shape.Shape.TheVariants as shapes
 use Rattle.insn_effect.specs.Shapes.{shape_of}
 use Rattle.bytecode_model.specs.declared.program.Handler.{Handler}
-use Rattle.bytecode_model.specs.declared.program.Method.{Method}
-use Rattle.bytecode_model.specs.declared.program.Program.{Program}
 use Rattle.api_listing.specs.BuiltIn.{throwable}
 use Rattle.bytecode_model.specs.Heads.{is_static, maker}
 use Rattle.type_lattice.specs.Assigning.{assignable}
 use Rattle.code_typing.specs.Described.{type_described, result_type, arguments}
-use Rattle.code_typing.specs.Makes.{type_at, class_made, is_same_object, local_after, stack_after}
-use Rattle.code_typing.specs.Place.{Place, is_maker, calls_maker, calls_static}
+use Rattle.code_typing.specs.Makes.{type_at, class_made, local_after, stack_after}
+use Rattle.code_typing.specs.Place.{Place, is_maker}
 use Rattle.code_typing.specs.Rules.{locals_fit, stack_fits, this_type, arguments_typed, entry_locals, Entry, Depth, taken, Operand, uses_local, Local, has_object, makes_receiver, leaves_made, made_well, Made, goes_well, class_caught, when_thrown, local_caught, is_reference_to, is_alone, catches_well}
 use Rattle.code_typing.specs.Wants.{Want, takes, all_met, of_kind, is_result_of, returns_well}
 use Rattle.woven_typing.specs.Renaming.{renamed, frame_renamed}
-use Rattle.woven_typing.proofs.Kept.{IsKept, retargeted, same_static, described_all_stay, type_renamed, and_kept, or_kept}
+use Rattle.woven_typing.proofs.Kept.{IsKept, retargeted, same_static, described_all_stay, type_renamed, and_kept}
 use Rattle.woven_typing.proofs.Taking.{WantsKept, wants_met, kind, same_maker, takes_kept}
 use Rattle.woven_typing.proofs.Yielding.{same_object, made_same, local_left, stack_left, topmost_renamed}
 

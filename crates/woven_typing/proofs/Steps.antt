@@ -1,6 +1,6 @@
 -- What an instruction of a block does: it takes and pushes operands, and leaves the rest as it is.
-use Rattle.std.proofs.Common.{◌≡◌, ℕ, zero, suc, ◌+◌, ◌-◌, ◌<◌, ◌≤◌, ℤ, pos, Bool, true, false, cond, List, [], ◌∷◌, ◌++◌, length, take, drop, map, Option, Some, None, refl, sym, ap, subst, ◌∙◌, append-nil, arith, length-append}
-use Rattle.std.specs.Prelude.{◌&&◌, ◌||◌, ◌==◌, bytes_eq, nat_le, nat_lt, codes, slice_get}
+use Rattle.std.proofs.Common.{◌≡◌, ℕ, ◌+◌, ◌-◌, ◌<◌, ◌≤◌, ℤ, Bool, true, false, cond, List, [], ◌∷◌, ◌++◌, length, take, map, Option, Some, refl, ap, ◌∙◌, append-nil, arith, length-append}
+use Rattle.std.specs.Prelude.{◌==◌, bytes_eq, nat_le, codes, slice_get}
 use Rattle.std.specs.Option.{option_map_or}
 use Rattle.std.proofs.lemmas.Bool.{le-leb, lt-ltb, and_from, ne_eqb}
 use Rattle.std.proofs.lemmas.List.{length-take-le}

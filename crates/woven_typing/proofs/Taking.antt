@@ -1,6 +1,6 @@
 -- What an instruction takes is what it takes elsewhere.
 use Rattle.std.proofs.Common.{◌≡◌, ℕ, zero, suc, Bool, true, false, cond, List, [], ◌∷◌, map, replicate, Option, Some, None, refl, sym, ap, subst, ◌∙◌}
-use Rattle.std.specs.Prelude.{◌&&◌, ◌||◌, bytes_eq, codes, ⊤}
+use Rattle.std.specs.Prelude.{bytes_eq, codes, ⊤}
 use Rattle.std.specs.Option.{option_map_or}
 use Rattle.api_listing.specs.BuiltIn.{object, throwable}
 use Rattle.cert_format.specs.declared.typing.VType.{VType}
@@ -18,7 +18,7 @@ use Rattle.insn_effect.specs.Forms.{depth_of}
 use Rattle.insn_effect.specs.Shapes.{shape_of}
 use Rattle.type_lattice.specs.Assigning.{assignable}
 use Rattle.code_typing.specs.Described.{type_described, result_type, result_text, arguments}
-use Rattle.code_typing.specs.Place.{Place, class_referred, name_referred, desc_referred, calls_static, calls_maker, is_own_field}
+use Rattle.code_typing.specs.Place.{Place, class_referred, desc_referred, calls_static, calls_maker, is_own_field}
 use Rattle.code_typing.specs.Wants.{Want, anything, is_number, is_reference, is_made, is_array_type, is_this, of_kind, to_type, to_class, to_array, to_item, to_written, to_receiver, to_described, to_arguments, to_result, call_takes, heap_takes, takes_of, takes, all_met}
 use Rattle.woven_typing.specs.Renaming.{renamed}
 use Rattle.woven_typing.proofs.Kept.{IsKept, retargeted, same_class, same_name, same_desc, same_static, described_stays, or_kept, and_kept}

@@ -1,6 +1,6 @@
 -- A method without a block: each part is the instruction alone.
-use Rattle.std.proofs.Common.{◌≡◌, ℕ, zero, suc, ◌+◌, ◌<◌, ◌≤◌, Bool, true, false, cond, List, [], ◌∷◌, ◌++◌, length, map, Option, Some, None, refl, sym, ap, subst, ◌∙◌, arith}
-use Rattle.std.specs.Prelude.{◌||◌, ◌==◌, slice_index, slice_get, find, ⊤}
+use Rattle.std.proofs.Common.{◌≡◌, ℕ, zero, suc, ◌+◌, ◌<◌, ◌≤◌, Bool, true, false, List, [], ◌∷◌, ◌++◌, length, map, None, refl, ap, ◌∙◌, arith}
+use Rattle.std.specs.Prelude.{◌||◌, ◌==◌, slice_index, find}
 use Rattle.std.specs.List.{AllByRecursion, list_any}
 use Rattle.class_codec.specs.declared.tree.Const.{Const}
 use Rattle.insn_codec.specs.declared.insn.Insn.{Insn}
@@ -10,13 +10,11 @@ use Rattle.bytecode_model.specs.declared.program.Handler.{Handler}
 use Rattle.bytecode_model.specs.declared.program.Target.{Target}
 use Rattle.bytecode_model.specs.declared.program.Target.TheVariants as target
 use Rattle.bytecode_model.specs.Sound.{IsWithin}
-use Rattle.conspec_parse.specs.declared.types.Kind.{Kind}
 use Rattle.conspec_automaton.specs.declared.policy.Clause.{Clause}
 use Rattle.conspec_automaton.specs.declared.policy.Policy.{Policy}
 use Rattle.offset_patch.specs.declared.block.BlockInsn.{BlockInsn}
-use Rattle.offset_patch.specs.declared.block.BlockInsn.TheVariants.{Call}
-use Rattle.offset_patch.specs.Splicing.{part_of, fronts_from, fronts_of, aimed, put, parts_from}
-use Rattle.block_template.specs.Blocks.{clause_of, has_block, site}
+use Rattle.offset_patch.specs.Splicing.{fronts_of, aimed, put, parts_from}
+use Rattle.block_template.specs.Blocks.{has_block, site}
 use Rattle.inline_release.specs.Outcome.{at_fronts, part_named, parts_named}
 use Rattle.woven_typing.specs.Framing.{arguments_of}
 use Rattle.woven_typing.proofs.Parts.{part, part_alone, before, front_is}

@@ -1,10 +1,9 @@
 -- All rows of a woven method.
-use Rattle.std.proofs.Common.{◌≡◌, ℕ, zero, suc, ◌+◌, ◌<◌, ◌≤◌, Bool, true, false, cond, List, [], ◌∷◌, length, map, Option, Some, None, refl, sym, ap, subst, ◌∙◌, inl, inr, arith}
-use Rattle.std.specs.Prelude.{◌&&◌, ◌==◌, nat_le, nat_lt, replicate, slice_get, option_map, option_and_then}
+use Rattle.std.proofs.Common.{◌≡◌, ℕ, zero, suc, ◌+◌, ◌<◌, ◌≤◌, Bool, true, false, cond, List, length, Option, Some, None, refl, sym, ap, subst, ◌∙◌, inl, inr, arith}
+use Rattle.std.specs.Prelude.{◌==◌, nat_le, replicate, slice_get, option_map, option_and_then}
 use Rattle.std.specs.Option.{option_map_or}
-use Rattle.std.proofs.lemmas.Bool.{cases_Bool, cases_eq, leb-true, le-leb, ltb-true, eqb-true, eq-eqb, ne_eqb, and_parts}
-use Rattle.std.proofs.lemmas.Bool.Decides.{nat_tests}
-use Rattle.std.proofs.lemmas.Option.{slice_get_within, slice_get_past}
+use Rattle.std.proofs.lemmas.Bool.{cases_Bool, leb-true, le-leb, eqb-true, eq-eqb, ne_eqb, and_parts}
+use Rattle.std.proofs.lemmas.Option.{slice_get_within}
 use Rattle.cert_format.specs.declared.typing.FrameType.{FrameType}
 use Rattle.insn_codec.specs.declared.insn.Insn.{Insn}
 use Rattle.bytecode_model.specs.declared.program.LinkedClass.{LinkedClass}
@@ -20,14 +19,14 @@ use Rattle.offset_patch.specs.declared.block.BlockInsn.{BlockInsn}
 use Rattle.offset_patch.specs.declared.block.BlockInsn.TheVariants.{Call}
 use Rattle.offset_patch.specs.Splicing.{aimed, put}
 use Rattle.inline_release.specs.Outcome.{part_named}
-use Rattle.woven_typing.specs.Framing.{arguments_of, part_framed, low}
+use Rattle.woven_typing.specs.Framing.{arguments_of, part_framed}
 use Rattle.woven_typing.specs.Renaming.{frame_renamed}
 use Rattle.woven_typing.proofs.Body.{IsWovenBody, same_length, moved_is, insn_there, ref_there, made_long, least}
 use Rattle.woven_typing.proofs.Client.{fr, mv, fs, woven, here, row_here, row_of, renewed, renewed_low, frame_in, client_row}
 use Rattle.woven_typing.proofs.Denied.{block_row}
-use Rattle.woven_typing.proofs.Parts.{part, part_alone, part_denied, Located, locate, denial_length, some_is}
+use Rattle.woven_typing.proofs.Parts.{part, part_alone, part_denied, locate, denial_length}
 use Rattle.woven_typing.proofs.Passing.{Passes, row_met}
-use Rattle.woven_typing.proofs.Woven.{slice_there, frame_is}
+use Rattle.woven_typing.proofs.Woven.{slice_there}
 
 module _ (policy : Policy) (old new : Program) (own : ℕ) (class other : LinkedClass) (method made : Method) (body : IsWovenBody policy old new class other method made)
     (frames : Frames) (told : length frames ≡ length method.insns) (met : (at : ℕ) → at < length method.insns → row_in old own class method frames at ≡ None) where

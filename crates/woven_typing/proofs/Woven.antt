@@ -1,57 +1,39 @@
 -- The rows of a woven method: the client's instructions where they stand, and the blocks.
-use Rattle.std.proofs.Common.{◌≡◌, ℕ, zero, suc, ◌+◌, ◌-◌, ◌<◌, ◌≤◌, Bool, true, false, cond, List, [], ◌∷◌, ◌++◌, length, map, Option, Some, None, refl, sym, ap, subst, ◌∙◌, inl, inr, arith}
-use Rattle.std.specs.Prelude.{◌&&◌, ◌||◌, ◌==◌, not, nat_lt, nat_le, slice_get, slice_index, option_map}
-use Rattle.std.specs.List.{AllByRecursion, list_all}
-use Rattle.std.specs.Option.{option_map_or}
-use Rattle.std.proofs.lemmas.Bool.{cases_Bool, ltb-true, leb-true, le-leb, lt-ltb, eqb-true, and_parts, and_from}
+use Rattle.std.proofs.Common.{◌≡◌, ℕ, zero, suc, ◌+◌, ◌-◌, ◌<◌, ◌≤◌, List, [], ◌∷◌, length, Option, Some, None, refl, sym, ap, subst, ◌∙◌, inl, inr, arith}
+use Rattle.std.specs.Prelude.{nat_lt, slice_get}
+use Rattle.std.specs.List.{AllByRecursion}
+use Rattle.std.proofs.lemmas.Bool.{cases_Bool, ltb-true}
 use Rattle.std.proofs.lemmas.Bool.Decides.{nat_tests}
-use Rattle.std.proofs.lemmas.List.{length-map}
-use Rattle.std.proofs.lemmas.Option.{slice_get_within, slice_get_past, slice_get-map}
-use Rattle.api_listing.specs.BuiltIn.{throwable}
+use Rattle.std.proofs.lemmas.Option.{slice_get_past}
 use Rattle.cert_format.specs.declared.typing.FrameType.{FrameType}
-use Rattle.cert_format.specs.declared.typing.VType.{VType}
-use Rattle.class_codec.specs.declared.tree.Const.{Const}
 use Rattle.insn_codec.specs.declared.insn.Insn.{Insn}
-use Rattle.insn_codec.specs.declared.insn.Insn.TheVariants as insns
-use Rattle.insn_codec.specs.Fits.{AimsWithin}
 use Rattle.insn_effect.specs.declared.shape.Heap.TheVariants as heap
 use Rattle.insn_effect.specs.declared.shape.Shape.{Shape}
 use Rattle.insn_effect.specs.declared.shape.Shape.TheVariants as shapes
-use Rattle.insn_effect.specs.Control.{successors}
 use Rattle.insn_effect.specs.Shapes.{shape_of}
-use Rattle.bytecode_model.specs.declared.program.Handler.{Handler}
 use Rattle.bytecode_model.specs.declared.program.LinkedClass.{LinkedClass}
 use Rattle.bytecode_model.specs.declared.program.Method.{Method}
 use Rattle.bytecode_model.specs.declared.program.Program.{Program}
 use Rattle.bytecode_model.specs.declared.program.Target.{Target}
 use Rattle.bytecode_model.specs.declared.program.Target.TheVariants as target
-use Rattle.bytecode_model.specs.Classes.{is_below}
-use Rattle.bytecode_model.specs.Sound.{IsWithin}
 use Rattle.conspec_parse.specs.declared.types.Kind.{Kind}
 use Rattle.conspec_automaton.specs.declared.policy.Policy.{Policy}
-use Rattle.code_typing.specs.Makes.{made_by, new_in, new_at, stack_after}
-use Rattle.code_typing.specs.Place.{Place, class_of, target_or_none}
-use Rattle.code_typing.specs.Rules.{Frames, frame_of, stack_fits, locals_fit, goes_well, catches_well, covers, class_caught, is_alone, is_handled, Entry, Depth, Successor, Caught, row_failing}
-use Rattle.code_typing.specs.Typed.{row_in, place_at}
-use Rattle.code_typing.specs.Wants.{takes}
+use Rattle.code_typing.specs.Makes.{made_by, new_in, new_at}
+use Rattle.code_typing.specs.Place.{class_of}
+use Rattle.code_typing.specs.Rules.{Frames, frame_of}
 use Rattle.offset_patch.specs.declared.block.BlockInsn.{BlockInsn}
 use Rattle.offset_patch.specs.declared.block.BlockInsn.TheVariants.{Want, Call}
 use Rattle.offset_patch.specs.declared.block.PoolWant.TheVariants.{StateClass}
 use Rattle.offset_patch.specs.Splicing.{aimed, put}
 use Rattle.block_template.specs.Blocks.{store, denial}
-use Rattle.inline_release.specs.Outcome.{at_fronts, part_named}
-use Rattle.woven_typing.specs.Framing.{arguments_of, moved_in, without, block_framed, part_framed, parts_framed, if_low, low, frames_woven}
-use Rattle.woven_typing.specs.Renaming.{renamed, frame_renamed}
-use Rattle.woven_typing.proofs.Aiming.{HasShape, has_shape, opcode_stays, index_stays, successors_moved}
-use Rattle.woven_typing.proofs.Blocks.{IsStore, store_is}
-use Rattle.woven_typing.proofs.Body.{IsWovenBody, base, refs, sites, fronts, n, moved, front, same_length, insns_are, refs_are, handlers_are, stack_more, locals_more, fronts_are, moved_is, front_of, end_is, moved_next, moved_once, moved_past, insn_there, ref_there, made_long}
-use Rattle.woven_typing.proofs.Kept.{IsKept, retargeted, and_kept, or_kept}
-use Rattle.woven_typing.proofs.Larger.{assigns_kept, below_kept}
-use Rattle.woven_typing.proofs.Parts.{some_is, part, part_alone, part_denied, part_some, before_grows, before_next, frame_at, denial_length}
-use Rattle.woven_typing.proofs.Passing.{Passes, passes, row_met, all_also}
-use Rattle.woven_typing.proofs.Places.{store_at, behind_at, stored_at}
-use Rattle.woven_typing.proofs.Rows.{again, stacks_fit, depth_kept, operand_kept, local_kept, made_kept, goes_kept, catches_kept, entry_kept, le_more}
-use Rattle.woven_typing.proofs.Stacks.{below_none}
+use Rattle.inline_release.specs.Outcome.{part_named}
+use Rattle.woven_typing.specs.Framing.{arguments_of}
+use Rattle.woven_typing.proofs.Aiming.{has_shape}
+use Rattle.woven_typing.proofs.Blocks.{store_is}
+use Rattle.woven_typing.proofs.Body.{IsWovenBody, fronts, n, moved, front, same_length, moved_is, moved_past, insn_there, ref_there}
+use Rattle.woven_typing.proofs.Kept.{retargeted}
+use Rattle.woven_typing.proofs.Parts.{part, part_alone, part_denied}
+use Rattle.woven_typing.proofs.Places.{store_at}
 
 -- ---- lists
 

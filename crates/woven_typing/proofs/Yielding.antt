@@ -1,12 +1,11 @@
 -- What an instruction pushes and changes is what it pushes and changes elsewhere, renamed.
-use Rattle.std.proofs.Common.{◌≡◌, ℕ, zero, suc, ◌+◌, ◌-◌, Bool, true, false, cond, List, [], ◌∷◌, ◌++◌, length, map, take, drop, reverse, Option, Some, None, refl, sym, ap, subst, ◌∙◌, inl, inr}
-use Rattle.std.specs.Prelude.{◌&&◌, ◌||◌, ◌==◌, bytes_eq, codes}
+use Rattle.std.proofs.Common.{◌≡◌, ℕ, zero, suc, ◌-◌, Bool, true, false, cond, List, [], ◌∷◌, ◌++◌, length, map, take, drop, reverse, Option, Some, None, refl, sym, ap, ◌∙◌, inl, inr}
+use Rattle.std.specs.Prelude.{◌==◌, bytes_eq, codes}
 use Rattle.std.specs.Option.{option_map_or}
-use Rattle.std.proofs.lemmas.Bool.{cases_Bool, cases_eq, eq-eqb, ne_eqb}
+use Rattle.std.proofs.lemmas.Bool.{cases_eq, eq-eqb, ne_eqb}
 use Rattle.std.proofs.lemmas.List.{map-append, length-map}
 use Rattle.cert_format.specs.declared.typing.VType.{VType}
 use Rattle.cert_format.specs.declared.typing.VType.TheVariants as types
-use Rattle.insn_effect.specs.declared.forms.StackForm.{StackForm}
 use Rattle.insn_effect.specs.declared.shape.Heap.{Heap}
 use Rattle.insn_effect.specs.declared.shape.Heap.TheVariants as heap
 use Rattle.insn_effect.specs.declared.shape.Item.{Item}
@@ -18,8 +17,8 @@ use Rattle.insn_effect.specs.Shapes.{shape_of}
 use Rattle.bytecode_model.specs.declared.program.Target.{Target}
 use Rattle.bytecode_model.specs.declared.program.Target.TheVariants as target
 use Rattle.code_typing.specs.Described.{type_described, result_type, result_text}
-use Rattle.code_typing.specs.Makes.{type_at, moved_from, form_yields, constant_type, item_type, read_type, call_yields, heap_yields, yields_of, yields, class_made, is_same_object, when_made, when_new, when_called, changed_by, changed, stores, local_after, topmost, below, stack_after, new_at}
-use Rattle.code_typing.specs.Place.{Place, class_referred, desc_referred, class_of, calls_maker}
+use Rattle.code_typing.specs.Makes.{type_at, moved_from, constant_type, item_type, read_type, call_yields, heap_yields, yields_of, yields, class_made, is_same_object, when_made, when_new, when_called, changed_by, changed, stores, local_after, topmost, below, stack_after}
+use Rattle.code_typing.specs.Place.{Place, desc_referred, calls_maker}
 use Rattle.woven_typing.specs.Renaming.{renamed}
 use Rattle.woven_typing.proofs.Kept.{IsKept, retargeted, same_class, same_desc, described_stays, type_renamed}
 use Rattle.woven_typing.proofs.Taking.{same_maker}

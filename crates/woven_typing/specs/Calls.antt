@@ -1,5 +1,5 @@
 -- What is known of the operands of a linked program.
-use Rattle.std.specs.Prelude.{◌≡◌, ℕ, ◌<◌, List, [], length, slice_get, Option, Some, Ok}
+use Rattle.std.specs.Prelude.{◌≡◌, ℕ, ◌<◌, List, [], length, slice_get, Some, Ok}
 use Rattle.std.specs.Option.{option_map_or}
 use Rattle.mon_base.specs.declared.method.MethodId.{MethodId}
 use Rattle.api_listing.specs.declared.types.ListedMethod.{ListedMethod}
