@@ -120,17 +120,24 @@ module _ (old new : Program) (policy : Policy) (first types : Typing) (shaped : 
   stopped own index i k class method ref args g h r has le lt = unreached own index i k class method ref args g h r has le lt (slice_get new.classes own) refl
 
 -- ---- what is woven
-
-module _ (links : WovenLinks) (free : OriginalIsFree) (order : LinkedIsInOrder) (right : LinkedOperandsAreRight) (tells : PolicyTellsArguments) (types : WovenIsTyped) (accepts : WovenIsAccepted)
-    (inputs : InlineInputs) (known : InlineSound inputs) (main : List ℕ) (client : Program) (policy : Policy) (made : Woven) (typing : Typing)
-    (client_links : linked inputs.classes.files inputs.listing main Original ≡ Ok client) (listing : client.listing ≡ inputs.listing) (back : unlinked client ≡ inputs.classes.files)
-    (sound : IsSound client) (one : length client.classes ≡ 1) (is : policy ≡ built inputs.policy) (denies : DeniesOnly policy) (weaves : woven client policy ≡ Ok made)
-    (typed : IsTyped client typing) (shaped : IsShaped client typing.frames) where
+-- What weaving gives links to the program with its blocks.
+module _ (links : WovenLinks) (inputs : InlineInputs) (known : InlineSound inputs) (main : List ℕ) (client : Program) (policy : Policy) (made : Woven)
+    (client_links : linked inputs.classes.files inputs.listing main Original ≡ Ok client) (back : unlinked client ≡ inputs.classes.files)
+    (sound : IsSound client) (one : length client.classes ≡ 1) (denies : DeniesOnly policy) (weaves : woven client policy ≡ Ok made) where
   few : length inputs.classes.files < 1000
   few = omega (arith, one, ap length back, length-map client.classes (λ (c : LinkedClass). c.file))
 
-  remade : (new : Program) × ((linked made.files inputs.listing main Inlined ≡ Ok new) × IsWoven client policy new)
+  pub remade : (new : Program) × ((linked made.files inputs.listing main Inlined ≡ Ok new) × IsWoven client policy new)
   remade = links known.listed.text inputs.listing inputs.classes.files main client policy made known.listed.spells client_links sound denies few weaves
+
+-- And it can be typed, and is accepted.
+module _ (links : WovenLinks) (inputs : InlineInputs) (known : InlineSound inputs) (main : List ℕ) (client : Program) (policy : Policy) (made : Woven)
+    (client_links : linked inputs.classes.files inputs.listing main Original ≡ Ok client) (back : unlinked client ≡ inputs.classes.files)
+    (sound : IsSound client) (one : length client.classes ≡ 1) (denies : DeniesOnly policy) (weaves : woven client policy ≡ Ok made)
+    (free : OriginalIsFree) (order : LinkedIsInOrder) (right : LinkedOperandsAreRight) (tells : PolicyTellsArguments) (types : WovenIsTyped) (accepts : WovenIsAccepted)
+    (typing : Typing) (listing : client.listing ≡ inputs.listing) (is : policy ≡ built inputs.policy) (typed : IsTyped client typing) (shaped : IsShaped client typing.frames) where
+  new : (p : Program) × ((linked made.files inputs.listing main Inlined ≡ Ok p) × IsWoven client policy p)
+  new = remade links inputs known main client policy made client_links back sound one denies weaves
 
   operands : AreRightOperands client
   operands = right inputs.classes.files inputs.listing main Original client client_links sound
@@ -142,20 +149,20 @@ module _ (links : WovenLinks) (free : OriginalIsFree) (order : LinkedIsInOrder) 
       let b : TellsArguments inputs.listing policy = subst (λ (x : Policy). TellsArguments inputs.listing x) (sym is) a in
       subst (λ (l : Listing). TellsArguments l policy) (sym listing) b
 
-  met : (own index : ℕ) (other : LinkedClass) (m : Method) → slice_get remade.0.classes own ≡ Some other → slice_get other.methods index ≡ Some m
-      → IsMetWoven policy client remade.0 typing own index other m
-  met = types client remade.0 policy typing sound operands told remade.1.1 typed shaped
+  met : (own index : ℕ) (other : LinkedClass) (m : Method) → slice_get new.0.classes own ≡ Some other → slice_get other.methods index ≡ Some m
+      → IsMetWoven policy client new.0 typing own index other m
+  met = types client new.0 policy typing sound operands told new.1.1 typed shaped
 
   pub expected : IsExpected main client policy made
   expected = record {
-    program = remade.0;
-    links = ap (λ (l : Listing). linked made.files l main Inlined) listing ∙ remade.1.0;
-    order = order known.listed.text inputs.listing made.files main Inlined remade.0 known.listed.spells remade.1.0;
+    program = new.0;
+    links = ap (λ (l : Listing). linked made.files l main Inlined) listing ∙ new.1.0;
+    order = order known.listed.text inputs.listing made.files main Inlined new.0 known.listed.spells new.1.0;
     typable = λ class method at untyped.
         let m = met class method untyped.of untyped.body untyped.class_there untyped.method_there in
         untyped.fails (frames_of_woven policy typing class method m.of.class m.of.method, λ j lt. m.met j (omega (arith, lt, untyped.within)));
     accepted = λ new_types new_sound new_typed new_shaped least.
-        accepts client remade.0 policy made new_types sound new_sound operands
+        accepts inputs.classes.files inputs.listing main Original client new.0 policy made new_types client_links sound new_sound operands
         (free known.listed.text inputs.listing inputs.classes.files main client known.listed.spells client_links)
-        remade.1.1 weaves new_typed new_shaped (stopped client remade.0 policy typing new_types new_shaped least met);
+        new.1.1 weaves new_typed new_shaped (stopped client new.0 policy typing new_types new_shaped least met);
   }
