@@ -91,6 +91,7 @@ pub fn plan(alloc: Global, inputs: InlineInputs, words: &InlineWords) -> Result<
     let made = woven(alloc, &client, &policy)?;
     woven_files_link();
     original_is_free();
+    linked_is_in_order();
     linked_operands_are_right();
     policy_tells_arguments();
     woven_is_typed();
@@ -272,7 +273,8 @@ fn judged(
 ) -> Result<Ready, Refusal>
     requires sound { IsSound program.now }
     requires accepted { IsAccepted program.now policy.now certificate.now }
-    ensures accepted { Accepts folder.now policy.now program.now certificate.now result }
+    ensures accepts { Accepts folder.now policy.now program.now certificate.now result }
+    ensures accepted { IsAccepted program.now policy.now certificate.now }
     ensures secure { Secure program.now policy.now }
     ensures outputs { IfOk result (λ ready. ready.outputs ≡ outputs_of folder.now program.now certificate.now) }
 {
