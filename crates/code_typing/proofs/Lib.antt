@@ -6,3 +6,8 @@ mod Reaching
 pub mod Closed
 pub mod Moving
 pub mod Afterwards
+mod OrderLists
+mod OrderWants
+mod OrderYields
+mod OrderChanges
+mod OrderRows

@@ -1,12 +1,14 @@
 //! The frame after an instruction that is reached, and the one that a handler or a method begins with.
 
-ghost use Rattle.std.specs.Prelude.{◌≡◌, ◌∷◌, [], ◌++◌, ◌≤◌, ℕ, false, length, map, option_map, IfOk, OnOk};
+ghost use Rattle.std.specs.Prelude.{◌≡◌, ◌∷◌, [], ◌++◌, ◌≤◌, ℕ, false, true, List, length, map, option_map, IfOk, IsTrue, OnOk};
 ghost use Rattle.std.specs.Option.{option_to_list};
+ghost use Rattle.bytecode_model.specs.declared.program.Method.{Method};
+ghost use Rattle.cert_format.specs.declared.typing.VType.{VType};
 ghost use Rattle.cert_format.specs.declared.typing.VType.TheVariants.{Ref};
 ghost use Rattle.type_lattice.specs.Lending.{type_lent};
 ghost use Rattle.code_typing.specs.Described.{types_at, type_described};
 ghost use Rattle.code_typing.specs.Makes.{form_yields, heap_yields, yields, stores, stack_after, local_after, type_at};
-ghost use Rattle.code_typing.specs.Rules.{arguments_typed, entry_locals, class_caught, when_thrown, taken};
+ghost use Rattle.code_typing.specs.Rules.{arguments_typed, entry_locals, class_caught, when_thrown, taken, uses_local, Local};
 ghost use Rattle.code_typing.specs.Wants.{takes};
 
 use crate::change::{change_of, change_told};
@@ -116,6 +118,7 @@ pub fn stack_after(
 fn count_after(shape: Shape, count: usize) -> usize
     ensures stored { (j : ℕ) → result ≤ j → stores shape j ≡ false }
     ensures found { count ≤ result }
+    ensures within { (method : Method) (locals : List VType) → count ≤ method.max_locals → uses_local method locals shape ≡ true → result ≤ method.max_locals }
 {
     match shape {
         Shape::Store { slot, .. } => count.max(usize::from(slot) + 1),
@@ -129,7 +132,9 @@ pub fn locals_after(
     place: &PlaceRef,
     frame: &FrameType,
 ) -> Result<List<VType>, NoMemory>
-    ensures { IfOk result (λ locals. (j : ℕ) → type_at locals j ≡ local_after place.now frame.now.locals (taken place.now frame.now) j) }
+    ensures are { IfOk result (λ locals. (j : ℕ) → type_at locals j ≡ local_after place.now frame.now.locals (taken place.now frame.now) j) }
+    // They are as many as the method has, where rule 4 is met.
+    ensures within { IfOk result (λ locals. IsTrue (Local place.now frame.now) → length locals ≤ place.now.method.max_locals) }
 {
     let (_, taken) = split_top(frame.stack.as_slice(), count_taken(place));
     let change = change_of(place, taken);

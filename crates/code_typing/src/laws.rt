@@ -3,6 +3,14 @@
 ghost use Rattle.std.specs.Prelude.{◌≡◌};
 ghost use Rattle.code_typing.specs.Closed.{BeginsReached, GoesToReached, IsCaughtReached};
 ghost use Rattle.code_typing.specs.Moving.{IsEffectTyped};
+ghost use Rattle.code_typing.specs.Order.{
+  FrameIsBelowItself,
+  FramesAreInOrder,
+  GoesKept,
+  IsAloneKept,
+  IsLeftKept,
+  IsThrownKept,
+};
 
 /// The places with a frame are closed under control.
 pub fn typed_is_closed()
@@ -18,4 +26,15 @@ pub fn typed_is_closed()
 /// types leaves.
 pub fn typed_effect()
     ensures effect { IsEffectTyped }
+{}
+
+/// What the rules ask of a frame alone, each frame below it meets, too, and leaves what is below what it leaves.
+pub fn rows_follow_the_order()
+    ensures alone { IsAloneKept }
+    ensures left { IsLeftKept }
+    ensures goes { GoesKept }
+    ensures thrown { IsThrownKept }
+    // Frames are in order.
+    ensures reflexive { FrameIsBelowItself }
+    ensures transitive { FramesAreInOrder }
 {}

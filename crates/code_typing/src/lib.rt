@@ -28,7 +28,7 @@ pub use change::is_same_object;
 pub use fault::TypeFault;
 pub use following::goes_well;
 pub use handlers::{catches_well, covers};
-pub use laws::{typed_effect, typed_is_closed};
+pub use laws::{rows_follow_the_order, typed_effect, typed_is_closed};
 pub use place::{PlaceRef, is_maker};
 pub use row::is_alone_met;
 pub use typing::{check_row, check_typing, row_in};

@@ -1,5 +1,5 @@
 -- Descriptors of classes, and arrays of classes.
-use Rattle.std.proofs.Common.{◌≡◌, ℕ, zero, suc, ◌+◌, ◌-◌, Bool, true, false, cond, List, [], ◌∷◌, ◌++◌, length, take, Option, Some, None, refl, sym, ap, subst, ◌∙◌, arith}
+use Rattle.std.proofs.Common.{◌≡◌, ℕ, ◌+◌, ◌-◌, Bool, true, false, cond, List, [], ◌∷◌, ◌++◌, length, take, Option, Some, None, refl, sym, ap, subst, ◌∙◌, arith}
 use Rattle.std.specs.Prelude.{bytes_eq, ◌==◌, ◌&&◌, ◌||◌, nat_lt, slice_index}
 use Rattle.std.specs.Option.{option_map_or}
 use Rattle.std.proofs.Math.Seq.{take-append_seam}
@@ -9,7 +9,7 @@ use Rattle.std.proofs.lemmas.Slice.Eq.{bytes_eq-Decides}
 use Rattle.api_listing.specs.BuiltIn.{object}
 use Rattle.bytecode_model.specs.declared.program.Program.{Program}
 use Rattle.bytecode_model.specs.Classes.{is_interface}
-use Rattle.type_lattice.specs.Assigning.{is_array, named, leaf_fits, class_fits, component_fits, array_fits, name_fits}
+use Rattle.type_lattice.specs.Assigning.{is_array, class_name, named, leaf_fits, class_fits, component_fits, array_fits, name_fits}
 use Rattle.type_lattice.specs.Lending.{described, array_of}
 
 last_of : (name : List ℕ) → slice_index (name ++ 59 ∷ []) (length (name ++ 59 ∷ []) - 1) ≡ 59
@@ -25,14 +25,18 @@ before_last name =
 some_there : (name : List ℕ) → nat_lt 0 (length (name ++ 59 ∷ [])) ≡ true
 some_there name = lt-ltb 0 _ (omega (arith, length-append name (59 ∷ [])))
 
-chosen : (a b : Bool) (x y : List ℕ) → a ≡ true → b ≡ true → x ≡ y → cond (a && b) (Some x) None ≡ Some y
-chosen true true x y e f same = ap Some same
+chosen : (a b : Bool) (x y : Option (List ℕ)) → a ≡ true → b ≡ true → x ≡ y → cond (a && b) x None ≡ y
+chosen true true x y e f same = same
 chosen true false x y e f same = absurd cc
 chosen false b x y e f same = absurd cc
 
+class_so : (name : List ℕ) → is_array name ≡ false → class_name name ≡ Some name
+class_so name e = rw e refl
+
 -- the name in the descriptor of a class
-pub named_described : (name : List ℕ) → named (76 ∷ (name ++ 59 ∷ [])) ≡ Some name
-named_described name = chosen _ _ _ name (some_there name) (eq-eqb _ 59 (last_of name)) (before_last name)
+pub named_described : (name : List ℕ) → is_array name ≡ false → named (76 ∷ (name ++ 59 ∷ [])) ≡ Some name
+named_described name apart =
+    chosen _ _ _ (Some name) (some_there name) (eq-eqb _ 59 (last_of name)) (ap class_name (before_last name) ∙ class_so name apart)
 
 -- ---- what is assignable to itself
 
@@ -75,10 +79,10 @@ item_class program item [] e = rw e refl
 item_class program item (d ∷ to) e =
     let text : List ℕ = 76 ∷ (item ++ 59 ∷ []) in
     let leaf : leaf_fits program text (d ∷ to) ≡ (bytes_eq text (d ∷ to) || option_map_or (λ above. class_fits program item above) (named (d ∷ to)) false)
-    = ap (λ (o : Option (List ℕ)). bytes_eq text (d ∷ to) || option_map_or (λ above. option_map_or (λ below. class_fits program below above) o false) (named (d ∷ to)) false) (named_described item) in
+    = ap (λ (o : Option (List ℕ)). bytes_eq text (d ∷ to) || option_map_or (λ above. option_map_or (λ below. class_fits program below above) o false) (named (d ∷ to)) false) (named_described item e) in
     let itself : bytes_eq text (d ∷ to) ≡ true → option_map_or (λ above. class_fits program item above) (named (d ∷ to)) false ≡ true
     = λ same. subst (λ (t : List ℕ). option_map_or (λ above. class_fits program item above) (named t) false ≡ true) ((bytes_eq-Decides text (d ∷ to)).0 same)
-    (ap (λ (o : Option (List ℕ)). option_map_or (λ above. class_fits program item above) o false) (named_described item) ∙ class_itself program item) in
+    (ap (λ (o : Option (List ℕ)). option_map_or (λ above. class_fits program item above) o false) (named_described item e) ∙ class_itself program item) in
     ap (λ (b : Bool). component_fits program (cond b item text) (d ∷ to)) e ∙ leaf ∙ absorbed _ _ itself
 
 -- an array where anything is wanted: its own type needs no test of its own

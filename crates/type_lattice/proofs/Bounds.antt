@@ -1,23 +1,23 @@
 -- Both types are assignable to their merge.
-use Rattle.std.proofs.Common.{◌≡◌, ℕ, zero, suc, ◌+◌, Bool, true, false, cond, List, [], ◌∷◌, ◌++◌, ◌⊎◌, length, Option, Some, None, refl, sym, ap, subst, ◌∙◌, inl, inr}
-use Rattle.std.specs.Prelude.{bytes_eq, find, not, ◌==◌, ◌||◌, ◌&&◌}
+use Rattle.std.proofs.Common.{◌≡◌, ℕ, Bool, true, false, cond, List, [], ◌∷◌, ◌++◌, length, Option, Some, None, refl, sym, ap, subst, ◌∙◌, inl, inr}
+use Rattle.std.specs.Prelude.{bytes_eq, find, ◌==◌, ◌||◌, ◌&&◌}
 use Rattle.std.specs.Option.{option_map_or}
-use Rattle.std.proofs.lemmas.Bool.{cases_Bool, eq-eqb, eqb-true, false≢true}
+use Rattle.std.proofs.lemmas.Bool.{cases_Bool, eq-eqb, eqb-true}
 use Rattle.api_listing.specs.declared.types.ListedClass.{ListedClass}
 use Rattle.api_listing.specs.BuiltIn.{object}
-use Rattle.api_listing.specs.Nearest.{class_named, upwards}
+use Rattle.api_listing.specs.Nearest.{upwards}
 use Rattle.bytecode_model.specs.declared.program.Program.{Program}
 use Rattle.cert_format.specs.declared.typing.VType.{VType}
 use Rattle.cert_format.specs.declared.typing.VType.TheVariants as types
-use Rattle.type_lattice.specs.Assigning.{is_array, named, reference_of, class_fits, leaf_fits, component_fits, array_fits, name_fits, assignable}
+use Rattle.type_lattice.specs.Assigning.{is_array, named, reference_of, class_fits, component_fits, array_fits, name_fits, assignable}
 use Rattle.bytecode_model.specs.Classes.{classes_of, is_below, is_interface}
-use Rattle.type_lattice.specs.Laws.{IsInOrder, IsPlain, is_plain}
+use Rattle.type_lattice.specs.Laws.{IsInOrder}
 use Rattle.type_lattice.specs.Lending.{described, array_of}
-use Rattle.type_lattice.specs.Merging.{class_above, class_merged, leaf_merged, items_merged, arrays_merged, names_merged, merged}
+use Rattle.type_lattice.specs.Merging.{leaf_merged, items_merged, arrays_merged, names_merged, merged}
 use Rattle.type_lattice.proofs.Arrays.{class_itself, component_itself, named_described}
 use Rattle.type_lattice.proofs.Climbing.{one_named}
-use Rattle.type_lattice.proofs.Upwards.{both_of, both_are, or_first, or_second, none_up}
-use Rattle.type_lattice.proofs.Orders.{Fit, equal, top, interface, under, Leaf, same, classes, fits, false_of, same_of, of_same, leaf_is, at_leaf, never_both, named_apart, plain_name, itself}
+use Rattle.type_lattice.proofs.Upwards.{both_of, or_first, or_second, none_up}
+use Rattle.type_lattice.proofs.Orders.{top, under, classes, fits, same_of, of_same, leaf_is, at_leaf, never_both, class_apart, itself}
 
 -- ---- choices
 
@@ -96,66 +96,64 @@ module _ (program : Program) (order : IsInOrder program) where
       let text : List ℕ = 76 ∷ (m ++ 59 ∷ []) in
       let told : described m ≡ text = rw f refl in
       let fit : component_fits program a text ≡ true =
-      at_leaf program order a text (never_both program order _ _ refl) ∙ leaf_is program order a text (classes x m e (named_described m) g) in
+      at_leaf program order a text (never_both program order _ _ refl) ∙ leaf_is program order a text (classes x m e (named_described m f) g) in
       subst (λ (t : List ℕ). component_fits program a t ≡ true) (sym told) fit
 
   some_one : (x y : List ℕ) → ◌≡◌ {A = Option (List ℕ)} (Some x) (Some y) → x ≡ y
   some_one x y e = cc
 
   -- what an item refers to is an array where the item is one
-  pub same_array : (a x : List ℕ) → is_plain a ≡ true → reference_of a ≡ Some x → is_array x ≡ is_array a
-  same_array a x p e =
+  pub same_array : (a x : List ℕ) → reference_of a ≡ Some x → is_array x ≡ is_array a
+  same_array a x e =
       elim (cases_Bool (is_array a)) [
         | inl is ↦
             let h : ◌≡◌ {A = Option (List ℕ)} (Some a) (Some x) = rw is at e in
             ap is_array (sym (some_one a x h))
         | inr differs ↦
             let h : named a ≡ Some x = rw differs at e in
-            plain_name program order a x differs p h ∙ sym differs
+            class_apart program order a x h ∙ sym differs
       ]
 
   module _ (P : List ℕ → List ℕ → Type 0) (otherwise : List ℕ) (within : (a r : List ℕ) → component_fits program a r ≡ true → P a (91 ∷ r)) (none : (a : List ℕ) → P a otherwise) where
-    told_above : (a b : List ℕ) → (is_array a && is_array b) ≡ false → is_plain a ≡ true → is_plain b ≡ true → (m n : Option (List ℕ)) → reference_of a ≡ m → reference_of b ≡ n
+    told_above : (a b : List ℕ) → (is_array a && is_array b) ≡ false → (m n : Option (List ℕ)) → reference_of a ≡ m → reference_of b ≡ n
         → P a (option_map_or (λ (x : List ℕ). option_map_or (λ (y : List ℕ). array_of (leaf_merged program x y)) n otherwise) m otherwise)
         × P b (option_map_or (λ (x : List ℕ). option_map_or (λ (y : List ℕ). array_of (leaf_merged program x y)) n otherwise) m otherwise)
     unfolding Above
-    told_above a b apart p q None n e f = (none a, none b)
-    told_above a b apart p q (Some x) None e f = (none a, none b)
-    told_above a b apart p q (Some x) (Some y) e f =
-        let two : (is_array x && is_array y) ≡ false = rw (same_array a x p e, same_array b y q f) apart in
+    told_above a b apart None n e f = (none a, none b)
+    told_above a b apart (Some x) None e f = (none a, none b)
+    told_above a b apart (Some x) (Some y) e f =
+        let two : (is_array x && is_array y) ≡ false = rw (same_array a x e, same_array b y f) apart in
         let above = leaf_above x y two in
         (within a _ (item_under a x _ e above.2 above.0), within b _ (item_under b y _ f above.2 above.1))
 
-    items_above : (a b : List ℕ) → (is_array a && is_array b) ≡ false → is_plain a ≡ true → is_plain b ≡ true → P a (items_merged program otherwise a b) × P b (items_merged program otherwise a b)
-    items_above a b apart p q =
+    items_above : (a b : List ℕ) → (is_array a && is_array b) ≡ false → P a (items_merged program otherwise a b) × P b (items_merged program otherwise a b)
+    items_above a b apart =
         pick (λ (r : List ℕ). P a r × P b r) (bytes_eq a b) (91 ∷ a) _
         (λ is. (within a a (component_itself program a), within b a (subst (λ (x : List ℕ). component_fits program x a ≡ true) (same_of a b is) (component_itself program a))))
-        (λ other. told_above a b apart p q _ _ refl refl)
+        (λ other. told_above a b apart _ _ refl refl)
 
   object_item : (a : List ℕ) → component_fits program (91 ∷ a) (described object) ≡ true
   object_item a = item_under (91 ∷ a) (91 ∷ a) object refl refl (fits program (91 ∷ a) object (top refl))
 
   -- arrays within arrays
-  deep_items : (a b : List ℕ) → (is_array a && is_array b) ≡ false → is_plain a ≡ true → is_plain b ≡ true
+  deep_items : (a b : List ℕ) → (is_array a && is_array b) ≡ false
       → (component_fits program (91 ∷ a) (items_merged program (described object) a b) ≡ true) × (component_fits program (91 ∷ b) (items_merged program (described object) a b) ≡ true)
-  deep_items a b apart p q = items_above (λ c r. component_fits program (91 ∷ c) r ≡ true) (described object) (λ c r e. e) object_item a b apart p q
+  deep_items a b apart = items_above (λ c r. component_fits program (91 ∷ c) r ≡ true) (described object) (λ c r e. e) object_item a b apart
 
-  deep_above : (a b : List ℕ) → is_plain a ≡ true → is_plain b ≡ true
+  deep_above : (a b : List ℕ)
       → (component_fits program (91 ∷ a) (arrays_merged program (described object) a b) ≡ true) × (component_fits program (91 ∷ b) (arrays_merged program (described object) a b) ≡ true)
-  deep_above [] b p q = deep_items [] b refl p q
-  deep_above (x ∷ a) [] p q = deep_items (x ∷ a) [] (never_both program order _ _ refl) p q
-  deep_above (x ∷ a) (y ∷ b) p q =
+  deep_above [] b = deep_items [] b refl
+  deep_above (x ∷ a) [] = deep_items (x ∷ a) [] (never_both program order _ _ refl)
+  deep_above (x ∷ a) (y ∷ b) =
       pick (λ (r : List ℕ). (component_fits program (91 ∷ x ∷ a) r ≡ true) × (component_fits program (91 ∷ y ∷ b) r ≡ true)) ((x == 91) && (y == 91)) _ _
       (λ is.
       let both = both_of (x == 91) (y == 91) is in
-      let first : is_plain a ≡ true = rw both.0 at p in
-      let second : is_plain b ≡ true = rw both.1 at q in
-      let more = deep_above a b first second in
+      let more = deep_above a b in
       let r : List ℕ = arrays_merged program (described object) a b in (
         subst (λ (n : ℕ). component_fits program (n ∷ a) r ≡ true) (sym (eqb-true x 91 both.0)) more.0,
         subst (λ (n : ℕ). component_fits program (n ∷ b) r ≡ true) (sym (eqb-true y 91 both.1)) more.1,
       ))
-      (λ apart. deep_items (x ∷ a) (y ∷ b) apart p q)
+      (λ apart. deep_items (x ∷ a) (y ∷ b) apart)
 
   -- ---- names
 
@@ -165,42 +163,38 @@ module _ (program : Program) (order : IsInOrder program) where
   object_name : (a : List ℕ) → name_fits program (91 ∷ a) object ≡ true
   object_name a = or_first (class_fits program (91 ∷ a) object) (array_fits program (91 ∷ a) object) (fits program (91 ∷ a) object (top refl))
 
-  top_items : (a b : List ℕ) → (is_array a && is_array b) ≡ false → is_plain a ≡ true → is_plain b ≡ true
+  top_items : (a b : List ℕ) → (is_array a && is_array b) ≡ false
       → (name_fits program (91 ∷ a) (items_merged program object a b) ≡ true) × (name_fits program (91 ∷ b) (items_merged program object a b) ≡ true)
-  top_items a b apart p q = items_above (λ c r. name_fits program (91 ∷ c) r ≡ true) object array_under object_name a b apart p q
+  top_items a b apart = items_above (λ c r. name_fits program (91 ∷ c) r ≡ true) object array_under object_name a b apart
 
-  arrays_above : (a b : List ℕ) → is_plain a ≡ true → is_plain b ≡ true
+  arrays_above : (a b : List ℕ)
       → (name_fits program (91 ∷ a) (arrays_merged program object a b) ≡ true) × (name_fits program (91 ∷ b) (arrays_merged program object a b) ≡ true)
-  arrays_above [] b p q = top_items [] b refl p q
-  arrays_above (x ∷ a) [] p q = top_items (x ∷ a) [] (never_both program order _ _ refl) p q
-  arrays_above (x ∷ a) (y ∷ b) p q =
+  arrays_above [] b = top_items [] b refl
+  arrays_above (x ∷ a) [] = top_items (x ∷ a) [] (never_both program order _ _ refl)
+  arrays_above (x ∷ a) (y ∷ b) =
       pick (λ (r : List ℕ). (name_fits program (91 ∷ x ∷ a) r ≡ true) × (name_fits program (91 ∷ y ∷ b) r ≡ true)) ((x == 91) && (y == 91)) _ _
       (λ is.
       let both = both_of (x == 91) (y == 91) is in
-      let first : is_plain a ≡ true = rw both.0 at p in
-      let second : is_plain b ≡ true = rw both.1 at q in
-      let more = deep_above a b first second in
+      let more = deep_above a b in
       let r : List ℕ = arrays_merged program (described object) a b in (
         array_under (x ∷ a) r (subst (λ (n : ℕ). component_fits program (n ∷ a) r ≡ true) (sym (eqb-true x 91 both.0)) more.0),
         array_under (y ∷ b) r (subst (λ (n : ℕ). component_fits program (n ∷ b) r ≡ true) (sym (eqb-true y 91 both.1)) more.1),
       ))
-      (λ apart. top_items (x ∷ a) (y ∷ b) apart p q)
+      (λ apart. top_items (x ∷ a) (y ∷ b) apart)
 
   leaf_names : (a b : List ℕ) → (is_array a && is_array b) ≡ false → (name_fits program a (leaf_merged program a b) ≡ true) × (name_fits program b (leaf_merged program a b) ≡ true)
   unfolding Above
   leaf_names a b apart = let above = leaf_above a b apart in (or_first _ _ above.0, or_first _ _ above.1)
 
-  names_above : (a b : List ℕ) → (is_array a ≡ true → is_plain a ≡ true) → (is_array b ≡ true → is_plain b ≡ true)
+  names_above : (a b : List ℕ)
       → (name_fits program a (names_merged program a b) ≡ true) × (name_fits program b (names_merged program a b) ≡ true)
-  names_above [] b p q = leaf_names [] b refl
-  names_above (x ∷ a) [] p q = leaf_names (x ∷ a) [] (never_both program order _ _ refl)
-  names_above (x ∷ a) (y ∷ b) p q =
+  names_above [] b = leaf_names [] b refl
+  names_above (x ∷ a) [] = leaf_names (x ∷ a) [] (never_both program order _ _ refl)
+  names_above (x ∷ a) (y ∷ b) =
       pick (λ (r : List ℕ). (name_fits program (x ∷ a) r ≡ true) × (name_fits program (y ∷ b) r ≡ true)) ((x == 91) && (y == 91)) _ _
       (λ is.
       let both = both_of (x == 91) (y == 91) is in
-      let first : is_plain a ≡ true = rw both.0 at (p both.0) in
-      let second : is_plain b ≡ true = rw both.1 at (q both.1) in
-      let more = arrays_above a b first second in
+      let more = arrays_above a b in
       let r : List ℕ = arrays_merged program object a b in (
         subst (λ (n : ℕ). name_fits program (n ∷ a) r ≡ true) (sym (eqb-true x 91 both.0)) more.0,
         subst (λ (n : ℕ). name_fits program (n ∷ b) r ≡ true) (sym (eqb-true y 91 both.1)) more.1,
@@ -217,12 +211,12 @@ module _ (program : Program) (order : IsInOrder program) where
   null_under : (b : List ℕ) → name_fits program b b ≡ true
   null_under b = itself program (types.Ref b)
 
-  pub merge_above : (t u : VType) → IsPlain t → IsPlain u → (assignable program t (merged program t u) ≡ true) × (assignable program u (merged program t u) ≡ true)
-  merge_above types.Int types.Int p q = (refl, refl)
-  merge_above types.Null types.Null p q = (refl, refl)
-  merge_above types.Null (types.Ref b) p q = (refl, null_under b)
-  merge_above (types.Ref a) types.Null p q = (null_under a, refl)
-  merge_above (types.Ref a) (types.Ref b) p q = names_above a b p q
-  merge_above types.UninitThis types.UninitThis p q = (refl, refl)
-  merge_above (types.Uninit i) (types.Uninit j) p q = index_above i j (i == j) refl
-  merge_above t u p q = (refl, refl)
+  pub merge_above : (t u : VType) → (assignable program t (merged program t u) ≡ true) × (assignable program u (merged program t u) ≡ true)
+  merge_above types.Int types.Int = (refl, refl)
+  merge_above types.Null types.Null = (refl, refl)
+  merge_above types.Null (types.Ref b) = (refl, null_under b)
+  merge_above (types.Ref a) types.Null = (null_under a, refl)
+  merge_above (types.Ref a) (types.Ref b) = names_above a b
+  merge_above types.UninitThis types.UninitThis = (refl, refl)
+  merge_above (types.Uninit i) (types.Uninit j) = index_above i j (i == j) refl
+  merge_above t u = (refl, refl)

@@ -1,23 +1,23 @@
 -- What both types are assignable to, their merge is assignable to.
-use Rattle.std.proofs.Common.{◌≡◌, ℕ, zero, suc, ◌+◌, Bool, true, false, cond, List, [], ◌∷◌, ◌++◌, ◌⊎◌, length, Option, Some, None, refl, sym, ap, subst, ◌∙◌, inl, inr}
-use Rattle.std.specs.Prelude.{bytes_eq, find, not, ◌==◌, ◌||◌, ◌&&◌}
+use Rattle.std.proofs.Common.{◌≡◌, ℕ, Bool, true, false, cond, List, [], ◌∷◌, ◌++◌, ◌⊎◌, length, Option, Some, None, refl, sym, ap, subst, ◌∙◌, inl, inr}
+use Rattle.std.specs.Prelude.{bytes_eq, find, ◌==◌, ◌||◌, ◌&&◌}
 use Rattle.std.specs.Option.{option_map_or}
 use Rattle.std.proofs.lemmas.Bool.{cases_Bool, eq-eqb, eqb-true, false≢true}
 use Rattle.api_listing.specs.declared.types.ListedClass.{ListedClass}
 use Rattle.api_listing.specs.BuiltIn.{object}
-use Rattle.api_listing.specs.Nearest.{class_named, upwards}
+use Rattle.api_listing.specs.Nearest.{upwards}
 use Rattle.bytecode_model.specs.declared.program.Program.{Program}
 use Rattle.cert_format.specs.declared.typing.VType.{VType}
 use Rattle.cert_format.specs.declared.typing.VType.TheVariants as types
-use Rattle.type_lattice.specs.Assigning.{is_array, named, reference_of, class_fits, leaf_fits, component_fits, array_fits, name_fits, assignable}
+use Rattle.type_lattice.specs.Assigning.{is_array, named, reference_of, class_fits, component_fits, array_fits, name_fits, assignable}
 use Rattle.bytecode_model.specs.Classes.{classes_of, is_below, is_interface}
-use Rattle.type_lattice.specs.Laws.{IsInOrder, IsPlain, is_plain}
+use Rattle.type_lattice.specs.Laws.{IsInOrder}
 use Rattle.type_lattice.specs.Lending.{described, array_of}
-use Rattle.type_lattice.specs.Merging.{class_above, class_merged, leaf_merged, items_merged, arrays_merged, names_merged, merged}
+use Rattle.type_lattice.specs.Merging.{class_above, leaf_merged, items_merged, arrays_merged, names_merged, merged}
 use Rattle.type_lattice.proofs.Arrays.{class_itself, component_itself, named_described}
 use Rattle.type_lattice.proofs.Bounds.{pick, found_one, is_apart, leaf_apart, same_array}
 use Rattle.type_lattice.proofs.Upwards.{none_up, both_of, either_of, or_first, or_second, first_under, one_first}
-use Rattle.type_lattice.proofs.Orders.{Fit, equal, top, interface, under, Leaf, same, classes, seen, fits, of_same, same_of, leaf_is, leaf_seen, at_leaf, never_both, named_apart, named_told, array_told, plain_name, array_equal, array_first, array_second, from_array, to_any, over}
+use Rattle.type_lattice.proofs.Orders.{Fit, equal, top, interface, under, Leaf, same, classes, seen, fits, of_same, same_of, leaf_is, leaf_seen, at_leaf, never_both, named_apart, named_told, array_told, class_apart, array_equal, array_second, from_array, to_any}
 
 module _ (program : Program) (order : IsInOrder program) where
   -- ---- classes
@@ -146,42 +146,42 @@ module _ (program : Program) (order : IsInOrder program) where
   described_fits m v z e f g =
       let text : List ℕ = 76 ∷ (m ++ 59 ∷ []) in
       let told : described m ≡ text = rw e refl in
-      let fit : component_fits program text v ≡ true = at_leaf program order text v refl ∙ leaf_is program order text v (classes m z (named_described m) f g) in
+      let fit : component_fits program text v ≡ true = at_leaf program order text v refl ∙ leaf_is program order text v (classes m z (named_described m e) f g) in
       subst (λ (t : List ℕ). component_fits program t v ≡ true) (sym told) fit
 
   module _ (P : List ℕ → Type 0) (otherwise v : List ℕ) (within : (r : List ℕ) → component_fits program r v ≡ true → P (91 ∷ r)) where
-    shared_least : (a b : List ℕ) → (is_array a && is_array b) ≡ false → is_plain a ≡ true → is_plain b ≡ true → Shared a b v
+    shared_least : (a b : List ℕ) → (is_array a && is_array b) ≡ false → Shared a b v
         → P (option_map_or (λ (x : List ℕ). option_map_or (λ (y : List ℕ). array_of (leaf_merged program x y)) (reference_of b) otherwise) (reference_of a) otherwise)
-    shared_least a b apart p q (x, (y, (z, (e, f, g, h, i)))) =
-        let two : (is_array x && is_array y) ≡ false = rw (same_array program order a x p e, same_array program order b y q f) apart in
+    shared_least a b apart (x, (y, (z, (e, f, g, h, i)))) =
+        let two : (is_array x && is_array y) ≡ false = rw (same_array program order a x e, same_array program order b y f) apart in
         let m : List ℕ = leaf_merged program x y in
         let lower : component_fits program (described m) v ≡ true = described_fits m v z (leaf_apart program order x y two) g (leaf_least x y z h i) in
         rw (e, f) (within (described m) lower)
 
-    items_least : (a b : List ℕ) → (is_array a && is_array b) ≡ false → is_plain a ≡ true → is_plain b ≡ true → component_fits program a v ≡ true → component_fits program b v ≡ true
+    items_least : (a b : List ℕ) → (is_array a && is_array b) ≡ false → component_fits program a v ≡ true → component_fits program b v ≡ true
         → P (items_merged program otherwise a b)
-    items_least a b apart p q e f =
+    items_least a b apart e f =
         let target : is_array v ≡ false = elim (cases_Bool (is_array a)) [
           | inl is ↦ let other : is_array b ≡ false = rw is at apart in target_apart b v other f
           | inr fails ↦ target_apart a v fails e
         ] in
         let first = leaf_seen program order a v (sym (at_leaf program order a v (never_both program order _ _ target)) ∙ e) in
         let second = leaf_seen program order b v (sym (at_leaf program order b v (never_both program order _ _ target)) ∙ f) in
-        pick P (bytes_eq a b) (91 ∷ a) _ (λ is. within a e) (λ d. shared_least a b apart p q (share a b v d first second))
+        pick P (bytes_eq a b) (91 ∷ a) _ (λ is. within a e) (λ d. shared_least a b apart (share a b v d first second))
 
   -- an array's items fit a class that each fits
-  to_class : (a v : List ℕ) → is_array a ≡ true → is_array v ≡ false → is_plain v ≡ true → Leaf program a v → (z : List ℕ) × ((named v ≡ Some z) × Widest z)
-  to_class a v e f p (same g) = absurd (false≢true (sym f ∙ subst (λ (x : List ℕ). is_array x ≡ true) g e))
-  to_class a v e f p (classes x z g h i) =
+  to_class : (a v : List ℕ) → is_array a ≡ true → is_array v ≡ false → Leaf program a v → (z : List ℕ) × ((named v ≡ Some z) × Widest z)
+  to_class a v e f (same g) = absurd (false≢true (sym f ∙ subst (λ (x : List ℕ). is_array x ≡ true) g e))
+  to_class a v e f (classes x z g h i) =
       let one : x ≡ a = one_of x a (sym g ∙ array_told program order a e) in
-      (z, (h, from_array program order a z e (plain_name program order v z f p h) (seen program a z (subst (λ (k : List ℕ). class_fits program k z ≡ true) one i))))
+      (z, (h, from_array program order a z e (class_apart program order v z h) (seen program a z (subst (λ (k : List ℕ). class_fits program k z ≡ true) one i))))
 
   abbrev Refers : List ℕ → Type 0
   Refers r = (x : List ℕ) × (reference_of r ≡ Some x)
 
   told_refers : (a b : List ℕ) (m n : Option (List ℕ)) → Refers (option_map_or (λ (x : List ℕ). option_map_or (λ (y : List ℕ). array_of (leaf_merged program x y)) n (described object)) m (described object))
-  told_refers a b None n = (object, named_described object)
-  told_refers a b (Some x) None = (object, named_described object)
+  told_refers a b None n = (object, named_described object refl)
+  told_refers a b (Some x) None = (object, named_described object refl)
   told_refers a b (Some x) (Some y) = (_, refl)
 
   items_refer : (a b : List ℕ) → Refers (items_merged program (described object) a b)
@@ -198,62 +198,57 @@ module _ (program : Program) (order : IsInOrder program) where
 
   -- ---- arrays within arrays
 
-  deep_items : (a b v : List ℕ) → (is_array a && is_array b) ≡ false → is_plain a ≡ true → is_plain b ≡ true → component_fits program a v ≡ true → component_fits program b v ≡ true
+  deep_items : (a b v : List ℕ) → (is_array a && is_array b) ≡ false → component_fits program a v ≡ true → component_fits program b v ≡ true
       → component_fits program (items_merged program (described object) a b) (91 ∷ v) ≡ true
-  deep_items a b v apart p q e f = items_least (λ r. component_fits program r (91 ∷ v) ≡ true) (described object) v (λ r h. h) a b apart p q e f
+  deep_items a b v apart e f = items_least (λ r. component_fits program r (91 ∷ v) ≡ true) (described object) v (λ r h. h) a b apart e f
 
   -- where both are arrays of arrays: what is within, by what is known of arrays of shorter items
-  within_arrays : (x y : ℕ) (a b v : List ℕ) → (x == 91) ≡ true → (y == 91) ≡ true → is_plain v ≡ true
-      → ((w : List ℕ) → is_plain w ≡ true → component_fits program a w ≡ true → component_fits program b w ≡ true → component_fits program (arrays_merged program (described object) a b) (91 ∷ w) ≡ true)
+  within_arrays : (x y : ℕ) (a b v : List ℕ) → (x == 91) ≡ true → (y == 91) ≡ true
+      → ((w : List ℕ) → component_fits program a w ≡ true → component_fits program b w ≡ true → component_fits program (arrays_merged program (described object) a b) (91 ∷ w) ≡ true)
       → component_fits program (x ∷ a) v ≡ true → component_fits program (y ∷ b) v ≡ true → component_fits program (arrays_merged program (described object) a b) v ≡ true
-  within_arrays x y a b [] i j p more e f =
-      any_class (arrays_merged program (described object) a b) [] refl (refers a b) (to_class (x ∷ a) [] i refl p (leaf_seen program order (x ∷ a) [] (sym (at_leaf program order (x ∷ a) [] (never_both program order _ _ refl)) ∙ e)))
-  within_arrays x y a b (w ∷ v) i j p more e f =
+  within_arrays x y a b [] i j more e f =
+      any_class (arrays_merged program (described object) a b) [] refl (refers a b) (to_class (x ∷ a) [] i refl (leaf_seen program order (x ∷ a) [] (sym (at_leaf program order (x ∷ a) [] (never_both program order _ _ refl)) ∙ e)))
+  within_arrays x y a b (w ∷ v) i j more e f =
       elim (cases_Bool (w == 91)) [
         | inl is ↦
-            let plain : is_plain v ≡ true = rw is at p in
             let first : component_fits program a v ≡ true = rw (i, is) at e in
             let second : component_fits program b v ≡ true = rw (j, is) at f in
-            subst (λ (n : ℕ). component_fits program (arrays_merged program (described object) a b) (n ∷ v) ≡ true) (sym (eqb-true w 91 is)) (more v plain first second)
+            subst (λ (n : ℕ). component_fits program (arrays_merged program (described object) a b) (n ∷ v) ≡ true) (sym (eqb-true w 91 is)) (more v first second)
         | inr fails ↦
             any_class (arrays_merged program (described object) a b) (w ∷ v) fails (refers a b)
-            (to_class (x ∷ a) (w ∷ v) i fails p (leaf_seen program order (x ∷ a) (w ∷ v) (sym (at_leaf program order (x ∷ a) (w ∷ v) (never_both program order _ _ fails)) ∙ e)))
+            (to_class (x ∷ a) (w ∷ v) i fails (leaf_seen program order (x ∷ a) (w ∷ v) (sym (at_leaf program order (x ∷ a) (w ∷ v) (never_both program order _ _ fails)) ∙ e)))
       ]
 
-  deep_least : (a b v : List ℕ) → is_plain a ≡ true → is_plain b ≡ true → is_plain v ≡ true → component_fits program a v ≡ true → component_fits program b v ≡ true
+  deep_least : (a b v : List ℕ) → component_fits program a v ≡ true → component_fits program b v ≡ true
       → component_fits program (arrays_merged program (described object) a b) (91 ∷ v) ≡ true
-  deep_least [] b v p q r e f = deep_items [] b v refl p q e f
-  deep_least (x ∷ a) [] v p q r e f = deep_items (x ∷ a) [] v (never_both program order _ _ refl) p q e f
-  deep_least (x ∷ a) (y ∷ b) v p q r e f =
+  deep_least [] b v e f = deep_items [] b v refl e f
+  deep_least (x ∷ a) [] v e f = deep_items (x ∷ a) [] v (never_both program order _ _ refl) e f
+  deep_least (x ∷ a) (y ∷ b) v e f =
       pick (λ (m : List ℕ). component_fits program m (91 ∷ v) ≡ true) ((x == 91) && (y == 91)) _ _
       (λ is.
       let both = both_of (x == 91) (y == 91) is in
-      let first : is_plain a ≡ true = rw both.0 at p in
-      let second : is_plain b ≡ true = rw both.1 at q in
-      within_arrays x y a b v both.0 both.1 r (λ w plain g h. deep_least a b w first second plain g h) e f)
-      (λ apart. deep_items (x ∷ a) (y ∷ b) v apart p q e f)
+      within_arrays x y a b v both.0 both.1 (λ w g h. deep_least a b w g h) e f)
+      (λ apart. deep_items (x ∷ a) (y ∷ b) v apart e f)
 
   -- ---- names
 
   array_over : (r v : List ℕ) → component_fits program r v ≡ true → name_fits program (91 ∷ r) (91 ∷ v) ≡ true
   array_over r v e = or_second _ _ e
 
-  top_items : (a b v : List ℕ) → (is_array a && is_array b) ≡ false → is_plain a ≡ true → is_plain b ≡ true → component_fits program a v ≡ true → component_fits program b v ≡ true
+  top_items : (a b v : List ℕ) → (is_array a && is_array b) ≡ false → component_fits program a v ≡ true → component_fits program b v ≡ true
       → name_fits program (items_merged program object a b) (91 ∷ v) ≡ true
-  top_items a b v apart p q e f = items_least (λ r. name_fits program r (91 ∷ v) ≡ true) object v (λ r h. array_over r v h) a b apart p q e f
+  top_items a b v apart e f = items_least (λ r. name_fits program r (91 ∷ v) ≡ true) object v (λ r h. array_over r v h) a b apart e f
 
-  arrays_least : (a b v : List ℕ) → is_plain a ≡ true → is_plain b ≡ true → is_plain v ≡ true → component_fits program a v ≡ true → component_fits program b v ≡ true
+  arrays_least : (a b v : List ℕ) → component_fits program a v ≡ true → component_fits program b v ≡ true
       → name_fits program (arrays_merged program object a b) (91 ∷ v) ≡ true
-  arrays_least [] b v p q r e f = top_items [] b v refl p q e f
-  arrays_least (x ∷ a) [] v p q r e f = top_items (x ∷ a) [] v (never_both program order _ _ refl) p q e f
-  arrays_least (x ∷ a) (y ∷ b) v p q r e f =
+  arrays_least [] b v e f = top_items [] b v refl e f
+  arrays_least (x ∷ a) [] v e f = top_items (x ∷ a) [] v (never_both program order _ _ refl) e f
+  arrays_least (x ∷ a) (y ∷ b) v e f =
       pick (λ (m : List ℕ). name_fits program m (91 ∷ v) ≡ true) ((x == 91) && (y == 91)) _ _
       (λ is.
       let both = both_of (x == 91) (y == 91) is in
-      let first : is_plain a ≡ true = rw both.0 at p in
-      let second : is_plain b ≡ true = rw both.1 at q in
-      array_over _ v (within_arrays x y a b v both.0 both.1 r (λ w plain g h. deep_least a b w first second plain g h) e f))
-      (λ apart. top_items (x ∷ a) (y ∷ b) v apart p q e f)
+      array_over _ v (within_arrays x y a b v both.0 both.1 (λ w g h. deep_least a b w g h) e f))
+      (λ apart. top_items (x ∷ a) (y ∷ b) v apart e f)
 
   -- what is assignable to an array is one, with such items
   items_in : (a v : List ℕ) → array_fits program a (91 ∷ v) ≡ true → (x : List ℕ) × ((a ≡ 91 ∷ x) × (component_fits program x v ≡ true))
@@ -270,13 +265,11 @@ module _ (program : Program) (order : IsInOrder program) where
         | inr is ↦ items_in a v is
       ]
 
-  array_names : (a b v : List ℕ) → (is_array a ≡ true → is_plain a ≡ true) → (is_array b ≡ true → is_plain b ≡ true) → is_plain v ≡ true
+  array_names : (a b v : List ℕ)
       → (x : List ℕ) × ((a ≡ 91 ∷ x) × (component_fits program x v ≡ true)) → (x : List ℕ) × ((b ≡ 91 ∷ x) × (component_fits program x v ≡ true))
       → name_fits program (names_merged program a b) (91 ∷ v) ≡ true
-  array_names a b v p q r (x, (e, f)) (y, (g, h)) =
-      let first : is_plain x ≡ true = subst (λ (n : List ℕ). is_array n ≡ true → is_plain n ≡ true) e p refl in
-      let second : is_plain y ≡ true = subst (λ (n : List ℕ). is_array n ≡ true → is_plain n ≡ true) g q refl in
-      let both : name_fits program (names_merged program (91 ∷ x) (91 ∷ y)) (91 ∷ v) ≡ true = arrays_least x y v first second r f h in
+  array_names a b v (x, (e, f)) (y, (g, h)) =
+      let both : name_fits program (names_merged program (91 ∷ x) (91 ∷ y)) (91 ∷ v) ≡ true = arrays_least x y v f h in
       subst (λ (n : List ℕ). name_fits program (names_merged program n b) (91 ∷ v) ≡ true) (sym e)
       (subst (λ (n : List ℕ). name_fits program (names_merged program (91 ∷ x) n) (91 ∷ v) ≡ true) (sym g) both)
 
@@ -298,17 +291,16 @@ module _ (program : Program) (order : IsInOrder program) where
       or_first _ _ (to_any program order (arrays_merged program object a b) v (from_array program order (x ∷ a) v both.0 e (seen program (x ∷ a) v f))))
       (λ apart. or_first _ _ (leaf_least (x ∷ a) (y ∷ b) v f g))
 
-  names_least : (a b v : List ℕ) → (is_array a ≡ true → is_plain a ≡ true) → (is_array b ≡ true → is_plain b ≡ true) → (is_array v ≡ true → is_plain v ≡ true)
+  names_least : (a b v : List ℕ)
       → name_fits program a v ≡ true → name_fits program b v ≡ true → name_fits program (names_merged program a b) v ≡ true
-  names_least a b [] p q r e f = class_names a b [] refl (by_class a [] refl e) (by_class b [] refl f)
-  names_least a b (w ∷ v) p q r e f =
+  names_least a b [] e f = class_names a b [] refl (by_class a [] refl e) (by_class b [] refl f)
+  names_least a b (w ∷ v) e f =
       elim (cases_Bool (w == 91)) [
         | inl is ↦
             let one : w ≡ 91 = eqb-true w 91 is in
-            let plain : is_plain v ≡ true = rw is at (r is) in
             let first = items_of a v (subst (λ (n : ℕ). name_fits program a (n ∷ v) ≡ true) one e) in
             let second = items_of b v (subst (λ (n : ℕ). name_fits program b (n ∷ v) ≡ true) one f) in
-            subst (λ (n : ℕ). name_fits program (names_merged program a b) (n ∷ v) ≡ true) (sym one) (array_names a b v p q plain first second)
+            subst (λ (n : ℕ). name_fits program (names_merged program a b) (n ∷ v) ≡ true) (sym one) (array_names a b v first second)
         | inr fails ↦ class_names a b (w ∷ v) fails (by_class a (w ∷ v) fails e) (by_class b (w ∷ v) fails f)
       ]
 
@@ -350,18 +342,18 @@ module _ (program : Program) (order : IsInOrder program) where
   index_least k true e = e
   index_least k false e = absurd (false≢true (sym e ∙ eq-eqb k k refl))
 
-  references : (t u : VType) (v : List ℕ) → IsPlain t → IsPlain u → (is_array v ≡ true → is_plain v ≡ true) → assignable program t (types.Ref v) ≡ true → assignable program u (types.Ref v) ≡ true
+  references : (t u : VType) (v : List ℕ) → assignable program t (types.Ref v) ≡ true → assignable program u (types.Ref v) ≡ true
       → assignable program (merged program t u) (types.Ref v) ≡ true
-  references types.Null types.Null v p q r e f = refl
-  references types.Null (types.Ref b) v p q r e f = f
-  references (types.Ref a) types.Null v p q r e f = e
-  references (types.Ref a) (types.Ref b) v p q r e f = names_least a b v p q r e f
-  references t u v p q r e f = absurd cc
+  references types.Null types.Null v e f = refl
+  references types.Null (types.Ref b) v e f = f
+  references (types.Ref a) types.Null v e f = e
+  references (types.Ref a) (types.Ref b) v e f = names_least a b v e f
+  references t u v e f = absurd cc
 
-  pub merge_least : (t u v : VType) → IsPlain t → IsPlain u → IsPlain v → assignable program t v ≡ true → assignable program u v ≡ true → assignable program (merged program t u) v ≡ true
-  merge_least t u types.Top p q r e f = refl
-  merge_least t u types.Int p q r e f = rw (only_int t e, only_int u f) refl
-  merge_least t u types.Null p q r e f = rw (only_null t e, only_null u f) refl
-  merge_least t u (types.Ref v) p q r e f = references t u v p q r e f
-  merge_least t u types.UninitThis p q r e f = rw (only_this t e, only_this u f) refl
-  merge_least t u (types.Uninit k) p q r e f = rw (only_index t k e, only_index u k f) (index_least k (k == k) refl)
+  pub merge_least : (t u v : VType) → assignable program t v ≡ true → assignable program u v ≡ true → assignable program (merged program t u) v ≡ true
+  merge_least t u types.Top e f = refl
+  merge_least t u types.Int e f = rw (only_int t e, only_int u f) refl
+  merge_least t u types.Null e f = rw (only_null t e, only_null u f) refl
+  merge_least t u (types.Ref v) e f = references t u v e f
+  merge_least t u types.UninitThis e f = rw (only_this t e, only_this u f) refl
+  merge_least t u (types.Uninit k) e f = rw (only_index t k e, only_index u k f) (index_least k (k == k) refl)

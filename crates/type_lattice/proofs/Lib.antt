@@ -1,7 +1,8 @@
 pub mod Climbing
 pub mod Arrays
 pub mod Within
-mod Upwards
-mod Orders
+pub mod Upwards
+pub mod Orders
 mod Bounds
 mod Least
+mod Alone

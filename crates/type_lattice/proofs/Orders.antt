@@ -1,18 +1,17 @@
 -- Assignability is an order.
-use Rattle.std.proofs.Common.{◌≡◌, ℕ, zero, suc, ◌+◌, Bool, true, false, cond, List, [], ◌∷◌, ◌⊎◌, length, Option, Some, None, refl, sym, ap, subst, ◌∙◌, inl, inr}
-use Rattle.std.specs.Prelude.{bytes_eq, not, ◌==◌, ◌||◌, ◌&&◌}
+use Rattle.std.proofs.Common.{◌≡◌, ℕ, Bool, true, false, cond, List, [], ◌∷◌, ◌⊎◌, length, take, ◌-◌, Option, Some, None, refl, sym, subst, ◌∙◌, inl, inr}
+use Rattle.std.specs.Prelude.{bytes_eq, nat_lt, slice_index, not, ◌==◌, ◌&&◌}
 use Rattle.std.specs.Option.{option_map_or}
 use Rattle.std.proofs.lemmas.Bool.{cases_Bool, eq-eqb, eqb-true, false≢true}
 use Rattle.std.proofs.lemmas.Slice.Eq.{bytes_eq-Decides}
-use Rattle.api_listing.specs.declared.types.ListedClass.{ListedClass}
 use Rattle.api_listing.specs.BuiltIn.{object}
-use Rattle.api_listing.specs.Nearest.{class_named, upwards}
+use Rattle.api_listing.specs.Nearest.{class_named}
 use Rattle.bytecode_model.specs.declared.program.Program.{Program}
 use Rattle.cert_format.specs.declared.typing.VType.{VType}
 use Rattle.cert_format.specs.declared.typing.VType.TheVariants as types
-use Rattle.type_lattice.specs.Assigning.{is_array, named, reference_of, class_fits, leaf_fits, component_fits, array_fits, name_fits, assignable}
+use Rattle.type_lattice.specs.Assigning.{is_array, class_name, named, reference_of, class_fits, leaf_fits, component_fits, array_fits, name_fits, assignable}
 use Rattle.bytecode_model.specs.Classes.{classes_of, is_below, is_interface}
-use Rattle.type_lattice.specs.Laws.{IsInOrder, IsPlain, is_plain}
+use Rattle.type_lattice.specs.Laws.{IsInOrder}
 use Rattle.type_lattice.proofs.Arrays.{class_itself}
 use Rattle.type_lattice.proofs.Upwards.{either_of, both_of, both_are, or_first, or_second, none_up, up_and_up}
 
@@ -133,15 +132,30 @@ module _ (program : Program) (order : IsInOrder program) where
   at_leaf (x ∷ a) (y ∷ b) e = rw e refl
 
   -- a component that names a class is no array, and is told by that name
-  chose : (b : Bool) (v x : List ℕ) → cond b (Some v) None ≡ Some x → b ≡ true
-  chose true v x e = refl
+  chose : (b : Bool) (v : Option (List ℕ)) (x : List ℕ) → cond b v None ≡ Some x → (b ≡ true) × (v ≡ Some x)
+  chose true v x e = (refl, e)
   chose false v x e = absurd cc
 
   pub named_apart : (b x : List ℕ) → named b ≡ Some x → is_array b ≡ false
   named_apart [] x e = refl
   named_apart (c ∷ rest) x e =
-      let letter : c ≡ 76 = eqb-true c 76 (both_of (c == 76) _ (chose _ _ x e)).0 in
+      let letter : c ≡ 76 = eqb-true c 76 (both_of (c == 76) _ (chose _ _ x e).0).0 in
       rw letter refl
+
+  -- that name is none of an array
+  name_apart : (name x : List ℕ) → class_name name ≡ Some x → is_array x ≡ false
+  name_apart name x e =
+      elim (cases_Bool (is_array name)) [
+        | inl is ↦ let h : ◌≡◌ {A = Option (List ℕ)} None (Some x) = rw is at e in absurd cc
+        | inr apart ↦
+            let h : ◌≡◌ {A = Option (List ℕ)} (Some name) (Some x) = rw apart at e in
+            let one : name ≡ x = cc in
+            subst (λ (n : List ℕ). is_array n ≡ false) one apart
+      ]
+
+  pub class_apart : (b x : List ℕ) → named b ≡ Some x → is_array x ≡ false
+  class_apart [] x e = absurd cc
+  class_apart (c ∷ rest) x e = name_apart (take (length rest - 1) rest) x (chose ((c == 76) && (nat_lt 0 (length rest) && (slice_index rest (length rest - 1) == 59))) _ x e).1
 
   pub named_told : (b x : List ℕ) → named b ≡ Some x → reference_of b ≡ Some x
   named_told b x e = rw (named_apart b x e) e
@@ -173,12 +187,6 @@ module _ (program : Program) (order : IsInOrder program) where
   through_leaf a b c apart e f = first_leaf a b c e f (leaf_seen a b (sym (at_leaf a b apart) ∙ e))
 
   -- through an array, to one that is none
-  pub plain_name : (c above : List ℕ) → is_array c ≡ false → is_plain c ≡ true → named c ≡ Some above → is_array above ≡ false
-  plain_name [] above e f g = absurd cc
-  plain_name (x ∷ c) above e f g =
-      let plain : option_map_or (λ (name : List ℕ). not (is_array name)) (named (x ∷ c)) true ≡ true = rw e at f in
-      false_of _ (subst (λ (o : Option (List ℕ)). option_map_or (λ (name : List ℕ). not (is_array name)) o true ≡ true) g plain)
-
   pub from_array : (b above : List ℕ) → is_array b ≡ true → is_array above ≡ false → Fit program b above → (above ≡ object) ⊎ (is_interface program above ≡ true)
   from_array b above is apart (equal e) = absurd (false≢true (sym apart ∙ subst (λ (x : List ℕ). is_array x ≡ true) e is))
   from_array b above is apart (top e) = inl e
@@ -189,26 +197,26 @@ module _ (program : Program) (order : IsInOrder program) where
   to_any a above (inl e) = fits program a above (top e)
   to_any a above (inr e) = fits program a above (interface e)
 
-  array_leaf : (a b c : List ℕ) → is_array a ≡ true → is_array b ≡ true → is_array c ≡ false → is_plain c ≡ true → Leaf program b c → component_fits program a c ≡ true
-  array_leaf a b c e f g p (same h) = absurd (false≢true (sym g ∙ subst (λ (x : List ℕ). is_array x ≡ true) h f))
-  array_leaf a b c e f g p (classes below above h i j) =
+  array_leaf : (a b c : List ℕ) → is_array a ≡ true → is_array b ≡ true → is_array c ≡ false → Leaf program b c → component_fits program a c ≡ true
+  array_leaf a b c e f g (same h) = absurd (false≢true (sym g ∙ subst (λ (x : List ℕ). is_array x ≡ true) h f))
+  array_leaf a b c e f g (classes below above h i j) =
       let told : ◌≡◌ {A = Option (List ℕ)} (Some below) (Some b) = sym h ∙ array_told b f in
       let one : below ≡ b = cc in
-      let any = from_array b above f (plain_name c above g p i) (seen program b above (subst (λ (x : List ℕ). class_fits program x above ≡ true) one j)) in
+      let any = from_array b above f (class_apart c above i) (seen program b above (subst (λ (x : List ℕ). class_fits program x above ≡ true) one j)) in
       at_leaf a c (never_both _ _ g) ∙ leaf_is a c (classes a above (array_told a e) i (to_any a above any))
 
-  through_array : (a b c : List ℕ) → is_array a ≡ true → is_array b ≡ true → is_array c ≡ false → is_plain c ≡ true → component_fits program b c ≡ true → component_fits program a c ≡ true
-  through_array a b c e f g p h = array_leaf a b c e f g p (leaf_seen b c (sym (at_leaf b c (never_both _ _ g)) ∙ h))
+  through_array : (a b c : List ℕ) → is_array a ≡ true → is_array b ≡ true → is_array c ≡ false → component_fits program b c ≡ true → component_fits program a c ≡ true
+  through_array a b c e f g h = array_leaf a b c e f g (leaf_seen b c (sym (at_leaf b c (never_both _ _ g)) ∙ h))
 
-  items_over : (a b c : List ℕ) → is_plain c ≡ true → component_fits program a b ≡ true → component_fits program b c ≡ true → component_fits program a c ≡ true
-  items_over [] b c p e f = through_leaf [] b c refl e f
-  items_over (x ∷ a) [] c p e f = through_leaf (x ∷ a) [] c (never_both _ _ refl) e f
-  items_over (x ∷ a) (y ∷ b) [] p e f =
+  items_over : (a b c : List ℕ) → component_fits program a b ≡ true → component_fits program b c ≡ true → component_fits program a c ≡ true
+  items_over [] b c e f = through_leaf [] b c refl e f
+  items_over (x ∷ a) [] c e f = through_leaf (x ∷ a) [] c (never_both _ _ refl) e f
+  items_over (x ∷ a) (y ∷ b) [] e f =
       elim (cases_Bool ((x == 91) && (y == 91))) [
-        | inl is ↦ let both = both_of _ _ is in through_array (x ∷ a) (y ∷ b) [] both.0 both.1 refl p f
+        | inl is ↦ let both = both_of _ _ is in through_array (x ∷ a) (y ∷ b) [] both.0 both.1 refl f
         | inr apart ↦ through_leaf (x ∷ a) (y ∷ b) [] apart e f
       ]
-  items_over (x ∷ a) (y ∷ b) (z ∷ c) p e f =
+  items_over (x ∷ a) (y ∷ b) (z ∷ c) e f =
       elim (cases_Bool ((x == 91) && (y == 91))) [
         | inl is ↦
             let both = both_of (x == 91) (y == 91) is in
@@ -216,9 +224,8 @@ module _ (program : Program) (order : IsInOrder program) where
               | inl third ↦
                   let lower : component_fits program a b ≡ true = rw is at e in
                   let upper : component_fits program b c ≡ true = rw (both.1, third) at f in
-                  let plain : is_plain c ≡ true = rw third at p in
-                  rw (both.0, third) (items_over a b c plain lower upper)
-              | inr third ↦ through_array (x ∷ a) (y ∷ b) (z ∷ c) both.0 both.1 third p f
+                  rw (both.0, third) (items_over a b c lower upper)
+              | inr third ↦ through_array (x ∷ a) (y ∷ b) (z ∷ c) both.0 both.1 third f
             ]
         | inr apart ↦ through_leaf (x ∷ a) (y ∷ b) (z ∷ c) apart e f
       ]
@@ -235,16 +242,15 @@ module _ (program : Program) (order : IsInOrder program) where
   array_second (x ∷ a) [] e = absurd cc
   array_second (x ∷ a) (y ∷ b) e = (both_of (y == 91) _ (both_of (x == 91) _ e).1).0
 
-  array_over : (a b c : List ℕ) → is_plain c ≡ true → array_fits program a b ≡ true → array_fits program b c ≡ true → array_fits program a c ≡ true
-  array_over [] b c p e f = absurd cc
-  array_over (x ∷ a) [] c p e f = absurd cc
-  array_over (x ∷ a) (y ∷ b) [] p e f = absurd cc
-  array_over (x ∷ a) (y ∷ b) (z ∷ c) p e f =
+  array_over : (a b c : List ℕ) → array_fits program a b ≡ true → array_fits program b c ≡ true → array_fits program a c ≡ true
+  array_over [] b c e f = absurd cc
+  array_over (x ∷ a) [] c e f = absurd cc
+  array_over (x ∷ a) (y ∷ b) [] e f = absurd cc
+  array_over (x ∷ a) (y ∷ b) (z ∷ c) e f =
       let first = both_of (x == 91) _ e in
       let second = both_of (y == 91) _ f in
       let third = both_of (z == 91) _ second.1 in
-      let plain : is_plain c ≡ true = rw third.0 at p in
-      rw (first.0, third.0) (items_over a b c plain (both_of (y == 91) _ first.1).1 third.1)
+      rw (first.0, third.0) (items_over a b c (both_of (y == 91) _ first.1).1 third.1)
 
   under_array : (a b c : List ℕ) → is_array b ≡ true → Fit program b c → class_fits program a c ≡ true ⊎ (b ≡ c)
   under_array a b c is (equal e) = inr e
@@ -252,8 +258,8 @@ module _ (program : Program) (order : IsInOrder program) where
   under_array a b c is (interface e) = inl (fits program a c (interface e))
   under_array a b c is (under e f) = absurd (false≢true (sym e ∙ is))
 
-  name_over : (a b c : List ℕ) → (is_array c ≡ true → is_plain c ≡ true) → name_fits program a b ≡ true → name_fits program b c ≡ true → name_fits program a c ≡ true
-  name_over a b c p e f =
+  name_over : (a b c : List ℕ) → name_fits program a b ≡ true → name_fits program b c ≡ true → name_fits program a c ≡ true
+  name_over a b c e f =
       elim (either_of (class_fits program a b) _ e) [
         | inl one ↦
             elim (either_of (class_fits program b c) _ f) [
@@ -269,7 +275,7 @@ module _ (program : Program) (order : IsInOrder program) where
                     | inl is ↦ or_first _ _ is
                     | inr is ↦ subst (λ (x : List ℕ). name_fits program a x ≡ true) is e
                   ]
-              | inr two ↦ or_second _ _ (array_over a b c (p (array_second b c two)) one two)
+              | inr two ↦ or_second _ _ (array_over a b c one two)
             ]
       ]
 
@@ -278,14 +284,14 @@ module _ (program : Program) (order : IsInOrder program) where
   index_over : (i j k : ℕ) → (i == j) ≡ true → (j == k) ≡ true → (i == k) ≡ true
   index_over i j k e f = eq-eqb i k (eqb-true i j e ∙ eqb-true j k f)
 
-  to_reference : (t : VType) (b c : List ℕ) → (is_array c ≡ true → is_plain c ≡ true) → assignable program t (types.Ref b) ≡ true → name_fits program b c ≡ true
+  to_reference : (t : VType) (b c : List ℕ) → assignable program t (types.Ref b) ≡ true → name_fits program b c ≡ true
       → assignable program t (types.Ref c) ≡ true
-  to_reference types.Top b c p e f = absurd cc
-  to_reference types.Int b c p e f = absurd cc
-  to_reference types.Null b c p e f = refl
-  to_reference (types.Ref a) b c p e f = name_over a b c p e f
-  to_reference types.UninitThis b c p e f = absurd cc
-  to_reference (types.Uninit i) b c p e f = absurd cc
+  to_reference types.Top b c e f = absurd cc
+  to_reference types.Int b c e f = absurd cc
+  to_reference types.Null b c e f = refl
+  to_reference (types.Ref a) b c e f = name_over a b c e f
+  to_reference types.UninitThis b c e f = absurd cc
+  to_reference (types.Uninit i) b c e f = absurd cc
 
   null_reference : (t : VType) (c : List ℕ) → assignable program t types.Null ≡ true → assignable program t (types.Ref c) ≡ true
   null_reference types.Top c e = absurd cc
@@ -303,12 +309,12 @@ module _ (program : Program) (order : IsInOrder program) where
   to_index types.UninitThis j k e f = absurd cc
   to_index (types.Uninit i) j k e f = index_over i j k e f
 
-  pub type_over : (t u v : VType) → IsPlain v → assignable program t u ≡ true → assignable program u v ≡ true → assignable program t v ≡ true
-  type_over t u types.Top p e f = refl
-  type_over t types.Int types.Int p e f = e
-  type_over t types.Null types.Null p e f = e
-  type_over t types.Null (types.Ref c) p e f = null_reference t c e
-  type_over t (types.Ref b) (types.Ref c) p e f = to_reference t b c p e f
-  type_over t types.UninitThis types.UninitThis p e f = e
-  type_over t (types.Uninit j) (types.Uninit k) p e f = to_index t j k e f
-  type_over t u v p e f = absurd cc
+  pub type_over : (t u v : VType) → assignable program t u ≡ true → assignable program u v ≡ true → assignable program t v ≡ true
+  type_over t u types.Top e f = refl
+  type_over t types.Int types.Int e f = e
+  type_over t types.Null types.Null e f = e
+  type_over t types.Null (types.Ref c) e f = null_reference t c e
+  type_over t (types.Ref b) (types.Ref c) e f = to_reference t b c e f
+  type_over t types.UninitThis types.UninitThis e f = e
+  type_over t (types.Uninit j) (types.Uninit k) e f = to_index t j k e f
+  type_over t u v e f = absurd cc

@@ -1,7 +1,6 @@
 -- Classes below others, one way up after the other.
-use Rattle.std.proofs.Common.{◌≡◌, ℕ, zero, suc, ◌+◌, ◌-◌, ◌<◌, ◌≤◌, Bool, true, false, cond, List, [], ◌∷◌, ◌++◌, ◌⊎◌, length, Option, Some, None, refl, sym, ap, subst, ◌∙◌, inl, inr, arith}
-use Rattle.std.specs.Prelude.{bytes_eq, find, not, ◌||◌, ◌&&◌}
-use Rattle.std.specs.List.{list_any}
+use Rattle.std.proofs.Common.{◌≡◌, ℕ, zero, suc, ◌+◌, Bool, true, false, List, [], ◌∷◌, ◌⊎◌, Option, Some, None, refl, sym, ap, subst, ◌∙◌, inl, inr, arith}
+use Rattle.std.specs.Prelude.{bytes_eq, find, ◌||◌, ◌&&◌}
 use Rattle.std.specs.Option.{option_map_or}
 use Rattle.std.proofs.lemmas.Bool.{cases_Bool, false≢true}
 use Rattle.std.proofs.lemmas.Slice.Eq.{bytes_eq-Decides}
@@ -48,7 +47,7 @@ module _ (classes : List ListedClass) where
   abbrev pub is_up : ℕ → List ℕ → List ℕ → Bool
   is_up n class above = one_named above (upwards n classes class)
 
-  abbrev up_from : Option ListedClass → ℕ → List ListedClass
+  abbrev pub up_from : Option ListedClass → ℕ → List ListedClass
   up_from found n = option_map_or (λ (c : ListedClass). c ∷ upwards n classes c.parent) found []
 
   -- one step more finds no less

@@ -18,10 +18,14 @@ abbrev pub class_fits : Program → List ℕ → List ℕ → Bool
 class_fits program from to =
     bytes_eq from to || (bytes_eq to object || (is_interface program to || (not (is_array from) && is_below program from to)))
 
--- the name in a component `Lname;`
+-- the name, where it is none of an array
+abbrev pub class_name : List ℕ → Option (List ℕ)
+class_name name = if is_array name then None else Some name
+
+-- the name in a component `Lname;`; a class is not named as an array is
 abbrev pub named : List ℕ → Option (List ℕ)
 named [] = None
-named (c ∷ rest) = if (c == 76) && (nat_lt 0 (length rest) && (slice_index rest (length rest - 1) == 59)) then Some (take (length rest - 1) rest) else None
+named (c ∷ rest) = if (c == 76) && (nat_lt 0 (length rest) && (slice_index rest (length rest - 1) == 59)) then class_name (take (length rest - 1) rest) else None
 
 -- a component that is a class or an array, as a name of the class or array
 abbrev pub reference_of : List ℕ → Option (List ℕ)

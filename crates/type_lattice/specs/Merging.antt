@@ -1,5 +1,5 @@
 -- The least type to which two are assignable. (The Java Virtual Machine Specification, section 4.10.2.2.)
-use Rattle.std.specs.Prelude.{ℕ, Bool, ◌==◌, ◌&&◌, ◌||◌, bytes_eq, if◌then◌else◌, List, [], ◌∷◌, length, find, Option, Some, None}
+use Rattle.std.specs.Prelude.{ℕ, ◌==◌, ◌&&◌, ◌||◌, bytes_eq, if◌then◌else◌, List, [], ◌∷◌, length, find, Option, Some, None}
 use Rattle.std.specs.Option.{option_map_or}
 use Rattle.api_listing.specs.declared.types.ListedClass.{ListedClass}
 use Rattle.api_listing.specs.BuiltIn.{object}

@@ -1,8 +1,8 @@
 //! Which type may stand in the place of which. (The Java Virtual Machine Specification, section 4.10.1.2.)
 
 ghost use Rattle.std.specs.Prelude.{◌≡◌, option_copied};
-ghost use Rattle.type_lattice.specs.Assigning.{class_fits, named, is_array, reference_of, leaf_fits, component_fits, array_fits};
-ghost use Rattle.type_lattice.specs.Assigning.{name_fits, assignable};
+ghost use Rattle.type_lattice.specs.Assigning.{is_array, class_name, named, reference_of, class_fits, leaf_fits};
+ghost use Rattle.type_lattice.specs.Assigning.{component_fits, array_fits, name_fits, assignable};
 ghost use Rattle.type_lattice.specs.Lending.{array_of, described, type_lent};
 ghost use Rattle.type_lattice.specs.declared.lending.TypeRef.{TypeRef};
 ghost use Rattle.bytecode_model.specs.declared.program.Program.{Program};
@@ -173,7 +173,14 @@ pub fn is_array(text: &[u8]) -> bool
     }
 }
 
-/// The name in a component `Lname;`.
+/// The name, where it is none of an array.
+fn class_name<'a>(name: &'a [u8]) -> Option<&'a [u8]>
+    ensures { option_copied result ≡ class_name name.now }
+{
+    if is_array(name) { None } else { Some(name) }
+}
+
+/// The name in a component `Lname;`. A class is not named as an array is.
 fn named<'a>(component: &'a [u8]) -> Option<&'a [u8]>
     ensures { option_copied result ≡ named component.now }
 {
@@ -181,7 +188,7 @@ fn named<'a>(component: &'a [u8]) -> Option<&'a [u8]>
         [] => None,
         [first, rest @ ..] => {
             if *first == b'L' && !rest.is_empty() && rest[rest.len() - 1] == b';' {
-                Some(&rest[..rest.len() - 1])
+                class_name(&rest[..rest.len() - 1])
             } else {
                 None
             }

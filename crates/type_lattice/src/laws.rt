@@ -1,12 +1,24 @@
 //! What holds of types in order.
 
 ghost use Rattle.std.specs.Prelude.{◌≡◌};
-ghost use Rattle.type_lattice.specs.Laws.{IsReflexive, IsTransitive, IsMergeAbove, IsMergeLeast};
+ghost use Rattle.type_lattice.specs.Laws.{
+  IsMergeAbove,
+  IsMergeLeast,
+  IsReflexive,
+  IsThrownAlone,
+  IsTransitive,
+};
+
+// The classes of a linked program are in order.
+// pub fn linked_is_in_order()
+//     ensures { LinkedIsInOrder }
+// {}
 
 /// Assignability is an order of the types of a program whose classes are in order.
 pub fn assignable_is_an_order()
     ensures reflexive { IsReflexive }
     ensures transitive { IsTransitive }
+    ensures thrown { IsThrownAlone }
 {}
 
 /// The merge of two types is the least to which both are assignable, in a program whose classes are in order.

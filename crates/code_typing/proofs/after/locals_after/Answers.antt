@@ -14,8 +14,8 @@ loop-j-preserved c =
     pushed_each (local_told c.shape_of-shape.result c.change_of-change.result c.as_slice-found.result.now c.split_top.result.1.now) c.loop-j.locals _ _ c.loop-j.j c.in_ok-push.ensures.ok
     c.loop-j.invariant.0 (c.in_ok-own.ensures ∙ c.local_told.ensures) c.loop-j.invariant.1
 
-pub returns : goal.returns
-returns c j =
+pub returns-clause-are : goal.returns-clause-are
+returns-clause-are c j =
     let place = c.args.place.now in
     let frame = c.args.frame.now in
     let change = c.change_of-change.result in

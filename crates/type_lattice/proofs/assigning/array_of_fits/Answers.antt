@@ -1,4 +1,4 @@
-use Rattle.std.proofs.Common.{◌≡◌, sym, ◌∙◌}
+use Rattle.std.proofs.Common.{sym, ◌∙◌}
 use Rattle.type_lattice.proofs.Arrays.{array_of_item, neither_first}
 use Rattle.type_lattice.proofs.assigning.array_of_fits.Goals as goal
 

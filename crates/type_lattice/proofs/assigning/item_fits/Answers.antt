@@ -1,4 +1,4 @@
-use Rattle.std.proofs.Common.{◌≡◌, List, ℕ, Option, false, sym, ap, ◌∙◌}
+use Rattle.std.proofs.Common.{List, ℕ, Option, false, sym, ap, ◌∙◌}
 use Rattle.std.specs.Option.{option_map_or}
 use Rattle.type_lattice.specs.Assigning.{class_fits}
 use Rattle.type_lattice.proofs.Arrays.{item_class}
