@@ -144,8 +144,9 @@ catches_below place frame handler to reflexive h =
 -- ---- a frame that is found
 
 -- It is below one at which the rules are met, and meets those that ask nothing of other instructions.
-pub record IsUnder (scope : Scope) (above : Frames) (place : Place) (low : FrameType) : Type 0 where
+pub record IsUnder (scope : Scope) (above : Frames) (at : ℕ) (place : Place) (low : FrameType) : Type 0 where
   pub high : FrameType
+  pub there : frame_of above at ≡ Some high
   pub row : IsRowMet above place high
   pub below : IsFrameBelow scope.program low high
   pub alone : IsAloneMet place low
@@ -156,7 +157,7 @@ place_is scope at place there =
     (ap (λ (p : Place). p.program) (sym h.2), ap (λ (p : Place). p.method) (sym h.2), ap (λ (p : Place). p.at) (sym h.2))
 
 module _ (scope : Scope) (laws : Laws scope.program) (above : Frames) where
-  pub is_under : (at : ℕ) (place : Place) (low : FrameType) → RowIsMet scope above at → place_of scope at ≡ Some place → IsFound scope above at low → IsUnder scope above place low
+  pub is_under : (at : ℕ) (place : Place) (low : FrameType) → RowIsMet scope above at → place_of scope at ≡ Some place → IsFound scope above at low → IsUnder scope above at place low
   is_under at place low row there f =
       let same : f.place ≡ place = some_one f.place place (sym f.placed ∙ there) in
       let program = place_is scope at place there in
@@ -168,7 +169,7 @@ module _ (scope : Scope) (laws : Laws scope.program) (above : Frames) where
       let order = subst IsInOrder (sym program.0) laws.order in
       let kept = subst (λ (p : Place). is_settled p low ≡ true) same f.settled in
       let within = subst (λ (m : Method). length low.locals ≤ m.max_locals) (sym program.1) f.within in
-      record { high = f.high; row = met; below = below; alone = laws.alone place order low f.high here met.alone kept within }
+      record { high = f.high; there = f.there; row = met; below = below; alone = laws.alone place order low f.high here met.alone kept within }
 
   -- ---- what it leaves and throws
 
@@ -182,7 +183,7 @@ module _ (scope : Scope) (laws : Laws scope.program) (above : Frames) where
     pub there : frame_of above to ≡ Some high
     pub below : AreBelow scope.program left high
 
-  pub left_fits : (at : ℕ) (place : Place) (low : FrameType) → place_of scope at ≡ Some place → IsUnder scope above place low → (to : ℕ) → Contains (successors at place.insn) to
+  pub left_fits : (at : ℕ) (place : Place) (low : FrameType) → place_of scope at ≡ Some place → IsUnder scope above at place low → (to : ℕ) → Contains (successors at place.insn) to
       → Fits to (left_by place low)
   left_fits at place low there u to c =
       let p = place_is scope at place there in
@@ -211,7 +212,7 @@ module _ (scope : Scope) (laws : Laws scope.program) (above : Frames) where
     pub stack : high.stack ≡ types.Ref (class_caught handler) ∷ []
     pub below : AreBelow scope.program (thrown_to handler place low) high
 
-  pub thrown_fits : (at : ℕ) (place : Place) (low : FrameType) → place_of scope at ≡ Some place → IsUnder scope above place low → (handler : Handler) → Contains scope.method.handlers handler
+  pub thrown_fits : (at : ℕ) (place : Place) (low : FrameType) → place_of scope at ≡ Some place → IsUnder scope above at place low → (handler : Handler) → Contains scope.method.handlers handler
       → covers at handler ≡ true → IsThrown place low handler
   thrown_fits at place low there u handler c covered =
       let p = place_is scope at place there in

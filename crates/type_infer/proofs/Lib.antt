@@ -6,4 +6,6 @@ pub mod Flowing
 pub mod Stepping
 pub mod Staying
 pub mod Delivering
+pub mod Solutions
+pub mod Meeting
 pub mod Placing

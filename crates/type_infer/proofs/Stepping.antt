@@ -47,7 +47,7 @@ module _ (place : Place) (old : Option FrameType) (a b : Left) (operands : a.ope
 
 -- ---- a frame that is put
 
-equal_or : (i j : ℕ) → (i ≡ j) ⊎ (i ≡ j → ⊥)
+pub equal_or : (i j : ℕ) → (i ≡ j) ⊎ (i ≡ j → ⊥)
 equal_or i j =
     elim (cases_Bool (eqb i j)) [
       | inl same ↦ inl ((Decides-eqb i j).0 same)
@@ -204,3 +204,7 @@ module _ (scope : Scope) (laws : Laws scope.program) where
           subst (λ (q : Place). HasCome scope.program (put old to told).frames to (of q frame)) one
           (subst (λ (g : FrameType). HasCome scope.program (put old to told).frames to (of from g)) two
           (subst (λ (l : Left). HasCome scope.program (put old to told).frames to l) (sym is) has_come))
+
+pub state_is : (s : State) (frames : Frames) (marks : List Bool) → s.frames ≡ frames → s.marks ≡ marks → s ≡ record { frames = frames; marks = marks }
+state_is s frames marks e g =
+    subst (λ (f : Frames). s ≡ record { frames = f; marks = marks }) e (subst (λ (m : List Bool). s ≡ record { frames = s.frames; marks = m }) g refl)
