@@ -154,10 +154,10 @@ module _ (scope : Scope) (laws : Laws scope.program) (at : ℕ) (place : Place) 
     pub all_done : IsDone scope new at
     all_done = record {
       goes = λ other is to c.
-        let one : place ≡ other = some_one place other (sym there ∙ is) in
-        left_gone to (subst (λ (p : Place). Contains (successors at p.insn) to) (sym one) c);
+          let one : place ≡ other = some_one place other (sym there ∙ is) in
+          left_gone to (subst (λ (p : Place). Contains (successors at p.insn) to) (sym one) c);
       throws = λ handler c covered.
-        to_here handler.at (thrown_to handler)
-        (sent_after scope laws place.at old second new handler.at (thrown_to handler) (stays_over scope laws place.at old first second s.on_stays s.jumps_stay)
-        (s.throws_sent handler c (subst (λ (n : ℕ). covers n handler ≡ true) (sym same) covered)));
+          to_here handler.at (thrown_to handler)
+          (sent_after scope laws place.at old second new handler.at (thrown_to handler) (stays_over scope laws place.at old first second s.on_stays s.jumps_stay)
+          (s.throws_sent handler c (subst (λ (n : ℕ). covers n handler ≡ true) (sym same) covered)));
     }

@@ -8,4 +8,5 @@ pub mod Staying
 pub mod Delivering
 pub mod Solutions
 pub mod Meeting
+pub mod Firsts
 pub mod Placing

@@ -4,7 +4,7 @@ use Rattle.std.specs.Prelude.{slice_get, is_some, IfSome, IfOk, OnOk}
 use Rattle.std.specs.List.{AllByRecursion}
 use Rattle.std.specs.Option.{option_map_or}
 use Rattle.std.proofs.lemmas.Option.{slice_get_read}
-use Rattle.std.proofs.lemmas.Bool.{cases_Bool, ltb-true, ltb-false}
+use Rattle.std.proofs.lemmas.Bool.{cases_Bool, false≢true, ltb-true, ltb-false}
 use Rattle.bytecode_model.specs.declared.program.Program.{Program}
 use Rattle.cert_format.specs.declared.typing.FrameType.{FrameType}
 use Rattle.cert_format.specs.declared.typing.VType.{VType}
@@ -141,3 +141,7 @@ on_ok (Err e) f h = h
 pub both_ok : {A E : Type 0} (P Q : Type 0) (r : Result A E) → OnOk r P → OnOk r Q → OnOk r (P × Q)
 both_ok P Q (Ok x) p q = (p, q)
 both_ok P Q (Err e) p q = p
+
+pub filled : {A : Type 0} (xs : List A) (b : Bool) → (xs ≡ [] → b ≡ true) → b ≡ false → 0 < length xs
+filled [] b h e = absurd (false≢true (sym e ∙ h refl))
+filled (x ∷ xs) b h e = omega arith

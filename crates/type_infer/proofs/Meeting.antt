@@ -115,11 +115,12 @@ module _ (scope : Scope) (laws : Laws scope.program) (limit : ℕ) (above : Fram
         let covered' = subst (λ (n : ℕ). covers n handler ≡ true) p.2 covered in
         let t = thrown_fits scope laws above at place low there under handler c' covered' in
         let come = (h.done at within).throws handler c' covered' (over at within) place low there is in
-        let locals = subst (λ (q : Program). AreBelow q (thrown_to handler place low) come.frame) (sym p.0) come.below in
-        (le-leb 1 place.method.max_stack t.room,
-        subst (λ (q : Program). is_below q (class_caught handler) throwable ≡ true) (sym p.0) t.class,
-        there_from (catches_well place low handler) (frame_of state.frames handler.at) come.frame come.there
-        (and_from _ _ (stands_alone handler c' covered' come) (locals_fit_below place.program _ come.frame.locals locals.locals)))))
+        let locals = subst (λ (q : Program). AreBelow q (thrown_to handler place low) come.frame) (sym p.0) come.below in (
+          le-leb 1 place.method.max_stack t.room,
+          subst (λ (q : Program). is_below q (class_caught handler) throwable ≡ true) (sym p.0) t.class,
+          there_from (catches_well place low handler) (frame_of state.frames handler.at) come.frame come.there
+              (and_from _ _ (stands_alone handler c' covered' come) (locals_fit_below place.program _ come.frame.locals locals.locals)),
+        )))
 
     rules : rule_failing state.frames place low ≡ None
     rules = unfailing _ _ _ _ _ _ under.alone.depth under.alone.operand under.alone.local under.alone.made follows catches
@@ -175,7 +176,7 @@ module _ (scope : Scope) (laws : Laws scope.program) (limit : ℕ) (above : Fram
   solution = record {
     met = λ at within. insn_row at within (slice_get scope.method.insns at) refl;
     least = λ at low within is.
-      let q = place_for at low is in
-      let u = under at within q.0 q.1 low is in
-      (u.high, (u.there, u.below));
+        let q = place_for at low is in
+        let u = under at within q.0 q.1 low is in
+        (u.high, (u.there, u.below));
   }

@@ -84,12 +84,12 @@ module _ (place : Place) (reflexive : (t : VType) → assignable place.program t
       least : (high : FrameType) → IsTrue (is_settled place high) → AreBelow place.program left high → OldIsBelow place.program old high → IsFrameBelow place.program now high
       least high settled below over = record {
         stack =
-        stack_below place.program now.stack high.stack (s.height ∙ stack_height place.program left.operands high.stack below.operands)
-        (λ j. subst (λ (u : VType). assignable place.program u (type_at high.stack j) ≡ true) (sym (s.operands j))
-        (operand_least place.program reflexive place (shape_of place.insn) high settled j (y j) (l.least_operands high below over j)));
+            stack_below place.program now.stack high.stack (s.height ∙ stack_height place.program left.operands high.stack below.operands)
+            (λ j. subst (λ (u : VType). assignable place.program u (type_at high.stack j) ≡ true) (sym (s.operands j))
+            (operand_least place.program reflexive place (shape_of place.insn) high settled j (y j) (l.least_operands high below over j)));
         locals =
-        λ j. subst (λ (u : VType). assignable place.program u (type_at high.locals j) ≡ true) (sym (s.locals j))
-        (local_least place.program reflexive place (shape_of place.insn) high settled j (x j) (l.least_locals high below over j));
+            λ j. subst (λ (u : VType). assignable place.program u (type_at high.locals j) ≡ true) (sym (s.locals j))
+            (local_least place.program reflexive place (shape_of place.insn) high settled j (x j) (l.least_locals high below over j));
       }
 
       pub is_raised : IsRaised place old left now
@@ -105,7 +105,7 @@ module _ (place : Place) (reflexive : (t : VType) → assignable place.program t
       pub is_raised_old : (frame : FrameType) → old ≡ Some frame → IsFrameBelow place.program now frame → IsFrameBelow place.program frame frame → IsRaised place old left frame
       is_raised_old frame e below self = record {
         came = below_over place.program transitive left now frame came below;
-        kept = λ other e' . subst (λ (f : FrameType). IsFrameBelow place.program f frame) (cc) self;
+        kept = λ other e'. subst (λ (f : FrameType). IsFrameBelow place.program f frame) (cc) self;
         least = λ high settled under over. over frame e;
         settled = λ f. f frame e;
         within = λ f. f frame e;
@@ -151,16 +151,16 @@ module _ (program : Program) (reflexive : (t : VType) → assignable program t t
         locals = λ j. (above (type_at frame.locals j) (type_at locals j)).1;
         operands = λ j. (above (type_at frame.stack j) (type_at operands j)).1;
         old_locals =
-        λ other e j. subst (λ (f : FrameType). assignable program (type_at f.locals j) (merged program (type_at frame.locals j) (type_at locals j)) ≡ true) (is_frame other e)
-        (above (type_at frame.locals j) (type_at locals j)).0;
+            λ other e j. subst (λ (f : FrameType). assignable program (type_at f.locals j) (merged program (type_at frame.locals j) (type_at locals j)) ≡ true) (is_frame other e)
+            (above (type_at frame.locals j) (type_at locals j)).0;
         old_operands =
-        λ other e j. subst (λ (f : FrameType). assignable program (type_at f.stack j) (merged program (type_at frame.stack j) (type_at operands j)) ≡ true) (is_frame other e)
-        (above (type_at frame.stack j) (type_at operands j)).0;
+            λ other e j. subst (λ (f : FrameType). assignable program (type_at f.stack j) (merged program (type_at frame.stack j) (type_at operands j)) ≡ true) (is_frame other e)
+            (above (type_at frame.stack j) (type_at operands j)).0;
         height = λ other e. subst (λ (f : FrameType). length f.stack ≡ length operands) (is_frame other e) same;
         least_locals = λ high below over j. least (type_at frame.locals j) (type_at locals j) (type_at high.locals j) ((over frame refl).locals j) (below.locals j);
         least_operands =
-        λ high below over j. least (type_at frame.stack j) (type_at operands j) (type_at high.stack j) (stack_at program frame.stack high.stack (over frame refl).stack j)
-        (stack_at program operands high.stack below.operands j);
+            λ high below over j. least (type_at frame.stack j) (type_at operands j) (type_at high.stack j) (stack_at program frame.stack high.stack (over frame refl).stack j)
+            (stack_at program operands high.stack below.operands j);
       }
 
 -- ---- a frame that is told
@@ -179,9 +179,13 @@ module _ (place : Place) (reflexive : (t : VType) → assignable place.program t
       let some = some_is told (s.some l o) in
       let now = some.0 in
       let left : Left = record { locals = type_at locals; operands = operands } in
-      let is = settled_of place locals operands told (length operands) (type_at locals) (type_at operands) now s some.1 refl (λ j. refl) (λ j. refl) in
-      (now, (ap (λ (x : Option FrameType). option_or x None) some.1,
-      is_raised place reflexive transitive None left (type_at locals) (type_at operands) now (alone_least place.program reflexive locals operands) is))
+      let is = settled_of place locals operands told (length operands) (type_at locals) (type_at operands) now s some.1 refl (λ j. refl) (λ j. refl) in (
+        now,
+        (
+          ap (λ (x : Option FrameType). option_or x None) some.1,
+          is_raised place reflexive transitive None left (type_at locals) (type_at operands) now (alone_least place.program reflexive locals operands) is,
+        ),
+      )
 
   module _ (above : (t u : VType) → (assignable place.program t (merged place.program t u) ≡ true) × (assignable place.program u (merged place.program t u) ≡ true))
       (least : (t u v : VType) → assignable place.program t v ≡ true → assignable place.program u v ≡ true → assignable place.program (merged place.program t u) v ≡ true) where

@@ -86,8 +86,8 @@ module _ (scope : Scope) (laws : Laws scope.program) where
     frames = length-replicate (length scope.method.insns) None;
     marks = length-replicate (length scope.method.insns) false;
     found = λ at low e.
-      let none = frame_of-replicate (length scope.method.insns) at in
-      absurd cc;
+        let none = frame_of-replicate (length scope.method.insns) at in
+        absurd cc;
   }
 
   pub nothing_holds : (limit : ℕ) (above : Frames) → place_of scope 0 ≡ None → Holds scope limit above nothing
@@ -96,11 +96,11 @@ module _ (scope : Scope) (laws : Laws scope.program) where
     begun = λ place e. absurd cc;
     done = λ at h. record {
       goes = λ place there to c e other frame is at_frame.
-        let no = frame_of-replicate (length scope.method.insns) at in
-        absurd cc;
+          let no = frame_of-replicate (length scope.method.insns) at in
+          absurd cc;
       throws = λ handler c covered e other frame is at_frame.
-        let no = frame_of-replicate (length scope.method.insns) at in
-        absurd cc;
+          let no = frame_of-replicate (length scope.method.insns) at in
+          absurd cc;
     };
   }
 
@@ -142,8 +142,8 @@ module _ (scope : Scope) (laws : Laws scope.program) where
         found = f found;
         begun = λ place e. come_grows scope.program laws.itself laws.over laws.transitive (unmarked old at) new g 0 (begun place) (h.begun place e);
         done = λ k within.
-          elim (equal_or k at) [
-            | inl same ↦ subst (IsDone scope new) (sym same) (d found)
-            | inr other ↦ done_grows scope laws (unmarked old at) new g k (same_done old at k other (h.done k within))
-          ];
+            elim (equal_or k at) [
+              | inl same ↦ subst (IsDone scope new) (sym same) (d found)
+              | inr other ↦ done_grows scope laws (unmarked old at) new g k (same_done old at k other (h.done k within))
+            ];
       }

@@ -37,13 +37,19 @@ module _ (place : Place) (old : Option FrameType) (a b : Left) (operands : a.ope
   }
 
   pub same_raised : (told : Option FrameType) → IsRaisedBy place old a told → IsRaisedBy place old b told
-  same_raised told (now, (e, r)) = (now, (e, record {
-    came = to_other place.program now r.came;
-    kept = r.kept;
-    least = λ high settled below over. r.least high settled (from_other place.program high below) over;
-    settled = r.settled;
-    within = r.within;
-  }))
+  same_raised told (now, (e, r)) = (
+    now,
+    (
+      e,
+      record {
+        came = to_other place.program now r.came;
+        kept = r.kept;
+        least = λ high settled below over. r.least high settled (from_other place.program high below) over;
+        settled = r.settled;
+        within = r.within;
+      },
+    ),
+  )
 
 -- ---- a frame that is put
 
@@ -87,30 +93,30 @@ module _ (program : Program) (itself : (frame : FrameType) → IsFrameBelow prog
   pub grows_over : (a b c : State) → Grows program a b → Grows program b c → Grows program a c
   grows_over a b c g h = record {
     raised = λ at low e.
-      let first = g.raised at low e in
-      let second = h.raised at first.0 first.1.0 in
-      (second.0, (second.1.0, over low first.0 second.0 first.1.1 second.1.1));
+        let first = g.raised at low e in
+        let second = h.raised at first.0 first.1.0 in
+        (second.0, (second.1.0, over low first.0 second.0 first.1.1 second.1.1));
     unmarked = λ at e.
-      let later = h.unmarked at e in
-      let earlier = g.unmarked at later.0 in
-      (earlier.0, later.1 ∙ earlier.1);
+        let later = h.unmarked at e in
+        let earlier = g.unmarked at later.0 in
+        (earlier.0, later.1 ∙ earlier.1);
   }
 
   pub put_grows : (state : State) (to : ℕ) (told : Option FrameType) → to < length state.frames → to < length state.marks → IsKept program (frame_of state.frames to) told
       → Grows program state (put state to told)
   put_grows state to told f m k = record {
     raised = λ at low e.
-      elim (equal_or at to) [
-        | inl same ↦
-            let there : frame_of state.frames to ≡ Some low = subst (λ (n : ℕ). frame_of state.frames n ≡ Some low) same e in
-            let here : frame_of (put state to told).frames at ≡ option_or told (Some low) =
-            ap (frame_of (put state to told).frames) same ∙ put_here state to told f ∙ ap (option_or told) there in
-            elim (is_told told) [
-              | inl none ↦ (low, (here ∙ ap (λ (x : Option FrameType). option_or x (Some low)) none, itself low))
-              | inr (frame, some) ↦ (frame, (here ∙ ap (λ (x : Option FrameType). option_or x (Some low)) some, k frame some low there))
-            ]
-        | inr other ↦ (low, (put_there state to told at other ∙ e, itself low))
-      ];
+        elim (equal_or at to) [
+          | inl same ↦
+              let there : frame_of state.frames to ≡ Some low = subst (λ (n : ℕ). frame_of state.frames n ≡ Some low) same e in
+              let here : frame_of (put state to told).frames at ≡ option_or told (Some low) =
+              ap (frame_of (put state to told).frames) same ∙ put_here state to told f ∙ ap (option_or told) there in
+              elim (is_told told) [
+                | inl none ↦ (low, (here ∙ ap (λ (x : Option FrameType). option_or x (Some low)) none, itself low))
+                | inr (frame, some) ↦ (frame, (here ∙ ap (λ (x : Option FrameType). option_or x (Some low)) some, k frame some low there))
+              ]
+          | inr other ↦ (low, (put_there state to told at other ∙ e, itself low))
+        ];
     unmarked = λ at e. put_unmarked state to told m at e;
   }
 
@@ -168,17 +174,17 @@ module _ (scope : Scope) (laws : Laws scope.program) where
             there = fits.there;
             height = sym (stack_height scope.program left.operands r.0.stack came.operands) ∙ stack_height scope.program left.operands fits.high.stack fits.below.operands;
             below = λ settled h is.
-              let under = below_over scope.program laws.transitive left fits.high settled fits.below h in
-              let stands = λ (frame : FrameType) (e : frame_of old.frames to ≡ Some frame).
-              (found.found to frame e).below settled (subst (λ (f : FrameType). IsFrameBelow scope.program f settled) (sym (old_high frame e)) h)
-              (subst (λ (q : Place). is_settled q settled ≡ true) (sym (old_place frame e)) is) in
-              let least = r.1.1.least settled is (subst (λ (q : Program). AreBelow q left settled) (sym p.0) under)
-              (subst (λ (q : Program). OldIsBelow q (frame_of old.frames to) settled) (sym p.0) stands) in
-              subst (λ (q : Program). IsFrameBelow q r.0 settled) p.0 least;
+                let under = below_over scope.program laws.transitive left fits.high settled fits.below h in
+                let stands = λ (frame : FrameType) (e : frame_of old.frames to ≡ Some frame).
+                (found.found to frame e).below settled (subst (λ (f : FrameType). IsFrameBelow scope.program f settled) (sym (old_high frame e)) h)
+                (subst (λ (q : Place). is_settled q settled ≡ true) (sym (old_place frame e)) is) in
+                let least = r.1.1.least settled is (subst (λ (q : Program). AreBelow q left settled) (sym p.0) under)
+                (subst (λ (q : Program). OldIsBelow q (frame_of old.frames to) settled) (sym p.0) stands) in
+                subst (λ (q : Program). IsFrameBelow q r.0 settled) p.0 least;
             settled = r.1.1.settled (λ frame e. subst (λ (q : Place). is_settled q frame ≡ true) (old_place frame e) (found.found to frame e).settled);
             within =
-            subst (λ (m : Method). length r.0.locals ≤ m.max_locals) p.1
-            (r.1.1.within (λ frame e. subst (λ (m : Method). length frame.locals ≤ m.max_locals) (sym p.1) (found.found to frame e).within));
+                subst (λ (m : Method). length r.0.locals ≤ m.max_locals) p.1
+                (r.1.1.within (λ frame e. subst (λ (m : Method). length frame.locals ≤ m.max_locals) (sym p.1) (found.found to frame e).within));
           }
 
       pub put_found : AreFound scope above (put old to told)
@@ -186,12 +192,12 @@ module _ (scope : Scope) (laws : Laws scope.program) where
         frames = (put_count old to told).0 ∙ found.frames;
         marks = (put_count old to told).1 ∙ found.marks;
         found = λ at low e.
-          elim (equal_or at to) [
-            | inl same ↦
-                let now : low ≡ r.0 = some_one low r.0 (sym e ∙ ap (frame_of (put old to told).frames) same ∙ now_there) in
-                subst (λ (n : ℕ). IsFound scope above n low) (sym same) (subst (λ (f : FrameType). IsFound scope above to f) (sym now) is_found)
-            | inr other ↦ found.found at low (sym (put_there old to told at other) ∙ e)
-          ];
+            elim (equal_or at to) [
+              | inl same ↦
+                  let now : low ≡ r.0 = some_one low r.0 (sym e ∙ ap (frame_of (put old to told).frames) same ∙ now_there) in
+                  subst (λ (n : ℕ). IsFound scope above n low) (sym same) (subst (λ (f : FrameType). IsFound scope above to f) (sym now) is_found)
+              | inr other ↦ found.found at low (sym (put_there old to told at other) ∙ e)
+            ];
       }
 
       -- what an instruction left has come, unless its frame is raised by that

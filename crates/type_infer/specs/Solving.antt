@@ -1,5 +1,5 @@
 -- What holds of the frames that are found while the types of a method are looked for.
-use Rattle.std.specs.Prelude.{◌≡◌, ◌⊎◌, ℕ, ◌+◌, ◌<◌, ◌≤◌, Bool, true, false, if◌then◌else◌, IsTrue, Contains, List, [], ◌∷◌, length, map, set, Option, Some, None, option_map, slice_get}
+use Rattle.std.specs.Prelude.{◌≡◌, ◌⊎◌, ℕ, ◌+◌, ◌<◌, ◌≤◌, Bool, true, false, if◌then◌else◌, IsTrue, Contains, List, [], ◌∷◌, length, drop, set, ⊤, Option, Some, None, option_map, slice_get}
 use Rattle.std.specs.Option.{option_map_or, option_or}
 use Rattle.cert_format.specs.declared.typing.FrameType.{FrameType}
 use Rattle.cert_format.specs.declared.typing.VType.{VType}
@@ -23,7 +23,8 @@ use Rattle.code_typing.specs.Makes.{type_at, is_same_object, local_after, stack_
 use Rattle.code_typing.specs.Order.{StackBelow, LocalsBelow, IsFrameBelow, is_settled}
 use Rattle.code_typing.specs.Place.{Place, is_maker}
 use Rattle.code_typing.specs.Rules.{Frames, frame_of, taken, entry_locals, covers, class_caught, local_caught}
-use Rattle.code_typing.specs.Typed.{row_in, place_at}
+use Rattle.code_typing.specs.Shape.{has_code}
+use Rattle.code_typing.specs.Typed.{row_in, place_at, list_at}
 use Rattle.code_typing.specs.Wants.{takes}
 use Rattle.type_infer.specs.Untyped.{AreMet}
 
@@ -209,3 +210,21 @@ pub record IsSolution (scope : Scope) (limit : ℕ) (above : Frames) (frames : F
 
 abbrev pub IsSolved : Scope → ℕ → Frames → Type 0
 IsSolved scope limit frames = (above : Frames) → IsMetBy scope limit above → IsSolution scope limit above frames
+
+-- ---- the program
+
+abbrev pub scope_of : Program → ℕ → LinkedClass → Method → Scope
+scope_of program own class method = record { program = program; own = own; class = class; method = method }
+
+-- The frames that are told of the methods with code are solutions.
+abbrev pub MethodsAreSolved : Program → ℕ → LinkedClass → List Method → List Frames → Type 0
+MethodsAreSolved program own class [] told = ⊤
+MethodsAreSolved program own class (m ∷ methods) told =
+    (has_code m ≡ true → IsSolved (scope_of program own class m) (length m.insns) (list_at told 0) × MethodsAreSolved program own class methods (drop 1 told))
+    × (has_code m ≡ false → MethodsAreSolved program own class methods told)
+
+-- Those of the classes, of which the first has this index.
+abbrev pub ClassesAreSolved : Program → ℕ → List LinkedClass → List (List Frames) → Type 0
+ClassesAreSolved program own [] told = ⊤
+ClassesAreSolved program own (class ∷ classes) told =
+    MethodsAreSolved program own class class.methods (list_at told 0) × ClassesAreSolved program (own + 1) classes (drop 1 told)

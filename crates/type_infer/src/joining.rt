@@ -79,7 +79,11 @@ fn settled(place: &PlaceRef, locals: List<VType>, stack: List<VType>) -> Option<
             }
         }
         Shape::Heap(Heap::New) => {
-            Told::new(place.method, locals, without(&VType::Uninit(place.at), stack))
+            Told::new(
+                place.method,
+                locals,
+                without(&VType::Uninit(place.at), stack),
+            )
         }
         _ => Told::new(place.method, locals, stack),
     }

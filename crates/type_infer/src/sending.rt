@@ -257,12 +257,7 @@ fn send_to_targets(
 }
 
 /// Sends what the instruction leaves to the next, where control can go on to it.
-fn send_on(
-    alloc: Global,
-    body: &Body,
-    work: &mut Work,
-    place: &PlaceRef,
-) -> Result<(), NoMemory>
+fn send_on(alloc: Global, body: &Body, work: &mut Work, place: &PlaceRef) -> Result<(), NoMemory>
     requires place { place_of body.now place.now.at ≡ Some place.now }
     requires frames { length work.old.frames ≡ length body.now.method.insns }
     requires marks { length work.old.marks ≡ length body.now.method.insns }

@@ -28,17 +28,17 @@ loop-to-preserved c =
       marks = now.marks;
       grows = λ ready. grows_over scope.program (rows.reflexive scope.program) (rows.transitive scope.program ready.order) old middle new (before.grows ready) (now.grows ready);
       found = λ ready all.
-        let laws = laws_of assign.reflexive assign.transitive assign.thrown rows.reflexive rows.transitive rows.alone rows.left rows.thrown scope.program ready.order in
-        stays_over scope laws place.at old middle new (before.found ready all) (now.found ready (all this inside));
+          let laws = laws_of assign.reflexive assign.transitive assign.thrown rows.reflexive rows.transitive rows.alone rows.left rows.thrown scope.program ready.order in
+          stays_over scope laws place.at old middle new (before.found ready all) (now.found ready (all this inside));
       sent = λ ready all to among.
-        let laws = laws_of assign.reflexive assign.transitive assign.thrown rows.reflexive rows.transitive rows.alone rows.left rows.thrown scope.program ready.order in
-        let more : Contains (take c.loop-to.to-index targets ++ this ∷ []) to = subst (λ xs. Contains xs to) (take_more targets c.loop-to.to-index 0 (omega arith)) among in
-        elim (Contains-push_cases (take c.loop-to.to-index targets) this to more) [
-          | inl earlier ↦ sent_before scope laws place.at old middle new to left_by (before.sent ready all to earlier) (now.grows ready)
-          | inr is ↦
-              subst (λ (n : ℕ). IsSent scope place.at n left_by old new) is
-              (sent_after scope laws place.at old middle new this left_by (before.found ready all) (now.sent ready (all this inside)))
-        ];
+          let laws = laws_of assign.reflexive assign.transitive assign.thrown rows.reflexive rows.transitive rows.alone rows.left rows.thrown scope.program ready.order in
+          let more : Contains (take c.loop-to.to-index targets ++ this ∷ []) to = subst (λ xs. Contains xs to) (take_more targets c.loop-to.to-index 0 (omega arith)) among in
+          elim (Contains-push_cases (take c.loop-to.to-index targets) this to more) [
+            | inl earlier ↦ sent_before scope laws place.at old middle new to left_by (before.sent ready all to earlier) (now.grows ready)
+            | inr is ↦
+                subst (λ (n : ℕ). IsSent scope place.at n left_by old new) is
+                (sent_after scope laws place.at old middle new this left_by (before.found ready all) (now.sent ready (all this inside)))
+          ];
     }
 
 pub returns-clause-sent : goal.returns-clause-sent

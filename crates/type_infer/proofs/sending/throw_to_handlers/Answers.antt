@@ -32,20 +32,20 @@ loop-handler-preserved c =
       marks = now.marks;
       grows = λ ready. grows_over scope.program (rows.reflexive scope.program) (rows.transitive scope.program ready.order) old middle new (before.grows ready) (now.grows ready);
       found = λ ready.
-        let laws = laws_of assign.reflexive assign.transitive assign.thrown rows.reflexive rows.transitive rows.alone rows.left rows.thrown scope.program ready.order in
-        stays_over scope laws place.at old middle new (before.found ready) (now.found ready inside);
+          let laws = laws_of assign.reflexive assign.transitive assign.thrown rows.reflexive rows.transitive rows.alone rows.left rows.thrown scope.program ready.order in
+          stays_over scope laws place.at old middle new (before.found ready) (now.found ready inside);
       sent = λ ready handler among covered.
-        let laws = laws_of assign.reflexive assign.transitive assign.thrown rows.reflexive rows.transitive rows.alone rows.left rows.thrown scope.program ready.order in
-        let more : Contains (take i handlers ++ get_or handlers i this ∷ []) handler =
-        subst (λ xs. Contains xs handler) (take_more handlers i this (omega (arith, ap length items))) among in
-        elim (Contains-push_cases (take i handlers) (get_or handlers i this) handler more) [
-          | inl earlier ↦ sent_before scope laws place.at old middle new handler.at (thrown_to handler) (before.sent ready handler earlier covered) (now.grows ready)
-          | inr is ↦
-              let same : this ≡ handler = there ∙ is in
-              let covers_this = subst (λ (h : Handler). covers place.at h ≡ true) (sym same) covered in
-              subst (λ (h : Handler). IsSent scope place.at h.at (thrown_to h) old new) same
-              (sent_after scope laws place.at old middle new this.at (thrown_to this) (before.found ready) (now.sent ready inside covers_this))
-        ];
+          let laws = laws_of assign.reflexive assign.transitive assign.thrown rows.reflexive rows.transitive rows.alone rows.left rows.thrown scope.program ready.order in
+          let more : Contains (take i handlers ++ get_or handlers i this ∷ []) handler =
+          subst (λ xs. Contains xs handler) (take_more handlers i this (omega (arith, ap length items))) among in
+          elim (Contains-push_cases (take i handlers) (get_or handlers i this) handler more) [
+            | inl earlier ↦ sent_before scope laws place.at old middle new handler.at (thrown_to handler) (before.sent ready handler earlier covered) (now.grows ready)
+            | inr is ↦
+                let same : this ≡ handler = there ∙ is in
+                let covers_this = subst (λ (h : Handler). covers place.at h ≡ true) (sym same) covered in
+                subst (λ (h : Handler). IsSent scope place.at h.at (thrown_to h) old new) same
+                (sent_after scope laws place.at old middle new this.at (thrown_to this) (before.found ready) (now.sent ready inside covers_this))
+          ];
     }
 
 pub returns-clause-sent : goal.returns-clause-sent

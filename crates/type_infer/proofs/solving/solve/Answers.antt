@@ -29,10 +29,10 @@ loop-preserved c =
       frames = look.frames;
       marks = look.marks;
       holds = λ above met.
-        let laws = laws_of assign.reflexive assign.transitive assign.thrown rows.reflexive rows.transitive rows.alone rows.left rows.thrown scope.program met.ready.order in
-        step_holds scope laws c.args.limit above old new at (c.loop.invariant.holds above met) (subst (λ (s : State). Grows scope.program s new) is (look.grows met.ready))
-        (λ found. look.found met.ready above (met.met at within) (subst (AreFound scope above) (sym is) found))
-        (λ found. look.done met.ready above (met.met at within) (subst (AreFound scope above) (sym is) found));
+          let laws = laws_of assign.reflexive assign.transitive assign.thrown rows.reflexive rows.transitive rows.alone rows.left rows.thrown scope.program met.ready.order in
+          step_holds scope laws c.args.limit above old new at (c.loop.invariant.holds above met) (subst (λ (s : State). Grows scope.program s new) is (look.grows met.ready))
+          (λ found. look.found met.ready above (met.met at within) (subst (AreFound scope above) (sym is) found))
+          (λ found. look.done met.ready above (met.met at within) (subst (AreFound scope above) (sym is) found));
     }
 
 pub returns-in_default-clause-solved : goal.returns-in_default-clause-solved
