@@ -1,14 +1,13 @@
 -- Frames in order, by what stands in each place.
-use Rattle.std.proofs.Common.{◌≡◌, ℕ, zero, suc, ◌+◌, ◌<◌, ◌≤◌, Bool, true, false, List, [], ◌∷◌, map, length, Option, Some, None, refl, sym, ap, subst, ◌∙◌, arith}
+use Rattle.std.proofs.Common.{◌≡◌, ℕ, zero, suc, ◌+◌, true, List, [], ◌∷◌, length, refl, ap, subst, ◌∙◌, arith}
 use Rattle.std.proofs.lemmas.Bool.{and_from, and_parts}
 use Rattle.bytecode_model.specs.declared.program.Program.{Program}
 use Rattle.cert_format.specs.declared.typing.FrameType.{FrameType}
 use Rattle.cert_format.specs.declared.typing.VType.{VType}
-use Rattle.cert_format.specs.declared.typing.VType.TheVariants as types
 use Rattle.type_lattice.specs.Assigning.{assignable}
 use Rattle.code_typing.specs.Makes.{type_at}
 use Rattle.code_typing.specs.Order.{StackBelow, LocalsBelow, IsFrameBelow}
-use Rattle.code_typing.specs.Rules.{locals_fit, stack_fits}
+use Rattle.code_typing.specs.Rules.{locals_fit}
 use Rattle.type_infer.specs.Solving.{Left, AreBelow}
 
 module _ (program : Program) where

@@ -1,10 +1,9 @@
 -- The first method without a typing, and the least typing, where the frames that are told are solutions.
-use Rattle.std.proofs.Common.{◌≡◌, ◌⊎◌, ℕ, zero, suc, ◌+◌, ◌<◌, ◌≤◌, Bool, true, false, List, [], ◌∷◌, length, take, drop, Option, Some, None, refl, sym, ap, subst, ◌∙◌, inl, inr, arith}
-use Rattle.std.specs.Prelude.{slice_get, nat_lt, option_map, option_and_then, filter}
+use Rattle.std.proofs.Common.{◌≡◌, ◌⊎◌, ℕ, zero, suc, ◌+◌, ◌<◌, ◌≤◌, true, false, List, [], ◌∷◌, length, take, drop, Option, Some, None, refl, sym, ap, subst, ◌∙◌, inl, inr, arith}
+use Rattle.std.specs.Prelude.{slice_get, option_map}
 use Rattle.std.specs.List.{AllByRecursion}
-use Rattle.std.specs.Option.{option_or, option_map_or}
-use Rattle.std.proofs.lemmas.Bool.{cases_Bool, false≢true, ltb-true, ltb-false, lt-ltb}
-use Rattle.cert_format.specs.declared.typing.FrameType.{FrameType}
+use Rattle.std.specs.Option.{option_or}
+use Rattle.std.proofs.lemmas.Bool.{cases_Bool, ltb-true, ltb-false, lt-ltb}
 use Rattle.cert_format.specs.declared.typing.Typing.{Typing}
 use Rattle.bytecode_model.specs.declared.program.LinkedClass.{LinkedClass}
 use Rattle.bytecode_model.specs.declared.program.Method.{Method}
@@ -12,13 +11,13 @@ use Rattle.bytecode_model.specs.declared.program.Program.{Program}
 use Rattle.bytecode_model.specs.Sound.{IsSound, IsSoundClass, IsSoundMethod}
 use Rattle.type_lattice.specs.Laws.{IsInOrder}
 use Rattle.code_typing.specs.declared.fault.TypeFault.{TypeFault}
-use Rattle.code_typing.specs.Rules.{Frames, frame_of}
+use Rattle.code_typing.specs.Rules.{Frames}
 use Rattle.code_typing.specs.Shape.{has_code, coded}
 use Rattle.code_typing.specs.Typed.{IsTyped, row_in, list_at, frames_in, frames_told, first_row, method_fault, methods_fault, classes_fault, typing_fault}
 use Rattle.type_infer.specs.declared.fault.InferFault.{InferFault}
 use Rattle.type_infer.specs.declared.fault.InferFault.TheVariants as faults
-use Rattle.type_infer.specs.Solving.{Scope, IsMetBy, IsSolved, MethodsAreSolved, ClassesAreSolved, scope_of}
-use Rattle.type_infer.specs.Untyped.{AreMet, CanBeMet, CannotBeMet, CannotBeMetAt, AreMetBefore, StandsBefore, HasPlace, FirstUntyped, IsTypable, IsUntypable, IsLeast}
+use Rattle.type_infer.specs.Solving.{IsSolved, MethodsAreSolved, ClassesAreSolved, scope_of}
+use Rattle.type_infer.specs.Untyped.{AreMet, CanBeMet, CannotBeMet, CannotBeMetAt, AreMetBefore, HasPlace, FirstUntyped, IsTypable, IsUntypable, IsLeast}
 use Rattle.type_infer.proofs.Lists.{all_at}
 
 some_one : {A : Type 0} (x y : A) → ◌≡◌ {A = Option A} (Some x) (Some y) → x ≡ y

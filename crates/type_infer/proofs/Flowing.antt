@@ -1,7 +1,7 @@
 -- What flows from a frame that is below one at which the rules are met.
-use Rattle.std.proofs.Common.{◌≡◌, ◌⊎◌, ℕ, zero, suc, ◌+◌, ◌<◌, ◌≤◌, Bool, true, false, cond, List, [], ◌∷◌, ◌++◌, length, Option, Some, None, refl, sym, ap, subst, ◌∙◌, inl, inr, arith}
-use Rattle.std.specs.Prelude.{IsTrue, Contains, not, ◌&&◌, ◌||◌, nat_le, bytes_eq, slice_get, option_map, option_and_then, if◌then◌else◌}
-use Rattle.std.specs.List.{list_all, AllByRecursion}
+use Rattle.std.proofs.Common.{◌≡◌, ℕ, ◌≤◌, Bool, true, false, cond, List, [], ◌∷◌, length, Option, Some, None, refl, sym, ap, subst, ◌∙◌}
+use Rattle.std.specs.Prelude.{Contains, not, ◌&&◌, ◌||◌, slice_get, option_map, option_and_then}
+use Rattle.std.specs.List.{list_all}
 use Rattle.std.specs.Option.{option_map_or}
 use Rattle.std.proofs.lemmas.Bool.{and_from, and_parts, leb-true}
 use Rattle.std.proofs.lemmas.List.Elements.{All-contains}
@@ -24,12 +24,12 @@ use Rattle.bytecode_model.specs.Classes.{is_below}
 use Rattle.type_lattice.specs.Assigning.{assignable}
 use Rattle.type_lattice.specs.Laws.{IsInOrder, IsReflexive, IsTransitive, IsThrownAlone}
 use Rattle.code_typing.specs.Makes.{type_at}
-use Rattle.code_typing.specs.Order.{IsFrameBelow, IsAloneMet, IsAloneKept, IsLeftBelow, IsLeftKept, IsThrownKept, FrameIsBelowItself, FramesAreInOrder, is_settled, is_settled_at, StackBelow, LocalsBelow}
+use Rattle.code_typing.specs.Order.{IsFrameBelow, IsAloneMet, IsAloneKept, IsLeftKept, IsThrownKept, FrameIsBelowItself, FramesAreInOrder, is_settled, is_settled_at, StackBelow}
 use Rattle.code_typing.specs.Place.{Place}
-use Rattle.code_typing.specs.Rules.{Frames, frame_of, covers, class_caught, local_caught, is_alone, is_reference_to, is_handled, goes_well, catches_well, Successor, Caught, Entry, Depth, Operand, Local, Made, made_well, rule_failing, row_failing}
+use Rattle.code_typing.specs.Rules.{Frames, frame_of, covers, class_caught, local_caught, is_alone, is_handled, goes_well, catches_well, Successor, Caught, Depth, Operand, Local, Made, made_well, rule_failing, row_failing}
 use Rattle.code_typing.specs.Typed.{place_at}
-use Rattle.type_infer.specs.Solving.{Scope, place_of, RowIsMet, AreFound, IsFound, State, Left, AreBelow, left_by, thrown_to}
-use Rattle.type_infer.proofs.Below.{locals_below, locals_fit_below, left_over, stack_below}
+use Rattle.type_infer.specs.Solving.{Scope, place_of, RowIsMet, IsFound, Left, AreBelow, left_by, thrown_to}
+use Rattle.type_infer.proofs.Below.{locals_below, left_over}
 
 -- ---- the laws
 

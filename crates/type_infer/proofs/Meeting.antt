@@ -1,9 +1,9 @@
 -- Where nothing is left to be looked at, the frames that are found meet the rules.
-use Rattle.std.proofs.Common.{◌≡◌, ◌⊎◌, ℕ, zero, suc, ◌+◌, ◌<◌, ◌≤◌, Bool, true, false, cond, eqb, List, [], ◌∷◌, length, Option, Some, None, refl, sym, ap, subst, ◌∙◌, inl, inr, arith}
-use Rattle.std.specs.Prelude.{IsTrue, Contains, not, ◌&&◌, ◌||◌, ◌==◌, nat_le, bytes_eq, slice_get, option_map, option_and_then, if◌then◌else◌}
+use Rattle.std.proofs.Common.{◌≡◌, ℕ, suc, ◌<◌, Bool, true, false, cond, List, [], ◌∷◌, length, Option, Some, None, refl, sym, ap, subst, ◌∙◌, inl, inr, arith}
+use Rattle.std.specs.Prelude.{Contains, not, ◌&&◌, ◌||◌, ◌==◌, nat_le, slice_get, option_map, option_and_then}
 use Rattle.std.specs.List.{list_all}
 use Rattle.std.specs.Option.{option_map_or}
-use Rattle.std.proofs.lemmas.Bool.{cases_Bool, false≢true, and_from, and_parts, le-leb}
+use Rattle.std.proofs.lemmas.Bool.{cases_Bool, and_from, le-leb}
 use Rattle.std.proofs.lemmas.Bool.Decides.{Decides-eqb}
 use Rattle.std.proofs.lemmas.Slice.Eq.{bytes_eq-Decides}
 use Rattle.api_listing.specs.BuiltIn.{throwable}
@@ -20,14 +20,13 @@ use Rattle.bytecode_model.specs.declared.program.Handler.{Handler}
 use Rattle.bytecode_model.specs.declared.program.Method.{Method}
 use Rattle.bytecode_model.specs.declared.program.Program.{Program}
 use Rattle.bytecode_model.specs.Classes.{is_below}
-use Rattle.type_lattice.specs.Assigning.{assignable}
 use Rattle.code_typing.specs.Makes.{type_at}
 use Rattle.code_typing.specs.Order.{IsFrameBelow, is_settled_at, StackBelow}
 use Rattle.code_typing.specs.Place.{Place, is_maker}
-use Rattle.code_typing.specs.Rules.{Frames, frame_of, covers, class_caught, entry_locals, is_alone, is_handled, goes_well, catches_well, Successor, Caught, Entry, Depth, Operand, Local, Made, rule_failing, row_failing, locals_fit}
-use Rattle.code_typing.specs.Typed.{row_in, place_at}
-use Rattle.type_infer.specs.Solving.{Scope, State, place_of, is_marked, AreBelow, HasCome, IsDone, Holds, IsMetBy, IsSolution, begun, left_by, thrown_to}
-use Rattle.type_infer.proofs.Below.{locals_fit_below, stack_at, stack_below, stack_height}
+use Rattle.code_typing.specs.Rules.{Frames, frame_of, covers, class_caught, entry_locals, is_alone, goes_well, catches_well, Successor, Caught, Entry, rule_failing, row_failing}
+use Rattle.code_typing.specs.Typed.{place_at}
+use Rattle.type_infer.specs.Solving.{Scope, State, place_of, is_marked, AreBelow, HasCome, Holds, IsMetBy, IsSolution, begun, left_by, thrown_to}
+use Rattle.type_infer.proofs.Below.{locals_fit_below, stack_at, stack_height}
 use Rattle.type_infer.proofs.Flowing.{Laws, IsUnder, is_under, thrown_fits, place_is, some_one}
 use Rattle.type_infer.proofs.Solutions.{entered}
 

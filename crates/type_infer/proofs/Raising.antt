@@ -1,21 +1,19 @@
 -- The least frame above what stands before an instruction and what comes to it.
-use Rattle.std.proofs.Common.{◌≡◌, ℕ, zero, suc, ◌+◌, ◌<◌, ◌≤◌, Bool, true, false, ◌⊎◌, List, [], ◌∷◌, min, length, Option, Some, None, refl, sym, ap, subst, ◌∙◌, inl, inr, arith}
+use Rattle.std.proofs.Common.{◌≡◌, ℕ, ◌≤◌, true, List, min, length, Option, Some, None, refl, sym, ap, subst, ◌∙◌, inl, inr, arith}
 use Rattle.std.specs.Prelude.{IsTrue, IsSome, IfSome}
 use Rattle.std.specs.Option.{option_or}
 use Rattle.bytecode_model.specs.declared.program.Program.{Program}
 use Rattle.cert_format.specs.declared.typing.FrameType.{FrameType}
 use Rattle.cert_format.specs.declared.typing.VType.{VType}
-use Rattle.cert_format.specs.declared.typing.VType.TheVariants as types
 use Rattle.insn_effect.specs.Shapes.{shape_of}
 use Rattle.type_lattice.specs.Assigning.{assignable}
 use Rattle.type_lattice.specs.Merging.{merged}
 use Rattle.code_typing.specs.Makes.{type_at}
 use Rattle.code_typing.specs.Order.{IsFrameBelow, is_settled}
 use Rattle.code_typing.specs.Place.{Place}
-use Rattle.type_infer.specs.Solving.{Left, AreBelow, OldIsBelow, IsRaised, IsRaisedBy, IsKept, IsOfHeight, IsUnlessBelow, local_settled, operand_settled}
+use Rattle.type_infer.specs.Solving.{Left, AreBelow, OldIsBelow, IsRaised, IsRaisedBy, IsKept, IsUnlessBelow, local_settled, operand_settled}
 use Rattle.type_infer.proofs.Below.{below_over, stack_height, stack_at, stack_below}
-use Rattle.type_infer.proofs.Lists.{is_there}
-use Rattle.type_infer.proofs.Settling.{local_above, operand_above, local_least, operand_least, are_settled, operand_top}
+use Rattle.type_infer.proofs.Settling.{local_above, operand_above, local_least, operand_least, are_settled}
 
 -- The types x of locals and y of operands are the least above a frame, if one stands there, and what comes.
 pub record IsLeastAbove (program : Program) (old : Option FrameType) (left : Left) (x y : ℕ → VType) : Type 0 where

@@ -1,7 +1,7 @@
 -- What may not find an object that is not made yet finds Top in its place.
-use Rattle.std.proofs.Common.{◌≡◌, ℕ, zero, suc, ◌+◌, ◌<◌, ◌≤◌, Bool, true, false, List, [], ◌∷◌, map, length, Option, Some, None, refl, sym, ap, subst, ◌∙◌, inl, inr, arith}
-use Rattle.std.specs.Prelude.{IsTrue, not, ◌&&◌, ◌||◌, if◌then◌else◌}
-use Rattle.std.proofs.lemmas.Bool.{and_from, and_parts, cases_Bool}
+use Rattle.std.proofs.Common.{◌≡◌, ℕ, zero, suc, Bool, true, false, List, [], ◌∷◌, refl, sym, ap, subst, ◌∙◌, inl, inr, arith}
+use Rattle.std.specs.Prelude.{not, ◌||◌, if◌then◌else◌}
+use Rattle.std.proofs.lemmas.Bool.{cases_Bool}
 use Rattle.std.proofs.lemmas.Bool.Decides.{nat_tests}
 use Rattle.bytecode_model.specs.declared.program.Program.{Program}
 use Rattle.cert_format.specs.declared.typing.FrameType.{FrameType}
@@ -14,7 +14,7 @@ use Rattle.type_lattice.specs.Assigning.{assignable}
 use Rattle.code_typing.specs.Makes.{type_at, is_same_object}
 use Rattle.code_typing.specs.Order.{is_settled_at}
 use Rattle.code_typing.specs.Place.{Place, is_maker}
-use Rattle.code_typing.specs.Rules.{has_object, leaves_made}
+use Rattle.code_typing.specs.Rules.{has_object}
 use Rattle.type_infer.specs.Solving.{unless, local_settled, operand_settled}
 
 -- ---- an object in a list

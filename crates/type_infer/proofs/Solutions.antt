@@ -1,38 +1,21 @@
 -- The frames that are found while a method is looked through, from its begin to its end.
-use Rattle.std.proofs.Common.{◌≡◌, ◌⊎◌, ℕ, zero, suc, ◌+◌, ◌<◌, ◌≤◌, Bool, true, false, cond, eqb, List, [], ◌∷◌, length, replicate, Option, Some, None, refl, sym, ap, subst, ◌∙◌, inl, inr, arith}
-use Rattle.std.specs.Prelude.{IsTrue, Contains, not, ◌&&◌, ◌||◌, ◌==◌, nat_le, bytes_eq, slice_get, option_map, option_and_then, if◌then◌else◌}
-use Rattle.std.specs.List.{list_all}
-use Rattle.std.specs.Option.{option_or, option_map_or}
-use Rattle.std.proofs.lemmas.Bool.{cases_Bool, false≢true, and_from, and_parts, leb-true, le-leb}
+use Rattle.std.proofs.Common.{◌≡◌, ℕ, ◌<◌, ◌≤◌, Bool, true, false, cond, List, [], ◌∷◌, length, replicate, Option, Some, None, refl, sym, ap, subst, ◌∙◌, inl, inr, arith}
+use Rattle.std.specs.Prelude.{not, ◌&&◌, ◌==◌, nat_le, if◌then◌else◌}
+use Rattle.std.proofs.lemmas.Bool.{and_parts, leb-true}
 use Rattle.std.proofs.lemmas.Bool.Decides.{Decides-eqb}
 use Rattle.std.proofs.lemmas.List.{length-set, length-replicate}
-use Rattle.std.proofs.lemmas.Slice.Eq.{bytes_eq-Decides}
-use Rattle.api_listing.specs.BuiltIn.{throwable}
 use Rattle.cert_format.specs.declared.typing.FrameType.{FrameType}
 use Rattle.cert_format.specs.declared.typing.VType.{VType}
-use Rattle.cert_format.specs.declared.typing.VType.TheVariants as types
-use Rattle.insn_codec.specs.declared.insn.Insn.{Insn}
-use Rattle.insn_effect.specs.declared.shape.Heap.TheVariants as heap
-use Rattle.insn_effect.specs.declared.shape.Shape.{Shape}
-use Rattle.insn_effect.specs.declared.shape.Shape.TheVariants as shapes
-use Rattle.insn_effect.specs.Control.{successors}
-use Rattle.insn_effect.specs.Shapes.{shape_of}
-use Rattle.bytecode_model.specs.declared.program.Handler.{Handler}
-use Rattle.bytecode_model.specs.declared.program.Method.{Method}
 use Rattle.bytecode_model.specs.declared.program.Program.{Program}
-use Rattle.bytecode_model.specs.Classes.{is_below}
 use Rattle.type_lattice.specs.Assigning.{assignable}
-use Rattle.type_lattice.specs.Laws.{IsInOrder}
 use Rattle.code_typing.specs.Makes.{type_at}
-use Rattle.code_typing.specs.Order.{IsFrameBelow, IsAloneMet, is_settled, is_settled_at, StackBelow}
-use Rattle.code_typing.specs.Place.{Place, is_maker}
-use Rattle.code_typing.specs.Rules.{Frames, frame_of, covers, class_caught, entry_locals, is_alone, is_handled, goes_well, catches_well, Successor, Caught, Entry, Depth, Operand, Local, Made, rule_failing, row_failing}
-use Rattle.code_typing.specs.Typed.{row_in, place_at}
-use Rattle.type_infer.specs.Solving.{Scope, State, IsReady, place_of, is_marked, put, unmarked, RowIsMet, AreFound, IsFound, Left, AreBelow, IsRaisedBy, IsOfHeight, HasCome, HasGone, IsDone, Grows, Holds, IsMetBy, IsSolution, begun, left_by, thrown_to}
-use Rattle.type_infer.proofs.Below.{locals_below, locals_fit_below, left_over, stack_at, stack_below, stack_height}
-use Rattle.type_infer.proofs.Flowing.{Laws, Fits, IsUnder, is_under, thrown_fits, row_of, place_is, some_one}
+use Rattle.code_typing.specs.Place.{Place}
+use Rattle.code_typing.specs.Rules.{Frames, frame_of, entry_locals, Entry, rule_failing, row_failing}
+use Rattle.type_infer.specs.Solving.{Scope, State, place_of, is_marked, put, unmarked, AreFound, AreBelow, IsRaisedBy, HasCome, IsDone, Grows, Holds, IsMetBy, begun}
+use Rattle.type_infer.proofs.Below.{locals_below, stack_below}
+use Rattle.type_infer.proofs.Flowing.{Laws, Fits, row_of, place_is, some_one}
 use Rattle.type_infer.proofs.Lists.{frame_of-replicate, is_marked-set_other}
-use Rattle.type_infer.proofs.Stepping.{put_found, has_come, put_unmarked, is_place, gone_grows, done_grows, come_grows, equal_or}
+use Rattle.type_infer.proofs.Stepping.{put_found, has_come, put_unmarked, is_place, done_grows, come_grows, equal_or}
 
 -- ---- helpers
 

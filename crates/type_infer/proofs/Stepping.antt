@@ -1,23 +1,22 @@
 -- What a frame that is put before an instruction does to the frames that are found.
-use Rattle.std.proofs.Common.{◌≡◌, ◌⊎◌, ℕ, zero, suc, ◌+◌, ◌<◌, ◌≤◌, Bool, true, false, cond, eqb, List, [], ◌∷◌, length, set, Option, Some, None, refl, sym, ap, subst, ◌∙◌, inl, inr, arith}
-use Rattle.std.specs.Prelude.{IsTrue, slice_get, option_map}
-use Rattle.std.specs.Option.{option_or, option_map_or}
+use Rattle.std.proofs.Common.{◌≡◌, ◌⊎◌, ℕ, ◌<◌, ◌≤◌, Bool, true, false, eqb, List, length, set, Option, Some, None, refl, sym, ap, subst, ◌∙◌, inl, inr, arith}
+use Rattle.std.specs.Prelude.{slice_get}
+use Rattle.std.specs.Option.{option_or}
 use Rattle.std.proofs.lemmas.Bool.{cases_Bool, false≢true}
 use Rattle.std.proofs.lemmas.Bool.Decides.{Decides-eqb}
 use Rattle.std.proofs.lemmas.List.{length-set}
 use Rattle.std.proofs.lemmas.Option.{slice_get_within}
 use Rattle.cert_format.specs.declared.typing.FrameType.{FrameType}
 use Rattle.cert_format.specs.declared.typing.VType.{VType}
-use Rattle.insn_codec.specs.declared.insn.Insn.{Insn}
 use Rattle.bytecode_model.specs.declared.program.Method.{Method}
 use Rattle.bytecode_model.specs.declared.program.Program.{Program}
 use Rattle.type_lattice.specs.Assigning.{assignable}
 use Rattle.code_typing.specs.Makes.{type_at}
-use Rattle.code_typing.specs.Order.{IsFrameBelow, is_settled, StackBelow, LocalsBelow}
+use Rattle.code_typing.specs.Order.{IsFrameBelow, is_settled, StackBelow}
 use Rattle.code_typing.specs.Place.{Place}
 use Rattle.code_typing.specs.Rules.{Frames, frame_of}
-use Rattle.type_infer.specs.Solving.{Scope, State, place_of, put, is_marked, AreFound, IsFound, Left, AreBelow, OldIsBelow, IsRaised, IsRaisedBy, IsKept, IsOfHeight, HasCome, HasGone, IsDone, Grows}
-use Rattle.type_infer.proofs.Below.{below_over, left_over, stack_height}
+use Rattle.type_infer.specs.Solving.{Scope, State, place_of, put, is_marked, AreFound, IsFound, Left, AreBelow, OldIsBelow, IsRaisedBy, IsKept, IsOfHeight, HasCome, HasGone, IsDone, Grows}
+use Rattle.type_infer.proofs.Below.{below_over, stack_height}
 use Rattle.type_infer.proofs.Flowing.{Laws, Fits, place_is, insn_there, some_one}
 use Rattle.type_infer.proofs.Lists.{frame_of-set_same, frame_of-set_other, is_marked-set_same, is_marked-set_other}
 

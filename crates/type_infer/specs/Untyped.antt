@@ -1,5 +1,5 @@
 -- Where a program has no typing, and which typing is the least.
-use Rattle.std.specs.Prelude.{◌≡◌, ◌⊎◌, ℕ, ◌+◌, ◌<◌, List, length, Option, Some, None, slice_get, ⊤}
+use Rattle.std.specs.Prelude.{◌≡◌, ◌⊎◌, ℕ, ◌+◌, ◌<◌, List, length, Some, None, slice_get, ⊤}
 use Rattle.cert_format.specs.declared.typing.FrameType.{FrameType}
 use Rattle.cert_format.specs.declared.typing.Typing.{Typing}
 use Rattle.bytecode_model.specs.declared.program.LinkedClass.{LinkedClass}

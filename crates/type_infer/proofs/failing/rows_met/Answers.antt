@@ -1,4 +1,4 @@
-use Rattle.std.proofs.Common.{◌≡◌, ◌∙◌, None, sym, ap, below_more}
+use Rattle.std.proofs.Common.{◌∙◌, sym, ap, below_more}
 use Rattle.std.specs.Prelude.{is_some}
 use Rattle.std.proofs.lemmas.Bool.{false≢true}
 use Rattle.code_typing.specs.Typed.{row_in}

@@ -1,10 +1,8 @@
-use Rattle.std.proofs.Common.{◌≡◌, ◌∙◌, ℕ, ◌++◌, ◌∷◌, [], List, Bool, true, false, get_or, length, subst, sym, ap, append_assoc, append-nil, arith}
+use Rattle.std.proofs.Common.{◌≡◌, ◌∙◌, ℕ, ◌++◌, ◌∷◌, [], true, get_or, length, subst, sym, ap, append_assoc, append-nil, arith}
 use Rattle.std.proofs.lemmas.Bool.{false≢true, lt-ltb}
 use Rattle.std.proofs.lemmas.Grind.{common_steps}
 use Rattle.std.proofs.lemmas.Slice.{first_rest}
 use Rattle.std.specs.List.{between}
-use Rattle.bytecode_model.specs.declared.program.Method.{Method}
-use Rattle.code_typing.specs.Rules.{Frames}
 use Rattle.code_typing.specs.Shape.{has_code}
 use Rattle.type_infer.specs.Solving.{IsSolved, MethodsAreSolved, scope_of}
 use Rattle.type_infer.proofs.Firsts.{no_methods}

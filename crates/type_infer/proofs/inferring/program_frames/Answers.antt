@@ -1,4 +1,4 @@
-use Rattle.std.proofs.Common.{◌≡◌, [], subst, append-nil, arith}
+use Rattle.std.proofs.Common.{[], subst, append-nil, arith}
 use Rattle.type_infer.specs.Solving.{ClassesAreSolved}
 use Rattle.type_infer.proofs.Firsts.{no_classes}
 use Rattle.type_infer.proofs.inferring.program_frames.Goals as goal

@@ -1,4 +1,3 @@
-use Rattle.std.proofs.Common.{◌≡◌, ◌∙◌, ℕ, Some, length, min, subst, sym, ap, refl, arith, rules}
 use Rattle.type_infer.proofs.Raising.{first_told}
 use Rattle.type_infer.proofs.joining.joined.Goals as goal
 

@@ -1,4 +1,4 @@
-use Rattle.std.proofs.Common.{◌≡◌, ◌∙◌, ℕ, length, subst, sym, ap}
+use Rattle.std.proofs.Common.{◌≡◌, ◌∙◌, length, subst, sym, ap}
 use Rattle.bytecode_model.specs.declared.program.Program.{Program}
 use Rattle.code_typing.specs.Place.{Place}
 use Rattle.type_infer.specs.Solving.{IsUnlessBelow}

@@ -1,4 +1,4 @@
-use Rattle.std.proofs.Common.{◌≡◌, ℕ, ◌<◌, true, ltb, length, inl, inr, sym, ap, subst, arith, below_more}
+use Rattle.std.proofs.Common.{◌≡◌, true, ltb, inl, inr, sym, ap, subst, arith, below_more}
 use Rattle.std.proofs.lemmas.Bool.{cases_Bool, ltb-true, ltb-false}
 use Rattle.cert_format.specs.declared.typing.VType.{VType}
 use Rattle.type_lattice.specs.Assigning.{assignable}

@@ -1,7 +1,6 @@
-use Rattle.std.proofs.Common.{◌≡◌, ◌∙◌, ℕ, List, map, take, drop, set, length, sym, ap, refl, arith, rules}
+use Rattle.std.proofs.Common.{◌∙◌, set, length, sym, ap, arith}
 use Rattle.std.proofs.lemmas.List.{length-set}
 use Rattle.std.proofs.lemmas.List.Edits.{map_over_more}
-use Rattle.cert_format.specs.declared.typing.VType.{VType}
 use Rattle.type_infer.specs.Solving.{unless}
 use Rattle.type_infer.proofs.joining.without.Goals as goal
 

@@ -1,4 +1,4 @@
-use Rattle.std.proofs.Common.{◌≡◌, ◌++◌, ◌≤◌, length, map, take, drop}
+use Rattle.std.proofs.Common.{◌≡◌, ◌++◌, length, map, take, drop}
 use Rattle.type_infer.specs.Solving.{unless}
 use Rattle.type_infer.proofs.joining.without.Given as goal
 

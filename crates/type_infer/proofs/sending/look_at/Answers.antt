@@ -1,7 +1,6 @@
-use Rattle.std.proofs.Common.{◌≡◌, ◌∙◌, ℕ, false, true, Some, subst, sym, ap}
+use Rattle.std.proofs.Common.{◌≡◌, ◌∙◌, ℕ, Some, subst, sym, ap}
 use Rattle.std.specs.Option.{option_copied}
 use Rattle.std.proofs.lemmas.Bool.{and_from, false≢true}
-use Rattle.code_typing.specs.Order.{IsAloneMet}
 use Rattle.code_typing.specs.Rules.{frame_of}
 use Rattle.type_infer.specs.Solving.{StaysFound, place_of}
 use Rattle.type_infer.proofs.Delivering.{all_done, stays_over}

@@ -1,8 +1,7 @@
-use Rattle.std.proofs.Common.{◌≡◌, ◌∙◌, ℕ, ◌+◌, ◌<◌, ◌++◌, ◌∷◌, [], length, get_or, take, inl, inr, subst, sym, ap, arith}
+use Rattle.std.proofs.Common.{ℕ, ◌++◌, ◌∷◌, [], get_or, take, inl, inr, subst, sym, arith}
 use Rattle.std.specs.Prelude.{Contains}
 use Rattle.std.proofs.lemmas.List.Elements.{Contains-get_or, Contains-push_cases}
 use Rattle.std.proofs.lemmas.List.{take_all, take_more}
-use Rattle.insn_effect.specs.Control.{successors}
 use Rattle.type_infer.specs.Solving.{IsSent, left_by}
 use Rattle.type_infer.proofs.Delivering.{stays_over, sent_before, sent_after}
 use Rattle.type_infer.proofs.Flowing.{laws_of}

@@ -1,4 +1,4 @@
-use Rattle.std.proofs.Common.{◌≡◌, ◌∙◌, ℕ, ◌+◌, ◌<◌, ◌++◌, ◌∷◌, [], List, length, zero, suc, inl, inr, refl, subst, sym, ap, arith}
+use Rattle.std.proofs.Common.{ℕ, ◌∷◌, List, suc, inl, inr, refl, subst, arith}
 use Rattle.std.specs.Prelude.{Contains}
 use Rattle.type_infer.specs.Solving.{IsSent, left_by}
 use Rattle.type_infer.proofs.Delivering.{stays_over, sent_before, sent_after}

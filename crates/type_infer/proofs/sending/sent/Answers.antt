@@ -1,4 +1,4 @@
-use Rattle.std.proofs.Common.{◌≡◌, ◌∙◌, subst, sym}
+use Rattle.std.proofs.Common.{◌∙◌, subst, sym}
 use Rattle.bytecode_model.specs.declared.program.Program.{Program}
 use Rattle.type_infer.specs.Solving.{AreBelow, left_by}
 use Rattle.type_infer.proofs.Flowing.{goes_below}

@@ -1,4 +1,4 @@
-use Rattle.std.proofs.Common.{◌≡◌, ◌∙◌, ℕ, true, Option, Some, subst, sym, ap, arith}
+use Rattle.std.proofs.Common.{◌≡◌, ◌∙◌, ℕ, true, Option, Some, subst, sym, ap}
 use Rattle.std.specs.Option.{option_copied}
 use Rattle.cert_format.specs.declared.typing.FrameType.{FrameType}
 use Rattle.type_lattice.specs.Laws.{IsInOrder}

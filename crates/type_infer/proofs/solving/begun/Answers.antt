@@ -1,4 +1,4 @@
-use Rattle.std.proofs.Common.{◌≡◌, ◌∙◌, ℕ, ◌≤◌, false, [], List, length, replicate, Option, None, Some, subst, sym, ap, arith}
+use Rattle.std.proofs.Common.{◌≡◌, ◌∙◌, ℕ, ◌≤◌, false, [], List, length, replicate, None, Some, subst, sym, ap, arith}
 use Rattle.cert_format.specs.declared.typing.VType.{VType}
 use Rattle.code_typing.specs.Makes.{type_at}
 use Rattle.code_typing.specs.Rules.{entry_locals}

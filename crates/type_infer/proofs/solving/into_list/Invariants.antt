@@ -1,4 +1,4 @@
-use Rattle.std.proofs.Common.{◌≡◌, length}
+use Rattle.std.proofs.Common.{◌≡◌}
 use Rattle.type_infer.specs.Fits.{FitFrames}
 use Rattle.type_infer.proofs.solving.into_list.Given as goal
 

@@ -1,4 +1,4 @@
-use Rattle.std.proofs.Common.{◌≡◌, ◌∙◌, ℕ, ◌<◌, subst, sym, ap}
+use Rattle.std.proofs.Common.{◌≡◌, ◌∙◌, ◌<◌, subst, sym, ap}
 use Rattle.code_typing.specs.Rules.{Frames}
 use Rattle.type_infer.specs.Solving.{State, AreFound, Grows, IsSolution, IsSolved, unmarked}
 use Rattle.type_infer.proofs.Flowing.{laws_of}

@@ -1,4 +1,4 @@
-use Rattle.std.proofs.Common.{◌≡◌, ℕ, length}
+use Rattle.std.proofs.Common.{◌≡◌, length}
 use Rattle.code_typing.specs.Rules.{Frames}
 use Rattle.type_infer.specs.Solving.{Holds, IsMetBy}
 use Rattle.type_infer.proofs.solving.solve.Given as goal
