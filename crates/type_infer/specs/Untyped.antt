@@ -1,5 +1,5 @@
 -- Where a program has no typing, and which typing is the least.
-use Rattle.std.specs.Prelude.{◌≡◌, ◌⊎◌, ℕ, ◌+◌, ◌<◌, List, length, Option, Some, None, slice_get, ⊤}
+use Rattle.std.specs.Prelude.{◌≡◌, ◌⊎◌, ℕ, ◌+◌, ◌<◌, List, length, Some, None, slice_get, ⊤}
 use Rattle.cert_format.specs.declared.typing.FrameType.{FrameType}
 use Rattle.cert_format.specs.declared.typing.Typing.{Typing}
 use Rattle.bytecode_model.specs.declared.program.LinkedClass.{LinkedClass}
@@ -42,6 +42,12 @@ abbrev pub AreMetBefore : Program → ℕ → ℕ → Type 0
 AreMetBefore program class method =
     (own index : ℕ) (c : LinkedClass) (m : Method) → slice_get program.classes own ≡ Some c → slice_get c.methods index ≡ Some m
     → StandsBefore own index class method → CanBeMet program own c m (length m.insns)
+
+-- No frames meet the rules at all instructions of the method in which the fault is.
+abbrev pub CannotBeMetAt : Program → TypeFault → Type 0
+CannotBeMetAt program fault =
+    (c : LinkedClass) (m : Method) → slice_get program.classes fault.class ≡ Some c → slice_get c.methods fault.method ≡ Some m
+    → CannotBeMet program fault.class c m (length m.insns)
 
 -- It is the first method without a typing, and the first of its instructions up to which no frames meet the rules.
 pub record IsUntypedAt (program : Program) (class method at : ℕ) : Type 0 where

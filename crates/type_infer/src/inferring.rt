@@ -7,7 +7,8 @@ ghost use Rattle.code_typing.specs.Shape.{IsShaped};
 ghost use Rattle.code_typing.specs.Typed.{IsTyped};
 ghost use Rattle.type_infer.specs.Fits.{FitFrames, FitsTyping};
 ghost use Rattle.type_infer.specs.Shape.{class_shape};
-ghost use Rattle.type_infer.specs.Untyped.{HasPlace, FirstUntyped, IsLeast, IsUntypable};
+ghost use Rattle.type_infer.specs.Solving.{ClassesAreSolved, MethodsAreSolved};
+ghost use Rattle.type_infer.specs.Untyped.{AreMetBefore, CannotBeMetAt, HasPlace, FirstUntyped, IsLeast, IsUntypable};
 ghost use Rattle.type_lattice.specs.Laws.{IsInOrder};
 
 use crate::body::Body;
@@ -30,6 +31,7 @@ fn class_frames(
     requires { IsSoundClass class.now }
     ensures shaped { IfOk result (λ told. map length told ≡ class_shape class.now) }
     ensures fits { IfOk result (λ told. AllByRecursion FitFrames told) }
+    ensures solved { IfOk result (λ told. MethodsAreSolved program.now own class.now class.now.methods told) }
 {
     let mut told = List::new(alloc);
     let mut left = class.methods.as_slice();
@@ -53,6 +55,7 @@ fn program_frames(alloc: Global, program: &Program) -> Result<Typing, NoMemory>
     requires { IsSound program.now }
     ensures shaped { IfOk result (λ typing. IsShaped program.now typing.frames) }
     ensures fits { IfOk result (λ typing. FitsTyping typing) }
+    ensures solved { IfOk result (λ typing. ClassesAreSolved program.now 0 program.now.classes typing.frames) }
 {
     let mut own: u32 = 0;
     let mut frames = List::new(alloc);
@@ -63,6 +66,46 @@ fn program_frames(alloc: Global, program: &Program) -> Result<Typing, NoMemory>
         left = later;
     }
     Ok(Typing { frames })
+}
+
+/// Where no types are found for the method in which the rules fail.
+fn untyped(alloc: Global, program: &Program, fault: TypeFault) -> Result<InferFault, NoMemory>
+    requires sound { IsSound program.now }
+    requires order { IsInOrder program.now }
+    requires placed { HasPlace program.now fault }
+    requires earlier { AreMetBefore program.now fault.class fault.method }
+    requires unmet { CannotBeMetAt program.now fault }
+    ensures { IfOk result (λ f. FirstUntyped program.now f) }
+{
+    let TypeFault {
+        class: own,
+        method: index,
+        at,
+        ..
+    } = fault;
+    let untyped = InferFault::Untyped {
+        class: own,
+        method: index,
+        at,
+    };
+    let Some(class) = program.classes.as_slice().get(own as usize) else {
+        return Ok(untyped);
+    };
+    let Some(method) = class.methods.as_slice().get(index as usize) else {
+        return Ok(untyped);
+    };
+    let body = Body {
+        program,
+        own,
+        class,
+        method,
+    };
+    let at = first_failing(alloc, &body, method.insns.len() as u32)?;
+    Ok(InferFault::Untyped {
+        class: own,
+        method: index,
+        at,
+    })
 }
 
 /// A typing of the program, by class, method with code and instruction.
@@ -82,5 +125,9 @@ pub fn infer(alloc: Global, program: &Program) -> Result<Typing, InferFault>
     // The first instruction is told up to which no frames meet them, of the first method without a typing.
     ensures first { IfErr result (λ fault. FirstUntyped program.now fault) }
 {
-    Err(InferFault::Memory)
+    let typing = program_frames(alloc, program)?;
+    match check_typing(program, &typing) {
+        Ok(()) => Ok(typing),
+        Err(fault) => Err(untyped(alloc, program, fault)?),
+    }
 }
