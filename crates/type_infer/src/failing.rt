@@ -28,7 +28,8 @@ pub fn rows_met(body: &Body, frames: &[Option<FrameType>], n: u32) -> bool
 fn can_be_met(alloc: Global, body: &Body, n: u32) -> Result<bool, NoMemory>
     requires { 0 < n }
     ensures met { IfOk result (λ found. IsTrue found → CanBeMet body.now.program body.now.own body.now.class body.now.method n) }
-    ensures unmet { IfOk result (λ found. IsFalse found → IsReady body.now → CannotBeMet body.now.program body.now.own body.now.class body.now.method n) }
+    ensures unmet { IfOk result (λ found. IsFalse found → IsReady body.now
+        → CannotBeMet body.now.program body.now.own body.now.class body.now.method n) }
 {
     let frames = solve(alloc, body, n)?;
     Ok(rows_met(body, frames.as_slice(), n))

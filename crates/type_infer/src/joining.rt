@@ -62,9 +62,11 @@ fn without(object: &VType, types: List<VType>) -> List<VType>
 fn settled(place: &PlaceRef, locals: List<VType>, stack: List<VType>) -> Option<Told>
     ensures some { length locals ≤ place.now.method.max_locals → length stack ≤ place.now.method.max_stack → IsSome result }
     ensures within { IfSome result (λ told. length told.locals ≤ place.now.method.max_locals) }
-    ensures locals { IfSome result (λ told. (j : ℕ) → type_at told.locals j ≡ local_settled place.now (shape_of place.now.insn) (type_at locals j)) }
+    ensures locals { IfSome result (λ told. (j : ℕ)
+        → type_at told.locals j ≡ local_settled place.now (shape_of place.now.insn) (type_at locals j)) }
     ensures height { IfSome result (λ told. length told.stack ≡ length stack) }
-    ensures stack { IfSome result (λ told. (j : ℕ) → type_at told.stack j ≡ operand_settled place.now (shape_of place.now.insn) (type_at stack j)) }
+    ensures stack { IfSome result (λ told. (j : ℕ)
+        → type_at told.stack j ≡ operand_settled place.now (shape_of place.now.insn) (type_at stack j)) }
 {
     match shape_of(place.insn) {
         Shape::Heap(Heap::Return(_)) => {
@@ -175,7 +177,8 @@ pub fn joined(
 ) -> Result<Option<Told>, NoMemory>
     ensures kept { IfOk result (λ told. IsInOrder place.now.program → IsKept place.now.program (option_copied old.entry) told) }
     ensures raised { IfOk result (λ told. IsInOrder place.now.program
-        → length locals ≤ place.now.method.max_locals → length stack ≤ place.now.method.max_stack → IsOfHeight (option_copied old.entry) (length stack)
+        → length locals ≤ place.now.method.max_locals → length stack ≤ place.now.method.max_stack
+        → IsOfHeight (option_copied old.entry) (length stack)
         → IsRaisedBy place.now (option_copied old.entry) (record { locals = type_at locals; operands = stack }) told) }
 {
     assignable_is_an_order();

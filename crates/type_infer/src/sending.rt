@@ -184,9 +184,11 @@ fn send_all(
     ensures frames { length work.new.frames ≡ length body.now.method.insns }
     ensures marks { length work.new.marks ≡ length body.now.method.insns }
     ensures grows { OnOk result (IsReady body.now → Grows body.now.program work.old work.new) }
-    ensures found { OnOk result (IsReady body.now → ((to : ℕ) → Contains targets.now to → Contains (successors place.now.at place.now.insn) to)
+    ensures found { OnOk result (IsReady body.now
+        → ((to : ℕ) → Contains targets.now to → Contains (successors place.now.at place.now.insn) to)
         → StaysFound body.now place.now.at work.old work.new) }
-    ensures sent { OnOk result (IsReady body.now → ((to : ℕ) → Contains targets.now to → Contains (successors place.now.at place.now.insn) to)
+    ensures sent { OnOk result (IsReady body.now
+        → ((to : ℕ) → Contains targets.now to → Contains (successors place.now.at place.now.insn) to)
         → (to : ℕ) → Contains targets.now to → IsSent body.now place.now.at to left_by work.old work.new) }
 {
     assignable_is_an_order();
@@ -327,7 +329,8 @@ fn throw_to_handlers(
     ensures marks { length work.new.marks ≡ length body.now.method.insns }
     ensures grows { OnOk result (IsReady body.now → Grows body.now.program work.old work.new) }
     ensures found { OnOk result (IsReady body.now → StaysFound body.now place.now.at work.old work.new) }
-    ensures sent { OnOk result (IsReady body.now → (handler : Handler) → Contains body.now.method.handlers handler → IsTrue (covers place.now.at handler)
+    ensures sent { OnOk result (IsReady body.now
+        → (handler : Handler) → Contains body.now.method.handlers handler → IsTrue (covers place.now.at handler)
         → IsSent body.now place.now.at handler.at (thrown_to handler) work.old work.new) }
 {
     assignable_is_an_order();
