@@ -115,12 +115,16 @@ module _ (main folder : List ℕ) (client : Program) (policy : Policy) (made : W
       by : (r : Step Ready) → UnlessMemory (Then (Equals (outputs_step folder program certificate)) (λ outputs. Gives (record { outputs = outputs; accepted = accepted; classes = length program.classes }))) r
           → UnlessMemory (Remakes main folder client policy made) r
       by (Ok ready) fits = record {
-        program = program; certificate = certificate; accepted = accepted;
+        program = program;
+        certificate = certificate;
+        accepted = accepted;
         remade = record { links = links; typing = typing; typed = typed; of = of; verdict = verdict };
         fits = fits;
       }
       by (Err e) (inl fits) = inl (record {
-        program = program; certificate = certificate; accepted = accepted;
+        program = program;
+        certificate = certificate;
+        accepted = accepted;
         remade = record { links = links; typing = typing; typed = typed; of = of; verdict = verdict };
         fits = fits;
       })
@@ -129,6 +133,12 @@ module _ (main folder : List ℕ) (client : Program) (policy : Policy) (made : W
   pub known_rewoven : linked made.files client.listing main Inlined ≡ Ok program → unlinked program ≡ made.files → IsAccepted program policy certificate → Secure program policy
       → (r : Step Ready) → IfOk r (λ ready. ready.outputs ≡ outputs_of folder program certificate) → IfOk r (λ ready. IsRewoven main folder client.listing policy made.files ready)
   known_rewoven links back accepted secure (Ok ready) outputs = record {
-    program = program; links = links; same = back; certificate = certificate; accepted = accepted; secure = secure; outputs = outputs;
+    program = program;
+    links = links;
+    same = back;
+    certificate = certificate;
+    accepted = accepted;
+    secure = secure;
+    outputs = outputs;
   }
   known_rewoven links back accepted secure (Err e) outputs = tt

@@ -111,6 +111,7 @@ module _ (old new : Program) (policy : Policy) (first types : Typing) (shaped : 
       in_method made f false is x framed = refl
       in_method made f true is None framed = refl
       in_method made f true is (Some frame) framed = absurd (none_there own index other made class method e f g h i k ref args r has le lt frame (ltb-true _ _ is) framed)
+
       by : (p : Option Method) → slice_get other.methods index ≡ p
           → option_map_or (λ (m : Method). has_code m && is_some (frame_of (frames_in other.methods (frames_told types own) index) (slice_index (fronts_of (sites_of policy method.max_locals method)) i + k))) p false ≡ false
       by None f = refl

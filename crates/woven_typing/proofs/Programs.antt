@@ -171,6 +171,7 @@ stopped policy method frames sound told i k ref args g has le lt =
     filled zero k = refl
     filled (suc m) zero = refl
     filled (suc m) (suc k) = filled m k
+
     by : (y : Option FrameType) → option_map_or (λ (f : Option FrameType). f) (slice_get (part_framed (Some args) y) k) None ≡ None
     by None = filled (length args + length args + 9) k
     by (Some f) = ap (λ (o : Option (Option FrameType)). option_map_or (λ (z : Option FrameType). z) o None) (unreached_at (length args) f k le lt)
@@ -190,9 +191,9 @@ body_of old new policy sound right tells woven own index class other method made
       standing = record { of_method = of_method; sound = sound_method };
       right = λ at insn ref g h. right own index at class method insn ref e f g h;
       references = λ at insn g.
-        let r = slice_there method.refs at (omega (arith, sound_method.refs, slice_get_within method.insns at insn g)) in
-        let operand = right own index at class method insn r.0 e f g r.1 in
-        ap (λ (pool : List Const). reference_at pool (index_of insn)) of_class.pool ∙ reference_longer class.file.pool of_class.added sound_class.fits.pool (index_of insn) operand.constant;
+          let r = slice_there method.refs at (omega (arith, sound_method.refs, slice_get_within method.insns at insn g)) in
+          let operand = right own index at class method insn r.0 e f g r.1 in
+          ap (λ (pool : List Const). reference_at pool (index_of insn)) of_class.pool ∙ reference_longer class.file.pool of_class.added sound_class.fits.pool (index_of insn) operand.constant;
       tells = tells;
     }
 
@@ -204,27 +205,32 @@ woven_typed old new policy typing sound right tells woven typed shaped own index
     record {
       of = record { class = pair.class; class_there = pair.there; method = back.0; method_there = back.1 };
       met = λ at lt.
-        let some : 0 < length back.0.insns = has_some policy old new pair.class other back.0 made body lt in
-        let told = told_count pair.class.methods (frames_told typing own) index back.0 (class_told old.classes typing.frames own pair.class shaped pair.there) back.1 some in
-        all_met policy old new own pair.class other back.0 made body (frames_in pair.class.methods (frames_told typing own) index) told
-        (λ i less. rows_met old typing own index pair.class back.0 typed pair.there back.1 i) at lt;
+          let some : 0 < length back.0.insns = has_some policy old new pair.class other back.0 made body lt in
+          let told = told_count pair.class.methods (frames_told typing own) index back.0 (class_told old.classes typing.frames own pair.class shaped pair.there) back.1 some in
+          all_met policy old new own pair.class other back.0 made body (frames_in pair.class.methods (frames_told typing own) index) told
+          (λ i less. rows_met old typing own index pair.class back.0 typed pair.there back.1 i) at lt;
       stops = λ i k ref args g has le lt.
-        let sound_class : IsSoundClass pair.class = all_get IsSoundClass old.classes own pair.class sound.classes pair.there in
-        let sound_method : IsSoundMethod back.0 = all_get IsSoundMethod pair.class.methods index back.0 sound_class.methods back.1 in
-        let inside : i < length back.0.insns = omega (arith, sound_method.refs, slice_get_within back.0.refs i ref g) in
-        let told = told_count pair.class.methods (frames_told typing own) index back.0 (class_told old.classes typing.frames own pair.class shaped pair.there) back.1 (omega (arith, inside)) in
-        stopped policy back.0 (frames_in pair.class.methods (frames_told typing own) index) sound_method told i k ref args g has le lt;
+          let sound_class : IsSoundClass pair.class = all_get IsSoundClass old.classes own pair.class sound.classes pair.there in
+          let sound_method : IsSoundMethod back.0 = all_get IsSoundMethod pair.class.methods index back.0 sound_class.methods back.1 in
+          let inside : i < length back.0.insns = omega (arith, sound_method.refs, slice_get_within back.0.refs i ref g) in
+          let told = told_count pair.class.methods (frames_told typing own) index back.0 (class_told old.classes typing.frames own pair.class shaped pair.there) back.1 (omega (arith, inside)) in
+          stopped policy back.0 (frames_in pair.class.methods (frames_told typing own) index) sound_method told i k ref args g has le lt;
     }
   where
     nothing_of : (policy : Policy) (base : ℕ) (refs : List Target) → length refs ≡ 0 → total policy base refs ≡ 0
     nothing_of policy base [] e = refl
     nothing_of policy base (r ∷ refs) e = absurd (omega (arith, e))
+
     has_some : (policy : Policy) (old new : Program) (class other : LinkedClass) (method made : Method) (body : IsWovenBody policy old new class other method made) → {at : ℕ} → at < length made.insns → 0 < length method.insns
     has_some policy old new class other method made body lt =
         elim (cases_Bool (nat_lt 0 (length method.insns))) [
           | inl is ↦ ltb-true _ _ is
           | inr fails ↦
               let empty : length method.insns ≡ 0 = grind (arith, nat_tests) in
-              absurd (omega (arith, lt, made_long policy other.file.pool method made body.standing,
-              nothing_of policy method.max_locals method.refs (omega (arith, empty, same_length policy other.file.pool method made body.standing))))
+              absurd (omega (
+                arith,
+                lt,
+                made_long policy other.file.pool method made body.standing,
+                nothing_of policy method.max_locals method.refs (omega (arith, empty, same_length policy other.file.pool method made body.standing)),
+              ))
         ]
