@@ -1,26 +1,37 @@
 -- What is woven of inputs links to their program with its blocks.
-use Rattle.std.proofs.Common.{◌≡◌, ℕ, Bool, true, false, cond, Result, Ok, Err, ap, sym, subst}
+use Rattle.std.proofs.Common.{◌≡◌, ◌⊎◌, ℕ, List, length, Bool, true, false, cond, Result, Ok, Err, inl, inr, ap, sym, subst, ◌∙◌}
 use Rattle.std.specs.Prelude.{nat_lt, IfOk}
 use Rattle.api_listing.specs.declared.types.Listing.{Listing}
 use Rattle.bytecode_model.specs.declared.program.Program.{Program}
 use Rattle.bytecode_model.specs.declared.program.Side.TheVariants.{Inlined, Original}
 use Rattle.bytecode_model.specs.Fault.{Linked}
-use Rattle.bytecode_model.specs.Linking.{linked}
-use Rattle.bytecode_model.specs.Sound.{IsSound}
+use Rattle.bytecode_model.specs.declared.program.Side.{Side}
+use Rattle.bytecode_model.specs.Linking.{linked, unlinked}
+use Rattle.class_codec.specs.declared.tree.ClassFile.{ClassFile}
+use Rattle.cert_checker.specs.Acceptance.{IsAccepted, verdict}
+use Rattle.cert_checker.specs.Secure.{Secure}
+use Rattle.cert_format.specs.declared.certificate.Certificate.{Certificate}
+use Rattle.cert_format.specs.declared.typing.Typing.{Typing}
+use Rattle.cert_maker.specs.Noting.{certificate_of}
+use Rattle.code_typing.specs.Typed.{IsTyped}
 use Rattle.conspec_automaton.specs.declared.policy.Policy.{Policy}
 use Rattle.conspec_automaton.specs.Building.{built}
 use Rattle.inline_release.specs.declared.weaving.Woven.{Woven}
-use Rattle.inline_release.specs.Outcome.{WovenLinksSo}
+use Rattle.inline_release.specs.Outcome.{IsWoven}
 use Rattle.inline_release.specs.Woven.{woven}
 use Rattle.inliner_tool.specs.declared.inline_inputs.InlineInputs.{InlineInputs}
 use Rattle.inliner_tool.specs.declared.refusal.Refusal.{Refusal}
 use Rattle.inliner_tool.specs.declared.refusal.Refusal.TheVariants as refusals
 use Rattle.inliner_tool.specs.declared.weaving.Ready.{Ready}
 use Rattle.inliner_tool.specs.InlineWords.{NamedInline}
-use Rattle.inliner_tool.specs.Weaving.{IsPlanned, IsRewoven, Step, link_step, original}
+use Rattle.inliner_tool.specs.Forms.{Then, Gives}
+use Rattle.inliner_tool.specs.InlineInputs.{IsListed}
+use Rattle.inliner_tool.specs.Weaving.{Accepts, Equals, IsPlanned, IsRewoven, Remakes, Step, Types, UnlessMemory, link_step, original, outputs_of, outputs_step}
+use Rattle.type_lattice.specs.Laws.{IsInOrder, LinkedIsInOrder}
+use Rattle.type_infer.specs.Untyped.{IsUntypedAt}
 
 -- A step that gives a program comes from files that link to it.
-linked_by : (r : Linked Program) (program : Program) → link_step r ≡ Ok program → r ≡ Ok program
+pub linked_by : (r : Linked Program) (program : Program) → link_step r ≡ Ok program → r ≡ Ok program
 linked_by (Ok other) program e =
     let same : other ≡ program = cc in
     ap (λ (p : Program). Ok p) same
@@ -30,8 +41,20 @@ original_by : (long : Bool) (total : ℕ) (r : Linked Program) (program : Progra
 original_by true total r program e = absurd cc
 original_by false total r program e = linked_by r program e
 
-module _ (law : WovenLinksSo) (named : NamedInline) (inputs : InlineInputs) (client : Program) (made : Woven) (sound : IsSound client)
-    (links : original inputs.listing inputs.classes named.main ≡ Ok client) where
+-- The files of an input link to the program.
+pub inputs_link : (named : NamedInline) (inputs : InlineInputs) (client : Program) → original inputs.listing inputs.classes named.main ≡ Ok client
+    → linked inputs.classes.files inputs.listing named.main Original ≡ Ok client
+inputs_link named inputs client links =
+    original_by (nat_lt 16777216 inputs.classes.total) inputs.classes.total (linked inputs.classes.files inputs.listing named.main Original) client links
+
+-- A program that files link to is the one that they link to.
+pub same_program : (r : Linked Program) (a b : Program) → r ≡ Ok a → r ≡ Ok b → a ≡ b
+same_program r a b e f =
+    let same : ◌≡◌ {A = Linked Program} (Ok a) (Ok b) = sym e ∙ f in
+    cc
+
+module _ (named : NamedInline) (inputs : InlineInputs) (client : Program) (made : Woven) (links : original inputs.listing inputs.classes named.main ≡ Ok client)
+    (remade : (new : Program) × ((linked made.files inputs.listing named.main Inlined ≡ Ok new) × IsWoven client (built inputs.policy) new)) where
   whole : (ready : Ready) → woven client (built inputs.policy) ≡ Ok made → IsRewoven named.main named.folder inputs.listing (built inputs.policy) made.files ready → IsPlanned named inputs ready
   whole ready is rewoven = record {
     client = client;
@@ -40,10 +63,8 @@ module _ (law : WovenLinksSo) (named : NamedInline) (inputs : InlineInputs) (cli
     woven = is;
     rewoven = rewoven;
     blocks =
-        law inputs.classes.files inputs.listing inputs.listing named.main named.main Original Inlined client rewoven.program (built inputs.policy) made
-        (original_by (nat_lt 16777216 inputs.classes.total) inputs.classes.total (linked inputs.classes.files inputs.listing named.main Original) client links)
-        sound is
-        (linked_by (linked made.files inputs.listing named.main Inlined) rewoven.program rewoven.links);
+        subst (λ (p : Program). IsWoven client (built inputs.policy) p)
+        (same_program (linked made.files inputs.listing named.main Inlined) remade.0 rewoven.program remade.1.0 rewoven.links) remade.1.1;
   }
 
   each : (r : Step Ready) → woven client (built inputs.policy) ≡ Ok made
@@ -57,3 +78,67 @@ module _ (law : WovenLinksSo) (named : NamedInline) (inputs : InlineInputs) (cli
       each r (subst (λ (p : Policy). woven client p ≡ Ok made) automaton is)
       (subst (λ (l : Listing). IfOk r (λ ready. IsRewoven named.main named.folder l (built inputs.policy) made.files ready)) listing
       (subst (λ (p : Policy). IfOk r (λ ready. IsRewoven named.main named.folder client.listing p made.files ready)) automaton rewoven))
+
+-- ---- what is woven again
+
+-- Files that are expected to link do: a refusal of linking them is want of memory.
+pub link_memory : (r : Linked Program) (program : Program) (e : Refusal) → r ≡ Ok program → UnlessMemory (Equals (link_step r)) (Err e) → e ≡ refusals.Memory
+link_memory r program e links (inl told) =
+    let no : ◌≡◌ {A = Step Program} (Err e) (Ok program) = told ∙ ap link_step links in
+    absurd cc
+link_memory r program e links (inr memory) = memory
+
+-- A program that can be typed is: a refusal of its types is want of memory.
+pub types_memory : (program : Program) (e : Refusal) → ((class method at : ℕ) → IsUntypedAt program class method at → ⊥) → UnlessMemory (Types program) (Err e) → e ≡ refusals.Memory
+types_memory program (refusals.Untyped label method at) typable (inl told) = absurd (typable told.0 method at told.2)
+types_memory program (refusals.TotalLong len) typable (inl told) = absurd told
+types_memory program (refusals.Link fault) typable (inl told) = absurd told
+types_memory program refusals.NotBuilt typable (inl told) = absurd told
+types_memory program (refusals.Overflow class method what value) typable (inl told) = absurd told
+types_memory program (refusals.LongCertificate value) typable (inl told) = absurd told
+types_memory program refusals.Memory typable (inl told) = absurd told
+types_memory program e typable (inr memory) = memory
+
+-- The classes of what files link to are in order.
+pub in_order : LinkedIsInOrder → (listing : Listing) (files : List ClassFile) (main : List ℕ) (side : Side) (long : Bool) (total : ℕ) (r : Step Program) → IsListed listing
+    → UnlessMemory (Equals (cond long (Err (refusals.TotalLong total)) (link_step (linked files listing main side)))) r → IfOk r IsInOrder
+in_order order listing files main side long total (Ok program) listed told =
+    order listed.text listing files main side program listed.spells (original_by long total (linked files listing main side) program (sym told))
+in_order order listing files main side long total (Err e) listed told = tt
+
+module _ (main folder : List ℕ) (client : Program) (policy : Policy) (made : Woven) (program : Program) (certificate : Certificate) where
+  -- What is judged is what is made anew.
+  pub remakes : (typing : Typing) → linked made.files client.listing main Inlined ≡ Ok program → IsTyped program typing → certificate ≡ certificate_of client.classes policy made.origins typing
+      → (result : Step Ready) → Accepts folder policy program certificate result → UnlessMemory (Remakes main folder client policy made) result
+  remakes typing links typed of result (accepted, verdict, told) = by result told
+    where
+      by : (r : Step Ready) → UnlessMemory (Then (Equals (outputs_step folder program certificate)) (λ outputs. Gives (record { outputs = outputs; accepted = accepted; classes = length program.classes }))) r
+          → UnlessMemory (Remakes main folder client policy made) r
+      by (Ok ready) fits = record {
+        program = program;
+        certificate = certificate;
+        accepted = accepted;
+        remade = record { links = links; typing = typing; typed = typed; of = of; verdict = verdict };
+        fits = fits;
+      }
+      by (Err e) (inl fits) = inl (record {
+        program = program;
+        certificate = certificate;
+        accepted = accepted;
+        remade = record { links = links; typing = typing; typed = typed; of = of; verdict = verdict };
+        fits = fits;
+      })
+      by (Err e) (inr memory) = inr memory
+
+  pub known_rewoven : linked made.files client.listing main Inlined ≡ Ok program → unlinked program ≡ made.files → IsAccepted program policy certificate → Secure program policy
+      → (r : Step Ready) → IfOk r (λ ready. ready.outputs ≡ outputs_of folder program certificate) → IfOk r (λ ready. IsRewoven main folder client.listing policy made.files ready)
+  known_rewoven links back accepted secure (Ok ready) outputs = record {
+    program = program;
+    links = links;
+    same = back;
+    certificate = certificate;
+    accepted = accepted;
+    secure = secure;
+    outputs = outputs;
+  }
+  known_rewoven links back accepted secure (Err e) outputs = tt

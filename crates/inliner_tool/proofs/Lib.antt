@@ -5,4 +5,5 @@ pub mod NeverUsage
 pub mod Planning
 pub mod Replying
 mod Blocks
+mod Expected
 mod NamedOnce

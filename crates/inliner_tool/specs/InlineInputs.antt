@@ -1,9 +1,13 @@
 -- What the files are of which a program is woven.
-use Rattle.std.specs.Prelude.{◌≤◌, length, Result}
+use Rattle.std.specs.Prelude.{ℕ, ◌≤◌, List, length, Result}
 use Rattle.std.specs.List.{AllByRecursion}
 use Rattle.mon_store.specs.Store.{Files}
-use Rattle.api_listing.specs.Listing.{IsFew}
+use Rattle.api_listing.specs.declared.types.Listing.{Listing}
+use Rattle.api_listing.specs.Listing.{IsFew, SpellsListing}
 use Rattle.class_codec.specs.Fits.{CanSpell}
+use Rattle.conspec_parse.specs.declared.types.PolicyTree.{PolicyTree}
+use Rattle.conspec_parse.specs.Meaning.{SpellsPolicy}
+use Rattle.conspec_parse.specs.Tree.{IsPolicyTree}
 use Rattle.inliner_tool.specs.declared.files.Stop.{Stop}
 use Rattle.inliner_tool.specs.declared.inline_inputs.InlineInputs.{InlineInputs}
 use Rattle.inliner_tool.specs.Forms.{Count, ReadsForm, Then, Gives}
@@ -19,8 +23,21 @@ ReadsInline files count named =
     Then (ReadsClasses files count named.classes) (λ classes.
     Gives (record { listing = listing; policy = policy; classes = classes }))))
 
+-- Some text spells the listing.
+pub record IsListed (listing : Listing) : Type 0 where
+  pub text : List ℕ
+  pub spells : SpellsListing text listing
+
+-- Some text spells the policy, over the listing.
+pub record IsPolicyOf (listing : Listing) (tree : PolicyTree) : Type 0 where
+  pub text : List ℕ
+  pub spells : SpellsPolicy text listing tree
+  pub sound : IsPolicyTree listing tree
+
 -- What is known of inputs that were read.
 pub record InlineSound (inputs : InlineInputs) : Type 0 where
   pub listing : IsFew inputs.listing
+  pub listed : IsListed inputs.listing
+  pub policy : IsPolicyOf inputs.listing inputs.policy
   pub vars : length inputs.policy.vars ≤ 16
   pub classes : AllByRecursion CanSpell inputs.classes.files

@@ -23,7 +23,6 @@ refused (refusals.Link fault) = answers.Link fault
 refused (refusals.Untyped class method at) = answers.Untyped class method at
 refused refusals.NotBuilt = answers.NotBuilt
 refused (refusals.Overflow class method what value) = answers.Overflow class method what value
-refused (refusals.Denied fault label) = answers.Denied fault label
 refused (refusals.LongCertificate value) = answers.LongCertificate value
 refused refusals.Memory = answers.Memory
 

@@ -10,6 +10,7 @@ pub mod Words
 pub mod Judging
 pub mod Lines
 pub mod Status
+pub mod Expected
 pub mod Weaving
 pub mod Inlining
 pub mod Tool

@@ -10,7 +10,6 @@ use Rattle.bytecode_model.specs.declared.program.Side.TheVariants.{Inlined, Orig
 use Rattle.bytecode_model.specs.Fault.{Linked}
 use Rattle.bytecode_model.specs.Linking.{linked, unlinked}
 use Rattle.cert_checker.specs.declared.checking.Accepted.{Accepted}
-use Rattle.cert_checker.specs.declared.fault.CheckFault.{CheckFault}
 use Rattle.cert_checker.specs.Acceptance.{IsAccepted, verdict}
 use Rattle.cert_checker.specs.Secure.{Secure}
 use Rattle.cert_format.specs.declared.certificate.Certificate.{Certificate}
@@ -39,7 +38,8 @@ use Rattle.inliner_tool.specs.declared.weaving.Ready.{Ready}
 use Rattle.inliner_tool.specs.Built.{is_built_class}
 use Rattle.inliner_tool.specs.Forms.{Gives, Then}
 use Rattle.inliner_tool.specs.InlineWords.{NamedInline}
-use Rattle.inliner_tool.specs.Judging.{label_of, number_of_class}
+use Rattle.inliner_tool.specs.Judging.{label_of}
+use Rattle.type_infer.specs.Untyped.{IsUntypedAt}
 
 -- ---- the steps
 
@@ -60,10 +60,10 @@ abbrev pub original : Listing → Classes → List ℕ → Step Program
 original listing classes main =
     if nat_lt 16777216 classes.total then Err (refusals.TotalLong classes.total) else link_step (linked classes.files listing main Original)
 
--- Types fit; or they fit nowhere that was found, and the instruction is told.
+-- Types fit; or none do, and the first instruction is told up to which none fit, of the first method without types.
 abbrev pub Types : Program → Step Typing → Type 0
 Types program (Ok typing) = IsTyped program typing
-Types program (Err (refusals.Untyped label method at)) = (class : ℕ) × (label ≡ label_of program class)
+Types program (Err (refusals.Untyped label method at)) = (class : ℕ) × (label ≡ label_of program class) × IsUntypedAt program class method at
 Types program (Err other) = ⊥
 
 -- one class, and no other
@@ -88,14 +88,6 @@ abbrev pub weave_step : Result Woven SpliceFault → Step Woven
 weave_step (Ok made) = Ok made
 weave_step (Err (splices.Overflow class method what value)) = Err (refusals.Overflow class method what value)
 weave_step (Err splices.Memory) = Err refusals.Memory
-
--- The files link as those of this tool.
-abbrev pub relinked : Listing → List ClassFile → List ℕ → Step Program
-relinked listing files main = link_step (linked files listing main Inlined)
-
-abbrev pub verdict_step : Program → Result Accepted CheckFault → Step Accepted
-verdict_step program (Ok accepted) = Ok accepted
-verdict_step program (Err fault) = Err (refusals.Denied fault (label_of program (number_of_class fault)))
 
 -- ---- the outputs
 
@@ -122,29 +114,26 @@ outputs_step folder program certificate =
 abbrev pub Equals : {A : Type 0} → Step A → Step A → Type 0
 Equals wanted result = result ≡ wanted
 
--- The woven program is accepted with its certificate, and the outputs fit.
-abbrev pub Accepting : List ℕ → Program → Certificate → Accepted → Step Ready → Type 0
-Accepting folder program certificate accepted =
-    Then (Equals (outputs_step folder program certificate)) (λ outputs.
-    Gives (record { outputs = outputs; accepted = accepted; classes = length program.classes }))
+-- What is woven is a program that is typed, and that is accepted with the certificate that is made of its types.
+pub record IsRemade (main : List ℕ) (client : Program) (policy : Policy) (made : Woven) (program : Program) (certificate : Certificate) (accepted : Accepted) : Type 0 where
+  pub links : linked made.files client.listing main Inlined ≡ Ok program
+  pub typing : Typing
+  pub typed : IsTyped program typing
+  pub of : certificate ≡ certificate_of client.classes policy made.origins typing
+  pub verdict : verdict program policy certificate ≡ Ok accepted
 
-abbrev pub Judging : List ℕ → Policy → Program → Certificate → Step Ready → Type 0
-Judging folder policy program certificate =
-    Then (Equals (verdict_step program (verdict program policy certificate))) (Accepting folder program certificate)
-
--- It is typed, too; the certificate has these types.
-abbrev pub Retyping : List ℕ → List LinkedClass → Policy → Woven → Program → Step Ready → Type 0
-Retyping folder classes policy made program =
-    Then (Types program) (λ typing. Judging folder policy program (certificate_of classes policy made.origins typing))
-
--- What is woven links.
-abbrev pub Relinking : List ℕ → List ℕ → Program → Policy → Woven → Step Ready → Type 0
-Relinking main folder client policy made =
-    Then (Equals (relinked client.listing made.files main)) (Retyping folder client.classes policy made)
+-- The woven program is such a one, always; its outputs fit, or the certificate is too long.
+pub record Remakes (main folder : List ℕ) (client : Program) (policy : Policy) (made : Woven) (result : Step Ready) : Type 0 where
+  pub program : Program
+  pub certificate : Certificate
+  pub accepted : Accepted
+  pub remade : IsRemade main client policy made program certificate accepted
+  pub fits : Then (Equals (outputs_step folder program certificate)) (λ outputs.
+      Gives (record { outputs = outputs; accepted = accepted; classes = length program.classes })) result
 
 -- The program is woven, where it and the policy are of the form that is built so far.
 abbrev pub Weaves : List ℕ → List ℕ → Program → Policy → Step Ready → Type 0
-Weaves main folder client policy = Then (Equals (weave_step (woven client policy))) (Relinking main folder client policy)
+Weaves main folder client policy = Then (Equals (weave_step (woven client policy))) (Remakes main folder client policy)
 
 abbrev pub Denying : NamedInline → PolicyTree → Program → Step Ready → Type 0
 Denying named policy client = Then (Equals (denying named.weaving policy client)) (Weaves named.main named.folder client)
@@ -162,13 +151,19 @@ abbrev pub UnlessMemory : {A : Type 0} → (Step A → Type 0) → Step A → Ty
 UnlessMemory Says (Ok value) = Says (Ok value)
 UnlessMemory Says (Err refusal) = Says (Err refusal) ⊎ (refusal ≡ refusals.Memory)
 
+-- The outputs of an accepted program, or that its certificate is too long; or memory ran out.
+abbrev pub Accepts : List ℕ → Policy → Program → Certificate → Step Ready → Type 0
+Accepts folder policy program certificate result =
+    (accepted : Accepted) × (verdict program policy certificate ≡ Ok accepted) × UnlessMemory (Then (Equals (outputs_step folder program certificate)) (λ outputs.
+    Gives (record { outputs = outputs; accepted = accepted; classes = length program.classes }))) result
+
 -- ---- what is known of what is ready
 
 -- What is woven links to a program of these files, which is accepted with a certificate, and obeys the policy for every
 -- list of guest steps; it and the certificate are to be written.
 pub record IsRewoven (main folder : List ℕ) (listing : Listing) (policy : Policy) (files : List ClassFile) (ready : Ready) : Type 0 where
   pub program : Program
-  pub links : relinked listing files main ≡ Ok program
+  pub links : linked files listing main Inlined ≡ Ok program
   pub same : unlinked program ≡ files
   pub certificate : Certificate
   pub accepted : IsAccepted program policy certificate

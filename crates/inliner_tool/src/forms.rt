@@ -2,8 +2,9 @@
 
 ghost use Rattle.std.specs.Prelude.{◌≡◌, ◌<◌, ◌≤◌, ◌^◌, length, IfOk};
 ghost use Rattle.std.specs.List.{AllByRecursion};
-ghost use Rattle.api_listing.specs.Listing.{IsFew};
+ghost use Rattle.api_listing.specs.Listing.{IsFew, SpellsListing};
 ghost use Rattle.class_codec.specs.Fits.{CanSpell};
+ghost use Rattle.conspec_parse.specs.Meaning.{SpellsPolicy};
 ghost use Rattle.conspec_parse.specs.Tree.{IsPolicyTree};
 ghost use Rattle.inliner_tool.specs.Kinds.{certificate_form, class_form, listing_form, policy_form, record_form};
 ghost use Rattle.inliner_tool.specs.Reading.{Tells};
@@ -43,6 +44,7 @@ pub struct ReadClass {
 pub fn listing_read(alloc: Global, text: &[u8]) -> Result<Listing, InputFault>
     ensures read { Tells result (listing_form.reads text.now) }
     ensures few { IfOk result IsFew }
+    ensures listed { IfOk result (λ listing. SpellsListing text.now listing) }
 {
     match read(alloc, text) {
         Ok(listing) => Ok(listing),
@@ -56,6 +58,7 @@ pub fn policy_read(alloc: Global, text: &[u8], listing: &Listing) -> Result<Poli
     ensures read { Tells result ((policy_form listing.now).reads text.now) }
     ensures few { IfOk result (λ tree. length tree.vars ≤ 16) }
     ensures sound { IfOk result (λ tree. IsPolicyTree listing.now tree) }
+    ensures spells { IfOk result (λ tree. SpellsPolicy text.now listing.now tree) }
 {
     match parse(alloc, text, listing) {
         Ok(tree) => Ok(tree),

@@ -75,7 +75,6 @@ fn refused(refusal: Refusal) -> Answer
             what,
             value,
         },
-        Refusal::Denied(fault, label) => Answer::Denied(fault, label),
         Refusal::LongCertificate { value } => Answer::LongCertificate { value },
         Refusal::Memory => Answer::Memory,
     }

@@ -7,6 +7,7 @@ ghost use Rattle.api_listing.specs.Listing.{IsFew};
 ghost use Rattle.class_codec.specs.Fits.{CanSpell};
 ghost use Rattle.conspec_parse.specs.Tree.{IsPolicyTree};
 ghost use Rattle.inliner_tool.specs.Forms.{Form, ReadsForm, since};
+ghost use Rattle.inliner_tool.specs.InlineInputs.{IsListed, IsPolicyOf};
 ghost use Rattle.inliner_tool.specs.Inputs.{AreSound, IsOfListing, IsOfName};
 ghost use Rattle.inliner_tool.specs.Inputs.{ReadsCheck, ReadsClasses as ReadsFiles, ReadsPolicy, ReadsShow};
 ghost use Rattle.inliner_tool.specs.Kinds.{certificate_form, class_form, listing_form, policy_form, record_form};
@@ -75,6 +76,7 @@ pub fn listing_of<S: Store>(alloc: Global, store: &mut S, name: &Bytes) -> Resul
     ensures form { ReadsForm (S.files store.old) (since (S.faults store.old) (S.faults store.new) (S.last store.new))
         name.now listing_form result }
     ensures few { IfOk result IsFew }
+    ensures listed { IfOk result IsListed }
     ensures files { S.files store.new ≡ S.files store.old }
     ensures faults { S.faults store.old ≤ S.faults store.new }
 {
@@ -94,6 +96,7 @@ pub fn policy_of<S: Store>(
         name.now (policy_form listing.now) result }
     ensures few { IfOk result (λ tree. length tree.vars ≤ 16) }
     ensures sound { IfOk result (λ tree. IsPolicyTree listing.now tree) }
+    ensures spelled { IfOk result (λ tree. IsPolicyOf listing.now tree) }
     ensures files { S.files store.new ≡ S.files store.old }
     ensures faults { S.faults store.old ≤ S.faults store.new }
 {

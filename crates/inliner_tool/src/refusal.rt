@@ -4,7 +4,6 @@ ghost use Rattle.std.specs.Prelude.{◌≡◌};
 ghost use Rattle.inliner_tool.specs.declared.refusal.Refusal.TheVariants as refusals;
 
 use bytecode_model::LinkFault;
-use cert_checker::CheckFault;
 use mon_base::{Bytes, NoMemory};
 use offset_patch::Size;
 
@@ -32,8 +31,6 @@ pub enum Refusal {
         what: Size,
         value: i64,
     },
-    /// The first test that fails, and the name of its class.
-    Denied(CheckFault, Bytes),
     /// The certificate would have so many bytes.
     LongCertificate {
         value: u64,

@@ -8,15 +8,15 @@ ghost use Rattle.cert_checker.specs.Secure.{Secure};
 ghost use Rattle.class_codec.specs.Fits.{CanSpell};
 ghost use Rattle.conspec_automaton.specs.Building.{built};
 ghost use Rattle.conspec_automaton.specs.Denying.{DeniesOnly};
-ghost use Rattle.inliner_tool.specs.InlineInputs.{InlineSound};
+ghost use Rattle.inliner_tool.specs.InlineInputs.{InlineSound, IsListed};
 ghost use Rattle.inliner_tool.specs.InlineWords.{inline_named};
 ghost use Rattle.inliner_tool.specs.Weaving.{
+  Accepts,
   Equals,
   IsPlanned,
   IsRewoven,
-  Judging,
   Plans,
-  Relinking,
+  Remakes,
   Types,
   UnlessMemory,
   are_one_class,
@@ -30,33 +30,38 @@ ghost use Rattle.inliner_tool.specs.Weaving.{
   original,
   outputs_of,
   outputs_step,
-  verdict_step,
   weave_step,
 };
 ghost use Rattle.bytecode_model.specs.Linking.{linked, unlinked};
-ghost use Rattle.cert_checker.specs.Acceptance.{IsAccepted, verdict};
+ghost use Rattle.cert_checker.specs.Acceptance.{IsAccepted};
+ghost use Rattle.code_typing.specs.Shape.{IsShaped};
+ghost use Rattle.inliner_tool.specs.Expected.{IsExpected};
+ghost use Rattle.type_infer.specs.Untyped.{IsLeast};
+ghost use Rattle.type_lattice.specs.Laws.{IsInOrder};
 ghost use Rattle.inline_release.specs.Woven.{woven};
 
 use crate::built::is_built_class;
 use crate::inline_inputs::InlineInputs;
 use crate::inline_words::{InlineWords, Weaving};
 use crate::inputs::ReadClasses;
-use crate::judging::{TOTAL_LIMIT, class_of, label_of};
+use crate::judging::{TOTAL_LIMIT, label_of};
 use crate::refusal::Refusal;
 use api_listing::{ListedMethod, Listing};
 use bytecode_model::{LinkFault, LinkedClass, Program, Side, link};
 use cert_checker::{Accepted, check};
 use cert_format::{CertLong, Certificate, Typing};
-use cert_maker::make;
+use cert_maker::{make, woven_is_accepted};
 use class_codec::ClassFile;
 use conspec_automaton::{Policy, asks_nothing, build};
 use conspec_parse::PolicyTree;
-use inline_release::{Woven, inline, woven_is_linked_so};
+use inline_release::{Woven, inline, original_is_free, woven_files_link};
 use mon_base::{Bytes, List, NoMemory};
 use mon_store::Output;
 use offset_patch::SpliceFault;
 use std::alloc::Global;
 use type_infer::{InferFault, infer};
+use type_lattice::linked_is_in_order;
+use woven_typing::{linked_operands_are_right, policy_tells_arguments, woven_is_typed};
 
 /// What is to be written, and what is said of it.
 #[derive(Debug, Drop, PartialEq, Eq)]
@@ -84,7 +89,13 @@ pub fn plan(alloc: Global, inputs: InlineInputs, words: &InlineWords) -> Result<
     types_of(alloc, &client)?;
     let policy = denying(alloc, words.weaving, &policy, &client)?;
     let made = woven(alloc, &client, &policy)?;
-    woven_is_linked_so();
+    woven_files_link();
+    original_is_free();
+    linked_is_in_order();
+    linked_operands_are_right();
+    policy_tells_arguments();
+    woven_is_typed();
+    woven_is_accepted();
     rewoven(alloc, words.main, words.folder, client, &policy, made)
 }
 
@@ -99,8 +110,11 @@ fn original(
     requires fits { AllByRecursion CanSpell classes.files }
     ensures is { UnlessMemory (Equals (original listing classes main.now)) result }
     ensures listing { IfOk result (λ program. program.listing ≡ listing) }
+    ensures back { IfOk result (λ program. unlinked program ≡ classes.files) }
     ensures sound { IfOk result IsSound }
+    ensures order { IsListed listing → IfOk result IsInOrder }
 {
+    linked_is_in_order();
     let total = classes.total;
     if total > TOTAL_LIMIT {
         return Err(Refusal::TotalLong { len: total });
@@ -139,8 +153,11 @@ fn link_refusal(fault: LinkFault) -> Refusal
 
 /// The types of a program.
 fn types_of(alloc: Global, program: &Program) -> Result<Typing, Refusal>
-    requires { IsSound program.now }
-    ensures { UnlessMemory (Types program.now) result }
+    requires sound { IsSound program.now }
+    requires order { IsInOrder program.now }
+    ensures is { UnlessMemory (Types program.now) result }
+    ensures shaped { IfOk result (λ typing. IsShaped program.now typing.frames) }
+    ensures least { IfOk result (λ typing. IsLeast program.now typing) }
 {
     match infer(alloc, program) {
         Ok(typing) => Ok(typing),
@@ -213,7 +230,7 @@ fn woven(alloc: Global, client: &Program, policy: &Policy) -> Result<Woven, Refu
     }
 }
 
-/// What is woven is linked and typed, and judged with its certificate.
+/// What is woven, linked and typed, with its certificate, which is accepted.
 fn rewoven(
     alloc: Global,
     main: &Bytes,
@@ -224,7 +241,8 @@ fn rewoven(
 ) -> Result<Ready, Refusal>
     requires few { IsFew client.listing }
     requires fits { AllByRecursion CanSpell made.files }
-    ensures steps { UnlessMemory (Relinking main.now folder.now client policy.now made) result }
+    requires expected { IsExpected main.now client policy.now made }
+    ensures steps { UnlessMemory (Remakes main.now folder.now client policy.now made) result }
     ensures rewoven { IfOk result (λ ready. IsRewoven main.now folder.now client.listing policy.now made.files ready) }
 {
     let Program {
@@ -245,7 +263,7 @@ fn rewoven(
     judged(alloc, folder, policy, &program, &certificate)
 }
 
-/// What is to be written of a woven program, once it is checked with its certificate.
+/// What is to be written of a woven program, which is checked with its certificate.
 fn judged(
     alloc: Global,
     folder: &Bytes,
@@ -253,39 +271,20 @@ fn judged(
     program: &Program,
     certificate: &Certificate,
 ) -> Result<Ready, Refusal>
-    requires { IsSound program.now }
-    ensures steps { UnlessMemory (Judging folder.now policy.now program.now certificate.now) result }
-    ensures accepted { OnOk result (IsAccepted program.now policy.now certificate.now) }
-    ensures secure { OnOk result (Secure program.now policy.now) }
+    requires sound { IsSound program.now }
+    requires accepted { IsAccepted program.now policy.now certificate.now }
+    ensures accepts { Accepts folder.now policy.now program.now certificate.now result }
+    ensures accepted { IsAccepted program.now policy.now certificate.now }
+    ensures secure { Secure program.now policy.now }
     ensures outputs { IfOk result (λ ready. ready.outputs ≡ outputs_of folder.now program.now certificate.now) }
 {
-    let accepted = accepted(alloc, policy, program, certificate)?;
+    let accepted = check(program, policy, certificate).unwrap();
     let outputs = outputs_of(alloc, folder, program, certificate)?;
     Ok(Ready {
         outputs,
         accepted,
         classes: program.classes.len() as u64,
     })
-}
-
-fn accepted(
-    alloc: Global,
-    policy: &Policy,
-    program: &Program,
-    certificate: &Certificate,
-) -> Result<Accepted, Refusal>
-    requires { IsSound program.now }
-    ensures is { UnlessMemory (Equals (verdict_step program.now (verdict program.now policy.now certificate.now))) result }
-    ensures accepted { OnOk result (IsAccepted program.now policy.now certificate.now) }
-    ensures secure { OnOk result (Secure program.now policy.now) }
-{
-    match check(program, policy, certificate) {
-        Ok(accepted) => Ok(accepted),
-        Err(fault) => {
-            let label = label_of(alloc, program, class_of(&fault))?;
-            Err(Refusal::Denied(fault, label))
-        }
-    }
 }
 
 /// The class files in their order, and behind them the certificate.

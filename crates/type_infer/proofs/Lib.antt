@@ -1,2 +1,12 @@
 pub mod Lists
+pub mod Below
+pub mod Settling
+pub mod Raising
+pub mod Flowing
+pub mod Stepping
+pub mod Staying
+pub mod Delivering
+pub mod Solutions
+pub mod Meeting
+pub mod Firsts
 pub mod Placing

@@ -2,3 +2,4 @@ pub mod Fault
 pub mod Fits
 pub mod Shape
 pub mod Untyped
+pub mod Solving

@@ -1,10 +1,14 @@
 //! A method whose types are looked for.
 
+ghost use Rattle.std.specs.Prelude.{◌≡◌, option_map};
+ghost use Rattle.type_infer.specs.Solving.{place_of};
+
 use bytecode_model::{LinkedClass, Method, Program};
 use code_typing::PlaceRef;
+use std::marker::Model;
 
 /// A method of the class with this index.
-#[derive(Clone, Copy)]
+#[derive(Drop)]
 pub struct Body<'a> {
     pub program: &'a Program,
     pub own: u32,
@@ -12,9 +16,19 @@ pub struct Body<'a> {
     pub method: &'a Method,
 }
 
+impl<'a> Model for Body<'a> {
+    ghost use Rattle.type_infer.specs.Solving.{Scope};
+
+    ghost Value = { Scope };
+
+    ghost view = { λ b. record { program = b.program.now; own = b.own; class = b.class.now; method = b.method.now } };
+}
+
 impl<'a> Body<'a> {
     /// The instruction of this index, in its place.
-    pub fn place(&self, at: u32) -> Option<PlaceRef<'a>> {
+    pub fn place(&self, at: u32) -> Option<PlaceRef<'a>>
+        ensures { result ≡ place_of self.now at }
+    {
         let insn = self.method.insns.as_slice().get(at as usize)?;
         Some(PlaceRef {
             program: self.program,

@@ -1,7 +1,8 @@
 //! The first instruction at which a method has no typing.
 
-ghost use Rattle.std.specs.Prelude.{◌≡◌, ◌<◌, ◌≤◌, ◌+◌, ◌-◌, IfOk, IsTrue};
-ghost use Rattle.type_infer.specs.Untyped.{AreMet, CanBeMet};
+ghost use Rattle.std.specs.Prelude.{◌≡◌, ◌<◌, ◌≤◌, ◌+◌, ◌-◌, IfOk, IsFalse, IsTrue};
+ghost use Rattle.type_infer.specs.Solving.{Scope, IsReady};
+ghost use Rattle.type_infer.specs.Untyped.{AreMet, CanBeMet, CannotBeMet};
 
 use crate::body::Body;
 use crate::solving::solve;
@@ -12,7 +13,8 @@ use std::alloc::Global;
 
 /// Whether the rules are met at the first n instructions.
 pub fn rows_met(body: &Body, frames: &[Option<FrameType>], n: u32) -> bool
-    ensures { IsTrue result → AreMet body.now.program.now body.now.own body.now.class.now body.now.method.now n frames.now }
+    ensures met { IsTrue result → AreMet body.now.program body.now.own body.now.class body.now.method n frames.now }
+    ensures unmet { IsFalse result → AreMet body.now.program body.now.own body.now.class body.now.method n frames.now → ⊥ }
 {
     for at in 0..n {
         if row_in(body.program, body.own, body.class, body.method, frames, at).is_some() {
@@ -22,9 +24,12 @@ pub fn rows_met(body: &Body, frames: &[Option<FrameType>], n: u32) -> bool
     true
 }
 
-/// Whether frames are found that meet the rules at the first n instructions.
+/// Whether frames meet the rules at the first n instructions.
 fn can_be_met(alloc: Global, body: &Body, n: u32) -> Result<bool, NoMemory>
-    ensures { IfOk result (λ found. IsTrue found → CanBeMet body.now.program.now body.now.own body.now.class.now body.now.method.now n) }
+    requires { 0 < n }
+    ensures met { IfOk result (λ found. IsTrue found → CanBeMet body.now.program body.now.own body.now.class body.now.method n) }
+    ensures unmet { IfOk result (λ found. IsFalse found → IsReady body.now
+        → CannotBeMet body.now.program body.now.own body.now.class body.now.method n) }
 {
     let frames = solve(alloc, body, n)?;
     Ok(rows_met(body, frames.as_slice(), n))
@@ -33,11 +38,13 @@ fn can_be_met(alloc: Global, body: &Body, n: u32) -> Result<bool, NoMemory>
 /// Two numbers of instructions that are nearer to each other: the rules can be met at so many, and not at so many.
 fn halved(alloc: Global, body: &Body, met: u32, unmet: u32) -> Result<(u32, u32), NoMemory>
     requires apart { met + 1 < unmet }
-    requires met { CanBeMet body.now.program.now body.now.own body.now.class.now body.now.method.now met }
+    requires met { CanBeMet body.now.program body.now.own body.now.class body.now.method met }
     ensures apart { IfOk result (λ r. r.0 < r.1) }
     ensures nearer { IfOk result (λ r. r.1 - r.0 < unmet - met) }
     ensures within { IfOk result (λ r. r.1 ≤ unmet) }
-    ensures met { IfOk result (λ r. CanBeMet body.now.program.now body.now.own body.now.class.now body.now.method.now r.0) }
+    ensures met { IfOk result (λ r. CanBeMet body.now.program body.now.own body.now.class body.now.method r.0) }
+    ensures unmet { IfOk result (λ r. IsReady body.now → CannotBeMet body.now.program body.now.own body.now.class body.now.method unmet
+        → CannotBeMet body.now.program body.now.own body.now.class body.now.method r.1) }
 {
     let middle = met + (unmet - met) / 2;
     if can_be_met(alloc, body, middle)? {
@@ -47,12 +54,13 @@ fn halved(alloc: Global, body: &Body, met: u32, unmet: u32) -> Result<(u32, u32)
     }
 }
 
-/// An instruction so that frames are found that meet the rules before it, and none that meet them up to it, where none
-/// are found that meet them at all of the n.
+/// The first instruction up to which no frames meet the rules, where none meet them at all of the n.
 pub fn first_failing(alloc: Global, body: &Body, n: u32) -> Result<u32, NoMemory>
     requires { 0 < n }
     ensures within { IfOk result (λ at. at < n) }
-    ensures met { IfOk result (λ at. CanBeMet body.now.program.now body.now.own body.now.class.now body.now.method.now at) }
+    ensures met { IfOk result (λ at. CanBeMet body.now.program body.now.own body.now.class body.now.method at) }
+    ensures unmet { IfOk result (λ at. IsReady body.now → CannotBeMet body.now.program body.now.own body.now.class body.now.method n
+        → CannotBeMet body.now.program body.now.own body.now.class body.now.method (at + 1)) }
 {
     let mut met: u32 = 0;
     let mut unmet = n;

@@ -7,7 +7,9 @@ ghost use Rattle.code_typing.specs.Shape.{IsShaped};
 ghost use Rattle.code_typing.specs.Typed.{IsTyped};
 ghost use Rattle.type_infer.specs.Fits.{FitFrames, FitsTyping};
 ghost use Rattle.type_infer.specs.Shape.{class_shape};
-ghost use Rattle.type_infer.specs.Untyped.{HasPlace, CanBeMetBefore};
+ghost use Rattle.type_infer.specs.Solving.{ClassesAreSolved, MethodsAreSolved};
+ghost use Rattle.type_infer.specs.Untyped.{AreMetBefore, CannotBeMetAt, HasPlace, FirstUntyped, IsLeast, IsUntypable};
+ghost use Rattle.type_lattice.specs.Laws.{IsInOrder};
 
 use crate::body::Body;
 use crate::failing::first_failing;
@@ -29,6 +31,7 @@ fn class_frames(
     requires { IsSoundClass class.now }
     ensures shaped { IfOk result (λ told. map length told ≡ class_shape class.now) }
     ensures fits { IfOk result (λ told. AllByRecursion FitFrames told) }
+    ensures solved { IfOk result (λ told. MethodsAreSolved program.now own class.now class.now.methods told) }
 {
     let mut told = List::new(alloc);
     let mut left = class.methods.as_slice();
@@ -52,6 +55,7 @@ fn program_frames(alloc: Global, program: &Program) -> Result<Typing, NoMemory>
     requires { IsSound program.now }
     ensures shaped { IfOk result (λ typing. IsShaped program.now typing.frames) }
     ensures fits { IfOk result (λ typing. FitsTyping typing) }
+    ensures solved { IfOk result (λ typing. ClassesAreSolved program.now 0 program.now.classes typing.frames) }
 {
     let mut own: u32 = 0;
     let mut frames = List::new(alloc);
@@ -67,8 +71,11 @@ fn program_frames(alloc: Global, program: &Program) -> Result<Typing, NoMemory>
 /// Where no types are found for the method in which the rules fail.
 fn untyped(alloc: Global, program: &Program, fault: TypeFault) -> Result<InferFault, NoMemory>
     requires sound { IsSound program.now }
+    requires order { IsInOrder program.now }
     requires placed { HasPlace program.now fault }
-    ensures { IfOk result (λ f. CanBeMetBefore program.now f) }
+    requires earlier { AreMetBefore program.now fault.class fault.method }
+    requires unmet { CannotBeMetAt program.now fault }
+    ensures { IfOk result (λ f. FirstUntyped program.now f) }
 {
     let TypeFault {
         class: own,
@@ -104,14 +111,19 @@ fn untyped(alloc: Global, program: &Program, fault: TypeFault) -> Result<InferFa
 /// A typing of the program, by class, method with code and instruction.
 pub fn infer(alloc: Global, program: &Program) -> Result<Typing, InferFault>
     requires sound { IsSound program.now }
+    requires order { IsInOrder program.now }
     // The rules are met.
     ensures typed { IfOk result (λ typing. IsTyped program.now typing) }
     // There is a frame, or none, for each instruction.
     ensures shaped { IfOk result (λ typing. IsShaped program.now typing.frames) }
     // A certificate can tell each frame.
     ensures spelled { IfOk result (λ typing. FitsTyping typing) }
-    // Else an instruction is told, and some frames meet the rules at those before it.
-    ensures before { IfErr result (λ fault. CanBeMetBefore program.now fault) }
+    // It is the least typing that meets the rules.
+    ensures least { IfOk result (λ typing. IsLeast program.now typing) }
+    // Else no typing meets them, unless memory ran out.
+    ensures untypable { IfErr result (λ fault. IsUntypable program.now fault) }
+    // The first instruction is told up to which no frames meet them, of the first method without a typing.
+    ensures first { IfErr result (λ fault. FirstUntyped program.now fault) }
 {
     let typing = program_frames(alloc, program)?;
     match check_typing(program, &typing) {

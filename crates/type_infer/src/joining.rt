@@ -1,15 +1,23 @@
 //! Frames that come to one instruction.
 
-ghost use Rattle.std.specs.Prelude.{◌≡◌, ◌≤◌, length, IfOk};
+ghost use Rattle.std.specs.Prelude.{◌≡◌, ◌≤◌, ℕ, true, Some, length, map, min, option_copied, IfOk, IfSome, IsSome, IsTrue};
+ghost use Rattle.std.specs.Option.{option_or};
+ghost use Rattle.insn_effect.specs.Shapes.{shape_of};
+ghost use Rattle.type_lattice.specs.Assigning.{assignable};
+ghost use Rattle.type_lattice.specs.Laws.{IsInOrder};
+ghost use Rattle.type_lattice.specs.Merging.{merged};
+ghost use Rattle.code_typing.specs.Makes.{type_at};
+ghost use Rattle.code_typing.specs.Order.{IsFrameBelow, LocalsBelow};
+ghost use Rattle.type_infer.specs.Solving.{Left, IsKept, IsOfHeight, IsRaisedBy, IsUnlessBelow, local_settled, operand_settled, unless};
 
 use crate::told::Told;
 use bytecode_model::Program;
 use cert_format::{FrameType, VType};
-use code_typing::{PlaceRef, is_maker, is_same_object};
+use code_typing::{PlaceRef, is_maker, is_same_object, rows_follow_the_order};
 use insn_effect::{Heap, Shape, shape_of};
 use mon_base::{List, NoMemory};
 use std::alloc::Global;
-use type_lattice::merge;
+use type_lattice::{assignable, assignable_is_an_order, merge, merge_is_the_least};
 
 /// The least types above both, in each place that both lists have.
 fn types_joined(
@@ -17,7 +25,10 @@ fn types_joined(
     program: &Program,
     a: &[VType],
     b: &[VType],
-) -> Result<List<VType>, NoMemory> {
+) -> Result<List<VType>, NoMemory>
+    ensures merged { IfOk result (λ joined. (j : ℕ) → type_at joined j ≡ merged program.now (type_at a.now j) (type_at b.now j)) }
+    ensures count { IfOk result (λ joined. length joined ≡ min (length a.now) (length b.now)) }
+{
     let mut joined = List::new(alloc);
     for i in 0..a.len().min(b.len()) {
         joined.push(merge(alloc, program, &a[i], &b[i])?)?;
@@ -25,53 +36,155 @@ fn types_joined(
     Ok(joined)
 }
 
+/// Makes the type Top, where it is of an object that is not made yet.
+fn pass(object: &VType, t: &mut VType)
+    ensures { t.new ≡ unless object.now t.old }
+{
+    if is_same_object(object, t) {
+        *t = VType::Top;
+    }
+}
+
 /// The types, where those of an object that is not made yet are Top.
-fn without(object: &VType, types: List<VType>) -> List<VType> {
+fn without(object: &VType, types: List<VType>) -> List<VType>
+    ensures count { length result ≡ length types }
+    ensures types { (j : ℕ) → type_at result j ≡ unless object.now (type_at types j) }
+{
     let mut left = types.into_vec();
-    for t in left.iter_mut() {
-        if is_same_object(object, t) {
-            *t = VType::Top;
-        }
+    for i in 0..left.len() {
+        pass(object, &mut left[i]);
     }
     List::from_vec(left)
 }
 
 /// The frame with these locals and operands before the instruction: where a rule lets an object that is not made yet
 /// pass as Top alone, it is Top.
-fn settled(place: &PlaceRef, locals: List<VType>, stack: List<VType>) -> Option<Told> {
+fn settled(place: &PlaceRef, locals: List<VType>, stack: List<VType>) -> Option<Told>
+    ensures some { length locals ≤ place.now.method.max_locals → length stack ≤ place.now.method.max_stack → IsSome result }
+    ensures within { IfSome result (λ told. length told.locals ≤ place.now.method.max_locals) }
+    ensures locals { IfSome result (λ told. (j : ℕ)
+        → type_at told.locals j ≡ local_settled place.now (shape_of place.now.insn) (type_at locals j)) }
+    ensures height { IfSome result (λ told. length told.stack ≡ length stack) }
+    ensures stack { IfSome result (λ told. (j : ℕ)
+        → type_at told.stack j ≡ operand_settled place.now (shape_of place.now.insn) (type_at stack j)) }
+{
     match shape_of(place.insn) {
         Shape::Heap(Heap::Return(_)) => {
             if is_maker(place.method) {
                 Told::new(
+                    place.method,
                     without(&VType::UninitThis, locals),
                     without(&VType::UninitThis, stack),
                 )
             } else {
-                Told::new(locals, stack)
+                Told::new(place.method, locals, stack)
             }
         }
-        Shape::Heap(Heap::New) => Told::new(locals, without(&VType::Uninit(place.at), stack)),
-        _ => Told::new(locals, stack),
+        Shape::Heap(Heap::New) => {
+            Told::new(
+                place.method,
+                locals,
+                without(&VType::Uninit(place.at), stack),
+            )
+        }
+        _ => Told::new(place.method, locals, stack),
     }
 }
 
-/// The frame that is to stand before the instruction, where these locals and operands come to it. There is none where
-/// the operands are not as many as those of the frame that stands there.
-pub fn joined(
+/// Whether the type in this place, Top where it is absent, is assignable to the other.
+fn type_below(program: &Program, from: &[VType], j: usize, to: &VType) -> bool
+    ensures { IsTrue result → assignable program.now (type_at from.now j) to.now ≡ true }
+{
+    match from.get(j) {
+        None => matches!(to, VType::Top),
+        Some(t) => assignable(program, t, to),
+    }
+}
+
+/// Whether each type is assignable to the one in its place; one that is absent is Top.
+fn types_below(program: &Program, from: &[VType], to: &[VType]) -> bool
+    ensures { IsTrue result → LocalsBelow program.now (type_at from.now) (type_at to.now) }
+{
+    for j in 0..to.len() {
+        if !type_below(program, from, j, &to[j]) {
+            return false;
+        }
+    }
+    true
+}
+
+/// Whether the one frame may stand in the place of the other.
+fn is_below(program: &Program, from: &FrameType, to: &FrameType) -> bool
+    ensures { IsTrue result → IsFrameBelow program.now from.now to.now }
+{
+    if from.stack.len() != to.stack.len() {
+        return false;
+    }
+    if !types_below(program, from.stack.as_slice(), to.stack.as_slice()) {
+        return false;
+    }
+    types_below(program, from.locals.as_slice(), to.locals.as_slice())
+}
+
+/// The frame, unless it may stand in the place of the one that stands there.
+fn unless_below(program: &Program, old: &FrameType, told: Option<Told>) -> Option<Told>
+    ensures { IsUnlessBelow program.now old.now told result }
+{
+    match told {
+        None => None,
+        Some(told) => if is_below(program, told.frame(), old) {
+            None
+        } else {
+            Some(told)
+        },
+    }
+}
+
+/// The frame that is to stand before the instruction, where these locals and operands come to it and another stands
+/// there already. There is none where that one stays, and where the operands are not as many as those of that one.
+fn merged(
     alloc: Global,
     place: &PlaceRef,
-    old: Option<&FrameType>,
+    old: &FrameType,
     locals: List<VType>,
     stack: List<VType>,
-) -> Result<Option<Told>, NoMemory> {
-    let Some(old) = old else {
-        return Ok(settled(place, locals, stack));
-    };
+) -> Result<Option<Told>, NoMemory>
+    ensures kept { IfOk result (λ told. IsInOrder place.now.program → IsKept place.now.program (Some old.now) told) }
+    ensures raised { IfOk result (λ told. IsInOrder place.now.program
+        → length locals ≤ place.now.method.max_locals → length stack ≤ place.now.method.max_stack → IsOfHeight (Some old.now) (length stack)
+        → IsRaisedBy place.now (Some old.now) (record { locals = type_at locals; operands = stack }) told) }
+{
+    assignable_is_an_order();
+    merge_is_the_least();
+    rows_follow_the_order();
     if old.stack.len() != stack.len() {
         return Ok(None);
     }
     let program = place.program;
     let locals = types_joined(alloc, program, old.locals.as_slice(), locals.as_slice())?;
     let stack = types_joined(alloc, program, old.stack.as_slice(), stack.as_slice())?;
-    Ok(settled(place, locals, stack))
+    Ok(unless_below(program, old, settled(place, locals, stack)))
+}
+
+/// The frame that is to stand before the instruction, where these locals and operands come to it. There is none where
+/// the frame that stands there stays, and where the operands are not as many as those of that frame.
+pub fn joined(
+    alloc: Global,
+    place: &PlaceRef,
+    old: Option<&FrameType>,
+    locals: List<VType>,
+    stack: List<VType>,
+) -> Result<Option<Told>, NoMemory>
+    ensures kept { IfOk result (λ told. IsInOrder place.now.program → IsKept place.now.program (option_copied old.entry) told) }
+    ensures raised { IfOk result (λ told. IsInOrder place.now.program
+        → length locals ≤ place.now.method.max_locals → length stack ≤ place.now.method.max_stack
+        → IsOfHeight (option_copied old.entry) (length stack)
+        → IsRaisedBy place.now (option_copied old.entry) (record { locals = type_at locals; operands = stack }) told) }
+{
+    assignable_is_an_order();
+    rows_follow_the_order();
+    match old {
+        None => Ok(settled(place, locals, stack)),
+        Some(old) => merged(alloc, place, old, locals, stack),
+    }
 }

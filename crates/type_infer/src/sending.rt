@@ -1,6 +1,27 @@
 //! What flows from an instruction to those to which control can go from it.
 
-ghost use Rattle.std.specs.Prelude.{◌≡◌, vec_len};
+ghost use Rattle.std.specs.Prelude.{◌≡◌, ◌≤◌, ℕ, Some, ◌∷◌, length, option_copied, Contains, IfOk, IsTrue, OnOk};
+ghost use Rattle.insn_effect.specs.Control.{jump_targets, successors};
+ghost use Rattle.type_lattice.specs.Laws.{IsInOrder};
+ghost use Rattle.code_typing.specs.Order.{IsAloneMet};
+ghost use Rattle.code_typing.specs.Rules.{Frames, covers};
+ghost use Rattle.bytecode_model.specs.declared.program.Handler.{Handler};
+ghost use Rattle.type_infer.specs.Solving.{
+  AreFound,
+  Grows,
+  IsDone,
+  IsKept,
+  IsOfHeight,
+  IsRaisedBy,
+  IsReady,
+  IsSent,
+  RowIsMet,
+  StaysFound,
+  left_by,
+  next_of,
+  place_of,
+  thrown_to,
+};
 
 use crate::body::Body;
 use crate::joining::joined;
@@ -10,31 +31,84 @@ use bytecode_model::Handler;
 use cert_format::FrameType;
 use code_typing::{
     PlaceRef, catches_well, covers, goes_well, is_alone_met, locals_after, locals_thrown,
-    stack_after, stack_thrown,
+    rows_follow_the_order, stack_after, stack_thrown,
 };
 use insn_codec::{Insn, goes_on};
 use mon_base::NoMemory;
 use std::alloc::Global;
+use type_lattice::assignable_is_an_order;
 
-/// The frame that is to stand where control goes to, if another stands there.
+/// The frame that is to stand where control goes to, if another does.
+fn left(
+    alloc: Global,
+    place: &PlaceRef,
+    frame: &FrameType,
+    to: &PlaceRef,
+    old: Option<&FrameType>,
+) -> Result<Option<Told>, NoMemory>
+    requires program { to.now.program ≡ place.now.program }
+    requires method { to.now.method ≡ place.now.method }
+    ensures kept { IfOk result (λ told. IsInOrder place.now.program → IsKept place.now.program (option_copied old.entry) told) }
+    ensures raised { IfOk result (λ told. IsInOrder place.now.program → IsAloneMet place.now frame.now
+        → IsOfHeight (option_copied old.entry) (length (left_by place.now frame.now).operands)
+        → IsRaisedBy to.now (option_copied old.entry) (left_by place.now frame.now) told) }
+{
+    let locals = locals_after(alloc, place, frame)?;
+    let stack = stack_after(alloc, place, frame)?;
+    joined(alloc, to, old, locals, stack)
+}
+
+/// The frame that is to stand where control goes to, if that which stands there does not take what is left.
 fn sent(
     alloc: Global,
     place: &PlaceRef,
     frame: &FrameType,
     to: &PlaceRef,
     old: Option<&FrameType>,
-) -> Result<Option<Told>, NoMemory> {
-    if let Some(told) = old {
-        if goes_well(place, frame, told) {
-            return Ok(None);
+) -> Result<Option<Told>, NoMemory>
+    requires program { to.now.program ≡ place.now.program }
+    requires method { to.now.method ≡ place.now.method }
+    ensures kept { IfOk result (λ told. IsInOrder place.now.program → IsKept place.now.program (option_copied old.entry) told) }
+    ensures raised { IfOk result (λ told. IsInOrder place.now.program → IsAloneMet place.now frame.now
+        → IsOfHeight (option_copied old.entry) (length (left_by place.now frame.now).operands)
+        → IsRaisedBy to.now (option_copied old.entry) (left_by place.now frame.now) told) }
+{
+    assignable_is_an_order();
+    rows_follow_the_order();
+    match old {
+        None => left(alloc, place, frame, to, None),
+        Some(told) => {
+            if goes_well(place, frame, told) {
+                Ok(None)
+            } else {
+                left(alloc, place, frame, to, old)
+            }
         }
     }
-    let locals = locals_after(alloc, place, frame)?;
-    let stack = stack_after(alloc, place, frame)?;
+}
+
+/// The frame that is to stand at the handler, if another does.
+fn caught(
+    alloc: Global,
+    place: &PlaceRef,
+    frame: &FrameType,
+    handler: &Handler,
+    to: &PlaceRef,
+    old: Option<&FrameType>,
+) -> Result<Option<Told>, NoMemory>
+    requires program { to.now.program ≡ place.now.program }
+    requires method { to.now.method ≡ place.now.method }
+    ensures kept { IfOk result (λ told. IsInOrder place.now.program → IsKept place.now.program (option_copied old.entry) told) }
+    ensures raised { IfOk result (λ told. IsInOrder place.now.program
+        → length frame.now.locals ≤ place.now.method.max_locals → 1 ≤ place.now.method.max_stack → IsOfHeight (option_copied old.entry) 1
+        → IsRaisedBy to.now (option_copied old.entry) (thrown_to handler.now place.now frame.now) told) }
+{
+    let locals = locals_thrown(alloc, frame.locals.as_slice())?;
+    let stack = stack_thrown(alloc, handler)?;
     joined(alloc, to, old, locals, stack)
 }
 
-/// The frame that is to stand at the handler, if another stands there.
+/// The frame that is to stand at the handler, if that which stands there does not take what is thrown.
 fn thrown(
     alloc: Global,
     place: &PlaceRef,
@@ -42,15 +116,26 @@ fn thrown(
     handler: &Handler,
     to: &PlaceRef,
     old: Option<&FrameType>,
-) -> Result<Option<Told>, NoMemory> {
-    if let Some(told) = old {
-        if catches_well(place, frame, handler, told) {
-            return Ok(None);
+) -> Result<Option<Told>, NoMemory>
+    requires program { to.now.program ≡ place.now.program }
+    requires method { to.now.method ≡ place.now.method }
+    ensures kept { IfOk result (λ told. IsInOrder place.now.program → IsKept place.now.program (option_copied old.entry) told) }
+    ensures raised { IfOk result (λ told. IsInOrder place.now.program
+        → length frame.now.locals ≤ place.now.method.max_locals → 1 ≤ place.now.method.max_stack → IsOfHeight (option_copied old.entry) 1
+        → IsRaisedBy to.now (option_copied old.entry) (thrown_to handler.now place.now frame.now) told) }
+{
+    assignable_is_an_order();
+    rows_follow_the_order();
+    match old {
+        None => caught(alloc, place, frame, handler, to, None),
+        Some(told) => {
+            if catches_well(place, frame, handler, told) {
+                Ok(None)
+            } else {
+                caught(alloc, place, frame, handler, to, old)
+            }
         }
     }
-    let locals = locals_thrown(alloc, frame.locals.as_slice())?;
-    let stack = stack_thrown(alloc, handler)?;
-    joined(alloc, to, old, locals, stack)
 }
 
 /// Sends what the instruction leaves to another.
@@ -61,8 +146,19 @@ fn send(
     place: &PlaceRef,
     to: u32,
 ) -> Result<(), NoMemory>
-    ensures { vec_len work.new.frames ≡ vec_len work.old.frames }
+    requires place { place_of body.now place.now.at ≡ Some place.now }
+    requires frames { length work.old.frames ≡ length body.now.method.insns }
+    requires marks { length work.old.marks ≡ length body.now.method.insns }
+    ensures frames { length work.new.frames ≡ length body.now.method.insns }
+    ensures marks { length work.new.marks ≡ length body.now.method.insns }
+    ensures grows { OnOk result (IsReady body.now → Grows body.now.program work.old work.new) }
+    ensures found { OnOk result (IsReady body.now → Contains (successors place.now.at place.now.insn) to
+        → StaysFound body.now place.now.at work.old work.new) }
+    ensures sent { OnOk result (IsReady body.now → Contains (successors place.now.at place.now.insn) to
+        → IsSent body.now place.now.at to left_by work.old work.new) }
 {
+    assignable_is_an_order();
+    rows_follow_the_order();
     let Some(there) = body.place(to) else {
         return Ok(());
     };
@@ -70,9 +166,7 @@ fn send(
         return Ok(());
     };
     let new = sent(alloc, place, frame, &there, work.frame(to))?;
-    if let Some(told) = new {
-        work.put(to, told);
-    }
+    work.put(to, new);
     Ok(())
 }
 
@@ -84,12 +178,53 @@ fn send_all(
     place: &PlaceRef,
     targets: &[u32],
 ) -> Result<(), NoMemory>
-    ensures { vec_len work.new.frames ≡ vec_len work.old.frames }
+    requires place { place_of body.now place.now.at ≡ Some place.now }
+    requires frames { length work.old.frames ≡ length body.now.method.insns }
+    requires marks { length work.old.marks ≡ length body.now.method.insns }
+    ensures frames { length work.new.frames ≡ length body.now.method.insns }
+    ensures marks { length work.new.marks ≡ length body.now.method.insns }
+    ensures grows { OnOk result (IsReady body.now → Grows body.now.program work.old work.new) }
+    ensures found { OnOk result (IsReady body.now
+        → ((to : ℕ) → Contains targets.now to → Contains (successors place.now.at place.now.insn) to)
+        → StaysFound body.now place.now.at work.old work.new) }
+    ensures sent { OnOk result (IsReady body.now
+        → ((to : ℕ) → Contains targets.now to → Contains (successors place.now.at place.now.insn) to)
+        → (to : ℕ) → Contains targets.now to → IsSent body.now place.now.at to left_by work.old work.new) }
 {
+    assignable_is_an_order();
+    rows_follow_the_order();
     for to in targets {
         send(alloc, body, work, place, *to)?;
     }
     Ok(())
+}
+
+/// Sends what the instruction leaves to one and to each of others.
+fn send_each(
+    alloc: Global,
+    body: &Body,
+    work: &mut Work,
+    place: &PlaceRef,
+    first: u32,
+    others: &[u32],
+) -> Result<(), NoMemory>
+    requires place { place_of body.now place.now.at ≡ Some place.now }
+    requires frames { length work.old.frames ≡ length body.now.method.insns }
+    requires marks { length work.old.marks ≡ length body.now.method.insns }
+    ensures frames { length work.new.frames ≡ length body.now.method.insns }
+    ensures marks { length work.new.marks ≡ length body.now.method.insns }
+    ensures grows { OnOk result (IsReady body.now → Grows body.now.program work.old work.new) }
+    ensures found { OnOk result (IsReady body.now
+        → ((to : ℕ) → Contains (first ∷ others.now) to → Contains (successors place.now.at place.now.insn) to)
+        → StaysFound body.now place.now.at work.old work.new) }
+    ensures sent { OnOk result (IsReady body.now
+        → ((to : ℕ) → Contains (first ∷ others.now) to → Contains (successors place.now.at place.now.insn) to)
+        → (to : ℕ) → Contains (first ∷ others.now) to → IsSent body.now place.now.at to left_by work.old work.new) }
+{
+    assignable_is_an_order();
+    rows_follow_the_order();
+    send(alloc, body, work, place, first)?;
+    send_all(alloc, body, work, place, others)
 }
 
 /// Sends what the instruction leaves to the targets of its jumps.
@@ -99,20 +234,49 @@ fn send_to_targets(
     work: &mut Work,
     place: &PlaceRef,
 ) -> Result<(), NoMemory>
-    ensures { vec_len work.new.frames ≡ vec_len work.old.frames }
+    requires place { place_of body.now place.now.at ≡ Some place.now }
+    requires frames { length work.old.frames ≡ length body.now.method.insns }
+    requires marks { length work.old.marks ≡ length body.now.method.insns }
+    ensures frames { length work.new.frames ≡ length body.now.method.insns }
+    ensures marks { length work.new.marks ≡ length body.now.method.insns }
+    ensures grows { OnOk result (IsReady body.now → Grows body.now.program work.old work.new) }
+    ensures found { OnOk result (IsReady body.now → StaysFound body.now place.now.at work.old work.new) }
+    ensures sent { OnOk result (IsReady body.now → (to : ℕ) → Contains (jump_targets place.now.insn) to
+        → IsSent body.now place.now.at to left_by work.old work.new) }
 {
+    rows_follow_the_order();
     match place.insn {
-        Insn::Branch { to, .. } => send(alloc, body, work, place, *to),
-        Insn::GotoW { to } => send(alloc, body, work, place, *to),
+        Insn::Branch { to, .. } => send_each(alloc, body, work, place, *to, &[]),
+        Insn::GotoW { to } => send_each(alloc, body, work, place, *to, &[]),
         Insn::Table { other, targets, .. } => {
-            send(alloc, body, work, place, *other)?;
-            send_all(alloc, body, work, place, targets.as_slice())
+            send_each(alloc, body, work, place, *other, targets.as_slice())
         }
         Insn::Lookup { other, targets, .. } => {
-            send(alloc, body, work, place, *other)?;
-            send_all(alloc, body, work, place, targets.as_slice())
+            send_each(alloc, body, work, place, *other, targets.as_slice())
         }
         _ => Ok(()),
+    }
+}
+
+/// Sends what the instruction leaves to the next, where control can go on to it.
+fn send_on(alloc: Global, body: &Body, work: &mut Work, place: &PlaceRef) -> Result<(), NoMemory>
+    requires place { place_of body.now place.now.at ≡ Some place.now }
+    requires frames { length work.old.frames ≡ length body.now.method.insns }
+    requires marks { length work.old.marks ≡ length body.now.method.insns }
+    ensures frames { length work.new.frames ≡ length body.now.method.insns }
+    ensures marks { length work.new.marks ≡ length body.now.method.insns }
+    ensures grows { OnOk result (IsReady body.now → Grows body.now.program work.old work.new) }
+    ensures found { OnOk result (IsReady body.now → StaysFound body.now place.now.at work.old work.new) }
+    ensures sent { OnOk result (IsReady body.now → (to : ℕ) → Contains (next_of place.now.at place.now.insn) to
+        → IsSent body.now place.now.at to left_by work.old work.new) }
+{
+    rows_follow_the_order();
+    if !goes_on(place.insn.opcode()) {
+        return Ok(());
+    }
+    match place.at.checked_add(1) {
+        None => Ok(()),
+        Some(next) => send(alloc, body, work, place, next),
     }
 }
 
@@ -124,8 +288,19 @@ fn throw(
     place: &PlaceRef,
     handler: &Handler,
 ) -> Result<(), NoMemory>
-    ensures { vec_len work.new.frames ≡ vec_len work.old.frames }
+    requires place { place_of body.now place.now.at ≡ Some place.now }
+    requires frames { length work.old.frames ≡ length body.now.method.insns }
+    requires marks { length work.old.marks ≡ length body.now.method.insns }
+    ensures frames { length work.new.frames ≡ length body.now.method.insns }
+    ensures marks { length work.new.marks ≡ length body.now.method.insns }
+    ensures grows { OnOk result (IsReady body.now → Grows body.now.program work.old work.new) }
+    ensures found { OnOk result (IsReady body.now → Contains body.now.method.handlers handler.now
+        → StaysFound body.now place.now.at work.old work.new) }
+    ensures sent { OnOk result (IsReady body.now → Contains body.now.method.handlers handler.now → IsTrue (covers place.now.at handler.now)
+        → IsSent body.now place.now.at handler.now.at (thrown_to handler.now) work.old work.new) }
 {
+    assignable_is_an_order();
+    rows_follow_the_order();
     if !covers(place.at, handler) {
         return Ok(());
     }
@@ -136,9 +311,7 @@ fn throw(
         return Ok(());
     };
     let new = thrown(alloc, place, frame, handler, &there, work.frame(handler.at))?;
-    if let Some(told) = new {
-        work.put(handler.at, told);
-    }
+    work.put(handler.at, new);
     Ok(())
 }
 
@@ -149,9 +322,20 @@ fn throw_to_handlers(
     work: &mut Work,
     place: &PlaceRef,
 ) -> Result<(), NoMemory>
-    ensures { vec_len work.new.frames ≡ vec_len work.old.frames }
+    requires place { place_of body.now place.now.at ≡ Some place.now }
+    requires frames { length work.old.frames ≡ length body.now.method.insns }
+    requires marks { length work.old.marks ≡ length body.now.method.insns }
+    ensures frames { length work.new.frames ≡ length body.now.method.insns }
+    ensures marks { length work.new.marks ≡ length body.now.method.insns }
+    ensures grows { OnOk result (IsReady body.now → Grows body.now.program work.old work.new) }
+    ensures found { OnOk result (IsReady body.now → StaysFound body.now place.now.at work.old work.new) }
+    ensures sent { OnOk result (IsReady body.now
+        → (handler : Handler) → Contains body.now.method.handlers handler → IsTrue (covers place.now.at handler)
+        → IsSent body.now place.now.at handler.at (thrown_to handler) work.old work.new) }
 {
-    for handler in place.method.handlers.as_slice() {
+    assignable_is_an_order();
+    rows_follow_the_order();
+    for handler in body.method.handlers.as_slice() {
         throw(alloc, body, work, place, handler)?;
     }
     Ok(())
@@ -160,8 +344,17 @@ fn throw_to_handlers(
 /// Looks at an instruction: where its frame meets the rules that ask nothing of other instructions, what it leaves and
 /// what it throws flow on.
 pub fn look_at(alloc: Global, body: &Body, work: &mut Work, at: u32) -> Result<(), NoMemory>
-    ensures { vec_len work.new.frames ≡ vec_len work.old.frames }
+    requires frames { length work.old.frames ≡ length body.now.method.insns }
+    requires marks { length work.old.marks ≡ length body.now.method.insns }
+    ensures frames { length work.new.frames ≡ length body.now.method.insns }
+    ensures marks { length work.new.marks ≡ length body.now.method.insns }
+    ensures grows { OnOk result (IsReady body.now → Grows body.now.program work.old work.new) }
+    ensures found { OnOk result (IsReady body.now → StaysFound body.now at work.old work.new) }
+    ensures done { OnOk result (IsReady body.now → (above : Frames) → RowIsMet body.now above at → AreFound body.now above work.old
+        → IsDone body.now work.new at) }
 {
+    assignable_is_an_order();
+    rows_follow_the_order();
     let Some(place) = body.place(at) else {
         return Ok(());
     };
@@ -171,9 +364,7 @@ pub fn look_at(alloc: Global, body: &Body, work: &mut Work, at: u32) -> Result<(
     if !is_alone_met(&place, frame) {
         return Ok(());
     }
-    if goes_on(place.insn.opcode()) {
-        send(alloc, body, work, &place, at.saturating_add(1))?;
-    }
+    send_on(alloc, body, work, &place)?;
     send_to_targets(alloc, body, work, &place)?;
     throw_to_handlers(alloc, body, work, &place)
 }

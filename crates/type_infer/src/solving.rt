@@ -1,7 +1,9 @@
 //! The least frames of a method's instructions.
 
-ghost use Rattle.std.specs.Prelude.{◌≡◌, ◌≤◌, length, vec_len, IfOk};
+ghost use Rattle.std.specs.Prelude.{◌≡◌, ℕ, length, IfOk};
+ghost use Rattle.code_typing.specs.Rules.{Frames};
 ghost use Rattle.type_infer.specs.Fits.{FitFrames};
+ghost use Rattle.type_infer.specs.Solving.{Holds, IsMetBy, IsSolved};
 
 use crate::body::Body;
 use crate::joining::joined;
@@ -9,27 +11,32 @@ use crate::sending::look_at;
 use crate::told::Told;
 use crate::work::Work;
 use cert_format::FrameType;
-use code_typing::entry_locals;
+use code_typing::{entry_locals, rows_follow_the_order};
 use mon_base::{List, NoMemory};
 use std::alloc::Global;
+use type_lattice::assignable_is_an_order;
 
-/// Puts the frame of the arguments before the first instruction.
-fn begin(alloc: Global, body: &Body, work: &mut Work) -> Result<(), NoMemory>
-    ensures { vec_len work.new.frames ≡ vec_len work.old.frames }
+/// A method of which no frame but that of the arguments, before the first instruction, is found.
+fn begun(alloc: Global, body: &Body) -> Result<Work, NoMemory>
+    ensures frames { IfOk result (λ work. length work.frames ≡ length body.now.method.insns) }
+    ensures marks { IfOk result (λ work. length work.marks ≡ length body.now.method.insns) }
+    ensures holds { IfOk result (λ work. (limit : ℕ) (above : Frames) → IsMetBy body.now limit above → Holds body.now limit above work) }
 {
+    assignable_is_an_order();
+    rows_follow_the_order();
+    let mut work = Work::new(alloc, body.method.insns.len())?;
     let Some(place) = body.place(0) else {
-        return Ok(());
+        return Ok(work);
     };
     let locals = entry_locals(alloc, &place)?;
-    if let Some(told) = joined(alloc, &place, None, locals, List::new(alloc))? {
-        work.put(0, told);
-    }
-    Ok(())
+    let first = joined(alloc, &place, None, locals, List::new(alloc))?;
+    work.put(0, first);
+    Ok(work)
 }
 
 /// The frames as a list.
 fn into_list(alloc: Global, told: Vec<Option<Told>>) -> Result<List<Option<FrameType>>, NoMemory>
-    ensures count { IfOk result (λ frames. length frames ≡ vec_len told) }
+    ensures same { IfOk result (λ frames. frames ≡ told.items) }
     ensures fits { IfOk result (λ frames. FitFrames frames) }
 {
     let mut frames = List::new(alloc);
@@ -45,11 +52,13 @@ fn into_list(alloc: Global, told: Vec<Option<Told>>) -> Result<List<Option<Frame
 /// The least frames that meet the rules at the first `limit` instructions, or frames that do not meet them, where none
 /// do.
 pub fn solve(alloc: Global, body: &Body, limit: u32) -> Result<List<Option<FrameType>>, NoMemory>
-    ensures count { IfOk result (λ frames. length frames ≡ length body.now.method.now.insns) }
+    ensures count { IfOk result (λ frames. length frames ≡ length body.now.method.insns) }
     ensures fits { IfOk result (λ frames. FitFrames frames) }
+    ensures solved { IfOk result (λ frames. IsSolved body.now limit frames) }
 {
-    let mut work = Work::new(alloc, body.method.insns.len())?;
-    begin(alloc, body, &mut work)?;
+    assignable_is_an_order();
+    rows_follow_the_order();
+    let mut work = begun(alloc, body)?;
     // Each turn raises a frame, and a frame is raised a few times: 2^64 turns are never made.
     for _ in 0..u64::MAX {
         let Some(at) = work.next(limit) else {

@@ -368,3 +368,15 @@ fn handlers(rt: HostRuntime) -> Result<(), Fail> {
     assert_eq!(rt; inferred(alloc, m)?.at(), 1);
     Ok(())
 }
+
+#[test]
+fn a_handler_that_covers_itself(rt: HostRuntime) -> Result<(), Fail> {
+    let alloc = rt.alloc();
+    let mut m = Draft::new(alloc, b"(Ljava/lang/Object;)V", (1, 1));
+    m.ops(&[0x2A])?;
+    m.jump(0xA7, 2)?;
+    m.ops(&[0x57, 0xB1])?;
+    m.handler(2, 3, 2)?;
+    assert_eq!(rt; inferred(alloc, m)?.at(), 2);
+    Ok(())
+}

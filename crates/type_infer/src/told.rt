@@ -1,15 +1,15 @@
 //! A frame as a certificate can tell it.
 
-ghost use Rattle.std.specs.Prelude.{◌≡◌, ◌≤◌, false, length, take};
+ghost use Rattle.std.specs.Prelude.{◌≡◌, ◌≤◌, ◌<◌, ℕ, false, length, take, IfSome, IsSome};
 ghost use Rattle.std.specs.List.{AllByRecursion};
 ghost use Rattle.cert_format.specs.Fits.{FitsType, FitsFrame, ends_with_top};
+ghost use Rattle.cert_format.specs.declared.typing.VType.TheVariants.{Top};
+ghost use Rattle.code_typing.specs.Makes.{type_at};
 
+use bytecode_model::Method;
 use cert_format::{FrameType, VType};
 use mon_base::List;
 use std::marker::Model;
-
-/// How many locals, and how many operands, a certificate can tell.
-const MOST: usize = 65_535;
 
 /// A frame as a certificate can tell it: its last local is not Top.
 #[derive(Drop)]
@@ -45,6 +45,7 @@ fn read_types(types: &[VType])
 fn count_told(types: &[VType]) -> usize
     ensures within { result ≤ length types.now }
     ensures last { ends_with_top (take result types.now) ≡ false }
+    ensures behind { (j : ℕ) → result ≤ j → type_at types.now j ≡ Top }
 {
     let mut count: usize = 0;
     for (i, t) in types.iter().enumerate() {
@@ -59,6 +60,7 @@ fn count_told(types: &[VType]) -> usize
 fn trimmed(types: List<VType>) -> List<VType>
     ensures within { length result ≤ length types }
     ensures last { ends_with_top result ≡ false }
+    ensures same { (j : ℕ) → type_at result j ≡ type_at types j }
 {
     let count = count_told(types.as_slice());
     let mut kept = types.into_vec();
@@ -67,10 +69,17 @@ fn trimmed(types: List<VType>) -> List<VType>
 }
 
 impl Told {
-    /// The frame of these locals and operands. A frame with more of them than a certificate can tell is none: no code
-    /// has one that is typed.
-    pub fn new(locals: List<VType>, stack: List<VType>) -> Option<Told> {
-        if locals.len() > MOST || stack.len() > MOST {
+    /// The frame of these locals and operands. Where they are more than the method has, there is none: no frame that
+    /// meets the rules has so many.
+    pub fn new(method: &Method, locals: List<VType>, stack: List<VType>) -> Option<Told>
+        ensures some { length locals ≤ method.now.max_locals → length stack ≤ method.now.max_stack → IsSome result }
+        ensures within { IfSome result (λ told. length told.locals ≤ method.now.max_locals) }
+        ensures locals { IfSome result (λ told. (j : ℕ) → type_at told.locals j ≡ type_at locals j) }
+        ensures stack { IfSome result (λ told. told.stack ≡ stack) }
+    {
+        let most_locals = usize::from(method.max_locals);
+        let most_operands = usize::from(method.max_stack);
+        if locals.len() > most_locals || stack.len() > most_operands {
             return None;
         }
         let locals = trimmed(locals);

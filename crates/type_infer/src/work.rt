@@ -1,11 +1,14 @@
 //! The frames that are found so far, and the instructions whose frame has changed since they were looked at.
 
-ghost use Rattle.std.specs.Prelude.{◌≡◌, ◌≤◌, ◌<◌, vec_len, option_copied, IfOk, OnOk};
+ghost use Rattle.std.specs.Prelude.{◌≡◌, ◌≤◌, ◌<◌, ℕ, true, false, replicate, option_copied, length, None, IfOk, IfSome, IfNone};
+ghost use Rattle.code_typing.specs.Rules.{frame_of};
+ghost use Rattle.type_infer.specs.Solving.{is_marked, put, unmarked};
 
 use crate::told::Told;
 use cert_format::FrameType;
-use mon_base::{List, NoMemory};
+use mon_base::NoMemory;
 use std::alloc::Global;
+use std::marker::Model;
 
 /// Frames, and the instructions that are to be looked at. None before `lowest` is.
 #[derive(Drop)]
@@ -15,8 +18,24 @@ pub struct Work {
     lowest: u32,
 }
 
+impl Model for Work {
+    ghost use Rattle.std.specs.Prelude.{◌≡◌, ◌<◌, ℕ, false};
+    ghost use Rattle.type_infer.specs.Solving.{State, is_marked};
+
+    ghost Value = { State };
+
+    ghost view = { λ w. record { frames = w.frames.items; marks = w.marks.items } };
+
+    ghost invariant = { λ w. (at : ℕ) → at < w.lowest → is_marked w.marks.items at ≡ false };
+}
+
 /// The first place from this one on, below the limit, that is marked.
-fn next_marked(marks: &[bool], from: u32, limit: u32) -> Option<u32> {
+fn next_marked(marks: &[bool], from: u32, limit: u32) -> Option<u32>
+    ensures within { IfSome result (λ at. (from ≤ at) × (at < limit)) }
+    ensures marked { IfSome result (λ at. is_marked marks.now at ≡ true) }
+    ensures first { IfSome result (λ found. (at : ℕ) → from ≤ at → at < found → is_marked marks.now at ≡ false) }
+    ensures none { IfNone result ((at : ℕ) → from ≤ at → at < limit → is_marked marks.now at ≡ false) }
+{
     let mut at = from;
     while at < limit {
         match marks.get(at as usize) {
@@ -35,7 +54,8 @@ fn next_marked(marks: &[bool], from: u32, limit: u32) -> Option<u32> {
 impl Work {
     /// A method of n instructions, none of which is reached.
     pub fn new(alloc: Global, n: usize) -> Result<Work, NoMemory>
-        ensures { IfOk result (λ w. vec_len w.frames ≡ n) }
+        ensures frames { IfOk result (λ work. work.frames ≡ replicate n None) }
+        ensures marks { IfOk result (λ work. work.marks ≡ replicate n false) }
     {
         let mut frames = Vec::with_capacity(alloc, n)?;
         let mut marks = Vec::with_capacity(alloc, n)?;
@@ -51,21 +71,24 @@ impl Work {
     }
 
     /// The frame of the instruction, if it is reached.
-    pub fn frame(&self, at: u32) -> Option<&FrameType> {
+    pub fn frame(&self, at: u32) -> Option<&FrameType>
+        ensures { option_copied result ≡ frame_of self.now.frames at }
+    {
         match self.frames.as_slice().get(at as usize) {
             Some(Some(told)) => Some(told.frame()),
             _ => None,
         }
     }
 
-    /// Puts the frame before the instruction, which is to be looked at.
-    pub fn put(&mut self, at: u32, told: Told)
-        ensures { vec_len self.new.frames ≡ vec_len self.old.frames }
+    /// Puts the frame, if there is one, before the instruction, which is to be looked at.
+    pub fn put(&mut self, at: u32, told: Option<Told>)
+        requires frames { at < length self.old.frames }
+        requires marks { at < length self.old.marks }
+        ensures { self.new ≡ put self.old at told }
     {
-        let place = at as usize;
-        if place < self.frames.len() && place < self.marks.len() {
-            self.frames[place] = Some(told);
-            self.marks[place] = true;
+        if told.is_some() {
+            self.frames[at as usize] = told;
+            self.marks[at as usize] = true;
             if at < self.lowest {
                 self.lowest = at;
             }
@@ -74,7 +97,10 @@ impl Work {
 
     /// The first instruction below the limit that is to be looked at, which is then no more.
     pub fn next(&mut self, limit: u32) -> Option<u32>
-        ensures { self.new.frames ≡ self.old.frames }
+        ensures within { IfSome result (λ at. at < limit) }
+        ensures looked_at { IfSome result (λ at. self.new ≡ unmarked self.old at) }
+        ensures none { IfNone result (self.new ≡ self.old) }
+        ensures over { IfNone result ((at : ℕ) → at < limit → is_marked self.old.marks at ≡ false) }
     {
         let at = next_marked(self.marks.as_slice(), self.lowest, limit)?;
         let place = at as usize;
@@ -87,7 +113,7 @@ impl Work {
 
     /// The frames that are found.
     pub fn into_frames(self) -> Vec<Option<Told>>
-        ensures { result ≡ self.frames }
+        ensures { result.items ≡ self.frames }
     {
         let Work { frames, .. } = self;
         frames

@@ -1,5 +1,16 @@
-use Rattle.std.proofs.Common.{◌≡◌, vec_len}
+use Rattle.std.proofs.Common.{◌≡◌, length, take}
+use Rattle.std.specs.Prelude.{Contains, IsTrue}
+use Rattle.bytecode_model.specs.declared.program.Handler.{Handler}
+use Rattle.code_typing.specs.Rules.{covers}
+use Rattle.type_infer.specs.Solving.{IsReady, Grows, IsSent, StaysFound, thrown_to}
 use Rattle.type_infer.proofs.sending.throw_to_handlers.Given as goal
 
 abbrev pub invariant-loop-handler : goal.invariant-loop-handler
-invariant-loop-handler l = vec_len l.work.frames ≡ vec_len l.fn.work.frames
+invariant-loop-handler l = record {
+  frames : length l.work.frames ≡ length l.body.method.insns;
+  marks : length l.work.marks ≡ length l.body.method.insns;
+  grows : IsReady l.body → Grows l.body.program l.fn.work l.work;
+  found : IsReady l.body → StaysFound l.body l.place.at l.fn.work l.work;
+  sent : IsReady l.body → (handler : Handler) → Contains (take l.handler-index l.body.method.handlers) handler → IsTrue (covers l.place.at handler)
+      → IsSent l.body l.place.at handler.at (thrown_to handler) l.fn.work l.work;
+}

@@ -1,5 +1,11 @@
-use Rattle.std.proofs.Common.{◌≡◌, length, vec_len}
+use Rattle.std.proofs.Common.{◌≡◌, length}
+use Rattle.code_typing.specs.Rules.{Frames}
+use Rattle.type_infer.specs.Solving.{Holds, IsMetBy}
 use Rattle.type_infer.proofs.solving.solve.Given as goal
 
 abbrev pub invariant-loop : goal.invariant-loop
-invariant-loop l = vec_len l.work.frames ≡ length l.fn.body.method.now.insns
+invariant-loop l = record {
+  frames : length l.work.frames ≡ length l.body.method.insns;
+  marks : length l.work.marks ≡ length l.body.method.insns;
+  holds : (above : Frames) → IsMetBy l.body l.limit above → Holds l.body l.limit above l.work;
+}

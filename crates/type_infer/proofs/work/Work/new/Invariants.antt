@@ -1,5 +1,5 @@
-use Rattle.std.proofs.Common.{◌≡◌, vec_len}
+use Rattle.std.proofs.Common.{◌≡◌, false, None, replicate}
 use Rattle.type_infer.proofs.work.Work.new.Given as goal
 
 abbrev pub invariant-loop : goal.invariant-loop
-invariant-loop l = vec_len l.frames ≡ l.counter
+invariant-loop l = (l.frames.items ≡ replicate l.counter None) × (l.marks.items ≡ replicate l.counter false)

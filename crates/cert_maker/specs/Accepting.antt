@@ -1,0 +1,41 @@
+-- The certificate of a woven program is accepted.
+use Rattle.std.specs.Prelude.{◌≡◌, ℕ, ◌+◌, ◌<◌, ◌≤◌, false, List, length, slice_get, slice_index, Some, Ok}
+use Rattle.class_codec.specs.declared.tree.ClassFile.{ClassFile}
+use Rattle.api_listing.specs.declared.types.Listing.{Listing}
+use Rattle.bytecode_model.specs.declared.program.LinkedClass.{LinkedClass}
+use Rattle.bytecode_model.specs.declared.program.Method.{Method}
+use Rattle.bytecode_model.specs.declared.program.Program.{Program}
+use Rattle.bytecode_model.specs.declared.program.Side.{Side}
+use Rattle.bytecode_model.specs.declared.program.Target.{Target}
+use Rattle.bytecode_model.specs.Linking.{linked}
+use Rattle.bytecode_model.specs.Sound.{IsSound}
+use Rattle.cert_checker.specs.Acceptance.{IsAccepted}
+use Rattle.cert_format.specs.declared.typing.Typing.{Typing}
+use Rattle.code_typing.specs.Shape.{IsShaped}
+use Rattle.code_typing.specs.Typed.{IsTyped, reached}
+use Rattle.conspec_automaton.specs.declared.policy.Policy.{Policy}
+use Rattle.conspec_parse.specs.declared.types.Kind.{Kind}
+use Rattle.inline_release.specs.declared.weaving.Woven.{Woven}
+use Rattle.inline_release.specs.Outcome.{IsFreeOfState, IsWoven}
+use Rattle.inline_release.specs.Woven.{sites_of, woven}
+use Rattle.offset_patch.specs.Splicing.{fronts_of}
+use Rattle.woven_typing.specs.Calls.{AreRightOperands}
+use Rattle.woven_typing.specs.Framing.{arguments_of}
+use Rattle.cert_maker.specs.Noting.{certificate_of}
+
+-- No instruction of a block behind its way out has a frame: a block for a call with n arguments stores these, and its
+-- next six instructions take the lock and stop the program.
+abbrev pub IsStopped : Program → Policy → Program → Typing → Type 0
+IsStopped old policy new typing =
+    (own index i k : ℕ) (class : LinkedClass) (method : Method) (ref : Target) (args : List Kind) → slice_get old.classes own ≡ Some class
+    → slice_get class.methods index ≡ Some method → slice_get method.refs i ≡ Some ref → arguments_of policy ref ≡ Some args → length args + 6 ≤ k
+    → k < length args + length args + 9 → reached new typing own index (slice_index (fronts_of (sites_of policy method.max_locals method)) i + k) ≡ false
+
+-- Of a program that was linked: where the types of the woven program are right, and no block goes on behind its way out, the
+-- woven program is accepted with the certificate that is made of them.
+abbrev pub WovenIsAccepted : Type 0
+WovenIsAccepted =
+    (files : List ClassFile) (listing : Listing) (main : List ℕ) (side : Side) (old new : Program) (policy : Policy) (made : Woven) (typing : Typing)
+    → linked files listing main side ≡ Ok old → IsSound old → IsSound new → AreRightOperands old → IsFreeOfState old → IsWoven old policy new → woven old policy ≡ Ok made
+    → IsTyped new typing → IsShaped new typing.frames → IsStopped old policy new typing
+    → IsAccepted new policy (certificate_of old.classes policy made.origins typing)

@@ -1,0 +1,48 @@
+use Rattle.std.proofs.Common.{◌≡◌, ◌∙◌, ℕ, ◌≤◌, false, [], List, length, replicate, None, Some, subst, sym, ap, arith}
+use Rattle.cert_format.specs.declared.typing.VType.{VType}
+use Rattle.code_typing.specs.Makes.{type_at}
+use Rattle.code_typing.specs.Rules.{entry_locals}
+use Rattle.type_lattice.specs.Laws.{IsInOrder}
+use Rattle.type_infer.specs.Solving.{Scope, State, Holds, IsRaisedBy, begun, place_of, put}
+use Rattle.type_infer.proofs.Flowing.{laws_of, place_is}
+use Rattle.type_infer.proofs.Solutions.{begun_holds, entered, nothing, nothing_holds}
+use Rattle.type_infer.proofs.Stepping.{state_is}
+use Rattle.type_infer.proofs.solving.begun.Goals as goal
+
+pub returns-in_default-clause-holds : goal.returns-in_default-clause-holds
+returns-in_default-clause-holds c limit above met =
+    let scope = c.args.body.now in
+    let assign = c.assignable_is_an_order.ensures in
+    let rows = c.rows_follow_the_order.ensures in
+    let laws = laws_of assign.reflexive assign.transitive assign.thrown rows.reflexive rows.transitive rows.alone rows.left rows.thrown scope.program met.ready.order in
+    let count : c.len.result ≡ length scope.method.insns = c.len.ensures ∙ ap (λ (s : Scope). length s.method.insns) c.body.view_is in
+    let is : c.in_ok-work.work ≡ nothing scope laws =
+    state_is c.in_ok-work.work (replicate (length scope.method.insns) None) (replicate (length scope.method.insns) false)
+    (c.in_ok-work.ensures.frames ∙ ap (λ (n : ℕ). replicate n None) count) (c.in_ok-work.ensures.marks ∙ ap (λ (n : ℕ). replicate n false) count) in
+    let none : place_of scope 0 ≡ None = sym c.place.ensures ∙ c.in_default.is in
+    subst (Holds scope limit above) (sym is) (nothing_holds scope laws limit above none)
+
+pub returns-clause-holds : goal.returns-clause-holds
+returns-clause-holds c limit above met =
+    let scope = c.args.body.now in
+    let place = c.in-Some.place in
+    let first = c.in_ok-first.first in
+    let assign = c.assignable_is_an_order.ensures in
+    let rows = c.rows_follow_the_order.ensures in
+    let laws = laws_of assign.reflexive assign.transitive assign.thrown rows.reflexive rows.transitive rows.alone rows.left rows.thrown scope.program met.ready.order in
+    let count : c.len.result ≡ length scope.method.insns = c.len.ensures ∙ ap (λ (s : Scope). length s.method.insns) c.body.view_is in
+    let is : c.in_ok-work.work ≡ nothing scope laws =
+    state_is c.in_ok-work.work (replicate (length scope.method.insns) None) (replicate (length scope.method.insns) false)
+    (c.in_ok-work.ensures.frames ∙ ap (λ (n : ℕ). replicate n None) count) (c.in_ok-work.ensures.marks ∙ ap (λ (n : ℕ). replicate n false) count) in
+    let there : place_of scope 0 ≡ Some place = sym c.place.ensures ∙ c.in-Some.is in
+    let entry = entered scope laws limit above place met there in
+    let locals : c.in_ok-locals.locals ≡ entry_locals place = c.in_ok-locals.ensures in
+    let stack : c.new-2.result ≡ [] = c.new-2.ensures in
+    let few : length c.in_ok-locals.locals ≤ place.method.max_locals = omega (arith, ap length locals, entry.within) in
+    let low : length c.new-2.result ≤ place.method.max_stack = omega (arith, ap length stack) in
+    let order = subst IsInOrder (sym (place_is scope 0 place there).0) met.ready.order in
+    let raised = c.in_ok-first.ensures.raised order few low (λ frame e. absurd cc) in
+    let on_stack : IsRaisedBy place None (record { locals = type_at c.in_ok-locals.locals; operands = [] }) first =
+    subst (λ (s : List VType). IsRaisedBy place None (record { locals = type_at c.in_ok-locals.locals; operands = s }) first) stack raised in
+    let entering : IsRaisedBy place None (begun place) first = subst (λ (l : List VType). IsRaisedBy place None (record { locals = type_at l; operands = [] }) first) locals on_stack in
+    subst (Holds scope limit above) (sym (c.put.ensures ∙ ap (λ (s : State). put s 0 first) is)) (begun_holds scope laws limit above place first there entry entering)

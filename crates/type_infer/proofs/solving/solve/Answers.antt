@@ -1,0 +1,48 @@
+use Rattle.std.proofs.Common.{◌≡◌, ◌∙◌, ◌<◌, subst, sym, ap}
+use Rattle.code_typing.specs.Rules.{Frames}
+use Rattle.type_infer.specs.Solving.{State, AreFound, Grows, IsSolution, IsSolved, unmarked}
+use Rattle.type_infer.proofs.Flowing.{laws_of}
+use Rattle.type_infer.proofs.Lists.{if_ok}
+use Rattle.type_infer.proofs.Meeting.{solution}
+use Rattle.type_infer.proofs.Solutions.{step_holds}
+use Rattle.type_infer.proofs.solving.solve.Goals as goal
+
+pub loop-init : goal.loop-init
+loop-init c = record {
+  frames = c.in_ok-work.ensures.frames;
+  marks = c.in_ok-work.ensures.marks;
+  holds = λ above met. c.in_ok-work.ensures.holds c.args.limit above met;
+}
+
+pub loop-preserved : goal.loop-preserved
+loop-preserved c =
+    let scope = c.args.body.now in
+    let at = c.in-Some.at in
+    let old = c.loop.work in
+    let new = c.look_at.new.work in
+    let look = c.in_ok-look_at.ensures in
+    let assign = c.assignable_is_an_order.ensures in
+    let rows = c.rows_follow_the_order.ensures in
+    let is : c.next.new.self ≡ unmarked old at = c.in-Some.ensures.looked_at in
+    let within : at < c.args.limit = c.in-Some.ensures.within in
+    record {
+      frames = look.frames;
+      marks = look.marks;
+      holds = λ above met.
+          let laws = laws_of assign.reflexive assign.transitive assign.thrown rows.reflexive rows.transitive rows.alone rows.left rows.thrown scope.program met.ready.order in
+          step_holds scope laws c.args.limit above old new at (c.loop.invariant.holds above met) (subst (λ (s : State). Grows scope.program s new) is (look.grows met.ready))
+          (λ found. look.found met.ready above (met.met at within) (subst (AreFound scope above) (sym is) found))
+          (λ found. look.done met.ready above (met.met at within) (subst (AreFound scope above) (sym is) found));
+    }
+
+pub returns-in_default-clause-solved : goal.returns-in_default-clause-solved
+returns-in_default-clause-solved c =
+    let scope = c.args.body.now in
+    let assign = c.assignable_is_an_order.ensures in
+    let rows = c.rows_follow_the_order.ensures in
+    if_ok c.into_list.result (λ (frames : Frames). frames ≡ c.into_frames.result.items) (IsSolved scope c.args.limit)
+    (λ frames e above met.
+    let laws = laws_of assign.reflexive assign.transitive assign.thrown rows.reflexive rows.transitive rows.alone rows.left rows.thrown scope.program met.ready.order in
+    let are : frames ≡ c.loop.work.frames = e ∙ c.into_frames.ensures ∙ ap (λ (s : State). s.frames) c.in_default.ensures.none in
+    subst (IsSolution scope c.args.limit above) (sym are) (solution scope laws c.args.limit above met c.loop.work (c.loop.invariant.holds above met) c.in_default.ensures.over))
+    c.into_list.ensures.same

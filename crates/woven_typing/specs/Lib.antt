@@ -1,0 +1,4 @@
+pub mod Renaming
+pub mod Framing
+pub mod Calls
+pub mod Laws
