@@ -1,7 +1,5 @@
 -- Locals one after the other, and those that are absent.
-use Rattle.std.proofs.Common.{◌≡◌, ℕ, zero, suc, ◌+◌, ◌<◌, ◌≤◌, Bool, true, false, cond, List, [], ◌∷◌, ◌++◌, length, Option, Some, None, refl, sym, ap, ◌∙◌, inl, inr, arith, below_more}
-use Rattle.std.specs.Prelude.{slice_get}
-use Rattle.std.specs.Option.{option_map_or}
+use Rattle.std.proofs.Common.{◌≡◌, ℕ, zero, suc, ◌+◌, ◌<◌, ◌≤◌, Bool, true, false, cond, List, [], ◌∷◌, ◌++◌, length, refl, sym, ap, ◌∙◌, inl, inr, arith, below_more}
 use Rattle.std.proofs.lemmas.Bool.{cases_lt}
 use Rattle.std.proofs.lemmas.Option.{slice_get_past}
 use Rattle.std.proofs.lemmas.List.{length-append}
@@ -13,7 +11,7 @@ use Rattle.insn_effect.specs.declared.shape.Shape.TheVariants as shapes
 use Rattle.insn_effect.specs.Shapes.{shape_of}
 use Rattle.code_typing.specs.declared.change.Change.{Change}
 use Rattle.code_typing.specs.Changing.{change_told, local_told}
-use Rattle.code_typing.specs.Makes.{type_at, is_same_object, when_new, when_made, when_called, changed_by, changed, stores, local_after}
+use Rattle.code_typing.specs.Makes.{type_at, is_same_object, when_made, when_called, changed_by, changed, stores, local_after}
 use Rattle.code_typing.specs.Place.{Place, calls_maker}
 
 pub before_pushed : (xs : List VType) (t : VType) (k : ℕ) → k < length xs → type_at (xs ++ t ∷ []) k ≡ type_at xs k

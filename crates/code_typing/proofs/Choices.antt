@@ -1,6 +1,6 @@
 -- Values that may be there, and chains of tests.
-use Rattle.std.proofs.Common.{◌≡◌, ℕ, Bool, true, false, cond, Option, Some, None, refl, sym, ap}
-use Rattle.std.specs.Prelude.{IsTrue, not, ◌&&◌, option_map, option_and_then, is_some}
+use Rattle.std.proofs.Common.{◌≡◌, Bool, true, false, cond, Option, Some, None, refl}
+use Rattle.std.specs.Prelude.{not, option_map, option_and_then, is_some}
 use Rattle.std.specs.Option.{option_or, option_map_or}
 
 pub some_is : {A : Type 0} (x y : A) → ◌≡◌ {A = Option A} (Some x) (Some y) → x ≡ y

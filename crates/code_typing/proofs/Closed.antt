@@ -1,7 +1,6 @@
 -- The places of a typed program that have a frame are closed under control.
-use Rattle.std.proofs.Common.{◌≡◌, ℕ, zero, suc, ◌+◌, ◌<◌, ◌≤◌, Bool, true, false, cond, List, [], ◌∷◌, length, get_or, Option, Some, None, refl, sym, ap, subst, ◌∙◌, arith}
-use Rattle.std.specs.Prelude.{IsTrue, Contains, is_some, slice_get, nat_lt, not, ◌&&◌, option_and_then}
-use Rattle.std.specs.Option.{option_map_or}
+use Rattle.std.proofs.Common.{◌≡◌, ℕ, true, length, get_or, Option, Some, None, refl, sym, ap, ◌∙◌, arith}
+use Rattle.std.specs.Prelude.{is_some, slice_get, ◌&&◌}
 use Rattle.std.proofs.lemmas.Bool.{lt-ltb, and_from, and_parts}
 use Rattle.std.proofs.lemmas.Option.{slice_get-get_or, slice_get_within}
 use Rattle.cert_format.specs.declared.typing.FrameType.{FrameType}
@@ -14,8 +13,8 @@ use Rattle.bytecode_model.specs.declared.program.Program.{Program}
 use Rattle.code_typing.specs.Closed.{method_at, BeginsReached, GoesToReached, IsCaughtReached}
 use Rattle.code_typing.specs.Rules.{Frames, frame_of, row_failing}
 use Rattle.code_typing.specs.Shape.{has_code}
-use Rattle.code_typing.specs.Typed.{IsTyped, row_fault, row_of_method, row_in, place_at, frames_in, frames_told, reached, reached_in}
-use Rattle.code_typing.proofs.Choices.{and_then_of, some_is}
+use Rattle.code_typing.specs.Typed.{row_fault, place_at, frames_in, frames_told, reached}
+use Rattle.code_typing.proofs.Choices.{and_then_of}
 use Rattle.code_typing.proofs.Reaching.{row_passed, goes_to_frame, caught_at_frame}
 
 -- a method of a program, with its class

@@ -1,10 +1,9 @@
 -- The arguments that a descriptor tells, one after the other.
-use Rattle.std.proofs.Common.{◌≡◌, ℕ, zero, suc, ◌+◌, ◌-◌, ◌<◌, ◌≤◌, Bool, true, false, cond, List, [], ◌∷◌, map, Option, Some, None, refl, sym, ap, ◌∙◌, arith}
-use Rattle.std.specs.Prelude.{◌&&◌}
+use Rattle.std.proofs.Common.{◌≡◌, ℕ, zero, suc, ◌+◌, ◌-◌, ◌<◌, ◌≤◌, Bool, true, false, cond, List, [], ◌∷◌, map, Some, None, refl, ap, ◌∙◌, arith}
 use Rattle.cert_format.specs.declared.typing.VType.{VType}
 use Rattle.bytecode_model.specs.declared.program.Program.{Program}
 use Rattle.type_lattice.specs.Assigning.{assignable}
-use Rattle.code_typing.specs.Described.{Descriptor, next_type, types_at, type_described}
+use Rattle.code_typing.specs.Described.{Descriptor, next_type, types_at}
 use Rattle.code_typing.specs.Makes.{type_at}
 use Rattle.code_typing.specs.Rules.{locals_fit}
 use Rattle.code_typing.specs.Steps.{behind_met, behind_fit}

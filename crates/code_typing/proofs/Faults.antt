@@ -1,17 +1,13 @@
 -- A program has no first place at which its typing fails exactly where it fails at none.
-use Rattle.std.proofs.Common.{◌≡◌, ℕ, zero, suc, ◌+◌, ◌-◌, ◌<◌, ◌≤◌, Bool, true, false, cond, List, [], ◌∷◌, ◌++◌, length, take, drop, map, Option, Some, None, refl, sym, ap, subst, ◌∙◌, inl, inr, arith}
-use Rattle.std.specs.Prelude.{filter, slice_get, option_map, option_and_then, nat_lt}
-use Rattle.std.specs.Option.{option_or, option_map_or}
+use Rattle.std.proofs.Common.{◌≡◌, ℕ, zero, suc, ◌+◌, ◌-◌, ◌<◌, true, false, List, [], ◌∷◌, length, take, drop, Option, Some, None, refl, sym, subst, inl, inr, arith}
+use Rattle.std.specs.Prelude.{slice_get}
 use Rattle.cert_format.specs.declared.typing.Typing.{Typing}
-use Rattle.insn_codec.specs.declared.insn.Insn.{Insn}
 use Rattle.bytecode_model.specs.declared.program.LinkedClass.{LinkedClass}
 use Rattle.bytecode_model.specs.declared.program.Method.{Method}
 use Rattle.bytecode_model.specs.declared.program.Program.{Program}
-use Rattle.code_typing.specs.declared.fault.TypeFault.{TypeFault}
-use Rattle.code_typing.specs.Place.{Place}
-use Rattle.code_typing.specs.Rules.{Frames, frame_of, row_failing}
+use Rattle.code_typing.specs.Rules.{Frames}
 use Rattle.code_typing.specs.Shape.{has_code, coded}
-use Rattle.code_typing.specs.Typed.{IsTyped, row_in, row_of_method, row_fault, place_at, list_at, frames_in, frames_told, first_row, method_fault, methods_fault, classes_fault, typing_fault}
+use Rattle.code_typing.specs.Typed.{IsTyped, row_in, row_of_method, list_at, frames_in, frames_told, first_row, method_fault, methods_fault, classes_fault, typing_fault}
 use Rattle.std.proofs.lemmas.Bool.{cases_Bool, cases_lt, ltb-false}
 use Rattle.std.proofs.lemmas.Option.{slice_get_past}
 use Rattle.code_typing.proofs.Choices.{neither, both_none, map_none, some_is, and_then_none, of_both, of_other}

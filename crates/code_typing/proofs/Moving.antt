@@ -1,12 +1,11 @@
 -- What an instruction that works on its frame alone does to the types, shape by shape.
-use Rattle.std.proofs.Common.{◌≡◌, ℕ, ℤ, zero, suc, ◌+◌, ◌-◌, ◌<◌, ◌≤◌, Bool, true, false, cond, List, [], ◌∷◌, ◌++◌, length, get_or, take, drop, map, reverse, replicate, Option, Some, None, refl, sym, ap, subst, ◌∙◌, inl, inr, arith}
-use Rattle.std.specs.Prelude.{IsTrue, ◌&&◌, ◌==◌, nat_lt, nat_le, slice_get, slice_set}
+use Rattle.std.proofs.Common.{◌≡◌, ℕ, ℤ, ◌-◌, ◌<◌, ◌≤◌, Bool, true, false, cond, List, [], ◌∷◌, ◌++◌, length, get_or, map, reverse, Option, Some, refl, sym, ap, subst, ◌∙◌, inl, inr, arith}
+use Rattle.std.specs.Prelude.{◌==◌, nat_lt, nat_le, slice_get, slice_set}
 use Rattle.std.specs.List.{range_with_len}
-use Rattle.std.proofs.lemmas.Bool.{and_parts, cases_eq, eq-eqb, ne_eqb, lt-ltb, ltb-true, le-leb, leb-true}
+use Rattle.std.proofs.lemmas.Bool.{and_parts, cases_eq, eq-eqb, ne_eqb, lt-ltb, ltb-true, le-leb}
 use Rattle.std.proofs.lemmas.List.{reverse-append, take-append-drop, length-set, get_or-set_same, get_or-set_other}
 use Rattle.std.proofs.lemmas.List.FromFn.{length-map-range_with_len, get_or-map-range_with_len, fill_by_all}
 use Rattle.std.proofs.lemmas.Option.{slice_get-get_or}
-use Rattle.cert_format.specs.declared.typing.FrameType.{FrameType}
 use Rattle.cert_format.specs.declared.typing.VType.{VType}
 use Rattle.cert_format.specs.declared.typing.VType.TheVariants as types
 use Rattle.insn_effect.specs.declared.forms.StackForm.{StackForm}
@@ -20,11 +19,11 @@ use Rattle.insn_effect.specs.Forms.{depth_of}
 use Rattle.insn_effect.specs.Shapes.{shape_of}
 use Rattle.insn_effect.specs.Table.{is_heap}
 use Rattle.bytecode_model.specs.declared.program.Method.{Method}
-use Rattle.code_typing.specs.Makes.{type_at, stores, changed_by, yields_of, local_after, stack_after, topmost, below}
+use Rattle.code_typing.specs.Makes.{type_at, stores, changed_by, yields_of, below}
 use Rattle.code_typing.specs.Moving.{types_moved, padded, IsEffectTyped}
 use Rattle.code_typing.specs.Place.{Place}
-use Rattle.code_typing.specs.Rules.{taken, Depth, Operand, Local, uses_local}
-use Rattle.code_typing.specs.Wants.{Want, takes, takes_of, all_met, anything, of_kind, is_number, is_made, is_reference, returns_well}
+use Rattle.code_typing.specs.Rules.{taken, uses_local}
+use Rattle.code_typing.specs.Wants.{Want, takes, takes_of, all_met, of_kind, is_number, is_made, is_reference, returns_well}
 use Rattle.code_typing.proofs.Fitting.{map_same, any_decides}
 
 -- ---- locals

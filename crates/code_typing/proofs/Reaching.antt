@@ -1,16 +1,15 @@
 -- What a row that does not fail says of the frames to which control goes.
-use Rattle.std.proofs.Common.{◌≡◌, ℕ, zero, suc, ◌+◌, ◌<◌, ◌≤◌, Bool, true, false, cond, List, [], ◌∷◌, length, Option, Some, None, refl, sym, ap, subst, ◌∙◌, arith}
-use Rattle.std.specs.Prelude.{IsTrue, Contains, is_some, slice_get, nat_lt, nat_le, not, ◌&&◌, ◌||◌, option_and_then}
+use Rattle.std.proofs.Common.{◌≡◌, ℕ, ◌<◌, ◌≤◌, Bool, true, false, cond, List, Option, Some, None}
+use Rattle.std.specs.Prelude.{Contains, is_some, not, ◌&&◌, ◌||◌}
 use Rattle.std.specs.List.{list_all}
-use Rattle.std.specs.Option.{option_map_or}
-use Rattle.std.proofs.lemmas.Bool.{le-leb, lt-ltb, and_from, and_parts}
+use Rattle.std.proofs.lemmas.Bool.{le-leb, lt-ltb, and_from}
 use Rattle.std.proofs.lemmas.List.Elements.{All-contains}
 use Rattle.std.proofs.lemmas.List.Sums.{AllPass-from_list_all}
 use Rattle.cert_format.specs.declared.typing.FrameType.{FrameType}
 use Rattle.insn_effect.specs.Control.{successors}
 use Rattle.bytecode_model.specs.declared.program.Handler.{Handler}
 use Rattle.code_typing.specs.Place.{Place}
-use Rattle.code_typing.specs.Rules.{Frames, frame_of, covers, is_handled, goes_well, catches_well, class_caught, Successor, Caught, Entry, Depth, Operand, Local, Made, rule_failing, row_failing}
+use Rattle.code_typing.specs.Rules.{Frames, frame_of, covers, is_handled, goes_well, catches_well, Successor, Caught, Depth, Operand, Local, Made, rule_failing, row_failing}
 use Rattle.code_typing.proofs.Choices.{passed, is_there}
 
 -- what is among those that all pass a test passes it

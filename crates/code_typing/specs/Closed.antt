@@ -1,5 +1,5 @@
 -- The places of a typed program that have a frame, and where control goes from them.
-use Rattle.std.specs.Prelude.{◌≡◌, ℕ, ◌≤◌, ◌<◌, Bool, true, false, IsTrue, Contains, Some, Option, option_and_then, slice_get, length}
+use Rattle.std.specs.Prelude.{◌≡◌, ℕ, ◌≤◌, ◌<◌, IsTrue, Contains, Some, Option, option_and_then, slice_get, length}
 use Rattle.cert_format.specs.declared.typing.Typing.{Typing}
 use Rattle.insn_codec.specs.declared.insn.Insn.{Insn}
 use Rattle.insn_effect.specs.Control.{successors}

@@ -1,5 +1,5 @@
 -- Frames in order: what an instruction does to a frame that may stand in the place of another.
-use Rattle.std.specs.Prelude.{◌≡◌, ℕ, ◌&&◌, ◌≤◌, not, Bool, true, IsTrue, List, length}
+use Rattle.std.specs.Prelude.{◌≡◌, ℕ, ◌≤◌, not, Bool, true, IsTrue, List, length}
 use Rattle.cert_format.specs.declared.typing.FrameType.{FrameType}
 use Rattle.cert_format.specs.declared.typing.VType.{VType}
 use Rattle.cert_format.specs.declared.typing.VType.TheVariants as types
@@ -7,13 +7,12 @@ use Rattle.insn_effect.specs.declared.shape.Heap.TheVariants as heap
 use Rattle.insn_effect.specs.declared.shape.Shape.{Shape}
 use Rattle.insn_effect.specs.declared.shape.Shape.TheVariants as shapes
 use Rattle.insn_effect.specs.Shapes.{shape_of}
-use Rattle.bytecode_model.specs.declared.program.Handler.{Handler}
 use Rattle.bytecode_model.specs.declared.program.Program.{Program}
 use Rattle.type_lattice.specs.Assigning.{assignable}
 use Rattle.type_lattice.specs.Laws.{IsInOrder}
 use Rattle.code_typing.specs.Makes.{type_at, local_after, stack_after}
 use Rattle.code_typing.specs.Place.{Place}
-use Rattle.code_typing.specs.Rules.{stack_fits, taken, Depth, Operand, Local, Made, has_object, leaves_made, goes_well, catches_well, local_caught}
+use Rattle.code_typing.specs.Rules.{stack_fits, taken, Depth, Operand, Local, Made, has_object, leaves_made, goes_well, local_caught}
 use Rattle.code_typing.specs.Wants.{takes}
 
 -- ---- lists of types

@@ -1,5 +1,5 @@
 -- An instruction in its place, and what its operand names.
-use Rattle.std.specs.Prelude.{ℕ, Bool, true, false, ◌==◌, ◌&&◌, bytes_eq, List, [], Option}
+use Rattle.std.specs.Prelude.{ℕ, Bool, false, ◌==◌, bytes_eq, List, [], Option}
 use Rattle.std.specs.Option.{option_map_or}
 use Rattle.mon_base.specs.declared.method.MethodId.{MethodId}
 use Rattle.class_codec.specs.Pool.{reference_at}
@@ -10,7 +10,7 @@ use Rattle.bytecode_model.specs.declared.program.Method.{Method}
 use Rattle.bytecode_model.specs.declared.program.Program.{Program}
 use Rattle.bytecode_model.specs.declared.program.Target.{Target}
 use Rattle.bytecode_model.specs.declared.program.Target.TheVariants as target
-use Rattle.bytecode_model.specs.Heads.{is_static, maker}
+use Rattle.bytecode_model.specs.Heads.{maker}
 use Rattle.bytecode_model.specs.Operands.{index_of}
 
 -- the instruction `insn` at the index `at` of a method of the class with the index `own`; `ref` is what its operand names

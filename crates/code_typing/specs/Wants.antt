@@ -1,6 +1,6 @@
 -- What instructions take from the operand stack. Lists of operands are from the bottom: the first pushed stands first.
 -- (The Java Virtual Machine Specification, section 6.5.)
-use Rattle.std.specs.Prelude.{ℕ, Bool, true, false, ◌&&◌, ◌||◌, bytes_eq, codes, if◌then◌else◌, List, [], ◌∷◌, ◌++◌, map, replicate, Option, Some, None}
+use Rattle.std.specs.Prelude.{ℕ, Bool, true, false, ◌&&◌, ◌||◌, codes, if◌then◌else◌, List, [], ◌∷◌, map, replicate, Option, Some, None}
 use Rattle.std.specs.Option.{option_map_or}
 use Rattle.api_listing.specs.BuiltIn.{object, throwable}
 use Rattle.cert_format.specs.declared.typing.VType.{VType}

@@ -118,7 +118,8 @@ pub fn stack_after(
 fn count_after(shape: Shape, count: usize) -> usize
     ensures stored { (j : ℕ) → result ≤ j → stores shape j ≡ false }
     ensures found { count ≤ result }
-    ensures within { (method : Method) (locals : List VType) → count ≤ method.max_locals → uses_local method locals shape ≡ true → result ≤ method.max_locals }
+    ensures within { (method : Method) (locals : List VType) → count ≤ method.max_locals → uses_local method locals shape ≡ true
+        → result ≤ method.max_locals }
 {
     match shape {
         Shape::Store { slot, .. } => count.max(usize::from(slot) + 1),
@@ -132,7 +133,8 @@ pub fn locals_after(
     place: &PlaceRef,
     frame: &FrameType,
 ) -> Result<List<VType>, NoMemory>
-    ensures are { IfOk result (λ locals. (j : ℕ) → type_at locals j ≡ local_after place.now frame.now.locals (taken place.now frame.now) j) }
+    ensures are { IfOk result (λ locals. (j : ℕ) → type_at locals j
+        ≡ local_after place.now frame.now.locals (taken place.now frame.now) j) }
     // They are as many as the method has, where rule 4 is met.
     ensures within { IfOk result (λ locals. IsTrue (Local place.now frame.now) → length locals ≤ place.now.method.max_locals) }
 {

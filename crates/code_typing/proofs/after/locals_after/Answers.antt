@@ -3,7 +3,7 @@ use Rattle.cert_format.specs.declared.typing.VType.{VType}
 use Rattle.insn_effect.specs.declared.shape.Shape.{Shape}
 use Rattle.insn_effect.specs.Shapes.{shape_of}
 use Rattle.code_typing.specs.Changing.{change_told, local_told}
-use Rattle.code_typing.specs.Makes.{changed, topmost, stores, local_after}
+use Rattle.code_typing.specs.Makes.{changed, topmost, stores}
 use Rattle.code_typing.specs.Place.{Place}
 use Rattle.code_typing.specs.Rules.{taken}
 use Rattle.code_typing.proofs.Afterwards.{pushed_each, each_local, local_same}

@@ -1,4 +1,4 @@
-use Rattle.std.proofs.Common.{◌≡◌, ◌-◌, ◌+◌, ◌++◌, [], ◌∷◌, List, map, sym, ap, ◌∙◌}
+use Rattle.std.proofs.Common.{◌-◌, ◌+◌, ◌++◌, [], ◌∷◌, List, map, sym, ap, ◌∙◌}
 use Rattle.std.proofs.lemmas.List.{append_assoc, append-nil}
 use Rattle.cert_format.specs.declared.typing.VType.{VType}
 use Rattle.code_typing.specs.Described.{Descriptor, type_described, types_at}

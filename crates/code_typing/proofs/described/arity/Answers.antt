@@ -1,4 +1,4 @@
-use Rattle.std.proofs.Common.{◌≡◌, ◌-◌, ◌+◌, length, sym, ap, arith}
+use Rattle.std.proofs.Common.{◌-◌, length, sym, ap, arith}
 use Rattle.code_typing.proofs.Describing.{types_some, types_end, types_over}
 use Rattle.code_typing.proofs.described.arity.Goals as goal
 

@@ -1,4 +1,4 @@
-use Rattle.std.proofs.Common.{◌≡◌, ◌+◌, ◌-◌, ◌≤◌, [], length, map, take}
+use Rattle.std.proofs.Common.{◌≡◌, ◌+◌, length}
 use Rattle.code_typing.specs.Described.{name_length}
 use Rattle.code_typing.proofs.described.name_length.Given as goal
 

@@ -1,4 +1,4 @@
-use Rattle.std.proofs.Common.{◌≡◌, ◌+◌, ◌-◌, ◌≤◌, [], length, map, take}
+use Rattle.std.proofs.Common.{◌≡◌, length}
 use Rattle.code_typing.specs.Described.{result_text}
 use Rattle.code_typing.proofs.described.result_text.Given as goal
 

@@ -1,4 +1,4 @@
-use Rattle.std.proofs.Common.{◌≡◌, ◌+◌, ◌-◌, ◌≤◌, [], length, map, take}
+use Rattle.std.proofs.Common.{◌≡◌, ◌+◌, [], length}
 use Rattle.code_typing.specs.Makes.{type_at}
 use Rattle.code_typing.specs.Rules.{locals_fit}
 use Rattle.code_typing.proofs.entry.are_top.Given as goal

@@ -1,5 +1,4 @@
-use Rattle.std.proofs.Common.{◌≡◌, ◌-◌, ◌+◌, List, [], map, sym, ap, ◌∙◌}
-use Rattle.type_lattice.specs.Lending.{type_lent}
+use Rattle.std.proofs.Common.{◌-◌, List, map, sym, ap, ◌∙◌}
 use Rattle.cert_format.specs.declared.typing.VType.{VType}
 use Rattle.code_typing.specs.Described.{Descriptor, type_described}
 use Rattle.code_typing.specs.Makes.{type_at}

@@ -1,4 +1,4 @@
-use Rattle.std.proofs.Common.{◌≡◌, ◌+◌, ◌-◌, ◌≤◌, [], length, map, take}
+use Rattle.std.proofs.Common.{◌≡◌, ◌-◌, map}
 use Rattle.code_typing.specs.Described.{types_at, type_described}
 use Rattle.code_typing.specs.Makes.{type_at}
 use Rattle.code_typing.specs.Rules.{locals_fit}

@@ -1,4 +1,4 @@
-use Rattle.std.proofs.Common.{◌≡◌, sym, ◌∙◌}
+use Rattle.std.proofs.Common.{sym, ◌∙◌}
 use Rattle.code_typing.proofs.Describing.{fit_some, fit_none}
 use Rattle.code_typing.proofs.entry.first_fits.Goals as goal
 

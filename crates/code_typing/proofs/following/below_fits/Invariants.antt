@@ -1,4 +1,4 @@
-use Rattle.std.proofs.Common.{◌≡◌, ◌+◌, ◌-◌, ◌≤◌, [], length, map, take}
+use Rattle.std.proofs.Common.{◌≡◌, length, map}
 use Rattle.code_typing.specs.Changing.{change_told}
 use Rattle.code_typing.specs.Rules.{stack_fits}
 use Rattle.code_typing.proofs.following.below_fits.Given as goal

@@ -1,4 +1,4 @@
-use Rattle.std.proofs.Common.{◌≡◌, ℕ, List, length, sym, ap, ◌∙◌}
+use Rattle.std.proofs.Common.{◌≡◌, ℕ, List, length, ap, ◌∙◌}
 use Rattle.cert_format.specs.declared.typing.VType.{VType}
 use Rattle.code_typing.specs.Changing.{change_told, frame_takes}
 use Rattle.code_typing.specs.Makes.{changed, below, topmost}

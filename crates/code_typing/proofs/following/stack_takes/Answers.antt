@@ -1,7 +1,6 @@
-use Rattle.std.proofs.Common.{◌≡◌, ◌-◌, ◌+◌, Bool, true, false, List, length, take, drop, map, sym, ap, ◌∙◌}
+use Rattle.std.proofs.Common.{◌≡◌, Bool, true, false, List, length, take, drop, map, sym, ap, ◌∙◌}
 use Rattle.std.specs.Prelude.{◌&&◌}
 use Rattle.cert_format.specs.declared.typing.VType.{VType}
-use Rattle.bytecode_model.specs.declared.program.Program.{Program}
 use Rattle.code_typing.specs.Changing.{change_told}
 use Rattle.code_typing.specs.Makes.{yields}
 use Rattle.code_typing.specs.Place.{Place}

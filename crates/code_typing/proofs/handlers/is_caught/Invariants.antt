@@ -1,4 +1,4 @@
-use Rattle.std.proofs.Common.{◌≡◌, ◌+◌, ◌-◌, ◌≤◌, [], length, map, take}
+use Rattle.std.proofs.Common.{◌≡◌, length}
 use Rattle.std.specs.List.{list_all}
 use Rattle.code_typing.specs.Rules.{Caught, is_handled}
 use Rattle.code_typing.proofs.handlers.is_caught.Given as goal

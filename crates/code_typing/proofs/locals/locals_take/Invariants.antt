@@ -1,4 +1,4 @@
-use Rattle.std.proofs.Common.{◌≡◌, ◌+◌, ◌-◌, ◌≤◌, [], length, map, take}
+use Rattle.std.proofs.Common.{◌≡◌, ◌+◌, length}
 use Rattle.code_typing.specs.Changing.{local_told}
 use Rattle.code_typing.specs.Rules.{locals_fit}
 use Rattle.code_typing.proofs.locals.locals_take.Given as goal

@@ -1,4 +1,4 @@
-use Rattle.std.proofs.Common.{◌≡◌, ◌+◌, ◌-◌, ◌≤◌, [], length, map, take}
+use Rattle.std.proofs.Common.{◌≡◌, length}
 use Rattle.cert_format.specs.declared.typing.VType.TheVariants.{Uninit}
 use Rattle.code_typing.specs.Rules.{has_object}
 use Rattle.code_typing.proofs.made.has_new.Given as goal

@@ -1,4 +1,4 @@
-use Rattle.std.proofs.Common.{◌≡◌, ◌+◌, ◌-◌, ◌≤◌, [], length, map, take}
+use Rattle.std.proofs.Common.{◌≡◌, ◌-◌, map}
 use Rattle.code_typing.specs.Described.{types_at}
 use Rattle.code_typing.specs.Wants.{all_met, to_described}
 use Rattle.code_typing.proofs.operands.arguments_met.Given as goal

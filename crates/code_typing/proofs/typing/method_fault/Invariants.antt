@@ -1,4 +1,4 @@
-use Rattle.std.proofs.Common.{◌≡◌, ◌+◌, ◌-◌, ◌≤◌, [], length, map, take}
+use Rattle.std.proofs.Common.{◌≡◌, ◌-◌, length}
 use Rattle.code_typing.specs.Typed.{first_row, row_in, method_fault}
 use Rattle.code_typing.proofs.typing.method_fault.Given as goal
 

@@ -1,4 +1,4 @@
-use Rattle.std.proofs.Common.{◌≡◌, ◌+◌, ◌-◌, ◌≤◌, [], length, map, take}
+use Rattle.std.proofs.Common.{◌≡◌, length, map}
 use Rattle.code_typing.specs.Makes.{moved_from}
 use Rattle.code_typing.specs.Rules.{stack_fits}
 use Rattle.code_typing.proofs.yielded.form_fits.Given as goal
