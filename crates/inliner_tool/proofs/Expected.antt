@@ -1,10 +1,9 @@
 -- Of inputs that are typed, what is woven links, can be typed, and is accepted with its certificate.
-use Rattle.std.proofs.Common.{◌≡◌, ℕ, zero, suc, ◌+◌, ◌<◌, ◌≤◌, Bool, true, false, cond, List, [], ◌∷◌, length, map, Option, Some, None, Result, Ok, Err, refl, sym, ap, subst, ◌∙◌, arith}
+use Rattle.std.proofs.Common.{◌≡◌, ℕ, zero, suc, ◌+◌, ◌<◌, ◌≤◌, Bool, true, false, cond, List, [], ◌∷◌, length, Option, Some, None, Ok, Err, refl, sym, ap, subst, ◌∙◌, arith}
 use Rattle.std.specs.Prelude.{◌&&◌, is_some, slice_get, slice_index}
 use Rattle.std.specs.Option.{option_map_or}
 use Rattle.std.proofs.lemmas.Bool.{ltb-true}
 use Rattle.std.proofs.lemmas.List.{length-map}
-use Rattle.std.proofs.lemmas.Option.{slice_get_within}
 use Rattle.api_listing.specs.declared.types.Listing.{Listing}
 use Rattle.bytecode_model.specs.declared.program.LinkedClass.{LinkedClass}
 use Rattle.bytecode_model.specs.declared.program.Method.{Method}
@@ -13,14 +12,12 @@ use Rattle.bytecode_model.specs.declared.program.Side.TheVariants.{Inlined, Orig
 use Rattle.bytecode_model.specs.declared.program.Target.{Target}
 use Rattle.bytecode_model.specs.Linking.{linked, unlinked}
 use Rattle.bytecode_model.specs.Sound.{IsSound}
-use Rattle.cert_checker.specs.Acceptance.{IsAccepted}
 use Rattle.cert_format.specs.declared.typing.FrameType.{FrameType}
 use Rattle.cert_format.specs.declared.typing.Typing.{Typing}
 use Rattle.cert_maker.specs.Accepting.{IsStopped, WovenIsAccepted}
-use Rattle.cert_maker.specs.Noting.{certificate_of}
 use Rattle.code_typing.specs.Rules.{Frames, frame_of}
 use Rattle.code_typing.specs.Shape.{has_code, IsShaped}
-use Rattle.code_typing.specs.Typed.{IsTyped, frames_in, frames_told, reached_in, reached}
+use Rattle.code_typing.specs.Typed.{IsTyped, frames_in, frames_told, reached_in}
 use Rattle.conspec_automaton.specs.declared.policy.Policy.{Policy}
 use Rattle.conspec_automaton.specs.Building.{built}
 use Rattle.conspec_automaton.specs.Denying.{DeniesOnly, asks_nothing}
@@ -30,19 +27,18 @@ use Rattle.inline_release.specs.declared.weaving.Woven.{Woven}
 use Rattle.inline_release.specs.Outcome.{IsWoven, OriginalIsFree, WovenLinks}
 use Rattle.inline_release.specs.Woven.{sites_of, woven}
 use Rattle.offset_patch.specs.Splicing.{fronts_of}
-use Rattle.type_infer.specs.Untyped.{IsUntypedAt, IsLeast}
+use Rattle.type_infer.specs.Untyped.{IsLeast}
 use Rattle.type_lattice.specs.Laws.{LinkedIsInOrder}
 use Rattle.woven_typing.specs.Calls.{AreRightOperands, LinkedOperandsAreRight, PolicyTellsArguments}
 use Rattle.woven_typing.specs.Framing.{TellsArguments, arguments_of}
-use Rattle.woven_typing.specs.Laws.{IsWovenOf, IsMetWoven, WovenIsTyped, frames_of_woven}
+use Rattle.woven_typing.specs.Laws.{IsMetWoven, WovenIsTyped, frames_of_woven}
 use Rattle.woven_typing.proofs.Programs.{told_count, class_told}
 use Rattle.inliner_tool.specs.declared.inline_inputs.InlineInputs.{InlineInputs}
 use Rattle.inliner_tool.specs.declared.inline_words.Weaving.{Weaving}
 use Rattle.inliner_tool.specs.declared.refusal.Refusal.TheVariants as refusals
-use Rattle.inliner_tool.specs.Built.{is_built_class}
 use Rattle.inliner_tool.specs.Expected.{IsExpected}
 use Rattle.inliner_tool.specs.InlineInputs.{InlineSound}
-use Rattle.inliner_tool.specs.Weaving.{Step, are_one_class, is_built_client, lets_go, denying}
+use Rattle.inliner_tool.specs.Weaving.{are_one_class, is_built_client, lets_go, denying}
 
 some_is : {A : Type 0} (x y : A) → ◌≡◌ {A = Option A} (Some x) (Some y) → x ≡ y
 some_is x y e = cc

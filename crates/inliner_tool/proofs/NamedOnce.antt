@@ -1,5 +1,5 @@
 -- The words of the command inline name one set of files, one folder and one way of weaving.
-use Rattle.std.proofs.Common.{◌≡◌, ℕ, List, [], ◌∷◌, get_or, refl, sym, ap, ◌∙◌, arith}
+use Rattle.std.proofs.Common.{◌≡◌, ℕ, List, ◌∷◌, get_or, refl, sym, ap, ◌∙◌, arith}
 use Rattle.std.specs.Prelude.{codes}
 use Rattle.inliner_tool.specs.declared.inline_words.Weaving.{Weaving}
 use Rattle.inliner_tool.specs.declared.inline_words.Weaving.TheVariants.{Auto, Hold, Release}

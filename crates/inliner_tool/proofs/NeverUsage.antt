@@ -17,7 +17,7 @@ use Rattle.inliner_tool.specs.declared.answer.Answer.{Answer}
 use Rattle.inliner_tool.specs.declared.answer.Answer.TheVariants as answers
 use Rattle.inliner_tool.specs.declared.inputs.CheckInputs.{CheckInputs}
 use Rattle.inliner_tool.specs.Built.{is_built}
-use Rattle.inliner_tool.specs.Judging.{Is, check_answer, linked_answer, link_answer, link_inputs, program_answer, verdict_answer}
+use Rattle.inliner_tool.specs.Judging.{Is, check_answer, linked_answer, link_answer, link_inputs, verdict_answer}
 use Rattle.inliner_tool.specs.Tool.{IsAnswer}
 
 no_verdict : (program : Program) (verdict : Result Accepted CheckFault) → verdict_answer program verdict ≡ answers.Usage → ⊥

@@ -1,5 +1,5 @@
 -- The steps of weaving, one after the other.
-use Rattle.std.proofs.Common.{◌≡◌, ◌⊎◌, ℕ, zero, suc, ◌+◌, ◌≤◌, ◌<◌, false, List, [], ◌∷◌, ◌++◌, map, take, get_or, length, Result, Ok, Err, refl, inl, inr, ⊎_elim, ap, subst, ◌∙◌, arith}
+use Rattle.std.proofs.Common.{◌≡◌, ℕ, zero, suc, ◌+◌, ◌≤◌, ◌<◌, false, List, [], ◌∷◌, ◌++◌, map, take, get_or, length, Ok, Err, refl, inl, inr, ⊎_elim, ap, subst, arith}
 use Rattle.std.specs.Prelude.{nat_lt}
 use Rattle.std.proofs.lemmas.Bool.{le-ltb}
 use Rattle.mon_store.specs.declared.outputs.Output.{Output}

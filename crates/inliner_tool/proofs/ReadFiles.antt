@@ -1,12 +1,12 @@
 -- Reading the file of a name as a kind of file.
-use Rattle.std.proofs.Common.{◌≡◌, ◌⊎◌, ◌≤◌, ℕ, List, length, Result, Ok, Err, refl, subst, inl, inr, ⊎_elim}
+use Rattle.std.proofs.Common.{◌≡◌, ◌≤◌, ℕ, List, length, Result, Ok, Err, subst, inl, inr, ⊎_elim}
 use Rattle.mon_store.specs.Store.{Files}
 use Rattle.mon_store.proofs.StoreLaws.{Caused-since}
 use Rattle.inliner_tool.specs.declared.fault.InputFault.{InputFault}
 use Rattle.inliner_tool.specs.declared.fault.InputFault.TheVariants as faults
 use Rattle.inliner_tool.specs.declared.files.Stop.{Stop}
 use Rattle.inliner_tool.specs.declared.files.Stop.TheVariants.{Input, Unread, Memory}
-use Rattle.inliner_tool.specs.Forms.{Form, Count, HasText, IsRead, IsUnread, ReadsForm, ReadsText}
+use Rattle.inliner_tool.specs.Forms.{Form, Count, HasText, IsUnread, ReadsForm, ReadsText}
 use Rattle.inliner_tool.specs.Inputs.{IsNoMemory, IsOfName}
 use Rattle.inliner_tool.specs.Reading.{Fails, Tells}
 

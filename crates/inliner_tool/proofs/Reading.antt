@@ -1,5 +1,5 @@
 -- Where the reading of the files of a command stops.
-use Rattle.std.proofs.Common.{◌≡◌, ℕ, ◌≤◌, List, length, Ok, Err, refl, inl, inr}
+use Rattle.std.proofs.Common.{ℕ, ◌≤◌, List, length, Ok, Err, refl, inl, inr}
 use Rattle.mon_store.specs.Store.{Files}
 use Rattle.api_listing.specs.declared.types.Listing.{Listing}
 use Rattle.cert_format.specs.declared.certificate.Certificate.{Certificate}
@@ -7,7 +7,6 @@ use Rattle.conspec_parse.specs.declared.types.PolicyTree.{PolicyTree}
 use Rattle.inliner_tool.specs.declared.files.Stop.{Stop}
 use Rattle.inliner_tool.specs.declared.inputs.ReadClasses.{ReadClasses as Classes}
 use Rattle.inliner_tool.specs.Forms.{IsRead, ReadsForm}
-use Rattle.event_record.specs.declared.reading.Record.{Record}
 use Rattle.inliner_tool.specs.InlineInputs.{ReadsInline}
 use Rattle.inliner_tool.specs.InlineWords.{NamedInline}
 use Rattle.inliner_tool.specs.Inputs.{ReadsCheck, ReadsClasses, ReadsPolicy, ReadsShow, AreClasses}

@@ -1,5 +1,5 @@
 -- What the command `inline` answers, and what stands in the store then.
-use Rattle.std.specs.Prelude.{◌≡◌, ◌⊎◌, ℕ, List, Result, Ok, Err}
+use Rattle.std.specs.Prelude.{◌≡◌, ◌⊎◌, ℕ, List, Ok, Err}
 use Rattle.mon_store.specs.Store.{Caused, Files}
 use Rattle.mon_store.specs.Outputs.{StopsAt, all_written}
 use Rattle.inliner_tool.specs.declared.answer.Answer.{Answer}

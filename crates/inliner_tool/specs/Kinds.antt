@@ -1,5 +1,5 @@
 -- The kinds of files: how long they may be, and what they are read as.
-use Rattle.std.specs.Prelude.{ℕ, List, length, Result, Ok, Err, if◌then◌else◌}
+use Rattle.std.specs.Prelude.{ℕ, length, Result, Ok, Err, if◌then◌else◌}
 use Rattle.api_listing.specs.declared.fault.ListFault.{ListFault}
 use Rattle.api_listing.specs.declared.types.Listing.{Listing}
 use Rattle.api_listing.specs.Listing.{reading}

@@ -8,7 +8,6 @@ use Rattle.bytecode_model.specs.declared.fault.LinkFault.TheVariants as links
 use Rattle.bytecode_model.specs.Fault.{number_of as link_number}
 use Rattle.cert_checker.specs.declared.fault.CheckFault.{CheckFault}
 use Rattle.cert_checker.specs.declared.fault.CheckFault.TheVariants.{Shape, Typing, Local}
-use Rattle.cert_checker.specs.declared.checking.Accepted.{Accepted}
 use Rattle.cert_checker.specs.Fault.{number_of as check_number}
 use Rattle.cert_format.specs.declared.certificate.Mode.{Mode}
 use Rattle.cert_format.specs.declared.certificate.Mode.TheVariants as modes

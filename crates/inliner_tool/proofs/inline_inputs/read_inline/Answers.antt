@@ -1,4 +1,4 @@
-use Rattle.std.proofs.Common.{◌≡◌, ◌≤◌, ◌∙◌, List, ℕ, Ok, Err, subst, arith}
+use Rattle.std.proofs.Common.{◌≤◌, ◌∙◌, List, ℕ, Ok, Err, subst, arith}
 use Rattle.std.proofs.lemmas.Result.{err_from_is_err_and}
 use Rattle.mon_store.specs.Store.{Files}
 use Rattle.inliner_tool.specs.Forms.{IsRead}

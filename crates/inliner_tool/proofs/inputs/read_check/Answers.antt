@@ -1,12 +1,12 @@
-use Rattle.std.proofs.Common.{◌≡◌, ◌≤◌, ◌∙◌, List, ℕ, length, Ok, Err, subst, arith}
+use Rattle.std.proofs.Common.{◌≤◌, ◌∙◌, List, ℕ, length, Ok, Err, subst, arith}
 use Rattle.std.proofs.lemmas.Result.{err_from_is_err_and}
 use Rattle.mon_store.specs.Store.{Files}
 use Rattle.inliner_tool.specs.Forms.{IsRead, ReadsForm}
-use Rattle.inliner_tool.specs.Inputs.{AreClasses, ReadsClasses}
+use Rattle.inliner_tool.specs.Inputs.{ReadsClasses}
 use Rattle.inliner_tool.specs.Kinds.{certificate_form, policy_form}
 use Rattle.inliner_tool.specs.Words.{NamedCheck, check_named}
 use Rattle.inliner_tool.proofs.ReadFiles.{counted}
-use Rattle.inliner_tool.proofs.Reading.{policy_stops, certificate_stops, classes_stop, all_read}
+use Rattle.inliner_tool.proofs.Reading.{policy_stops, certificate_stops, classes_stop}
 use Rattle.inliner_tool.proofs.inputs.read_check.Goals as goal
 
 pub returns-in_err-policy-clause-read : goal.returns-in_err-policy-clause-read

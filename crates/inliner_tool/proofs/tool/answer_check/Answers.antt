@@ -1,4 +1,4 @@
-use Rattle.std.proofs.Common.{◌≡◌, ℕ, List, inl}
+use Rattle.std.proofs.Common.{inl}
 use Rattle.mon_store.specs.Store.{Files}
 use Rattle.inliner_tool.specs.Forms.{Count, since}
 use Rattle.inliner_tool.specs.Tool.{Answers}

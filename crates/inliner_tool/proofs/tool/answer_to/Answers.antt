@@ -1,6 +1,6 @@
 use Rattle.std.proofs.Common.{◌≡◌, subst}
 use Rattle.inliner_tool.specs.declared.words.Command.{Command}
-use Rattle.inliner_tool.specs.InlineWords.{IsInline, NamedInline, inline_named}
+use Rattle.inliner_tool.specs.InlineWords.{IsInline, inline_named}
 use Rattle.inliner_tool.specs.Words.{Spells, named_by}
 use Rattle.inliner_tool.proofs.NamedOnce.{same_inline}
 use Rattle.inliner_tool.proofs.tool.answer_to.Goals as goal

@@ -1,4 +1,4 @@
-use Rattle.std.proofs.Common.{◌≡◌, ◌∙◌, Err, ap, subst, sym}
+use Rattle.std.proofs.Common.{◌∙◌, Err, ap, subst, sym}
 use Rattle.mon_store.specs.Sink.{AppendsFront}
 use Rattle.inliner_tool.proofs.Replying.{ends_well}
 use Rattle.inliner_tool.proofs.tool.run_tool.Goals as goal

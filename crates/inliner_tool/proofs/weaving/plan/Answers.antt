@@ -4,7 +4,7 @@ use Rattle.conspec_automaton.specs.declared.policy.Policy.{Policy}
 use Rattle.inline_release.specs.Outcome.{IsWoven}
 use Rattle.inline_release.specs.Woven.{woven}
 use Rattle.inliner_tool.specs.InlineWords.{NamedInline, inline_named}
-use Rattle.inliner_tool.specs.Weaving.{Denying, Equals, Remakes, Typed, Types, UnlessMemory, Weaves, denying, original, weave_step}
+use Rattle.inliner_tool.specs.Weaving.{Denying, Equals, Remakes, Typed, Types, Weaves, denying, original, weave_step}
 use Rattle.inliner_tool.proofs.Blocks.{inputs_link, planned}
 use Rattle.inliner_tool.proofs.Expected.{expected, one_file, remade}
 use Rattle.inliner_tool.proofs.Planning.{first_fails, later}
