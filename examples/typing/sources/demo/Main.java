@@ -58,8 +58,10 @@ public class Main {
             } finally {
                 ready = !ready;
             }
-        } catch (IndexOutOfBoundsException | NullPointerException other) {
-            result = other instanceof NullPointerException ? 3 : 4;
+        } catch (IndexOutOfBoundsException outside) {
+            result = 3;
+        } catch (NullPointerException nothing) {
+            result = nothing == null ? 4 : result + 4;
         } catch (RuntimeException any) {
             result = 5;
         }
