@@ -1,9 +1,10 @@
 -- What is wanted of the notes of the instructions that come next.
-use Rattle.std.specs.Prelude.{ℕ, ◌==◌, ◌&&◌, ◌||◌, not, nat_le, nat_lt, Bool, true, false, if◌then◌else◌, List, [], ◌∷◌, slice_get}
+use Rattle.std.specs.Prelude.{ℕ, ◌==◌, ◌&&◌, ◌||◌, not, Bool, true, false, if◌then◌else◌, List, [], ◌∷◌, slice_get}
 use Rattle.std.specs.List.{list_all}
 use Rattle.std.specs.Option.{option_map_or}
 use Rattle.std.specs.Prelude.{is_some}
 use Rattle.bytecode_model.specs.declared.program.Handler.{Handler}
+use Rattle.code_typing.specs.Rules.{covers}
 use Rattle.cert_format.specs.declared.note.Note.{Note}
 use Rattle.cert_format.specs.declared.note.Note.TheVariants as notes
 use Rattle.cert_format.specs.declared.note.Phase8.{Phase8}
@@ -65,9 +66,6 @@ abbrev pub all_meet : Policy → Wanted → List Note → List ℕ → Bool
 all_meet policy wanted told places = list_all (λ at. option_map_or (meets policy wanted) (slice_get told at) false) places
 
 -- ---- handlers
-
-abbrev pub covers : ℕ → Handler → Bool
-covers at handler = nat_le handler.from at && nat_lt at handler.to
 
 -- the handlers that cover an instruction, up to the first that catches anything
 abbrev pub handlers_of : ℕ → List Handler → List ℕ

@@ -3,11 +3,12 @@
 ghost use Rattle.std.specs.Prelude.{◌≡◌, slice_get, false};
 ghost use Rattle.std.specs.Option.{option_map_or};
 ghost use Rattle.insn_effect.specs.Control.{jump_targets, successors};
-ghost use Rattle.cert_checker.specs.Wanted.{all_meet, covers, denies_site, handlers_of, is_before, is_free, is_stop, is_stop_at, is_taking};
+ghost use Rattle.cert_checker.specs.Wanted.{all_meet, denies_site, handlers_of, is_before, is_free, is_stop, is_stop_at, is_taking};
 ghost use Rattle.cert_checker.specs.Wanted.{meets, same_phase, same_site, takes_for_call};
 
 use bytecode_model::Handler;
 use cert_format::{Note, Phase8, Site};
+use code_typing::covers;
 use conspec_automaton::{Policy, has_clauses};
 use insn_codec::{Insn, goes_on};
 
@@ -89,12 +90,6 @@ pub fn handlers_meet(
         left = later;
     }
     true
-}
-
-fn covers(at: u32, handler: &Handler) -> bool
-    ensures { result ≡ covers at handler.now }
-{
-    handler.from <= at && at < handler.to
 }
 
 fn meets(policy: &Policy, wanted: Wanted, note: &Note) -> bool

@@ -39,7 +39,8 @@ use Rattle.block_template.specs.Blocks.{clause_of, store, denial, locals_used}
 use Rattle.cert_checker.specs.declared.wanted.Wanted.TheVariants as wanted
 use Rattle.cert_checker.specs.Notes.{Here, row_fault, note_fault}
 use Rattle.cert_checker.specs.Operands.{calls, loads_constant, pushes_state, is_state_name, is_variable, has_clause}
-use Rattle.cert_checker.specs.Wanted.{covers, handlers_of}
+use Rattle.cert_checker.specs.Wanted.{handlers_of}
+use Rattle.code_typing.specs.Rules.{covers}
 use Rattle.guest_model.specs.Stepping.{is_exit}
 use Rattle.cert_checker.proofs.ExitRows.{exit_at}
 use Rattle.inline_release.specs.Outcome.{at_fronts, part_named, way_out_index}
