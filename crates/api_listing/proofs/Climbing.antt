@@ -5,11 +5,6 @@ use Rattle.api_listing.specs.declared.types.ListedClass.{ListedClass}
 use Rattle.api_listing.specs.declared.types.ListedMethod.{ListedMethod}
 use Rattle.api_listing.specs.Nearest.{class_named, declared_in, first_declared, upwards, names_of, interfaces_of}
 
-pub upwards_none : (n i : ℕ) (classes : List ListedClass) (name : List ℕ) → i < n → class_named classes name ≡ None → upwards (n - i) classes name ≡ []
-upwards_none n i classes name lt none =
-    let k : n - i ≡ suc (n - (i + 1)) = omega arith in
-    rw (k, none) refl
-
 pub upwards_some : (n i : ℕ) (classes : List ListedClass) (name : List ℕ) (c : ListedClass) → i < n → class_named classes name ≡ Some c → upwards (n - i) classes name ≡ c ∷ upwards (n - (i + 1)) classes c.parent
 upwards_some n i classes name c lt some =
     let k : n - i ≡ suc (n - (i + 1)) = omega arith in

@@ -14,8 +14,9 @@ use Rattle.api_listing.specs.declared.descriptor.FieldType.{FieldType}
 use Rattle.api_listing.specs.declared.descriptor.MethodType.{MethodType}
 use Rattle.api_listing.specs.declared.fault.FormFault.TheVariants.{NoForm, Memory}
 use Rattle.api_listing.specs.Words.{pieces, is_name_byte, is_segment, is_class_name}
-use Rattle.api_listing.specs.Fault.{Read, Reads}
-use Rattle.api_listing.specs.Descriptor.{class_spelled, element_spelled, type_spelled, result_spelled, is_element, is_type, is_result, SpellsDescriptor, SpellsClass, until, named_only, name_at, class_at, element_at, deeper, flat, type_at, whole_type, result_of, is_closed, arguments_at, after_first, method_type, ended, class_described}
+use Rattle.mon_base.specs.Answer.{Answers}
+use Rattle.api_listing.specs.Fault.{Read}
+use Rattle.api_listing.specs.Descriptor.{class_spelled, element_spelled, type_spelled, result_spelled, is_element, is_type, is_result, SpellsDescriptor, SpellsType, SpellsClass, until, named_only, name_at, class_at, element_at, deeper, flat, type_at, whole_type, result_of, is_closed, arguments_at, after_first, method_type, ended, class_described}
 
 pub both : (a b : Bool) → (a && b) ≡ true → (a ≡ true) × (b ≡ true)
 both true true e = (refl, refl)
@@ -468,14 +469,31 @@ typed m = Ok m
 whole_is : (a b : MethodType) → typed a ≡ typed b → a ≡ b
 whole_is a b h = cc
 
-pub answer_found : (text : List ℕ) (result : Read MethodType) → Reads result (method_type text) → IfOk result (λ m. SpellsDescriptor text m)
+pub answer_found : (text : List ℕ) (result : Read MethodType) → Answers Memory result (method_type text) → IfOk result (λ m. SpellsDescriptor text m)
 answer_found text (Ok m) h = method_found text m h
 answer_found text (Err e) h = tt
 
-pub answer_only : (text : List ℕ) (result : Read MethodType) → Reads result (method_type text) → (m : MethodType) → SpellsDescriptor text m → MatchResult result (λ r. r ≡ m) (λ e. e ≡ Memory)
+pub answer_only : (text : List ℕ) (result : Read MethodType) → Answers Memory result (method_type text) → (m : MethodType) → SpellsDescriptor text m → MatchResult result (λ r. r ≡ m) (λ e. e ≡ Memory)
 answer_only text (Ok r) h m s = whole_is r m (sym h ∙ method_again text m s)
 answer_only text (Err Memory) h m s = refl
-answer_only text (Err NoForm) h m s = absurd (none_method m (sym h ∙ method_again text m s))
+answer_only text (Err NoForm) h m s = absurd (none_method m (sym (h (λ same. cc)) ∙ method_again text m s))
+
+pub type_answer_found : (text : List ℕ) (result : Read FieldType) → Answers Memory result (whole_type text) → IfOk result (λ t. SpellsType text t)
+type_answer_found text (Ok t) h =
+    let found = whole_found text t h in
+    record { spelled = found.0; named = found.1 }
+type_answer_found text (Err e) h = tt
+
+spelled_again : (text : List ℕ) (t : FieldType) → SpellsType text t → whole_type text ≡ Ok t
+spelled_again text t s = ap whole_type s.spelled ∙ whole_again t s.named
+
+type_is : (a b : FieldType) → ◌≡◌ {A = Read FieldType} (Ok a) (Ok b) → a ≡ b
+type_is a b h = cc
+
+pub type_answer_only : (text : List ℕ) (result : Read FieldType) → Answers Memory result (whole_type text) → (t : FieldType) → SpellsType text t → MatchResult result (λ r. r ≡ t) (λ e. e ≡ Memory)
+type_answer_only text (Ok r) h t s = type_is r t (sym h ∙ spelled_again text t s)
+type_answer_only text (Err Memory) h t s = refl
+type_answer_only text (Err NoForm) h t s = absurd (none_whole t (sym (h (λ same. cc)) ∙ spelled_again text t s))
 
 pub class_answer_found : (text : List ℕ) (result : Option (List ℕ)) → result ≡ class_described text → IfSome result (λ name. SpellsClass text name)
 class_answer_found text (Some name) h = class_descriptor_found text name (sym h)

@@ -8,7 +8,8 @@ use Rattle.api_listing.specs.declared.descriptor.Element.{Element}
 use Rattle.api_listing.specs.declared.descriptor.FieldType.{FieldType}
 use Rattle.api_listing.specs.declared.fault.FormFault.{FormFault}
 use Rattle.api_listing.specs.declared.fault.FormFault.TheVariants.{NoForm, Memory}
-use Rattle.api_listing.specs.Fault.{Read, Fails}
+use Rattle.mon_base.specs.Answer.{Fails}
+use Rattle.api_listing.specs.Fault.{Read}
 use Rattle.api_listing.specs.Descriptor.{deeper, type_at, element_at, arguments_at, is_closed, until}
 
 -- a list that is not empty is its first number and the others
@@ -47,11 +48,10 @@ ends_flat n left rest behind first element total split other found so_far =
     sym so_far ∙ step ∙ ap (λ (d : ℕ). Ok (record { dimensions = d; element = element }, behind)) none
 
 pub no_type : (n : ℕ) (left rest : List ℕ) (first : ℕ) (e : FormFault) (total : Read (FieldType × List ℕ)) → left ≡ first ∷ rest → (first ≡ 91 → ⊥)
-    → Fails e (element_at first rest) → deepened n (type_at left) ≡ total → Fails e total
+    → Fails Memory e (element_at first rest) → deepened n (type_at left) ≡ total → Fails Memory e total
 unfolding type_at
-no_type n left rest first Memory total split other failed so_far = tt
-no_type n left rest first NoForm total split other failed so_far =
-    let step : deepened n (type_at left) ≡ Err NoForm = rw (split, ne_eqb first 91 other, failed) refl in
+no_type n left rest first e total split other failed so_far is_told =
+    let step : deepened n (type_at left) ≡ Err e = rw (split, ne_eqb first 91 other, failed is_told) refl in
     sym so_far ∙ step
 
 pub empty_type : (n : ℕ) (left : List ℕ) (total : Read (FieldType × List ℕ)) → length left < 1 → deepened n (type_at left) ≡ total → total ≡ Err NoForm
@@ -114,13 +114,12 @@ goes_on front i left next x total lt unclosed found so_far =
     rw (k, unclosed, found) (regroup front x (arguments_at (256 - (i + 1)) next)) in
     sym step ∙ so_far
 
-pub ends : (front : List FieldType) (i : ℕ) (left : List ℕ) (e : FormFault) (total : Read (List FieldType × List ℕ)) → i < 256 → is_closed left ≡ false → Fails e (type_at left)
-    → with_front front (arguments_at (256 - i) left) ≡ total → Fails e total
+pub ends : (front : List FieldType) (i : ℕ) (left : List ℕ) (e : FormFault) (total : Read (List FieldType × List ℕ)) → i < 256 → is_closed left ≡ false → Fails Memory e (type_at left)
+    → with_front front (arguments_at (256 - i) left) ≡ total → Fails Memory e total
 unfolding arguments_at
-ends front i left Memory total lt unclosed failed so_far = tt
-ends front i left NoForm total lt unclosed failed so_far =
+ends front i left e total lt unclosed failed so_far is_told =
     let k : 256 - i ≡ suc (256 - (i + 1)) = omega arith in
-    let step : with_front front (arguments_at (256 - i) left) ≡ Err NoForm = rw (k, unclosed, failed) refl in
+    let step : with_front front (arguments_at (256 - i) left) ≡ Err e = rw (k, unclosed, failed is_told) refl in
     sym so_far ∙ step
 
 pub closes : (front : List FieldType) (i : ℕ) (left : List ℕ) (total : Read (List FieldType × List ℕ)) → i < 256 → is_closed left ≡ true

@@ -1,7 +1,6 @@
 -- Tests of names tell whether they are the same.
-use Rattle.std.proofs.Common.{◌≡◌, ℕ, true, List, ap, refl, ◌∙◌, ap₂, ◌&&◌}
+use Rattle.std.proofs.Common.{◌≡◌, ℕ, true, List, refl, ◌∙◌, ap₂, ◌&&◌}
 use Rattle.std.specs.Prelude.{bytes_eq}
-use Rattle.std.specs.Bool.{Decides}
 use Rattle.std.specs.declared.cmp.Ordering.{Ordering}
 use Rattle.std.specs.declared.cmp.Ordering.TheVariants.{Less, Equal, Greater}
 use Rattle.std.specs.Ordering.{is_eq, nat_cmp, ordering_then}
@@ -10,8 +9,6 @@ use Rattle.std.proofs.lemmas.Map.Text.{is_eq-slice_cmp}
 use Rattle.std.proofs.lemmas.Slice.Eq.{bytes_eq-Decides}
 use Rattle.std.proofs.lemmas.Bool.Decides.{Decides-and}
 use Rattle.mon_base.specs.declared.method.MethodId.{MethodId}
-use Rattle.api_listing.specs.declared.types.ListedClass.{ListedClass}
-use Rattle.api_listing.specs.declared.types.ListedMethod.{ListedMethod}
 use Rattle.api_listing.specs.BuiltIn.{is_method}
 use Rattle.api_listing.specs.Seen.{id_cmp}
 
@@ -19,14 +16,6 @@ then_is : (o p : Ordering) → is_eq (ordering_then o p) ≡ (is_eq o && is_eq p
 then_is Less p = refl
 then_is Equal p = refl
 then_is Greater p = refl
-
-pub name_exact : (c : ListedClass) (name : List ℕ) → Decides (bytes_eq c.name name) (c.name ≡ name)
-name_exact c name = bytes_eq-Decides c.name name
-
-pub id_is : (a b : MethodId) → a.class ≡ b.class → a.name ≡ b.name → a.desc ≡ b.desc → a ≡ b
-id_is a b c n d =
-    let made : List ℕ → List ℕ → List ℕ → MethodId = λ x y z. record { class = x; name = y; desc = z } in
-    ap (λ x. made x a.name a.desc) c ∙ ap (λ y. made b.class y a.desc) n ∙ ap (λ z. made b.class b.name z) d
 
 pub method_is : (class name desc : List ℕ) (id : MethodId) → is_method class name desc id ≡ true → (id.class ≡ class) × (id.name ≡ name) × (id.desc ≡ desc)
 method_is class name desc id t =
@@ -38,12 +27,6 @@ pub is_method_of : (class name desc : List ℕ) (id : MethodId) → id.class ≡
 is_method_of class name desc id c n d =
     let inner = Decides-and (bytes_eq id.name name) (bytes_eq id.desc desc) (bytes_eq-Decides id.name name) (bytes_eq-Decides id.desc desc) in
     (Decides-and (bytes_eq id.class class) (bytes_eq id.name name && bytes_eq id.desc desc) (bytes_eq-Decides id.class class) inner).1 (c, (n, d))
-
-pub id_exact : (m : ListedMethod) (id : MethodId) → Decides (is_method id.class id.name id.desc m.id) (m.id ≡ id)
-id_exact m id = (
-  λ t. let e = method_is id.class id.name id.desc m.id t in id_is m.id id e.0 e.1 e.2,
-  λ q. is_method_of id.class id.name id.desc m.id (ap (λ (i : MethodId). i.class) q) (ap (λ (i : MethodId). i.name) q) (ap (λ (i : MethodId). i.desc) q),
-)
 
 -- methods are equal in the order exactly where they are one
 pub id_cmp-is : (a b : MethodId) → is_eq (id_cmp a b) ≡ is_method b.class b.name b.desc a

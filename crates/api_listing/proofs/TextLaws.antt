@@ -17,7 +17,8 @@ use Rattle.api_listing.specs.declared.fault.ListFault.{ListFault}
 use Rattle.api_listing.specs.declared.fault.ListFault.TheVariants as faults
 use Rattle.api_listing.specs.Words.{pieces}
 use Rattle.api_listing.specs.BuiltIn.{built_in_classes, class_rows}
-use Rattle.api_listing.specs.Fault.{Read, Answers, Refuses}
+use Rattle.mon_base.specs.Answer.{Answers, Fails}
+use Rattle.api_listing.specs.Fault.{Read}
 use Rattle.api_listing.specs.Lines.{says_something, form_of, said_as, said, ending, said_lines}
 use Rattle.api_listing.specs.Listing.{is_known, stands_already, names_known, with_declaration, built_in_listing, declared, after_lines, class_said, classes_in, read_lines, reading, class_declared, method_declared, field_declared, listing_of, AreSaid, SpellsListing, IsFew}
 use Rattle.api_listing.proofs.Lists.{not_true}
@@ -184,7 +185,7 @@ last_split parts long =
     let n : (length parts - 1) + 1 ≡ length parts = omega arith in
     sym (take_all (length parts) parts (omega arith)) ∙ ap (λ (k : ℕ). take k parts) (sym n) ∙ take_more parts (length parts - 1) [] (omega arith)
 
-snoc_is : (xs ys : List (List ℕ)) (x y : List ℕ) → xs ++ x ∷ [] ≡ ys ++ y ∷ [] → (xs ≡ ys) × (x ≡ y)
+pub snoc_is : (xs ys : List (List ℕ)) (x y : List ℕ) → xs ++ x ∷ [] ≡ ys ++ y ∷ [] → (xs ≡ ys) × (x ≡ y)
 snoc_is [] [] x y e = (refl, cc)
 snoc_is [] (b ∷ []) x y e = absurd cc
 snoc_is [] (b ∷ c ∷ ys) x y e = absurd cc
@@ -235,7 +236,7 @@ few_are_read lines l h = by (ltb 20000 (length lines)) refl h where
   by true is h = absurd (none_listed (faults.TooMany (length lines)) l h)
   by false is h = (ltb-false 20000 (length lines) is, lines_found (is_known (classes_in lines)) lines 1 [] l (ap (λ (x : Listing). after_lines (is_known (classes_in lines)) 1 x lines) nothing_declared ∙ h))
 
-length-map : {X Y : Type 0} (f : X → Y) (xs : List X) → length (map f xs) ≡ length xs
+pub length-map : {X Y : Type 0} (f : X → Y) (xs : List X) → length (map f xs) ≡ length xs
 length-map f [] = refl
 length-map f (x ∷ xs) = omega (arith, length-map f xs)
 
@@ -280,18 +281,18 @@ text_again text l s =
 
 -- ---- a call that answers what is read
 
-pub answer_found : (text : List ℕ) (result : Result Listing ListFault) → Answers result (reading text) → IfOk result (λ l. SpellsListing text l)
+pub answer_found : (text : List ℕ) (result : Result Listing ListFault) → Answers faults.Memory result (reading text) → IfOk result (λ l. SpellsListing text l)
 answer_found text (Ok l) h = text_found text l h
 answer_found text (Err e) h = tt
 
-refused : (e : ListFault) (l : Listing) (read : Result Listing ListFault) → Refuses e read → read ≡ listed l → e ≡ faults.Memory
+refused : (e : ListFault) (l : Listing) (read : Result Listing ListFault) → Fails faults.Memory e read → read ≡ listed l → e ≡ faults.Memory
 refused faults.Memory l read h is = refl
-refused (faults.Line line) l read h is = absurd (none_listed (faults.Line line) l (sym h ∙ is))
-refused (faults.Twice line) l read h is = absurd (none_listed (faults.Twice line) l (sym h ∙ is))
-refused (faults.NoSuper line) l read h is = absurd (none_listed (faults.NoSuper line) l (sym h ∙ is))
-refused (faults.TooMany count) l read h is = absurd (none_listed (faults.TooMany count) l (sym h ∙ is))
+refused (faults.Line line) l read h is = absurd (none_listed (faults.Line line) l (sym (h (λ same. cc)) ∙ is))
+refused (faults.Twice line) l read h is = absurd (none_listed (faults.Twice line) l (sym (h (λ same. cc)) ∙ is))
+refused (faults.NoSuper line) l read h is = absurd (none_listed (faults.NoSuper line) l (sym (h (λ same. cc)) ∙ is))
+refused (faults.TooMany count) l read h is = absurd (none_listed (faults.TooMany count) l (sym (h (λ same. cc)) ∙ is))
 
-pub answer_only : (text : List ℕ) (result : Result Listing ListFault) → Answers result (reading text) → (l : Listing) → SpellsListing text l → MatchResult result (λ r. r ≡ l) (λ e. e ≡ faults.Memory)
+pub answer_only : (text : List ℕ) (result : Result Listing ListFault) → Answers faults.Memory result (reading text) → (l : Listing) → SpellsListing text l → MatchResult result (λ r. r ≡ l) (λ e. e ≡ faults.Memory)
 answer_only text (Ok r) h l s = listed_is r l (sym h ∙ text_again text l s)
 answer_only text (Err e) h l s = refused e l (reading text) h (text_again text l s)
 
@@ -331,6 +332,6 @@ few_spelled text l s =
     } in
     subst IsFew (sym s.listed) few
 
-pub answer_few : (text : List ℕ) (result : Result Listing ListFault) → Answers result (reading text) → IfOk result (λ l. IsFew l)
+pub answer_few : (text : List ℕ) (result : Result Listing ListFault) → Answers faults.Memory result (reading text) → IfOk result (λ l. IsFew l)
 answer_few text (Ok l) h = few_spelled text l (text_found text l h)
 answer_few text (Err e) h = tt

@@ -53,6 +53,11 @@ pub record SpellsDescriptor (text : List ℕ) (m : MethodType) : Type 0 where
   pub arguments : IsTrue (list_all is_type m.arguments)
   pub result : IsTrue (is_result m.result)
 
+-- The text spells this type, and nothing stands behind it.
+pub record SpellsType (text : List ℕ) (t : FieldType) : Type 0 where
+  pub spelled : text ≡ type_spelled t
+  pub named : IsTrue (is_type t)
+
 -- The text spells the type of this class.
 pub record SpellsClass (text name : List ℕ) : Type 0 where
   pub spelled : text ≡ class_spelled name

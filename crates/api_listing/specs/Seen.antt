@@ -8,7 +8,8 @@ use Rattle.mon_base.specs.declared.method.MethodId.{MethodId}
 use Rattle.api_listing.specs.declared.types.Listing.{Listing}
 use Rattle.api_listing.specs.declared.draft.Draft.{Draft}
 use Rattle.api_listing.specs.declared.fault.ListFault.{ListFault}
-use Rattle.api_listing.specs.Fault.{Refuses}
+use Rattle.mon_base.specs.Answer.{Fails}
+use Rattle.api_listing.specs.declared.fault.ListFault.TheVariants as faults
 use Rattle.api_listing.specs.Listing.{is_known, has_method, has_field}
 
 -- whether the set has the name
@@ -33,4 +34,4 @@ pub record Agrees (draft : Draft) : Type 0 where
 -- A call made of the draft what reading gives, unless memory ran out.
 abbrev pub Grows : Result (Unit {0}) ListFault → Result Listing ListFault → Draft → Type 0
 Grows (Ok x) read draft = Agrees draft × (read ≡ Ok draft.listing)
-Grows (Err e) read draft = Refuses e read
+Grows (Err e) read draft = Fails faults.Memory e read

@@ -21,7 +21,7 @@ ghost use Rattle.std.specs.Prelude.{
   option_map,
   option_copied,
 };
-ghost use Rattle.api_listing.specs.Fault.{Reads, ReadsAs};
+ghost use Rattle.mon_base.specs.Answer.{Answers, AnswersAs};
 ghost use Rattle.api_listing.specs.Words.{IsClassName};
 ghost use Rattle.api_listing.specs.Descriptor.{
   until,
@@ -38,8 +38,10 @@ ghost use Rattle.api_listing.specs.Descriptor.{
   class_at,
   after_first,
   SpellsDescriptor,
+  SpellsType,
   SpellsClass,
 };
+ghost use Rattle.api_listing.specs.declared.descriptor.FieldType.{FieldType};
 ghost use Rattle.api_listing.specs.declared.descriptor.MethodType.{MethodType};
 ghost use Rattle.api_listing.specs.declared.fault.FormFault.TheVariants as forms;
 
@@ -77,7 +79,7 @@ pub struct MethodType {
 /// The types that a method's descriptor spells.
 pub fn parse_descriptor(alloc: Global, desc: &[u8]) -> Result<MethodType, FormFault>
     // What is read decides the answer.
-    ensures exact { Reads result (method_type desc.now) }
+    ensures exact { Answers FormFault.Memory result (method_type desc.now) }
     // What is read is spelled so.
     ensures found { IfOk result (λ m. SpellsDescriptor desc.now m) }
     // What is spelled so is read, unless memory runs out.
@@ -89,7 +91,7 @@ pub fn parse_descriptor(alloc: Global, desc: &[u8]) -> Result<MethodType, FormFa
 
 #[tactic(auto, unfolding(crate::specs::Descriptor::method_type))]
 fn method_type(alloc: Global, desc: &[u8]) -> Result<MethodType, FormFault>
-    ensures { Reads result (method_type desc.now) }
+    ensures { Answers FormFault.Memory result (method_type desc.now) }
 {
     match desc {
         [] => Err(FormFault::NoForm),
@@ -99,7 +101,7 @@ fn method_type(alloc: Global, desc: &[u8]) -> Result<MethodType, FormFault>
 
 #[tactic(auto, unfolding(crate::specs::Descriptor::after_first))]
 fn after_first(alloc: Global, first: u8, rest: &[u8]) -> Result<MethodType, FormFault>
-    ensures { Reads result (after_first first rest.now) }
+    ensures { Answers FormFault.Memory result (after_first first rest.now) }
 {
     if first != b'(' {
         return Err(FormFault::NoForm);
@@ -111,7 +113,13 @@ fn after_first(alloc: Global, first: u8, rest: &[u8]) -> Result<MethodType, Form
 
 /// The type that a field's descriptor spells.
 pub fn parse_field_descriptor(alloc: Global, desc: &[u8]) -> Result<FieldType, FormFault>
-    ensures { Reads result (whole_type desc.now) }
+    // What is read decides the answer.
+    ensures exact { Answers FormFault.Memory result (whole_type desc.now) }
+    // What is read is spelled so.
+    ensures found { IfOk result (λ t. SpellsType desc.now t) }
+    // What is spelled so is read, unless memory runs out.
+    ensures only { (t : FieldType) → SpellsType desc.now t
+        → MatchResult result (λ r. r ≡ t) (λ e. e ≡ forms.Memory) }
 {
     whole_type(alloc, desc)
 }
@@ -151,7 +159,7 @@ fn arguments_at<'a>(
     alloc: Global,
     bytes: &'a [u8],
 ) -> Result<(List<FieldType>, &'a [u8]), FormFault>
-    ensures { ReadsAs (λ r. (r.0, r.1.now)) result (arguments_at 256 bytes.now) }
+    ensures { AnswersAs FormFault.Memory (λ r. (r.0, r.1.now)) result (arguments_at 256 bytes.now) }
 {
     let mut arguments = List::new(alloc);
     let mut left = bytes;
@@ -178,7 +186,7 @@ fn is_closed(bytes: &[u8]) -> bool
 
 #[tactic(auto, unfolding(crate::specs::Descriptor::result_of))]
 fn result_of(alloc: Global, bytes: &[u8]) -> Result<Option<FieldType>, FormFault>
-    ensures { Reads result (result_of bytes.now) }
+    ensures { Answers FormFault.Memory result (result_of bytes.now) }
 {
     if bytes == b"V".as_slice() {
         return Ok(None);
@@ -189,7 +197,7 @@ fn result_of(alloc: Global, bytes: &[u8]) -> Result<Option<FieldType>, FormFault
 
 #[tactic(auto, unfolding(crate::specs::Descriptor::whole_type))]
 fn whole_type(alloc: Global, bytes: &[u8]) -> Result<FieldType, FormFault>
-    ensures { Reads result (whole_type bytes.now) }
+    ensures { Answers FormFault.Memory result (whole_type bytes.now) }
 {
     let (found, behind) = type_at(alloc, bytes)?;
     if !behind.is_empty() {
@@ -200,7 +208,7 @@ fn whole_type(alloc: Global, bytes: &[u8]) -> Result<FieldType, FormFault>
 
 /// A type, and what stands behind it.
 fn type_at<'a>(alloc: Global, bytes: &'a [u8]) -> Result<(FieldType, &'a [u8]), FormFault>
-    ensures { ReadsAs (λ r. (r.0, r.1.now)) result (type_at bytes.now) }
+    ensures { AnswersAs FormFault.Memory (λ r. (r.0, r.1.now)) result (type_at bytes.now) }
 {
     let mut dimensions: usize = 0;
     let mut left = bytes;
@@ -228,7 +236,7 @@ fn element_at<'a>(
     first: u8,
     rest: &'a [u8],
 ) -> Result<(Element, &'a [u8]), FormFault>
-    ensures { ReadsAs (λ r. (r.0, r.1.now)) result (element_at first rest.now) }
+    ensures { AnswersAs FormFault.Memory (λ r. (r.0, r.1.now)) result (element_at first rest.now) }
 {
     match first {
         b'Z' => Ok((Element::Boolean, rest)),
@@ -243,7 +251,7 @@ fn element_at<'a>(
 
 #[tactic(auto, unfolding(crate::specs::Descriptor::class_at))]
 fn class_at<'a>(alloc: Global, bytes: &'a [u8]) -> Result<(Element, &'a [u8]), FormFault>
-    ensures { ReadsAs (λ r. (r.0, r.1.now)) result (class_at bytes.now) }
+    ensures { AnswersAs FormFault.Memory (λ r. (r.0, r.1.now)) result (class_at bytes.now) }
 {
     match name_at(bytes) {
         Some((name, behind)) => Ok((Element::Class(Bytes::from_slice(alloc, name)?), behind)),

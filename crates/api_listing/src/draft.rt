@@ -3,7 +3,7 @@
 ghost use Rattle.std.specs.Prelude.{◌≡◌, ◌≤◌, ℕ, List, IfOk, OnOk, length};
 ghost use Rattle.std.specs.List.{list_all};
 ghost use Rattle.api_listing.specs.Seen.{has_name, has_id, Agrees, Grows};
-ghost use Rattle.api_listing.specs.Fault.{Answers};
+ghost use Rattle.mon_base.specs.Answer.{Answers};
 ghost use Rattle.api_listing.specs.Listing.{
   stands_already,
   names_known,
@@ -49,7 +49,7 @@ pub fn listing_of(
     lines: &[Said],
 ) -> Result<Listing, ListFault>
     requires { length lines.now ≤ 20000 }
-    ensures { Answers result (after_lines (has_name known.now) 1 built_in_listing lines.now) }
+    ensures { Answers ListFault.Memory result (after_lines (has_name known.now) 1 built_in_listing lines.now) }
 {
     let mut draft = built_in(alloc)?;
     let mut number: u64 = 1;

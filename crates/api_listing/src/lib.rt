@@ -11,6 +11,7 @@ mod descriptor;
 mod draft;
 mod events;
 mod fault;
+mod laws;
 mod lines;
 mod lookup;
 mod reading;
@@ -25,6 +26,7 @@ pub use descriptor::{
 };
 pub use events::{ApiAnswer, ApiCall, ApiValue, Event};
 pub use fault::{FormFault, ListFault};
+pub use laws::faults_stay;
 pub use lookup::{find_class, index_of, is_known_class, resolve};
 pub use reading::read;
 pub use types::{ListedClass, ListedMethod, Listing};

@@ -1,7 +1,7 @@
 //! The lines of a listing, each by itself.
 
 ghost use Rattle.std.specs.Prelude.{◌≡◌, ◌++◌, map, IfOk};
-ghost use Rattle.api_listing.specs.Fault.{Reads};
+ghost use Rattle.mon_base.specs.Answer.{Answers};
 ghost use Rattle.api_listing.specs.Words.{pieces};
 ghost use Rattle.api_listing.specs.Lines.{
   says_something,
@@ -112,7 +112,7 @@ fn says_something(line: &[u8]) -> bool
 /// What the words of a line declare.
 #[tactic(auto, unfolding(crate::specs::Lines::form_of))]
 fn form_of(alloc: Global, words: &[Bytes]) -> Result<Declaration, FormFault>
-    ensures { Reads result (form_of words.now) }
+    ensures { Answers FormFault.Memory result (form_of words.now) }
 {
     match words {
         [verb, name] => two_words(alloc, verb.as_slice(), name.as_slice()),
@@ -138,7 +138,7 @@ fn form_of(alloc: Global, words: &[Bytes]) -> Result<Declaration, FormFault>
 
 #[tactic(auto, unfolding(crate::specs::Lines::two_words))]
 fn two_words(alloc: Global, verb: &[u8], name: &[u8]) -> Result<Declaration, FormFault>
-    ensures { Reads result (two_words verb.now name.now) }
+    ensures { Answers FormFault.Memory result (two_words verb.now name.now) }
 {
     if is_text(verb, "interface") && class_name(name) {
         Ok(Declaration::Class(interface_named(alloc, name)?))
@@ -166,7 +166,7 @@ fn four_words(
     third: &[u8],
     last: &[u8],
 ) -> Result<Declaration, FormFault>
-    ensures { Reads result (four_words verb.now class.now third.now last.now) }
+    ensures { Answers FormFault.Memory result (four_words verb.now class.now third.now last.now) }
 {
     if is_text(verb, "class") && is_text(third, "extends") {
         class_line(alloc, class, last, List::new(alloc))
@@ -191,7 +191,7 @@ fn six_words(
     implements: &[u8],
     interfaces: &[u8],
 ) -> Result<Declaration, FormFault>
-    ensures { Reads result (six_words verb.now class.now extends.now parent.now implements.now interfaces.now) }
+    ensures { Answers FormFault.Memory result (six_words verb.now class.now extends.now parent.now implements.now interfaces.now) }
 {
     if is_text(verb, "class") && is_text(extends, "extends") && is_text(implements, "implements") {
         let above = pieces(alloc, interfaces, b',')?;
@@ -208,7 +208,7 @@ fn class_line(
     parent: &[u8],
     interfaces: List<Bytes>,
 ) -> Result<Declaration, FormFault>
-    ensures { Reads result (class_line name.now parent.now interfaces) }
+    ensures { Answers FormFault.Memory result (class_line name.now parent.now interfaces) }
 {
     if !class_name(name) || !class_name(parent) || !are_class_names(interfaces.as_slice()) {
         return Err(FormFault::NoForm);
@@ -240,7 +240,7 @@ fn method_line(
     name: &[u8],
     desc: &[u8],
 ) -> Result<Declaration, FormFault>
-    ensures { Reads result (method_line is_static class.now name.now desc.now) }
+    ensures { Answers FormFault.Memory result (method_line is_static class.now name.now desc.now) }
 {
     if !class_name(class) || name.is_empty() {
         return Err(FormFault::NoForm);
@@ -260,7 +260,7 @@ fn field_line(
     name: &[u8],
     desc: &[u8],
 ) -> Result<Declaration, FormFault>
-    ensures { Reads result (field_line class.now name.now desc.now) }
+    ensures { Answers FormFault.Memory result (field_line class.now name.now desc.now) }
 {
     if !class_name(class) || name.is_empty() {
         return Err(FormFault::NoForm);
@@ -271,7 +271,7 @@ fn field_line(
 }
 
 fn class_of(alloc: Global, desc: &[u8]) -> Result<Bytes, FormFault>
-    ensures { Reads result (class_of desc.now) }
+    ensures { Answers FormFault.Memory result (class_of desc.now) }
 {
     match parse_class_descriptor(desc) {
         Some(class) => Ok(Bytes::from_slice(alloc, class)?),

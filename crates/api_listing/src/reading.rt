@@ -3,7 +3,7 @@
 ghost use Rattle.std.specs.Prelude.{◌≡◌, ◌||◌, ℕ, List, IfOk, OnOk, MatchResult};
 ghost use Rattle.api_listing.specs.declared.fault.ListFault.TheVariants as faults;
 ghost use Rattle.api_listing.specs.declared.types.Listing.{Listing};
-ghost use Rattle.api_listing.specs.Fault.{Answers};
+ghost use Rattle.mon_base.specs.Answer.{Answers};
 ghost use Rattle.api_listing.specs.Seen.{has_name};
 ghost use Rattle.api_listing.specs.Listing.{
   is_known,
@@ -28,7 +28,7 @@ use std::collections::BTreeSet;
 /// The listing that the text spells, or what is wrong with its first line that is wrong.
 pub fn read(alloc: Global, text: &[u8]) -> Result<Listing, ListFault>
     // What is read decides the answer, and of several faults which one.
-    ensures exact { Answers result (reading text.now) }
+    ensures exact { Answers ListFault.Memory result (reading text.now) }
     // What is read is spelled so.
     ensures found { IfOk result (λ l. SpellsListing text.now l) }
     // What is spelled so is read, unless memory runs out.
@@ -42,7 +42,7 @@ pub fn read(alloc: Global, text: &[u8]) -> Result<Listing, ListFault>
 
 #[tactic(auto, unfolding(crate::specs::Listing::reading))]
 fn read_text(alloc: Global, text: &[u8]) -> Result<Listing, ListFault>
-    ensures { Answers result (reading text.now) }
+    ensures { Answers ListFault.Memory result (reading text.now) }
 {
     let lines = said_lines(alloc, text)?;
     if lines.len() > 20_000 {

@@ -6,13 +6,15 @@ use Rattle.std.proofs.lemmas.Bool.Decides.{nat_tests}
 use Rattle.std.proofs.lemmas.List.{length-append}
 use Rattle.insn_codec.specs.declared.opcode.Operands.TheVariants as ops
 use Rattle.insn_codec.specs.Opcodes.{opcode_at, operands_of}
-use Rattle.insn_codec.specs.Fits.{IsU1, FitsSlot}
+use Rattle.mon_base.specs.Widths.{IsU1}
+use Rattle.insn_codec.specs.Fits.{FitsSlot}
 use Rattle.conspec_parse.specs.declared.types.Kind.{Kind}
 use Rattle.conspec_parse.specs.declared.types.Kind.TheVariants as kinds
 use Rattle.offset_patch.specs.declared.block.BlockInsn.{BlockInsn}
 use Rattle.offset_patch.specs.declared.block.BlockInsn.TheVariants.{Plain, Local, Call}
-use Rattle.offset_patch.specs.Fits.{IsBlockInsn, IsBlock, IsSite}
+use Rattle.offset_patch.specs.Fits.{IsBlockInsn, JumpsWithin, calls_in, IsBlock, IsSite}
 use Rattle.offset_patch.proofs.Lists.{all_append}
+use Rattle.offset_patch.proofs.Sizing.{StaysIn}
 use Rattle.std.specs.Option.{option_map_or}
 use Rattle.bytecode_model.specs.declared.program.Target.{Target}
 use Rattle.bytecode_model.specs.declared.program.Target.TheVariants as target
@@ -104,11 +106,81 @@ behind_fits base kinds few =
       ),
     )
 
+-- ---- how many instructions there are, and which of them is the client's
+
+-- neither a load nor a store is the client's instruction, and none jumps
+record IsOwn (insn : BlockInsn) : Type 0 where
+  once : (insns : List BlockInsn) → calls_in (insn ∷ insns) ≡ calls_in insns
+  stays : (count : ℕ) → JumpsWithin count insn
+
+local_own : (short op slot : ℕ) → IsOwn (local short op slot)
+local_own short op slot = by (nat_lt slot 4)
+  where
+    by : (b : Bool) → IsOwn (if b then Plain (short + slot) else Local op slot (nat_le 256 slot))
+    by true = record { once = λ insns. refl; stays = λ count. tt }
+    by false = record { once = λ insns. refl; stays = λ count. tt }
+
+store_own : (kind : Kind) (slot : ℕ) → IsOwn (store kind slot)
+store_own kinds.Object slot = local_own 0x4B 0x3A slot
+store_own kind slot = local_own 0x3B 0x36 slot
+
+load_own : (kind : Kind) (slot : ℕ) → IsOwn (load kind slot)
+load_own kinds.Object slot = local_own 0x2A 0x19 slot
+load_own kind slot = local_own 0x1A 0x15 slot
+
+save_own : (base : ℕ) (kinds : List Kind) → AllByRecursion IsOwn (save base kinds)
+save_own base [] = tt
+save_own base (kind ∷ kinds) = all_append IsOwn (save (base + 1) kinds) (store kind base ∷ []) (save_own (base + 1) kinds) (store_own kind base, tt)
+
+loads_own : (base : ℕ) (kinds : List Kind) → AllByRecursion IsOwn (loads base kinds)
+loads_own base [] = tt
+loads_own base (kind ∷ kinds) = (load_own kind base, loads_own (base + 1) kinds)
+
+own_once : (own others : List BlockInsn) → AllByRecursion IsOwn own → calls_in (own ++ others) ≡ calls_in others
+own_once [] others h = refl
+own_once (x ∷ own) others h = h.0.once (own ++ others) ∙ own_once own others h.1
+
+own_stays : (count : ℕ) (own : List BlockInsn) → AllByRecursion IsOwn own → AllByRecursion (JumpsWithin count) own
+own_stays count [] h = tt
+own_stays count (x ∷ own) h = (h.0.stays count, own_stays count own h.1)
+
+save_count : (base : ℕ) (kinds : List Kind) → length (save base kinds) ≡ length kinds
+save_count base [] = refl
+save_count base (kind ∷ kinds) = omega (arith, length-append (save (base + 1) kinds) (store kind base ∷ []), save_count (base + 1) kinds)
+
+loads_count : (base : ℕ) (kinds : List Kind) → length (loads base kinds) ≡ length kinds
+loads_count base [] = refl
+loads_count base (kind ∷ kinds) = omega (arith, loads_count (base + 1) kinds)
+
+behind_once : (base : ℕ) (kinds : List Kind) → calls_in (behind base kinds) ≡ 1
+behind_once base kinds = own_once (loads base kinds) (Call ∷ []) (loads_own base kinds)
+
+behind_stays : (count base : ℕ) (kinds : List Kind) → AllByRecursion (JumpsWithin count) (behind base kinds)
+behind_stays count base kinds =
+    let last = all_append (JumpsWithin count) (loads base kinds) (Call ∷ []) (own_stays count (loads base kinds) (loads_own base kinds)) (tt, tt) in
+    (tt, (tt, (tt, (tt, (tt, (tt, (tt, (tt, last))))))))
+
+-- no jump leaves the block
+denial_stays : (base : ℕ) (kinds : List Kind) → AllByRecursion (JumpsWithin (length (denial base kinds).insns)) (denial base kinds).insns
+denial_stays base kinds =
+    let count = length (denial base kinds).insns in
+    all_append (JumpsWithin count) (save base kinds) (behind base kinds) (own_stays count (save base kinds) (save_own base kinds)) (behind_stays count base kinds)
+
 pub denial_fits : (base : ℕ) (kinds : List Kind) → base + length kinds < 2 ^ 16 → IsBlock (denial base kinds)
-denial_fits base kinds few = record {
-  some = omega (arith, length-append (save base kinds) (behind base kinds));
-  each = all_append IsBlockInsn (save base kinds) (behind base kinds) (save_fits base kinds few) (behind_fits base kinds few);
-}
+denial_fits base kinds few =
+    record {
+      some = omega (arith, length-append (save base kinds) (behind base kinds));
+      few = omega (
+        arith,
+        length-append (save base kinds) (behind base kinds),
+        save_count base kinds,
+        length-append (loads base kinds) (Call ∷ []),
+        loads_count base kinds,
+      );
+      once = own_once (save base kinds) (behind base kinds) (save_own base kinds) ∙ behind_once base kinds;
+      each = all_append IsBlockInsn (save base kinds) (behind base kinds) (save_fits base kinds few) (behind_fits base kinds few);
+      jumps = denial_stays base kinds;
+    }
 
 -- something is found exactly where one passes
 pub found_any : {X : Type 0} (p : X → Bool) (xs : List X) → list_any p xs ≡ is_some (find p xs)
@@ -146,3 +218,21 @@ site_fits policy base (target.ApiField index) few = tt
 site_fits policy base (target.ClassName name) few = tt
 site_fits policy base (target.Number n) few = tt
 site_fits policy base (target.Literal index) few = tt
+
+block_stays : (policy : Policy) (method base : ℕ) → StaysIn (block policy method base)
+block_stays policy method base = by (clause_of policy method)
+  where
+    by : (o : Option Clause) → StaysIn (option_map (λ (c : Clause). denial base c.args) o)
+    by None = tt
+    by (Some clause) = denial_stays base clause.args
+
+pub site_stays : (policy : Policy) (base : ℕ) (ref : Target) → StaysIn (site policy base ref)
+site_stays policy base (target.ApiMethod method) = block_stays policy method base
+site_stays policy base target.None = tt
+site_stays policy base (target.Builtin index) = tt
+site_stays policy base (target.Method class method) = tt
+site_stays policy base (target.Field class field) = tt
+site_stays policy base (target.ApiField index) = tt
+site_stays policy base (target.ClassName name) = tt
+site_stays policy base (target.Number n) = tt
+site_stays policy base (target.Literal index) = tt

@@ -1,3 +1,4 @@
 pub mod Saves
 pub mod BlockFits
 pub mod StateFits
+pub mod FirstCode

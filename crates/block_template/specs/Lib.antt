@@ -1,2 +1,4 @@
 pub mod Blocks
 pub mod State
+pub mod Woven
+pub mod Outcome

@@ -6,7 +6,9 @@
 mod blocks;
 mod clauses;
 mod state;
+mod woven;
 
 pub use blocks::denial;
 pub use clauses::{block, has_block, locals_used, site, site_locals};
 pub use state::state_class;
+pub use woven::{Members, Woven, WovenCode};

@@ -10,10 +10,12 @@ use Rattle.api_listing.specs.Nearest.{class_named}
 use Rattle.bytecode_model.specs.declared.class_conditions.TheConstants.{THROWABLES}
 use Rattle.bytecode_model.specs.declared.fault.LinkFault.{LinkFault}
 use Rattle.bytecode_model.specs.declared.program.Side.{Side}
-use Rattle.bytecode_model.specs.Fault.{Linked, Fails}
+use Rattle.mon_base.specs.Answer.{Fails}
+use Rattle.bytecode_model.specs.Fault.{Linked}
 use Rattle.bytecode_model.specs.Heads.{head_of}
 use Rattle.bytecode_model.specs.Conditions.{class_linked, classes_linked, stays_within}
-use Rattle.bytecode_model.proofs.Loop.{through}
+use Rattle.mon_base.proofs.Answering.{through}
+use Rattle.bytecode_model.specs.declared.fault.LinkFault.TheVariants as faults
 
 pub class_goes_on : (side : Side) (heads taken : List ListedClass) (all rest : List ClassFile) (file : ClassFile) (total : Linked (Unit {0})) (b : Bool) → all ≡ file ∷ rest
     → is_known taken (head_of file).name ≡ b → class_linked side heads b (head_of file) file ≡ Ok tt → classes_linked side heads taken all ≡ total
@@ -23,10 +25,10 @@ class_goes_on side heads taken all rest file total b split known ok so_far =
     ap next (sym ok) ∙ ap (λ (x : Bool). next (class_linked side heads x (head_of file) file)) (sym known) ∙ ap (classes_linked side heads taken) (sym split) ∙ so_far
 
 pub class_ends : (e : LinkFault) (side : Side) (heads taken : List ListedClass) (all rest : List ClassFile) (file : ClassFile) (total : Linked (Unit {0})) (b : Bool) → all ≡ file ∷ rest
-    → is_known taken (head_of file).name ≡ b → Fails e (class_linked side heads b (head_of file) file) → classes_linked side heads taken all ≡ total → Fails e total
+    → is_known taken (head_of file).name ≡ b → Fails faults.Memory e (class_linked side heads b (head_of file) file) → classes_linked side heads taken all ≡ total → Fails faults.Memory e total
 class_ends e side heads taken all rest file total b split known fails so_far =
     let next : Linked (Unit {0}) → Linked (Unit {0}) = λ r. r >>= λ _. classes_linked side heads (head_of file ∷ taken) rest in
-    through e (class_linked side heads b (head_of file) file) total
+    through faults.Memory e (class_linked side heads b (head_of file) file) total
     (λ err. sym so_far ∙ ap (classes_linked side heads taken) split ∙ ap (λ (x : Bool). next (class_linked side heads x (head_of file) file)) known ∙ ap next err) fails
 
 pub class_done : (side : Side) (heads taken : List ListedClass) (all : List ClassFile) (total : Linked (Unit {0})) → all ≡ [] → classes_linked side heads taken all ≡ total → total ≡ Ok tt

@@ -13,3 +13,6 @@ pub mod Sound
 pub mod Starting
 pub mod Telling
 pub mod Whole
+mod LinkedMembers
+mod LinkedOperands
+mod LinkedCalls

@@ -9,63 +9,34 @@ use Rattle.class_codec.specs.Fits.{FitsAttr}
 use Rattle.insn_codec.specs.declared.fault.CodeFault.{CodeFault}
 use Rattle.insn_codec.specs.declared.fault.CodeFault.TheVariants as codes
 use Rattle.insn_codec.specs.declared.insn.Insn.{Insn}
-use Rattle.insn_codec.specs.Reading as reading
 use Rattle.insn_codec.specs.Spelling.{size, len_from}
 use Rattle.insn_codec.proofs.Standing.{size-some}
 use Rattle.bytecode_model.specs.declared.fault.LinkFault.{LinkFault}
 use Rattle.bytecode_model.specs.declared.fault.LinkFault.TheVariants as faults
 use Rattle.bytecode_model.specs.declared.operand.OperandFault.{OperandFault}
 use Rattle.bytecode_model.specs.declared.operand.OperandFault.TheVariants as operand
-use Rattle.bytecode_model.specs.Fault.{Linked, Fails, Lacks, Tells}
+use Rattle.mon_base.specs.Answer.{Fails, Tells}
+use Rattle.mon_base.proofs.Answering.{tells, tells_memory}
+use Rattle.bytecode_model.specs.Fault.{Linked}
 use Rattle.bytecode_model.specs.Conditions.{code_in}
 use Rattle.bytecode_model.specs.Operands as operands
 use Rattle.bytecode_model.specs.Linking.{code_told, read_of}
 
--- what is told is the fault
-pub tells : {X : Type 0} (told fault : LinkFault) (linked : Linked X) → Tells told fault → linked ≡ Err fault → Fails told linked
-tells faults.NoMain fault linked h e = e ∙ ap Err (sym h)
-tells (faults.Twice class) fault linked h e = e ∙ ap Err (sym h)
-tells (faults.Unresolved class name) fault linked h e = e ∙ ap Err (sym h)
-tells (faults.SuperLeftOut class) fault linked h e = e ∙ ap Err (sym h)
-tells (faults.NameTaken class) fault linked h e = e ∙ ap Err (sym h)
-tells (faults.Method class name) fault linked h e = e ∙ ap Err (sym h)
-tells (faults.TooMany count) fault linked h e = e ∙ ap Err (sym h)
-tells (faults.Code class method fault2) fault linked h e = e ∙ ap Err (sym h)
-tells (faults.Overrides class name) fault linked h e = e ∙ ap Err (sym h)
-tells (faults.Name class) fault linked h e = e ∙ ap Err (sym h)
-tells (faults.Operand class method at) fault linked h e = e ∙ ap Err (sym h)
-tells faults.Memory fault linked h e = tt
-
--- want of memory is told as such
-pub tells_memory : {X : Type 0} (told : LinkFault) (linked : Linked X) → Tells told faults.Memory → Fails told linked
-tells_memory faults.NoMain linked h = absurd cc
-tells_memory (faults.Twice class) linked h = absurd cc
-tells_memory (faults.Unresolved class name) linked h = absurd cc
-tells_memory (faults.SuperLeftOut class) linked h = absurd cc
-tells_memory (faults.NameTaken class) linked h = absurd cc
-tells_memory (faults.Method class name) linked h = absurd cc
-tells_memory (faults.TooMany count) linked h = absurd cc
-tells_memory (faults.Code class method fault) linked h = absurd cc
-tells_memory (faults.Overrides class name) linked h = absurd cc
-tells_memory (faults.Name class) linked h = absurd cc
-tells_memory (faults.Operand class method at) linked h = absurd cc
-tells_memory faults.Memory linked h = tt
-
 pub operand_told : {X : Type 0} (told : LinkFault) (class : List ℕ) (method at : ℕ) (fault : OperandFault) (linked : Result X OperandFault)
-    → Tells told (operands.told class method at fault) → Lacks fault linked → Fails told (operands.told_at class method at linked)
-operand_told told class method at operand.Wrong linked h e = tells told _ (operands.told_at class method at linked) h (ap (operands.told_at class method at) e)
-operand_told told class method at (operand.Missing name) linked h e = tells told _ (operands.told_at class method at linked) h (ap (operands.told_at class method at) e)
-operand_told told class method at operand.Memory linked h e = tells_memory told (operands.told_at class method at linked) h
+    → Tells faults.Memory told (operands.told class method at fault) → Fails operand.Memory fault linked → Fails faults.Memory told (operands.told_at class method at linked)
+operand_told told class method at operand.Wrong linked h e = tells faults.Memory told _ (operands.told_at class method at linked) h (ap (operands.told_at class method at) (e (λ same. cc)))
+operand_told told class method at (operand.Missing name) linked h e = tells faults.Memory told _ (operands.told_at class method at linked) h (ap (operands.told_at class method at) (e (λ same. cc)))
+operand_told told class method at operand.Memory linked h e = tells_memory faults.Memory told (operands.told_at class method at linked) h
 
 pub code_is_told : (told : LinkFault) (class : List ℕ) (method : ℕ) (fault : CodeFault) (read : Result (List Insn) CodeFault)
-    → Tells told (code_told class method fault) → reading.Fails fault read → Fails told (read_of class method read)
-code_is_told told class method (codes.Opcode at op) read h e = tells told _ (read_of class method read) h (ap (read_of class method) e)
-code_is_told told class method (codes.Cut at) read h e = tells told _ (read_of class method read) h (ap (read_of class method) e)
-code_is_told told class method (codes.Target at) read h e = tells told _ (read_of class method read) h (ap (read_of class method) e)
-code_is_told told class method (codes.LeftOut at op) read h e = tells told _ (read_of class method read) h (ap (read_of class method) e)
-code_is_told told class method (codes.Form at) read h e = tells told _ (read_of class method read) h (ap (read_of class method) e)
-code_is_told told class method (codes.End at) read h e = tells told _ (read_of class method read) h (ap (read_of class method) e)
-code_is_told told class method codes.Memory read h e = tells_memory told (read_of class method read) h
+    → Tells faults.Memory told (code_told class method fault) → Fails codes.Memory fault read → Fails faults.Memory told (read_of class method read)
+code_is_told told class method (codes.Opcode at op) read h e = tells faults.Memory told _ (read_of class method read) h (ap (read_of class method) (e (λ same. cc)))
+code_is_told told class method (codes.Cut at) read h e = tells faults.Memory told _ (read_of class method read) h (ap (read_of class method) (e (λ same. cc)))
+code_is_told told class method (codes.Target at) read h e = tells faults.Memory told _ (read_of class method read) h (ap (read_of class method) (e (λ same. cc)))
+code_is_told told class method (codes.LeftOut at op) read h e = tells faults.Memory told _ (read_of class method read) h (ap (read_of class method) (e (λ same. cc)))
+code_is_told told class method (codes.Form at) read h e = tells faults.Memory told _ (read_of class method read) h (ap (read_of class method) (e (λ same. cc)))
+code_is_told told class method (codes.End at) read h e = tells faults.Memory told _ (read_of class method read) h (ap (read_of class method) (e (λ same. cc)))
+code_is_told told class method codes.Memory read h e = tells_memory faults.Memory told (read_of class method read) h
 
 -- Each instruction has a byte or more.
 pub count_len : (at : ℕ) (insns : List Insn) → length insns ≤ len_from at insns

@@ -11,12 +11,14 @@ use Rattle.bytecode_model.specs.declared.program.LinkedClass.{LinkedClass}
 use Rattle.bytecode_model.specs.declared.program.Method.{Method}
 use Rattle.bytecode_model.specs.declared.program.Program.{Program}
 use Rattle.bytecode_model.specs.declared.program.Side.{Side}
-use Rattle.bytecode_model.specs.Fault.{Linked, Fails, linked_from}
+use Rattle.mon_base.specs.Answer.{Fails}
+use Rattle.bytecode_model.specs.Fault.{Linked, linked_from}
 use Rattle.bytecode_model.specs.Heads.{heads_of}
 use Rattle.bytecode_model.specs.Conditions.{classes_linked}
 use Rattle.bytecode_model.specs.Operands.{literals_of}
 use Rattle.bytecode_model.specs.Linking.{members_of, main_of, each_linked, classes_with, linked, max_files}
-use Rattle.bytecode_model.proofs.Loop.{through, same_length}
+use Rattle.mon_base.proofs.Answering.{through}
+use Rattle.bytecode_model.proofs.Loop.{same_length}
 
 abbrev Members : Type 0
 Members = List (List Method) × List (List ℕ)
@@ -34,17 +36,17 @@ module _ (files : List ClassFile) (listing : Listing) (main : List ℕ) (side : 
   few_step : linked files listing main side ≡ (classes_linked side (heads_of files) listing.classes files >>= λ sound. rest files listing main)
   few_step = ap (λ (b : Bool). need (not b) (faults.TooMany (length files)) >>= λ small. classes_linked side (heads_of files) listing.classes files >>= λ sound. rest files listing main) few
 
-  pub ends_classes : (e : LinkFault) → Fails e (classes_linked side (heads_of files) listing.classes files) → Fails e (linked files listing main side)
+  pub ends_classes : (e : LinkFault) → Fails faults.Memory e (classes_linked side (heads_of files) listing.classes files) → Fails faults.Memory e (linked files listing main side)
   ends_classes e fails =
-      through e (classes_linked side (heads_of files) listing.classes files) (linked files listing main side)
+      through faults.Memory e (classes_linked side (heads_of files) listing.classes files) (linked files listing main side)
       (λ err. few_step ∙ ap (λ (r : Linked (Unit {0})). r >>= λ sound. rest files listing main) err) fails
 
   sound_step : classes_linked side (heads_of files) listing.classes files ≡ Ok tt → linked files listing main side ≡ rest files listing main
   sound_step ok = few_step ∙ ap (λ (r : Linked (Unit {0})). r >>= λ sound. rest files listing main) ok
 
-  pub ends_members : (e : LinkFault) → classes_linked side (heads_of files) listing.classes files ≡ Ok tt → Fails e (members_of files listing) → Fails e (linked files listing main side)
+  pub ends_members : (e : LinkFault) → classes_linked side (heads_of files) listing.classes files ≡ Ok tt → Fails faults.Memory e (members_of files listing) → Fails faults.Memory e (linked files listing main side)
   ends_members e ok fails =
-      through e (members_of files listing) (linked files listing main side)
+      through faults.Memory e (members_of files listing) (linked files listing main side)
       (λ err. sound_step ok ∙ ap (λ (r : Linked Members). r >>= λ members. ending files listing main members) err) fails
 
   pub is_ending : (members : Members) → classes_linked side (heads_of files) listing.classes files ≡ Ok tt → members_of files listing ≡ Ok members → linked files listing main side ≡ ending files listing main members

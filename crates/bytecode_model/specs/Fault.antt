@@ -31,26 +31,3 @@ linked_from one at (x ∷ xs) = do
   first ← one at x
   others ← linked_from one (at + 1) xs
   Ok (first ∷ others)
-
-abbrev pub Fails : {X : Type 0} → LinkFault → Linked X → Type 0
-Fails faults.Memory linked = Unit {0}
-Fails fault linked = linked ≡ Err fault
-
--- A call answered what linking gives, unless memory ran out.
-abbrev pub Answers : {X : Type 0} → Linked X → Linked X → Type 0
-Answers (Ok x) linked = linked ≡ Ok x
-Answers (Err fault) linked = Fails fault linked
-
--- A fault was told, unless memory ran out.
-abbrev pub Tells : LinkFault → LinkFault → Type 0
-Tells faults.Memory fault = Unit {0}
-Tells told fault = told ≡ fault
-
--- the same of an operand
-abbrev pub Lacks : {X : Type 0} → OperandFault → Result X OperandFault → Type 0
-Lacks operand.Memory linked = Unit {0}
-Lacks fault linked = linked ≡ Err fault
-
-abbrev pub Names : {X : Type 0} → Result X OperandFault → Result X OperandFault → Type 0
-Names (Ok x) linked = linked ≡ Ok x
-Names (Err fault) linked = Lacks fault linked

@@ -1,6 +1,9 @@
 pub mod Fault
 pub mod Heads
 pub mod Classes
+pub mod Arrays
+pub mod Assigning
+pub mod Described
 pub mod SearchOrder
 pub mod Members
 pub mod Conditions
@@ -9,3 +12,10 @@ pub mod Handlers
 pub mod Linking
 pub mod Index
 pub mod Sound
+pub mod Place
+pub mod Makes
+pub mod Wants
+pub mod Rules
+pub mod Shape
+pub mod Typed
+pub mod Named

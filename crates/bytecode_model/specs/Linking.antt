@@ -125,15 +125,19 @@ members_of files listing = each_linked files listing files >>= λ methods. Ok (m
 abbrev pub max_files : ℕ
 max_files = 1000
 
--- What the files link to. The conditions are tried in this order: the number of files; those of each class; those of
--- each method, of each of its instructions and of each of its handlers; and the main class.
-abbrev pub linked : List ClassFile → Listing → List ℕ → Side → Linked Program
-linked files listing main side = do
-  few ← need (not (nat_lt max_files (length files))) (faults.TooMany (length files))
+-- What files, however many, link to. The conditions are tried in this order: those of each class; those of each method,
+-- of each of its instructions and of each of its handlers; and the main class.
+abbrev pub assembled : List ClassFile → Listing → List ℕ → Side → Linked Program
+assembled files listing main side = do
   sound ← classes_linked side (heads_of files) listing.classes files
   members ← members_of files listing
   begin ← ok_or (main_of files main) faults.NoMain
   Ok (record { classes = classes_with files members.0; listing = listing; literals = members.1; main_class = begin.0; main_method = begin.1 })
+
+-- What the files link to, of which there may be so many.
+abbrev pub linked : List ClassFile → Listing → List ℕ → Side → Linked Program
+linked files listing main side =
+    need (not (nat_lt max_files (length files))) (faults.TooMany (length files)) >>= λ few. assembled files listing main side
 
 -- the class files of a program
 abbrev pub unlinked : Program → List ClassFile

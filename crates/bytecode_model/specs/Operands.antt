@@ -31,6 +31,7 @@ use Rattle.bytecode_model.specs.Heads.{all_classes, text_at, class_at}
 use Rattle.bytecode_model.specs.SearchOrder.{Name, with_name}
 use Rattle.bytecode_model.specs.declared.declared.Found.{Found}
 use Rattle.bytecode_model.specs.Members.{method_of, field_of}
+use Rattle.bytecode_model.specs.Arrays.{is_array}
 
 -- ---- how instructions use constants
 
@@ -78,10 +79,6 @@ abbrev pub place_of : List Name → Name → ℕ
 place_of names name = option_map_or (λ (i : ℕ). i) (position_from (λ other. bytes_eq other name) 0 names) 0
 
 -- ---- classes
-
-abbrev pub is_array : List ℕ → Bool
-is_array [] = false
-is_array (b ∷ text) = b == 91
 
 abbrev pub element_is_known : (Name → Bool) → Element → Bool
 element_is_known known (elements.Class name) = known name

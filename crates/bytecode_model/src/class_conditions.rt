@@ -8,7 +8,7 @@ ghost use Rattle.api_listing.specs.Listing.{is_known};
 ghost use Rattle.api_listing.specs.Words.{is_class_name};
 ghost use Rattle.api_listing.specs.BuiltIn.{throwables};
 ghost use Rattle.bytecode_model.specs.SearchOrder.{is_one_of};
-ghost use Rattle.bytecode_model.specs.Fault.{Answers};
+ghost use Rattle.mon_base.specs.Answer.{Answers};
 ghost use Rattle.bytecode_model.specs.Heads.{is_static};
 ghost use Rattle.bytecode_model.specs.Conditions.{
   holds,
@@ -63,7 +63,7 @@ pub fn classes_linked(
     files: &[ClassFile],
 ) -> Result<(), LinkFault>
     requires { length heads.now ≤ 1000 }
-    ensures { Answers result (classes_linked side heads.now listed.now files.now) }
+    ensures { Answers LinkFault.Memory result (classes_linked side heads.now listed.now files.now) }
 {
     let mut taken = names_of(alloc, listed)?;
     let mut left = files;
@@ -97,7 +97,7 @@ fn class_linked(
     head: &ListedClass,
 ) -> Result<(), LinkFault>
     requires { length heads.now ≤ 1000 }
-    ensures { Answers result (class_linked side heads.now is_taken head.now file.now) }
+    ensures { Answers LinkFault.Memory result (class_linked side heads.now is_taken head.now file.now) }
 {
     if !is_class_name(head.name.as_slice()) {
         return Err(LinkFault::Name {

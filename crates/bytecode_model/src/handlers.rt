@@ -4,7 +4,7 @@ ghost use Rattle.std.specs.Prelude.{◌≡◌, ◌<◌, ◌^◌, ◌+◌, ℕ, I
 ghost use Rattle.std.specs.Option.{option_or};
 ghost use Rattle.insn_codec.specs.Spelling.{len_from, starts_of};
 ghost use Rattle.bytecode_model.specs.declared.fault.LinkFault.TheVariants.{Operand};
-ghost use Rattle.bytecode_model.specs.Fault.{Answers};
+ghost use Rattle.mon_base.specs.Answer.{Answers};
 ghost use Rattle.bytecode_model.specs.Index.{start_in, StartsPlaced};
 ghost use Rattle.bytecode_model.specs.Handlers.{index_at, insn_at, caught, handler_linked, handlers_linked};
 
@@ -117,7 +117,8 @@ pub fn handlers_linked(
     starts: &Starts,
     entries: &[TableEntry],
 ) -> Result<List<Handler>, LinkFault>
-    ensures { Answers result (handlers_linked index.now.files index.now.listing class.now pool.now method end starts.now entries.now) }
+    ensures { Answers LinkFault.Memory result
+        (handlers_linked index.now.files index.now.listing class.now pool.now method end starts.now entries.now) }
 {
     let mut handlers = List::new(alloc);
     let mut left = entries;
@@ -139,7 +140,8 @@ fn handler_linked(
     starts: &Starts,
     entry: &TableEntry,
 ) -> Result<Handler, LinkFault>
-    ensures { Answers result (handler_linked index.now.files index.now.listing class.now pool.now method end starts.now entry.now) }
+    ensures { Answers LinkFault.Memory result
+        (handler_linked index.now.files index.now.listing class.now pool.now method end starts.now entry.now) }
 {
     let from = stands_at(alloc, class, method, end, starts.insn_at(entry.from))?;
     let to = stands_at(alloc, class, method, end, starts.index_at(entry.to))?;
@@ -160,7 +162,7 @@ fn stands_at(
     at: u32,
     place: Option<u32>,
 ) -> Result<u32, LinkFault>
-    ensures { Answers result (ok_or place (Operand class.now method at)) }
+    ensures { Answers LinkFault.Memory result (ok_or place (Operand class.now method at)) }
 {
     match place {
         Some(index) => Ok(index),
@@ -181,7 +183,7 @@ fn caught(
     at: u32,
     constant: u16,
 ) -> Result<Option<Bytes>, LinkFault>
-    ensures { Answers result (caught index.now.files index.now.listing class.now pool.now method at constant) }
+    ensures { Answers LinkFault.Memory result (caught index.now.files index.now.listing class.now pool.now method at constant) }
 {
     if constant == 0 {
         return Ok(None);

@@ -4,15 +4,18 @@
 //! files, so that [`unlink`] gives them back. (The Java Virtual Machine Specification, chapter 5; docs/LINKING.md.)
 #![tactic(auto)]
 
+mod arrays;
 mod class_conditions;
 mod classes;
 mod copying;
+mod covering;
 mod declared;
 mod fault;
 mod handlers;
 mod heads;
 mod heights;
 mod index;
+mod laws;
 mod linking;
 mod literals;
 mod method_conditions;
@@ -20,16 +23,22 @@ mod methods;
 mod near;
 mod operand;
 mod operands;
+mod origin;
 mod places;
 mod program;
 mod search;
 mod text;
 
+pub use arrays::is_array;
 pub use declared::{Found, MemberKind};
 pub use fault::LinkFault;
+pub use laws::linked_operands_are_right;
 pub use linking::{MAX_FILES, link, unlink};
-pub use operand::{OperandFault, Use, use_of};
+pub use method_conditions::code_of;
+pub use operand::{OperandFault, Use, index_of, use_of};
+pub use origin::Origin;
 pub use program::{Handler, LinkedClass, Method, Program, Side, Target};
+pub use text::{class_at, id_at, text_at};
 
 #[cfg(test)]
 mod tests;

@@ -4,8 +4,9 @@ ghost use Rattle.std.specs.Prelude.{◌≡◌, ◌≤◌, length, IfOk};
 ghost use Rattle.std.specs.List.{AllByRecursion};
 ghost use Rattle.class_codec.specs.Fits.{CanSpell};
 ghost use Rattle.api_listing.specs.Listing.{IsFew};
-ghost use Rattle.bytecode_model.specs.Fault.{Answers};
+ghost use Rattle.mon_base.specs.Answer.{Answers};
 ghost use Rattle.bytecode_model.specs.Heads.{heads_of, is_member, main_name, main_desc};
+ghost use Rattle.bytecode_model.specs.Named.{AreRightOperands};
 ghost use Rattle.bytecode_model.specs.Sound.{IsSoundMethod, IsSound};
 ghost use Rattle.bytecode_model.specs.Linking.{
   if_static,
@@ -24,6 +25,7 @@ use crate::fault::LinkFault;
 use crate::heads::heads_of;
 use crate::heights::Heads;
 use crate::index::Index;
+use crate::laws::linked_operands_are_right;
 use crate::methods::methods_linked;
 use crate::program::{LinkedClass, Method, Program, Side};
 use crate::text::{class_at, copy_class, has_flag, is_text, text_at};
@@ -48,7 +50,25 @@ pub fn link(
 ) -> Result<Program, LinkFault>
     requires fits { AllByRecursion CanSpell files }
     requires listed { IsFew listing }
-    ensures exact { Answers result (linked files listing main.now side) }
+    ensures exact { Answers LinkFault.Memory result (linked files listing main.now side) }
+    ensures back { IfOk result (λ program. unlinked program ≡ files) }
+    ensures sound { IfOk result IsSound }
+    ensures operands { IfOk result AreRightOperands }
+{
+    linked_operands_are_right();
+    linked_program(alloc, files, listing, main, side)
+}
+
+fn linked_program(
+    alloc: Global,
+    files: List<ClassFile>,
+    listing: Listing,
+    main: &Bytes,
+    side: Side,
+) -> Result<Program, LinkFault>
+    requires fits { AllByRecursion CanSpell files }
+    requires listed { IsFew listing }
+    ensures exact { Answers LinkFault.Memory result (linked files listing main.now side) }
     ensures back { IfOk result (λ program. unlinked program ≡ files) }
     ensures sound { IfOk result IsSound }
 {
@@ -91,7 +111,7 @@ fn members(
     requires fits { AllByRecursion CanSpell files.now }
     requires heads { heads.now ≡ heads_of files.now }
     requires listed { IsFew listing.now }
-    ensures answers { Answers result (members_of files.now listing.now) }
+    ensures answers { Answers LinkFault.Memory result (members_of files.now listing.now) }
     ensures sound { IfOk result (λ members. AllByRecursion (AllByRecursion IsSoundMethod) members.0) }
 {
     let index = Index::new(alloc, files, heads, listing)?;
@@ -107,7 +127,7 @@ fn each_linked(
     files: &[ClassFile],
 ) -> Result<List<List<Method>>, LinkFault>
     requires { AllByRecursion CanSpell files.now }
-    ensures answers { Answers result (each_linked index.now.files index.now.listing files.now) }
+    ensures answers { Answers LinkFault.Memory result (each_linked index.now.files index.now.listing files.now) }
     ensures sound { IfOk result (AllByRecursion (AllByRecursion IsSoundMethod)) }
 {
     let mut classes = List::new(alloc);

@@ -2,7 +2,7 @@
 
 ghost use Rattle.std.specs.Prelude.{◌≡◌, ◌&&◌, ◌≤◌, length, IfOk, IfSome, option_copied, slice_get};
 ghost use Rattle.std.specs.List.{filter_map, AllByRecursion};
-ghost use Rattle.bytecode_model.specs.Fault.{Answers};
+ghost use Rattle.mon_base.specs.Answer.{Answers};
 ghost use Rattle.bytecode_model.specs.Heads.{all_classes};
 ghost use Rattle.bytecode_model.specs.SearchOrder.{search_order};
 ghost use Rattle.bytecode_model.specs.Index.{OverridesAs};

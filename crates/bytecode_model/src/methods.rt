@@ -6,7 +6,7 @@ ghost use Rattle.class_codec.specs.Fits.{CanSpell, FitsMember};
 ghost use Rattle.insn_codec.specs.Fits as insns;
 ghost use Rattle.insn_codec.specs.Reading.{code_of};
 ghost use Rattle.insn_codec.specs.Spelling.{len_from};
-ghost use Rattle.bytecode_model.specs.Fault.{Answers, Tells};
+ghost use Rattle.mon_base.specs.Answer.{Answers, Tells};
 ghost use Rattle.bytecode_model.specs.Heads.{all_classes, head_of};
 ghost use Rattle.bytecode_model.specs.SearchOrder.{search_order};
 ghost use Rattle.bytecode_model.specs.Index.{OverridesAs};
@@ -32,7 +32,7 @@ pub fn methods_linked(
     file: &ClassFile,
 ) -> Result<List<Method>, LinkFault>
     requires { CanSpell file.now }
-    ensures answers { Answers result (methods_linked index.now.files index.now.listing file.now) }
+    ensures answers { Answers LinkFault.Memory result (methods_linked index.now.files index.now.listing file.now) }
     ensures sound { IfOk result (AllByRecursion IsSoundMethod) }
 {
     let class = copy_class(alloc, file.pool.as_slice(), file.this_class)?;
@@ -61,7 +61,7 @@ fn method_linked(
     requires fits { FitsMember file.now.pool true member.now }
     requires name { class.now ≡ (head_of file.now).name }
     requires order { OverridesAs index.now.listing order.now (search_order (all_classes index.now.listing index.now.files) class.now) }
-    ensures answers { Answers result (method_linked index.now.files index.now.listing file.now method member.now) }
+    ensures answers { Answers LinkFault.Memory result (method_linked index.now.files index.now.listing file.now method member.now) }
     ensures sound { IfOk result IsSoundMethod }
 {
     let pool = file.pool.as_slice();
@@ -115,7 +115,7 @@ fn code_linked(
     requires short { length code.now.code ≤ 65535 }
     requires table { length code.now.table < 2 ^ 16 }
     requires name { class.now ≡ (head_of file.now).name }
-    ensures answers { Answers result (code_linked index.now.files index.now.listing file.now method member.now code.now) }
+    ensures answers { Answers LinkFault.Memory result (code_linked index.now.files index.now.listing file.now method member.now code.now) }
     ensures sound { IfOk result IsSoundMethod }
 {
     let pool = file.pool.as_slice();
@@ -159,7 +159,7 @@ fn read_insns(
     code: &[u8],
 ) -> Result<List<Insn>, LinkFault>
     requires { length code.now ≤ 65535 }
-    ensures answers { Answers result (read_of class.now method (code_of code.now)) }
+    ensures answers { Answers LinkFault.Memory result (read_of class.now method (code_of code.now)) }
     ensures fits { IfOk result insns.CanSpell }
     ensures len { IfOk result (λ insns. len_from 0 insns ≡ length code.now) }
     ensures count { IfOk result (λ insns. length insns ≤ 65535) }
@@ -171,7 +171,7 @@ fn read_insns(
 }
 
 fn code_told(alloc: Global, class: &Bytes, method: u32, fault: CodeFault) -> LinkFault
-    ensures { Tells result (code_told class.now method fault) }
+    ensures { Tells LinkFault.Memory result (code_told class.now method fault) }
 {
     match fault {
         CodeFault::Memory => LinkFault::Memory,

@@ -2,7 +2,7 @@
 
 ghost use Rattle.std.specs.Prelude.{◌≡◌};
 ghost use Rattle.bytecode_model.specs.declared.operand.OperandFault.TheVariants.{Memory};
-ghost use Rattle.bytecode_model.specs.Operands.{use_of, use_of_opcode};
+ghost use Rattle.bytecode_model.specs.Operands.{index_of, use_of, use_of_opcode};
 
 use insn_codec::Insn;
 use mon_base::{Bytes, NoMemory};
@@ -33,6 +33,18 @@ pub enum OperandFault {
     Missing(Bytes),
     /// Memory ran out.
     Memory,
+}
+
+/// The index of the constant that the instruction names, or 0, which names none.
+pub fn index_of(insn: &Insn) -> u16
+    ensures { result ≡ index_of insn.now }
+{
+    match insn {
+        Insn::Ldc(index) => u16::from(*index),
+        Insn::Iface { index, .. } => *index,
+        Insn::Pool { index, .. } => *index,
+        _ => 0,
+    }
 }
 
 /// How the instruction uses the constant that it names.

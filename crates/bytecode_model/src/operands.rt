@@ -5,34 +5,17 @@ ghost use Rattle.std.specs.Result.{is_ok};
 ghost use Rattle.mon_base.specs.Reading.{need};
 ghost use Rattle.api_listing.specs.Descriptor.{whole_type, method_type};
 ghost use Rattle.bytecode_model.specs.declared.operand.OperandFault.TheVariants.{Wrong, Missing};
-ghost use Rattle.bytecode_model.specs.Fault.{Answers, Names, Tells};
-ghost use Rattle.bytecode_model.specs.Operands.{
-  index_of,
-  is_nothing,
-  is_array,
-  element_is_known,
-  array_linked,
-  class_linked,
-  field_fits,
-  field_linked,
-  call_linked,
-  known_in,
-  loaded,
-  typed,
-  field_used,
-  called,
-  used,
-  operand_linked,
-  told,
-  told_at,
-  operands_linked,
-  operand_at,
-};
+ghost use Rattle.mon_base.specs.Answer.{Answers, Tells};
+ghost use Rattle.bytecode_model.specs.Arrays.{is_array};
+ghost use Rattle.bytecode_model.specs.Operands.{is_nothing, element_is_known, array_linked, class_linked, field_fits};
+ghost use Rattle.bytecode_model.specs.Operands.{field_linked, call_linked, known_in, loaded, typed, field_used, called, used};
+ghost use Rattle.bytecode_model.specs.Operands.{index_of, operand_linked, told, told_at, operands_linked, operand_at};
 
+use crate::arrays::is_array;
 use crate::declared::Found;
 use crate::fault::LinkFault;
 use crate::index::Index;
-use crate::operand::{OperandFault, Use, use_of};
+use crate::operand::{OperandFault, Use, index_of, use_of};
 use crate::program::Target;
 use crate::text::{copy_text, id_at};
 use api_listing::{Element, FormFault, parse_descriptor, parse_field_descriptor};
@@ -51,7 +34,7 @@ pub fn operands_linked(
     insns: &[Insn],
 ) -> Result<List<Target>, LinkFault>
     requires { length insns.now < 2 ^ 32 }
-    ensures { Answers result (operands_linked index.now.files index.now.listing class.now pool.now method insns.now) }
+    ensures { Answers LinkFault.Memory result (operands_linked index.now.files index.now.listing class.now pool.now method insns.now) }
 {
     let mut targets = List::new(alloc);
     let mut at: u32 = 0;
@@ -74,7 +57,7 @@ fn operand_at(
     at: u32,
     insn: &Insn,
 ) -> Result<Target, LinkFault>
-    ensures { Answers result (operand_at index.now.files index.now.listing class.now pool.now method at insn.now) }
+    ensures { Answers LinkFault.Memory result (operand_at index.now.files index.now.listing class.now pool.now method at insn.now) }
 {
     match operand_linked(alloc, index, pool, insn) {
         Ok(target) => Ok(target),
@@ -84,7 +67,7 @@ fn operand_at(
 
 /// The fault of an operand as one of linking.
 pub fn told(alloc: Global, class: &Bytes, method: u32, at: u32, fault: OperandFault) -> LinkFault
-    ensures { Tells result (told class.now method at fault) }
+    ensures { Tells LinkFault.Memory result (told class.now method at fault) }
 {
     match class.copy(alloc) {
         Ok(class) => match fault {
@@ -93,17 +76,6 @@ pub fn told(alloc: Global, class: &Bytes, method: u32, at: u32, fault: OperandFa
             OperandFault::Memory => LinkFault::Memory,
         },
         Err(_) => LinkFault::Memory,
-    }
-}
-
-fn index_of(insn: &Insn) -> u16
-    ensures { result ≡ index_of insn.now }
-{
-    match insn {
-        Insn::Ldc(index) => u16::from(*index),
-        Insn::Iface { index, .. } => *index,
-        Insn::Pool { index, .. } => *index,
-        _ => 0,
     }
 }
 
@@ -119,7 +91,7 @@ fn operand_linked(
     pool: &[Const],
     insn: &Insn,
 ) -> Result<Target, OperandFault>
-    ensures { Names result (operand_linked index.now.files index.now.listing pool.now insn.now) }
+    ensures { Answers OperandFault.Memory result (operand_linked index.now.files index.now.listing pool.now insn.now) }
 {
     let how = use_of(insn);
     if is_nothing(how) {
@@ -138,7 +110,7 @@ fn used(
     how: Use,
     constant: &Const,
 ) -> Result<Target, OperandFault>
-    ensures { Names result (used index.now.files index.now.listing pool.now how constant.now) }
+    ensures { Answers OperandFault.Memory result (used index.now.files index.now.listing pool.now how constant.now) }
 {
     match how {
         Use::Nothing => Ok(Target::None),
@@ -161,7 +133,7 @@ fn loaded(
     pool: &[Const],
     constant: &Const,
 ) -> Result<Target, OperandFault>
-    ensures { Names result (loaded index.now.files index.now.listing pool.now constant.now) }
+    ensures { Answers OperandFault.Memory result (loaded index.now.files index.now.listing pool.now constant.now) }
 {
     match constant {
         Const::Integer(n) => Ok(Target::Number(*n)),
@@ -185,7 +157,7 @@ fn typed(
     pool: &[Const],
     constant: &Const,
 ) -> Result<Target, OperandFault>
-    ensures { Names result (typed index.now.files index.now.listing arrays pool.now constant.now) }
+    ensures { Answers OperandFault.Memory result (typed index.now.files index.now.listing arrays pool.now constant.now) }
 {
     match constant {
         Const::Class(name) => {
@@ -204,7 +176,7 @@ fn field_used(
     pool: &[Const],
     constant: &Const,
 ) -> Result<Target, OperandFault>
-    ensures { Names result (field_used index.now.files index.now.listing is_static writes pool.now constant.now) }
+    ensures { Answers OperandFault.Memory result (field_used index.now.files index.now.listing is_static writes pool.now constant.now) }
 {
     match constant {
         Const::Field(class, member) => {
@@ -223,7 +195,7 @@ fn called(
     pool: &[Const],
     constant: &Const,
 ) -> Result<Target, OperandFault>
-    ensures { Names result (called index.now.files index.now.listing is_static of_interface pool.now constant.now) }
+    ensures { Answers OperandFault.Memory result (called index.now.files index.now.listing is_static of_interface pool.now constant.now) }
 {
     if of_interface {
         match constant {
@@ -244,15 +216,6 @@ fn called(
     }
 }
 
-fn is_array(text: &[u8]) -> bool
-    ensures { result ≡ is_array text.now }
-{
-    match text {
-        [] => false,
-        [first, ..] => *first == b'[',
-    }
-}
-
 /// The class of the name, or the array type of the descriptor where one may stand.
 pub fn class_linked(
     alloc: Global,
@@ -260,7 +223,7 @@ pub fn class_linked(
     arrays: bool,
     text: Bytes,
 ) -> Result<Target, OperandFault>
-    ensures { Names result (class_linked arrays (known_in index.now.files index.now.listing) text) }
+    ensures { Answers OperandFault.Memory result (class_linked arrays (known_in index.now.files index.now.listing) text) }
 {
     if is_array(text.as_slice()) {
         return array_linked(alloc, index, arrays, text);
@@ -278,7 +241,7 @@ fn array_linked(
     arrays: bool,
     text: Bytes,
 ) -> Result<Target, OperandFault>
-    ensures { Names result (array_linked arrays (known_in index.now.files index.now.listing) text (whole_type text)) }
+    ensures { Answers OperandFault.Memory result (array_linked arrays (known_in index.now.files index.now.listing) text (whole_type text)) }
 {
     match parse_field_descriptor(alloc, text.as_slice()) {
         Ok(found) => {
@@ -309,7 +272,7 @@ fn field_linked(
     writes: bool,
     id: MethodId,
 ) -> Result<Target, OperandFault>
-    ensures { Names result (field_linked index.now.files index.now.listing is_static writes id) }
+    ensures { Answers OperandFault.Memory result (field_linked index.now.files index.now.listing is_static writes id) }
 {
     check_field(alloc, id.desc.as_slice())?;
     let Some(found) = index.field_of(alloc, &id)? else {
@@ -327,7 +290,7 @@ fn call_linked(
     is_static: bool,
     id: MethodId,
 ) -> Result<Target, OperandFault>
-    ensures { Names result (call_linked index.now.files index.now.listing is_static id) }
+    ensures { Answers OperandFault.Memory result (call_linked index.now.files index.now.listing is_static id) }
 {
     check_method(alloc, id.desc.as_slice())?;
     let Some(found) = index.method_of(alloc, &id)? else {
@@ -341,7 +304,7 @@ fn call_linked(
 
 /// Whether the text is the descriptor of a field.
 fn check_field(alloc: Global, desc: &[u8]) -> Result<(), OperandFault>
-    ensures { Names result (need (is_ok (whole_type desc.now)) Wrong) }
+    ensures { Answers OperandFault.Memory result (need (is_ok (whole_type desc.now)) Wrong) }
 {
     match parse_field_descriptor(alloc, desc) {
         Ok(_) => Ok(()),
@@ -352,7 +315,7 @@ fn check_field(alloc: Global, desc: &[u8]) -> Result<(), OperandFault>
 
 /// Whether the text is the descriptor of a method.
 fn check_method(alloc: Global, desc: &[u8]) -> Result<(), OperandFault>
-    ensures { Names result (need (is_ok (method_type desc.now)) Wrong) }
+    ensures { Answers OperandFault.Memory result (need (is_ok (method_type desc.now)) Wrong) }
 {
     match parse_descriptor(alloc, desc) {
         Ok(_) => Ok(()),

@@ -2,9 +2,10 @@
 use Rattle.std.proofs.Common.{◌≡◌, ◌⊎◌, ℕ, ◌+◌, Bool, true, false, cond, List, [], ◌∷◌, Option, Some, None, refl, sym, ap, subst, ◌∙◌}
 use Rattle.std.specs.Prelude.{◌&&◌, ◌||◌, ◌==◌, not, is_some, slice_get, option_and_then}
 use Rattle.insn_codec.specs.declared.insn.Insn.{Insn}
-use Rattle.insn_effect.specs.declared.shape.Heap.TheVariants as heap
-use Rattle.insn_effect.specs.declared.shape.Shape.TheVariants as shapes
-use Rattle.insn_effect.specs.Shapes.{shape_of}
+use Rattle.insn_codec.specs.declared.shape.Heap.TheVariants as heap
+use Rattle.insn_codec.specs.declared.shape.Shape.TheVariants as shapes
+use Rattle.insn_codec.specs.Shapes.{shape_of}
+use Rattle.insn_codec.specs.declared.shape.How.{How}
 use Rattle.bytecode_model.specs.declared.program.LinkedClass.{LinkedClass}
 use Rattle.bytecode_model.specs.declared.program.Method.{Method}
 use Rattle.bytecode_model.specs.declared.program.Target.TheVariants as target
@@ -13,12 +14,12 @@ use Rattle.cert_format.specs.declared.note.Note.TheVariants as notes
 use Rattle.cert_format.specs.declared.note.Site.{Site}
 use Rattle.conspec_automaton.specs.declared.policy.Policy.{Policy}
 use Rattle.conspec_automaton.specs.Next.{has_clauses}
-use Rattle.cert_checker.specs.Notes.{Here, first_broken, client_fault, free_fault, locking_fault, row_fault, told_fault, taking_fault, stop_fault}
-use Rattle.cert_checker.specs.Operands.{calls, has_clause, is_way_out, pushes_state}
-use Rattle.cert_checker.specs.declared.wanted.Wanted.TheVariants as wanted
-use Rattle.cert_checker.specs.Notes.{next_meet, handlers_meet}
-use Rattle.cert_checker.specs.Operands.{is_variable, leaves, writes_static, enters}
-use Rattle.cert_checker.specs.Notes.{takes_for_denied, is_on_way}
+use Rattle.block_logic.specs.Notes.{Here, first_broken, client_fault, free_fault, locking_fault, row_fault, told_fault, taking_fault, stop_fault}
+use Rattle.block_logic.specs.Operands.{calls, has_clause, is_way_out, pushes_state}
+use Rattle.block_logic.specs.declared.wanted.Wanted.TheVariants as wanted
+use Rattle.block_logic.specs.Notes.{next_meet, handlers_meet}
+use Rattle.block_logic.specs.Operands.{is_variable, leaves, writes_static, enters}
+use Rattle.block_logic.specs.Notes.{takes_for_denied, is_on_way}
 
 -- the second of two rules is kept, and so is the first
 second_kept : (a b : Bool) (m n : ℕ) (later : Option ℕ) → cond a (cond b later (Some n)) (Some m) ≡ None → b ≡ true
@@ -35,7 +36,7 @@ not_true true e = absurd cc
 not_true false e = refl
 
 module _ (classes : List LinkedClass) (policy : Policy) (told : List Note) (method : Method) (here : Here) (listed : ℕ)
-    (is_call : shape_of here.insn ≡ shapes.Heap heap.Call) (names : here.ref ≡ target.ApiMethod listed) where
+    (how : How) (is_call : shape_of here.insn ≡ shapes.Heap (heap.Call how)) (names : here.ref ≡ target.ApiMethod listed) where
   -- the instruction calls
   calls_it : calls (shape_of here.insn) ≡ true
   calls_it = rw is_call refl

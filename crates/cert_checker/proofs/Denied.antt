@@ -4,10 +4,12 @@ use Rattle.std.specs.Prelude.{IsTrue, IsSome, find, is_some, option_and_then}
 use Rattle.std.specs.Option.{option_map_or}
 use Rattle.api_listing.specs.declared.events.Event.{Event}
 use Rattle.api_listing.specs.declared.events.Event.TheVariants as events
+use Rattle.cert_format.specs.declared.certificate.Mode.{Mode}
+use Rattle.cert_format.specs.declared.certificate.Mode.TheVariants as modes
 use Rattle.conspec_automaton.specs.declared.policy.Clause.{Clause}
 use Rattle.conspec_automaton.specs.declared.policy.Policy.{Policy}
 use Rattle.conspec_automaton.specs.Next.{Values, clause_of, has_clause, initial, next, next_by}
-use Rattle.conspec_automaton.specs.Obeys.{Follows, Obeys, after, is_return}
+use Rattle.conspec_automaton.specs.Obeys.{Follows, Obeys, after, is_return, spoken}
 use Rattle.guest_model.specs.First.{BeginsWithCall, SeesFirstCall, goes_on, is_done}
 use Rattle.guest_model.specs.Runs.{trace}
 use Rattle.cert_checker.specs.Denied.{DisobeysAtOnce, IsRefusedFirst}
@@ -35,10 +37,24 @@ refused_has_clause policy state event None is none =
 refused_has_clause policy state event (Some clause) is none = ap is_some is
 
 pub disobeys_at_once : SeesFirstCall → DisobeysAtOnce
-disobeys_at_once sees program policy index listed begins refused secure =
-    let call = events.Call 0 listed [] in
-    let done = events.Return 0 listed None in
-    let kept : has_clause policy call ≡ true = refused_has_clause policy (initial policy) call (clause_of policy call) refl refused in
-    let obeys : Obeys policy (call ∷ done ∷ []) = subst (Obeys policy) (sees program index listed begins) (secure (goes_on ∷ is_done ∷ [])) in
-    let first : filter (has_clause policy) (call ∷ done ∷ []) ≡ call ∷ filter (has_clause policy) (done ∷ []) = rw kept refl in
-    not_followed (next policy) is_return (initial policy) call (filter (has_clause policy) (done ∷ [])) refused refl (subst (Follows (next policy) is_return (initial policy)) first obeys)
+disobeys_at_once sees mode program policy index listed begins refused secure =
+    by mode (subst (Obeys mode policy) (sees program index listed begins) (secure (goes_on ∷ is_done ∷ []))) where
+      call : Event
+      call = events.Call 0 listed []
+
+      done : Event
+      done = events.Return 0 listed None
+
+      kept : has_clause policy call ≡ true
+      kept = refused_has_clause policy (initial policy) call (clause_of policy call) refl refused
+
+      first : spoken policy (call ∷ done ∷ []) ≡ call ∷ spoken policy (done ∷ [])
+      first = rw kept refl
+
+      by : (mode : Mode) → Obeys mode policy (call ∷ done ∷ []) → ⊥
+      by modes.Release obeys =
+          not_after (next policy) (initial policy) call (spoken policy (done ∷ [])) refused
+          (subst (λ (seen : List Event). IsSome (after (next policy) (initial policy) seen)) first obeys)
+      by modes.Hold obeys =
+          not_followed (next policy) is_return (initial policy) call (spoken policy (done ∷ [])) refused refl
+          (subst (Follows (next policy) is_return (initial policy)) first obeys)

@@ -4,7 +4,7 @@ use Rattle.std.specs.Prelude.{◌&&◌, ◌==◌}
 use Rattle.std.proofs.lemmas.Bool.{and_parts, eqb-true, eq-eqb}
 use Rattle.bytecode_model.specs.declared.program.LinkedClass.{LinkedClass}
 use Rattle.bytecode_model.specs.declared.program.Method.{Method}
-use Rattle.code_typing.specs.Shape.{coded, shape_of}
+use Rattle.bytecode_model.specs.Shape.{coded, shape_of}
 use Rattle.cert_checker.specs.Acceptance.{differ, methods_differ, classes_differ}
 use Rattle.cert_checker.specs.Places.{or_else, placed}
 use Rattle.cert_checker.proofs.Options.{or_else_none, placed_none}

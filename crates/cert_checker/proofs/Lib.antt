@@ -1,7 +1,6 @@
 mod Options
 mod Differing
 mod Noted
-pub mod ExitRows
 mod Calls
 mod Security
 mod Denied

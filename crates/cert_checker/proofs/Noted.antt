@@ -11,12 +11,13 @@ use Rattle.cert_format.specs.declared.certificate.Certificate.{Certificate}
 use Rattle.cert_format.specs.declared.note.Note.{Note}
 use Rattle.cert_format.specs.declared.typing.FrameType.{FrameType}
 use Rattle.insn_codec.specs.declared.insn.Insn.{Insn}
-use Rattle.code_typing.specs.Rules.{frame_of}
-use Rattle.code_typing.specs.Shape.{has_code, coded}
-use Rattle.code_typing.specs.Typed.{frames_in, frames_told, list_at}
+use Rattle.bytecode_model.specs.Rules.{frame_of}
+use Rattle.bytecode_model.specs.Shape.{has_code, coded}
+use Rattle.bytecode_model.specs.Typed.{frames_in, frames_told, list_at}
 use Rattle.conspec_automaton.specs.declared.policy.Policy.{Policy}
-use Rattle.cert_checker.specs.Acceptance.{notes_in, notes_told, reached_fault, fault_in_class, note_fault_at, in_method, in_methods, in_classes, notes_fault}
-use Rattle.cert_checker.specs.Notes.{note_fault}
+use Rattle.block_logic.specs.Accepted.{notes_in, notes_told, reached_fault, fault_in_class, note_fault_at}
+use Rattle.cert_checker.specs.Acceptance.{in_method, in_methods, in_classes, notes_fault}
+use Rattle.block_logic.specs.Notes.{note_fault}
 use Rattle.cert_checker.specs.Places.{or_else, placed, first_from}
 use Rattle.cert_checker.proofs.Options.{or_else_none, placed_none}
 

@@ -9,7 +9,7 @@ use Rattle.api_listing.specs.declared.events.Event.{Event}
 use Rattle.api_listing.specs.declared.events.Event.TheVariants as events
 use Rattle.insn_codec.specs.declared.insn.Insn.{Insn}
 use Rattle.insn_codec.specs.Fits.{IsInsn}
-use Rattle.insn_effect.specs.Control.{successors}
+use Rattle.insn_codec.specs.Control.{successors}
 use Rattle.bytecode_model.specs.declared.program.Handler.{Handler}
 use Rattle.bytecode_model.specs.declared.program.LinkedClass.{LinkedClass}
 use Rattle.bytecode_model.specs.declared.program.Method.{Method}
@@ -20,19 +20,21 @@ use Rattle.bytecode_model.specs.Sound.{IsSound, IsSoundClass, IsSoundMethod, IsW
 use Rattle.cert_format.specs.declared.certificate.Certificate.{Certificate}
 use Rattle.cert_format.specs.declared.typing.Typing.{Typing}
 use Rattle.code_typing.specs.Closed.{BeginsReached, GoesToReached, IsCaughtReached}
-use Rattle.code_typing.specs.Shape.{has_code}
-use Rattle.code_typing.specs.Rules.{frame_of}
-use Rattle.code_typing.specs.Typed.{IsTyped, frames_in, frames_told, reached}
+use Rattle.bytecode_model.specs.Shape.{has_code}
+use Rattle.bytecode_model.specs.Rules.{frame_of}
+use Rattle.bytecode_model.specs.Typed.{IsTyped, frames_in, frames_told, reached}
 use Rattle.conspec_automaton.specs.declared.policy.Clause.{Clause}
 use Rattle.conspec_automaton.specs.declared.policy.Policy.{Policy}
 use Rattle.conspec_automaton.specs.Next.{has_clause, has_clauses, is_phase_of, method_of, speaks_of, initial}
-use Rattle.conspec_automaton.specs.Obeys.{Obeys}
+use Rattle.cert_format.specs.declared.certificate.Mode.{Mode}
+use Rattle.cert_format.specs.declared.certificate.Mode.TheVariants as modes
+use Rattle.conspec_automaton.specs.Obeys.{Obeys, spoken}
 use Rattle.guest_model.specs.declared.machine.Step.{Step}
 use Rattle.guest_model.specs.Places.{method_at, insn_in}
 use Rattle.guest_model.specs.Runs.{trace}
 use Rattle.guest_model.specs.Standing.{HasInsns, IsAt, IsCalled, IsClosed, SeesOnlyCalled, method_of as method_seen}
-use Rattle.cert_checker.specs.Acceptance.{IsAccepted, note_fault_at, notes_in, notes_told, reached_fault}
-use Rattle.cert_checker.specs.Notes.{Here, note_fault, told_fault}
+use Rattle.block_logic.specs.Accepted.{IsAccepted, note_fault_at, notes_in, notes_told, reached_fault}
+use Rattle.block_logic.specs.Notes.{Here, note_fault, told_fault}
 use Rattle.cert_checker.specs.Secure.{Secure}
 use Rattle.cert_checker.proofs.Calls.{no_clause}
 use Rattle.cert_checker.proofs.Options.{all_at, and_then_of}
@@ -109,6 +111,11 @@ pub record Laws : Type 0 where
   pub next : GoesToReached
   pub caught : IsCaughtReached
 
+-- Where no event has a clause, they obey.
+obeyed : (mode : Mode) (policy : Policy) (seen : List Event) → spoken policy seen ≡ [] → Obeys mode policy seen
+obeyed modes.Release policy seen none = rw none refl
+obeyed modes.Hold policy seen none = inl (rw none refl)
+
 module _ (laws : Laws) (program : Program) (policy : Policy) (certificate : Certificate) (sound : IsSound program) (accepted : IsAccepted program policy certificate) where
   abbrev set : ℕ → ℕ → ℕ → Bool
   set = reached program certificate.typing
@@ -171,11 +178,11 @@ module _ (laws : Laws) (program : Program) (policy : Policy) (certificate : Cert
       let with_frame : reached_fault program policy frames told m called.at ≡ note_fault program.classes policy told m called.at = rw framed refl in
       let here : Here = record { at = called.at; insn = called.insn; ref = target.ApiMethod listed } in
       let with_note : note_fault program.classes policy told m called.at ≡ told_fault program.classes policy told m here (slice_get told called.at) = rw (i.insn_there, i.ref_there) refl in
-      no_clause program.classes policy told m here listed called.calls refl (slice_get told called.at)
+      no_clause program.classes policy told m here listed called.how called.calls refl (slice_get told called.at)
       (sym with_note ∙ sym with_frame ∙ sym at_method ∙ accepted.noted called.class called.method called.at)
 
-  pub secure : Secure program policy
-  secure steps =
+  pub secure : (mode : Mode) → Secure mode program policy
+  secure mode steps =
       let all = laws.sees program set has_insns closed steps in
       let none = none_left policy (trace program steps) (each_unspoken policy (λ event. IsCalled program set (method_seen event)) (λ event called. unspoken policy event (no_clause_called (method_seen event) called)) (trace program steps) all) in
-      inl (rw none refl)
+      obeyed mode policy (trace program steps) none

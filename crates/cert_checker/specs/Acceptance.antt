@@ -1,4 +1,4 @@
--- When a program is accepted with a certificate, and the first test that fails where it is not.
+-- The first test of the check that fails.
 use Rattle.std.specs.Prelude.{◌≡◌, ℕ, ◌+◌, Bool, false, ◌==◌, ◌&&◌, if◌then◌else◌, List, [], ◌∷◌, length, map, take, drop, is_some, sum_by, count_by, Option, Some, None, option_and_then, slice_get, Result, Ok, Err}
 use Rattle.std.specs.Option.{option_map_or}
 use Rattle.bytecode_model.specs.declared.program.LinkedClass.{LinkedClass}
@@ -8,15 +8,16 @@ use Rattle.cert_format.specs.declared.certificate.Certificate.{Certificate}
 use Rattle.cert_format.specs.declared.note.Note.{Note}
 use Rattle.cert_format.specs.declared.typing.FrameType.{FrameType}
 use Rattle.code_typing.specs.declared.fault.TypeFault.{TypeFault}
-use Rattle.code_typing.specs.Rules.{frame_of}
-use Rattle.code_typing.specs.Shape.{has_code, coded, IsShaped}
-use Rattle.code_typing.specs.Typed.{IsTyped, frames_in, frames_told, list_at, typing_fault}
+use Rattle.bytecode_model.specs.Rules.{frame_of}
+use Rattle.bytecode_model.specs.Shape.{has_code, coded, IsShaped}
+use Rattle.code_typing.specs.First.{typing_fault}
+use Rattle.bytecode_model.specs.Typed.{IsTyped, frames_in, frames_told, list_at}
 use Rattle.conspec_automaton.specs.declared.policy.Policy.{Policy}
 use Rattle.cert_checker.specs.declared.fault.CheckFault.{CheckFault}
 use Rattle.cert_checker.specs.declared.fault.CheckFault.TheVariants.{Shape, Typing, Local}
 use Rattle.cert_checker.specs.declared.checking.Accepted.{Accepted}
-use Rattle.cert_checker.specs.Notes.{note_fault}
-use Rattle.cert_checker.specs.Operands.{has_clause}
+use Rattle.block_logic.specs.Accepted.{reached_fault}
+use Rattle.block_logic.specs.Operands.{has_clause}
 use Rattle.cert_checker.specs.Places.{or_else, placed, first_from}
 
 -- ---- shape
@@ -42,26 +43,6 @@ shape_fault program certificate = classes_differ 0 program.classes certificate.t
 
 -- ---- notes
 
--- the notes of the method of this index; those told are of the methods with code
-abbrev pub notes_in : List Method → List (List Note) → ℕ → List Note
-notes_in methods told method = list_at told (length (coded (take method methods)))
-
-abbrev pub notes_told : Certificate → ℕ → List (List Note)
-notes_told certificate class = list_at certificate.notes class
-
--- where the instruction has a frame, the first rule of the notes that fails there
-abbrev pub reached_fault : Program → Policy → List (Option FrameType) → List Note → Method → ℕ → Option ℕ
-reached_fault program policy frames told method at = if is_some (frame_of frames at) then note_fault program.classes policy told method at else None
-
-abbrev pub fault_in_class : Program → Policy → Certificate → ℕ → LinkedClass → ℕ → ℕ → Option ℕ
-fault_in_class program policy certificate class c method at =
-    option_and_then (λ (m : Method). reached_fault program policy (frames_in c.methods (frames_told certificate.typing class) method) (notes_in c.methods (notes_told certificate class) method) m at) (slice_get c.methods method)
-
--- the first rule of the notes that fails at an instruction; all methods of the class are counted
-abbrev pub note_fault_at : Program → Policy → Certificate → ℕ → ℕ → ℕ → Option ℕ
-note_fault_at program policy certificate class method at =
-    option_and_then (λ (c : LinkedClass). fault_in_class program policy certificate class c method at) (slice_get program.classes class)
-
 -- the first instruction of a method whose note is wrong, and its rule
 abbrev pub in_method : Program → Policy → List (Option FrameType) → List Note → Method → Option (ℕ × ℕ)
 in_method program policy frames told method = first_from (reached_fault program policy frames told method) 0 (length method.insns)
@@ -82,13 +63,7 @@ in_classes program policy at (c ∷ cs) frames notes =
 abbrev pub notes_fault : Program → Policy → Certificate → Option (ℕ × (ℕ × (ℕ × ℕ)))
 notes_fault program policy certificate = in_classes program policy 0 program.classes certificate.typing.frames certificate.notes
 
--- ---- acceptance
-
-pub record IsAccepted (program : Program) (policy : Policy) (certificate : Certificate) : Type 0 where
-  pub frames : IsShaped program certificate.typing.frames
-  pub notes : IsShaped program certificate.notes
-  pub typed : IsTyped program certificate.typing
-  pub noted : (class method at : ℕ) → note_fault_at program policy certificate class method at ≡ None
+-- ---- the answer
 
 -- how many calls of methods that the policy has clauses for stand in the code
 abbrev pub sites_of : Program → Policy → ℕ

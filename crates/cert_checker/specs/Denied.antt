@@ -2,6 +2,7 @@
 use Rattle.std.specs.Prelude.{◌≡◌, ℕ, [], None}
 use Rattle.api_listing.specs.declared.events.Event.TheVariants as events
 use Rattle.bytecode_model.specs.declared.program.Program.{Program}
+use Rattle.cert_format.specs.declared.certificate.Mode.{Mode}
 use Rattle.conspec_automaton.specs.declared.policy.Policy.{Policy}
 use Rattle.conspec_automaton.specs.Next.{next, initial}
 use Rattle.guest_model.specs.First.{BeginsWithCall}
@@ -11,6 +12,8 @@ use Rattle.cert_checker.specs.Secure.{Secure}
 abbrev pub IsRefusedFirst : Policy → ℕ → Type 0
 IsRefusedFirst policy listed = next policy (initial policy) (events.Call 0 listed []) ≡ None
 
--- A program whose main begins with a call that is refused does not obey.
+-- A program whose main begins with a call that is refused does not obey, in either mode.
 abbrev pub DisobeysAtOnce : Type 0
-DisobeysAtOnce = (program : Program) (policy : Policy) (index listed : ℕ) → BeginsWithCall program index listed → IsRefusedFirst policy listed → Secure program policy → ⊥
+DisobeysAtOnce =
+    (mode : Mode) (program : Program) (policy : Policy) (index listed : ℕ) → BeginsWithCall program index listed → IsRefusedFirst policy listed
+    → Secure mode program policy → ⊥

@@ -1,7 +1,4 @@
 pub mod Fault
-pub mod Operands
-pub mod Wanted
-pub mod Notes
 pub mod Places
 pub mod Acceptance
 pub mod Secure

@@ -3,15 +3,16 @@
 ghost use Rattle.std.specs.Prelude.{◌≡◌, ◌↔◌, ◌<◌, ◌≤◌, ◌^◌, IsOk, IfOk, length, count_by, sum_by};
 ghost use Rattle.bytecode_model.specs.declared.program.Method.{Method as AMethod};
 ghost use Rattle.bytecode_model.specs.Sound.{IsSound, IsSoundClass};
-ghost use Rattle.code_typing.specs.Typed.{typing_fault};
-ghost use Rattle.cert_checker.specs.Acceptance.{IsAccepted, notes_fault, shape_fault, sites_of, verdict};
-ghost use Rattle.cert_checker.specs.Operands.{has_clause};
+ghost use Rattle.code_typing.specs.First.{typing_fault};
+ghost use Rattle.block_logic.specs.Accepted.{IsAccepted};
+ghost use Rattle.cert_checker.specs.Acceptance.{notes_fault, shape_fault, sites_of, verdict};
+ghost use Rattle.block_logic.specs.Operands.{has_clause};
 ghost use Rattle.cert_checker.specs.Secure.{Secure};
 
 use crate::fault::CheckFault;
 use crate::notes::notes_fault;
-use crate::operands::has_clause;
 use crate::shape::shape_fault;
+use block_logic::has_clause;
 use bytecode_model::{LinkedClass, Method, Program};
 use cert_format::{Certificate, Mode};
 use code_typing::{check_typing, typed_is_closed};
@@ -34,9 +35,9 @@ pub fn check(
     certificate: &Certificate,
 ) -> Result<Accepted, CheckFault>
     requires { IsSound program.now }
-    // It is accepted exactly where the conditions hold, and then every list of steps obeys.
+    // It is accepted exactly where the conditions hold, and then every list of steps obeys, as the mode promises.
     ensures ok { IsOk result ↔ IsAccepted program.now policy.now certificate.now }
-    ensures secure { IsOk result → Secure program.now policy.now }
+    ensures secure { IsOk result → Secure certificate.now.mode program.now policy.now }
 
     // Which answer it is: the first test that fails, with its first place.
     ensures exact { result ≡ verdict program.now policy.now certificate.now }

@@ -7,17 +7,12 @@
 mod checking;
 mod fault;
 mod laws;
-mod note_rules;
 mod notes;
-mod operands;
 mod shape;
-mod wanted;
 
 pub use checking::{Accepted, check};
 pub use fault::CheckFault;
 pub use laws::denied_call_disobeys;
-pub use operands::is_way_out;
-pub use wanted::Wanted;
 
 #[cfg(test)]
 mod tests;

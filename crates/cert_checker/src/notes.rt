@@ -3,11 +3,12 @@
 ghost use Rattle.std.specs.Prelude.{◌≡◌, ◌<◌, ◌≤◌, ◌^◌, drop, is_some, length};
 ghost use Rattle.std.specs.List.{AllByRecursion};
 ghost use Rattle.bytecode_model.specs.Sound.{IsSound, IsSoundClass, IsSoundMethod};
-ghost use Rattle.code_typing.specs.Rules.{frame_of};
-ghost use Rattle.code_typing.specs.Typed.{list_at};
-ghost use Rattle.cert_checker.specs.Acceptance.{in_classes, in_method, in_methods, notes_fault, reached_fault};
+ghost use Rattle.bytecode_model.specs.Rules.{frame_of};
+ghost use Rattle.bytecode_model.specs.Typed.{list_at};
+ghost use Rattle.block_logic.specs.Accepted.{reached_fault};
+ghost use Rattle.cert_checker.specs.Acceptance.{in_classes, in_method, in_methods, notes_fault};
 
-use crate::note_rules::note_fault;
+use block_logic::note_fault;
 use bytecode_model::{LinkedClass, Method, Program};
 use cert_format::{Certificate, FrameType, Note};
 use conspec_automaton::Policy;

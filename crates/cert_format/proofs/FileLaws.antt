@@ -15,8 +15,11 @@ use Rattle.cert_format.specs.declared.certificate.Certificate.{Certificate}
 use Rattle.cert_format.specs.Names.{Name, place_of, StandOnce, class_names, typing_names, names_of}
 use Rattle.cert_format.specs.Index.{stands}
 use Rattle.cert_format.specs.Spelling.{u1, u2, u4, spell_name, spell_names, spell_mode, spell_head, spell_classes, spell_certificate}
-use Rattle.cert_format.specs.Fits.{IsU2, IsU4, FitNames, FitClasses, CanSpell, SpellsCertificate}
-use Rattle.cert_format.specs.Reading.{Read, Answers, u1_at, u2_at, u4_at, taken_at, mode_of, head_at, name_at, more_names_at, names_at, classes_at, body_at, certificate_at, certificate_of}
+use Rattle.mon_base.specs.Widths.{IsU2, IsU4}
+use Rattle.cert_format.specs.Fits.{FitNames, FitClasses, CanSpell, SpellsCertificate}
+use Rattle.mon_base.specs.Answer.{Answers}
+use Rattle.cert_format.specs.declared.fault.CertForm.TheVariants.{Form, Memory}
+use Rattle.cert_format.specs.Reading.{Read, u1_at, u2_at, u4_at, taken_at, mode_of, head_at, name_at, more_names_at, names_at, classes_at, body_at, certificate_at, certificate_of}
 use Rattle.cert_format.proofs.Places.{place-append}
 use Rattle.cert_format.proofs.Order.{InOrder, once-push, once-all, once-none, makes_order, table_of}
 use Rattle.cert_format.proofs.Readers.{u2_is, u4_is, IsCode, coded, chosen}
@@ -27,11 +30,11 @@ use Rattle.cert_format.proofs.TypeLaws.{classes_is}
 -- a number that is always the same, whose fault is at its own place, and then the others
 then_known : {A : Type 0} {reader : Place → Read ℕ} {spell_x : ℕ → List ℕ} {Fits_x : ℕ → Type 0} {others : Place → Read A} {spell : A → List ℕ} {Fits : A → Type 0}
     → IsReader reader spell_x Fits_x → (same : ℕ) → Fits_x same → IsReader others spell Fits
-    → IsReader (λ place. reader place >>= λ x. need (x.0 == same) place.at >>= λ _. others x.1) (λ a. spell_x same ++ spell a) Fits
+    → IsReader (λ place. reader place >>= λ x. need (x.0 == same) (Form place.at) >>= λ _. others x.1) (λ a. spell_x same ++ spell a) Fits
 then_known {reader = reader} {spell_x = spell_x} {others = others} {spell = spell} first same fits_same is = record {
   takes = λ place a next fits e.
-      let b = bind_ok (reader place) (λ x. need (x.0 == same) place.at >>= λ _. others x.1) (a, next) e in
-      let g = need_ok (b.0.0 == same) place.at (λ _. others b.0.1) (a, next) b.2 in
+      let b = bind_ok (reader place) (λ x. need (x.0 == same) (Form place.at) >>= λ _. others x.1) (a, next) e in
+      let g = need_ok (b.0.0 == same) (Form place.at) (λ _. others b.0.1) (a, next) b.2 in
       let one = first.takes place b.0.0 b.0.1 fits b.1 in
       let two = is.takes b.0.1 a next one.0.fits g.1 in
       let is_same : b.0.0 ≡ same = eqb-true _ _ g.0 in
@@ -85,7 +88,7 @@ not_true false h = refl
 
 taken_is : (n : ℕ) → IsTail (taken_at n) (λ bytes. bytes) (λ bytes. Unit {0}) (λ bytes. length bytes ≡ n)
 unfolding taken_at
-taken_is n = bytes_is n (λ p. p.at)
+taken_is n = bytes_is n (λ p. Form p.at)
 
 abbrev FitsName : Name → Type 0
 FitsName name = IsU2 (length name)
@@ -94,12 +97,12 @@ name_is : (before : List Name) → IsReader (name_at before) spell_name (λ name
 unfolding name_at
 name_is before = record {
   takes = λ place name next fits e.
-      let l = bind_ok (u2_at place) (λ len. taken_at len.0 len.1 >>= λ name. need (not (stands before name.0)) len.1.at >>= λ _. Ok name) (name, next) e in
-      let n = bind_ok (taken_at l.0.0 l.0.1) (λ name. need (not (stands before name.0)) l.0.1.at >>= λ _. Ok name) (name, next) l.2 in
-      let g = need_ok (not (stands before n.0.0)) l.0.1.at (λ _. Ok n.0) (name, next) n.2 in
+      let l = bind_ok (u2_at place) (λ len. taken_at len.0 len.1 >>= λ name. need (not (stands before name.0)) (Form len.1.at) >>= λ _. Ok name) (name, next) e in
+      let n = bind_ok (taken_at l.0.0 l.0.1) (λ name. need (not (stands before name.0)) (Form l.0.1.at) >>= λ _. Ok name) (name, next) l.2 in
+      let g = need_ok (not (stands before n.0.0)) (Form l.0.1.at) (λ _. Ok n.0) (name, next) n.2 in
       let t = u2_is.takes place l.0.0 l.0.1 fits l.1 in
       let u = (taken_is l.0.0).takes l.0.1 n.0.0 n.0.1 t.0.fits n.1 in
-      subst (λ (y : Name × Place). Took place (spell_name y.0) y.1 × (FitsName y.0 × (stands before y.0 ≡ false)) × Unit {0}) (ok_is ℕ n.0 (name, next) g.1) (
+      subst (λ (y : Name × Place). Took place (spell_name y.0) y.1 × (FitsName y.0 × (stands before y.0 ≡ false)) × Unit {0}) (ok_is CertForm n.0 (name, next) g.1) (
         subst (λ (k : ℕ). Took place (u2 k ++ n.0.0) n.0.1) (sym u.2) (Took-then place (u2 l.0.0) l.0.1 n.0.0 n.0.1 t.0 u.0),
         (subst IsU2 (sym u.2) t.1, not_true _ g.0),
         tt,
@@ -127,7 +130,7 @@ more_takes : (n : ℕ) (before : List Name) (place : Place) (all : List Name) (n
 unfolding more_names_at
 more_takes zero before place all next fits once e =
     let made : List Name × Place = (before, place) in
-    subst (λ (y : List Name × Place). More before 0 place y.0 y.1) (ok_is ℕ made (all, next) e) (record {
+    subst (λ (y : List Name × Place). More before 0 place y.0 y.1) (ok_is CertForm made (all, next) e) (record {
       names = [];
       parts = sym (append-nil before);
       took = record { parts = refl; moved = omega arith; fits = fits };
@@ -220,13 +223,13 @@ body_is : (vars : ℕ) (mode : Mode) (names : List Name) → StandOnce names →
 unfolding body_at
 body_is vars mode names once small = record {
   takes = λ place c next fits e.
-      let k = bind_ok (classes_at vars names 0 place) (λ classes. need (classes.0.1 == length names) classes.1.at >>= λ _. Ok (made mode classes.0.0.0 classes.0.0.1, classes.1)) (c, next) e in
-      let g = need_ok (k.0.0.1 == length names) k.0.1.at (λ _. Ok (made mode k.0.0.0.0 k.0.0.0.1, k.0.1)) (c, next) k.2 in
+      let k = bind_ok (classes_at vars names 0 place) (λ classes. need (classes.0.1 == length names) (Form classes.1.at) >>= λ _. Ok (made mode classes.0.0.0 classes.0.0.1, classes.1)) (c, next) e in
+      let g = need_ok (k.0.0.1 == length names) (Form k.0.1.at) (λ _. Ok (made mode k.0.0.0.0 k.0.0.0.1, k.0.1)) (c, next) k.2 in
       let t = ((classes_is names once small vars).reads 0).takes place k.0.0 k.0.1 fits k.1 in
       let all : k.0.0.1 ≡ length names = eqb-true _ _ g.0 in
       let order : InOrder names 0 (flat_map class_names k.0.0.0.0) (length names) = subst (λ (n : ℕ). InOrder names 0 (flat_map class_names k.0.0.0.0) n) all t.1.1 in
       let whole : Certificate × Place = (made mode k.0.0.0.0 k.0.0.0.1, k.0.1) in
-      subst (λ (y : Certificate × Place). Took place (spell_body names y.0) y.1 × FitsBody vars mode names y.0 × Unit {0}) (ok_is ℕ whole (c, next) g.1)
+      subst (λ (y : Certificate × Place). Took place (spell_body names y.0) y.1 × FitsBody vars mode names y.0 × Unit {0}) (ok_is CertForm whole (c, next) g.1)
       (t.0, record { classes = t.1.0; mode_is = refl; table = table_of names (flat_map class_names k.0.0.0.0) order }, tt);
   again = λ place c rest fits h e.
       let order = makes_order names (typing_names c.typing) 0 (omega arith) fits.table in
@@ -267,23 +270,23 @@ certificate_is vars = record {
 
 -- ---- what the calls promise
 
-pub is_found : (vars : ℕ) (bytes : List ℕ) (r : Result Certificate CertForm) → IsBytes bytes → Answers r (certificate_of vars bytes)
+pub is_found : (vars : ℕ) (bytes : List ℕ) (r : Result Certificate CertForm) → IsBytes bytes → Answers Memory r (certificate_of vars bytes)
     → IfOk r (λ c. SpellsCertificate bytes vars c)
 unfolding certificate_of
 is_found vars bytes (Ok c) fits given =
-    let t = whole_takes (certificate_is vars) (λ p. p.at) bytes c fits given in
+    let t = whole_takes (certificate_is vars) (λ p. Form p.at) bytes c fits given in
     record { is = t.0; fits = t.1 }
 is_found vars bytes (Err e) fits given = tt
 
 spelled_is_read : (vars : ℕ) (bytes : List ℕ) (c : Certificate) → SpellsCertificate bytes vars c → certificate_of vars bytes ≡ Ok c
 unfolding certificate_of
 spelled_is_read vars bytes c h =
-    let t = whole_again (certificate_is vars) (λ p. p.at) c h.fits in
+    let t = whole_again (certificate_is vars) (λ p. Form p.at) c h.fits in
     rw h.is t
 
-pub is_only : (vars : ℕ) (bytes : List ℕ) (r : Result Certificate CertForm) (c : Certificate) → Answers r (certificate_of vars bytes) → SpellsCertificate bytes vars c
-    → Answers r (Ok c)
-is_only vars bytes r c given h = subst (λ (read : Result Certificate ℕ). Answers r read) (spelled_is_read vars bytes c h) given
+pub is_only : (vars : ℕ) (bytes : List ℕ) (r : Result Certificate CertForm) (c : Certificate) → Answers Memory r (certificate_of vars bytes) → SpellsCertificate bytes vars c
+    → Answers Memory r (Ok c)
+is_only vars bytes r c given h = subst (λ (read : Result Certificate CertForm). Answers Memory r read) (spelled_is_read vars bytes c h) given
 
 pub same_certificate : (bytes : List ℕ) (vars : ℕ) (c d : Certificate) → SpellsCertificate bytes vars c → SpellsCertificate bytes vars d → c ≡ d
-same_certificate bytes vars c d h k = ok_is ℕ c d (sym (spelled_is_read vars bytes c h) ∙ spelled_is_read vars bytes d k)
+same_certificate bytes vars c d h k = ok_is CertForm c d (sym (spelled_is_read vars bytes c h) ∙ spelled_is_read vars bytes d k)

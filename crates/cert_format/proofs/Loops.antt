@@ -8,18 +8,11 @@ use Rattle.mon_base.specs.Reading.{Place, ◌>>=◌, counted}
 use Rattle.mon_base.proofs.Reading.{stops}
 use Rattle.mon_base.proofs.Reading as base
 use Rattle.cert_format.specs.declared.fault.CertForm.{CertForm}
-use Rattle.cert_format.specs.declared.fault.CertForm.TheVariants.{Form, Memory}
+use Rattle.cert_format.specs.declared.fault.CertForm.TheVariants.{Memory}
 use Rattle.cert_format.specs.Names.{Name}
-use Rattle.cert_format.specs.Reading.{Read, Fails, several_at, name_at, more_names_at}
-
--- A fault at an item is the answer.
-failed : {Y Z : Type 0} (e : CertForm) (first : Result Y ℕ) (others : Y → Result Z ℕ) → Fails e first → Fails e (first >>= others)
-failed Memory first others h = tt
-failed (Form at) first others h = rw h refl
-
-along : {Y : Type 0} (e : CertForm) (a b : Result Y ℕ) → a ≡ b → Fails e a → Fails e b
-along Memory a b same h = tt
-along (Form at) a b same h = sym same ∙ h
+use Rattle.mon_base.specs.Answer.{Fails}
+use Rattle.mon_base.proofs.Answering.{failed, along}
+use Rattle.cert_format.specs.Reading.{Read, several_at, name_at, more_names_at}
 
 -- ---- items that use names
 
@@ -27,7 +20,7 @@ along (Form at) a b same h = sym same ∙ h
 abbrev pub with_front : {X : Type 0} → List X → Read (List X × ℕ) → Read (List X × ℕ)
 with_front front read = read >>= λ x. Ok ((front ++ x.0.0, x.0.1), x.1)
 
-abbrev answer : {A : Type 0} → A → Result A ℕ
+abbrev answer : {A : Type 0} → A → Result A CertForm
 answer x = Ok x
 
 regroup : {X : Type 0} (front : List X) (first : X) (read : Read (List X × ℕ))
@@ -46,13 +39,13 @@ goes_on item front count i used place x after next total lt h so_far =
     sym one ∙ so_far
 
 pub ends : {X : Type 0} (item : ℕ → Place → Read (X × ℕ)) (e : CertForm) (front : List X) (count i used : ℕ) (place : Place)
-    (total : Read (List X × ℕ)) → i < count → Fails e (item used place)
-    → with_front front (several_at item (count - i) used place) ≡ total → Fails e total
+    (total : Read (List X × ℕ)) → i < count → Fails Memory e (item used place)
+    → with_front front (several_at item (count - i) used place) ≡ total → Fails Memory e total
 unfolding several_at
 ends item e front count i used place total lt h so_far =
     let k : count - i ≡ suc (count - (i + 1)) = omega arith in
-    let one = failed e (several_at item (suc (count - (i + 1))) used place) (λ x. Ok ((front ++ x.0.0, x.0.1), x.1)) (failed e (item used place) (λ first. several_at item (count - (i + 1)) first.0.1 first.1 >>= λ others. Ok ((first.0.0 ∷ others.0.0, others.0.1), others.1)) h) in
-    along e (with_front front (several_at item (suc (count - (i + 1))) used place)) total (subst (λ (n : ℕ). with_front front (several_at item n used place) ≡ total) k so_far) one
+    let one = failed Memory e (several_at item (suc (count - (i + 1))) used place) (λ x. Ok ((front ++ x.0.0, x.0.1), x.1)) (failed Memory e (item used place) (λ first. several_at item (count - (i + 1)) first.0.1 first.1 >>= λ others. Ok ((first.0.0 ∷ others.0.0, others.0.1), others.1)) h) in
+    along Memory e (with_front front (several_at item (suc (count - (i + 1))) used place)) total (subst (λ (n : ℕ). with_front front (several_at item n used place) ≡ total) k so_far) one
 
 pub is_done : {X : Type 0} (item : ℕ → Place → Read (X × ℕ)) (front : List X) (count i used : ℕ) (place : Place) (total : Read (List X × ℕ))
     → count ≤ i → with_front front (several_at item (count - i) used place) ≡ total → total ≡ Ok ((front, used), place)
@@ -65,9 +58,8 @@ is_done {X = X} item front count i used place total le so_far =
 -- ---- items that use none
 
 pub counted_ends : {X : Type 0} (item : Place → Read X) (e : CertForm) (front : List X) (count i : ℕ) (place : Place) (total : Read (List X))
-    → i < count → Fails e (item place) → base.with_front front (counted item (count - i) place) ≡ total → Fails e total
-counted_ends item Memory front count i place total lt h so_far = tt
-counted_ends item (Form at) front count i place total lt h so_far = stops item front count i place at total lt h so_far
+    → i < count → Fails Memory e (item place) → base.with_front front (counted item (count - i) place) ≡ total → Fails Memory e total
+counted_ends item e front count i place total lt h so_far is_told = stops item front count i place e total lt (h is_told) so_far
 
 -- ---- names
 
@@ -81,12 +73,12 @@ names_go_on names count i place name next total lt h so_far =
     sym one ∙ so_far
 
 pub names_end : (e : CertForm) (names : List Name) (count i : ℕ) (place : Place) (total : Read (List Name)) → i < count
-    → Fails e (name_at names place) → more_names_at (count - i) names place ≡ total → Fails e total
+    → Fails Memory e (name_at names place) → more_names_at (count - i) names place ≡ total → Fails Memory e total
 unfolding more_names_at
 names_end e names count i place total lt h so_far =
     let k : count - i ≡ suc (count - (i + 1)) = omega arith in
-    let one = failed e (name_at names place) (λ name. more_names_at (count - (i + 1)) (names ++ name.0 ∷ []) name.1) h in
-    along e (more_names_at (suc (count - (i + 1))) names place) total (subst (λ (n : ℕ). more_names_at n names place ≡ total) k so_far) one
+    let one = failed Memory e (name_at names place) (λ name. more_names_at (count - (i + 1)) (names ++ name.0 ∷ []) name.1) h in
+    along Memory e (more_names_at (suc (count - (i + 1))) names place) total (subst (λ (n : ℕ). more_names_at n names place ≡ total) k so_far) one
 
 pub names_done : (names : List Name) (count i : ℕ) (place : Place) (total : Read (List Name)) → count ≤ i
     → more_names_at (count - i) names place ≡ total → total ≡ Ok (names, place)

@@ -5,6 +5,8 @@ use Rattle.std.specs.Int.{w32}
 use Rattle.std.proofs.lemmas.Bool.{eqb-true}
 use Rattle.mon_base.specs.Reading.{Place, ◌>>=◌, need, counted}
 use Rattle.mon_base.proofs.Reading.{bind_ok, need_ok, ok_is, after, Took, IsReader, then, said, spelled, items}
+use Rattle.cert_format.specs.declared.fault.CertForm.{CertForm}
+use Rattle.cert_format.specs.declared.fault.CertForm.TheVariants.{Form}
 use Rattle.cert_format.specs.declared.note.Phase8.{Phase8}
 use Rattle.cert_format.specs.declared.note.Phase8.TheVariants as phases
 use Rattle.cert_format.specs.declared.note.Site.{Site}
@@ -13,7 +15,8 @@ use Rattle.cert_format.specs.declared.note.Term.TheVariants as terms
 use Rattle.cert_format.specs.declared.note.Note.{Note}
 use Rattle.cert_format.specs.declared.note.Note.TheVariants as notes
 use Rattle.cert_format.specs.Spelling.{u1, i4, flag, spell_term, spell_terms, spell_phase, spell_site, spell_note}
-use Rattle.cert_format.specs.Fits.{IsU1, FitsTerm, FitsSite, FitsNote}
+use Rattle.mon_base.specs.Widths.{IsU1}
+use Rattle.cert_format.specs.Fits.{FitsTerm, FitsSite, FitsNote}
 use Rattle.cert_format.specs.Reading.{u1_at, u2_at, i4_at, flag_of, flag_at, pair_at, term_of_kind, term_at, terms_at, phase_of, phase_at, site_at, held_at, granted_at, owed_at, stop_at, note_of_kind, note_at, free_at}
 use Rattle.cert_format.proofs.Readers.{u1_is, u2_is, i4_is, pair_is, IsCode, coded, chosen, Takes, form, plain, never, kind_or, tagged, kind_again, plain_again}
 
@@ -132,7 +135,7 @@ site_is = record {
       let b = bind_ok (pair_at u2_at (pair_at phase_at u2_at) place) (λ x. Ok (record { method = x.0.0; phase = x.0.1.0; base = x.0.1.1 }, x.1)) (x, next) e in
       let t = parts.takes place b.0.0 b.0.1 fits b.1 in
       let made : Site × Place = (record { method = b.0.0.0; phase = b.0.0.1.0; base = b.0.0.1.1 }, b.0.1) in
-      subst (λ (y : Site × Place). Took place (spell_site y.0) y.1 × FitsSite y.0 × Unit {0}) (ok_is ℕ made (x, next) b.2) (t.0, (t.1.0, t.1.1.1), tt);
+      subst (λ (y : Site × Place). Took place (spell_site y.0) y.1 × FitsSite y.0 × Unit {0}) (ok_is CertForm made (x, next) b.2) (t.0, (t.1.0, t.1.1.1), tt);
   again = λ place x rest fits h e.
       let parts = pair_is u2_is (pair_is phase_is u2_is) in
       let t = parts.again place (x.method, (x.phase, x.base)) rest (fits.0, (tt, fits.1)) tt e in
@@ -188,12 +191,12 @@ pub free_is : IsReader free_at spell_note (λ n. n ≡ notes.Free)
 unfolding free_at
 free_is = record {
   takes = λ place n next fits e.
-      let k = bind_ok (u1_at place) (λ kind. need (eqb kind.0 0) place.at >>= λ _. Ok (notes.Free, kind.1)) (n, next) e in
-      let g = need_ok (eqb k.0.0 0) place.at (λ _. Ok (notes.Free, k.0.1)) (n, next) k.2 in
+      let k = bind_ok (u1_at place) (λ kind. need (eqb kind.0 0) (Form place.at) >>= λ _. Ok (notes.Free, kind.1)) (n, next) e in
+      let g = need_ok (eqb k.0.0 0) (Form place.at) (λ _. Ok (notes.Free, k.0.1)) (n, next) k.2 in
       let t = u1_is.takes place k.0.0 k.0.1 fits k.1 in
       let zero : k.0.0 ≡ 0 = eqb-true k.0.0 0 g.0 in
       let made : Note × Place = (notes.Free, k.0.1) in
-      subst (λ (y : Note × Place). Took place (spell_note y.0) y.1 × (y.0 ≡ notes.Free) × Unit {0}) (ok_is ℕ made (n, next) g.1) (subst (λ (i : ℕ). Took place (u1 i) k.0.1) zero t.0, refl, tt);
+      subst (λ (y : Note × Place). Took place (spell_note y.0) y.1 × (y.0 ≡ notes.Free) × Unit {0}) (ok_is CertForm made (n, next) g.1) (subst (λ (i : ℕ). Took place (u1 i) k.0.1) zero t.0, refl, tt);
   again = λ place n rest fits h e.
       let start : place.rest ≡ u1 0 ++ rest = e ∙ ap (λ (m : Note). spell_note m ++ rest) fits in
       rw (u1_is.again place 0 rest (omega arith) tt start, fits) refl;

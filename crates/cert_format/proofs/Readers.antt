@@ -7,9 +7,11 @@ use Rattle.std.proofs.lemmas.Bool.{eqb-true}
 use Rattle.std.proofs.lemmas.List.{append-nil, length-append}
 use Rattle.mon_base.specs.Reading.{Place, IsBytes, ◌>>=◌}
 use Rattle.mon_base.proofs.Reading.{bind_ok, ok_is, after, Took, Took-then, IsTail, IsReader, then, said, number_is, one, two, four}
+use Rattle.cert_format.specs.declared.fault.CertForm.{CertForm}
+use Rattle.cert_format.specs.declared.fault.CertForm.TheVariants.{Form}
 use Rattle.cert_format.specs.Names.{Name}
 use Rattle.cert_format.specs.Spelling.{u1, u2, u4, i4}
-use Rattle.cert_format.specs.Fits.{IsU1, IsU2, IsU4}
+use Rattle.mon_base.specs.Widths.{IsU1, IsU2, IsU4}
 use Rattle.cert_format.specs.Reading.{Read, u1_at, u2_at, u4_at, i4_at, pair_at, several_at, short_list_at, long_list_at}
 use Rattle.cert_format.proofs.Order.{InOrder, join, split}
 
@@ -17,15 +19,15 @@ use Rattle.cert_format.proofs.Order.{InOrder, join, split}
 
 pub u1_is : IsReader u1_at u1 IsU1
 unfolding u1_at
-u1_is = number_is one (λ p. p.at)
+u1_is = number_is one (λ p. Form p.at)
 
 pub u2_is : IsReader u2_at u2 IsU2
 unfolding u2_at
-u2_is = number_is two (λ p. p.at)
+u2_is = number_is two (λ p. Form p.at)
 
 pub u4_is : IsReader u4_at u4 IsU4
 unfolding u4_at
-u4_is = number_is four (λ p. p.at)
+u4_is = number_is four (λ p. Form p.at)
 
 signed_fits : (n : ℕ) → n < 2 ^ 32 → FitsSigned w32 (cast_signed w32 n)
 signed_fits n h = omega (arith, ints)
@@ -41,7 +43,7 @@ i4_is = record {
       let t = u4_is.takes place b.0.0 b.0.1 fits b.1 in
       let made : ℤ × Place = (cast_signed w32 b.0.0, b.0.1) in
       let same : cast_unsigned w32 (cast_signed w32 b.0.0) ≡ b.0.0 = of_z-to_z w32 b.0.0 t.1 in
-      subst (λ (y : ℤ × Place). Took place (i4 y.0) y.1 × FitsSigned w32 y.0 × Unit {0}) (ok_is ℕ made (x, next) b.2) (subst (λ (n : ℕ). Took place (u4 n) b.0.1) (sym same) t.0, signed_fits b.0.0 t.1, tt);
+      subst (λ (y : ℤ × Place). Took place (i4 y.0) y.1 × FitsSigned w32 y.0 × Unit {0}) (ok_is CertForm made (x, next) b.2) (subst (λ (n : ℕ). Took place (u4 n) b.0.1) (sym same) t.0, signed_fits b.0.0 t.1, tt);
   again = λ place x rest fits h e.
       rw (u4_is.again place (cast_unsigned w32 x) rest (unsigned_fits x fits) tt e, to_z-of_z w32 x fits) refl;
 }
@@ -59,7 +61,7 @@ pair_is {A = A} {B = B} {first = first} {second = second} {spell_a = spell_a} {s
       let t = is_a.takes place a.0.0 a.0.1 fits a.1 in
       let u = is_b.takes a.0.1 b.0.0 b.0.1 t.0.fits b.1 in
       let made : (A × B) × Place = ((a.0.0, b.0.0), b.0.1) in
-      subst (λ (y : (A × B) × Place). Took place (spell_a y.0.0 ++ spell_b y.0.1) y.1 × (Fits_a y.0.0 × Fits_b y.0.1) × Unit {0}) (ok_is ℕ made (x, next) b.2) (Took-then place (spell_a a.0.0) a.0.1 (spell_b b.0.0) b.0.1 t.0 u.0, (t.1, u.1), tt);
+      subst (λ (y : (A × B) × Place). Took place (spell_a y.0.0 ++ spell_b y.0.1) y.1 × (Fits_a y.0.0 × Fits_b y.0.1) × Unit {0}) (ok_is CertForm made (x, next) b.2) (Took-then place (spell_a a.0.0) a.0.1 (spell_b b.0.0) b.0.1 t.0 u.0, (t.1, u.1), tt);
   again = λ place x rest fits h e.
       let mid = after place (spell_a x.0) (spell_b x.1 ++ rest) in
       let t = is_a.again place x.0 (spell_b x.1 ++ rest) fits.0 tt (e ∙ append_assoc (spell_a x.0) (spell_b x.1) rest) in
@@ -70,12 +72,12 @@ pair_is {A = A} {B = B} {first = first} {second = second} {spell_a = spell_a} {s
 
 -- ---- a number that tells which it is
 
-pub record IsCode {X : Type 0} (of : ℕ → ℕ → Result X ℕ) (code : X → ℕ) : Type 0 where
+pub record IsCode {X : Type 0} (of : ℕ → ℕ → Result X CertForm) (code : X → ℕ) : Type 0 where
   pub told : (at n : ℕ) (x : X) → of at n ≡ Ok x → code x ≡ n
   pub back : (at : ℕ) (x : X) → of at (code x) ≡ Ok x
   pub small : (x : X) → code x < 256
 
-pub coded : {X : Type 0} (of : ℕ → ℕ → Result X ℕ) (code : X → ℕ) → IsCode of code
+pub coded : {X : Type 0} (of : ℕ → ℕ → Result X CertForm) (code : X → ℕ) → IsCode of code
     → IsReader (λ p. u1_at p >>= λ n. of p.at n.0 >>= λ x. Ok (x, n.1)) (λ x. u1 (code x)) (λ x. Unit {0})
 coded {X = X} of code is = record {
   takes = λ place x next fits e.
@@ -84,15 +86,15 @@ coded {X = X} of code is = record {
       let t = u1_is.takes place a.0.0 a.0.1 fits a.1 in
       let made : X × Place = (b.0, a.0.1) in
       let same : code b.0 ≡ a.0.0 = is.told place.at a.0.0 b.0 b.1 in
-      subst (λ (y : X × Place). Took place (u1 (code y.0)) y.1 × Unit {0} × Unit {0}) (ok_is ℕ made (x, next) b.2) (subst (λ (n : ℕ). Took place (u1 n) a.0.1) (sym same) t.0, tt, tt);
+      subst (λ (y : X × Place). Took place (u1 (code y.0)) y.1 × Unit {0} × Unit {0}) (ok_is CertForm made (x, next) b.2) (subst (λ (n : ℕ). Took place (u1 n) a.0.1) (sym same) t.0, tt, tt);
   again = λ place x rest fits h e.
       rw (u1_is.again place (code x) rest (is.small x) tt e, is.back place.at x) refl;
 }
 
 -- the next of an if-chain
-pub chosen : {X : Type 0} (test : Bool) (x y : X) (other : Result X ℕ) (P : Type 0) → cond test (Ok x) other ≡ Ok y
+pub chosen : {X : Type 0} (test : Bool) (x y : X) (other : Result X CertForm) (P : Type 0) → cond test (Ok x) other ≡ Ok y
     → (test ≡ true → x ≡ y → P) → (other ≡ Ok y → P) → P
-chosen true x y other P e same later = same refl (ok_is ℕ x y e)
+chosen true x y other P e same later = same refl (ok_is CertForm x y e)
 chosen false x y other P e same later = later e
 
 -- ---- what stands after a kind
@@ -111,7 +113,7 @@ form {A = A} {X = X} {reader = reader} {spell_x = spell_x} {before = before} {sp
       let t = is.takes place b.0.0 b.0.1 fits b.1 in
       let m = made b.0.0 t.1 in
       let whole : A × Place = (wrap b.0.0, b.0.1) in
-      subst (λ (y : A × Place). (text : List ℕ) × Took place text y.1 × (spell y.0 ≡ before ++ text) × Fits y.0) (ok_is ℕ whole (a, next) b.2) (spell_x b.0.0, t.0, m.0, m.1);
+      subst (λ (y : A × Place). (text : List ℕ) × Took place text y.1 × (spell y.0 ≡ before ++ text) × Fits y.0) (ok_is CertForm whole (a, next) b.2) (spell_x b.0.0, t.0, m.0, m.1);
 }
 
 pub plain : {A : Type 0} {before : List ℕ} {spell : A → List ℕ} {Fits : A → Type 0} (a : A) → spell a ≡ before → Fits a
@@ -119,10 +121,10 @@ pub plain : {A : Type 0} {before : List ℕ} {spell : A → List ℕ} {Fits : A 
 plain {A = A} {before = before} {spell = spell} {Fits = Fits} a same holds = record {
   takes = λ place x next fits e.
       let whole : A × Place = (a, place) in
-      subst (λ (y : A × Place). (text : List ℕ) × Took place text y.1 × (spell y.0 ≡ before ++ text) × Fits y.0) (ok_is ℕ whole (x, next) e) ([], record { parts = refl; moved = omega arith; fits = fits }, same ∙ sym (append-nil before), holds);
+      subst (λ (y : A × Place). (text : List ℕ) × Took place text y.1 × (spell y.0 ≡ before ++ text) × Fits y.0) (ok_is CertForm whole (x, next) e) ([], record { parts = refl; moved = omega arith; fits = fits }, same ∙ sym (append-nil before), holds);
 }
 
-pub never : {A : Type 0} {before : List ℕ} {spell : A → List ℕ} {Fits : A → Type 0} (at : ℕ) → Takes (λ p. Err at) before spell Fits
+pub never : {A : Type 0} {before : List ℕ} {spell : A → List ℕ} {Fits : A → Type 0} (at : ℕ) → Takes (λ p. Err (Form at)) before spell Fits
 never at = record { takes = λ place a next fits e. absurd cc }
 
 -- this kind, or another
@@ -178,7 +180,7 @@ module _ (names : List Name) where
   unfolding several_at
   several_takes {X = X} item spell Fits names_in is zero used place a next fits e =
       let made : (List X × ℕ) × Place = (([], used), place) in
-      subst (λ (y : (List X × ℕ) × Place). Took place (flat_map spell y.0.0) y.1 × (AllByRecursion Fits y.0.0 × InOrder names used (flat_map names_in y.0.0) y.0.1) × (length y.0.0 ≡ 0)) (ok_is ℕ made (a, next) e) (record { parts = refl; moved = omega arith; fits = fits }, (tt, refl), refl)
+      subst (λ (y : (List X × ℕ) × Place). Took place (flat_map spell y.0.0) y.1 × (AllByRecursion Fits y.0.0 × InOrder names used (flat_map names_in y.0.0) y.0.1) × (length y.0.0 ≡ 0)) (ok_is CertForm made (a, next) e) (record { parts = refl; moved = omega arith; fits = fits }, (tt, refl), refl)
   several_takes {X = X} item spell Fits names_in is (suc n) used place a next fits e =
       let f = bind_ok (item used place) (λ first. several_at item n first.0.1 first.1 >>= λ others. Ok ((first.0.0 ∷ others.0.0, others.0.1), others.1)) (a, next) e in
       let o = bind_ok (several_at item n f.0.0.1 f.0.1) (λ others. Ok ((f.0.0.0 ∷ others.0.0, others.0.1), others.1)) (a, next) f.2 in
@@ -187,7 +189,7 @@ module _ (names : List Name) where
       let both = Took-then place (spell f.0.0.0) f.0.1 (flat_map spell o.0.0.0) o.0.1 first.0 second.0 in
       let order = join names (names_in f.0.0.0) (flat_map names_in o.0.0.0) used f.0.0.1 o.0.0.1 first.1.1 second.1.1 in
       let made : (List X × ℕ) × Place = ((f.0.0.0 ∷ o.0.0.0, o.0.0.1), o.0.1) in
-      subst (λ (y : (List X × ℕ) × Place). Took place (flat_map spell y.0.0) y.1 × (AllByRecursion Fits y.0.0 × InOrder names used (flat_map names_in y.0.0) y.0.1) × (length y.0.0 ≡ suc n)) (ok_is ℕ made (a, next) o.2) (both, ((first.1.0, second.1.0), order), ap suc second.2)
+      subst (λ (y : (List X × ℕ) × Place). Took place (flat_map spell y.0.0) y.1 × (AllByRecursion Fits y.0.0 × InOrder names used (flat_map names_in y.0.0) y.0.1) × (length y.0.0 ≡ suc n)) (ok_is CertForm made (a, next) o.2) (both, ((first.1.0, second.1.0), order), ap suc second.2)
 
   several_again : {X : Type 0} (item : ℕ → Place → Read (X × ℕ)) (spell : X → List ℕ) (Fits : X → Type 0) (names_in : X → List Name) (is : IsItem item spell Fits names_in)
       (xs : List X) (used last : ℕ) (place : Place) (rest : List ℕ) → AllByRecursion Fits xs → InOrder names used (flat_map names_in xs) last

@@ -7,13 +7,16 @@ use Rattle.std.proofs.lemmas.List.{length-append}
 use Rattle.std.proofs.lemmas.Slice.Zip.{firsts-zip, seconds-zip}
 use Rattle.mon_base.specs.Reading.{Place, ◌>>=◌, need}
 use Rattle.mon_base.proofs.Reading.{bind_ok, need_ok, ok_is, after, Took, Took-then}
+use Rattle.cert_format.specs.declared.fault.CertForm.{CertForm}
+use Rattle.cert_format.specs.declared.fault.CertForm.TheVariants.{Form}
 use Rattle.cert_format.specs.declared.typing.VType.{VType}
 use Rattle.cert_format.specs.declared.typing.VType.TheVariants as types
 use Rattle.cert_format.specs.declared.typing.FrameType.{FrameType}
 use Rattle.cert_format.specs.declared.note.Note.{Note}
 use Rattle.cert_format.specs.Names.{Name, place_of, StandOnce, type_names, frame_names, method_names, class_names}
 use Rattle.cert_format.specs.Spelling.{u1, u2, u4, flag, spell_type, spell_types, spell_note, spell_instruction, spell_method, spell_class, spell_classes}
-use Rattle.cert_format.specs.Fits.{IsU2, IsU4, FitsType, FitTypes, ends_with_top, FitsFrame, FitsInstruction, FitsMethod, FitsClass, FitClasses}
+use Rattle.mon_base.specs.Widths.{IsU2, IsU4}
+use Rattle.cert_format.specs.Fits.{FitsType, FitTypes, ends_with_top, FitsFrame, FitsInstruction, FitsMethod, FitsClass, FitClasses}
 use Rattle.cert_format.specs.Reading.{Read, u1_at, u4_at, flag_at, used_with, reference_at, type_of_kind, type_at, types_at, locals_at, frame_at, note_at, not_reached_at, reached_at, instruction_at, unzipped, method_at, class_at, classes_at}
 use Rattle.cert_format.proofs.Places.{get_or-place}
 use Rattle.cert_format.proofs.Order.{IsTurn, InOrder, join, split}
@@ -63,7 +66,7 @@ paired_is {F = F} {N = N} names {lists = lists} count FitsCount spell Fits g is 
         let text : count (length (unzipped xs).0) ++ flat_map spell (zip (unzipped xs).0 (unzipped xs).1) ≡ count (length xs) ++ flat_map spell xs = rw (length-firsts xs, zip-unzip xs) refl in
         subst (λ (y : ((List F × List N) × ℕ) × Place).
         Took place (count (length y.0.0.0) ++ flat_map spell (zip y.0.0.0 y.0.0.1)) y.1
-        × ((FitsCount (length y.0.0.0) × ((length y.0.0.1 ≡ length y.0.0.0) × AllByRecursion Fits (zip y.0.0.0 y.0.0.1))) × InOrder names used (flat_map g y.0.0.0) y.0.1) × Unit {0}) (ok_is ℕ made (a, next) b.2) (
+        × ((FitsCount (length y.0.0.0) × ((length y.0.0.1 ≡ length y.0.0.0) × AllByRecursion Fits (zip y.0.0.0 y.0.0.1))) × InOrder names used (flat_map g y.0.0.0) y.0.1) × Unit {0}) (ok_is CertForm made (a, next) b.2) (
           subst (λ (w : List ℕ). Took place w b.0.1) (sym text) t.0,
           (
             (subst FitsCount (sym (length-firsts xs)) t.1.0.0, (length-seconds xs ∙ sym (length-firsts xs), subst (AllByRecursion Fits) (sym (zip-unzip xs)) t.1.0.1)),
@@ -94,14 +97,14 @@ module _ (names : List Name) (once : StandOnce names) (small : length names < 2 
   unfolding reference_at
   reference_takes at used = record {
     takes = λ place t next fits e.
-        let b = bind_ok (u4_at place) (λ i. need (nat_le i.0 used && nat_lt i.0 (length names)) at >>= λ _. Ok ((types.Ref (get_or names i.0 []), used_with used i.0), i.1)) (t, next) e in
+        let b = bind_ok (u4_at place) (λ i. need (nat_le i.0 used && nat_lt i.0 (length names)) (Form at) >>= λ _. Ok ((types.Ref (get_or names i.0 []), used_with used i.0), i.1)) (t, next) e in
         let i = b.0.0 in
-        let g = need_ok (nat_le i used && nat_lt i (length names)) at (λ _. Ok ((types.Ref (get_or names i []), used_with used i), b.0.1)) (t, next) b.2 in
+        let g = need_ok (nat_le i used && nat_lt i (length names)) (Form at) (λ _. Ok ((types.Ref (get_or names i []), used_with used i), b.0.1)) (t, next) b.2 in
         let turn = in_turn i used (length names) g.0 in
         let own : place_of names (get_or names i []) ≡ i = once i turn.1 in
         let u = u4_is.takes place i b.0.1 fits b.1 in
         let made : (VType × ℕ) × Place = ((types.Ref (get_or names i []), used_with used i), b.0.1) in
-        subst (λ (y : (VType × ℕ) × Place). (text : List ℕ) × Took place text y.1 × (spell_type names y.0.0 ≡ u1 3 ++ text) × FitsUsed used y.0) (ok_is ℕ made (t, next) g.1)
+        subst (λ (y : (VType × ℕ) × Place). (text : List ℕ) × Took place text y.1 × (spell_type names y.0.0 ≡ u1 3 ++ text) × FitsUsed used y.0) (ok_is CertForm made (t, next) g.1)
         (u4 i, u.0, ap (λ (n : ℕ). u1 3 ++ u4 n) own, (tt, (record { known = rw own turn.1; turn = rw own turn.0 }, rw own refl)));
   }
 
@@ -169,10 +172,10 @@ module _ (names : List Name) (once : StandOnce names) (small : length names < 2 
   locals_is = record {
     reads = λ used. record {
       takes = λ place a next fits e.
-          let b = bind_ok (types_at names used place) (λ locals. need (not (ends_with_top locals.0.0)) (locals.1.at - 1) >>= λ _. Ok locals) (a, next) e in
-          let g = need_ok (not (ends_with_top b.0.0.0)) (b.0.1.at - 1) (λ _. Ok b.0) (a, next) b.2 in
+          let b = bind_ok (types_at names used place) (λ locals. need (not (ends_with_top locals.0.0)) (Form (locals.1.at - 1)) >>= λ _. Ok locals) (a, next) e in
+          let g = need_ok (not (ends_with_top b.0.0.0)) (Form (b.0.1.at - 1)) (λ _. Ok b.0) (a, next) b.2 in
           let t = (types_is.reads used).takes place b.0.0 b.0.1 fits b.1 in
-          subst (λ (y : (List VType × ℕ) × Place). Took place (spell_types names y.0.0) y.1 × (FitLocals y.0.0 × InOrder names used (flat_map type_names y.0.0) y.0.1) × Unit {0}) (ok_is ℕ b.0 (a, next) g.1)
+          subst (λ (y : (List VType × ℕ) × Place). Took place (spell_types names y.0.0) y.1 × (FitLocals y.0.0 × InOrder names used (flat_map type_names y.0.0) y.0.1) × Unit {0}) (ok_is CertForm b.0 (a, next) g.1)
           (t.0, ((t.1.0, not_true _ g.0), t.1.1), tt);
       again = λ place a rest fits h e. rw ((types_is.reads used).again place a rest (fits.0.0, fits.1) tt e, fits.0.1) refl;
     };
@@ -194,7 +197,7 @@ module _ (names : List Name) (once : StandOnce names) (small : length names < 2 
           let t = (locals_is.reads used).takes place l.0.0 l.0.1 fits l.1 in
           let u = (types_is.reads l.0.0.1).takes l.0.1 s.0.0 s.0.1 t.0.fits s.1 in
           let made : (FrameType × ℕ) × Place = ((record { locals = l.0.0.0; stack = s.0.0.0 }, s.0.0.1), s.0.1) in
-          subst (λ (y : (FrameType × ℕ) × Place). Took place (spell_both y.0.0) y.1 × (FitsFrame y.0.0 × InOrder names used (names_both y.0.0) y.0.1) × Unit {0}) (ok_is ℕ made (a, next) s.2) (
+          subst (λ (y : (FrameType × ℕ) × Place). Took place (spell_both y.0.0) y.1 × (FitsFrame y.0.0 × InOrder names used (names_both y.0.0) y.0.1) × Unit {0}) (ok_is CertForm made (a, next) s.2) (
             Took-then place (spell_types names l.0.0.0) l.0.1 (spell_types names s.0.0.0) s.0.1 t.0 u.0,
             (record { locals = t.1.0.0; last = t.1.0.1; stack = u.1.0 }, join names (flat_map type_names l.0.0.0) (flat_map type_names s.0.0.0) used l.0.0.1 s.0.0.1 t.1.1 u.1.1),
             tt,
@@ -236,7 +239,7 @@ module _ (names : List Name) (once : StandOnce names) (small : length names < 2 
           let t = (frame_is.reads used).takes place f.0.0 f.0.1 fits f.1 in
           let u = (note_is vars).takes f.0.1 n.0.0 n.0.1 t.0.fits n.1 in
           let made : (Instruction × ℕ) × Place = (((Some f.0.0.0, n.0.0), f.0.0.1), n.0.1) in
-          subst (λ (y : (Instruction × ℕ) × Place). (text : List ℕ) × Took place text y.1 × (spell_used y.0 ≡ u1 1 ++ text) × FitsInstructionUsed used y.0) (ok_is ℕ made (a, next) n.2) (
+          subst (λ (y : (Instruction × ℕ) × Place). (text : List ℕ) × Took place text y.1 × (spell_used y.0 ≡ u1 1 ++ text) × FitsInstructionUsed used y.0) (ok_is CertForm made (a, next) n.2) (
             spell_both f.0.0.0 ++ spell_note n.0.0,
             Took-then place (spell_both f.0.0.0) f.0.1 (spell_note n.0.0) n.0.1 t.0 u.0,
             append_assoc (u1 1) (spell_both f.0.0.0) (spell_note n.0.0),

@@ -2,6 +2,7 @@
 use Rattle.std.specs.Prelude.{◌≡◌, ℕ, ◌-◌, ◌<◌, ◌^◌, Bool, true, false, List, length, slice_get, Option, Some, None, FitsSigned, ⊤}
 use Rattle.std.specs.List.{AllByRecursion, zip}
 use Rattle.std.specs.Int.{w32}
+use Rattle.mon_base.specs.Widths.{IsU1, IsU2, IsU4}
 use Rattle.cert_format.specs.declared.typing.VType.{VType}
 use Rattle.cert_format.specs.declared.typing.VType.TheVariants as types
 use Rattle.cert_format.specs.declared.typing.FrameType.{FrameType}
@@ -13,16 +14,6 @@ use Rattle.cert_format.specs.declared.note.Note.TheVariants as notes
 use Rattle.cert_format.specs.declared.certificate.Certificate.{Certificate}
 use Rattle.cert_format.specs.Names.{Name, names_of}
 use Rattle.cert_format.specs.Spelling.{spell_certificate}
-
--- numbers that one, two and four bytes hold
-abbrev pub IsU1 : ℕ → Type 0
-IsU1 n = n < 2 ^ 8
-
-abbrev pub IsU2 : ℕ → Type 0
-IsU2 n = n < 2 ^ 16
-
-abbrev pub IsU4 : ℕ → Type 0
-IsU4 n = n < 2 ^ 32
 
 -- ---- frame types
 

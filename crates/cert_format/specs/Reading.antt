@@ -21,46 +21,29 @@ use Rattle.cert_format.specs.declared.note.Note.TheVariants as notes
 use Rattle.cert_format.specs.declared.certificate.Mode.{Mode}
 use Rattle.cert_format.specs.declared.certificate.Mode.TheVariants as modes
 use Rattle.cert_format.specs.declared.certificate.Certificate.{Certificate}
+use Rattle.mon_base.specs.Answer.{Fails}
 use Rattle.cert_format.specs.Names.{Name, place_of}
 use Rattle.cert_format.specs.Fits.{ends_with_top}
 
--- What the reader of X answers: the value and the place after it, or where the fault is.
+-- What the reader of X answers: the value and the place after it, or the fault.
 abbrev pub Read : Type 0 → Type 0
-Read X = Result (X × Place) ℕ
+Read X = Result (X × Place) CertForm
 
--- What a call answered, and the place where it left, are what reading gives; unless memory ran out.
-abbrev pub Fails : {Y : Type 0} → CertForm → Result Y ℕ → Type 0
-Fails (Form at) read = read ≡ Err at
-Fails Memory read = Unit {0}
-
-abbrev pub Reads : {X : Type 0} → Result X CertForm → Read X → Place → Type 0
-Reads (Ok x) read new = read ≡ Ok (x, new)
-Reads (Err e) read new = Fails e read
-
--- the same of an answer that is seen by view
-abbrev pub ReadsAs : {X Y : Type 0} → (X → Y) → Result X CertForm → Read Y → Place → Type 0
-ReadsAs view (Ok x) read new = read ≡ Ok (view x, new)
-ReadsAs view (Err e) read new = Fails e read
-
--- the same, with how many names are used after it
+-- What a call answered, how many names are used after it, and the place where it left, are what reading gives; unless memory ran out.
 abbrev pub Uses : {X : Type 0} → Result X CertForm → Read (X × ℕ) → ℕ → Place → Type 0
 Uses (Ok x) read used new = read ≡ Ok ((x, used), new)
-Uses (Err e) read used new = Fails e read
-
-abbrev pub Answers : {X : Type 0} → Result X CertForm → Result X ℕ → Type 0
-Answers (Ok x) answer = answer ≡ Ok x
-Answers (Err e) answer = Fails e answer
+Uses (Err e) read used new = Fails Memory e read
 
 -- ---- numbers and bytes
 
 unfoldable pub u1_at : Place → Read ℕ
-u1_at p = ok_or (number_at 1 p) p.at
+u1_at p = ok_or (number_at 1 p) (Form p.at)
 
 unfoldable pub u2_at : Place → Read ℕ
-u2_at p = ok_or (number_at 2 p) p.at
+u2_at p = ok_or (number_at 2 p) (Form p.at)
 
 unfoldable pub u4_at : Place → Read ℕ
-u4_at p = ok_or (number_at 4 p) p.at
+u4_at p = ok_or (number_at 4 p) (Form p.at)
 
 unfoldable pub i4_at : Place → Read ℤ
 i4_at p = do
@@ -68,11 +51,11 @@ i4_at p = do
   Ok (cast_signed w32 n.0, n.1)
 
 unfoldable pub taken_at : ℕ → Place → Read (List ℕ)
-taken_at n p = ok_or (bytes_at n p) p.at
+taken_at n p = ok_or (bytes_at n p) (Form p.at)
 
 -- the flag that the number is, which stands at `at`
-abbrev pub flag_of : ℕ → ℕ → Result Bool ℕ
-flag_of at n = if n == 0 then Ok false else if n == 1 then Ok true else Err at
+abbrev pub flag_of : ℕ → ℕ → Result Bool CertForm
+flag_of at n = if n == 0 then Ok false else if n == 1 then Ok true else Err (Form at)
 
 unfoldable pub flag_at : Place → Read Bool
 flag_at p = do
@@ -82,15 +65,15 @@ flag_at p = do
 
 -- ---- the head and the names
 
-unfoldable pub mode_of : ℕ → ℕ → Result Mode ℕ
-mode_of at n = if n == 0 then Ok modes.Hold else if n == 1 then Ok modes.Release else Err at
+unfoldable pub mode_of : ℕ → ℕ → Result Mode CertForm
+mode_of at n = if n == 0 then Ok modes.Hold else if n == 1 then Ok modes.Release else Err (Form at)
 
 unfoldable pub head_at : Place → Read Mode
 head_at p = do
   magic ← u4_at p
-  known ← need (magic.0 == 0x43535043) p.at
+  known ← need (magic.0 == 0x43535043) (Form p.at)
   version ← u2_at magic.1
-  first ← need (version.0 == 1) magic.1.at
+  first ← need (version.0 == 1) (Form magic.1.at)
   number ← u1_at version.1
   mode ← mode_of version.1.at number.0
   Ok (mode, number.1)
@@ -100,7 +83,7 @@ unfoldable pub name_at : List Name → Place → Read Name
 name_at before p = do
   len ← u2_at p
   name ← taken_at len.0 len.1
-  new ← need (not (nat_lt (place_of before name.0) (length before))) len.1.at
+  new ← need (not (nat_lt (place_of before name.0) (length before))) (Form len.1.at)
   Ok name
 
 -- these, and so many more
@@ -149,7 +132,7 @@ used_with used place = if place == used then used + 1 else used
 unfoldable pub reference_at : List Name → ℕ → ℕ → Place → Read (VType × ℕ)
 reference_at names at used p = do
   place ← u4_at p
-  known ← need (nat_le place.0 used && nat_lt place.0 (length names)) at
+  known ← need (nat_le place.0 used && nat_lt place.0 (length names)) (Form at)
   Ok ((types.Ref (get_or names place.0 []), used_with used place.0), place.1)
 
 -- a type that begins at `at`, after its kind
@@ -161,7 +144,7 @@ type_of_kind names at used kind p =
     else if kind == 3 then reference_at names at used p
     else if kind == 4 then Ok ((types.UninitThis, used), p)
     else if kind == 5 then (u4_at p >>= λ index. Ok ((types.Uninit index.0, used), index.1))
-    else Err at
+    else Err (Form at)
 
 unfoldable pub type_at : List Name → ℕ → Place → Read (VType × ℕ)
 type_at names used p = do
@@ -175,7 +158,7 @@ types_at names used p = short_list_at (type_at names) used p
 unfoldable pub locals_at : List Name → ℕ → Place → Read (List VType × ℕ)
 locals_at names used p = do
   locals ← types_at names used p
-  shortest ← need (not (ends_with_top locals.0.0)) (locals.1.at - 1)
+  shortest ← need (not (ends_with_top locals.0.0)) (Form (locals.1.at - 1))
   Ok locals
 
 unfoldable pub frame_at : List Name → ℕ → Place → Read (FrameType × ℕ)
@@ -201,7 +184,7 @@ term_of_kind at kind p =
     else if kind == 3 then (u1_at p >>= λ a. Ok (terms.Arg a.0, a.1))
     else if kind == 4 then Ok (terms.Result, p)
     else if kind == 5 then Ok (terms.Lock, p)
-    else Err at
+    else Err (Form at)
 
 unfoldable pub term_at : Place → Read Term
 term_at p = do
@@ -214,12 +197,12 @@ terms_at p = do
   count ← u1_at p
   counted term_at count.0 count.1
 
-unfoldable pub phase_of : ℕ → ℕ → Result Phase8 ℕ
+unfoldable pub phase_of : ℕ → ℕ → Result Phase8 CertForm
 phase_of at n =
     if n == 0 then Ok phases.Before
     else if n == 1 then Ok phases.After
     else if n == 2 then Ok phases.Exceptional
-    else Err at
+    else Err (Form at)
 
 unfoldable pub phase_at : Place → Read Phase8
 phase_at p = do
@@ -261,7 +244,7 @@ note_of_kind vars at kind p =
     else if kind == 3 then granted_at p
     else if kind == 4 then owed_at p
     else if kind == 5 then stop_at p
-    else Err at
+    else Err (Form at)
 
 unfoldable pub note_at : ℕ → Place → Read Note
 note_at vars p = do
@@ -272,7 +255,7 @@ note_at vars p = do
 unfoldable pub free_at : Place → Read Note
 free_at p = do
   kind ← u1_at p
-  free ← need (kind.0 == 0) p.at
+  free ← need (kind.0 == 0) (Form p.at)
   Ok (notes.Free, kind.1)
 
 -- ---- instructions
@@ -314,7 +297,7 @@ classes_at vars names used p = do
 unfoldable pub body_at : ℕ → Mode → List Name → Place → Read Certificate
 body_at vars mode names p = do
   classes ← classes_at vars names 0 p
-  all ← need (classes.0.1 == length names) classes.1.at
+  all ← need (classes.0.1 == length names) (Form classes.1.at)
   Ok (record { mode = mode; typing = record { frames = classes.0.0.0 }; notes = classes.0.0.1 }, classes.1)
 
 unfoldable pub certificate_at : ℕ → Place → Read Certificate
@@ -324,5 +307,5 @@ certificate_at vars p = do
   body_at vars mode.0 names.0 names.1
 
 -- All the bytes are read.
-unfoldable pub certificate_of : ℕ → List ℕ → Result Certificate ℕ
-certificate_of vars bytes = whole (certificate_at vars) (λ p. p.at) bytes
+unfoldable pub certificate_of : ℕ → List ℕ → Result Certificate CertForm
+certificate_of vars bytes = whole (certificate_at vars) (λ p. Form p.at) bytes

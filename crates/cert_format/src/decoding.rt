@@ -4,7 +4,8 @@ ghost use Rattle.std.specs.Prelude.{◌≡◌, Ok, Err, IfOk};
 ghost use Rattle.cert_format.specs.declared.certificate.Certificate.{Certificate};
 ghost use Rattle.cert_format.specs.Fits as fits;
 ghost use Rattle.cert_format.specs.Fits.{SpellsCertificate};
-ghost use Rattle.cert_format.specs.Reading.{Reads, Uses, Answers, reference_at, type_of_kind, type_at, types_at, locals_at};
+ghost use Rattle.mon_base.specs.Answer.{Reads, Answers};
+ghost use Rattle.cert_format.specs.Reading.{Uses, reference_at, type_of_kind, type_at, types_at, locals_at};
 ghost use Rattle.cert_format.specs.Reading.{frame_at, not_reached_at, reached_at, instruction_at, method_at, class_at};
 ghost use Rattle.cert_format.specs.Reading.{classes_at, head_at, body_at, certificate_at, certificate_of};
 
@@ -221,7 +222,7 @@ fn classes(
 /// The mode, from the first bytes.
 #[tactic(auto, unfolding(crate::specs::Reading::head_at, crate::specs::Reading::mode_of))]
 fn head(from: &mut Cursor) -> Result<Mode, CertForm>
-    ensures { Reads result (head_at from.old) from.new }
+    ensures { Reads CertForm.Memory result (head_at from.old) from.new }
 {
     let at = from.position();
     if u4(from)? != MAGIC {
@@ -247,7 +248,7 @@ fn body(
     table: &Table,
     from: &mut Cursor,
 ) -> Result<Certificate, CertForm>
-    ensures { Reads result (body_at table.now.vars mode table.now.names.now from.old) from.new }
+    ensures { Reads CertForm.Memory result (body_at table.now.vars mode table.now.names.now from.old) from.new }
 {
     let mut used = 0;
     let (frames, notes) = classes(alloc, table, &mut used, from)?;
@@ -266,7 +267,7 @@ fn body(
 /// A certificate.
 #[tactic(auto, unfolding(crate::specs::Reading::certificate_at))]
 fn certificate(alloc: Global, vars: u32, from: &mut Cursor) -> Result<Certificate, CertForm>
-    ensures { Reads result (certificate_at vars from.old) from.new }
+    ensures { Reads CertForm.Memory result (certificate_at vars from.old) from.new }
 {
     let mode = head(from)?;
     let names = read_names(alloc, from)?;
@@ -280,7 +281,7 @@ fn certificate(alloc: Global, vars: u32, from: &mut Cursor) -> Result<Certificat
 /// The certificate that all the bytes are.
 #[tactic(auto, unfolding(crate::specs::Reading::certificate_of))]
 fn all(alloc: Global, bytes: &[u8], vars: u32) -> Result<Certificate, CertForm>
-    ensures { Answers result (certificate_of vars bytes.now) }
+    ensures { Answers CertForm.Memory result (certificate_of vars bytes.now) }
 {
     let mut from = Cursor::new(bytes);
     let certificate = certificate(alloc, vars, &mut from)?;
@@ -299,9 +300,9 @@ pub fn decode(alloc: Global, bytes: &[u8], vars: u32) -> Result<Certificate, Cer
     // What is read is spelled so.
     ensures found { IfOk result (λ c. SpellsCertificate bytes.now vars c) }
     // What is spelled so is read, unless memory runs out.
-    ensures only { (c : Certificate) → SpellsCertificate bytes.now vars c → Answers result (Ok c) }
+    ensures only { (c : Certificate) → SpellsCertificate bytes.now vars c → Answers CertForm.Memory result (Ok c) }
     // Which fault it is: the first that reading meets.
-    ensures exact { Answers result (certificate_of vars bytes.now) }
+    ensures exact { Answers CertForm.Memory result (certificate_of vars bytes.now) }
 {
     all(alloc, bytes, vars)
 }

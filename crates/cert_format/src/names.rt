@@ -3,7 +3,8 @@
 ghost use Rattle.std.specs.Prelude.{List as Items, [], ◌∷◌, ◌++◌, IfOk};
 ghost use Rattle.cert_format.specs.Names.{Name};
 ghost use Rattle.cert_format.specs.Index.{HasNames};
-ghost use Rattle.cert_format.specs.Reading.{Reads, ReadsAs, name_at, more_names_at, names_at};
+ghost use Rattle.mon_base.specs.Answer.{Reads, ReadsAs};
+ghost use Rattle.cert_format.specs.Reading.{name_at, more_names_at, names_at};
 
 use crate::fault::CertForm;
 use crate::place::{taken, u2, u4};
@@ -14,7 +15,7 @@ use std::collections::BTreeSet;
 /// The names, each of which stands once.
 #[tactic(auto, unfolding(crate::specs::Reading::names_at))]
 pub fn read_names(alloc: Global, from: &mut Cursor) -> Result<List<Bytes>, CertForm>
-    ensures { Reads result (names_at from.old) from.new }
+    ensures { Reads CertForm.Memory result (names_at from.old) from.new }
 {
     let count = u4(from)?;
     several_names(alloc, count, from)
@@ -22,7 +23,7 @@ pub fn read_names(alloc: Global, from: &mut Cursor) -> Result<List<Bytes>, CertF
 
 /// That many names.
 fn several_names(alloc: Global, count: u32, from: &mut Cursor) -> Result<List<Bytes>, CertForm>
-    ensures { Reads result (more_names_at count [] from.old) from.new }
+    ensures { Reads CertForm.Memory result (more_names_at count [] from.old) from.new }
 {
     let mut seen = BTreeSet::new(alloc);
     let mut names = List::new(alloc);
@@ -36,7 +37,8 @@ fn several_names(alloc: Global, count: u32, from: &mut Cursor) -> Result<List<By
 /// The next name, which is none of those that were seen. It is one of them then.
 #[tactic(auto, unfolding(crate::specs::Reading::name_at))]
 fn next_name<'a>(seen: &mut BTreeSet<&'a [u8]>, from: &mut Cursor<'a>) -> Result<&'a [u8], CertForm>
-    ensures reads { (before : Items Name) → HasNames before seen.old → ReadsAs (λ b. b.now) result (name_at before from.old) from.new }
+    ensures reads { (before : Items Name) → HasNames before seen.old
+        → ReadsAs CertForm.Memory (λ b. b.now) result (name_at before from.old) from.new }
     ensures seen { (before : Items Name) → HasNames before seen.old → IfOk result (λ name. HasNames (before ++ name.now ∷ []) seen.new) }
 {
     let len = u2(from)?;

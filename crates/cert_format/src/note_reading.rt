@@ -1,7 +1,8 @@
 //! Reading notes.
 
 ghost use Rattle.mon_base.specs.Reading.{counted};
-ghost use Rattle.cert_format.specs.Reading.{Reads, term_at, term_of_kind, terms_at, phase_at, site_at};
+ghost use Rattle.mon_base.specs.Answer.{Reads};
+ghost use Rattle.cert_format.specs.Reading.{term_at, term_of_kind, terms_at, phase_at, site_at};
 ghost use Rattle.cert_format.specs.Reading.{held_at, granted_at, owed_at, stop_at, note_of_kind, note_at, free_at};
 
 use crate::fault::CertForm;
@@ -13,7 +14,7 @@ use std::alloc::Global;
 /// A term that begins at `at`, after its kind.
 #[tactic(auto, unfolding(crate::specs::Reading::term_of_kind, crate::specs::Reading::pair_at))]
 fn term_of_kind(at: u64, kind: u8, from: &mut Cursor) -> Result<Term, CertForm>
-    ensures { Reads result (term_of_kind at kind from.old) from.new }
+    ensures { Reads CertForm.Memory result (term_of_kind at kind from.old) from.new }
 {
     match kind {
         0 => Ok(Term::Const(i4(from)?)),
@@ -32,7 +33,7 @@ fn term_of_kind(at: u64, kind: u8, from: &mut Cursor) -> Result<Term, CertForm>
 /// A term.
 #[tactic(auto, unfolding(crate::specs::Reading::term_at))]
 fn term(from: &mut Cursor) -> Result<Term, CertForm>
-    ensures { Reads result (term_at from.old) from.new }
+    ensures { Reads CertForm.Memory result (term_at from.old) from.new }
 {
     let at = from.position();
     let kind = u1(from)?;
@@ -41,7 +42,7 @@ fn term(from: &mut Cursor) -> Result<Term, CertForm>
 
 /// That many terms.
 fn several_terms(alloc: Global, count: u32, from: &mut Cursor) -> Result<List<Term>, CertForm>
-    ensures { Reads result (counted term_at count from.old) from.new }
+    ensures { Reads CertForm.Memory result (counted term_at count from.old) from.new }
 {
     let mut terms = List::new(alloc);
     for _ in 0..count {
@@ -53,7 +54,7 @@ fn several_terms(alloc: Global, count: u32, from: &mut Cursor) -> Result<List<Te
 /// The terms that one byte counts.
 #[tactic(auto, unfolding(crate::specs::Reading::terms_at))]
 fn terms(alloc: Global, from: &mut Cursor) -> Result<List<Term>, CertForm>
-    ensures { Reads result (terms_at from.old) from.new }
+    ensures { Reads CertForm.Memory result (terms_at from.old) from.new }
 {
     let count = u1(from)?;
     several_terms(alloc, count as u32, from)
@@ -62,7 +63,7 @@ fn terms(alloc: Global, from: &mut Cursor) -> Result<List<Term>, CertForm>
 /// A phase.
 #[tactic(auto, unfolding(crate::specs::Reading::phase_at, crate::specs::Reading::phase_of))]
 fn phase(from: &mut Cursor) -> Result<Phase8, CertForm>
-    ensures { Reads result (phase_at from.old) from.new }
+    ensures { Reads CertForm.Memory result (phase_at from.old) from.new }
 {
     let at = from.position();
     match u1(from)? {
@@ -76,7 +77,7 @@ fn phase(from: &mut Cursor) -> Result<Phase8, CertForm>
 /// A site.
 #[tactic(auto, unfolding(crate::specs::Reading::site_at, crate::specs::Reading::pair_at))]
 fn site(from: &mut Cursor) -> Result<Site, CertForm>
-    ensures { Reads result (site_at from.old) from.new }
+    ensures { Reads CertForm.Memory result (site_at from.old) from.new }
 {
     let method = u2(from)?;
     let phase = phase(from)?;
@@ -91,7 +92,7 @@ fn site(from: &mut Cursor) -> Result<Site, CertForm>
 /// What follows the kind of Held, with a map of so many variables.
 #[tactic(auto, unfolding(crate::specs::Reading::held_at, crate::specs::Reading::pair_at))]
 fn held(alloc: Global, vars: u32, from: &mut Cursor) -> Result<Note, CertForm>
-    ensures { Reads result (held_at vars from.old) from.new }
+    ensures { Reads CertForm.Memory result (held_at vars from.old) from.new }
 {
     let site = site(from)?;
     let failed = u1(from)?;
@@ -110,7 +111,7 @@ fn held(alloc: Global, vars: u32, from: &mut Cursor) -> Result<Note, CertForm>
 /// What follows the kind of Granted.
 #[tactic(auto, unfolding(crate::specs::Reading::granted_at, crate::specs::Reading::pair_at))]
 fn granted(from: &mut Cursor) -> Result<Note, CertForm>
-    ensures { Reads result (granted_at from.old) from.new }
+    ensures { Reads CertForm.Memory result (granted_at from.old) from.new }
 {
     let site = site(from)?;
     let locked = flag(from)?;
@@ -127,7 +128,7 @@ fn granted(from: &mut Cursor) -> Result<Note, CertForm>
 /// What follows the kind of Owed.
 #[tactic(auto, unfolding(crate::specs::Reading::owed_at, crate::specs::Reading::pair_at))]
 fn owed(from: &mut Cursor) -> Result<Note, CertForm>
-    ensures { Reads result (owed_at from.old) from.new }
+    ensures { Reads CertForm.Memory result (owed_at from.old) from.new }
 {
     let site = site(from)?;
     let stage = u1(from)?;
@@ -144,7 +145,7 @@ fn owed(from: &mut Cursor) -> Result<Note, CertForm>
 /// What follows the kind of Stop.
 #[tactic(auto, unfolding(crate::specs::Reading::stop_at, crate::specs::Reading::pair_at))]
 fn stop(from: &mut Cursor) -> Result<Note, CertForm>
-    ensures { Reads result (stop_at from.old) from.new }
+    ensures { Reads CertForm.Memory result (stop_at from.old) from.new }
 {
     let site = site(from)?;
     let place = u1(from)?;
@@ -160,7 +161,7 @@ fn note_of_kind(
     kind: u8,
     from: &mut Cursor,
 ) -> Result<Note, CertForm>
-    ensures { Reads result (note_of_kind vars at kind from.old) from.new }
+    ensures { Reads CertForm.Memory result (note_of_kind vars at kind from.old) from.new }
 {
     match kind {
         0 => Ok(Note::Free),
@@ -176,7 +177,7 @@ fn note_of_kind(
 /// The note of an instruction that is reached.
 #[tactic(auto, unfolding(crate::specs::Reading::note_at))]
 pub fn note(alloc: Global, vars: u32, from: &mut Cursor) -> Result<Note, CertForm>
-    ensures { Reads result (note_at vars from.old) from.new }
+    ensures { Reads CertForm.Memory result (note_at vars from.old) from.new }
 {
     let at = from.position();
     let kind = u1(from)?;
@@ -186,7 +187,7 @@ pub fn note(alloc: Global, vars: u32, from: &mut Cursor) -> Result<Note, CertFor
 /// The note of an instruction that is not reached, which is Free.
 #[tactic(auto, unfolding(crate::specs::Reading::free_at))]
 pub fn free(from: &mut Cursor) -> Result<Note, CertForm>
-    ensures { Reads result (free_at from.old) from.new }
+    ensures { Reads CertForm.Memory result (free_at from.old) from.new }
 {
     let at = from.position();
     if u1(from)? != 0 {

@@ -1,6 +1,7 @@
 //! Numbers and byte strings at a place of the certificate.
 
-ghost use Rattle.cert_format.specs.Reading.{Reads, ReadsAs, u1_at, u2_at, u4_at, i4_at, taken_at, flag_at};
+ghost use Rattle.mon_base.specs.Answer.{Reads, ReadsAs};
+ghost use Rattle.cert_format.specs.Reading.{u1_at, u2_at, u4_at, i4_at, taken_at, flag_at};
 
 use crate::fault::CertForm;
 use mon_base::Cursor;
@@ -8,7 +9,7 @@ use mon_base::Cursor;
 /// A number of one byte.
 #[tactic(auto, unfolding(crate::specs::Reading::u1_at))]
 pub fn u1(from: &mut Cursor) -> Result<u8, CertForm>
-    ensures { Reads result (u1_at from.old) from.new }
+    ensures { Reads CertForm.Memory result (u1_at from.old) from.new }
 {
     let at = from.position();
     from.u1().ok_or(CertForm::Form { at })
@@ -17,7 +18,7 @@ pub fn u1(from: &mut Cursor) -> Result<u8, CertForm>
 /// A number of two bytes.
 #[tactic(auto, unfolding(crate::specs::Reading::u2_at))]
 pub fn u2(from: &mut Cursor) -> Result<u16, CertForm>
-    ensures { Reads result (u2_at from.old) from.new }
+    ensures { Reads CertForm.Memory result (u2_at from.old) from.new }
 {
     let at = from.position();
     from.u2().ok_or(CertForm::Form { at })
@@ -26,7 +27,7 @@ pub fn u2(from: &mut Cursor) -> Result<u16, CertForm>
 /// A number of four bytes.
 #[tactic(auto, unfolding(crate::specs::Reading::u4_at))]
 pub fn u4(from: &mut Cursor) -> Result<u32, CertForm>
-    ensures { Reads result (u4_at from.old) from.new }
+    ensures { Reads CertForm.Memory result (u4_at from.old) from.new }
 {
     let at = from.position();
     from.u4().ok_or(CertForm::Form { at })
@@ -35,7 +36,7 @@ pub fn u4(from: &mut Cursor) -> Result<u32, CertForm>
 /// A number of four bytes with a sign.
 #[tactic(auto, unfolding(crate::specs::Reading::i4_at))]
 pub fn i4(from: &mut Cursor) -> Result<i32, CertForm>
-    ensures { Reads result (i4_at from.old) from.new }
+    ensures { Reads CertForm.Memory result (i4_at from.old) from.new }
 {
     Ok(u4(from)?.cast_signed())
 }
@@ -43,7 +44,7 @@ pub fn i4(from: &mut Cursor) -> Result<i32, CertForm>
 /// The next `n` bytes.
 #[tactic(auto, unfolding(crate::specs::Reading::taken_at))]
 pub fn taken<'a>(n: usize, from: &mut Cursor<'a>) -> Result<&'a [u8], CertForm>
-    ensures { ReadsAs (λ b. b.now) result (taken_at n from.old) from.new }
+    ensures { ReadsAs CertForm.Memory (λ b. b.now) result (taken_at n from.old) from.new }
 {
     let at = from.position();
     from.take(n).ok_or(CertForm::Form { at })
@@ -52,7 +53,7 @@ pub fn taken<'a>(n: usize, from: &mut Cursor<'a>) -> Result<&'a [u8], CertForm>
 /// A flag: a byte that is 0 or 1.
 #[tactic(auto, unfolding(crate::specs::Reading::flag_at))]
 pub fn flag(from: &mut Cursor) -> Result<bool, CertForm>
-    ensures { Reads result (flag_at from.old) from.new }
+    ensures { Reads CertForm.Memory result (flag_at from.old) from.new }
 {
     let at = from.position();
     match u1(from)? {

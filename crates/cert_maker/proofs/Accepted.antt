@@ -14,27 +14,27 @@ use Rattle.bytecode_model.specs.declared.program.Target.{Target}
 use Rattle.bytecode_model.specs.declared.program.Target.TheVariants as target
 use Rattle.bytecode_model.specs.Sound.{IsSound, IsSoundClass, IsSoundMethod}
 use Rattle.bytecode_model.proofs.Lists.{all_get}
-use Rattle.cert_checker.specs.Acceptance.{notes_in, notes_told, reached_fault, fault_in_class, note_fault_at, IsAccepted}
-use Rattle.cert_checker.specs.Notes.{note_fault}
-use Rattle.cert_checker.specs.Operands.{state_name, is_state_name, is_state, is_variable}
+use Rattle.block_logic.specs.Accepted.{notes_in, notes_told, reached_fault, fault_in_class, note_fault_at, IsAccepted}
+use Rattle.block_logic.specs.Notes.{note_fault}
+use Rattle.block_logic.specs.Operands.{state_name, is_state_name, is_state, is_variable}
 use Rattle.cert_format.specs.declared.certificate.Certificate.{Certificate}
 use Rattle.cert_format.specs.declared.note.Note.{Note}
 use Rattle.cert_format.specs.declared.typing.FrameType.{FrameType}
 use Rattle.cert_format.specs.declared.typing.Typing.{Typing}
 use Rattle.code_typing.specs.Closed.{method_at}
-use Rattle.code_typing.specs.Rules.{frame_of}
-use Rattle.code_typing.specs.Shape.{has_code, coded, IsShaped}
-use Rattle.code_typing.specs.Typed.{IsTyped, frames_in, frames_told, list_at, reached}
+use Rattle.bytecode_model.specs.Rules.{frame_of}
+use Rattle.bytecode_model.specs.Shape.{has_code, coded, IsShaped}
+use Rattle.bytecode_model.specs.Typed.{IsTyped, frames_in, frames_told, list_at, reached}
 use Rattle.code_typing.proofs.Closed.{goes_on, caught}
 use Rattle.conspec_automaton.specs.declared.policy.Policy.{Policy}
-use Rattle.offset_patch.specs.declared.block.Origin.{Origin}
+use Rattle.bytecode_model.specs.declared.origin.Origin.{Origin}
 use Rattle.offset_patch.specs.Splicing.{fronts_of}
-use Rattle.inline_release.specs.declared.weaving.Woven.{Woven}
-use Rattle.inline_release.specs.Outcome.{Each, IsWovenMethod, IsWovenClass, IsWoven, IsFreeTarget, IsFreeOfState}
-use Rattle.inline_release.specs.Woven.{sites_of, woven}
-use Rattle.woven_typing.specs.Calls.{IsRightOperand, AreRightOperands}
-use Rattle.woven_typing.proofs.Body.{IsStanding, same_length}
-use Rattle.woven_typing.proofs.Woven.{slice_there}
+use Rattle.block_template.specs.declared.woven.Woven.{Woven}
+use Rattle.block_template.specs.Outcome.{Each, IsWovenMethod, IsWovenClass, IsWoven, IsFreeTarget, IsFreeOfState}
+use Rattle.block_template.specs.Woven.{sites_of, woven}
+use Rattle.bytecode_model.specs.Named.{IsRightOperand, AreRightOperands}
+use Rattle.cert_maker.proofs.Body.{IsStanding, same_length}
+use Rattle.cert_maker.proofs.Woven.{slice_there}
 use Rattle.cert_maker.specs.Accepting.{IsStopped, WovenIsAccepted}
 use Rattle.cert_maker.specs.Noting.{method_notes, class_notes, notes_of, certificate_of}
 use Rattle.cert_maker.proofs.Linked.{IsOfFile, classes_of_files}

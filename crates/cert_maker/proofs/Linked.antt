@@ -31,10 +31,10 @@ use Rattle.bytecode_model.specs.Heads.{head_of, heads_of, all_classes, name_of}
 use Rattle.bytecode_model.specs.Linking.{bare, with_code, read_of, code_linked, body_linked, method_linked, methods_linked, each_linked, classes_with, members_of, main_of, max_files, linked}
 use Rattle.bytecode_model.specs.Operands.{literals_of, operands_linked}
 use Rattle.bytecode_model.specs.Sound.{IsSound, IsSoundClass}
-use Rattle.code_typing.specs.Shape.{has_code}
-use Rattle.inline_release.specs.Outcome.{Each}
-use Rattle.inline_release.specs.Woven.{first_code}
-use Rattle.inline_release.proofs.Spells.{first_fits}
+use Rattle.bytecode_model.specs.Shape.{has_code}
+use Rattle.block_template.specs.Outcome.{Each}
+use Rattle.block_template.specs.Woven.{first_code}
+use Rattle.block_template.proofs.FirstCode.{first_fits}
 
 -- ---- code has an instruction
 

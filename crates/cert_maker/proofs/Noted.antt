@@ -7,9 +7,9 @@ use Rattle.bytecode_model.specs.declared.program.Method.{Method}
 use Rattle.cert_format.specs.declared.note.Note.TheVariants.{Free, Taking, Stop}
 use Rattle.cert_format.specs.declared.note.Site.{Site}
 use Rattle.cert_format.specs.declared.typing.FrameType.{FrameType}
-use Rattle.code_typing.specs.Rules.{frame_of}
+use Rattle.bytecode_model.specs.Rules.{frame_of}
 use Rattle.conspec_automaton.specs.declared.policy.Policy.{Policy}
-use Rattle.offset_patch.specs.declared.block.Origin.{Origin}
+use Rattle.bytecode_model.specs.declared.origin.Origin.{Origin}
 use Rattle.cert_maker.specs.Noting.{block_note, note_of, origin_note, method_notes}
 
 -- ---- the notes of a block, for a call with n arguments

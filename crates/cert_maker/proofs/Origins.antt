@@ -11,11 +11,11 @@ use Rattle.conspec_parse.specs.declared.types.Kind.TheVariants as kinds
 use Rattle.conspec_automaton.specs.declared.policy.Policy.{Policy}
 use Rattle.offset_patch.specs.declared.block.BlockInsn.{BlockInsn}
 use Rattle.offset_patch.specs.declared.block.BlockInsn.TheVariants.{Plain, Local}
-use Rattle.offset_patch.specs.declared.block.Origin.{Origin}
-use Rattle.offset_patch.specs.declared.block.Origin.TheVariants as origins
+use Rattle.bytecode_model.specs.declared.origin.Origin.{Origin}
+use Rattle.bytecode_model.specs.declared.origin.Origin.TheVariants as origins
 use Rattle.offset_patch.specs.Splicing.{origin_of, part_origins}
 use Rattle.block_template.specs.Blocks.{local, store, site}
-use Rattle.woven_typing.proofs.Parts.{get_left, get_right, part, before, total}
+use Rattle.cert_maker.proofs.Parts.{get_left, get_right, part, before, total}
 
 numbered_at : {A B : Type 0} (f : ℕ × A → B) (from : ℕ) (xs : List A) (k : ℕ) (x : A) → slice_get xs k ≡ Some x → slice_get (map f (enumerate_from from xs)) k ≡ Some (f (from + k, x))
 numbered_at f from [] k x e = absurd cc

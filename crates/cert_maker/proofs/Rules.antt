@@ -5,8 +5,8 @@ use Rattle.std.specs.List.{AllByRecursion}
 use Rattle.std.specs.Option.{option_map_or}
 use Rattle.std.proofs.lemmas.Bool.{and_from, eq-eqb, ne_eqb}
 use Rattle.insn_codec.specs.declared.insn.Insn.{Insn}
-use Rattle.insn_effect.specs.Control.{successors}
-use Rattle.insn_effect.specs.Shapes.{shape_of}
+use Rattle.insn_codec.specs.Control.{successors}
+use Rattle.insn_codec.specs.Shapes.{shape_of}
 use Rattle.bytecode_model.specs.declared.program.LinkedClass.{LinkedClass}
 use Rattle.bytecode_model.specs.declared.program.Method.{Method}
 use Rattle.bytecode_model.specs.declared.program.Target.{Target}
@@ -16,11 +16,11 @@ use Rattle.cert_format.specs.declared.note.Phase8.TheVariants.{Before}
 use Rattle.cert_format.specs.declared.note.Site.{Site}
 use Rattle.conspec_automaton.specs.declared.policy.Policy.{Policy}
 use Rattle.conspec_automaton.specs.Next.{has_clauses}
-use Rattle.cert_checker.specs.declared.wanted.Wanted.{Wanted}
-use Rattle.cert_checker.specs.declared.wanted.Wanted.TheVariants as wanted
-use Rattle.cert_checker.specs.Notes.{Here, next_meet, handlers_meet, free_fault, takes_for_denied, taking_fault, is_on_way, stop_fault, row_fault, note_fault}
-use Rattle.cert_checker.specs.Operands.{calls, enters, leaves, writes_static, pushes_state, is_variable, has_clause, is_way_out}
-use Rattle.cert_checker.specs.Wanted.{same_site, is_stop_at, meets, denies_site, all_meet, handlers_of}
+use Rattle.block_logic.specs.declared.wanted.Wanted.{Wanted}
+use Rattle.block_logic.specs.declared.wanted.Wanted.TheVariants as wanted
+use Rattle.block_logic.specs.Notes.{Here, next_meet, handlers_meet, free_fault, takes_for_denied, taking_fault, is_on_way, stop_fault, row_fault, note_fault}
+use Rattle.block_logic.specs.Operands.{calls, enters, leaves, writes_static, pushes_state, is_variable, has_clause, is_way_out}
+use Rattle.block_logic.specs.Wanted.{same_site, is_stop_at, meets, denies_site, all_meet, handlers_of}
 
 -- ---- the notes that come next
 

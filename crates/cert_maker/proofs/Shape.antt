@@ -9,13 +9,13 @@ use Rattle.bytecode_model.specs.declared.program.Method.{Method}
 use Rattle.bytecode_model.specs.declared.program.Target.{Target}
 use Rattle.bytecode_model.specs.Sound.{IsSoundClass, IsSoundMethod}
 use Rattle.cert_format.specs.declared.typing.FrameType.{FrameType}
-use Rattle.code_typing.specs.Shape.{has_code, coded}
-use Rattle.code_typing.specs.Typed.{list_at}
+use Rattle.bytecode_model.specs.Shape.{has_code, coded}
+use Rattle.bytecode_model.specs.Typed.{list_at}
 use Rattle.conspec_automaton.specs.declared.policy.Policy.{Policy}
-use Rattle.offset_patch.specs.declared.block.Origin.{Origin}
-use Rattle.inline_release.specs.Outcome.{Each, IsWovenMethod, IsWovenClass, IsState}
-use Rattle.woven_typing.proofs.Body.{IsStanding, same_length, made_long}
-use Rattle.woven_typing.proofs.Parts.{total, part_some}
+use Rattle.bytecode_model.specs.declared.origin.Origin.{Origin}
+use Rattle.block_template.specs.Outcome.{Each, IsWovenMethod, IsWovenClass, IsState}
+use Rattle.cert_maker.proofs.Body.{IsStanding, same_length, made_long}
+use Rattle.cert_maker.proofs.Parts.{total, part_some}
 use Rattle.cert_maker.specs.Noting.{method_notes, class_notes, notes_of}
 use Rattle.cert_maker.proofs.Noted.{notes_many}
 use Rattle.cert_maker.proofs.Origins.{origins_many}

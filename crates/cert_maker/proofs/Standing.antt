@@ -10,9 +10,9 @@ use Rattle.class_codec.specs.declared.tree.Const.{Const}
 use Rattle.insn_codec.specs.declared.insn.Insn.{Insn}
 use Rattle.insn_codec.specs.Fits.{AimsWithin}
 use Rattle.insn_codec.specs.Opcodes.{opcode_at}
-use Rattle.insn_effect.specs.declared.shape.Shape.{Shape}
-use Rattle.insn_effect.specs.Control.{successors}
-use Rattle.insn_effect.specs.Shapes.{shape_of}
+use Rattle.insn_codec.specs.declared.shape.Shape.{Shape}
+use Rattle.insn_codec.specs.Control.{successors}
+use Rattle.insn_codec.specs.Shapes.{shape_of}
 use Rattle.bytecode_model.specs.declared.program.Handler.{Handler}
 use Rattle.bytecode_model.specs.declared.program.LinkedClass.{LinkedClass}
 use Rattle.bytecode_model.specs.declared.program.Method.{Method}
@@ -25,7 +25,7 @@ use Rattle.cert_format.specs.declared.note.Note.TheVariants.{Free, Taking, Stop}
 use Rattle.cert_format.specs.declared.note.Phase8.TheVariants.{Before}
 use Rattle.cert_format.specs.declared.note.Site.{Site}
 use Rattle.cert_format.specs.declared.typing.FrameType.{FrameType}
-use Rattle.code_typing.specs.Rules.{frame_of}
+use Rattle.bytecode_model.specs.Rules.{frame_of}
 use Rattle.conspec_parse.specs.declared.types.Kind.{Kind}
 use Rattle.conspec_automaton.specs.declared.policy.Clause.{Clause}
 use Rattle.conspec_automaton.specs.declared.policy.Policy.{Policy}
@@ -33,26 +33,26 @@ use Rattle.conspec_automaton.specs.Next.{has_clauses}
 use Rattle.offset_patch.specs.declared.block.BlockInsn.{BlockInsn}
 use Rattle.offset_patch.specs.declared.block.BlockInsn.TheVariants.{Plain, Byte, Call, Want}
 use Rattle.offset_patch.specs.declared.block.PoolWant.TheVariants.{StateClass, Exit}
-use Rattle.offset_patch.specs.declared.block.Origin.TheVariants as origins
+use Rattle.bytecode_model.specs.declared.origin.Origin.TheVariants as origins
 use Rattle.offset_patch.specs.Splicing.{aimed, put, fronts_of, origin_of}
 use Rattle.block_template.specs.Blocks.{clause_of, store, denial, locals_used}
-use Rattle.cert_checker.specs.declared.wanted.Wanted.TheVariants as wanted
-use Rattle.cert_checker.specs.Notes.{Here, row_fault, note_fault}
-use Rattle.cert_checker.specs.Operands.{calls, loads_constant, pushes_state, is_state_name, is_variable, has_clause}
-use Rattle.cert_checker.specs.Wanted.{handlers_of}
-use Rattle.code_typing.specs.Rules.{covers}
+use Rattle.block_logic.specs.declared.wanted.Wanted.TheVariants as wanted
+use Rattle.block_logic.specs.Notes.{Here, row_fault, note_fault}
+use Rattle.block_logic.specs.Operands.{calls, loads_constant, pushes_state, is_state_name, is_variable, has_clause}
+use Rattle.block_logic.specs.Wanted.{handlers_of}
+use Rattle.bytecode_model.specs.Rules.{covers}
 use Rattle.guest_model.specs.Stepping.{is_exit}
-use Rattle.cert_checker.proofs.ExitRows.{exit_at}
-use Rattle.inline_release.specs.Outcome.{at_fronts, part_named, way_out_index}
-use Rattle.inline_release.specs.Woven.{sites_of}
-use Rattle.woven_typing.specs.Framing.{arguments_of}
-use Rattle.woven_typing.proofs.Aiming.{successors_moved}
-use Rattle.woven_typing.proofs.Blocks.{store_is}
-use Rattle.woven_typing.proofs.Body.{IsStanding, fronts, front, moved, same_length, handlers_are, fronts_are, moved_is, front_of, moved_next, moved_past, insn_there, ref_there, made_long}
-use Rattle.woven_typing.proofs.Denied.{denied}
-use Rattle.woven_typing.proofs.Parts.{part, part_alone, part_denied, before_next, Located, locate, denial_length}
-use Rattle.woven_typing.proofs.Places.{store_at, behind_at}
-use Rattle.woven_typing.proofs.Woven.{slice_there}
+use Rattle.block_logic.proofs.ExitRows.{exit_at}
+use Rattle.block_template.specs.Outcome.{at_fronts, part_named, way_out_index}
+use Rattle.block_template.specs.Woven.{sites_of}
+use Rattle.cert_maker.specs.Framing.{arguments_of}
+use Rattle.cert_maker.proofs.Aiming.{successors_moved}
+use Rattle.cert_maker.proofs.Blocks.{store_is}
+use Rattle.cert_maker.proofs.Body.{IsStanding, fronts, front, moved, same_length, handlers_are, fronts_are, moved_is, front_of, moved_next, moved_past, insn_there, ref_there, made_long}
+use Rattle.cert_maker.proofs.Denied.{denied}
+use Rattle.cert_maker.proofs.Parts.{part, part_alone, part_denied, before_next, Located, locate, denial_length}
+use Rattle.cert_maker.proofs.Places.{store_at, behind_at}
+use Rattle.cert_maker.proofs.Woven.{slice_there}
 use Rattle.cert_maker.specs.Noting.{block_note, called, site_of, call_note, origin_note, method_notes}
 use Rattle.cert_maker.proofs.Noted.{first_notes, taking_note, stop_0, stop_1, stop_2, stop_3, framed, note_there}
 use Rattle.cert_maker.proofs.Origins.{origin_at, store_of}

@@ -14,21 +14,21 @@ use Rattle.bytecode_model.specs.declared.program.Method.{Method}
 use Rattle.bytecode_model.specs.declared.program.Program.{Program}
 use Rattle.bytecode_model.specs.declared.program.Target.{Target}
 use Rattle.bytecode_model.specs.Sound.{IsSoundClass, IsSoundMethod}
-use Rattle.code_typing.specs.Shape.{has_code, coded}
+use Rattle.bytecode_model.specs.Shape.{has_code, coded}
 use Rattle.conspec_automaton.specs.declared.policy.Policy.{Policy}
 use Rattle.offset_patch.specs.declared.block.BlockInsn.{BlockInsn}
 use Rattle.offset_patch.specs.declared.block.BlockInsn.TheVariants.{Call}
-use Rattle.offset_patch.specs.declared.block.Origin.{Origin}
+use Rattle.bytecode_model.specs.declared.origin.Origin.{Origin}
 use Rattle.offset_patch.specs.declared.fault.SpliceFault.{SpliceFault}
 use Rattle.offset_patch.specs.Splicing.{grown, room, code_spliced, origin_of, part_origins, origins_of}
 use Rattle.block_template.specs.Blocks.{site}
-use Rattle.inline_release.specs.declared.code.WovenCode.{WovenCode}
-use Rattle.inline_release.specs.declared.members.Members.{Members}
-use Rattle.inline_release.specs.declared.weaving.Woven.{Woven}
-use Rattle.inline_release.specs.Outcome.{Each}
-use Rattle.inline_release.specs.Woven.{folded, is_woven, sites_of, locals_of, clients_from, blocks_put, code_woven, first_code, bare_put, code_put, body_woven, member_woven, members_woven, none_made, file_put, class_woven, classes_woven, state_put, woven}
-use Rattle.woven_typing.proofs.Parts.{part_alone}
-use Rattle.woven_typing.proofs.Unwoven.{AreAlone, all_alone}
+use Rattle.block_template.specs.declared.woven.WovenCode.{WovenCode}
+use Rattle.block_template.specs.declared.woven.Members.{Members}
+use Rattle.block_template.specs.declared.woven.Woven.{Woven}
+use Rattle.block_template.specs.Outcome.{Each}
+use Rattle.block_template.specs.Woven.{folded, is_woven, sites_of, locals_of, clients_from, blocks_put, code_woven, first_code, bare_put, code_put, body_woven, member_woven, members_woven, none_made, file_put, class_woven, classes_woven, state_put, woven}
+use Rattle.cert_maker.proofs.Parts.{part_alone}
+use Rattle.cert_maker.proofs.Unwoven.{AreAlone, all_alone}
 use Rattle.cert_maker.proofs.Linked.{IsOfCode, IsOfMember, IsOfFile}
 
 -- ---- what is told

@@ -9,18 +9,18 @@ use Rattle.bytecode_model.specs.declared.program.Side.{Side}
 use Rattle.bytecode_model.specs.declared.program.Target.{Target}
 use Rattle.bytecode_model.specs.Linking.{linked}
 use Rattle.bytecode_model.specs.Sound.{IsSound}
-use Rattle.cert_checker.specs.Acceptance.{IsAccepted}
+use Rattle.block_logic.specs.Accepted.{IsAccepted}
 use Rattle.cert_format.specs.declared.typing.Typing.{Typing}
-use Rattle.code_typing.specs.Shape.{IsShaped}
-use Rattle.code_typing.specs.Typed.{IsTyped, reached}
+use Rattle.bytecode_model.specs.Shape.{IsShaped}
+use Rattle.bytecode_model.specs.Typed.{IsTyped, reached}
 use Rattle.conspec_automaton.specs.declared.policy.Policy.{Policy}
 use Rattle.conspec_parse.specs.declared.types.Kind.{Kind}
-use Rattle.inline_release.specs.declared.weaving.Woven.{Woven}
-use Rattle.inline_release.specs.Outcome.{IsFreeOfState, IsWoven}
-use Rattle.inline_release.specs.Woven.{sites_of, woven}
+use Rattle.block_template.specs.declared.woven.Woven.{Woven}
+use Rattle.block_template.specs.Outcome.{IsFreeOfState, IsWoven}
+use Rattle.block_template.specs.Woven.{sites_of, woven}
 use Rattle.offset_patch.specs.Splicing.{fronts_of}
-use Rattle.woven_typing.specs.Calls.{AreRightOperands}
-use Rattle.woven_typing.specs.Framing.{arguments_of}
+use Rattle.bytecode_model.specs.Named.{AreRightOperands}
+use Rattle.cert_maker.specs.Framing.{arguments_of}
 use Rattle.cert_maker.specs.Noting.{certificate_of}
 
 -- No instruction of a block behind its way out has a frame: a block for a call with n arguments stores these, and its

@@ -13,11 +13,11 @@ use Rattle.cert_format.specs.declared.note.Phase8.TheVariants.{Before}
 use Rattle.cert_format.specs.declared.note.Site.{Site}
 use Rattle.cert_format.specs.declared.typing.FrameType.{FrameType}
 use Rattle.cert_format.specs.declared.typing.Typing.{Typing}
-use Rattle.code_typing.specs.Shape.{has_code}
-use Rattle.code_typing.specs.Typed.{list_at}
+use Rattle.bytecode_model.specs.Shape.{has_code}
+use Rattle.bytecode_model.specs.Typed.{list_at}
 use Rattle.conspec_automaton.specs.declared.policy.Policy.{Policy}
-use Rattle.offset_patch.specs.declared.block.Origin.{Origin}
-use Rattle.offset_patch.specs.declared.block.Origin.TheVariants as origins
+use Rattle.bytecode_model.specs.declared.origin.Origin.{Origin}
+use Rattle.bytecode_model.specs.declared.origin.Origin.TheVariants as origins
 
 -- ---- a block
 

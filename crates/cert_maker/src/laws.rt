@@ -1,6 +1,19 @@
-//! What holds of certificates that are made.
+//! What holds of policies that were read, of what is woven, and of certificates that are made.
 
 ghost use Rattle.cert_maker.specs.Accepting.{WovenIsAccepted};
+ghost use Rattle.cert_maker.specs.Calls.{PolicyTellsArguments};
+ghost use Rattle.cert_maker.specs.WovenTyping.{WovenIsTyped};
+
+/// A policy that was read tells of each of its methods the kinds of the arguments that its descriptor tells.
+pub fn policy_tells_arguments()
+    ensures tells { PolicyTellsArguments }
+{}
+
+/// Where a program is typed, frames are known that meet the rules at each instruction of the woven program: those of the
+/// client's instructions, and those of the blocks.
+pub fn woven_is_typed()
+    ensures typed { WovenIsTyped }
+{}
 
 /// A woven program is accepted with the certificate that is made of its types.
 pub fn woven_is_accepted()

@@ -1,15 +1,14 @@
 //! The certificate as a whole.
 
 ghost use Rattle.std.specs.Prelude.{◌≡◌, drop, IfOk};
-ghost use Rattle.code_typing.specs.Typed.{list_at};
+ghost use Rattle.bytecode_model.specs.Typed.{list_at};
 ghost use Rattle.cert_maker.specs.Noting.{certificate_of, class_notes, notes_of};
 
 use crate::notes::method_notes;
-use bytecode_model::{LinkedClass, Method};
+use bytecode_model::{LinkedClass, Method, Origin};
 use cert_format::{Certificate, FrameType, Mode, Note, Typing};
 use conspec_automaton::Policy;
 use mon_base::{List, NoMemory};
-use offset_patch::Origin;
 use std::alloc::Global;
 
 /// The certificate of the program that these classes were woven to, by where its instructions come from, and its types.

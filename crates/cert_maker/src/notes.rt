@@ -5,11 +5,10 @@ ghost use Rattle.std.specs.Option.{option_copied};
 ghost use Rattle.cert_maker.specs.Noting.{block_note, call_note, called, method_notes, note_of, origin_note, site_of};
 
 use block_template::locals_used;
-use bytecode_model::{Method, Target};
+use bytecode_model::{Method, Origin, Target};
 use cert_format::{FrameType, Note, Phase8, Site};
 use conspec_automaton::Policy;
 use mon_base::{List, NoMemory};
-use offset_patch::Origin;
 use std::alloc::Global;
 
 /// The notes of the instructions of a method, by where they come from and their frames.

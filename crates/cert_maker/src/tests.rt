@@ -1,14 +1,13 @@
 //! A method with a denied call, and the notes of what it is woven to.
 
 use crate::making::make;
-use bytecode_model::{LinkedClass, Method, Target};
+use bytecode_model::{LinkedClass, Method, Origin, Target};
 use cert_format::{Certificate, FrameType, Mode, Note, Phase8, Site, Typing};
 use class_codec::ClassFile;
 use conspec_automaton::{Clause, Policy};
 use conspec_parse::{Kind, Phase};
 use insn_codec::Insn;
 use mon_base::{Bytes, List, NoMemory};
-use offset_patch::Origin;
 use std::alloc::Global;
 use std::test::Fail;
 

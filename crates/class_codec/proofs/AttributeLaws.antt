@@ -16,7 +16,8 @@ use Rattle.class_codec.specs.declared.tree.Attr.TheVariants as attributes
 use Rattle.class_codec.specs.declared.tree.Member.{Member}
 use Rattle.class_codec.specs.Pool.{names}
 use Rattle.class_codec.specs.Spelling as spelling
-use Rattle.class_codec.specs.Fits.{IsU2, IsU4, IsIndex, FitsBlock, FitCounted, FitsTableEntry, FitsOther, FitsAttr, FitsMember, is_read_as_code}
+use Rattle.mon_base.specs.Widths.{IsU2, IsU4}
+use Rattle.class_codec.specs.Fits.{IsIndex, FitsBlock, FitCounted, FitsTableEntry, FitsOther, FitsAttr, FitsMember, is_read_as_code}
 use Rattle.class_codec.specs.Reading.{other_at, caught_at, table_entry_at, code_len_at, instructions_at, contents_at, code_at, named_at, attribute_at, member_at}
 use Rattle.class_codec.proofs.Readers.{checked, wrapped, enclosed, spelled_where}
 use Rattle.class_codec.proofs.Numbers.{u2_is, u4_is, rest_is, block_is, index_is, counted_is, need_holds, holds_need}

@@ -4,16 +4,18 @@ use Rattle.std.specs.Prelude.{◌==◌, nat_le, IfOk}
 use Rattle.std.proofs.lemmas.Bool.{false≢true}
 use Rattle.std.proofs.lemmas.Bool.Decides.{nat_tests}
 use Rattle.mon_base.specs.Reading.{IsBytes, ◌>>=◌, need, whole}
+use Rattle.mon_base.specs.Answer.{Answers}
 use Rattle.mon_base.proofs.Reading.{need_ok, ok_is, IsTail, IsReader, then, done, said, whole_takes, whole_again}
 use Rattle.class_codec.specs.declared.fault.ClassFault.{ClassFault}
-use Rattle.class_codec.specs.declared.fault.ClassFault.TheVariants.{Magic, Version, Tail, TooLong}
+use Rattle.class_codec.specs.declared.fault.ClassFault.TheVariants.{Magic, Version, Tail, TooLong, Memory}
 use Rattle.class_codec.specs.declared.pool.Kind.TheVariants as kinds
 use Rattle.class_codec.specs.declared.tree.Const.{Const}
 use Rattle.class_codec.specs.declared.tree.ClassFile.{ClassFile}
 use Rattle.class_codec.specs.Pool.{names}
 use Rattle.class_codec.specs.Spelling as spelling
-use Rattle.class_codec.specs.Fits.{IsU2, IsIndex, FitCounted, FitsAttr, FitsMember, CanSpell, SpellsClass}
-use Rattle.class_codec.specs.Reading.{Answers, u2_at, head_at, body_at, class_at, class_of}
+use Rattle.mon_base.specs.Widths.{IsU2}
+use Rattle.class_codec.specs.Fits.{IsIndex, FitCounted, FitsAttr, FitsMember, CanSpell, SpellsClass}
+use Rattle.class_codec.specs.Reading.{u2_at, head_at, body_at, class_at, class_of}
 use Rattle.class_codec.proofs.Readers.{wrapped, then_equal}
 use Rattle.class_codec.proofs.Numbers.{u2_is, u4_is, index_is, counted_is}
 use Rattle.class_codec.proofs.PoolLaws.{IsPool, pool_is, whole_pool, pool_whole}
@@ -115,14 +117,14 @@ class_again bytes f h short =
     let b : nat_le (length bytes) 1048576 ≡ true = grind (arith, nat_tests) in
     rw (b, h.is) t
 
-pub is_found : (bytes : List ℕ) (r : Result ClassFile ClassFault) → IsBytes bytes → Answers r (class_of bytes)
+pub is_found : (bytes : List ℕ) (r : Result ClassFile ClassFault) → IsBytes bytes → Answers Memory r (class_of bytes)
     → IfOk r (λ f. SpellsClass bytes f)
 is_found bytes (Ok f) fits given = class_takes bytes f fits given
 is_found bytes (Err e) fits given = tt
 
-pub is_only : (bytes : List ℕ) (r : Result ClassFile ClassFault) (f : ClassFile) → Answers r (class_of bytes) → SpellsClass bytes f
-    → length bytes ≤ 1048576 → Answers r (Ok f)
-is_only bytes r f given h short = subst (λ (read : Result ClassFile ClassFault). Answers r read) (class_again bytes f h short) given
+pub is_only : (bytes : List ℕ) (r : Result ClassFile ClassFault) (f : ClassFile) → Answers Memory r (class_of bytes) → SpellsClass bytes f
+    → length bytes ≤ 1048576 → Answers Memory r (Ok f)
+is_only bytes r f given h short = subst (λ (read : Result ClassFile ClassFault). Answers Memory r read) (class_again bytes f h short) given
 
 pub same_tree : (bytes : List ℕ) (f g : ClassFile) → SpellsClass bytes f → SpellsClass bytes g → f ≡ g
 same_tree bytes f g spells_f spells_g =
@@ -131,10 +133,10 @@ same_tree bytes f g spells_f spells_g =
     let same : spelling.spelling f ≡ spelling.spelling g = sym spells_f.is ∙ spells_g.is in
     ok_is ClassFault f g (sym one ∙ ap (λ (b : List ℕ). whole class_at (λ p. Tail p.at) b) same ∙ two)
 
-pub is_long : (bytes : List ℕ) (r : Result ClassFile ClassFault) → Answers r (class_of bytes) → 1048576 < length bytes
-    → Answers r (Err (TooLong (length bytes)))
+pub is_long : (bytes : List ℕ) (r : Result ClassFile ClassFault) → Answers Memory r (class_of bytes) → 1048576 < length bytes
+    → Answers Memory r (Err (TooLong (length bytes)))
 unfolding class_of
 is_long bytes r given long =
     let b : nat_le (length bytes) 1048576 ≡ false = grind (arith, nat_tests) in
     let same : class_of bytes ≡ Err (TooLong (length bytes)) = rw b refl in
-    subst (λ (read : Result ClassFile ClassFault). Answers r read) same given
+    subst (λ (read : Result ClassFile ClassFault). Answers Memory r read) same given

@@ -3,12 +3,14 @@ use Rattle.std.proofs.Common.{◌≡◌, ℕ, suc, ◌-◌, ◌+◌, ◌≤◌, 
 use Rattle.std.specs.List.{flat_map}
 use Rattle.std.proofs.lemmas.List.{append-nil, take_all, length-append}
 use Rattle.mon_base.specs.Reading.{Place, ◌>>=◌, counted}
+use Rattle.mon_base.specs.Answer.{Fails}
+use Rattle.mon_base.proofs.Answering.{failed, along}
 use Rattle.class_codec.specs.declared.fault.ClassFault.{ClassFault}
-use Rattle.class_codec.specs.declared.fault.ClassFault.TheVariants.{Magic, Version, Short, Tail, Tag, Index, TooLong, Memory}
+use Rattle.class_codec.specs.declared.fault.ClassFault.TheVariants.{Memory}
 use Rattle.class_codec.specs.declared.tree.Const.{Const}
 use Rattle.class_codec.specs.Spelling.{constant}
 use Rattle.class_codec.specs.Fits.{takes_two}
-use Rattle.class_codec.specs.Reading.{Read, Fails, place_at, places_at, constant_checked, all_checked}
+use Rattle.class_codec.specs.Reading.{Read, place_at, places_at, constant_checked, all_checked}
 
 -- what was read before, and what is still read
 abbrev pub with_front : {X : Type 0} → List X → Read (List X) → Read (List X)
@@ -18,28 +20,6 @@ regroup : {X : Type 0} (front : List X) (n : X) (read : Read (List X))
     → with_front front (read >>= λ x. Ok (n ∷ x.0, x.1)) ≡ with_front (front ++ n ∷ []) read
 regroup {X = X} front n (Ok x) = ap (λ (ns : List X). Ok (ns, x.1)) (simp append_assoc)
 regroup front n (Err f) = refl
-
--- A fault at an item is the answer.
-failed : {Y Z : Type 0} (e : ClassFault) (first : Result Y ClassFault) (others : Y → Result Z ClassFault) → Fails e first
-    → Fails e (first >>= others)
-failed Memory first others h = tt
-failed Magic first others h = rw h refl
-failed (Version major) first others h = rw h refl
-failed (Short at) first others h = rw h refl
-failed (Tail at) first others h = rw h refl
-failed (Tag at tag) first others h = rw h refl
-failed (Index at) first others h = rw h refl
-failed (TooLong len) first others h = rw h refl
-
-along : {Y : Type 0} (e : ClassFault) (a b : Result Y ClassFault) → a ≡ b → Fails e a → Fails e b
-along Memory a b same h = tt
-along Magic a b same h = sym same ∙ h
-along (Version major) a b same h = sym same ∙ h
-along (Short at) a b same h = sym same ∙ h
-along (Tail at) a b same h = sym same ∙ h
-along (Tag at tag) a b same h = sym same ∙ h
-along (Index at) a b same h = sym same ∙ h
-along (TooLong len) a b same h = sym same ∙ h
 
 -- ---- items
 
@@ -54,13 +34,13 @@ goes_on item front count i place x next total lt h so_far =
     sym one ∙ so_far
 
 pub ends : {X : Type 0} (item : Place → Read X) (e : ClassFault) (front : List X) (count i : ℕ) (place : Place)
-    (total : Read (List X)) → i < count → Fails e (item place)
-    → with_front front (counted item (count - i) place) ≡ total → Fails e total
+    (total : Read (List X)) → i < count → Fails Memory e (item place)
+    → with_front front (counted item (count - i) place) ≡ total → Fails Memory e total
 unfolding counted
 ends item e front count i place total lt h so_far =
     let k : count - i ≡ suc (count - (i + 1)) = omega arith in
-    let one = failed e (counted item (suc (count - (i + 1))) place) (λ x. Ok (front ++ x.0, x.1)) (failed e (item place) (λ first. counted item (count - (i + 1)) first.1 >>= λ others. Ok (first.0 ∷ others.0, others.1)) h) in
-    along e (with_front front (counted item (suc (count - (i + 1))) place)) total (subst (λ (n : ℕ). with_front front (counted item n place) ≡ total) k so_far) one
+    let one = failed Memory e (counted item (suc (count - (i + 1))) place) (λ x. Ok (front ++ x.0, x.1)) (failed Memory e (item place) (λ first. counted item (count - (i + 1)) first.1 >>= λ others. Ok (first.0 ∷ others.0, others.1)) h) in
+    along Memory e (with_front front (counted item (suc (count - (i + 1))) place)) total (subst (λ (n : ℕ). with_front front (counted item n place) ≡ total) k so_far) one
 
 pub is_done : {X : Type 0} (item : Place → Read X) (front : List X) (count i : ℕ) (place : Place) (total : Read (List X)) → count ≤ i
     → with_front front (counted item (count - i) place) ≡ total → total ≡ Ok (front, place)
@@ -85,15 +65,15 @@ place_goes_on front second count i place x next total lt h so_far =
     sym one ∙ so_far
 
 pub place_ends : (e : ClassFault) (front : List Const) (second : Bool) (count i : ℕ) (place : Place) (total : Read (List Const))
-    → i < count → Fails e (place_at second (count - i - 1) place)
-    → with_front front (places_at second (count - i) place) ≡ total → Fails e total
+    → i < count → Fails Memory e (place_at second (count - i - 1) place)
+    → with_front front (places_at second (count - i) place) ≡ total → Fails Memory e total
 unfolding places_at
 place_ends e front second count i place total lt h so_far =
     let k : count - i ≡ suc (count - (i + 1)) = omega arith in
     let j : count - i - 1 ≡ count - (i + 1) = omega arith in
-    let h' : Fails e (place_at second (count - (i + 1)) place) = rw (← j) h in
-    let one = failed e (places_at second (suc (count - (i + 1))) place) (λ x. Ok (front ++ x.0, x.1)) (failed e (place_at second (count - (i + 1)) place) (λ first. places_at (takes_two first.0) (count - (i + 1)) first.1 >>= λ others. Ok (first.0 ∷ others.0, others.1)) h') in
-    along e (with_front front (places_at second (suc (count - (i + 1))) place)) total (subst (λ (n : ℕ). with_front front (places_at second n place) ≡ total) k so_far) one
+    let h' : Fails Memory e (place_at second (count - (i + 1)) place) = rw (← j) h in
+    let one = failed Memory e (places_at second (suc (count - (i + 1))) place) (λ x. Ok (front ++ x.0, x.1)) (failed Memory e (place_at second (count - (i + 1)) place) (λ first. places_at (takes_two first.0) (count - (i + 1)) first.1 >>= λ others. Ok (first.0 ∷ others.0, others.1)) h') in
+    along Memory e (with_front front (places_at second (suc (count - (i + 1))) place)) total (subst (λ (n : ℕ). with_front front (places_at second n place) ≡ total) k so_far) one
 
 pub places_done : (front : List Const) (second : Bool) (count i : ℕ) (place : Place) (total : Read (List Const)) → count ≤ i
     → with_front front (places_at second (count - i) place) ≡ total → total ≡ Ok (front, place)
@@ -114,11 +94,11 @@ checks_on pool first others at total h so_far =
     sym one ∙ so_far
 
 pub check_ends : (e : ClassFault) (pool : List Const) (first : Const) (others : List Const) (at : ℕ)
-    (total : Result (Unit {0}) ClassFault) → Fails e (constant_checked pool first at)
-    → all_checked pool (first ∷ others) at ≡ total → Fails e total
+    (total : Result (Unit {0}) ClassFault) → Fails Memory e (constant_checked pool first at)
+    → all_checked pool (first ∷ others) at ≡ total → Fails Memory e total
 unfolding all_checked
 check_ends e pool first others at total h so_far =
-    along e (all_checked pool (first ∷ others) at) total so_far (failed e (constant_checked pool first at) (λ _. all_checked pool others (at + length (constant first))) h)
+    along Memory e (all_checked pool (first ∷ others) at) total so_far (failed Memory e (constant_checked pool first at) (λ _. all_checked pool others (at + length (constant first))) h)
 
 pub checks_done : (pool : List Const) (at : ℕ) (total : Result (Unit {0}) ClassFault) → all_checked pool [] at ≡ total → total ≡ Ok tt
 unfolding all_checked
@@ -151,7 +131,7 @@ sum_step left first at len total some is l so_far =
 
 pub check_step_ends : (e : ClassFault) (pool left : List Const) (first : Const) (at : ℕ) (total : Result (Unit {0}) ClassFault)
     → 1 ≤ length left → first ≡ get_or left 0 first
-    → Fails e (constant_checked pool first at) → all_checked pool left at ≡ total → Fails e total
+    → Fails Memory e (constant_checked pool first at) → all_checked pool left at ≡ total → Fails Memory e total
 check_step_ends e pool left first at total some is h so_far =
     let same = others_are left first some is in
     let so_far' : all_checked pool (first ∷ take (length left - 1) (drop 1 left)) at ≡ total = ap (λ (xs : List Const). all_checked pool xs at) (sym same) ∙ so_far in

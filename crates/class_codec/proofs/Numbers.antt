@@ -8,7 +8,8 @@ use Rattle.class_codec.specs.declared.pool.Kind.{Kind}
 use Rattle.class_codec.specs.declared.tree.Const.{Const}
 use Rattle.class_codec.specs.Pool.{names}
 use Rattle.class_codec.specs.Spelling as spelling
-use Rattle.class_codec.specs.Fits.{IsU2, IsU4, IsU8, IsIndex, FitsBlock, FitCounted}
+use Rattle.mon_base.specs.Widths.{IsU2, IsU4, IsU8}
+use Rattle.class_codec.specs.Fits.{IsIndex, FitsBlock, FitCounted}
 use Rattle.class_codec.specs.Reading.{Read, u1_at, u2_at, u4_at, u8_at, taken_at, block_at, index_at, counted_at}
 use Rattle.class_codec.proofs.Readers.{checked}
 

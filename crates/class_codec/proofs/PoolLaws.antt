@@ -17,7 +17,8 @@ use Rattle.class_codec.specs.declared.tree.Const.{Const}
 use Rattle.class_codec.specs.declared.tree.Const.TheVariants.{Utf8, Integer, Float, Long, Double, Class, Str, Field, Method, IMethod, NameAndType, Second}
 use Rattle.class_codec.specs.Pool.{names}
 use Rattle.class_codec.specs.Spelling as spelling
-use Rattle.class_codec.specs.Fits.{IsU2, IsU8, IsTextByte, FitsConst, is_second, takes_two, HasSeconds, IsNamed, FitsPool}
+use Rattle.mon_base.specs.Widths.{IsU2, IsU8}
+use Rattle.class_codec.specs.Fits.{IsTextByte, FitsConst, is_second, takes_two, HasSeconds, IsNamed, FitsPool}
 use Rattle.class_codec.specs.Reading.{Read, u2_at, u4_at, is_no_text_byte, text_checked, text_at, pair_at, wide_at, payload_at, constant_at, place_at, places_at, index_checked, pair_checked, constant_checked, all_checked, pool_at}
 use Rattle.class_codec.proofs.Readers.{then_from, checked, wrapped, spelled_where}
 use Rattle.class_codec.proofs.Numbers.{u1_is, u2_is, u4_is, u8_is, rest_is, need_holds, holds_need}

@@ -2,6 +2,7 @@
 use Rattle.std.specs.Prelude.{◌≡◌, ℕ, ◌<◌, ◌≤◌, ◌^◌, ◌==◌, ◌||◌, ◌&&◌, Bool, true, false, List, [], ◌∷◌, length, FitsSigned, ⊤}
 use Rattle.std.specs.List.{AllByRecursion}
 use Rattle.std.specs.Int.{w32, w64}
+use Rattle.mon_base.specs.Widths.{IsU2, IsU4, IsU8}
 use Rattle.class_codec.specs.declared.pool.Kind.TheVariants as kinds
 use Rattle.class_codec.specs.declared.pool.Kind.{Kind}
 use Rattle.class_codec.specs.declared.tree.Const.{Const}
@@ -15,16 +16,6 @@ use Rattle.class_codec.specs.declared.tree.Member.{Member}
 use Rattle.class_codec.specs.declared.tree.ClassFile.{ClassFile}
 use Rattle.class_codec.specs.Pool.{names, utf8_at, is_code}
 use Rattle.class_codec.specs.Spelling.{contents, spelling}
-
--- numbers that two, four and eight bytes hold
-abbrev pub IsU2 : ℕ → Type 0
-IsU2 n = n < 2 ^ 16
-
-abbrev pub IsU4 : ℕ → Type 0
-IsU4 n = n < 2 ^ 32
-
-abbrev pub IsU8 : ℕ → Type 0
-IsU8 n = n < 2 ^ 64
 
 -- two bytes count the items, and each fits
 pub record FitCounted {X : Type 0} (FitsItem : X → Type 0) (items : List X) : Type 0 where

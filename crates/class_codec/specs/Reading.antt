@@ -23,24 +23,6 @@ use Rattle.class_codec.specs.Fits.{takes_two, is_read_as_code}
 abbrev pub Read : Type 0 → Type 0
 Read X = Result (X × Place) ClassFault
 
--- What a call answered, and the place where it left, are what reading gives; unless memory ran out.
-abbrev pub Fails : {Y : Type 0} → ClassFault → Result Y ClassFault → Type 0
-Fails Memory read = Unit {0}
-Fails fault read = read ≡ Err fault
-
-abbrev pub Reads : {X : Type 0} → Result X ClassFault → Read X → Place → Type 0
-Reads (Ok x) read new = read ≡ Ok (x, new)
-Reads (Err e) read new = Fails e read
-
--- the same of an answer that is seen by view
-abbrev pub ReadsAs : {X Y : Type 0} → (X → Y) → Result X ClassFault → Read Y → Place → Type 0
-ReadsAs view (Ok x) read new = read ≡ Ok (view x, new)
-ReadsAs view (Err e) read new = Fails e read
-
-abbrev pub Answers : {X : Type 0} → Result X ClassFault → Result X ClassFault → Type 0
-Answers (Ok x) answer = answer ≡ Ok x
-Answers (Err e) answer = Fails e answer
-
 -- ---- numbers, bytes and indices
 
 unfoldable pub u1_at : Place → Read ℕ

@@ -1,7 +1,8 @@
 //! Reading attributes. (The Java Virtual Machine Specification, section 4.7.)
 
 ghost use Rattle.std.specs.Prelude.{◌≡◌};
-ghost use Rattle.class_codec.specs.Reading.{Reads, ReadsAs, index_at, other_at, caught_at, table_entry_at, code_len_at};
+ghost use Rattle.mon_base.specs.Answer.{Reads, ReadsAs};
+ghost use Rattle.class_codec.specs.Reading.{index_at, other_at, caught_at, table_entry_at, code_len_at};
 ghost use Rattle.class_codec.specs.Reading.{instructions_at, contents_at, code_at, named_at, attribute_at, member_at};
 ghost use Rattle.class_codec.specs.declared.pool.Kind.TheVariants as kinds;
 
@@ -114,7 +115,7 @@ fn named(
     name: u16,
     from: &mut Cursor,
 ) -> Result<Attr, ClassFault>
-    ensures { Reads result (named_at is_code pool.now name from.old) from.new }
+    ensures { Reads ClassFault.Memory result (named_at is_code pool.now name from.old) from.new }
 {
     if is_code {
         return Ok(Attr::Code(code(alloc, pool, name, from)?));
@@ -126,7 +127,7 @@ fn named(
 /// A Code attribute after its name. Its contents end exactly at its length.
 #[tactic(auto, unfolding(crate::specs::Reading::code_at))]
 fn code(alloc: Global, pool: &[Const], name: u16, from: &mut Cursor) -> Result<Code, ClassFault>
-    ensures { Reads result (code_at pool.now name from.old) from.new }
+    ensures { Reads ClassFault.Memory result (code_at pool.now name from.old) from.new }
 {
     let len = u4(from)?;
     let mut part = from.part(len as usize);
@@ -142,7 +143,7 @@ fn code(alloc: Global, pool: &[Const], name: u16, from: &mut Cursor) -> Result<C
 /// What stands in a Code attribute.
 #[tactic(auto, unfolding(crate::specs::Reading::contents_at))]
 fn contents(alloc: Global, pool: &[Const], name: u16, from: &mut Cursor) -> Result<Code, ClassFault>
-    ensures { Reads result (contents_at pool.now name from.old) from.new }
+    ensures { Reads ClassFault.Memory result (contents_at pool.now name from.old) from.new }
 {
     let max_stack = u2(from)?;
     let max_locals = u2(from)?;
@@ -162,7 +163,7 @@ fn contents(alloc: Global, pool: &[Const], name: u16, from: &mut Cursor) -> Resu
 /// The bytes of a method's code: their length, and that many bytes.
 #[tactic(auto, unfolding(crate::specs::Reading::instructions_at))]
 fn instructions<'a>(from: &mut Cursor<'a>) -> Result<&'a [u8], ClassFault>
-    ensures { ReadsAs (λ b. b.now) result (instructions_at from.old) from.new }
+    ensures { ReadsAs ClassFault.Memory (λ b. b.now) result (instructions_at from.old) from.new }
 {
     let len = code_len(from)?;
     taken(len as usize, from)
@@ -171,7 +172,7 @@ fn instructions<'a>(from: &mut Cursor<'a>) -> Result<&'a [u8], ClassFault>
 /// The length of a method's code, which is 1 to 65,535.
 #[tactic(auto, unfolding(crate::specs::Reading::code_len_at))]
 fn code_len(from: &mut Cursor) -> Result<u32, ClassFault>
-    ensures { Reads result (code_len_at from.old) from.new }
+    ensures { Reads ClassFault.Memory result (code_len_at from.old) from.new }
 {
     let at = from.position();
     let len = u4(from)?;
@@ -184,7 +185,7 @@ fn code_len(from: &mut Cursor) -> Result<u32, ClassFault>
 /// The index of the class that is caught, or 0 for any.
 #[tactic(auto, unfolding(crate::specs::Reading::caught_at))]
 fn caught(pool: &[Const], from: &mut Cursor) -> Result<u16, ClassFault>
-    ensures { Reads result (caught_at pool.now from.old) from.new }
+    ensures { Reads ClassFault.Memory result (caught_at pool.now from.old) from.new }
 {
     let at = from.position();
     let class = u2(from)?;

@@ -4,7 +4,8 @@ ghost use Rattle.std.specs.Prelude.{◌≡◌, ◌+◌, ◌-◌, ◌<◌, ◌≤
 ghost use Rattle.std.specs.List.{flat_map};
 ghost use Rattle.class_codec.specs.Spelling.{constant};
 ghost use Rattle.class_codec.specs.Fits.{takes_two};
-ghost use Rattle.class_codec.specs.Reading.{Reads, ReadsAs, Answers, is_no_text_byte, text_checked, text_at, pair_at};
+ghost use Rattle.mon_base.specs.Answer.{Reads, ReadsAs, Answers};
+ghost use Rattle.class_codec.specs.Reading.{is_no_text_byte, text_checked, text_at, pair_at};
 ghost use Rattle.class_codec.specs.Reading.{wide_at, payload_at, constant_at, place_at, places_at, pool_at};
 
 use crate::fault::ClassFault;
@@ -17,7 +18,7 @@ use std::alloc::Global;
 /// The text of a constant: two bytes of length, and that many bytes, none of which is 0 or in 0xF0 to 0xFF.
 #[tactic(auto, unfolding(crate::specs::Reading::text_at))]
 fn text(alloc: Global, from: &mut Cursor) -> Result<Bytes, ClassFault>
-    ensures reads { Reads result (text_at from.old) from.new }
+    ensures reads { Reads ClassFault.Memory result (text_at from.old) from.new }
     ensures moves { IfOk result (λ text. from.new.at ≡ from.old.at + 2 + length text) }
 {
     let len = u2(from)?;
@@ -29,7 +30,7 @@ fn text(alloc: Global, from: &mut Cursor) -> Result<Bytes, ClassFault>
 /// Whether all bytes of a text, which ends at a place of the file, may stand there.
 fn check_text(text: &[u8], end: u64) -> Result<(), ClassFault>
     requires { length text.now ≤ end }
-    ensures { Answers result (text_checked (end - length text.now) (position is_no_text_byte text.now)) }
+    ensures { Answers ClassFault.Memory result (text_checked (end - length text.now) (position is_no_text_byte text.now)) }
 {
     match first_wrong(text) {
         Some(i) => Err(ClassFault::Index {
@@ -50,7 +51,7 @@ fn first_wrong(text: &[u8]) -> Option<usize>
 /// Two indices.
 #[tactic(auto, unfolding(crate::specs::Reading::pair_at))]
 fn pair(from: &mut Cursor) -> Result<(u16, u16), ClassFault>
-    ensures reads { Reads result (pair_at from.old) from.new }
+    ensures reads { Reads ClassFault.Memory result (pair_at from.old) from.new }
     ensures moves { OnOk result (from.new.at ≡ from.old.at + 4) }
 {
     let first = u2(from)?;
@@ -61,7 +62,7 @@ fn pair(from: &mut Cursor) -> Result<(u16, u16), ClassFault>
 /// The eight bytes of a constant that takes two places: it begins at `at`, and `left` places stand after its first.
 #[tactic(auto, unfolding(crate::specs::Reading::wide_at))]
 fn wide(at: u64, left: u16, from: &mut Cursor) -> Result<u64, ClassFault>
-    ensures reads { Reads result (wide_at at left from.old) from.new }
+    ensures reads { Reads ClassFault.Memory result (wide_at at left from.old) from.new }
     ensures moves { OnOk result (from.new.at ≡ from.old.at + 8) }
 {
     if left == 0 {
@@ -79,7 +80,7 @@ fn payload(
     tag: u8,
     from: &mut Cursor,
 ) -> Result<Const, ClassFault>
-    ensures reads { Reads result (payload_at at left tag from.old) from.new }
+    ensures reads { Reads ClassFault.Memory result (payload_at at left tag from.old) from.new }
     ensures moves { IfOk result (λ c. from.new.at + 1 ≡ from.old.at + length (constant c)) }
 {
     match tag {
@@ -113,7 +114,7 @@ fn payload(
 /// A constant, after whose first place `left` places stand.
 #[tactic(auto, unfolding(crate::specs::Reading::constant_at))]
 fn constant(alloc: Global, left: u16, from: &mut Cursor) -> Result<Const, ClassFault>
-    ensures reads { Reads result (constant_at left from.old) from.new }
+    ensures reads { Reads ClassFault.Memory result (constant_at left from.old) from.new }
     ensures moves { IfOk result (λ c. from.new.at ≡ from.old.at + length (constant c)) }
 {
     let at = from.position();
@@ -124,7 +125,7 @@ fn constant(alloc: Global, left: u16, from: &mut Cursor) -> Result<Const, ClassF
 /// A place of the pool, or the second place of its constant, which has no bytes.
 #[tactic(auto, unfolding(crate::specs::Reading::place_at))]
 fn place(alloc: Global, second: bool, left: u16, from: &mut Cursor) -> Result<Const, ClassFault>
-    ensures reads { Reads result (place_at second left from.old) from.new }
+    ensures reads { Reads ClassFault.Memory result (place_at second left from.old) from.new }
     ensures moves { IfOk result (λ c. from.new.at ≡ from.old.at + length (constant c)) }
 {
     if second {
@@ -142,7 +143,7 @@ fn takes_two(item: &Const) -> bool
 
 /// The places of the pool, the first of which is the second place of no constant.
 fn places(alloc: Global, count: u16, from: &mut Cursor) -> Result<Vec<Const>, ClassFault>
-    ensures reads { ReadsAs (λ v. v.items) result (places_at true count from.old) from.new }
+    ensures reads { ReadsAs ClassFault.Memory (λ v. v.items) result (places_at true count from.old) from.new }
     ensures moves { IfOk result (λ pool. from.new.at ≡ from.old.at + length (flat_map constant pool.items)) }
 {
     let mut pool = Vec::new(alloc);
@@ -158,7 +159,7 @@ fn places(alloc: Global, count: u16, from: &mut Cursor) -> Result<Vec<Const>, Cl
 /// The constant pool.
 #[tactic(auto, unfolding(crate::specs::Reading::pool_at))]
 pub fn pool(alloc: Global, from: &mut Cursor) -> Result<List<Const>, ClassFault>
-    ensures { Reads result (pool_at from.old) from.new }
+    ensures { Reads ClassFault.Memory result (pool_at from.old) from.new }
 {
     let count = u2(from)?;
     let start = from.position();

@@ -3,7 +3,8 @@
 ghost use Rattle.std.specs.Prelude.{◌≡◌, ◌<◌, ◌≤◌, length, Ok, Err, IfOk};
 ghost use Rattle.class_codec.specs.declared.fault.ClassFault.TheVariants.{TooLong};
 ghost use Rattle.class_codec.specs.Fits.{SpellsClass};
-ghost use Rattle.class_codec.specs.Reading.{Reads, Answers, head_at, body_at, class_at, class_of};
+ghost use Rattle.mon_base.specs.Answer.{Reads, Answers};
+ghost use Rattle.class_codec.specs.Reading.{head_at, body_at, class_at, class_of};
 
 use crate::constants::pool;
 use crate::fault::ClassFault;
@@ -20,7 +21,7 @@ pub const MAX_LEN: usize = 1_048_576;
 /// What stands before the pool: the minor version.
 #[tactic(auto, unfolding(crate::specs::Reading::head_at))]
 fn head(from: &mut Cursor) -> Result<u16, ClassFault>
-    ensures { Reads result (head_at from.old) from.new }
+    ensures { Reads ClassFault.Memory result (head_at from.old) from.new }
 {
     if u4(from)? != 0xCAFE_BABE {
         return Err(ClassFault::Magic);
@@ -41,7 +42,7 @@ fn body(
     pool: List<Const>,
     from: &mut Cursor,
 ) -> Result<ClassFile, ClassFault>
-    ensures { Reads result (body_at minor pool from.old) from.new }
+    ensures { Reads ClassFault.Memory result (body_at minor pool from.old) from.new }
 {
     let flags = u2(from)?;
     let this_class = index(Kind::Class, pool.as_slice(), from)?;
@@ -66,7 +67,7 @@ fn body(
 /// A class file.
 #[tactic(auto, unfolding(crate::specs::Reading::class_at))]
 fn class_file(alloc: Global, from: &mut Cursor) -> Result<ClassFile, ClassFault>
-    ensures { Reads result (class_at from.old) from.new }
+    ensures { Reads ClassFault.Memory result (class_at from.old) from.new }
 {
     let minor = head(from)?;
     let pool = pool(alloc, from)?;
@@ -76,7 +77,7 @@ fn class_file(alloc: Global, from: &mut Cursor) -> Result<ClassFile, ClassFault>
 /// The class file that all the bytes are, of which there are at most 1,048,576.
 #[tactic(auto, unfolding(crate::specs::Reading::class_of))]
 fn all(alloc: Global, bytes: &[u8]) -> Result<ClassFile, ClassFault>
-    ensures { Answers result (class_of bytes.now) }
+    ensures { Answers ClassFault.Memory result (class_of bytes.now) }
 {
     if bytes.len() > MAX_LEN {
         return Err(ClassFault::TooLong {
@@ -98,11 +99,12 @@ pub fn decode(alloc: Global, bytes: &[u8]) -> Result<ClassFile, ClassFault>
     // What is read is spelled so.
     ensures found { IfOk result (λ file. SpellsClass bytes.now file) }
     // What is spelled so is read, unless memory runs out.
-    ensures only { (file : ClassFile) → SpellsClass bytes.now file → length bytes.now ≤ 1048576 → Answers result (Ok file) }
+    ensures only { (file : ClassFile) → SpellsClass bytes.now file → length bytes.now ≤ 1048576
+        → Answers ClassFault.Memory result (Ok file) }
     // More bytes than a class file may have are refused before all else.
-    ensures too_long { 1048576 < length bytes.now → Answers result (Err (TooLong (length bytes.now))) }
+    ensures too_long { 1048576 < length bytes.now → Answers ClassFault.Memory result (Err (TooLong (length bytes.now))) }
     // Which fault it is: the first that reading meets.
-    ensures exact { Answers result (class_of bytes.now) }
+    ensures exact { Answers ClassFault.Memory result (class_of bytes.now) }
 {
     all(alloc, bytes)
 }

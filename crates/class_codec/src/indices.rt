@@ -3,7 +3,8 @@
 ghost use Rattle.std.specs.Prelude.{◌≡◌, ◌+◌, ◌<◌, ◌^◌, length};
 ghost use Rattle.std.specs.List.{flat_map};
 ghost use Rattle.class_codec.specs.Spelling.{constant};
-ghost use Rattle.class_codec.specs.Reading.{Answers, index_checked, pair_checked, constant_checked, all_checked};
+ghost use Rattle.mon_base.specs.Answer.{Answers};
+ghost use Rattle.class_codec.specs.Reading.{index_checked, pair_checked, constant_checked, all_checked};
 
 use crate::fault::ClassFault;
 use crate::pool::{Kind, names};
@@ -12,7 +13,7 @@ use crate::tree::Const;
 /// Whether all indices of the pool, which stands from `start` to `end`, name what they should.
 pub fn check_all(pool: &[Const], start: u64, end: u64) -> Result<(), ClassFault>
     requires { start + length (flat_map constant pool.now) ≡ end }
-    ensures { Answers result (all_checked pool.now pool.now start) }
+    ensures { Answers ClassFault.Memory result (all_checked pool.now pool.now start) }
 {
     let mut at = start;
     let mut left = pool;
@@ -28,7 +29,7 @@ pub fn check_all(pool: &[Const], start: u64, end: u64) -> Result<(), ClassFault>
 /// Whether the index at a place of the file names a constant of the kind.
 #[tactic(auto, unfolding(crate::specs::Reading::index_checked))]
 fn check_index(pool: &[Const], kind: Kind, index: u16, at: u64) -> Result<(), ClassFault>
-    ensures { Answers result (index_checked pool.now kind index at) }
+    ensures { Answers ClassFault.Memory result (index_checked pool.now kind index at) }
 {
     if names(kind, pool, index) {
         Ok(())
@@ -48,7 +49,7 @@ fn check_pair(
     at: u64,
 ) -> Result<(), ClassFault>
     requires { at + 3 < 2 ^ 64 }
-    ensures { Answers result (pair_checked pool.now kind first other second at) }
+    ensures { Answers ClassFault.Memory result (pair_checked pool.now kind first other second at) }
 {
     check_index(pool, kind, first, at + 1)?;
     check_index(pool, other, second, at + 3)
@@ -57,7 +58,7 @@ fn check_pair(
 /// Whether the indices of a constant that begins at `at` name what they should.
 fn check_constant(pool: &[Const], item: &Const, at: u64) -> Result<(), ClassFault>
     requires { at + length (constant item.now) < 2 ^ 64 }
-    ensures { Answers result (constant_checked pool.now item.now at) }
+    ensures { Answers ClassFault.Memory result (constant_checked pool.now item.now at) }
 {
     match item {
         Const::Class(name) => check_index(pool, Kind::Utf8, *name, at + 1),

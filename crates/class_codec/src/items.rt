@@ -2,7 +2,8 @@
 
 ghost use Rattle.std.specs.Prelude.{◌≡◌};
 ghost use Rattle.mon_base.specs.Reading.{counted};
-ghost use Rattle.class_codec.specs.Reading.{Reads, ReadsAs, counted_at};
+ghost use Rattle.mon_base.specs.Answer.{Reads, ReadsAs};
+ghost use Rattle.class_codec.specs.Reading.{counted_at};
 
 use crate::fault::ClassFault;
 use crate::place::u2;
@@ -28,7 +29,7 @@ pub trait Item: Drop {
     ) -> Result<Self, ClassFault>
     where
         Self: Sized,
-        ensures { Reads result (item_at pool.now of_method from.old) from.new };
+        ensures { Reads ClassFault.Memory result (item_at pool.now of_method from.old) from.new };
 }
 
 /// The items that two bytes count.
@@ -39,7 +40,7 @@ pub fn counted<T: Item>(
     of_method: bool,
     from: &mut Cursor,
 ) -> Result<List<T>, ClassFault>
-    ensures { Reads result (counted_at (T.item_at pool.now of_method) from.old) from.new }
+    ensures { Reads ClassFault.Memory result (counted_at (T.item_at pool.now of_method) from.old) from.new }
 {
     let count = u2(from)?;
     let items = several(alloc, pool, of_method, count, from)?;
@@ -54,7 +55,7 @@ fn several<T: Item>(
     count: u16,
     from: &mut Cursor,
 ) -> Result<Vec<T>, ClassFault>
-    ensures { ReadsAs (λ v. v.items) result (counted (T.item_at pool.now of_method) count from.old) from.new }
+    ensures { ReadsAs ClassFault.Memory (λ v. v.items) result (counted (T.item_at pool.now of_method) count from.old) from.new }
 {
     let mut items = Vec::new(alloc);
     for _ in 0..count {

@@ -5,12 +5,9 @@ use Rattle.std.proofs.lemmas.Bool.{false≢true}
 use Rattle.mon_base.specs.Reading.{◌>>=◌}
 use Rattle.class_text.specs.declared.fault.ShowFault.{ShowFault}
 use Rattle.class_text.specs.declared.fault.ShowFault.TheVariants as faults
-use Rattle.class_text.specs.Shown.{Shown, texts_from, with_front, Fails}
-
--- where a part fails, the whole fails so
-pub through : {A B : Type 0} (e : ShowFault) (part : Result A ShowFault) (whole : Result B ShowFault) → (part ≡ Err e → whole ≡ Err e) → Fails e part → Fails e whole
-through (faults.Code class method fault) part whole f h = f h
-through faults.Memory part whole f h = tt
+use Rattle.mon_base.specs.Answer.{Fails}
+use Rattle.mon_base.proofs.Answering.{through}
+use Rattle.class_text.specs.Shown.{Shown, texts_from, with_front}
 
 abbrev text_or : List ℕ → Shown → List ℕ
 text_or other (Ok text) = text
@@ -45,10 +42,10 @@ module _ {X : Type 0} (one : ℕ → X → Shown) where
       ∙ ap (λ xs. with_front front (texts_from one at xs)) (sym split) ∙ so_far
 
   -- an item that has no text
-  pub ends : (e : ShowFault) (front old : List ℕ) (all rest : List X) (x : X) (at : ℕ) (total : Shown) → all ≡ x ∷ rest → Fails e (one at x)
-      → with_front front (texts_from one at all) ≡ with_front old total → Fails e total
+  pub ends : (e : ShowFault) (front old : List ℕ) (all rest : List X) (x : X) (at : ℕ) (total : Shown) → all ≡ x ∷ rest → Fails faults.Memory e (one at x)
+      → with_front front (texts_from one at all) ≡ with_front old total → Fails faults.Memory e total
   ends e front old all rest x at total split fails so_far =
-      through e (one at x) total
+      through faults.Memory e (one at x) total
       (λ err. fault_front old total e (sym so_far ∙ ap (λ xs. with_front front (texts_from one at xs)) split
       ∙ ap (λ first. with_front front (first >>= λ text. texts_from one (at + 1) rest >>= λ others. Ok (text ++ others))) err)) fails
 

@@ -15,6 +15,7 @@ use Rattle.api_listing.specs.declared.types.Listing.{Listing}
 use Rattle.bytecode_model.specs.Heads.{class_at}
 use Rattle.bytecode_model.specs.Conditions.{codes_of}
 use Rattle.class_text.specs.declared.fault.ShowFault.{ShowFault}
+use Rattle.mon_base.specs.Answer.{Fails}
 use Rattle.class_text.specs.declared.fault.ShowFault.TheVariants as faults
 use Rattle.class_text.specs.Lines.{class_line, method_line, insn_line, handler_line}
 
@@ -76,15 +77,6 @@ shown listing files = texts_from (λ at. class_shown listing) 0 files
 
 -- ---- what calls answer
 
-abbrev pub Fails : {X : Type 0} → ShowFault → Result X ShowFault → Type 0
-Fails faults.Memory answer = Unit {0}
-Fails fault answer = answer ≡ Err fault
-
--- A call answered this, unless memory ran out.
-abbrev pub Answers : {X : Type 0} → Result X ShowFault → Result X ShowFault → Type 0
-Answers (Ok x) answer = answer ≡ Ok x
-Answers (Err fault) answer = Fails fault answer
-
 -- a text before another
 abbrev pub with_front : List ℕ → Shown → Shown
 with_front front answer = answer >>= λ text. Ok (front ++ text)
@@ -92,9 +84,4 @@ with_front front answer = answer >>= λ text. Ok (front ++ text)
 -- A call appended the text, unless memory ran out.
 abbrev pub Appends : Result (Unit {0}) ShowFault → List ℕ → List ℕ → Shown → Type 0
 Appends (Ok done) old new answer = with_front old answer ≡ Ok new
-Appends (Err fault) old new answer = Fails fault answer
-
--- A fault was told, unless memory ran out.
-abbrev pub Tells : ShowFault → ShowFault → Type 0
-Tells faults.Memory fault = Unit {0}
-Tells told fault = told ≡ fault
+Appends (Err fault) old new answer = Fails faults.Memory fault answer

@@ -5,10 +5,9 @@ ghost use Rattle.bytecode_model.specs.Operands.{index_of};
 ghost use Rattle.class_text.specs.Lines.{spaced, is_call, reference_of, called_by, api_words, call_words};
 
 use crate::library::Library;
-use crate::pool::id_at;
 use crate::words::push_word;
 use api_listing::ListedMethod;
-use bytecode_model::{Use, use_of};
+use bytecode_model::{Use, id_at, index_of, use_of};
 use class_codec::Const;
 use insn_codec::Insn;
 use mon_base::{Bytes, MethodId, NoMemory};
@@ -18,18 +17,6 @@ fn is_call(used: Use) -> bool
     ensures { result ≡ is_call used }
 {
     matches!(used, Use::Call { .. })
-}
-
-/// The index of the constant that the instruction names, or 0, which names none.
-fn index_of(insn: &Insn) -> u16
-    ensures { result ≡ index_of insn.now }
-{
-    match insn {
-        Insn::Ldc(index) => *index as u16,
-        Insn::Pool { index, .. } => *index,
-        Insn::Iface { index, .. } => *index,
-        _ => 0,
-    }
 }
 
 /// What a reference to a method tells.

@@ -9,7 +9,6 @@ mod fault;
 mod instruction;
 mod library;
 mod lines;
-mod pool;
 mod printing;
 mod words;
 

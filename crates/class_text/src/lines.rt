@@ -6,8 +6,8 @@ ghost use Rattle.class_text.specs.Lines.{after_space, caught, class_line, method
 use crate::call::push_call;
 use crate::instruction::{push_name, push_operands};
 use crate::library::Library;
-use crate::pool::{class_at, text_at};
 use crate::words::{push_count_word, push_word};
+use bytecode_model::{class_at, text_at};
 use class_codec::{ClassFile, Const, Member, TableEntry};
 use insn_codec::Insn;
 use mon_base::{Bytes, NoMemory, push_count};

@@ -10,13 +10,14 @@ ghost use Rattle.bytecode_model.specs.Heads.{class_at};
 ghost use Rattle.bytecode_model.specs.Conditions.{code_in};
 ghost use Rattle.class_text.specs.Lines.{handler_line};
 ghost use Rattle.class_text.specs.Shown.{insn_lines, code_told, read_of, body_shown, method_shown, texts_from, class_shown};
-ghost use Rattle.class_text.specs.Shown.{shown, Answers, Appends, Tells};
+ghost use Rattle.mon_base.specs.Answer.{Answers, Tells};
+ghost use Rattle.class_text.specs.Shown.{shown, Appends};
 
 use crate::fault::ShowFault;
 use crate::library::Library;
 use crate::lines::{push_class_line, push_handler_line, push_insn_line, push_method_line};
-use crate::pool::class_at;
 use api_listing::Listing;
+use bytecode_model::{class_at, code_of};
 use class_codec::{Attr, ClassFile, Code, Const, Member, TableEntry};
 use insn_codec::{CodeFault, Insn, read_code, starts};
 use mon_base::{Bytes, List, NoMemory};
@@ -26,7 +27,7 @@ use std::alloc::Global;
 /// method, in order, whose code is of no form.
 pub fn show(alloc: Global, listing: &Listing, files: &[ClassFile]) -> Result<Bytes, ShowFault>
     requires { AllByRecursion CanSpell files.now }
-    ensures exact { Answers result (shown listing.now files.now) }
+    ensures exact { Answers ShowFault.Memory result (shown listing.now files.now) }
 {
     let library = Library::new(alloc, listing)?;
     let mut out = Bytes::new(alloc);
@@ -103,20 +104,6 @@ fn push_method(
     }
 }
 
-/// The first code of a method.
-fn code_of(attrs: &[Attr]) -> Option<&Code>
-    ensures { option_copied result ≡ slice_get (filter_map code_in attrs.now) 0 }
-{
-    let mut left = attrs;
-    while let [attr, rest @ ..] = left {
-        if let Attr::Code(code) = attr {
-            return Some(code);
-        }
-        left = rest;
-    }
-    None
-}
-
 fn push_body(
     alloc: Global,
     out: &mut Bytes,
@@ -149,7 +136,7 @@ fn read_insns(
     code: &[u8],
 ) -> Result<List<Insn>, ShowFault>
     requires { length code.now ≤ 65535 }
-    ensures answers { Answers result (read_of class.now method (code_of code.now)) }
+    ensures answers { Answers ShowFault.Memory result (read_of class.now method (code_of code.now)) }
     ensures len { IfOk result (λ insns. len_from 0 insns ≡ length code.now) }
 {
     match read_code(alloc, code) {
@@ -159,7 +146,7 @@ fn read_insns(
 }
 
 fn code_told(alloc: Global, class: &[u8], method: u32, fault: CodeFault) -> ShowFault
-    ensures { Tells result (code_told class.now method fault) }
+    ensures { Tells ShowFault.Memory result (code_told class.now method fault) }
 {
     match fault {
         CodeFault::Memory => ShowFault::Memory,

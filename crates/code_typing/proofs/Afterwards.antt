@@ -5,14 +5,14 @@ use Rattle.std.proofs.lemmas.Option.{slice_get_past}
 use Rattle.std.proofs.lemmas.List.{length-append}
 use Rattle.cert_format.specs.declared.typing.VType.{VType}
 use Rattle.cert_format.specs.declared.typing.VType.TheVariants as types
-use Rattle.insn_effect.specs.declared.shape.Heap.TheVariants as heap
-use Rattle.insn_effect.specs.declared.shape.Shape.{Shape}
-use Rattle.insn_effect.specs.declared.shape.Shape.TheVariants as shapes
-use Rattle.insn_effect.specs.Shapes.{shape_of}
+use Rattle.insn_codec.specs.declared.shape.Heap.TheVariants as heap
+use Rattle.insn_codec.specs.declared.shape.Shape.{Shape}
+use Rattle.insn_codec.specs.declared.shape.Shape.TheVariants as shapes
+use Rattle.insn_codec.specs.Shapes.{shape_of}
 use Rattle.code_typing.specs.declared.change.Change.{Change}
 use Rattle.code_typing.specs.Changing.{change_told, local_told}
-use Rattle.code_typing.specs.Makes.{type_at, is_same_object, when_made, when_called, changed_by, changed, stores, local_after}
-use Rattle.code_typing.specs.Place.{Place, calls_maker}
+use Rattle.bytecode_model.specs.Makes.{type_at, is_same_object, when_made, when_called, changed_by, changed, stores, local_after}
+use Rattle.bytecode_model.specs.Place.{Place, calls_maker}
 
 pub before_pushed : (xs : List VType) (t : VType) (k : ℕ) → k < length xs → type_at (xs ++ t ∷ []) k ≡ type_at xs k
 before_pushed [] t k less = absurd (omega arith)
@@ -45,7 +45,7 @@ top_called place taken =
 
 top_changed : (place : Place) (taken : List VType) (shape : Shape) → changed_by place taken shape types.Top ≡ types.Top
 top_changed place taken (shapes.Heap heap.New) = refl
-top_changed place taken (shapes.Heap heap.Call) = top_called place taken
+top_changed place taken (shapes.Heap (heap.Call how)) = top_called place taken
 top_changed place taken other = refl
 
 -- a local behind all that there are

@@ -2,12 +2,12 @@
 use Rattle.std.proofs.Common.{◌≡◌, ℕ, zero, suc, ◌+◌, ◌-◌, ◌<◌, ◌≤◌, Bool, true, false, cond, List, [], ◌∷◌, map, Some, None, refl, ap, ◌∙◌, arith}
 use Rattle.cert_format.specs.declared.typing.VType.{VType}
 use Rattle.bytecode_model.specs.declared.program.Program.{Program}
-use Rattle.type_lattice.specs.Assigning.{assignable}
-use Rattle.code_typing.specs.Described.{Descriptor, next_type, types_at}
-use Rattle.code_typing.specs.Makes.{type_at}
-use Rattle.code_typing.specs.Rules.{locals_fit}
+use Rattle.bytecode_model.specs.Assigning.{assignable}
+use Rattle.bytecode_model.specs.Described.{Descriptor, next_type, types_at}
+use Rattle.bytecode_model.specs.Makes.{type_at}
+use Rattle.bytecode_model.specs.Rules.{locals_fit}
 use Rattle.code_typing.specs.Steps.{behind_met, behind_fit}
-use Rattle.code_typing.specs.Wants.{all_met, to_described}
+use Rattle.bytecode_model.specs.Wants.{all_met, to_described}
 use Rattle.code_typing.proofs.Choices.{some_is}
 use Rattle.code_typing.proofs.Fitting.{locals_fit-behind}
 

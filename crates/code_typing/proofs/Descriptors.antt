@@ -13,7 +13,7 @@ use Rattle.api_listing.specs.declared.descriptor.MethodType.{MethodType}
 use Rattle.api_listing.specs.Descriptor.{class_spelled, element_spelled, type_spelled, result_spelled, is_element, is_type, method_type, SpellsDescriptor}
 use Rattle.api_listing.specs.Words.{pieces, is_name_byte, is_segment, is_class_name}
 use Rattle.api_listing.proofs.DescriptorLaws.{both, method_found}
-use Rattle.code_typing.specs.Described.{Descriptor, name_length, type_length, first_type, behind_type, next_type, types_at, arguments, result_text}
+use Rattle.bytecode_model.specs.Described.{Descriptor, name_length, type_length, first_type, behind_type, next_type, types_at, arguments, result_text}
 
 -- ---- names of classes
 

@@ -5,9 +5,10 @@ use Rattle.cert_format.specs.declared.typing.Typing.{Typing}
 use Rattle.bytecode_model.specs.declared.program.LinkedClass.{LinkedClass}
 use Rattle.bytecode_model.specs.declared.program.Method.{Method}
 use Rattle.bytecode_model.specs.declared.program.Program.{Program}
-use Rattle.code_typing.specs.Rules.{Frames}
-use Rattle.code_typing.specs.Shape.{has_code, coded}
-use Rattle.code_typing.specs.Typed.{IsTyped, row_in, row_of_method, list_at, frames_in, frames_told, first_row, method_fault, methods_fault, classes_fault, typing_fault}
+use Rattle.bytecode_model.specs.Rules.{Frames}
+use Rattle.bytecode_model.specs.Shape.{has_code, coded}
+use Rattle.code_typing.specs.First.{first_row, method_fault, methods_fault, classes_fault, typing_fault}
+use Rattle.bytecode_model.specs.Typed.{IsTyped, row_in, row_of_method, list_at, frames_in, frames_told}
 use Rattle.std.proofs.lemmas.Bool.{cases_Bool, cases_lt, ltb-false}
 use Rattle.std.proofs.lemmas.Option.{slice_get_past}
 use Rattle.code_typing.proofs.Choices.{neither, both_none, map_none, some_is, and_then_none, of_both, of_other}

@@ -5,15 +5,15 @@ use Rattle.std.specs.Bool.{Decides}
 use Rattle.std.proofs.lemmas.Bool.Decides.{same_from_decides, Decides-eqb}
 use Rattle.cert_format.specs.declared.typing.VType.{VType}
 use Rattle.bytecode_model.specs.declared.program.Program.{Program}
-use Rattle.type_lattice.specs.Assigning.{assignable}
-use Rattle.code_typing.specs.Makes.{type_at, changed, yields, stores, local_after, below, stack_after}
-use Rattle.code_typing.specs.Rules.{locals_fit, stack_fits, taken, goes_well}
-use Rattle.code_typing.specs.Wants.{all_met, anything, takes}
+use Rattle.bytecode_model.specs.Assigning.{assignable}
+use Rattle.bytecode_model.specs.Makes.{type_at, changed, yields, stores, local_after, below, stack_after}
+use Rattle.bytecode_model.specs.Rules.{locals_fit, stack_fits, taken, goes_well}
+use Rattle.bytecode_model.specs.Wants.{all_met, anything, takes}
 use Rattle.cert_format.specs.declared.typing.FrameType.{FrameType}
-use Rattle.insn_effect.specs.Shapes.{shape_of}
+use Rattle.insn_codec.specs.Shapes.{shape_of}
 use Rattle.code_typing.specs.declared.change.Change.{Change}
 use Rattle.code_typing.specs.Changing.{change_told, local_told, frame_takes}
-use Rattle.code_typing.specs.Place.{Place}
+use Rattle.bytecode_model.specs.Place.{Place}
 
 and_assoc : (a b c : Bool) → (a && (b && c)) ≡ ((a && b) && c)
 and_assoc true b c = refl

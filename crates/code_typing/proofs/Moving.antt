@@ -8,22 +8,22 @@ use Rattle.std.proofs.lemmas.List.FromFn.{length-map-range_with_len, get_or-map-
 use Rattle.std.proofs.lemmas.Option.{slice_get-get_or}
 use Rattle.cert_format.specs.declared.typing.VType.{VType}
 use Rattle.cert_format.specs.declared.typing.VType.TheVariants as types
-use Rattle.insn_effect.specs.declared.forms.StackForm.{StackForm}
-use Rattle.insn_effect.specs.declared.forms.StackForm.TheVariants.{Pop, Pop2, Dup, DupX1, DupX2, Dup2, Dup2X1, Dup2X2, Swap}
-use Rattle.insn_effect.specs.declared.shape.Kind.{Kind}
-use Rattle.insn_effect.specs.declared.shape.Kind.TheVariants as kinds
-use Rattle.insn_effect.specs.declared.shape.Shape.{Shape}
-use Rattle.insn_effect.specs.declared.shape.Shape.TheVariants as shapes
-use Rattle.insn_effect.specs.Effect.{effect}
-use Rattle.insn_effect.specs.Forms.{depth_of}
-use Rattle.insn_effect.specs.Shapes.{shape_of}
-use Rattle.insn_effect.specs.Table.{is_heap}
+use Rattle.insn_codec.specs.declared.forms.StackForm.{StackForm}
+use Rattle.insn_codec.specs.declared.forms.StackForm.TheVariants.{Pop, Pop2, Dup, DupX1, DupX2, Dup2, Dup2X1, Dup2X2, Swap}
+use Rattle.insn_codec.specs.declared.shape.Kind.{Kind}
+use Rattle.insn_codec.specs.declared.shape.Kind.TheVariants as kinds
+use Rattle.insn_codec.specs.declared.shape.Shape.{Shape}
+use Rattle.insn_codec.specs.declared.shape.Shape.TheVariants as shapes
+use Rattle.insn_codec.specs.Effect.{effect}
+use Rattle.insn_codec.specs.Forms.{depth_of}
+use Rattle.insn_codec.specs.Shapes.{shape_of}
+use Rattle.insn_codec.specs.Table.{is_heap}
 use Rattle.bytecode_model.specs.declared.program.Method.{Method}
-use Rattle.code_typing.specs.Makes.{type_at, stores, changed_by, yields_of, below}
+use Rattle.bytecode_model.specs.Makes.{type_at, stores, changed_by, yields_of, below}
 use Rattle.code_typing.specs.Moving.{types_moved, padded, IsEffectTyped}
-use Rattle.code_typing.specs.Place.{Place}
-use Rattle.code_typing.specs.Rules.{taken, uses_local}
-use Rattle.code_typing.specs.Wants.{Want, takes, takes_of, all_met, of_kind, is_number, is_made, is_reference, returns_well}
+use Rattle.bytecode_model.specs.Place.{Place}
+use Rattle.bytecode_model.specs.Rules.{taken, uses_local}
+use Rattle.bytecode_model.specs.Wants.{Want, takes, takes_of, all_met, of_kind, is_number, is_made, is_reference, returns_well}
 use Rattle.code_typing.proofs.Fitting.{map_same, any_decides}
 
 -- ---- locals

@@ -6,15 +6,16 @@ use Rattle.std.proofs.lemmas.Bool.{and_parts, cases_Bool, eq-eqb, eqb-true, fals
 use Rattle.cert_format.specs.declared.typing.FrameType.{FrameType}
 use Rattle.cert_format.specs.declared.typing.VType.{VType}
 use Rattle.cert_format.specs.declared.typing.VType.TheVariants as types
-use Rattle.insn_effect.specs.declared.shape.Heap.TheVariants as heap
-use Rattle.insn_effect.specs.declared.shape.Shape.{Shape}
-use Rattle.insn_effect.specs.declared.shape.Shape.TheVariants as shapes
+use Rattle.insn_codec.specs.declared.shape.Heap.TheVariants as heap
+use Rattle.insn_codec.specs.declared.shape.Shape.{Shape}
+use Rattle.insn_codec.specs.declared.shape.Shape.TheVariants as shapes
+use Rattle.insn_codec.specs.declared.shape.How.{How}
 use Rattle.bytecode_model.specs.declared.program.Program.{Program}
-use Rattle.type_lattice.specs.Assigning.{assignable}
+use Rattle.bytecode_model.specs.Assigning.{assignable}
 use Rattle.type_lattice.proofs.Orders.{itself}
-use Rattle.code_typing.specs.Makes.{type_at, class_made, is_same_object, when_made, when_called, changed_by}
-use Rattle.code_typing.specs.Place.{Place, calls_static, calls_maker}
-use Rattle.code_typing.specs.Rules.{taken, makes_receiver, made_well}
+use Rattle.bytecode_model.specs.Makes.{type_at, class_made, is_same_object, when_made, when_called, changed_by}
+use Rattle.bytecode_model.specs.Place.{Place, has_receiver, calls_maker}
+use Rattle.bytecode_model.specs.Rules.{taken, makes_receiver, made_well}
 use Rattle.code_typing.proofs.OrderWants.{below_this, below_new}
 
 -- ---- objects that are not made yet
@@ -68,35 +69,35 @@ same_receiver place r s e f = absurd cc
 
 -- ---- an instruction
 
-either_made : (maker static some : Bool) → (not maker || (not static && some)) ≡ true → maker ≡ true → some ≡ true
-either_made true static some e f = (and_parts (not static) some e).1
-either_made false static some e f = absurd cc
+either_made : (maker receives some : Bool) → (not maker || (receives && some)) ≡ true → maker ≡ true → some ≡ true
+either_made true receives some e f = (and_parts receives some e).1
+either_made false receives some e f = absurd cc
 
 module _ (place : Place) (low high : FrameType) (under : assignable place.program (type_at (taken place low) 0) (type_at (taken place high) 0) ≡ true) where
-  receivers : makes_receiver place high ≡ true → calls_maker place ≡ true → type_at (taken place low) 0 ≡ type_at (taken place high) 0
-  receivers e is = same_receiver place _ _ under (either_made (calls_maker place) (calls_static place) _ e is)
+  receivers : (how : How) → makes_receiver place how high ≡ true → calls_maker place ≡ true → type_at (taken place low) 0 ≡ type_at (taken place high) 0
+  receivers how e is = same_receiver place _ _ under (either_made (calls_maker place) (has_receiver how) _ e is)
 
-  pub makes_lower : makes_receiver place high ≡ true → makes_receiver place low ≡ true
-  makes_lower e =
+  pub makes_lower : (how : How) → makes_receiver place how high ≡ true → makes_receiver place how low ≡ true
+  makes_lower how e =
       elim (cases_Bool (calls_maker place)) [
         | inl is ↦
-            subst (λ (r : VType). (not (calls_maker place) || (not (calls_static place) && is_some (class_made place r))) ≡ true) (sym (receivers e is)) e
+            subst (λ (r : VType). (not (calls_maker place) || (has_receiver how && is_some (class_made place r))) ≡ true) (sym (receivers how e is)) e
         | inr other ↦ rw other refl
       ]
 
-  called_below : makes_receiver place high ≡ true → (t u : VType) → assignable place.program t u ≡ true
+  called_below : (how : How) → makes_receiver place how high ≡ true → (t u : VType) → assignable place.program t u ≡ true
       → assignable place.program (when_called place (taken place low) t) (when_called place (taken place high) u) ≡ true
-  called_below e t u h =
+  called_below how e t u h =
       elim (cases_Bool (calls_maker place)) [
         | inl is ↦
             let r = type_at (taken place high) 0 in
             let made : assignable place.program (when_made place r t) (when_made place r u) ≡ true = made_from place.program r t u (class_made place r) h in
-            rw is (subst (λ (s : VType). assignable place.program (when_made place s t) (when_made place r u) ≡ true) (sym (receivers e is)) made)
+            rw is (subst (λ (s : VType). assignable place.program (when_made place s t) (when_made place r u) ≡ true) (sym (receivers how e is)) made)
         | inr other ↦ rw other h
       ]
 
   pub changed_below : (shape : Shape) → made_well place high shape ≡ true → (t u : VType) → assignable place.program t u ≡ true
       → assignable place.program (changed_by place (taken place low) shape t) (changed_by place (taken place high) shape u) ≡ true
   changed_below (shapes.Heap heap.New) e t u h = replaced place.program (types.Uninit place.at) types.Top t u h
-  changed_below (shapes.Heap heap.Call) e t u h = called_below e t u h
+  changed_below (shapes.Heap (heap.Call how)) e t u h = called_below how e t u h
   changed_below shape e t u h = h

@@ -4,12 +4,12 @@ use Rattle.std.specs.Prelude.{◌&&◌}
 use Rattle.std.proofs.lemmas.Bool.{and_parts}
 use Rattle.cert_format.specs.declared.typing.VType.{VType}
 use Rattle.bytecode_model.specs.declared.program.Program.{Program}
-use Rattle.type_lattice.specs.Assigning.{assignable}
+use Rattle.bytecode_model.specs.Assigning.{assignable}
 use Rattle.type_lattice.specs.Laws.{IsInOrder}
 use Rattle.type_lattice.proofs.Orders.{itself, type_over}
-use Rattle.code_typing.specs.Makes.{type_at, topmost, below}
+use Rattle.bytecode_model.specs.Makes.{type_at, topmost, below}
 use Rattle.code_typing.specs.Order.{StackBelow, LocalsBelow}
-use Rattle.code_typing.specs.Rules.{locals_fit}
+use Rattle.bytecode_model.specs.Rules.{locals_fit}
 
 pub both : (a b : Bool) → a ≡ true → b ≡ true → (a && b) ≡ true
 both a b e f = rw (e, f) refl

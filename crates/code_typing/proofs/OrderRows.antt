@@ -1,23 +1,23 @@
 -- The rules that ask nothing of other instructions, and what is left, of a lower frame and of a higher one.
-use Rattle.std.proofs.Common.{◌≡◌, ℕ, ◌≤◌, Bool, true, false, cond, length, map, refl, sym, subst}
+use Rattle.std.proofs.Common.{◌≡◌, ℕ, ◌≤◌, Bool, true, false, cond, length, map, refl, sym, subst, None}
 use Rattle.std.specs.Prelude.{nat_le, nat_lt}
 use Rattle.std.proofs.lemmas.Bool.{and_parts, le-leb}
 use Rattle.cert_format.specs.declared.typing.FrameType.{FrameType}
 use Rattle.cert_format.specs.declared.typing.VType.{VType}
-use Rattle.insn_effect.specs.declared.shape.Heap.TheVariants as heap
-use Rattle.insn_effect.specs.declared.shape.Kind.TheVariants as kinds
-use Rattle.insn_effect.specs.declared.shape.Shape.{Shape}
-use Rattle.insn_effect.specs.declared.shape.Shape.TheVariants as shapes
-use Rattle.insn_effect.specs.Shapes.{shape_of}
+use Rattle.insn_codec.specs.declared.shape.Heap.TheVariants as heap
+use Rattle.insn_codec.specs.declared.shape.Kind.TheVariants as kinds
+use Rattle.insn_codec.specs.declared.shape.Shape.{Shape}
+use Rattle.insn_codec.specs.declared.shape.Shape.TheVariants as shapes
+use Rattle.insn_codec.specs.Shapes.{shape_of}
 use Rattle.bytecode_model.specs.declared.program.Program.{Program}
-use Rattle.type_lattice.specs.Assigning.{assignable}
+use Rattle.bytecode_model.specs.Assigning.{assignable}
 use Rattle.type_lattice.specs.Laws.{IsInOrder}
 use Rattle.type_lattice.proofs.Orders.{itself, type_over}
-use Rattle.code_typing.specs.Makes.{type_at, changed, yields, stores, local_after, below, stack_after}
+use Rattle.bytecode_model.specs.Makes.{type_at, changed, yields, stores, local_after, below, stack_after}
 use Rattle.code_typing.specs.Order.{StackBelow, LocalsBelow, IsFrameBelow, IsAloneMet, IsLeftBelow, IsAloneKept, IsLeftKept, GoesKept, FrameIsBelowItself, FramesAreInOrder, is_settled, is_settled_at}
-use Rattle.code_typing.specs.Place.{Place}
-use Rattle.code_typing.specs.Rules.{stack_fits, taken, uses_local, made_well, Depth, Operand, Local, goes_well}
-use Rattle.code_typing.specs.Wants.{takes, all_met, returns_well}
+use Rattle.bytecode_model.specs.Place.{Place}
+use Rattle.bytecode_model.specs.Rules.{stack_fits, taken, uses_local, made_well, Depth, Operand, Local, goes_well}
+use Rattle.bytecode_model.specs.Wants.{takes, all_met, returns_well}
 use Rattle.code_typing.proofs.OrderLists.{both, stack_itself, same_height, at_below, topmost_below, rest_below, join_below, map_below, stack_over, locals_over}
 use Rattle.code_typing.proofs.OrderWants.{kind_closed, takes_closed, met_below}
 use Rattle.code_typing.proofs.OrderYields.{yields_below}
@@ -94,9 +94,9 @@ module _ (place : Place) (order : IsInOrder place.program) (low high : FrameType
       both _ _ (le-leb _ _ few) (slot_lower (shape_of place.insn) h.1)
 
   made_lower : (shape : Shape) → made_well place high shape ≡ true → is_settled_at place low shape ≡ true → made_well place low shape ≡ true
-  made_lower (shapes.Heap heap.Call) e f = makes_lower place low high first_below e
+  made_lower (shapes.Heap (heap.Call how)) e f = makes_lower place low high first_below how e
   made_lower (shapes.Heap heap.New) e f = f
-  made_lower (shapes.Heap (heap.Return kind)) e f = f
+  made_lower (shapes.Heap (heap.Return None)) e f = f
   made_lower shape e f = refl
 
   pub rules_lower : is_settled place low ≡ true → length low.locals ≤ place.method.max_locals → IsAloneMet place low

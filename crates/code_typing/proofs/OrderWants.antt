@@ -6,24 +6,27 @@ use Rattle.std.specs.Option.{option_map_or}
 use Rattle.std.proofs.lemmas.Bool.{and_parts, cases_Bool, eqb-true}
 use Rattle.cert_format.specs.declared.typing.VType.{VType}
 use Rattle.cert_format.specs.declared.typing.VType.TheVariants as types
-use Rattle.insn_effect.specs.declared.shape.Heap.{Heap}
-use Rattle.insn_effect.specs.declared.shape.Heap.TheVariants as heap
-use Rattle.insn_effect.specs.declared.shape.Item.{Item}
-use Rattle.insn_effect.specs.declared.shape.Item.TheVariants as items
-use Rattle.insn_effect.specs.declared.shape.Kind.{Kind}
-use Rattle.insn_effect.specs.declared.shape.Kind.TheVariants as kinds
-use Rattle.insn_effect.specs.declared.shape.Shape.{Shape}
-use Rattle.insn_effect.specs.declared.shape.Shape.TheVariants as shapes
-use Rattle.insn_effect.specs.Forms.{depth_of}
+use Rattle.insn_codec.specs.declared.shape.Heap.{Heap}
+use Rattle.insn_codec.specs.declared.shape.Heap.TheVariants as heap
+use Rattle.insn_codec.specs.declared.shape.Item.{Item}
+use Rattle.insn_codec.specs.declared.shape.Item.TheVariants as items
+use Rattle.insn_codec.specs.declared.shape.Kind.{Kind}
+use Rattle.insn_codec.specs.declared.shape.Kind.TheVariants as kinds
+use Rattle.insn_codec.specs.declared.shape.Shape.{Shape}
+use Rattle.insn_codec.specs.declared.shape.Shape.TheVariants as shapes
+use Rattle.insn_codec.specs.Forms.{depth_of}
+use Rattle.insn_codec.specs.declared.shape.How.{How}
+use Rattle.insn_codec.specs.declared.shape.How.TheVariants as hows
 use Rattle.bytecode_model.specs.declared.program.Program.{Program}
-use Rattle.type_lattice.specs.Assigning.{assignable, is_array, class_fits, name_fits}
+use Rattle.bytecode_model.specs.Arrays.{is_array}
+use Rattle.bytecode_model.specs.Assigning.{assignable, class_fits, name_fits}
 use Rattle.type_lattice.specs.Laws.{IsInOrder}
 use Rattle.type_lattice.proofs.Orders.{type_over, seen, array_equal, array_first}
 use Rattle.type_lattice.proofs.Upwards.{either_of, or_first, or_second}
-use Rattle.code_typing.specs.Described.{arguments, result_type}
+use Rattle.bytecode_model.specs.Described.{arguments, result_type}
 use Rattle.code_typing.specs.Order.{StackBelow}
-use Rattle.code_typing.specs.Place.{Place, class_referred, desc_referred, calls_static, calls_maker, is_own_field}
-use Rattle.code_typing.specs.Wants.{Want, anything, is_number, is_reference, is_made, is_array_type, is_this, of_kind, to_type, to_class, to_array, to_item, to_written, to_receiver, to_described, to_arguments, to_result, call_takes, heap_takes, takes_of, all_met}
+use Rattle.bytecode_model.specs.Place.{Place, class_referred, desc_referred, has_receiver, calls_maker, is_own_field}
+use Rattle.bytecode_model.specs.Wants.{Want, anything, is_number, is_reference, is_made, is_array_type, is_this, of_kind, to_type, to_class, to_array, to_item, to_written, to_own, to_receiver, to_described, to_arguments, to_result, call_takes, heap_takes, takes_of, all_met}
 use Rattle.code_typing.proofs.OrderLists.{both}
 
 abbrev pub IsClosed : Program → Want → Type 0
@@ -151,9 +154,16 @@ module _ (place : Place) (order : IsInOrder place.program) where
       (λ h. let k = and_parts _ _ h in both _ _ k.0 (this_closed place.program t u e k.1))
       (class_closed place.program order (class_referred place) t u e) f
 
-  receiver_closed : IsClosed place.program (to_receiver place)
-  receiver_closed t u e f =
-      either (λ (x : VType). calls_maker place) (to_class place.program (class_referred place)) t u (λ h. h) (class_closed place.program order (class_referred place) t u e) f
+  own_closed : (how : How) → IsClosed place.program (to_own place how)
+  own_closed hows.Virtual t u e f = refl
+  own_closed hows.Special t u e f = class_closed place.program order place.class.name t u e f
+  own_closed hows.Static t u e f = refl
+  own_closed hows.Interface t u e f = refl
+
+  receiver_closed : (how : How) → IsClosed place.program (to_receiver place how)
+  receiver_closed how t u e f =
+      either (λ (x : VType). calls_maker place) (λ (x : VType). to_class place.program (class_referred place) x && to_own place how x) t u (λ h. h)
+      (λ h. let k = and_parts _ _ h in both _ _ (class_closed place.program order (class_referred place) t u e k.0) (own_closed how t u e k.1)) f
 
   result_from : (o : Option VType) → IsClosed place.program (λ (t : VType). option_map_or (λ (r : VType). to_type place.program r t) o false)
   result_from None t u e f = f
@@ -169,11 +179,11 @@ module _ (place : Place) (order : IsInOrder place.program) where
   arguments_closed : AllClosed (to_arguments place)
   arguments_closed = all_described (arguments (desc_referred place))
 
-  call_closed : AllClosed (call_takes place)
-  call_closed =
-      elim (cases_Bool (calls_static place)) [
-        | inl is ↦ rw is arguments_closed
-        | inr other ↦ rw other (receiver_closed, arguments_closed)
+  call_closed : (how : How) → AllClosed (call_takes place how)
+  call_closed how =
+      elim (cases_Bool (has_receiver how)) [
+        | inl is ↦ rw is (receiver_closed how, arguments_closed)
+        | inr other ↦ rw other arguments_closed
       ]
 
   -- ---- what is taken
@@ -191,7 +201,7 @@ module _ (place : Place) (order : IsInOrder place.program) where
   heap_closed heap.WriteStatic = (described_closed place.program order (desc_referred place), tt)
   heap_closed heap.ReadField = (class_closed place.program order (class_referred place), tt)
   heap_closed heap.WriteField = (written_closed, (described_closed place.program order (desc_referred place), tt))
-  heap_closed heap.Call = call_closed
+  heap_closed (heap.Call how) = call_closed how
   heap_closed heap.New = tt
   heap_closed (heap.NewArray kind) = (number_closed place.program, tt)
   heap_closed heap.NewArrayOf = (number_closed place.program, tt)

@@ -4,24 +4,25 @@ use Rattle.std.specs.Prelude.{◌==◌, ◌&&◌, codes}
 use Rattle.std.proofs.lemmas.Bool.{and_parts, cases_Bool, eqb-true, false≢true}
 use Rattle.cert_format.specs.declared.typing.VType.{VType}
 use Rattle.cert_format.specs.declared.typing.VType.TheVariants as types
-use Rattle.insn_effect.specs.declared.forms.StackForm.{StackForm}
-use Rattle.insn_effect.specs.declared.shape.Heap.{Heap}
-use Rattle.insn_effect.specs.declared.shape.Heap.TheVariants as heap
-use Rattle.insn_effect.specs.declared.shape.Item.{Item}
-use Rattle.insn_effect.specs.declared.shape.Item.TheVariants as items
-use Rattle.insn_effect.specs.declared.shape.Shape.{Shape}
-use Rattle.insn_effect.specs.declared.shape.Shape.TheVariants as shapes
-use Rattle.insn_effect.specs.Forms.{depth_of, order_of}
+use Rattle.insn_codec.specs.declared.forms.StackForm.{StackForm}
+use Rattle.insn_codec.specs.declared.shape.Heap.{Heap}
+use Rattle.insn_codec.specs.declared.shape.Heap.TheVariants as heap
+use Rattle.insn_codec.specs.declared.shape.Item.{Item}
+use Rattle.insn_codec.specs.declared.shape.Item.TheVariants as items
+use Rattle.insn_codec.specs.declared.shape.Shape.{Shape}
+use Rattle.insn_codec.specs.declared.shape.Shape.TheVariants as shapes
+use Rattle.insn_codec.specs.Forms.{depth_of, order_of}
 use Rattle.bytecode_model.specs.declared.program.Program.{Program}
-use Rattle.type_lattice.specs.Assigning.{assignable, is_array, named, class_name, reference_of, class_fits, component_fits, array_fits, name_fits}
+use Rattle.bytecode_model.specs.Arrays.{is_array}
+use Rattle.bytecode_model.specs.Assigning.{assignable, named, class_name, reference_of, class_fits, component_fits, array_fits, name_fits}
 use Rattle.type_lattice.specs.Laws.{IsInOrder}
 use Rattle.type_lattice.proofs.Orders.{Leaf, same, classes, itself, seen, array_equal, leaf_seen, at_leaf, named_told, array_told, never_both}
 use Rattle.type_lattice.proofs.Upwards.{either_of, both_of, or_first, or_second}
-use Rattle.code_typing.specs.Described.{type_described}
-use Rattle.code_typing.specs.Makes.{type_at, moved_from, form_yields, item_type, read_type, heap_yields, yields_of}
+use Rattle.bytecode_model.specs.Described.{type_described}
+use Rattle.bytecode_model.specs.Makes.{type_at, moved_from, form_yields, item_type, read_type, heap_yields, yields_of}
 use Rattle.code_typing.specs.Order.{StackBelow, LocalsBelow}
-use Rattle.code_typing.specs.Place.{Place}
-use Rattle.code_typing.specs.Wants.{Want, to_array, is_number, takes_of, all_met}
+use Rattle.bytecode_model.specs.Place.{Place}
+use Rattle.bytecode_model.specs.Wants.{Want, to_array, is_number, takes_of, all_met}
 use Rattle.code_typing.proofs.Choices.{some_is}
 use Rattle.code_typing.proofs.OrderLists.{both, stack_itself, at_below, places_below}
 use Rattle.code_typing.proofs.OrderWants.{array_under}

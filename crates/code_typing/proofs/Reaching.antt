@@ -6,10 +6,10 @@ use Rattle.std.proofs.lemmas.Bool.{le-leb, lt-ltb, and_from}
 use Rattle.std.proofs.lemmas.List.Elements.{All-contains}
 use Rattle.std.proofs.lemmas.List.Sums.{AllPass-from_list_all}
 use Rattle.cert_format.specs.declared.typing.FrameType.{FrameType}
-use Rattle.insn_effect.specs.Control.{successors}
+use Rattle.insn_codec.specs.Control.{successors}
 use Rattle.bytecode_model.specs.declared.program.Handler.{Handler}
-use Rattle.code_typing.specs.Place.{Place}
-use Rattle.code_typing.specs.Rules.{Frames, frame_of, covers, is_handled, goes_well, catches_well, Successor, Caught, Depth, Operand, Local, Made, rule_failing, row_failing}
+use Rattle.bytecode_model.specs.Place.{Place}
+use Rattle.bytecode_model.specs.Rules.{Frames, frame_of, covers, is_handled, goes_well, catches_well, Successor, Caught, Depth, Operand, Local, Made, rule_failing, row_failing}
 use Rattle.code_typing.proofs.Choices.{passed, is_there}
 
 -- what is among those that all pass a test passes it

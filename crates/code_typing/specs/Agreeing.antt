@@ -2,7 +2,7 @@
 use Rattle.std.specs.Prelude.{◌≡◌, ℕ, List, map, Ok}
 use Rattle.api_listing.specs.declared.descriptor.MethodType.{MethodType}
 use Rattle.api_listing.specs.Descriptor.{type_spelled, result_spelled, method_type}
-use Rattle.code_typing.specs.Described.{arguments, result_text}
+use Rattle.bytecode_model.specs.Described.{arguments, result_text}
 
 -- The types of the arguments, and of the result, are those of the method's type.
 abbrev pub DescriptorsAgree : Type 0

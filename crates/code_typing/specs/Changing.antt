@@ -5,11 +5,11 @@ use Rattle.cert_format.specs.declared.typing.VType.{VType}
 use Rattle.cert_format.specs.declared.typing.VType.TheVariants as types
 use Rattle.code_typing.specs.declared.change.Change.{Change}
 use Rattle.code_typing.specs.declared.change.Change.TheVariants as changes
-use Rattle.insn_effect.specs.declared.shape.Shape.{Shape}
-use Rattle.insn_effect.specs.Shapes.{shape_of}
-use Rattle.code_typing.specs.Makes.{is_same_object, when_new, type_at, stores, yields}
-use Rattle.code_typing.specs.Place.{Place}
-use Rattle.code_typing.specs.Rules.{stack_fits, locals_fit}
+use Rattle.insn_codec.specs.declared.shape.Shape.{Shape}
+use Rattle.insn_codec.specs.Shapes.{shape_of}
+use Rattle.bytecode_model.specs.Makes.{is_same_object, when_new, type_at, stores, yields}
+use Rattle.bytecode_model.specs.Place.{Place}
+use Rattle.bytecode_model.specs.Rules.{stack_fits, locals_fit}
 
 abbrev pub change_told : Change → VType → VType
 change_told changes.Nothing t = t

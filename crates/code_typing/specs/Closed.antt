@@ -2,12 +2,12 @@
 use Rattle.std.specs.Prelude.{◌≡◌, ℕ, ◌≤◌, ◌<◌, IsTrue, Contains, Some, Option, option_and_then, slice_get, length}
 use Rattle.cert_format.specs.declared.typing.Typing.{Typing}
 use Rattle.insn_codec.specs.declared.insn.Insn.{Insn}
-use Rattle.insn_effect.specs.Control.{successors}
+use Rattle.insn_codec.specs.Control.{successors}
 use Rattle.bytecode_model.specs.declared.program.Handler.{Handler}
 use Rattle.bytecode_model.specs.declared.program.LinkedClass.{LinkedClass}
 use Rattle.bytecode_model.specs.declared.program.Method.{Method}
 use Rattle.bytecode_model.specs.declared.program.Program.{Program}
-use Rattle.code_typing.specs.Typed.{IsTyped, reached}
+use Rattle.bytecode_model.specs.Typed.{IsTyped, reached}
 
 -- the method of this place in its class
 abbrev pub method_at : Program → ℕ → ℕ → Option Method

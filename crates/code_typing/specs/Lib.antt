@@ -1,14 +1,8 @@
-pub mod Shape
-pub mod Described
-pub mod Place
-pub mod Wants
 pub mod Wanted
-pub mod Makes
-pub mod Rules
 pub mod Changing
 pub mod Steps
-pub mod Typed
 pub mod Closed
 pub mod Moving
 pub mod Order
 pub mod Agreeing
+pub mod First

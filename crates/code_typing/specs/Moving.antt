@@ -4,13 +4,13 @@ use Rattle.std.specs.List.{range_with_len}
 use Rattle.cert_format.specs.declared.typing.FrameType.{FrameType}
 use Rattle.cert_format.specs.declared.typing.VType.{VType}
 use Rattle.cert_format.specs.declared.typing.VType.TheVariants as types
-use Rattle.insn_effect.specs.Effect.{Domain, effect}
-use Rattle.insn_effect.specs.Shapes.{shape_of}
-use Rattle.insn_effect.specs.Table.{is_heap}
-use Rattle.code_typing.specs.Makes.{type_at, local_after, stack_after}
-use Rattle.code_typing.specs.Place.{Place}
-use Rattle.code_typing.specs.Rules.{taken, Depth, Operand, Local}
-use Rattle.code_typing.specs.Wants.{takes, of_kind, is_made}
+use Rattle.insn_codec.specs.Effect.{Domain, effect}
+use Rattle.insn_codec.specs.Shapes.{shape_of}
+use Rattle.insn_codec.specs.Table.{is_heap}
+use Rattle.bytecode_model.specs.Makes.{type_at, local_after, stack_after}
+use Rattle.bytecode_model.specs.Place.{Place}
+use Rattle.bytecode_model.specs.Rules.{taken, Depth, Operand, Local}
+use Rattle.bytecode_model.specs.Wants.{takes, of_kind, is_made}
 
 abbrev pub types_moved : Domain VType
 types_moved = record {

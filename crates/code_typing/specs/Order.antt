@@ -1,19 +1,19 @@
 -- Frames in order: what an instruction does to a frame that may stand in the place of another.
-use Rattle.std.specs.Prelude.{◌≡◌, ℕ, ◌≤◌, not, Bool, true, IsTrue, List, length}
+use Rattle.std.specs.Prelude.{◌≡◌, ℕ, ◌≤◌, not, Bool, true, IsTrue, List, length, None}
 use Rattle.cert_format.specs.declared.typing.FrameType.{FrameType}
 use Rattle.cert_format.specs.declared.typing.VType.{VType}
 use Rattle.cert_format.specs.declared.typing.VType.TheVariants as types
-use Rattle.insn_effect.specs.declared.shape.Heap.TheVariants as heap
-use Rattle.insn_effect.specs.declared.shape.Shape.{Shape}
-use Rattle.insn_effect.specs.declared.shape.Shape.TheVariants as shapes
-use Rattle.insn_effect.specs.Shapes.{shape_of}
+use Rattle.insn_codec.specs.declared.shape.Heap.TheVariants as heap
+use Rattle.insn_codec.specs.declared.shape.Shape.{Shape}
+use Rattle.insn_codec.specs.declared.shape.Shape.TheVariants as shapes
+use Rattle.insn_codec.specs.Shapes.{shape_of}
 use Rattle.bytecode_model.specs.declared.program.Program.{Program}
-use Rattle.type_lattice.specs.Assigning.{assignable}
+use Rattle.bytecode_model.specs.Assigning.{assignable}
 use Rattle.type_lattice.specs.Laws.{IsInOrder}
-use Rattle.code_typing.specs.Makes.{type_at, local_after, stack_after}
-use Rattle.code_typing.specs.Place.{Place}
-use Rattle.code_typing.specs.Rules.{stack_fits, taken, Depth, Operand, Local, Made, has_object, leaves_made, goes_well, local_caught}
-use Rattle.code_typing.specs.Wants.{takes}
+use Rattle.bytecode_model.specs.Makes.{type_at, local_after, stack_after}
+use Rattle.bytecode_model.specs.Place.{Place}
+use Rattle.bytecode_model.specs.Rules.{stack_fits, taken, Depth, Operand, Local, Made, has_object, leaves_made, goes_well, local_caught}
+use Rattle.bytecode_model.specs.Wants.{takes}
 
 -- ---- lists of types
 
@@ -41,7 +41,7 @@ pub record IsAloneMet (place : Place) (frame : FrameType) : Type 0 where
 -- Where a rule forbids an object that is not made yet, the frame has none.
 abbrev pub is_settled_at : Place → FrameType → Shape → Bool
 is_settled_at place frame (shapes.Heap heap.New) = not (has_object (types.Uninit place.at) frame.stack)
-is_settled_at place frame (shapes.Heap (heap.Return kind)) = leaves_made place frame
+is_settled_at place frame (shapes.Heap (heap.Return None)) = leaves_made place frame
 is_settled_at place frame other = true
 
 abbrev pub is_settled : Place → FrameType → Bool

@@ -2,8 +2,8 @@
 use Rattle.std.specs.Prelude.{ℕ, if◌then◌else◌, List, [], ◌∷◌, Option, Some, None}
 use Rattle.cert_format.specs.declared.typing.VType.{VType}
 use Rattle.bytecode_model.specs.declared.program.Program.{Program}
-use Rattle.type_lattice.specs.Assigning.{assignable}
-use Rattle.code_typing.specs.Wants.{to_described}
+use Rattle.bytecode_model.specs.Assigning.{assignable}
+use Rattle.bytecode_model.specs.Wants.{to_described}
 
 -- the operands behind the first, where that is what is described
 abbrev pub behind_met : Program → List ℕ → List VType → Option (List VType)

@@ -2,7 +2,7 @@
 use Rattle.bytecode_model.specs.declared.program.Program.{Program}
 use Rattle.code_typing.specs.declared.wanted.Wanted.{Wanted}
 use Rattle.code_typing.specs.declared.wanted.Wanted.TheVariants as wanted
-use Rattle.code_typing.specs.Wants.{Want, is_number, of_kind, is_made, is_array_type, to_array, to_item, to_class, to_described}
+use Rattle.bytecode_model.specs.Wants.{Want, is_number, of_kind, is_made, is_array_type, to_array, to_item, to_class, to_described}
 
 abbrev pub want_of : Program → Wanted → Want
 want_of program wanted.Number = is_number

@@ -6,10 +6,10 @@ ghost use Rattle.bytecode_model.specs.declared.program.Method.{Method};
 ghost use Rattle.cert_format.specs.declared.typing.VType.{VType};
 ghost use Rattle.cert_format.specs.declared.typing.VType.TheVariants.{Ref};
 ghost use Rattle.type_lattice.specs.Lending.{type_lent};
-ghost use Rattle.code_typing.specs.Described.{types_at, type_described};
-ghost use Rattle.code_typing.specs.Makes.{form_yields, heap_yields, yields, stores, stack_after, local_after, type_at};
-ghost use Rattle.code_typing.specs.Rules.{arguments_typed, entry_locals, class_caught, when_thrown, taken, uses_local, Local};
-ghost use Rattle.code_typing.specs.Wants.{takes};
+ghost use Rattle.bytecode_model.specs.Described.{types_at, type_described};
+ghost use Rattle.bytecode_model.specs.Makes.{form_yields, heap_yields, yields, stores, stack_after, local_after, type_at};
+ghost use Rattle.bytecode_model.specs.Rules.{arguments_typed, entry_locals, class_caught, when_thrown, taken, uses_local, Local};
+ghost use Rattle.bytecode_model.specs.Wants.{takes};
 
 use crate::change::{change_of, change_told};
 use crate::depth::split_top;
@@ -22,7 +22,7 @@ use crate::place::{PlaceRef, class_of, desc_referred};
 use crate::yielded::{array_named, constant_type, moved_from, put_back, read_type, type_at};
 use bytecode_model::{Handler, Method};
 use cert_format::{FrameType, VType};
-use insn_effect::{Heap, Shape, StackForm, depth_of, shape_of};
+use insn_codec::{Heap, Shape, StackForm, depth_of, shape_of};
 use mon_base::{Bytes, List, NoMemory};
 use std::alloc::Global;
 use type_lattice::{TypeRef, own};
@@ -37,7 +37,7 @@ fn heap_yielded<'a>(place: &PlaceRef<'a>, taken: &'a [VType], what: Heap) -> Opt
         Heap::Constant => Some(constant_type(place.target)),
         Heap::ReadItem(item) => Some(read_type(item, taken)),
         Heap::ReadStatic | Heap::ReadField => Some(type_described(desc_referred(place))),
-        Heap::Call => result_type(desc_referred(place)),
+        Heap::Call(_) => result_type(desc_referred(place)),
         Heap::New => Some(TypeRef::Uninit(place.at)),
         Heap::NewArray(kind) => Some(TypeRef::Ref(array_named(kind))),
         Heap::NewArrayOf => Some(TypeRef::ArrayOf(class_of(place.target))),

@@ -4,16 +4,16 @@
 ghost use Rattle.std.specs.Prelude.{◌≡◌, option_map, option_copied};
 ghost use Rattle.cert_format.specs.declared.typing.VType.{VType};
 ghost use Rattle.cert_format.specs.declared.typing.VType.TheVariants.{Uninit};
-ghost use Rattle.insn_effect.specs.Shapes.{shape_of};
+ghost use Rattle.insn_codec.specs.Shapes.{shape_of};
 ghost use Rattle.type_lattice.specs.Lending.{type_lent};
 ghost use Rattle.code_typing.specs.Changing.{change_told};
-ghost use Rattle.code_typing.specs.Makes.{made_by, new_at, class_made, is_same_object, changed, changed_by, when_called};
-ghost use Rattle.code_typing.specs.Place.{target_or_none};
+ghost use Rattle.bytecode_model.specs.Makes.{made_by, new_at, class_made, is_same_object, changed, changed_by, when_called};
+ghost use Rattle.bytecode_model.specs.Place.{target_or_none};
 
 use crate::place::{PlaceRef, calls_maker, class_of, class_referred};
 use bytecode_model::{Method, Target};
 use cert_format::VType;
-use insn_effect::{Heap, Shape, shape_of};
+use insn_codec::{Heap, Shape, shape_of};
 use type_lattice::{TypeRef, lend};
 
 /// What becomes of the types that stay.
@@ -119,7 +119,7 @@ pub fn change_of<'a>(place: &PlaceRef<'a>, taken: &'a [VType]) -> Change<'a>
 {
     match shape_of(place.insn) {
         Shape::Heap(Heap::New) => Change::Forget(place.at),
-        Shape::Heap(Heap::Call) => when_called(place, taken),
+        Shape::Heap(Heap::Call(_)) => when_called(place, taken),
         _ => Change::Nothing,
     }
 }

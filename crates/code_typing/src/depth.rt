@@ -1,8 +1,8 @@
 //! Rule 2: the operands are there, and there is room for what is pushed.
 
 ghost use Rattle.std.specs.Prelude.{◌≡◌, length};
-ghost use Rattle.code_typing.specs.Makes.{topmost, below};
-ghost use Rattle.code_typing.specs.Rules.{Depth};
+ghost use Rattle.bytecode_model.specs.Makes.{topmost, below};
+ghost use Rattle.bytecode_model.specs.Rules.{Depth};
 
 use crate::operands::count_taken;
 use crate::place::PlaceRef;

@@ -2,7 +2,7 @@
 
 ghost use Rattle.std.specs.Prelude.{◌≡◌, ◌≤◌, ◌-◌, length, take, option_map};
 ghost use Rattle.type_lattice.specs.Lending.{type_lent};
-ghost use Rattle.code_typing.specs.Described.{
+ghost use Rattle.bytecode_model.specs.Described.{
   name_length,
   type_length,
   first_type,

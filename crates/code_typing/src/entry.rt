@@ -2,9 +2,9 @@
 
 ghost use Rattle.std.specs.Prelude.{◌≡◌, ◌∷◌, [], length, map, option_copied};
 ghost use Rattle.code_typing.specs.Steps.{behind_fit};
-ghost use Rattle.code_typing.specs.Described.{types_at, type_described};
-ghost use Rattle.code_typing.specs.Makes.{type_at};
-ghost use Rattle.code_typing.specs.Rules.{Entry, entry_locals, locals_fit, this_type};
+ghost use Rattle.bytecode_model.specs.Described.{types_at, type_described};
+ghost use Rattle.bytecode_model.specs.Makes.{type_at};
+ghost use Rattle.bytecode_model.specs.Rules.{Entry, entry_locals, locals_fit, this_type};
 ghost use Rattle.type_lattice.specs.Lending.{type_lent};
 ghost use Rattle.bytecode_model.specs.Heads.{is_static};
 

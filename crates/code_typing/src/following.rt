@@ -3,10 +3,10 @@
 ghost use Rattle.std.specs.Prelude.{◌≡◌, ◌++◌, false, map, Option, option_copied};
 ghost use Rattle.std.specs.List.{list_all};
 ghost use Rattle.std.specs.Option.{option_map_or};
-ghost use Rattle.insn_effect.specs.Control.{jump_targets};
+ghost use Rattle.insn_codec.specs.Control.{jump_targets};
 ghost use Rattle.code_typing.specs.Changing.{change_told, frame_takes};
-ghost use Rattle.code_typing.specs.Makes.{yields};
-ghost use Rattle.code_typing.specs.Rules.{Successor, frame_of, goes_well, stack_fits};
+ghost use Rattle.bytecode_model.specs.Makes.{yields};
+ghost use Rattle.bytecode_model.specs.Rules.{Successor, frame_of, goes_well, stack_fits};
 
 use crate::change::{Change, change_of, change_told};
 use crate::depth::split_top;
@@ -16,8 +16,7 @@ use crate::place::PlaceRef;
 use crate::yielded::yields_fit;
 use bytecode_model::Program;
 use cert_format::{FrameType, VType};
-use insn_codec::{Insn, goes_on};
-use insn_effect::shape_of;
+use insn_codec::{Insn, goes_on, shape_of};
 use type_lattice::lent_fits;
 
 /// The frame of an instruction, if it is reached.

@@ -3,7 +3,7 @@
 ghost use Rattle.std.specs.Prelude.{◌≡◌};
 ghost use Rattle.std.specs.List.{list_all};
 ghost use Rattle.type_lattice.specs.Lending.{type_lent};
-ghost use Rattle.code_typing.specs.Rules.{
+ghost use Rattle.bytecode_model.specs.Rules.{
   Caught,
   is_handled,
   covers,
@@ -24,13 +24,6 @@ use type_lattice::{TypeRef, is_below, lend, lent_fits};
 
 /// The class that each other is below that is caught.
 const THROWABLE: &[u8] = b"java/lang/Throwable";
-
-/// Whether the handler covers the instruction of this index.
-pub fn covers(at: u32, handler: &Handler) -> bool
-    ensures { result ≡ covers at handler.now }
-{
-    handler.from <= at && at < handler.to
-}
 
 /// The class of what is caught.
 pub fn class_caught(handler: &Handler) -> &[u8]
@@ -117,7 +110,7 @@ fn is_handled(
 ) -> bool
     ensures { result ≡ is_handled frames.now place.now frame.now handler.now }
 {
-    if !covers(place.at, handler) {
+    if !handler.covers(place.at) {
         return true;
     }
     if place.method.max_stack < 1 {

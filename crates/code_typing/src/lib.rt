@@ -27,7 +27,7 @@ pub use after::{entry_locals, locals_after, locals_thrown, stack_after, stack_th
 pub use change::is_same_object;
 pub use fault::TypeFault;
 pub use following::goes_well;
-pub use handlers::{catches_well, covers};
+pub use handlers::catches_well;
 pub use laws::{descriptors_agree, rows_follow_the_order, typed_effect, typed_is_closed};
 pub use place::{PlaceRef, is_maker};
 pub use row::is_alone_met;

@@ -1,12 +1,12 @@
 //! Rule 4, and what the locals are afterwards.
 
 ghost use Rattle.std.specs.Prelude.{◌≡◌};
-ghost use Rattle.insn_effect.specs.Shapes.{shape_of};
+ghost use Rattle.insn_codec.specs.Shapes.{shape_of};
 ghost use Rattle.type_lattice.specs.Lending.{type_lent};
 ghost use Rattle.code_typing.specs.Changing.{local_told};
-ghost use Rattle.code_typing.specs.Makes.{stores, type_at};
-ghost use Rattle.code_typing.specs.Wants.{of_kind};
-ghost use Rattle.code_typing.specs.Rules.{Local, uses_local, locals_fit};
+ghost use Rattle.bytecode_model.specs.Makes.{stores, type_at};
+ghost use Rattle.bytecode_model.specs.Wants.{of_kind};
+ghost use Rattle.bytecode_model.specs.Rules.{Local, uses_local, locals_fit};
 
 use crate::change::{Change, change_told};
 use crate::place::PlaceRef;
@@ -14,7 +14,7 @@ use crate::wanted::{is_number, of_kind};
 use crate::yielded::type_at;
 use bytecode_model::{Method, Program};
 use cert_format::{FrameType, VType};
-use insn_effect::{Kind, Shape, shape_of};
+use insn_codec::{Kind, Shape, shape_of};
 use type_lattice::{TypeRef, lent_fits};
 
 /// Whether the local in the place is of the kind.

@@ -2,15 +2,15 @@
 
 ghost use Rattle.std.specs.Prelude.{◌≡◌};
 ghost use Rattle.cert_format.specs.declared.typing.VType.TheVariants.{UninitThis, Uninit};
-ghost use Rattle.code_typing.specs.Rules.{Made, made_well, makes_receiver, leaves_made, has_object, taken};
+ghost use Rattle.bytecode_model.specs.Rules.{Made, made_well, makes_receiver, leaves_made, has_object, taken};
 
 use crate::change::{class_made, is_made_at};
 use crate::depth::split_top;
 use crate::operands::count_taken;
-use crate::place::{PlaceRef, calls_maker, calls_static, is_maker};
+use crate::place::{PlaceRef, calls_maker, has_receiver, is_maker};
 use crate::wanted::is_this;
 use cert_format::{FrameType, VType};
-use insn_effect::{Heap, Shape, shape_of};
+use insn_codec::{Heap, How, Shape, shape_of};
 
 /// Whether the object that this constructor makes is among these.
 fn has_this(types: &[VType]) -> bool
@@ -40,8 +40,8 @@ fn has_new(at: u32, types: &[VType]) -> bool
     false
 }
 
-fn makes_receiver(place: &PlaceRef, frame: &FrameType) -> bool
-    ensures { result ≡ makes_receiver place.now frame.now }
+fn makes_receiver(place: &PlaceRef, how: How, frame: &FrameType) -> bool
+    ensures { result ≡ makes_receiver place.now how frame.now }
 {
     if !calls_maker(place) {
         return true;
@@ -49,7 +49,7 @@ fn makes_receiver(place: &PlaceRef, frame: &FrameType) -> bool
     let (_, taken) = split_top(frame.stack.as_slice(), count_taken(place));
     match taken {
         [] => false,
-        [receiver, ..] => !calls_static(place) && class_made(place, receiver).is_some(),
+        [receiver, ..] => has_receiver(how) && class_made(place, receiver).is_some(),
     }
 }
 
@@ -65,9 +65,9 @@ pub fn is_made(place: &PlaceRef, frame: &FrameType) -> bool
     ensures { result ≡ Made place.now frame.now }
 {
     match shape_of(place.insn) {
-        Shape::Heap(Heap::Call) => makes_receiver(place, frame),
+        Shape::Heap(Heap::Call(how)) => makes_receiver(place, how, frame),
         Shape::Heap(Heap::New) => !has_new(place.at, frame.stack.as_slice()),
-        Shape::Heap(Heap::Return(_)) => leaves_made(place, frame),
+        Shape::Heap(Heap::Return(None)) => leaves_made(place, frame),
         _ => true,
     }
 }

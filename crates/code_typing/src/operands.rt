@@ -2,9 +2,9 @@
 
 ghost use Rattle.std.specs.Prelude.{◌≡◌, ◌∷◌, ◌&&◌, [], length, map, replicate, option_map, option_copied};
 ghost use Rattle.code_typing.specs.Steps.{behind_met};
-ghost use Rattle.insn_effect.specs.Shapes.{shape_of};
-ghost use Rattle.code_typing.specs.Described.{types_at};
-ghost use Rattle.code_typing.specs.Wants.{
+ghost use Rattle.insn_codec.specs.Shapes.{shape_of};
+ghost use Rattle.bytecode_model.specs.Described.{types_at};
+ghost use Rattle.bytecode_model.specs.Wants.{
   all_met,
   anything,
   takes,
@@ -12,6 +12,7 @@ ghost use Rattle.code_typing.specs.Wants.{
   heap_takes,
   call_takes,
   to_written,
+  to_own,
   to_receiver,
   to_result,
   to_arguments,
@@ -19,32 +20,28 @@ ghost use Rattle.code_typing.specs.Wants.{
   returns_well,
   is_result_of,
 };
-ghost use Rattle.code_typing.specs.Described.{result_type};
-ghost use Rattle.code_typing.specs.Place.{desc_referred};
-ghost use Rattle.insn_effect.specs.declared.shape.Heap.TheVariants as heap;
+ghost use Rattle.bytecode_model.specs.Described.{result_type};
+ghost use Rattle.bytecode_model.specs.Place.{desc_referred};
+ghost use Rattle.insn_codec.specs.declared.shape.Heap.TheVariants as heap;
 ghost use Rattle.type_lattice.specs.Lending.{type_lent};
 
 use crate::described::{arguments_text, arity, next_type, result_text, result_type};
 use crate::place::{
-    PlaceRef, calls_maker, calls_static, class_referred, desc_referred, is_own_field,
+    PlaceRef, calls_maker, class_referred, desc_referred, has_receiver, is_own_field,
 };
 use crate::wanted::{Wanted, is_this, one_is, three_are, to_class, to_described, two_are};
 use bytecode_model::Program;
 use cert_format::VType;
-use insn_effect::{Heap, Item, Kind, Shape, depth_of, shape_of};
+use insn_codec::{Heap, How, Item, Kind, Shape, depth_of, shape_of};
 use type_lattice::TypeRef;
 
 // ---- how many
 
-fn call_count(place: &PlaceRef) -> usize
-    ensures { result ≡ length (call_takes place.now) }
+fn call_count(place: &PlaceRef, how: How) -> usize
+    ensures { result ≡ length (call_takes place.now how) }
 {
     let count = arity(desc_referred(place));
-    if calls_static(place) {
-        count
-    } else {
-        count + 1
-    }
+    if has_receiver(how) { count + 1 } else { count }
 }
 
 fn heap_count(place: &PlaceRef, what: Heap) -> usize
@@ -54,7 +51,7 @@ fn heap_count(place: &PlaceRef, what: Heap) -> usize
         Heap::Constant | Heap::ReadStatic | Heap::New | Heap::Return(None) => 0,
         Heap::ReadItem(_) | Heap::Divide { .. } | Heap::WriteField => 2,
         Heap::WriteItem(_) => 3,
-        Heap::Call => call_count(place),
+        Heap::Call(how) => call_count(place, how),
         _ => 1,
     }
 }
@@ -122,21 +119,32 @@ fn call_arguments_met(place: &PlaceRef, types: &[VType]) -> bool
     arguments_met(place.program, arguments_text(desc_referred(place)), types)
 }
 
-fn to_receiver(place: &PlaceRef, t: &VType) -> bool
-    ensures { result ≡ to_receiver place.now t.now }
+/// Whether the type is of the class of the code, where the call begins there or above it.
+fn to_own(place: &PlaceRef, how: How, t: &VType) -> bool
+    ensures { result ≡ to_own place.now how t.now }
 {
-    calls_maker(place) || to_class(place.program, class_referred(place), t)
+    match how {
+        How::Special => to_class(place.program, place.class.name.as_slice(), t),
+        How::Virtual | How::Static | How::Interface => true,
+    }
 }
 
-fn call_met(place: &PlaceRef, types: &[VType]) -> bool
-    ensures { result ≡ all_met (call_takes place.now) types.now }
+fn to_receiver(place: &PlaceRef, how: How, t: &VType) -> bool
+    ensures { result ≡ to_receiver place.now how t.now }
 {
-    if calls_static(place) {
+    calls_maker(place)
+        || (to_class(place.program, class_referred(place), t) && to_own(place, how, t))
+}
+
+fn call_met(place: &PlaceRef, how: How, types: &[VType]) -> bool
+    ensures { result ≡ all_met (call_takes place.now how) types.now }
+{
+    if !has_receiver(how) {
         return call_arguments_met(place, types);
     }
     match types {
         [] => false,
-        [first, rest @ ..] => to_receiver(place, first) && call_arguments_met(place, rest),
+        [first, rest @ ..] => to_receiver(place, how, first) && call_arguments_met(place, rest),
     }
 }
 
@@ -205,7 +213,7 @@ fn heap_met(place: &PlaceRef, what: Heap, types: &[VType]) -> bool
         Heap::WriteStatic => one_is(program, Wanted::Described(desc_referred(place)), types),
         Heap::ReadField => one_is(program, Wanted::Class(class_referred(place)), types),
         Heap::WriteField => write_met(place, types),
-        Heap::Call => call_met(place, types),
+        Heap::Call(how) => call_met(place, how, types),
         Heap::NewArray(_) | Heap::NewArrayOf => one_is(program, Wanted::Number, types),
         Heap::Length => one_is(program, Wanted::Array, types),
         Heap::Throw => throw_met(place, types),

@@ -2,12 +2,12 @@
 
 ghost use Rattle.std.specs.Prelude.{◌≡◌, option_copied};
 ghost use Rattle.bytecode_model.specs.Operands.{index_of};
-ghost use Rattle.code_typing.specs.Place.{class_referred, name_referred, desc_referred, class_of, target_or_none};
-ghost use Rattle.code_typing.specs.Place.{calls_static, calls_maker, is_own_field, is_maker};
+ghost use Rattle.bytecode_model.specs.Place.{class_referred, name_referred, desc_referred, class_of, target_or_none};
+ghost use Rattle.bytecode_model.specs.Place.{has_receiver, calls_maker, is_own_field, is_maker};
 
-use bytecode_model::{LinkedClass, Method, Program, Target};
+use bytecode_model::{LinkedClass, Method, Program, Target, index_of};
 use class_codec::{Reference, reference_at};
-use insn_codec::Insn;
+use insn_codec::{How, Insn};
 use std::marker::Model;
 
 /// The instruction `insn` at the index `at` of a method of the class with the index `own`; `target` is what its operand
@@ -25,7 +25,7 @@ pub struct PlaceRef<'a> {
 
 impl<'a> Model for PlaceRef<'a> {
     ghost use Rattle.std.specs.Prelude.{option_copied};
-    ghost use Rattle.code_typing.specs.Place.{Place, target_or_none};
+    ghost use Rattle.bytecode_model.specs.Place.{Place, target_or_none};
 
     ghost Value = { Place };
 
@@ -38,18 +38,6 @@ impl<'a> Model for PlaceRef<'a> {
       insn = p.insn.now;
       ref = target_or_none (option_copied p.target);
     } };
-}
-
-/// The index of the constant that an instruction names, or 0, which names none.
-fn index_of(insn: &Insn) -> u16
-    ensures { result ≡ index_of insn.now }
-{
-    match insn {
-        Insn::Ldc(index) => u16::from(*index),
-        Insn::Iface { index, .. } => *index,
-        Insn::Pool { index, .. } => *index,
-        _ => 0,
-    }
 }
 
 /// The class of the field or method that is referred to, or none.
@@ -92,11 +80,14 @@ pub fn class_of<'a>(target: Option<&'a Target>) -> &'a [u8]
     }
 }
 
-/// Whether it is `invokestatic`.
-pub fn calls_static(place: &PlaceRef) -> bool
-    ensures { result ≡ calls_static place.now }
+/// Whether a call has a receiver.
+pub fn has_receiver(how: How) -> bool
+    ensures { result ≡ has_receiver how }
 {
-    place.insn.opcode() == 0xB8
+    match how {
+        How::Static => false,
+        How::Virtual | How::Special | How::Interface => true,
+    }
 }
 
 /// Whether a call is of the method that makes an object.

@@ -1,7 +1,7 @@
 //! The rules of one instruction, in order.
 
 ghost use Rattle.std.specs.Prelude.{◌≡◌, ◌&&◌, option_copied};
-ghost use Rattle.code_typing.specs.Rules.{Depth, Operand, Local, Made, rule_failing, row_failing};
+ghost use Rattle.bytecode_model.specs.Rules.{Depth, Operand, Local, Made, rule_failing, row_failing};
 
 use crate::depth::{is_deep, split_top};
 use crate::entry::is_entered;

@@ -3,21 +3,10 @@
 ghost use Rattle.std.specs.Prelude.{◌≡◌, ◌<◌, ◌≤◌, ◌+◌, ◌^◌, ◌↔◌, ℕ, List, Option, Some, None, IsOk, MatchResult, length, take, drop};
 ghost use Rattle.std.specs.List.{AllByRecursion};
 ghost use Rattle.bytecode_model.specs.Sound.{IsSound, IsSoundClass, IsSoundMethod};
-ghost use Rattle.code_typing.specs.Rules.{Frames};
-ghost use Rattle.code_typing.specs.Typed.{
-  IsTyped,
-  row_in,
-  row_fault,
-  frames_in,
-  frames_told,
-  first_row,
-  method_fault,
-  methods_fault,
-  classes_fault,
-  typing_fault,
-  list_at,
-};
-ghost use Rattle.code_typing.specs.Shape.{coded};
+ghost use Rattle.bytecode_model.specs.Rules.{Frames};
+ghost use Rattle.code_typing.specs.First.{first_row, method_fault, methods_fault, classes_fault, typing_fault};
+ghost use Rattle.bytecode_model.specs.Typed.{IsTyped, row_in, row_fault, frames_in, frames_told, list_at};
+ghost use Rattle.bytecode_model.specs.Shape.{coded};
 
 use crate::fault::TypeFault;
 use crate::following::frame_of;

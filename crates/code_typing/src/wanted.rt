@@ -1,15 +1,15 @@
 //! What is wanted of operands and locals.
 
 ghost use Rattle.std.specs.Prelude.{◌≡◌, ◌∷◌, []};
-ghost use Rattle.code_typing.specs.Wants.{is_number, is_reference, is_made, is_array_type, is_this, of_kind};
-ghost use Rattle.code_typing.specs.Wants.{to_class, to_array, to_item, to_described, all_met};
+ghost use Rattle.bytecode_model.specs.Wants.{is_number, is_reference, is_made, is_array_type, is_this, of_kind};
+ghost use Rattle.bytecode_model.specs.Wants.{to_class, to_array, to_item, to_described, all_met};
 ghost use Rattle.code_typing.specs.Wanted.{want_of};
-ghost use Rattle.type_lattice.specs.Assigning.{is_array};
+ghost use Rattle.bytecode_model.specs.Arrays.{is_array};
 
 use crate::described::without_last;
-use bytecode_model::Program;
+use bytecode_model::{Program, is_array};
 use cert_format::VType;
-use insn_effect::{Item, Kind};
+use insn_codec::{Item, Kind};
 use type_lattice::{fits_class, lend};
 
 /// What is wanted of an operand.
@@ -54,15 +54,6 @@ fn is_made(t: &VType) -> bool
         VType::Null => true,
         VType::Ref(_) => true,
         _ => false,
-    }
-}
-
-fn is_array(name: &[u8]) -> bool
-    ensures { result ≡ is_array name.now }
-{
-    match name {
-        [] => false,
-        [first, ..] => *first == b'[',
     }
 }
 

@@ -1,9 +1,9 @@
 //! What an instruction pushes. (The Java Virtual Machine Specification, section 6.5.)
 
 ghost use Rattle.std.specs.Prelude.{◌≡◌, ◌≤◌, ◌∷◌, [], ℕ, List, length, map, reverse, option_copied};
-ghost use Rattle.insn_effect.specs.Forms.{order_of};
+ghost use Rattle.insn_codec.specs.Forms.{order_of};
 ghost use Rattle.type_lattice.specs.Lending.{type_lent};
-ghost use Rattle.code_typing.specs.Makes.{
+ghost use Rattle.bytecode_model.specs.Makes.{
   type_at,
   moved_from,
   form_yields,
@@ -16,17 +16,17 @@ ghost use Rattle.code_typing.specs.Makes.{
   yields,
   yields_of,
 };
-ghost use Rattle.code_typing.specs.Place.{target_or_none};
-ghost use Rattle.code_typing.specs.Rules.{stack_fits};
+ghost use Rattle.bytecode_model.specs.Place.{target_or_none};
+ghost use Rattle.bytecode_model.specs.Rules.{stack_fits};
 ghost use Rattle.cert_format.specs.declared.typing.VType.{VType};
 ghost use Rattle.cert_format.specs.declared.typing.VType.TheVariants.{Ref};
-ghost use Rattle.code_typing.specs.Described.{result_type};
+ghost use Rattle.bytecode_model.specs.Described.{result_type};
 
 use crate::described::{result_type, type_described};
 use crate::place::{PlaceRef, class_of, desc_referred};
 use bytecode_model::{Program, Target};
 use cert_format::VType;
-use insn_effect::{Heap, Item, Shape, StackForm, depth_of, shape_of};
+use insn_codec::{Heap, Item, Shape, StackForm, depth_of, shape_of};
 use type_lattice::{TypeRef, lend, lent_fits};
 
 /// The type in a place, or Top.
@@ -177,7 +177,7 @@ fn heap_fits(place: &PlaceRef, taken: &[VType], what: Heap, to: &[VType]) -> boo
         Heap::ReadStatic | Heap::ReadField => {
             one_fits(program, type_described(desc_referred(place)), to)
         }
-        Heap::Call => call_fits(program, desc_referred(place), to),
+        Heap::Call(_) => call_fits(program, desc_referred(place), to),
         Heap::New => one_fits(program, TypeRef::Uninit(place.at), to),
         Heap::NewArray(kind) => one_fits(program, TypeRef::Ref(array_named(kind)), to),
         Heap::NewArrayOf => one_fits(program, TypeRef::ArrayOf(class_of(place.target)), to),
@@ -223,7 +223,7 @@ fn heap_count(place: &PlaceRef, what: Heap) -> usize
     ensures value { (taken : List VType) → result ≡ length (heap_yields place.now taken what) }
 {
     match what {
-        Heap::Call => {
+        Heap::Call(_) => {
             match result_type(desc_referred(place)) {
                 None => 0,
                 Some(_) => 1,

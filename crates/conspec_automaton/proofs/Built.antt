@@ -13,7 +13,7 @@ use Rattle.conspec_parse.specs.declared.types.Update.{Update}
 use Rattle.conspec_parse.specs.declared.types.Update.TheVariants.{Set, Add}
 use Rattle.conspec_parse.specs.declared.types.Var.{Var}
 use Rattle.conspec_parse.specs.Clauses.{branches}
-use Rattle.conspec_parse.specs.Tree.{AreAtoms, Differ as TreesDiffer, IsBase, IsClauseIn as IsTreeClauseIn, IsGuardIn, IsPolicyTree, IsUpdateIn, asked}
+use Rattle.conspec_parse.specs.Tree.{Askable, AreAtoms, Differ as TreesDiffer, IsBase, IsClauseIn as IsTreeClauseIn, IsGuardIn, IsPolicyTree, IsUpdateIn, asked}
 use Rattle.conspec_parse.specs.Updates.{all_range_atoms, range_atoms as count_of}
 use Rattle.conspec_automaton.specs.declared.policy.Clause.{Clause}
 use Rattle.conspec_automaton.specs.Building.{branch_of, branches_of, built, clause_built, guard_branches, range_atoms}
@@ -53,8 +53,8 @@ pairs_mapped R Q f each xs pairs = λ i j e lt below.
 
 -- ---- branches
 
-module _ (maxint : ℤ) (vars : List Var) (args : ℕ) where
-  range_atoms_are : (u : Update) → IsUpdateIn vars maxint u → AreAtoms (length vars) args (range_atoms maxint u)
+module _ (maxint : ℤ) (vars : List Var) (askable : Askable) where
+  range_atoms_are : (u : Update) → IsUpdateIn vars maxint u → AreAtoms (length vars) askable (range_atoms maxint u)
   range_atoms_are (Set var value) is = tt
   range_atoms_are (Add var (pos zero)) is = tt
   range_atoms_are (Add var (pos (suc k))) is =
@@ -65,9 +65,9 @@ module _ (maxint : ℤ) (vars : List Var) (args : ℕ) where
       let inside : var < length vars = slice_get_within vars var is.variable is.there in
       (inside, tt)
 
-  all_range_atoms_are : (us : List Update) → AllByRecursion (IsUpdateIn vars maxint) us → AreAtoms (length vars) args (flat_map (range_atoms maxint) us)
+  all_range_atoms_are : (us : List Update) → AllByRecursion (IsUpdateIn vars maxint) us → AreAtoms (length vars) askable (flat_map (range_atoms maxint) us)
   all_range_atoms_are [] each = tt
-  all_range_atoms_are (u ∷ us) each = all_joined (λ (a : Atom). IsBase (length vars) args a.base) (range_atoms maxint u) (flat_map (range_atoms maxint) us) (range_atoms_are u each.0) (all_range_atoms_are us each.1)
+  all_range_atoms_are (u ∷ us) each = all_joined (λ (a : Atom). IsBase (length vars) askable a.base) (range_atoms maxint u) (flat_map (range_atoms maxint) us) (range_atoms_are u each.0) (all_range_atoms_are us each.1)
 
   range_count : (u : Update) → length (range_atoms maxint u) ≡ count_of u
   range_count (Set var value) = refl
@@ -82,24 +82,24 @@ module _ (maxint : ℤ) (vars : List Var) (args : ℕ) where
   all_range_count [] = refl
   all_range_count (u ∷ us) = omega (arith, length-append (range_atoms maxint u) (flat_map (range_atoms maxint) us), range_count u, all_range_count us)
 
-  branch_is : (guard : Guard) (conj : List Atom) → IsGuardIn vars maxint args guard → AreAtoms (length vars) args conj → length conj + all_range_atoms guard.updates ≤ 16 → IsBranchIn vars maxint args (branch_of maxint guard.updates conj)
+  branch_is : (guard : Guard) (conj : List Atom) → IsGuardIn vars maxint askable guard → AreAtoms (length vars) askable conj → length conj + all_range_atoms guard.updates ≤ 16 → IsBranchIn vars maxint askable (branch_of maxint guard.updates conj)
   branch_is guard conj is are few = record {
     own = conj;
     kept = refl;
-    atoms = all_joined (λ (a : Atom). IsBase (length vars) args a.base) conj (flat_map (range_atoms maxint) guard.updates) are (all_range_atoms_are guard.updates is.updates);
+    atoms = all_joined (λ (a : Atom). IsBase (length vars) askable a.base) conj (flat_map (range_atoms maxint) guard.updates) are (all_range_atoms_are guard.updates is.updates);
     few_atoms = omega (arith, length-append conj (flat_map (range_atoms maxint) guard.updates), all_range_count guard.updates);
     updates = is.updates;
     once = is.once;
   }
 
-  conjs_are : (guard : Guard) → IsGuardIn vars maxint args guard → (conjs : List (List Atom)) → AllByRecursion (AreAtoms (length vars) args) conjs → AllByRecursion (λ (conj : List Atom). length conj + all_range_atoms guard.updates ≤ 16) conjs
-      → AllByRecursion (IsBranchIn vars maxint args) (map (branch_of maxint guard.updates) conjs)
+  conjs_are : (guard : Guard) → IsGuardIn vars maxint askable guard → (conjs : List (List Atom)) → AllByRecursion (AreAtoms (length vars) askable) conjs → AllByRecursion (λ (conj : List Atom). length conj + all_range_atoms guard.updates ≤ 16) conjs
+      → AllByRecursion (IsBranchIn vars maxint askable) (map (branch_of maxint guard.updates) conjs)
   conjs_are guard is [] are few = tt
   conjs_are guard is (conj ∷ conjs) are few = (branch_is guard conj is are.0 few.0, conjs_are guard is conjs are.1 few.1)
 
-  guards_are : (guards : List Guard) → AllByRecursion (IsGuardIn vars maxint args) guards → AllByRecursion (IsBranchIn vars maxint args) (branches_of maxint guards)
+  guards_are : (guards : List Guard) → AllByRecursion (IsGuardIn vars maxint askable) guards → AllByRecursion (IsBranchIn vars maxint askable) (branches_of maxint guards)
   guards_are [] is = tt
-  guards_are (g ∷ guards) is = all_joined (IsBranchIn vars maxint args) (guard_branches maxint g) (branches_of maxint guards) (conjs_are g is.0 g.conjs is.0.atoms is.0.short) (guards_are guards is.1)
+  guards_are (g ∷ guards) is = all_joined (IsBranchIn vars maxint askable) (guard_branches maxint g) (branches_of maxint guards) (conjs_are g is.0 g.conjs is.0.atoms is.0.short) (guards_are guards is.1)
 
 branch_count : (maxint : ℤ) (guards : List Guard) → length (branches_of maxint guards) ≡ branches guards
 branch_count maxint [] = refl
@@ -110,7 +110,7 @@ clause_is : (methods : ℕ) (vars : List Var) (maxint : ℤ) (clause : TreeClaus
 clause_is methods vars maxint clause is = record {
   few_args = is.few_args;
   few_branches = omega (arith, branch_count maxint clause.guards, is.few_branches);
-  branches = guards_are maxint vars (asked clause.phase (length clause.args)) clause.guards is.guards;
+  branches = guards_are maxint vars (asked clause.phase clause.args clause.result) clause.guards is.guards;
 }
 
 pub built_is : (listing : Listing) (tree : PolicyTree) → IsPolicyTree listing tree → IsPolicy (built tree)

@@ -8,7 +8,7 @@ use Rattle.api_listing.specs.declared.events.Event.{Event}
 use Rattle.conspec_automaton.specs.declared.policy.Clause.{Clause}
 use Rattle.conspec_automaton.specs.declared.policy.Policy.{Policy}
 use Rattle.conspec_automaton.specs.Next.{Values, clause_of, has_clause, initial, next, next_by}
-use Rattle.conspec_automaton.specs.Obeys.{Follows, Obeys, after, is_return}
+use Rattle.conspec_automaton.specs.Obeys.{Follows, IsFollowed, after, is_return}
 use Rattle.conspec_automaton.specs.Verdict.{is_refused, may_stop, refusal, verdict, verdict_from}
 
 -- ---- one event more, over any automaton
@@ -149,8 +149,8 @@ module _ (policy : Policy) where
     by None is each = obeys_not_refused index state event later is f
     by (Some reached) is each = each reached (accepted_fewer state reached event later is f)
 
-pub obeys_of : (policy : Policy) (events : List Event) → is_refused (verdict policy events) ≡ false → Obeys policy events
+pub obeys_of : (policy : Policy) (events : List Event) → is_refused (verdict policy events) ≡ false → IsFollowed policy events
 obeys_of policy events h = follows_from policy 0 (initial policy) events h
 
-pub disobeys_of : (policy : Policy) (events : List Event) → is_refused (verdict policy events) ≡ true → Obeys policy events → ⊥
+pub disobeys_of : (policy : Policy) (events : List Event) → is_refused (verdict policy events) ≡ true → IsFollowed policy events → ⊥
 disobeys_of policy events h obeys = false≢true (sym (not_refused_from policy 0 (initial policy) events obeys) ∙ h)

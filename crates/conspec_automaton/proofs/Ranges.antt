@@ -14,7 +14,7 @@ use Rattle.conspec_parse.specs.declared.types.Rel.TheVariants.{Le, Ge}
 use Rattle.conspec_parse.specs.declared.types.Update.{Update}
 use Rattle.conspec_parse.specs.declared.types.Update.TheVariants.{Set, Add}
 use Rattle.conspec_parse.specs.declared.types.Var.{Var}
-use Rattle.conspec_parse.specs.Tree.{greatest, IsInRange, IsUpdateIn}
+use Rattle.conspec_parse.specs.Tree.{Askable, greatest, IsInRange, IsUpdateIn}
 use Rattle.conspec_parse.specs.Updates.{target}
 use Rattle.conspec_automaton.specs.declared.policy.Branch.{Branch}
 use Rattle.conspec_automaton.specs.declared.policy.Clause.{Clause}
@@ -262,9 +262,9 @@ updated_in_range vars maxint state (u ∷ us) may = updated_in_range vars maxint
 
 -- ---- an event
 
-pub branch_may : (policy : Policy) (args : ℕ) (state : Values) (event : Event) (branch : Branch) → IsPolicy policy → in_range policy state ≡ true → IsBranchIn policy.vars policy.maxint args branch → is_taken state event branch ≡ true
+pub branch_may : (policy : Policy) (askable : Askable) (state : Values) (event : Event) (branch : Branch) → IsPolicy policy → in_range policy state ≡ true → IsBranchIn policy.vars policy.maxint askable branch → is_taken state event branch ≡ true
     → MayUpdate policy.vars policy.maxint state branch.updates
-branch_may policy args state event branch sound r is taken =
+branch_may policy askable state event branch sound r is taken =
     let all : list_all (holds state event) (atoms_of policy.maxint branch.updates is.own) ≡ true = subst (λ (atoms : List Atom). list_all (holds state event) atoms ≡ true) is.kept taken in
     let p = all_parts (holds state event) is.own (flat_map (range_atoms policy.maxint) branch.updates) all in
     record {

@@ -1,11 +1,11 @@
--- What is true of every automaton that is built: its limits and ranges, and that what its parts name is there.
+-- What is true of every automaton that is built: its limits and ranges, and that what its parts name is there, and is a number.
 use Rattle.std.specs.Prelude.{◌≡◌, ◌≢◌, ℕ, ◌<◌, ◌≤◌, ℤ, pos, ◌≤ℤ◌, List, length, AllPairs}
 use Rattle.std.specs.List.{AllByRecursion}
 use Rattle.conspec_parse.specs.declared.types.Atom.{Atom}
 use Rattle.conspec_parse.specs.declared.types.Var.{Var}
 use Rattle.api_listing.specs.declared.types.Listing.{Listing}
 use Rattle.conspec_parse.specs.declared.types.PolicyTree.{PolicyTree}
-use Rattle.conspec_parse.specs.Tree.{IsInRange, IsPolicyTree, AreAtoms, IsUpdateIn, asked}
+use Rattle.conspec_parse.specs.Tree.{Askable, IsInRange, IsPolicyTree, AreAtoms, IsUpdateIn, asked}
 use Rattle.conspec_parse.specs.Updates.{target}
 use Rattle.conspec_automaton.specs.declared.policy.Branch.{Branch}
 use Rattle.conspec_automaton.specs.declared.policy.Clause.{Clause}
@@ -13,10 +13,10 @@ use Rattle.conspec_automaton.specs.declared.policy.Policy.{Policy}
 use Rattle.conspec_automaton.specs.Building.{atoms_of}
 
 -- Behind the atoms that were written stand those that keep the updates in range. Each variable is updated once.
-pub record IsBranchIn (vars : List Var) (maxint : ℤ) (args : ℕ) (branch : Branch) : Type 0 where
+pub record IsBranchIn (vars : List Var) (maxint : ℤ) (askable : Askable) (branch : Branch) : Type 0 where
   pub own : List Atom
   pub kept : branch.atoms ≡ atoms_of maxint branch.updates own
-  pub atoms : AreAtoms (length vars) args branch.atoms
+  pub atoms : AreAtoms (length vars) askable branch.atoms
   pub few_atoms : length branch.atoms ≤ 16
   pub updates : AllByRecursion (IsUpdateIn vars maxint) branch.updates
   pub once : AllPairs (λ u w. target u ≢ target w) branch.updates
@@ -24,7 +24,7 @@ pub record IsBranchIn (vars : List Var) (maxint : ℤ) (args : ℕ) (branch : Br
 pub record IsClauseIn (vars : List Var) (maxint : ℤ) (clause : Clause) : Type 0 where
   pub few_args : length clause.args ≤ 255
   pub few_branches : length clause.branches ≤ 64
-  pub branches : AllByRecursion (IsBranchIn vars maxint (asked clause.phase (length clause.args))) clause.branches
+  pub branches : AllByRecursion (IsBranchIn vars maxint (asked clause.phase clause.args clause.result)) clause.branches
 
 -- Two clauses are for different events.
 abbrev pub Differ : Clause → Clause → Type 0

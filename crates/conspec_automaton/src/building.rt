@@ -25,7 +25,7 @@ use std::alloc::Global;
 /// The automaton of a policy.
 pub fn build(alloc: Global, tree: &PolicyTree) -> Result<Policy, NoMemory>
     ensures is { IfOk result (λ policy. policy ≡ built tree.now) }
-    // That of a tree that is read keeps the limits and ranges, and its methods are in the listing.
+    // That of a tree that is read keeps the limits and ranges, its atoms ask numbers, and its methods are in the listing.
     ensures sound { IfOk result (λ policy. (listing : Listing) → IsPolicyTree listing tree.now
         → IsPolicy policy × NamesMethods (length listing.methods) policy) }
 {

@@ -5,7 +5,7 @@ ghost use Rattle.api_listing.specs.declared.events.Event.{Event};
 ghost use Rattle.conspec_parse.specs.Updates.{target};
 ghost use Rattle.conspec_automaton.specs.declared.policy.Policy.{Policy};
 ghost use Rattle.conspec_automaton.specs.Next.{initial, next, next_by, updated, updated_once};
-ghost use Rattle.conspec_automaton.specs.Obeys.{Obeys};
+ghost use Rattle.conspec_automaton.specs.Obeys.{IsFollowed};
 ghost use Rattle.conspec_automaton.specs.Range.{MayUpdate, SumFits, in_range};
 ghost use Rattle.conspec_automaton.specs.Sound.{IsPolicy, IsClauseIn};
 ghost use Rattle.conspec_automaton.specs.Turning.{Keeps};
@@ -108,9 +108,9 @@ fn update_once(state: &mut State, update: Update)
 pub fn accept(policy: &Policy, events: &[Event]) -> Verdict
     requires { IsPolicy policy.now }
     ensures is { result ≡ verdict policy.now events.now }
-    // It is not refused exactly where the events obey the policy.
-    ensures obeys { is_refused result ≡ false → Obeys policy.now events.now }
-    ensures refused { IsTrue (is_refused result) → Obeys policy.now events.now → ⊥ }
+    // It is not refused exactly where the events are accepted, or all but a return that comes last.
+    ensures followed { is_refused result ≡ false → IsFollowed policy.now events.now }
+    ensures refused { IsTrue (is_refused result) → IsFollowed policy.now events.now → ⊥ }
 {
     run(policy, events)
 }

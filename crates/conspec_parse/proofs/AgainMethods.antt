@@ -202,7 +202,7 @@ method_of_is : (methods : List ListedMethod) (vars : List Var) (clauses : List T
     → signature_at true vars tokens ≡ Ok (signature, rest) → index_at methods clauses phase (front_at tokens) signature (desc_of signature.params result) ≡ Ok method
     → method_at methods vars clauses phase result tokens ≡ Ok ((method, signature.params), rest)
 method_of_is methods vars clauses phase result tokens rest signature method strict index =
-    let loose = (signature_loose vars tokens).of (signature, rest) strict in
+    let loose = (signature_loose vars tokens).read (signature, rest) strict in
     rw (loose, index, strict) refl
 
 pub method_again : (methods : List ListedMethod) (vars : List Var) (clauses : List TreeClause) (phase : Phase) (result : List ℕ) (class : List (List ℕ)) (m : MethodName) (params : List WrittenParam)

@@ -22,7 +22,8 @@ use Rattle.conspec_parse.specs.declared.types.PolicyTree.{PolicyTree}
 use Rattle.conspec_parse.specs.declared.fault.PolicyFault.{PolicyFault}
 use Rattle.conspec_parse.specs.declared.fault.PolicyFault.TheVariants as faults
 use Rattle.conspec_parse.specs.declared.fault.PolicyFault.TheVariants.{Syntax, Kind as WrongKind, Range, Twice, Limit}
-use Rattle.conspec_parse.specs.Fault.{Judged, Reads}
+use Rattle.mon_base.specs.Answer.{Answers}
+use Rattle.conspec_parse.specs.Fault.{Judged}
 use Rattle.conspec_parse.specs.Tokens.{tokens_of}
 use Rattle.conspec_parse.specs.Forms.{front_at, is_next, is_some, is_end, is_short}
 use Rattle.conspec_parse.specs.Head.{is_variable, header_at, truth_at, count_at, first_at, begins_variable, variable_at}
@@ -462,14 +463,14 @@ pub policy_again : (text : List ℕ) (listing : Listing) (tree : PolicyTree) →
 policy_again text listing tree spelled = whole_again listing spelled.written tree (tokens_of text) spelled.tokens spelled.says
 
 -- A call that answers as the reading does gives what is read, unless memory runs out.
-pub answers : {X : Type 0} (result read : Judged X) (x : X) → Reads result read → read ≡ Ok x → MatchResult result (λ r. r ≡ x) (λ e. e ≡ faults.Memory)
+pub answers : {X : Type 0} (result read : Judged X) (x : X) → Answers faults.Memory result read → read ≡ Ok x → MatchResult result (λ r. r ≡ x) (λ e. e ≡ faults.Memory)
 answers (Ok r) read x e is = ok_is PolicyFault r x (sym e ∙ is)
-answers (Err (faults.Syntax at)) read x e is = absurd cc
-answers (Err (faults.Name at)) read x e is = absurd cc
-answers (Err (faults.Kind at)) read x e is = absurd cc
-answers (Err (faults.Range at)) read x e is = absurd cc
-answers (Err (faults.NoMethod at)) read x e is = absurd cc
-answers (Err (faults.Twice at)) read x e is = absurd cc
-answers (Err (faults.Limit at)) read x e is = absurd cc
-answers (Err (faults.Builtin at)) read x e is = absurd cc
+answers (Err (faults.Syntax at)) read x e is = let told : read ≡ Err (faults.Syntax at) = e (λ same. cc) in absurd cc
+answers (Err (faults.Name at)) read x e is = let told : read ≡ Err (faults.Name at) = e (λ same. cc) in absurd cc
+answers (Err (faults.Kind at)) read x e is = let told : read ≡ Err (faults.Kind at) = e (λ same. cc) in absurd cc
+answers (Err (faults.Range at)) read x e is = let told : read ≡ Err (faults.Range at) = e (λ same. cc) in absurd cc
+answers (Err (faults.NoMethod at)) read x e is = let told : read ≡ Err (faults.NoMethod at) = e (λ same. cc) in absurd cc
+answers (Err (faults.Twice at)) read x e is = let told : read ≡ Err (faults.Twice at) = e (λ same. cc) in absurd cc
+answers (Err (faults.Limit at)) read x e is = let told : read ≡ Err (faults.Limit at) = e (λ same. cc) in absurd cc
+answers (Err (faults.Builtin at)) read x e is = let told : read ≡ Err (faults.Builtin at) = e (λ same. cc) in absurd cc
 answers (Err faults.Memory) read x e is = refl

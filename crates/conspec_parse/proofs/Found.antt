@@ -88,7 +88,7 @@ names_is (Number n) name e = absurd cc
 names_is Wrong name e = absurd cc
 names_is End name e = absurd cc
 
-next_name_is : (tokens : List Token) (name : List ℕ) → next_name tokens ≡ Some name → Took tokens (one_name name) (drop 1 tokens)
+pub next_name_is : (tokens : List Token) (name : List ℕ) → next_name tokens ≡ Some name → Took tokens (one_name name) (drop 1 tokens)
 next_name_is [] name e = absurd cc
 next_name_is (t ∷ tokens) name e = record { is = ap (λ (l : Lexeme). l ∷ lexemes tokens) (names_is t.lexeme name e) }
 
@@ -99,7 +99,7 @@ counts_is (Number m) n e = cc
 counts_is Wrong n e = absurd cc
 counts_is End n e = absurd cc
 
-next_number_is : (tokens : List Token) (n : ℕ) → next_number tokens ≡ Some n → Took tokens (Number n ∷ []) (drop 1 tokens)
+pub next_number_is : (tokens : List Token) (n : ℕ) → next_number tokens ≡ Some n → Took tokens (Number n ∷ []) (drop 1 tokens)
 next_number_is [] n e = absurd cc
 next_number_is (t ∷ tokens) n e = record { is = ap (λ (l : Lexeme). l ∷ lexemes tokens) (counts_is t.lexeme n e) }
 
@@ -142,7 +142,7 @@ pub which : {T : Type 0} (b : Bool) (x : T) (other : Option T) (t : T) → cond 
 which true x other t e = inl (refl, cc)
 which false x other t e = inr e
 
-plain_found : (tokens : List Token) (type : TypeName) → plain_type tokens ≡ Some type → IsPlain tokens type
+pub plain_found : (tokens : List Token) (type : TypeName) → plain_type tokens ≡ Some type → IsPlain tokens type
 plain_found tokens type e =
     ⊎_elim (plain_is tokens type (codes "void") Void refl refl) (λ e1.
     ⊎_elim (plain_is tokens type (codes "int") Int refl refl) (λ e2.
@@ -209,7 +209,7 @@ element_found tokens = by (plain_type tokens) refl where
       done (type, drop 1 tokens) (record { written = is.element; took = is.took; says = (is.is, subst AreShort (sym is.unnamed) tt) })
   by None e = class_type_found tokens
 
-brackets_more : (n : ℕ) → brackets_spelled n ++ Quoted (codes "[") ∷ Quoted (codes "]") ∷ [] ≡ brackets_spelled (suc n)
+pub brackets_more : (n : ℕ) → brackets_spelled n ++ Quoted (codes "[") ∷ Quoted (codes "]") ∷ [] ≡ brackets_spelled (suc n)
 brackets_more zero = refl
 brackets_more (suc n) = ap (λ (w : List Lexeme). Quoted (codes "[") ∷ Quoted (codes "]") ∷ w) (brackets_more n)
 

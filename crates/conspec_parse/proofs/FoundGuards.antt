@@ -28,7 +28,7 @@ use Rattle.conspec_parse.specs.Written.Constant.{Truth, Natural, Minus}
 use Rattle.conspec_parse.specs.Written.Right.{Value, Sum}
 use Rattle.conspec_parse.specs.Meaning.{EachIs, value_of, IsConstant, IsAtom, IsRight, IsUpdate, IsGuard, IsOtherwise, AreGuards}
 use Rattle.conspec_parse.proofs.Made.{Makes, done, then, tested, either, given, said, together, each_makes}
-use Rattle.conspec_parse.proofs.Sound.{both, is_not, conjs_sound}
+use Rattle.conspec_parse.proofs.Sound.{both, is_not, all_asked, asks_all, conjs_sound}
 use Rattle.conspec_parse.proofs.SoundUpdates.{block_sound}
 use Rattle.conspec_parse.proofs.SoundClauses.{longest_low, all_short, body_sound}
 use Rattle.conspec_parse.proofs.Found.{Took, joins, nothing, spelled_as, Found, led_more, all_more_words, each_more, next_is, behind_found, taken_found, name_found, number_found, which}
@@ -39,7 +39,7 @@ rel_is : (tokens : List Token) (rel : Rel) (word : List ℕ) (r : Rel) → rel_s
 rel_is tokens rel word r spelled h =
     spelled_as (Quoted word ∷ []) (rel_spelled rel ∷ []) (ap (λ (l : Lexeme). l ∷ []) (sym spelled ∙ ap rel_spelled h.1)) (next_is word tokens h.0)
 
-rel_found : (tokens : List Token) (rel : Rel) → next_rel tokens ≡ Some rel → Took tokens (rel_spelled rel ∷ []) (drop 1 tokens)
+pub rel_found : (tokens : List Token) (rel : Rel) → next_rel tokens ≡ Some rel → Took tokens (rel_spelled rel ∷ []) (drop 1 tokens)
 rel_found tokens rel e =
     ⊎_elim (rel_is tokens rel (codes "==") rels.Eq refl) (λ e1.
     ⊎_elim (rel_is tokens rel (codes "!=") rels.Ne refl) (λ e2.
@@ -199,7 +199,7 @@ conjs_found scope size tokens =
 
 -- ---- updates
 
-sign_found : (tokens : List Token) (minus : Bool) → next_sign tokens ≡ Some minus → Took tokens (sign_spelled minus ∷ []) (drop 1 tokens)
+pub sign_found : (tokens : List Token) (minus : Bool) → next_sign tokens ≡ Some minus → Took tokens (sign_spelled minus ∷ []) (drop 1 tokens)
 sign_found tokens minus e =
     ⊎_elim (λ h. spelled_as (Quoted (codes "+") ∷ []) (sign_spelled minus ∷ []) (ap (λ (b : Bool). sign_spelled b ∷ []) h.1) (next_is (codes "+") tokens h.0)) (λ e1.
     ⊎_elim (λ h. spelled_as (Quoted (codes "-") ∷ []) (sign_spelled minus ∷ []) (ap (λ (b : Bool). sign_spelled b ∷ []) h.1) (next_is (codes "-") tokens h.0)) (λ e2. absurd cc)
@@ -288,10 +288,10 @@ guard_found : (scope : Scope) (maxint : ℤ) (start : List Token) (guards : List
     → Makes (guard_at scope maxint guards tokens) (Found (λ ws. flat_map guard_spelled ws) (EachIs (IsGuard scope maxint)) start)
 unfolding guard_at
 guard_found scope maxint start guards tokens before =
-    then _ (together (conjs_found scope (branches guards) tokens) (conjs_sound scope (branches guards) tokens)) λ conjs one.
+    then _ (together (conjs_found scope (branches guards) tokens) (conjs_sound scope (all_asked scope) (asks_all scope) (branches guards) tokens)) λ conjs one.
     then _ (behind_found (codes "->") conjs.1) λ arrow two.
     then _ (together (block_found scope.vars maxint (longest conjs.0) arrow)
-    (block_sound scope.vars maxint (longest conjs.0) arrow (longest_low scope 0 conjs.0 one.1.conjs (omega arith)))) λ updates three.
+    (block_sound scope.vars maxint (longest conjs.0) arrow (longest_low scope (all_asked scope) 0 conjs.0 one.1.conjs (omega arith)))) λ updates three.
     let g : Guard = record { conjs = conjs.0; updates = updates.0 } in
     let cs = one.0.written in
     let w : WrittenGuard = record { first = cs.first; others = cs.others; updates = three.0.written } in
@@ -363,7 +363,7 @@ abbrev pub AreGuardsOf : Scope → ℤ → WrittenBody → List Guard → Type 0
 AreGuardsOf scope maxint w guards = AreGuards scope maxint w.guards w.otherwise guards
 
 pub body_found : (scope : Scope) (maxint : ℤ) (tokens : List Token) → Makes (body_at scope maxint tokens) (Found spelled_body (AreGuardsOf scope maxint) tokens)
-body_found scope maxint tokens = said (together (parts_found scope maxint tokens) (body_sound scope maxint tokens)) λ r is.
+body_found scope maxint tokens = said (together (parts_found scope maxint tokens) (body_sound scope (all_asked scope) maxint tokens (asks_all scope))) λ r is.
     let b = is.0.says in
     record {
       written = is.0.written;

@@ -76,7 +76,7 @@ joined_more (first ∷ others) name =
     ap Some (append_assoc first (flat_map below others) (47 ∷ name)
     ∙ ap (λ (w : List ℕ). first ++ w) (ap (λ (w : List ℕ). flat_map below others ++ 47 ∷ w) (sym (append-nil name)) ∙ sym (flat_map-append below others (name ∷ []))))
 
-path_more : (class : List (List ℕ)) (name : List ℕ) (m : MethodName)
+pub path_more : (class : List (List ℕ)) (name : List ℕ) (m : MethodName)
     → path_spelled class (Plain name) ++ Quoted (codes ".") ∷ one_method m ≡ path_spelled (class ++ name ∷ []) m
 path_more class name m =
     append_assoc (flat_map dotted class) (Name name ∷ []) (Quoted (codes ".") ∷ one_method m)
@@ -174,7 +174,7 @@ signature_found vars tokens =
 
 both_found : (vars : List Var) (tokens : List Token)
     → Makes (signature_at true vars tokens) (λ r. Found spelled (IsSignature vars) tokens r × (signature_at false vars tokens ≡ Ok r))
-both_found vars tokens = record { of = λ r e. ((signature_found vars tokens).of r e, (signature_loose vars tokens).of r e) }
+both_found vars tokens = record { of = λ r e. ((signature_found vars tokens).of r e, (signature_loose vars tokens).read r e) }
 
 -- ---- the method
 

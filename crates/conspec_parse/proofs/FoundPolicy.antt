@@ -48,7 +48,7 @@ phase_is : (tokens : List Token) (phase : Phase) (word : List ℕ) (p : Phase) �
 phase_is tokens phase word p is h =
     spelled_as (Quoted word ∷ []) (phase_spelled phase ∷ []) (ap (λ (l : Lexeme). l ∷ []) (sym is ∙ ap phase_spelled h.1)) (next_is word tokens h.0)
 
-phase_found : (tokens : List Token) (phase : Phase) → next_phase tokens ≡ Some phase → Took tokens (phase_spelled phase ∷ []) (drop 1 tokens)
+pub phase_found : (tokens : List Token) (phase : Phase) → next_phase tokens ≡ Some phase → Took tokens (phase_spelled phase ∷ []) (drop 1 tokens)
 phase_found tokens phase e =
     ⊎_elim (phase_is tokens phase (codes "BEFORE") Before refl) (λ e1.
     ⊎_elim (phase_is tokens phase (codes "AFTER") After refl) (λ e2.
@@ -57,7 +57,7 @@ phase_found tokens phase e =
     (which (is_next (codes "AFTER") tokens) _ _ phase e1))
     (which (is_next (codes "BEFORE") tokens) _ _ phase e)
 
-after_is : (phase : Phase) → is_after phase ≡ true → phase ≡ After
+pub after_is : (phase : Phase) → is_after phase ≡ true → phase ≡ After
 after_is Before e = absurd cc
 after_is After e = refl
 after_is Exceptional e = absurd cc
@@ -203,7 +203,7 @@ first_found : (maxint : ℤ) (is_bool : Bool) (tokens : List Token) → Makes (f
 first_found maxint true tokens = truth_found maxint tokens
 first_found maxint false tokens = count_found maxint tokens
 
-word_found : (tokens : List Token) → begins_variable tokens ≡ true → Took tokens (variable_word (is_next (codes "bool") tokens) ∷ []) (drop 1 tokens)
+pub word_found : (tokens : List Token) → begins_variable tokens ≡ true → Took tokens (variable_word (is_next (codes "bool") tokens) ∷ []) (drop 1 tokens)
 word_found tokens goes = by (is_next (codes "bool") tokens) refl (is_next (codes "int") tokens) refl goes where
   by : (b : Bool) → is_next (codes "bool") tokens ≡ b → (i : Bool) → is_next (codes "int") tokens ≡ i → (i || b) ≡ true → Took tokens (variable_word b ∷ []) (drop 1 tokens)
   by true e i f or = next_is (codes "bool") tokens e

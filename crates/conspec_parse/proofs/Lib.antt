@@ -2,7 +2,16 @@ mod Again
 mod AgainGuards
 mod AgainMethods
 mod AgainPolicy
+mod Alike
+mod AlikeGuards
+mod AlikeMethods
+mod AlikePolicy
+mod AlikeTypes
+mod Begun
+mod BegunGuards
+mod BegunPolicy
 mod Branches
+mod Decided
 mod Found
 mod FoundGuards
 mod FoundMethods

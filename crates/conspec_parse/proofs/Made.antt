@@ -5,7 +5,9 @@ use Rattle.mon_base.specs.Reading.{◌>>=◌, need}
 use Rattle.mon_base.proofs.Reading.{bind_ok, need_ok, ok_is}
 use Rattle.conspec_parse.specs.declared.token.Token.{Token}
 use Rattle.conspec_parse.specs.declared.fault.PolicyFault.{PolicyFault}
-use Rattle.conspec_parse.specs.Fault.{Judged, Reads}
+use Rattle.mon_base.specs.Answer.{Answers}
+use Rattle.conspec_parse.specs.declared.fault.PolicyFault.TheVariants as faults
+use Rattle.conspec_parse.specs.Fault.{Judged}
 use Rattle.conspec_parse.specs.Forms.{Read, repeated, each, taken}
 
 -- What is read, if anything, is so.
@@ -74,7 +76,7 @@ pub each_makes : {S : Type 0} (more : List Token → Bool) (part : S → List To
 each_makes more part Is step s tokens is = repeated_makes more part Is step (length tokens) s tokens is
 
 -- a call that answers what the reading gives
-pub answered : {X : Type 0} {read : Judged X} {Is : X → Type 0} (result : Judged X) → Makes read Is → Reads result read → IfOk result Is
+pub answered : {X : Type 0} {read : Judged X} {Is : X → Type 0} (result : Judged X) → Makes read Is → Answers faults.Memory result read → IfOk result Is
 answered (Ok x) makes e = makes.of x e
 answered (Err fault) makes e = tt
 

@@ -3,7 +3,7 @@ use Rattle.std.proofs.Common.{◌≡◌, ℕ, suc, ◌+◌, ◌-◌, ◌<◌, �
 use Rattle.conspec_parse.specs.declared.token.Token.{Token}
 use Rattle.conspec_parse.specs.declared.fault.PolicyFault.{PolicyFault}
 use Rattle.conspec_parse.specs.declared.fault.PolicyFault.TheVariants as faults
-use Rattle.conspec_parse.specs.Fault.{Fails}
+use Rattle.mon_base.specs.Answer.{Fails}
 use Rattle.conspec_parse.specs.Forms.{Read, repeated}
 
 pub again : {S : Type 0} (more : List Token → Bool) (part : S → List Token → Read S) (n i : ℕ) (done next : S) (left rest : List Token) (total : Read S)
@@ -39,13 +39,5 @@ failing more part n i done left total e lt goes failed so_far =
     sym so_far ∙ step
 
 pub fails : {S : Type 0} (more : List Token → Bool) (part : S → List Token → Read S) (n i : ℕ) (done : S) (left : List Token) (total : Read S) (e : PolicyFault)
-    → i < n → more left ≡ true → Fails e (part done left) → repeated more part (n - i) done left ≡ total → Fails e total
-fails more part n i done left total faults.Memory lt goes failed so_far = tt
-fails more part n i done left total (faults.Syntax at) lt goes failed so_far = failing more part n i done left total _ lt goes failed so_far
-fails more part n i done left total (faults.Name at) lt goes failed so_far = failing more part n i done left total _ lt goes failed so_far
-fails more part n i done left total (faults.Kind at) lt goes failed so_far = failing more part n i done left total _ lt goes failed so_far
-fails more part n i done left total (faults.Range at) lt goes failed so_far = failing more part n i done left total _ lt goes failed so_far
-fails more part n i done left total (faults.NoMethod at) lt goes failed so_far = failing more part n i done left total _ lt goes failed so_far
-fails more part n i done left total (faults.Twice at) lt goes failed so_far = failing more part n i done left total _ lt goes failed so_far
-fails more part n i done left total (faults.Limit at) lt goes failed so_far = failing more part n i done left total _ lt goes failed so_far
-fails more part n i done left total (faults.Builtin at) lt goes failed so_far = failing more part n i done left total _ lt goes failed so_far
+    → i < n → more left ≡ true → Fails faults.Memory e (part done left) → repeated more part (n - i) done left ≡ total → Fails faults.Memory e total
+fails more part n i done left total e lt goes failed so_far is_told = failing more part n i done left total e lt goes (failed is_told) so_far

@@ -1,5 +1,5 @@
 -- Every policy that is read keeps the limits and ranges, and what its parts name is there: the head and the guards.
-use Rattle.std.proofs.Common.{◌≡◌, ◌≢◌, ℕ, zero, suc, ◌+◌, ◌<◌, ◌≤◌, ℤ, pos, Bool, true, false, cond, List, [], ◌∷◌, ◌++◌, length, drop, get_or, Option, Some, None, refl, ap, subst, arith, length-append}
+use Rattle.std.proofs.Common.{◌≡◌, ◌≢◌, ℕ, zero, suc, ◌+◌, ◌<◌, ◌≤◌, ℤ, pos, Bool, true, false, cond, List, [], ◌∷◌, ◌++◌, length, drop, get_or, map, Option, Some, None, refl, sym, ◌∙◌, ap, subst, arith, length-append}
 use Rattle.std.specs.Prelude.{◌≤ℤ◌, not, bytes_eq, codes, nat_lt, nat_le, int_le, slice_get, AllPairs, ◌||◌, ◌&&◌}
 use Rattle.std.specs.List.{AllByRecursion}
 use Rattle.std.specs.Option.{option_or, option_map}
@@ -22,7 +22,7 @@ use Rattle.conspec_parse.specs.Head.{header_at, truth_at, count_at, first_at, be
 use Rattle.conspec_parse.specs.Methods.{is_named}
 use Rattle.conspec_parse.specs.Scope.{Scope, as_variable, argument_from, result_named, base_named}
 use Rattle.conspec_parse.specs.Guards.{is_truth, is_object, is_equality, next_rel, constant_at, atom_at, next_atom, no_atoms, atoms_at, conj_at, next_conj, conjs_at}
-use Rattle.conspec_parse.specs.Tree.{IsInRange, IsBase, AreAtoms}
+use Rattle.conspec_parse.specs.Tree.{IsInRange, Askable, IsNumber, IsBase, AreAtoms}
 use Rattle.conspec_parse.proofs.Made.{Makes, done, then, tested, either, failed, any, given, said, each_makes}
 
 -- ---- lists and tests
@@ -157,106 +157,143 @@ variable_there i (v ∷ vars) name found e = by (bytes_eq v.name name) e (variab
       let far = later.counted in
       record { index = suc later.index; variable = later.variable; counted = omega arith; there = later.there; kind = later.kind }
 
-base_of_variable : (vars args : ℕ) (found : ℕ × Bool) → found.0 < vars → IsBase vars args (as_variable found).0
-base_of_variable vars args found lt = by found.1 where
-  by : (b : Bool) → IsBase vars args (as_variable (found.0, b)).0
+-- What may be asked is what the scope names: the arguments, and the result where it has a name.
+pub record Asks (scope : Scope) (askable : Askable) : Type 0 where
+  pub args : askable.args ≡ map (λ (p : Param). p.kind) scope.args
+  pub result : (name : List ℕ) → scope.returned ≡ Some name → askable.result ≡ Some scope.kind
+
+-- the arguments, and a result of the scope's kind
+abbrev pub all_asked : Scope → Askable
+all_asked scope = record { args = map (λ (p : Param). p.kind) scope.args; result = Some scope.kind }
+
+pub asks_all : (scope : Scope) → Asks scope (all_asked scope)
+asks_all scope = record { args = refl; result = λ name has. refl }
+
+no_object : (kind : Kind) → is_object kind ≡ false → IsNumber (Some kind)
+no_object kind fails = λ object.
+    let is : is_object kind ≡ true = ap is_object object in
+    absurd cc
+
+base_of_variable : (vars : ℕ) (askable : Askable) (found : ℕ × Bool) → found.0 < vars → IsBase vars askable (as_variable found).0
+base_of_variable vars askable found lt = by found.1 where
+  by : (b : Bool) → IsBase vars askable (as_variable (found.0, b)).0
   by true = lt
   by false = lt
 
-argument_there : (vars i : ℕ) (args : List Param) (name : List ℕ) (found : Base × Kind) → argument_from i args name ≡ Some found → IsBase vars (i + length args) found.0
-argument_there vars i [] name found e = absurd cc
-argument_there vars i (p ∷ args) name found e = by (is_named p.name name) e (argument_there vars (i + 1) args name found) where
-  by : (same : Bool) → cond same (Some (bases.Arg i, p.kind)) (argument_from (i + 1) args name) ≡ Some found
-      → (argument_from (i + 1) args name ≡ Some found → IsBase vars (i + 1 + length args) found.0) → IsBase vars (i + length (p ∷ args)) found.0
+record IsArgument (params : List Param) (from : ℕ) (found : Base × Kind) : Type 0 where
+  index : ℕ
+  base : found.0 ≡ bases.Arg (from + index)
+  there : slice_get (map (λ (p : Param). p.kind) params) index ≡ Some found.1
+
+argument_there : (i : ℕ) (params : List Param) (name : List ℕ) (found : Base × Kind) → argument_from i params name ≡ Some found → IsArgument params i found
+argument_there i [] name found e = absurd cc
+argument_there i (p ∷ params) name found e = by (is_named p.name name) e (argument_there (i + 1) params name found) where
+  by : (same : Bool) → cond same (Some (bases.Arg i, p.kind)) (argument_from (i + 1) params name) ≡ Some found
+      → (argument_from (i + 1) params name ≡ Some found → IsArgument params (i + 1) found) → IsArgument (p ∷ params) i found
   by true is others =
       let made : Base × Kind = (bases.Arg i, p.kind) in
-      let lt : i < i + length (p ∷ args) = omega arith in
-      subst (λ (x : Base × Kind). IsBase vars (i + length (p ∷ args)) x.0) (some_is made found is) lt
+      let one : made ≡ found = some_is made found is in
+      let here : i ≡ i + 0 = omega arith in
+      record { index = 0; base = sym (ap (λ (x : Base × Kind). x.0) one) ∙ ap bases.Arg here; there = ap (λ (x : Base × Kind). Some x.1) one }
   by false is others =
-      let all : i + 1 + length args ≡ i + length (p ∷ args) = omega arith in
-      subst (λ (n : ℕ). IsBase vars n found.0) all (others is)
+      let later = others is in
+      let far : i + 1 + later.index ≡ i + suc later.index = omega arith in
+      record { index = suc later.index; base = later.base ∙ ap bases.Arg far; there = later.there }
 
-abbrev pub IsFound : Scope → Base × Kind → Type 0
-IsFound scope found = IsBase (length scope.vars) (length scope.args) found.0
+abbrev pub IsFound : Scope → Askable → Base × Kind → Type 0
+IsFound scope askable found = IsBase (length scope.vars) askable found.0
 
-pub base_sound : (scope : Scope) (name : List ℕ) (found : Base × Kind) → base_named scope name ≡ Some found → IsFound scope found
-base_sound scope name found e = by (variable_from 0 scope.vars name) refl (argument_from 0 scope.args name) refl e where
-  result : (same : Bool) → cond same (Some (bases.Result, scope.kind)) None ≡ Some found → IsFound scope found
-  result true is =
+pub base_sound : (scope : Scope) (askable : Askable) (name : List ℕ) (found : Base × Kind) → Asks scope askable → is_object found.1 ≡ false
+    → base_named scope name ≡ Some found → IsFound scope askable found
+base_sound scope askable name found asks numeric e = by (variable_from 0 scope.vars name) refl (argument_from 0 scope.args name) refl e where
+  argument : (a : Base × Kind) → is_object a.1 ≡ false → IsArgument scope.args 0 a → IsFound scope askable a
+  argument a number is =
+      let there : slice_get askable.args is.index ≡ Some a.1 = rw asks.args is.there in
+      let asked : IsNumber (slice_get askable.args is.index) = rw there (no_object a.1 number) in
+      let first : 0 + is.index ≡ is.index = omega arith in
+      rw (is.base, first) asked
+
+  named : (same : Bool) → askable.result ≡ Some scope.kind → cond same (Some (bases.Result, scope.kind)) None ≡ Some found → IsFound scope askable found
+  named true has is =
       let made : Base × Kind = (bases.Result, scope.kind) in
-      subst (IsFound scope) (some_is made found is) tt
-  result false is = absurd cc
+      let one : made ≡ found = some_is made found is in
+      let asked : IsNumber askable.result = rw has (no_object scope.kind (ap (λ (x : Base × Kind). is_object x.1) one ∙ numeric)) in
+      subst (IsFound scope askable) one asked
+  named false has is = absurd cc
+
+  result : (word : Option (List ℕ)) → scope.returned ≡ word → cond (is_named word name) (Some (bases.Result, scope.kind)) None ≡ Some found → IsFound scope askable found
+  result None which is = absurd cc
+  result (Some word) which is = named (bytes_eq word name) (asks.result word which) is
 
   by : (v : Option (ℕ × Bool)) → variable_from 0 scope.vars name ≡ v → (a : Option (Base × Kind)) → argument_from 0 scope.args name ≡ a
-      → option_or (option_map as_variable v) (option_or a (result_named scope name)) ≡ Some found → IsFound scope found
+      → option_or (option_map as_variable v) (option_or a (result_named scope name)) ≡ Some found → IsFound scope askable found
   by (Some v) read a other is =
       let there = variable_there 0 scope.vars name v read in
       let low : there.index < length scope.vars = slice_get_within scope.vars there.index there.variable there.there in
       let same = there.counted in
-      subst (IsFound scope) (some_is (as_variable v) found is) (base_of_variable (length scope.vars) (length scope.args) v (omega arith))
+      subst (IsFound scope askable) (some_is (as_variable v) found is) (base_of_variable (length scope.vars) askable v (omega arith))
   by None read (Some a) other is =
-      let all : 0 + length scope.args ≡ length scope.args = omega arith in
-      let there = argument_there (length scope.vars) 0 scope.args name a other in
-      subst (IsFound scope) (some_is a found is) (subst (λ (n : ℕ). IsBase (length scope.vars) n a.0) all there)
-  by None read None other is = result (is_named scope.returned name) is
+      let one : a ≡ found = some_is a found is in
+      subst (IsFound scope askable) one (argument a (ap (λ (x : Base × Kind). is_object x.1) one ∙ numeric) (argument_there 0 scope.args name a other))
+  by None read None other is = result scope.returned refl is
 
 -- ---- atoms and branches
 
-pub record IsConj (scope : Scope) (conj : List Atom) : Type 0 where
+pub record IsConj (scope : Scope) (askable : Askable) (conj : List Atom) : Type 0 where
   pub few : length conj ≤ 16
-  pub atoms : AreAtoms (length scope.vars) (length scope.args) conj
+  pub atoms : AreAtoms (length scope.vars) askable conj
 
-atom_sound : (scope : Scope) (room : Bool) (tokens : List Token)
-    → Makes (atom_at scope room tokens) (λ r. (room ≡ true) × IsBase (length scope.vars) (length scope.args) r.0.base)
-unfolding atom_at
-atom_sound scope room tokens =
-    then _ (any (name_at tokens)) λ name a.
-    then _ (given (base_named scope name.0) (Name (front_at tokens))) λ base named.
-    tested (not (is_object base.1)) (WrongKind (front_at tokens)) _ λ asked.
-    tested room (Limit (front_at tokens)) _ λ few.
-    then _ (any (taken (next_rel name.1) name.1)) λ rel b.
-    tested (not (is_truth base.1) || is_equality rel.0) (WrongKind (front_at name.1)) _ λ fits.
-    then _ (any (constant_at (is_truth base.1) rel.1)) λ value c.
-    done (record { base = base.0; rel = rel.0; value = value.0 }, value.1) (few, base_sound scope name.0 base named)
-
-next_atom_sound : (scope : Scope) (atoms : List Atom) (tokens : List Token) → IsConj scope atoms → Makes (next_atom scope atoms tokens) (λ r. IsConj scope r.0)
-unfolding next_atom
-next_atom_sound scope atoms tokens are =
-    then _ (any (behind (codes "&&") tokens)) λ rest a.
-    then _ (atom_sound scope (nat_lt (length atoms) 16) rest) λ atom is.
-    done (atoms ++ atom.0 ∷ [], atom.1) (record { few = room_for_one atoms atom.0 16 is.0; atoms = all_more (λ (a : Atom). IsBase (length scope.vars) (length scope.args) a.base) atoms atom.0 are.atoms is.1 })
-
-atoms_sound : (scope : Scope) (room : Bool) (tokens : List Token) → Makes (atoms_at scope room tokens) (λ r. (room ≡ true) × IsConj scope r.0)
-unfolding atoms_at
-atoms_sound scope room tokens =
-    then _ (atom_sound scope room tokens) λ first is.
-    said (each_makes (is_next (codes "&&")) (next_atom scope) (λ atoms left. IsConj scope atoms) (λ atoms left goes are. next_atom_sound scope atoms left are)
-    (first.0 ∷ []) first.1 (record { few = omega arith; atoms = (is.1, tt) })) λ r are. (is.0, are)
-
-none_sound : (scope : Scope) (room : Bool) (tokens : List Token) → Makes (no_atoms room tokens) (λ r. (room ≡ true) × IsConj scope r.0)
-unfolding no_atoms
-none_sound scope room tokens = tested room (Limit (front_at tokens)) _ λ few. done ([], drop 1 tokens) (few, record { few = omega arith; atoms = tt })
-
-conj_sound : (scope : Scope) (room : Bool) (tokens : List Token) → Makes (conj_at scope room tokens) (λ r. (room ≡ true) × IsConj scope r.0)
-conj_sound scope room tokens = either (is_next (codes "true") tokens) _ _ (λ holds. none_sound scope room tokens) (λ fails. atoms_sound scope room tokens)
-
-pub record AreConjs (scope : Scope) (before : ℕ) (read : List (List Atom)) : Type 0 where
+pub record AreConjs (scope : Scope) (askable : Askable) (before : ℕ) (read : List (List Atom)) : Type 0 where
   pub few : before + length read ≤ 64
-  pub conjs : AllByRecursion (IsConj scope) read
+  pub conjs : AllByRecursion (IsConj scope askable) read
 
-next_conj_sound : (scope : Scope) (before : ℕ) (conjs : List (List Atom)) (tokens : List Token) → AreConjs scope before conjs
-    → Makes (next_conj scope before conjs tokens) (λ r. AreConjs scope before r.0)
-unfolding next_conj
-next_conj_sound scope before conjs tokens are =
-    then _ (any (behind (codes "||") tokens)) λ rest a.
-    then _ (conj_sound scope (nat_lt (before + length conjs) 64) rest) λ conj is.
-    let lt : before + length conjs < 64 = ltb-true _ _ is.0 in
-    done (conjs ++ conj.0 ∷ [], conj.1) (record { few = omega (arith, length-append conjs (conj.0 ∷ [])); conjs = all_more (IsConj scope) conjs conj.0 are.conjs is.1 })
+module _ (scope : Scope) (askable : Askable) (asks : Asks scope askable) where
+  atom_sound : (room : Bool) (tokens : List Token) → Makes (atom_at scope room tokens) (λ r. (room ≡ true) × IsBase (length scope.vars) askable r.0.base)
+  unfolding atom_at
+  atom_sound room tokens =
+      then _ (any (name_at tokens)) λ name a.
+      then _ (given (base_named scope name.0) (Name (front_at tokens))) λ base named.
+      tested (not (is_object base.1)) (WrongKind (front_at tokens)) _ λ number.
+      tested room (Limit (front_at tokens)) _ λ few.
+      then _ (any (taken (next_rel name.1) name.1)) λ rel b.
+      tested (not (is_truth base.1) || is_equality rel.0) (WrongKind (front_at name.1)) _ λ fits.
+      then _ (any (constant_at (is_truth base.1) rel.1)) λ value c.
+      done (record { base = base.0; rel = rel.0; value = value.0 }, value.1) (few, base_sound scope askable name.0 base asks (is_not _ number) named)
 
-pub conjs_sound : (scope : Scope) (before : ℕ) (tokens : List Token) → Makes (conjs_at scope before tokens) (λ r. AreConjs scope before r.0)
-unfolding conjs_at
-conjs_sound scope before tokens =
-    then _ (conj_sound scope (nat_lt before 64) tokens) λ first is.
-    let lt : before < 64 = ltb-true _ _ is.0 in
-    each_makes (is_next (codes "||")) (next_conj scope before) (λ conjs left. AreConjs scope before conjs) (λ conjs left goes are. next_conj_sound scope before conjs left are)
-    (first.0 ∷ []) first.1 (record { few = omega arith; conjs = (is.1, tt) })
+  next_atom_sound : (atoms : List Atom) (tokens : List Token) → IsConj scope askable atoms → Makes (next_atom scope atoms tokens) (λ r. IsConj scope askable r.0)
+  unfolding next_atom
+  next_atom_sound atoms tokens are =
+      then _ (any (behind (codes "&&") tokens)) λ rest a.
+      then _ (atom_sound (nat_lt (length atoms) 16) rest) λ atom is.
+      done (atoms ++ atom.0 ∷ [], atom.1) (record { few = room_for_one atoms atom.0 16 is.0; atoms = all_more (λ (a : Atom). IsBase (length scope.vars) askable a.base) atoms atom.0 are.atoms is.1 })
+
+  atoms_sound : (room : Bool) (tokens : List Token) → Makes (atoms_at scope room tokens) (λ r. (room ≡ true) × IsConj scope askable r.0)
+  unfolding atoms_at
+  atoms_sound room tokens =
+      then _ (atom_sound room tokens) λ first is.
+      said (each_makes (is_next (codes "&&")) (next_atom scope) (λ atoms left. IsConj scope askable atoms) (λ atoms left goes are. next_atom_sound atoms left are)
+      (first.0 ∷ []) first.1 (record { few = omega arith; atoms = (is.1, tt) })) λ r are. (is.0, are)
+
+  none_sound : (room : Bool) (tokens : List Token) → Makes (no_atoms room tokens) (λ r. (room ≡ true) × IsConj scope askable r.0)
+  unfolding no_atoms
+  none_sound room tokens = tested room (Limit (front_at tokens)) _ λ few. done ([], drop 1 tokens) (few, record { few = omega arith; atoms = tt })
+
+  conj_sound : (room : Bool) (tokens : List Token) → Makes (conj_at scope room tokens) (λ r. (room ≡ true) × IsConj scope askable r.0)
+  conj_sound room tokens = either (is_next (codes "true") tokens) _ _ (λ holds. none_sound room tokens) (λ fails. atoms_sound room tokens)
+
+  next_conj_sound : (before : ℕ) (conjs : List (List Atom)) (tokens : List Token) → AreConjs scope askable before conjs
+      → Makes (next_conj scope before conjs tokens) (λ r. AreConjs scope askable before r.0)
+  unfolding next_conj
+  next_conj_sound before conjs tokens are =
+      then _ (any (behind (codes "||") tokens)) λ rest a.
+      then _ (conj_sound (nat_lt (before + length conjs) 64) rest) λ conj is.
+      let lt : before + length conjs < 64 = ltb-true _ _ is.0 in
+      done (conjs ++ conj.0 ∷ [], conj.1) (record { few = omega (arith, length-append conjs (conj.0 ∷ [])); conjs = all_more (IsConj scope askable) conjs conj.0 are.conjs is.1 })
+
+  pub conjs_sound : (before : ℕ) (tokens : List Token) → Makes (conjs_at scope before tokens) (λ r. AreConjs scope askable before r.0)
+  unfolding conjs_at
+  conjs_sound before tokens =
+      then _ (conj_sound (nat_lt before 64) tokens) λ first is.
+      let lt : before < 64 = ltb-true _ _ is.0 in
+      each_makes (is_next (codes "||")) (next_conj scope before) (λ conjs left. AreConjs scope askable before conjs) (λ conjs left goes are. next_conj_sound before conjs left are)
+      (first.0 ∷ []) first.1 (record { few = omega arith; conjs = (is.1, tt) })

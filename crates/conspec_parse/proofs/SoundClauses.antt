@@ -1,5 +1,5 @@
 -- Every policy that is read keeps the limits and ranges, and what its parts name is there: clauses and the whole.
-use Rattle.std.proofs.Common.{◌≡◌, ℕ, zero, suc, ◌+◌, ◌<◌, ◌≤◌, ℤ, Bool, true, false, cond, List, [], ◌∷◌, ◌++◌, length, map, drop, get_or, Option, Some, Ok, Err, refl, sym, ap, subst, arith}
+use Rattle.std.proofs.Common.{◌≡◌, ℕ, zero, suc, ◌+◌, ◌<◌, ◌≤◌, ℤ, Bool, true, false, cond, List, [], ◌∷◌, ◌++◌, length, map, drop, get_or, Option, Some, None, Ok, Err, refl, sym, ap, arith}
 use Rattle.std.specs.Prelude.{ok_or, not, codes, nat_lt, nat_le, AllPairs, ◌&&◌, ◌==◌}
 use Rattle.std.specs.List.{AllByRecursion, position_from}
 use Rattle.std.proofs.lemmas.Bool.{ltb-true, leb-true, eq-eqb}
@@ -18,21 +18,22 @@ use Rattle.conspec_parse.specs.declared.types.TreeClause.{TreeClause}
 use Rattle.conspec_parse.specs.declared.types.Var.{Var}
 use Rattle.conspec_parse.specs.declared.signature.Param.{Param}
 use Rattle.conspec_parse.specs.declared.signature.Signature.{Signature}
-use Rattle.conspec_parse.specs.declared.fault.PolicyFault.TheVariants.{Syntax, NoMethod, Twice, Limit, Builtin}
-use Rattle.conspec_parse.specs.Forms.{Read, front_at, is_next, is_end, behind}
+use Rattle.conspec_parse.specs.declared.fault.PolicyFault.TheVariants.{Syntax, Kind as WrongKind, NoMethod, Twice, Limit, Builtin}
+use Rattle.conspec_parse.specs.Forms.{Read, front_at, is_next, is_end, is_some, is_short, name_at, behind}
+use Rattle.conspec_parse.specs.Head.{is_variable}
 use Rattle.conspec_parse.specs.Types.{type_at}
 use Rattle.api_listing.specs.BuiltIn.{is_built_in, is_method}
 use Rattle.api_listing.specs.Nearest.{declared_in}
 use Rattle.conspec_parse.specs.Scope.{Scope}
 use Rattle.conspec_parse.specs.Updates.{all_range_atoms}
-use Rattle.conspec_parse.specs.Methods.{phase_number, has_clause, desc_of, index_at, method_of, method_at, signature_at}
-use Rattle.conspec_parse.specs.Clauses.{branches, greater, longest_from, longest, begins_guard, guard_at, last_guard, body_at, next_phase, begins_clause, result_name_at, asked_params, scope_of, clause_of, clause_at}
+use Rattle.conspec_parse.specs.Methods.{kind_or_object, phase_number, has_clause, desc_of, index_at, method_of, method_at, signature_at}
+use Rattle.conspec_parse.specs.Clauses.{branches, greater, longest_from, longest, begins_guard, guard_at, last_guard, body_at, next_phase, begins_clause, is_after, is_assigned, given_result_at, result_name_at, scope_of, clause_of, clause_at}
 use Rattle.conspec_parse.specs.Tokens.{tokens_of}
 use Rattle.conspec_parse.specs.Policy.{policy_at, reading}
-use Rattle.conspec_parse.specs.Tree.{asked, AreAtoms, IsGuardIn, IsClauseIn, Differ, IsPolicyTree}
+use Rattle.conspec_parse.specs.Tree.{Askable, asked, AreAtoms, IsGuardIn, IsClauseIn, Differ, IsPolicyTree}
 use Rattle.conspec_parse.proofs.Branches.{branches_more}
 use Rattle.conspec_parse.proofs.Made.{Makes, done, then, tested, either, failed, any, given, each_makes}
-use Rattle.conspec_parse.proofs.Sound.{all_more, no_pairs, neither, is_not, room_for_one, IsConj, conjs_sound, variables_sound, header_sound}
+use Rattle.conspec_parse.proofs.Sound.{all_more, no_pairs, neither, both, Asks, is_not, room_for_one, IsConj, conjs_sound, variables_sound, header_sound}
 use Rattle.conspec_parse.proofs.SoundUpdates.{AreUpdates, block_sound}
 
 -- ---- the longest branch
@@ -43,11 +44,11 @@ longest_grows most (c ∷ conjs) =
     let more = longest_grows (greater most (length c)) conjs in
     grind (arith, nat_tests)
 
-pub longest_low : (scope : Scope) (most : ℕ) (conjs : List (List Atom)) → AllByRecursion (IsConj scope) conjs → most ≤ 16 → longest_from most conjs ≤ 16
-longest_low scope most [] are low = low
-longest_low scope most (c ∷ conjs) are low =
+pub longest_low : (scope : Scope) (askable : Askable) (most : ℕ) (conjs : List (List Atom)) → AllByRecursion (IsConj scope askable) conjs → most ≤ 16 → longest_from most conjs ≤ 16
+longest_low scope askable most [] are low = low
+longest_low scope askable most (c ∷ conjs) are low =
     let few = are.0.few in
-    longest_low scope (greater most (length c)) conjs are.1 (grind (arith, nat_tests))
+    longest_low scope askable (greater most (length c)) conjs are.1 (grind (arith, nat_tests))
 
 pub all_short : (most more : ℕ) (conjs : List (List Atom)) → longest_from most conjs + more ≤ 16 → AllByRecursion (λ (conj : List Atom). length conj + more ≤ 16) conjs
 all_short most more [] low = tt
@@ -57,40 +58,40 @@ all_short most more (c ∷ conjs) low =
 
 -- ---- guards
 
-pub record AreGuards (scope : Scope) (maxint : ℤ) (read : List Guard) : Type 0 where
+pub record AreGuards (scope : Scope) (maxint : ℤ) (askable : Askable) (read : List Guard) : Type 0 where
   pub few : branches read ≤ 64
-  pub guards : AllByRecursion (IsGuardIn scope.vars maxint (length scope.args)) read
+  pub guards : AllByRecursion (IsGuardIn scope.vars maxint askable) read
 
-guard_is : (scope : Scope) (maxint : ℤ) (before atoms : ℕ) (g : Guard) → AllByRecursion (IsConj scope) g.conjs → AreUpdates scope.vars maxint atoms g.updates
-    → AllByRecursion (λ (conj : List Atom). length conj + all_range_atoms g.updates ≤ 16) g.conjs → IsGuardIn scope.vars maxint (length scope.args) g
-guard_is scope maxint before atoms g conjs updates short = record {
+guard_is : (scope : Scope) (askable : Askable) (maxint : ℤ) (before atoms : ℕ) (g : Guard) → AllByRecursion (IsConj scope askable) g.conjs → AreUpdates scope.vars maxint atoms g.updates
+    → AllByRecursion (λ (conj : List Atom). length conj + all_range_atoms g.updates ≤ 16) g.conjs → IsGuardIn scope.vars maxint askable g
+guard_is scope askable maxint before atoms g conjs updates short = record {
   atoms = atoms_of g.conjs conjs;
   updates = updates.updates;
   once = updates.once;
   short = short;
 } where
-  atoms_of : (cs : List (List Atom)) → AllByRecursion (IsConj scope) cs → AllByRecursion (AreAtoms (length scope.vars) (length scope.args)) cs
+  atoms_of : (cs : List (List Atom)) → AllByRecursion (IsConj scope askable) cs → AllByRecursion (AreAtoms (length scope.vars) askable) cs
   atoms_of [] are = tt
   atoms_of (c ∷ cs) are = (are.0.atoms, atoms_of cs are.1)
 
-guard_sound : (scope : Scope) (maxint : ℤ) (guards : List Guard) (tokens : List Token) → AreGuards scope maxint guards
-    → Makes (guard_at scope maxint guards tokens) (λ r. AreGuards scope maxint r.0)
+guard_sound : (scope : Scope) (askable : Askable) (maxint : ℤ) (guards : List Guard) (tokens : List Token) → Asks scope askable → AreGuards scope maxint askable guards
+    → Makes (guard_at scope maxint guards tokens) (λ r. AreGuards scope maxint askable r.0)
 unfolding guard_at
-guard_sound scope maxint guards tokens are =
-    then _ (conjs_sound scope (branches guards) tokens) λ conjs cs.
+guard_sound scope askable maxint guards tokens asks are =
+    then _ (conjs_sound scope askable asks (branches guards) tokens) λ conjs cs.
     then _ (any (behind (codes "->") conjs.1)) λ arrow a.
-    then _ (block_sound scope.vars maxint (longest conjs.0) arrow (longest_low scope 0 conjs.0 cs.conjs (omega arith))) λ updates us.
+    then _ (block_sound scope.vars maxint (longest conjs.0) arrow (longest_low scope askable 0 conjs.0 cs.conjs (omega arith))) λ updates us.
     let g : Guard = record { conjs = conjs.0; updates = updates.0 } in
     let few = cs.few in
     done (guards ++ (record { conjs = conjs.0; updates = updates.0 }) ∷ [], updates.1) (record {
       few = omega (arith, branches_more guards g);
-      guards = all_more (IsGuardIn scope.vars maxint (length scope.args)) guards g are.guards (guard_is scope maxint (branches guards) (longest conjs.0) g cs.conjs us (all_short 0 (all_range_atoms updates.0) conjs.0 us.short));
+      guards = all_more (IsGuardIn scope.vars maxint askable) guards g are.guards (guard_is scope askable maxint (branches guards) (longest conjs.0) g cs.conjs us (all_short 0 (all_range_atoms updates.0) conjs.0 us.short));
     })
 
-last_guard_sound : (scope : Scope) (maxint : ℤ) (guards : List Guard) (tokens : List Token) → AreGuards scope maxint guards
-    → Makes (last_guard scope maxint guards tokens) (λ r. AreGuards scope maxint r.0)
+last_guard_sound : (scope : Scope) (askable : Askable) (maxint : ℤ) (guards : List Guard) (tokens : List Token) → AreGuards scope maxint askable guards
+    → Makes (last_guard scope maxint guards tokens) (λ r. AreGuards scope maxint askable r.0)
 unfolding last_guard
-last_guard_sound scope maxint guards tokens are =
+last_guard_sound scope askable maxint guards tokens are =
     tested (nat_lt (branches guards) 64) (Limit (front_at tokens)) _ λ few.
     then _ (any (behind (codes "->") (drop 1 tokens))) λ arrow a.
     then _ (block_sound scope.vars maxint 0 arrow (omega arith)) λ updates us.
@@ -98,15 +99,15 @@ last_guard_sound scope maxint guards tokens are =
     let room : branches guards < 64 = ltb-true _ _ few in
     done (guards ++ (record { conjs = [] ∷ []; updates = updates.0 }) ∷ [], updates.1) (record {
       few = omega (arith, branches_more guards g);
-      guards = all_more (IsGuardIn scope.vars maxint (length scope.args)) guards g are.guards (guard_is scope maxint (branches guards) 0 g (record { few = omega arith; atoms = tt }, tt) us (us.short, tt));
+      guards = all_more (IsGuardIn scope.vars maxint askable) guards g are.guards (guard_is scope askable maxint (branches guards) 0 g (record { few = omega arith; atoms = tt }, tt) us (us.short, tt));
     })
 
-pub body_sound : (scope : Scope) (maxint : ℤ) (tokens : List Token) → Makes (body_at scope maxint tokens) (λ r. AreGuards scope maxint r.0)
+pub body_sound : (scope : Scope) (askable : Askable) (maxint : ℤ) (tokens : List Token) → Asks scope askable → Makes (body_at scope maxint tokens) (λ r. AreGuards scope maxint askable r.0)
 unfolding body_at
-body_sound scope maxint tokens =
-    then _ (each_makes begins_guard (guard_at scope maxint) (λ guards left. AreGuards scope maxint guards) (λ guards left goes are. guard_sound scope maxint guards left are)
+body_sound scope askable maxint tokens asks =
+    then _ (each_makes begins_guard (guard_at scope maxint) (λ guards left. AreGuards scope maxint askable guards) (λ guards left goes are. guard_sound scope askable maxint guards left asks are)
     [] tokens (record { few = omega arith; guards = tt })) λ guards are.
-    either (is_next (codes "ELSE") guards.1) _ _ (λ holds. last_guard_sound scope maxint guards.0 guards.1 are) (λ fails. done (guards.0, guards.1) are)
+    either (is_next (codes "ELSE") guards.1) _ _ (λ holds. last_guard_sound scope askable maxint guards.0 guards.1 are) (λ fails. done (guards.0, guards.1) are)
 
 -- ---- methods
 
@@ -145,10 +146,44 @@ method_sound methods vars clauses phase result tokens = by (signature_at false v
 
 -- ---- clauses
 
-asked_count : (phase : Phase) (params : List Param) → length (asked_params phase params) ≡ asked phase (length (map (λ (p : Param). p.kind) params))
-asked_count Before params = sym (length-map params (λ (p : Param). p.kind))
-asked_count After params = refl
-asked_count Exceptional params = refl
+-- A result has a name only at the return of a method that gives one.
+abbrev IsNamedAt : Phase → Option Kind → Option (List ℕ) → Type 0
+IsNamedAt phase kind result = (name : List ℕ) → result ≡ Some name → (phase ≡ After) × (Some (kind_or_object kind) ≡ kind)
+
+given_kind : (kind : Option Kind) → is_some kind ≡ true → Some (kind_or_object kind) ≡ kind
+given_kind None is = absurd cc
+given_kind (Some kind) is = refl
+
+at_after : (phase : Phase) → is_after phase ≡ true → phase ≡ After
+at_after Before is = absurd cc
+at_after After is = refl
+at_after Exceptional is = absurd cc
+
+given_result_sound : (vars : List Var) (kind : Option Kind) (tokens : List Token)
+    → Makes (given_result_at vars kind tokens) (λ r. Some (kind_or_object kind) ≡ kind)
+unfolding given_result_at
+given_result_sound vars kind tokens =
+    then _ (any (name_at tokens)) λ name a.
+    tested (is_some kind) (WrongKind (front_at tokens)) _ λ valued.
+    tested (not (is_variable vars name.0)) (Twice (front_at tokens)) _ λ once.
+    tested (is_short name.0) (Limit (front_at tokens)) _ λ short.
+    then _ (any (behind (codes "=") name.1)) λ equals b.
+    done (name.0, equals) (given_kind kind valued)
+
+result_sound : (vars : List Var) (phase : Phase) (kind : Option Kind) (tokens : List Token)
+    → Makes (result_name_at vars phase kind tokens) (λ r. IsNamedAt phase kind r.0)
+result_sound vars phase kind tokens =
+    either (is_after phase && is_assigned tokens) _ _
+    (λ holds. then _ (given_result_sound vars kind tokens) λ name given.
+    done (Some name.0, name.1) (λ word is. (at_after phase (both (is_after phase) (is_assigned tokens) holds).0, given)))
+    (λ fails. done (None, tokens) (λ word is. absurd cc))
+
+-- What a clause may ask is what its event has.
+asks_event : (vars : List Var) (phase : Phase) (params : List Param) (result : Option (List ℕ)) (kind : Option Kind) → IsNamedAt phase kind result
+    → Asks (scope_of vars phase params result kind) (asked phase (map (λ (p : Param). p.kind) params) kind)
+asks_event vars Before params result kind is = record { args = refl; result = λ name has. absurd (let at : Before ≡ After = (is name has).0 in cc) }
+asks_event vars After params result kind is = record { args = refl; result = λ name has. sym (is name has).1 }
+asks_event vars Exceptional params result kind is = record { args = refl; result = λ name has. absurd (let at : Exceptional ≡ After = (is name has).0 in cc) }
 
 pub record AreClauses (methods : List ListedMethod) (vars : List Var) (maxint : ℤ) (read : List TreeClause) : Type 0 where
   pub few : length read ≤ 64
@@ -169,7 +204,7 @@ unclaimed (c ∷ clauses) new fails (suc k) d lt =
 
 clause_is : (methods : List ListedMethod) (vars : List Var) (maxint : ℤ) (clauses : List TreeClause) (phase : Phase) (method : ℕ) (params : List Param)
     (result : Option (List ℕ)) (kind : Option Kind) (guards : List Guard) → nat_lt (length clauses) 64 ≡ true → IsMethodOf methods clauses phase method params
-    → AreGuards (scope_of vars phase params result kind) maxint guards → AreClauses methods vars maxint clauses
+    → AreGuards (scope_of vars phase params result kind) maxint (asked phase (map (λ (p : Param). p.kind) params) kind) guards → AreClauses methods vars maxint clauses
     → AreClauses methods vars maxint (clauses ++ clause_of method phase params kind guards ∷ [])
 clause_is methods vars maxint clauses phase method params result kind guards few is gs are =
     let new = clause_of method phase params kind guards in
@@ -180,7 +215,7 @@ clause_is methods vars maxint clauses phase method params result kind guards few
         method = is.listed;
         few_args = omega (arith, length-map params (λ (p : Param). p.kind));
         few_branches = gs.few;
-        guards = subst (λ (n : ℕ). AllByRecursion (IsGuardIn vars maxint n) guards) (asked_count phase params) gs.guards;
+        guards = gs.guards;
       });
       once = all_pairs_push Differ clauses new are.once (unclaimed clauses new is.once);
     }
@@ -192,10 +227,11 @@ clause_sound methods vars maxint clauses tokens are =
     tested (nat_lt (length clauses) 64) (Limit (front_at tokens)) _ λ few.
     then _ (any (ok_or (next_phase tokens) (Syntax (front_at tokens)))) λ phase a.
     then _ (any (type_at true (drop 1 tokens))) λ type b.
-    then _ (any (result_name_at vars phase type.0.kind type.1)) λ result c.
+    then _ (result_sound vars phase type.0.kind type.1) λ result named.
     then _ (method_sound methods vars clauses phase type.0.desc result.1) λ method is.
     then _ (any (behind (codes "PERFORM") method.1)) λ performs d.
-    then _ (body_sound (scope_of vars phase method.0.1 result.0 type.0.kind) maxint performs) λ guards gs.
+    then _ (body_sound (scope_of vars phase method.0.1 result.0 type.0.kind) (asked phase (map (λ (p : Param). p.kind) method.0.1) type.0.kind) maxint performs
+    (asks_event vars phase method.0.1 result.0 type.0.kind named)) λ guards gs.
     done (clauses ++ clause_of method.0.0 phase method.0.1 type.0.kind guards.0 ∷ [], guards.1) (clause_is methods vars maxint clauses phase method.0.0 method.0.1 result.0 type.0.kind guards.0 few is gs are)
 
 pub policy_at_sound : (listing : Listing) (tokens : List Token) → Makes (policy_at listing.methods tokens) (IsPolicyTree listing)

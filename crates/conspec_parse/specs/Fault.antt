@@ -17,25 +17,3 @@ number_of faults.Memory = 0
 -- what is read of a policy, or why it is none
 abbrev pub Judged : Type 0 → Type 0
 Judged X = Result X PolicyFault
-
--- A call failed as the reading does, or for want of memory.
-abbrev pub Fails : {X : Type 0} → PolicyFault → Judged X → Type 0
-Fails faults.Memory read = Unit {0}
-Fails (faults.Syntax at) read = read ≡ Err (faults.Syntax at)
-Fails (faults.Name at) read = read ≡ Err (faults.Name at)
-Fails (faults.Kind at) read = read ≡ Err (faults.Kind at)
-Fails (faults.Range at) read = read ≡ Err (faults.Range at)
-Fails (faults.NoMethod at) read = read ≡ Err (faults.NoMethod at)
-Fails (faults.Twice at) read = read ≡ Err (faults.Twice at)
-Fails (faults.Limit at) read = read ≡ Err (faults.Limit at)
-Fails (faults.Builtin at) read = read ≡ Err (faults.Builtin at)
-
--- A call answered what reading gives, unless memory ran out.
-abbrev pub Reads : {X : Type 0} → Judged X → Judged X → Type 0
-Reads (Ok x) read = read ≡ Ok x
-Reads (Err e) read = Fails e read
-
--- the same of an answer that is seen by view
-abbrev pub ReadsAs : {X Y : Type 0} → (X → Y) → Judged X → Judged Y → Type 0
-ReadsAs view (Ok x) read = read ≡ Ok (view x)
-ReadsAs view (Err e) read = Fails e read

@@ -1,4 +1,5 @@
 pub mod Clauses
+pub mod Deciding
 pub mod Fault
 pub mod Forms
 pub mod Guards

@@ -1,10 +1,12 @@
--- What is true of every policy that is read: its limits and ranges, and that what its parts name is there.
-use Rattle.std.specs.Prelude.{◌≡◌, ◌≢◌, ℕ, ◌+◌, ◌<◌, ◌≤◌, ℤ, pos, neg_ℤ, ◌≤ℤ◌, Bool, true, false, List, length, slice_get, Some, AllPairs}
+-- What is true of every policy that is read: its limits and ranges, and that what its parts name is there, and can be asked.
+use Rattle.std.specs.Prelude.{◌≡◌, ◌≢◌, ℕ, ◌+◌, ◌<◌, ◌≤◌, ℤ, pos, neg_ℤ, ◌≤ℤ◌, Bool, true, false, List, [], length, slice_get, Option, Some, None, AllPairs}
 use Rattle.std.specs.List.{AllByRecursion}
 use Rattle.api_listing.specs.declared.types.Listing.{Listing}
 use Rattle.conspec_parse.specs.declared.types.Atom.{Atom}
 use Rattle.conspec_parse.specs.declared.types.Base.{Base}
 use Rattle.conspec_parse.specs.declared.types.Base.TheVariants as bases
+use Rattle.conspec_parse.specs.declared.types.Kind.{Kind}
+use Rattle.conspec_parse.specs.declared.types.Kind.TheVariants as kinds
 use Rattle.conspec_parse.specs.declared.types.Phase.{Phase}
 use Rattle.conspec_parse.specs.declared.types.Phase.TheVariants as phases
 use Rattle.conspec_parse.specs.declared.types.Update.{Update}
@@ -25,19 +27,30 @@ pub record IsInRange (maxint : ℤ) (is_bool : Bool) (value : ℤ) : Type 0 wher
   pub low : pos 0 ≤ℤ value
   pub high : value ≤ℤ greatest maxint is_bool
 
--- how many arguments may be asked: those of a call
-abbrev pub asked : Phase → ℕ → ℕ
-asked phases.Before args = args
-asked other args = 0
+-- what may be asked at an event beside the variables: the kinds of the arguments, and that of the result
+pub record Askable : Type 0 where
+  pub args : List Kind
+  pub result : Option Kind
 
--- There are so many variables and arguments that the base is one of them.
-abbrev pub IsBase : ℕ → ℕ → Base → Type 0
-IsBase vars args (bases.Var i) = i < vars
-IsBase vars args (bases.Arg i) = i < args
-IsBase vars args bases.Result = Unit {0}
+-- At a call these are the arguments, and at a return the result, where the method gives one.
+abbrev pub asked : Phase → List Kind → Option Kind → Askable
+asked phases.Before args result = record { args = args; result = None }
+asked phases.After args result = record { args = []; result = result }
+asked phases.Exceptional args result = record { args = []; result = None }
 
-abbrev pub AreAtoms : ℕ → ℕ → List Atom → Type 0
-AreAtoms vars args atoms = AllByRecursion (λ a. IsBase vars args a.base) atoms
+-- There is such a value, and it is a number or a truth value.
+abbrev pub IsNumber : Option Kind → Type 0
+IsNumber None = ⊥
+IsNumber (Some kind) = kind ≢ kinds.Object
+
+-- The base is one of so many variables, or a number or truth value that may be asked.
+abbrev pub IsBase : ℕ → Askable → Base → Type 0
+IsBase vars askable (bases.Var i) = i < vars
+IsBase vars askable (bases.Arg i) = IsNumber (slice_get askable.args i)
+IsBase vars askable bases.Result = IsNumber askable.result
+
+abbrev pub AreAtoms : ℕ → Askable → List Atom → Type 0
+AreAtoms vars askable atoms = AllByRecursion (λ a. IsBase vars askable a.base) atoms
 
 -- A variable is set to a value of its range, or an int variable is changed by at most 1,000,000,000.
 abbrev pub IsUpdateOf : ℤ → Var → Update → Type 0
@@ -51,8 +64,8 @@ pub record IsUpdateIn (vars : List Var) (maxint : ℤ) (update : Update) : Type 
   pub fits : IsUpdateOf maxint variable update
 
 -- Each variable is updated once, and no branch has more than 16 atoms with the range atoms of the updates.
-pub record IsGuardIn (vars : List Var) (maxint : ℤ) (args : ℕ) (guard : Guard) : Type 0 where
-  pub atoms : AllByRecursion (AreAtoms (length vars) args) guard.conjs
+pub record IsGuardIn (vars : List Var) (maxint : ℤ) (askable : Askable) (guard : Guard) : Type 0 where
+  pub atoms : AllByRecursion (AreAtoms (length vars) askable) guard.conjs
   pub updates : AllByRecursion (IsUpdateIn vars maxint) guard.updates
   pub once : AllPairs (λ u w. target u ≢ target w) guard.updates
   pub short : AllByRecursion (λ conj. length conj + all_range_atoms guard.updates ≤ 16) guard.conjs
@@ -62,7 +75,7 @@ pub record IsClauseIn (methods : ℕ) (vars : List Var) (maxint : ℤ) (clause :
   pub method : clause.method < methods
   pub few_args : length clause.args ≤ 255
   pub few_branches : branches clause.guards ≤ 64
-  pub guards : AllByRecursion (IsGuardIn vars maxint (asked clause.phase (length clause.args))) clause.guards
+  pub guards : AllByRecursion (IsGuardIn vars maxint (asked clause.phase clause.args clause.result)) clause.guards
 
 -- Two clauses are for different events.
 abbrev pub Differ : TreeClause → TreeClause → Type 0

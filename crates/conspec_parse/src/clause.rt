@@ -1,7 +1,7 @@
 //! Clauses: the events of a method, and what is asked and done there.
 
 ghost use Rattle.std.specs.Prelude.{◌≡◌, ◌≤◌, ◌<◌, ◌^◌, [], length, map, IfOk};
-ghost use Rattle.conspec_parse.specs.Fault.{ReadsAs};
+ghost use Rattle.mon_base.specs.Answer.{AnswersAs};
 ghost use Rattle.conspec_parse.specs.Forms.{each};
 ghost use Rattle.conspec_parse.specs.Scope.{HasFewNames};
 ghost use Rattle.conspec_parse.specs.Clauses.{
@@ -88,7 +88,7 @@ fn guard_at<'a>(
 ) -> Result<(List<Guard>, &'a [Token]), PolicyFault>
     requires few { HasFewNames names.now }
     requires within { branches guards ≤ 64 }
-    ensures exact { ReadsAs (λ r. (r.0, r.1.now)) result (guard_at names.now maxint guards tokens.now) }
+    ensures exact { AnswersAs PolicyFault.Memory (λ r. (r.0, r.1.now)) result (guard_at names.now maxint guards tokens.now) }
     ensures within { IfOk result (λ r. branches r.0 ≤ 64) }
 {
     let before = branches(guards.as_slice());
@@ -108,7 +108,8 @@ fn guards_at<'a>(
     tokens: &'a [Token],
 ) -> Result<(List<Guard>, &'a [Token]), PolicyFault>
     requires { HasFewNames names.now }
-    ensures exact { ReadsAs (λ r. (r.0, r.1.now)) result (each begins_guard (guard_at names.now maxint) [] tokens.now) }
+    ensures exact { AnswersAs PolicyFault.Memory (λ r. (r.0, r.1.now)) result
+        (each begins_guard (guard_at names.now maxint) [] tokens.now) }
     ensures within { IfOk result (λ r. branches r.0 ≤ 64) }
 {
     let mut guards = List::new(alloc);
@@ -135,7 +136,7 @@ fn last_guard<'a>(
 ) -> Result<(List<Guard>, &'a [Token]), PolicyFault>
     requires few { HasFewNames names.now }
     requires within { branches guards ≤ 64 }
-    ensures { ReadsAs (λ r. (r.0, r.1.now)) result (last_guard names.now maxint guards tokens.now) }
+    ensures { AnswersAs PolicyFault.Memory (λ r. (r.0, r.1.now)) result (last_guard names.now maxint guards tokens.now) }
 {
     if branches(guards.as_slice()) >= 64 {
         return Err(PolicyFault::Limit {
@@ -160,7 +161,7 @@ fn with_else<'a>(
 ) -> Result<(List<Guard>, &'a [Token]), PolicyFault>
     requires few { HasFewNames names.now }
     requires within { branches guards ≤ 64 }
-    ensures { ReadsAs (λ r. (r.0, r.1.now)) result (with_else names.now maxint guards tokens.now) }
+    ensures { AnswersAs PolicyFault.Memory (λ r. (r.0, r.1.now)) result (with_else names.now maxint guards tokens.now) }
 {
     if is_next("ELSE", tokens) {
         last_guard(alloc, names, maxint, guards, tokens)
@@ -178,7 +179,7 @@ fn body_at<'a>(
     tokens: &'a [Token],
 ) -> Result<(List<Guard>, &'a [Token]), PolicyFault>
     requires { HasFewNames names.now }
-    ensures { ReadsAs (λ r. (r.0, r.1.now)) result (body_at names.now maxint tokens.now) }
+    ensures { AnswersAs PolicyFault.Memory (λ r. (r.0, r.1.now)) result (body_at names.now maxint tokens.now) }
 {
     let (guards, rest) = guards_at(alloc, names, maxint, tokens)?;
     with_else(alloc, names, maxint, guards, rest)
@@ -227,7 +228,7 @@ fn given_result_at<'a>(
     kind: Option<Kind>,
     tokens: &'a [Token],
 ) -> Result<(&'a [u8], &'a [Token]), PolicyFault>
-    ensures { ReadsAs (λ r. (r.0.now, r.1.now)) result (given_result_at vars.now kind tokens.now) }
+    ensures { AnswersAs PolicyFault.Memory (λ r. (r.0.now, r.1.now)) result (given_result_at vars.now kind tokens.now) }
 {
     let (name, equals) = name_at(tokens)?;
     if kind.is_none() {
@@ -256,7 +257,7 @@ fn result_name_at<'a>(
     kind: Option<Kind>,
     tokens: &'a [Token],
 ) -> Result<(Option<Bytes>, &'a [Token]), PolicyFault>
-    ensures { ReadsAs (λ r. (r.0, r.1.now)) result (result_name_at vars.now phase kind tokens.now) }
+    ensures { AnswersAs PolicyFault.Memory (λ r. (r.0, r.1.now)) result (result_name_at vars.now phase kind tokens.now) }
 {
     if is_after(phase) && is_assigned(tokens) {
         let (name, rest) = given_result_at(vars, kind, tokens)?;
@@ -299,7 +300,7 @@ fn clause_at<'a>(
 ) -> Result<(List<TreeClause>, &'a [Token]), PolicyFault>
     requires listed { length methods.now < 2 ^ 32 }
     requires few { length vars.now ≤ 16 }
-    ensures { ReadsAs (λ r. (r.0, r.1.now)) result (clause_at methods.now vars.now maxint clauses tokens.now) }
+    ensures { AnswersAs PolicyFault.Memory (λ r. (r.0, r.1.now)) result (clause_at methods.now vars.now maxint clauses tokens.now) }
 {
     if clauses.len() >= 64 {
         return Err(PolicyFault::Limit {
@@ -349,7 +350,7 @@ pub fn clauses_at<'a>(
 ) -> Result<(List<TreeClause>, &'a [Token]), PolicyFault>
     requires listed { length methods.now < 2 ^ 32 }
     requires few { length vars.now ≤ 16 }
-    ensures { ReadsAs (λ r. (r.0, r.1.now)) result
+    ensures { AnswersAs PolicyFault.Memory (λ r. (r.0, r.1.now)) result
         (each begins_clause (clause_at methods.now vars.now maxint) [] tokens.now) }
 {
     let mut clauses = List::new(alloc);

@@ -1,7 +1,7 @@
 //! The forms in which tokens are read, one after another.
 
 ghost use Rattle.std.specs.Prelude.{◌≡◌, drop, option_copied};
-ghost use Rattle.conspec_parse.specs.Fault.{ReadsAs};
+ghost use Rattle.mon_base.specs.Answer.{AnswersAs};
 ghost use Rattle.conspec_parse.specs.Forms.{
   front_at,
   quotes,
@@ -82,7 +82,7 @@ pub fn is_end(tokens: &[Token]) -> bool
 
 /// The tokens behind this keyword or sign, which has to stand first.
 pub fn behind<'a>(text: &str, tokens: &'a [Token]) -> Result<&'a [Token], PolicyFault>
-    ensures { ReadsAs (λ r. r.now) result (behind text.now tokens.now) }
+    ensures { AnswersAs PolicyFault.Memory (λ r. r.now) result (behind text.now tokens.now) }
 {
     if is_next(text, tokens) {
         Ok(rest_of(tokens))
@@ -120,7 +120,7 @@ pub fn is_name(tokens: &[Token]) -> bool
 
 /// The name that has to stand first, and the tokens behind it.
 pub fn name_at(tokens: &[Token]) -> Result<(&[u8], &[Token]), PolicyFault>
-    ensures { ReadsAs (λ r. (r.0.now, r.1.now)) result (name_at tokens.now) }
+    ensures { AnswersAs PolicyFault.Memory (λ r. (r.0.now, r.1.now)) result (name_at tokens.now) }
 {
     match next_name(tokens) {
         Some(name) => Ok((name, rest_of(tokens))),
@@ -150,7 +150,7 @@ fn next_number(tokens: &[Token]) -> Option<u64>
 
 /// The number that has to stand first, and the tokens behind it.
 pub fn number_at(tokens: &[Token]) -> Result<(u64, &[Token]), PolicyFault>
-    ensures { ReadsAs (λ r. (r.0, r.1.now)) result (number_at tokens.now) }
+    ensures { AnswersAs PolicyFault.Memory (λ r. (r.0, r.1.now)) result (number_at tokens.now) }
 {
     match next_number(tokens) {
         Some(number) => Ok((number, rest_of(tokens))),

@@ -1,7 +1,7 @@
 //! Guards: atoms over the variables, the arguments and the result.
 
 ghost use Rattle.std.specs.Prelude.{◌≡◌, ◌+◌, ◌≤◌, length, codes, IfOk, IsTrue};
-ghost use Rattle.conspec_parse.specs.Fault.{ReadsAs};
+ghost use Rattle.mon_base.specs.Answer.{AnswersAs};
 ghost use Rattle.conspec_parse.specs.Forms.{is_next, taken, each};
 ghost use Rattle.conspec_parse.specs.Scope.{HasFewNames};
 ghost use Rattle.conspec_parse.specs.Guards.{
@@ -79,7 +79,7 @@ fn is_equality(rel: Rel) -> bool
 
 #[tactic(auto, unfolding(crate::specs::Guards::truth_value))]
 fn truth_value(value: u8, truth: bool, tokens: &[Token]) -> Result<(i32, &[Token]), PolicyFault>
-    ensures { ReadsAs (λ r. (r.0, r.1.now)) result (truth_value value truth tokens.now) }
+    ensures { AnswersAs PolicyFault.Memory (λ r. (r.0, r.1.now)) result (truth_value value truth tokens.now) }
 {
     if !truth {
         return Err(PolicyFault::Kind {
@@ -91,7 +91,7 @@ fn truth_value(value: u8, truth: bool, tokens: &[Token]) -> Result<(i32, &[Token
 
 #[tactic(auto, unfolding(crate::specs::Guards::negative_at))]
 fn negative_at(truth: bool, tokens: &[Token]) -> Result<(i32, &[Token]), PolicyFault>
-    ensures { ReadsAs (λ r. (r.0, r.1.now)) result (negative_at truth tokens.now) }
+    ensures { AnswersAs PolicyFault.Memory (λ r. (r.0, r.1.now)) result (negative_at truth tokens.now) }
 {
     if truth {
         return Err(PolicyFault::Kind {
@@ -109,7 +109,7 @@ fn negative_at(truth: bool, tokens: &[Token]) -> Result<(i32, &[Token]), PolicyF
 
 #[tactic(auto, unfolding(crate::specs::Guards::positive_at))]
 fn positive_at(truth: bool, tokens: &[Token]) -> Result<(i32, &[Token]), PolicyFault>
-    ensures { ReadsAs (λ r. (r.0, r.1.now)) result (positive_at truth tokens.now) }
+    ensures { AnswersAs PolicyFault.Memory (λ r. (r.0, r.1.now)) result (positive_at truth tokens.now) }
 {
     let (number, rest) = number_at(tokens)?;
     if truth {
@@ -127,7 +127,7 @@ fn positive_at(truth: bool, tokens: &[Token]) -> Result<(i32, &[Token]), PolicyF
 
 /// The constant, for a bool or for a number, that has to stand first, and the tokens behind it.
 pub fn constant_at(truth: bool, tokens: &[Token]) -> Result<(i32, &[Token]), PolicyFault>
-    ensures { ReadsAs (λ r. (r.0, r.1.now)) result (constant_at truth tokens.now) }
+    ensures { AnswersAs PolicyFault.Memory (λ r. (r.0, r.1.now)) result (constant_at truth tokens.now) }
 {
     if is_next("true", tokens) {
         truth_value(1, truth, tokens)
@@ -142,7 +142,7 @@ pub fn constant_at(truth: bool, tokens: &[Token]) -> Result<(i32, &[Token]), Pol
 
 /// The relation that has to stand first, and the tokens behind it.
 fn rel_at(tokens: &[Token]) -> Result<(Rel, &[Token]), PolicyFault>
-    ensures { ReadsAs (λ r. (r.0, r.1.now)) result (taken (next_rel tokens.now) tokens.now) }
+    ensures { AnswersAs PolicyFault.Memory (λ r. (r.0, r.1.now)) result (taken (next_rel tokens.now) tokens.now) }
 {
     match next_rel(tokens) {
         Some(rel) => Ok((rel, rest_of(tokens))),
@@ -160,7 +160,7 @@ fn atom_at<'a>(
     tokens: &'a [Token],
 ) -> Result<(Atom, &'a [Token]), PolicyFault>
     requires { HasFewNames names.now }
-    ensures exact { ReadsAs (λ r. (r.0, r.1.now)) result (atom_at names.now room tokens.now) }
+    ensures exact { AnswersAs PolicyFault.Memory (λ r. (r.0, r.1.now)) result (atom_at names.now room tokens.now) }
     ensures room { IfOk result (λ r. IsTrue room) }
 {
     let (name, compared) = name_at(tokens)?;
@@ -201,7 +201,7 @@ fn next_atom<'a>(
     tokens: &'a [Token],
 ) -> Result<(List<Atom>, &'a [Token]), PolicyFault>
     requires { HasFewNames names.now }
-    ensures { ReadsAs (λ r. (r.0, r.1.now)) result (next_atom names.now atoms tokens.now) }
+    ensures { AnswersAs PolicyFault.Memory (λ r. (r.0, r.1.now)) result (next_atom names.now atoms tokens.now) }
 {
     let room = atoms.len() < 16;
     let (atom, rest) = atom_at(names, room, behind("&&", tokens)?)?;
@@ -216,7 +216,8 @@ fn atoms_from<'a>(
     tokens: &'a [Token],
 ) -> Result<(List<Atom>, &'a [Token]), PolicyFault>
     requires { HasFewNames names.now }
-    ensures { ReadsAs (λ r. (r.0, r.1.now)) result (each (is_next (codes "&&")) (next_atom names.now) first tokens.now) }
+    ensures { AnswersAs PolicyFault.Memory (λ r. (r.0, r.1.now)) result
+        (each (is_next (codes "&&")) (next_atom names.now) first tokens.now) }
 {
     let mut atoms = first;
     let mut left = tokens;
@@ -237,7 +238,7 @@ fn no_atoms(
     room: bool,
     tokens: &[Token],
 ) -> Result<(List<Atom>, &[Token]), PolicyFault>
-    ensures exact { ReadsAs (λ r. (r.0, r.1.now)) result (no_atoms room tokens.now) }
+    ensures exact { AnswersAs PolicyFault.Memory (λ r. (r.0, r.1.now)) result (no_atoms room tokens.now) }
     ensures room { IfOk result (λ r. IsTrue room) }
 {
     if !room {
@@ -256,7 +257,7 @@ fn atoms_at<'a>(
     tokens: &'a [Token],
 ) -> Result<(List<Atom>, &'a [Token]), PolicyFault>
     requires { HasFewNames names.now }
-    ensures exact { ReadsAs (λ r. (r.0, r.1.now)) result (atoms_at names.now room tokens.now) }
+    ensures exact { AnswersAs PolicyFault.Memory (λ r. (r.0, r.1.now)) result (atoms_at names.now room tokens.now) }
     ensures room { IfOk result (λ r. IsTrue room) }
 {
     let (atom, rest) = atom_at(names, room, tokens)?;
@@ -272,7 +273,7 @@ fn conj_at<'a>(
     tokens: &'a [Token],
 ) -> Result<(List<Atom>, &'a [Token]), PolicyFault>
     requires { HasFewNames names.now }
-    ensures exact { ReadsAs (λ r. (r.0, r.1.now)) result (conj_at names.now room tokens.now) }
+    ensures exact { AnswersAs PolicyFault.Memory (λ r. (r.0, r.1.now)) result (conj_at names.now room tokens.now) }
     ensures room { IfOk result (λ r. IsTrue room) }
 {
     if is_next("true", tokens) {
@@ -293,7 +294,7 @@ fn next_conj<'a>(
 ) -> Result<(List<List<Atom>>, &'a [Token]), PolicyFault>
     requires few { HasFewNames names.now }
     requires within { before + length conjs ≤ 64 }
-    ensures exact { ReadsAs (λ r. (r.0, r.1.now)) result (next_conj names.now before conjs tokens.now) }
+    ensures exact { AnswersAs PolicyFault.Memory (λ r. (r.0, r.1.now)) result (next_conj names.now before conjs tokens.now) }
     ensures within { IfOk result (λ r. before + length r.0 ≤ 64) }
 {
     let room = before + conjs.len() < 64;
@@ -312,7 +313,7 @@ fn conjs_from<'a>(
 ) -> Result<(List<List<Atom>>, &'a [Token]), PolicyFault>
     requires few { HasFewNames names.now }
     requires within { before + length first ≤ 64 }
-    ensures exact { ReadsAs (λ r. (r.0, r.1.now)) result
+    ensures exact { AnswersAs PolicyFault.Memory (λ r. (r.0, r.1.now)) result
         (each (is_next (codes "||")) (next_conj names.now before) first tokens.now) }
     ensures within { IfOk result (λ r. before + length r.0 ≤ 64) }
 {
@@ -339,7 +340,7 @@ pub fn conjs_at<'a>(
 ) -> Result<(List<List<Atom>>, &'a [Token]), PolicyFault>
     requires few { HasFewNames names.now }
     requires within { before ≤ 64 }
-    ensures exact { ReadsAs (λ r. (r.0, r.1.now)) result (conjs_at names.now before tokens.now) }
+    ensures exact { AnswersAs PolicyFault.Memory (λ r. (r.0, r.1.now)) result (conjs_at names.now before tokens.now) }
     ensures within { IfOk result (λ r. before + length r.0 ≤ 64) }
 {
     let (conj, rest) = conj_at(alloc, names, before < 64, tokens)?;

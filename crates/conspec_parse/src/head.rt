@@ -1,7 +1,7 @@
 //! The head of a policy and its state variables.
 
 ghost use Rattle.std.specs.Prelude.{◌≡◌, ◌+◌, ◌≤◌, ◌<◌, ◌^◌, ◌≤ℤ◌, pos, length, IfOk};
-ghost use Rattle.conspec_parse.specs.Fault.{ReadsAs};
+ghost use Rattle.mon_base.specs.Answer.{AnswersAs};
 ghost use Rattle.conspec_parse.specs.Head.{
   header_at,
   variable_from,
@@ -24,7 +24,7 @@ use std::alloc::Global;
 /// The number behind `MAXINT`, from 1 to 1,000,000,000, and the tokens behind `STATE`.
 #[tactic(auto, unfolding(crate::specs::Head::header_at))]
 pub fn header_at(tokens: &[Token]) -> Result<(i32, &[Token]), PolicyFault>
-    ensures { ReadsAs (λ r. (r.0, r.1.now)) result (header_at tokens.now) }
+    ensures { AnswersAs PolicyFault.Memory (λ r. (r.0, r.1.now)) result (header_at tokens.now) }
 {
     let number = behind("MAXINT", tokens)?;
     let (maxint, scope) = number_at(number)?;
@@ -73,7 +73,7 @@ pub fn is_variable(vars: &[Var], name: &[u8]) -> bool
 
 #[tactic(auto, unfolding(crate::specs::Head::truth_at))]
 fn truth_at(tokens: &[Token]) -> Result<(i32, &[Token]), PolicyFault>
-    ensures { ReadsAs (λ r. (r.0, r.1.now)) result (truth_at tokens.now) }
+    ensures { AnswersAs PolicyFault.Memory (λ r. (r.0, r.1.now)) result (truth_at tokens.now) }
 {
     if is_next("true", tokens) {
         Ok((1, rest_of(tokens)))
@@ -88,7 +88,7 @@ fn truth_at(tokens: &[Token]) -> Result<(i32, &[Token]), PolicyFault>
 
 #[tactic(auto, unfolding(crate::specs::Head::count_at))]
 fn count_at(maxint: i32, tokens: &[Token]) -> Result<(i32, &[Token]), PolicyFault>
-    ensures { ReadsAs (λ r. (r.0, r.1.now)) result (count_at maxint tokens.now) }
+    ensures { AnswersAs PolicyFault.Memory (λ r. (r.0, r.1.now)) result (count_at maxint tokens.now) }
 {
     let (number, rest) = number_at(tokens)?;
     match i32::try_from(number) {
@@ -100,7 +100,7 @@ fn count_at(maxint: i32, tokens: &[Token]) -> Result<(i32, &[Token]), PolicyFaul
 }
 
 fn first_at(maxint: i32, is_bool: bool, tokens: &[Token]) -> Result<(i32, &[Token]), PolicyFault>
-    ensures { ReadsAs (λ r. (r.0, r.1.now)) result (first_at maxint is_bool tokens.now) }
+    ensures { AnswersAs PolicyFault.Memory (λ r. (r.0, r.1.now)) result (first_at maxint is_bool tokens.now) }
 {
     if is_bool {
         truth_at(tokens)
@@ -123,7 +123,7 @@ fn variable_at<'a>(
     vars: List<Var>,
     tokens: &'a [Token],
 ) -> Result<(List<Var>, &'a [Token]), PolicyFault>
-    ensures exact { ReadsAs (λ r. (r.0, r.1.now)) result (variable_at maxint vars tokens.now) }
+    ensures exact { AnswersAs PolicyFault.Memory (λ r. (r.0, r.1.now)) result (variable_at maxint vars tokens.now) }
     ensures few { IfOk result (λ r. length r.0 ≤ 16) }
 {
     if vars.len() >= 16 {
@@ -161,7 +161,7 @@ pub fn variables_at(
     maxint: i32,
     tokens: &[Token],
 ) -> Result<(List<Var>, &[Token]), PolicyFault>
-    ensures exact { ReadsAs (λ r. (r.0, r.1.now)) result (variables_at maxint tokens.now) }
+    ensures exact { AnswersAs PolicyFault.Memory (λ r. (r.0, r.1.now)) result (variables_at maxint tokens.now) }
     ensures few { IfOk result (λ r. length r.0 ≤ 16) }
 {
     let mut vars = List::new(alloc);

@@ -13,6 +13,7 @@ mod fault;
 mod forms;
 mod guard;
 mod head;
+mod laws;
 mod method;
 mod reading;
 mod scanning;
@@ -24,6 +25,7 @@ mod types;
 mod update;
 
 pub use fault::PolicyFault;
+pub use laws::{beginnings_are_right, faults_are_decided};
 pub use reading::parse;
 pub use types::{Atom, Base, Guard, Kind, Phase, PolicyTree, Rel, TreeClause, Update, Var};
 

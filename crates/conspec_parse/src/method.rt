@@ -1,7 +1,7 @@
 //! Which listed method a clause is for.
 
 ghost use Rattle.std.specs.Prelude.{◌≡◌, ◌<◌, ◌≤◌, ◌^◌, ◌++◌, length, IfOk, OnOk};
-ghost use Rattle.conspec_parse.specs.Fault.{Reads, ReadsAs};
+ghost use Rattle.mon_base.specs.Answer.{Answers, AnswersAs};
 ghost use Rattle.conspec_parse.specs.Methods.{
   desc_of,
   phase_number,
@@ -78,7 +78,7 @@ fn index_at(
     desc: &Bytes,
 ) -> Result<u32, PolicyFault>
     requires { length methods.now < 2 ^ 32 }
-    ensures exact { Reads result (index_at methods.now clauses.now phase at signature.now desc.now) }
+    ensures exact { Answers PolicyFault.Memory result (index_at methods.now clauses.now phase at signature.now desc.now) }
     ensures few { IfOk result (λ m. length signature.now.params ≤ 255) }
 {
     let class = signature.path.class.as_slice();
@@ -111,7 +111,7 @@ pub fn method_at<'a>(
     tokens: &'a [Token],
 ) -> Result<((u32, List<Param>), &'a [Token]), PolicyFault>
     requires { length methods.now < 2 ^ 32 }
-    ensures exact { ReadsAs (λ r. (r.0, r.1.now)) result
+    ensures exact { AnswersAs PolicyFault.Memory (λ r. (r.0, r.1.now)) result
         (method_at methods.now vars.now clauses.now phase returned.now tokens.now) }
     ensures few { IfOk result (λ r. length r.0.1 ≤ 255) }
 {

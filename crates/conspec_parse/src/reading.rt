@@ -2,7 +2,7 @@
 
 ghost use Rattle.std.specs.Prelude.{◌≡◌, ◌<◌, ◌^◌, length, IfOk, MatchResult};
 ghost use Rattle.conspec_parse.specs.declared.fault.PolicyFault.TheVariants as faults;
-ghost use Rattle.conspec_parse.specs.Fault.{Reads};
+ghost use Rattle.mon_base.specs.Answer.{Answers};
 ghost use Rattle.conspec_parse.specs.Meaning.{SpellsPolicy};
 ghost use Rattle.conspec_parse.specs.Policy.{policy_at, reading};
 ghost use Rattle.conspec_parse.specs.Tree.{IsPolicyTree};
@@ -22,13 +22,13 @@ use std::alloc::Global;
 pub fn parse(alloc: Global, text: &[u8], listing: &Listing) -> Result<PolicyTree, PolicyFault>
     requires { length listing.now.methods < 2 ^ 32 }
     // What is read decides the answer, and of several faults which one.
-    ensures exact { Reads result (reading text.now listing.now) }
+    ensures exact { Answers PolicyFault.Memory result (reading text.now listing.now) }
     // What is read is spelled so.
     ensures found { IfOk result (λ t. SpellsPolicy text.now listing.now t) }
     // What is spelled so is read, unless memory runs out.
     ensures only { (t : PolicyTree) → SpellsPolicy text.now listing.now t
         → MatchResult result (λ r. r ≡ t) (λ e. e ≡ faults.Memory) }
-    // It keeps the limits and ranges, and what its parts name is there.
+    // It keeps the limits and ranges, and what its parts name is there and can be asked.
     ensures sound { IfOk result (λ t. IsPolicyTree listing.now t) }
 {
     let tokens = tokens_of(alloc, text)?;
@@ -42,7 +42,7 @@ fn policy_at(
     tokens: &[Token],
 ) -> Result<PolicyTree, PolicyFault>
     requires { length methods.now < 2 ^ 32 }
-    ensures { Reads result (policy_at methods.now tokens.now) }
+    ensures { Answers PolicyFault.Memory result (policy_at methods.now tokens.now) }
 {
     let (maxint, left) = header_at(tokens)?;
     let (vars, left) = variables_at(alloc, maxint, left)?;

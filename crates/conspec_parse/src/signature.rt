@@ -1,7 +1,7 @@
 //! The method of a clause as it is written: its class and name, and its parameters.
 
 ghost use Rattle.std.specs.Prelude.{◌≡◌, codes, IfOk};
-ghost use Rattle.conspec_parse.specs.Fault.{ReadsAs};
+ghost use Rattle.mon_base.specs.Answer.{AnswersAs};
 ghost use Rattle.conspec_parse.specs.Forms.{is_next, each};
 ghost use Rattle.conspec_parse.specs.Methods.{
   kind_or_object,
@@ -107,7 +107,7 @@ fn given_name_at<'a>(
     params: &[Param],
     tokens: &'a [Token],
 ) -> Result<(&'a [u8], &'a [Token]), PolicyFault>
-    ensures { ReadsAs (λ r. (r.0.now, r.1.now)) result (given_name_at judged vars.now params.now tokens.now) }
+    ensures { AnswersAs PolicyFault.Memory (λ r. (r.0.now, r.1.now)) result (given_name_at judged vars.now params.now tokens.now) }
 {
     let (name, rest) = name_at(tokens)?;
     if judged && !is_free(vars, params, name) {
@@ -130,7 +130,7 @@ fn parameter_name_at<'a>(
     params: &[Param],
     tokens: &'a [Token],
 ) -> Result<(Option<Bytes>, &'a [Token]), PolicyFault>
-    ensures { ReadsAs (λ r. (r.0, r.1.now)) result (parameter_name_at judged vars.now params.now tokens.now) }
+    ensures { AnswersAs PolicyFault.Memory (λ r. (r.0, r.1.now)) result (parameter_name_at judged vars.now params.now tokens.now) }
 {
     if is_name(tokens) {
         let (name, rest) = given_name_at(judged, vars, params, tokens)?;
@@ -149,7 +149,7 @@ fn parameter_at<'a>(
     params: List<Param>,
     tokens: &'a [Token],
 ) -> Result<(List<Param>, &'a [Token]), PolicyFault>
-    ensures { ReadsAs (λ r. (r.0, r.1.now)) result (parameter_at judged vars.now params tokens.now) }
+    ensures { AnswersAs PolicyFault.Memory (λ r. (r.0, r.1.now)) result (parameter_at judged vars.now params tokens.now) }
 {
     let (named, left) = type_at(alloc, judged, tokens)?;
     let (name, rest) = parameter_name_at(alloc, judged, vars, params.as_slice(), left)?;
@@ -171,7 +171,7 @@ fn next_parameter<'a>(
     params: List<Param>,
     tokens: &'a [Token],
 ) -> Result<(List<Param>, &'a [Token]), PolicyFault>
-    ensures { ReadsAs (λ r. (r.0, r.1.now)) result (next_parameter judged vars.now params tokens.now) }
+    ensures { AnswersAs PolicyFault.Memory (λ r. (r.0, r.1.now)) result (next_parameter judged vars.now params tokens.now) }
 {
     let left = behind(",", tokens)?;
     parameter_at(alloc, judged, vars, params, left)
@@ -184,7 +184,7 @@ fn parameters_from<'a>(
     first: List<Param>,
     tokens: &'a [Token],
 ) -> Result<(List<Param>, &'a [Token]), PolicyFault>
-    ensures { ReadsAs (λ r. (r.0, r.1.now)) result
+    ensures { AnswersAs PolicyFault.Memory (λ r. (r.0, r.1.now)) result
         (each (is_next (codes ",")) (next_parameter judged vars.now) first tokens.now) }
 {
     let mut params = first;
@@ -207,7 +207,7 @@ fn some_parameters<'a>(
     vars: &[Var],
     tokens: &'a [Token],
 ) -> Result<(List<Param>, &'a [Token]), PolicyFault>
-    ensures { ReadsAs (λ r. (r.0, r.1.now)) result (some_parameters judged vars.now tokens.now) }
+    ensures { AnswersAs PolicyFault.Memory (λ r. (r.0, r.1.now)) result (some_parameters judged vars.now tokens.now) }
 {
     let (first, rest) = parameter_at(alloc, judged, vars, List::new(alloc), tokens)?;
     parameters_from(alloc, judged, vars, first, rest)
@@ -219,7 +219,7 @@ fn parameters_at<'a>(
     vars: &[Var],
     tokens: &'a [Token],
 ) -> Result<(List<Param>, &'a [Token]), PolicyFault>
-    ensures { ReadsAs (λ r. (r.0, r.1.now)) result (parameters_at judged vars.now tokens.now) }
+    ensures { AnswersAs PolicyFault.Memory (λ r. (r.0, r.1.now)) result (parameters_at judged vars.now tokens.now) }
 {
     if is_next(")", tokens) {
         Ok((List::new(alloc), tokens))
@@ -230,7 +230,7 @@ fn parameters_at<'a>(
 
 /// The name of a class's part or of a method, and the tokens behind it.
 fn part_at(alloc: Global, judged: bool, tokens: &[Token]) -> Result<(Bytes, &[Token]), PolicyFault>
-    ensures { ReadsAs (λ r. (r.0, r.1.now)) result (part_at judged tokens.now) }
+    ensures { AnswersAs PolicyFault.Memory (λ r. (r.0, r.1.now)) result (part_at judged tokens.now) }
 {
     if is_next("<init>", tokens) {
         Ok((Bytes::from_slice(alloc, b"<init>")?, rest_of(tokens)))
@@ -263,7 +263,7 @@ fn next_step<'a>(
     parts: Parts,
     tokens: &'a [Token],
 ) -> Result<(Parts, &'a [Token]), PolicyFault>
-    ensures { ReadsAs (λ r. (r.0, r.1.now)) result (next_step judged parts tokens.now) }
+    ensures { AnswersAs PolicyFault.Memory (λ r. (r.0, r.1.now)) result (next_step judged parts tokens.now) }
 {
     if parts.is_last {
         return Err(PolicyFault::Syntax {
@@ -290,7 +290,7 @@ fn path_from<'a>(
     first: Parts,
     tokens: &'a [Token],
 ) -> Result<(Parts, &'a [Token]), PolicyFault>
-    ensures { ReadsAs (λ r. (r.0, r.1.now)) result (each (is_next (codes ".")) (next_step judged) first tokens.now) }
+    ensures { AnswersAs PolicyFault.Memory (λ r. (r.0, r.1.now)) result (each (is_next (codes ".")) (next_step judged) first tokens.now) }
 {
     let mut parts = first;
     let mut left = tokens;
@@ -307,7 +307,7 @@ fn path_from<'a>(
 
 #[tactic(auto, unfolding(crate::specs::Methods::path_at))]
 fn path_at(alloc: Global, judged: bool, tokens: &[Token]) -> Result<(Path, &[Token]), PolicyFault>
-    ensures { ReadsAs (λ r. (r.0, r.1.now)) result (path_at judged tokens.now) }
+    ensures { AnswersAs PolicyFault.Memory (λ r. (r.0, r.1.now)) result (path_at judged tokens.now) }
 {
     let (name, left) = judged_name(judged, tokens)?;
     let first = Parts {
@@ -331,7 +331,7 @@ pub fn signature_at<'a>(
     vars: &[Var],
     tokens: &'a [Token],
 ) -> Result<(Signature, &'a [Token]), PolicyFault>
-    ensures { ReadsAs (λ r. (r.0, r.1.now)) result (signature_at judged vars.now tokens.now) }
+    ensures { AnswersAs PolicyFault.Memory (λ r. (r.0, r.1.now)) result (signature_at judged vars.now tokens.now) }
 {
     let (path, opened) = path_at(alloc, judged, tokens)?;
     let left = behind("(", opened)?;

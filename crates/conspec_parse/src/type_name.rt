@@ -1,7 +1,7 @@
 //! The types that a policy names, as descriptors say them.
 
 ghost use Rattle.std.specs.Prelude.{◌≡◌, codes, IfOk};
-ghost use Rattle.conspec_parse.specs.Fault.{ReadsAs};
+ghost use Rattle.mon_base.specs.Answer.{AnswersAs};
 ghost use Rattle.conspec_parse.specs.Types.{
   judged_name,
   type_named,
@@ -34,7 +34,7 @@ pub struct TypeName {
 /// The name that has to stand first; where names are judged it is not too long.
 #[tactic(auto, unfolding(crate::specs::Types::judged_name))]
 pub fn judged_name(judged: bool, tokens: &[Token]) -> Result<(&[u8], &[Token]), PolicyFault>
-    ensures { ReadsAs (λ r. (r.0.now, r.1.now)) result (judged_name judged tokens.now) }
+    ensures { AnswersAs PolicyFault.Memory (λ r. (r.0.now, r.1.now)) result (judged_name judged tokens.now) }
 {
     let (name, rest) = name_at(tokens)?;
     if judged && !is_short(name) {
@@ -82,7 +82,7 @@ fn next_part<'a>(
     class: Bytes,
     tokens: &'a [Token],
 ) -> Result<(Bytes, &'a [Token]), PolicyFault>
-    ensures { ReadsAs (λ r. (r.0, r.1.now)) result (next_part judged class tokens.now) }
+    ensures { AnswersAs PolicyFault.Memory (λ r. (r.0, r.1.now)) result (next_part judged class tokens.now) }
 {
     let named = behind(".", tokens)?;
     let (name, rest) = judged_name(judged, named)?;
@@ -94,7 +94,7 @@ fn next_part<'a>(
 
 #[tactic(auto, unfolding(crate::specs::Types::class_at))]
 fn class_at(alloc: Global, judged: bool, tokens: &[Token]) -> Result<(Bytes, &[Token]), PolicyFault>
-    ensures { ReadsAs (λ r. (r.0, r.1.now)) result (class_at judged tokens.now) }
+    ensures { AnswersAs PolicyFault.Memory (λ r. (r.0, r.1.now)) result (class_at judged tokens.now) }
 {
     let (first, rest) = judged_name(judged, tokens)?;
     class_from(judged, Bytes::from_slice(alloc, first)?, rest)
@@ -105,7 +105,7 @@ fn class_from<'a>(
     first: Bytes,
     tokens: &'a [Token],
 ) -> Result<(Bytes, &'a [Token]), PolicyFault>
-    ensures { ReadsAs (λ r. (r.0, r.1.now)) result (each (is_next (codes ".")) (next_part judged) first tokens.now) }
+    ensures { AnswersAs PolicyFault.Memory (λ r. (r.0, r.1.now)) result (each (is_next (codes ".")) (next_part judged) first tokens.now) }
 {
     let mut class = first;
     let mut left = tokens;
@@ -126,7 +126,7 @@ fn class_type_at(
     judged: bool,
     tokens: &[Token],
 ) -> Result<(TypeName, &[Token]), PolicyFault>
-    ensures { ReadsAs (λ r. (r.0, r.1.now)) result (class_type_at judged tokens.now) }
+    ensures { AnswersAs PolicyFault.Memory (λ r. (r.0, r.1.now)) result (class_type_at judged tokens.now) }
 {
     let (class, rest) = class_at(alloc, judged, tokens)?;
     let mut desc = Bytes::new(alloc);
@@ -147,7 +147,7 @@ fn element_at(
     judged: bool,
     tokens: &[Token],
 ) -> Result<(TypeName, &[Token]), PolicyFault>
-    ensures { ReadsAs (λ r. (r.0, r.1.now)) result (element_at judged tokens.now) }
+    ensures { AnswersAs PolicyFault.Memory (λ r. (r.0, r.1.now)) result (element_at judged tokens.now) }
 {
     match plain_type(alloc, tokens)? {
         Some(plain) => Ok((plain, rest_of(tokens))),
@@ -161,7 +161,7 @@ fn dimension_at<'a>(
     brackets: Bytes,
     tokens: &'a [Token],
 ) -> Result<(Bytes, &'a [Token]), PolicyFault>
-    ensures { ReadsAs (λ r. (r.0, r.1.now)) result (dimension_at brackets tokens.now) }
+    ensures { AnswersAs PolicyFault.Memory (λ r. (r.0, r.1.now)) result (dimension_at brackets tokens.now) }
 {
     let rest = behind("]", behind("[", tokens)?)?;
     let mut brackets = brackets;
@@ -173,7 +173,7 @@ fn dimensions_from<'a>(
     brackets: Bytes,
     tokens: &'a [Token],
 ) -> Result<(Bytes, &'a [Token]), PolicyFault>
-    ensures { ReadsAs (λ r. (r.0, r.1.now)) result (each (is_next (codes "[")) dimension_at brackets tokens.now) }
+    ensures { AnswersAs PolicyFault.Memory (λ r. (r.0, r.1.now)) result (each (is_next (codes "[")) dimension_at brackets tokens.now) }
 {
     let mut brackets = brackets;
     let mut left = tokens;
@@ -209,7 +209,7 @@ pub fn type_at(
     judged: bool,
     tokens: &[Token],
 ) -> Result<(TypeName, &[Token]), PolicyFault>
-    ensures { ReadsAs (λ r. (r.0, r.1.now)) result (type_at judged tokens.now) }
+    ensures { AnswersAs PolicyFault.Memory (λ r. (r.0, r.1.now)) result (type_at judged tokens.now) }
 {
     let (element, left) = element_at(alloc, judged, tokens)?;
     let (brackets, rest) = dimensions_from(Bytes::new(alloc), left)?;

@@ -1,7 +1,7 @@
 //! What a guard does to the variables.
 
 ghost use Rattle.std.specs.Prelude.{◌≡◌, ◌≤◌, [], length};
-ghost use Rattle.conspec_parse.specs.Fault.{ReadsAs};
+ghost use Rattle.mon_base.specs.Answer.{AnswersAs};
 ghost use Rattle.conspec_parse.specs.Forms.{is_name, taken, each};
 ghost use Rattle.conspec_parse.specs.Updates.{
   target,
@@ -78,7 +78,7 @@ fn set_at(
     truth: bool,
     tokens: &[Token],
 ) -> Result<(Update, &[Token]), PolicyFault>
-    ensures { ReadsAs (λ r. (r.0, r.1.now)) result (set_at maxint var truth tokens.now) }
+    ensures { AnswersAs PolicyFault.Memory (λ r. (r.0, r.1.now)) result (set_at maxint var truth tokens.now) }
 {
     let (value, rest) = constant_at(truth, tokens)?;
     if value < 0 || value > maxint {
@@ -103,7 +103,7 @@ fn next_sign(tokens: &[Token]) -> Option<bool>
 
 /// Whether the sign that has to stand first is `-`, and the tokens behind it.
 fn sign_at(tokens: &[Token]) -> Result<(bool, &[Token]), PolicyFault>
-    ensures { ReadsAs (λ r. (r.0, r.1.now)) result (taken (next_sign tokens.now) tokens.now) }
+    ensures { AnswersAs PolicyFault.Memory (λ r. (r.0, r.1.now)) result (taken (next_sign tokens.now) tokens.now) }
 {
     match next_sign(tokens) {
         Some(minus) => Ok((minus, rest_of(tokens))),
@@ -133,7 +133,7 @@ fn sum_at<'a>(
     truth: bool,
     tokens: &'a [Token],
 ) -> Result<(Update, &'a [Token]), PolicyFault>
-    ensures { ReadsAs (λ r. (r.0, r.1.now)) result (sum_at room name.now var truth tokens.now) }
+    ensures { AnswersAs PolicyFault.Memory (λ r. (r.0, r.1.now)) result (sum_at room name.now var truth tokens.now) }
 {
     let (same, signs) = name_at(tokens)?;
     if same != name {
@@ -169,7 +169,7 @@ fn right_at<'a>(
     var: (u32, bool),
     tokens: &'a [Token],
 ) -> Result<(Update, &'a [Token]), PolicyFault>
-    ensures { ReadsAs (λ r. (r.0, r.1.now)) result (right_at maxint room name.now var tokens.now) }
+    ensures { AnswersAs PolicyFault.Memory (λ r. (r.0, r.1.now)) result (right_at maxint room name.now var tokens.now) }
 {
     if is_name(tokens) {
         sum_at(room, name, var.0, var.1, tokens)
@@ -189,7 +189,7 @@ fn update_at<'a>(
     tokens: &'a [Token],
 ) -> Result<(List<Update>, &'a [Token]), PolicyFault>
     requires { length vars.now ≤ 16 }
-    ensures { ReadsAs (λ r. (r.0, r.1.now)) result (update_at vars.now maxint atoms updates tokens.now) }
+    ensures { AnswersAs PolicyFault.Memory (λ r. (r.0, r.1.now)) result (update_at vars.now maxint atoms updates tokens.now) }
 {
     let (name, equals) = name_at(tokens)?;
     let var = match variable_named(vars, name) {
@@ -222,7 +222,7 @@ fn updates_at<'a>(
     tokens: &'a [Token],
 ) -> Result<(List<Update>, &'a [Token]), PolicyFault>
     requires { length vars.now ≤ 16 }
-    ensures { ReadsAs (λ r. (r.0, r.1.now)) result (each is_name (update_at vars.now maxint atoms) [] tokens.now) }
+    ensures { AnswersAs PolicyFault.Memory (λ r. (r.0, r.1.now)) result (each is_name (update_at vars.now maxint atoms) [] tokens.now) }
 {
     let mut updates = List::new(alloc);
     let mut left = tokens;
@@ -248,7 +248,7 @@ pub fn block_at<'a>(
     tokens: &'a [Token],
 ) -> Result<(List<Update>, &'a [Token]), PolicyFault>
     requires { length vars.now ≤ 16 }
-    ensures { ReadsAs (λ r. (r.0, r.1.now)) result (block_at vars.now maxint atoms tokens.now) }
+    ensures { AnswersAs PolicyFault.Memory (λ r. (r.0, r.1.now)) result (block_at vars.now maxint atoms tokens.now) }
 {
     let opened = behind("{", tokens)?;
     let (updates, end) = updates_at(alloc, vars, maxint, atoms, opened)?;

@@ -168,5 +168,5 @@ value_again (Int n) fits =
     ap value_at begins.2 ∙ number_word begins.0 begins.1 begins.3 ∙ ap int_value (sym begins.2) ∙ number_value_again n fits
 value_again Null ok = refl
 value_again (Text bytes) small = text_again bytes small
-value_again (Obj class at) ok = object_again class at ok.0 ok.1
-value_again (Class class) some = class_again class some
+value_again (Obj class at) ok = object_again class at ok.0 ok.2
+value_again (Class class) ok = class_again class ok.0

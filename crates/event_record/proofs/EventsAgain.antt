@@ -1,7 +1,7 @@
 -- What is printed is read again: the lines of events.
-use Rattle.std.proofs.Common.{◌≡◌, ℕ, List, [], ◌∷◌, ◌++◌, map, Option, Some, None, Ok, refl, sym, ap, subst, ◌∙◌, append_assoc}
+use Rattle.std.proofs.Common.{◌≡◌, ◌≢◌, ℕ, List, [], ◌∷◌, ◌++◌, map, Option, Some, None, Ok, refl, sym, ap, subst, ◌∙◌, append_assoc, arith}
 use Rattle.std.specs.Prelude.{◌==◌, codes, decimal, slice_get}
-use Rattle.std.specs.List.{AllByRecursion, flat_map}
+use Rattle.std.specs.List.{AllByRecursion, flat_map, join_with_byte}
 use Rattle.std.proofs.lemmas.List.Splits.{slice_split_at, slice_split_none}
 use Rattle.mon_base.specs.Reading.{◌>>=◌}
 use Rattle.mon_base.specs.declared.method.MethodId.{MethodId}
@@ -12,23 +12,24 @@ use Rattle.api_listing.specs.declared.events.Event.{Event}
 use Rattle.api_listing.specs.declared.events.Event.TheVariants.{Call, Return, Except}
 use Rattle.api_listing.specs.declared.types.ListedMethod.{ListedMethod}
 use Rattle.event_record.specs.declared.entry.Entry.TheVariants.{Seen}
+use Rattle.event_record.specs.Again.{IsPrinted}
 use Rattle.event_record.specs.Entry.{call_event, entry_of, event_line, event_of, except_event, line_of, method_event, result_of, return_event, values_from}
 use Rattle.event_record.specs.Library.{Library}
-use Rattle.event_record.specs.Printing.{HasNoSpace, IsEventOf, IsValue, behind, event_text, event_words, method_of, result_behind, result_words, value_behind}
+use Rattle.event_record.specs.Printing.{HasNoBreak, IsEventOf, IsInWords, IsValue, behind, event_text, event_words, method_of, result_behind, result_words, value_behind}
 use Rattle.event_record.specs.Value.{value_word}
 use Rattle.event_record.proofs.Again.{index_again, value_again}
+use Rattle.event_record.proofs.Unbroken.{decimal_word, in_line, no_space, value_is_word, values_are_words, written}
 
 -- ---- words
 
 -- words with a space between two
-abbrev spaced : List ℕ → List (List ℕ) → List ℕ
-spaced word [] = word
-spaced word (next ∷ words) = word ++ 32 ∷ spaced next words
+abbrev pub spaced : List ℕ → List (List ℕ) → List ℕ
+spaced word words = join_with_byte 32 (word ∷ words)
 
-spaced_pieces : (word : List ℕ) (words : List (List ℕ)) → HasNoSpace word → AllByRecursion HasNoSpace words → pieces 32 (spaced word words) ≡ word ∷ words
-spaced_pieces word [] clear all = slice_split_none (λ b. b == 32) word clear
+pub spaced_pieces : (word : List ℕ) (words : List (List ℕ)) → HasNoBreak word → AllByRecursion HasNoBreak words → pieces 32 (spaced word words) ≡ word ∷ words
+spaced_pieces word [] clear all = slice_split_none (λ b. b == 32) word (no_space word clear)
 spaced_pieces word (next ∷ words) clear all =
-    slice_split_at (λ b. b == 32) word 32 (spaced next words) clear refl ∙ ap (λ (ws : List (List ℕ)). word ∷ ws) (spaced_pieces next words all.0 all.1)
+    slice_split_at (λ b. b == 32) word 32 (spaced next words) (no_space word clear) refl ∙ ap (λ (ws : List (List ℕ)). word ∷ ws) (spaced_pieces next words all.0 all.1)
 
 append_none : (xs : List ℕ) → xs ++ [] ≡ xs
 append_none [] = refl
@@ -78,6 +79,21 @@ others_of id (Call thread method args) = decimal thread ∷ id.class ∷ id.name
 others_of id (Return thread method value) = decimal thread ∷ id.class ∷ id.name ∷ id.desc ∷ result_words value
 others_of id (Except thread method) = decimal thread ∷ id.class ∷ id.name ∷ id.desc ∷ []
 
+verb_is_word : (event : Event) → HasNoBreak (verb_of event)
+verb_is_word (Call thread method args) = written (codes "call") refl
+verb_is_word (Return thread method value) = written (codes "return") refl
+verb_is_word (Except thread method) = written (codes "except") refl
+
+others_are_words : (library : Library) (id : MethodId) → IsInWords id → (event : Event) → IsEventOf library id event → AllByRecursion HasNoBreak (others_of id event)
+others_are_words library id whole (Call thread method args) is =
+    (decimal_word thread (omega (arith, is.numbered)), (whole.class, (whole.name, (whole.desc, values_are_words args is.given))))
+others_are_words library id whole (Return thread method None) is =
+    (decimal_word thread (omega (arith, is.numbered)), (whole.class, (whole.name, (whole.desc, tt))))
+others_are_words library id whole (Return thread method (Some value)) is =
+    (decimal_word thread (omega (arith, is.numbered)), (whole.class, (whole.name, (whole.desc, (value_is_word value is.given.1, tt)))))
+others_are_words library id whole (Except thread method) is =
+    (decimal_word thread (omega (arith, is.numbered)), (whole.class, (whole.name, (whole.desc, tt))))
+
 words_are : (id : MethodId) (event : Event) → event_words id event ≡ verb_of event ∷ others_of id event
 words_are id (Call thread method args) = refl
 words_are id (Return thread method value) = refl
@@ -99,9 +115,20 @@ module _ (methods : List ListedMethod) (m : ListedMethod) where
   text_is (Except thread method) there =
       rw there (sym (append_none (codes "except" ++ behind (decimal thread) ++ (behind m.id.class ++ behind m.id.name ++ behind m.id.desc))) ∙ head_is (codes "except") (decimal thread) m.id.class m.id.name m.id.desc [])
 
-  pub event_again : (library : Library) (event : Event) → slice_get methods (method_of event) ≡ Some m → IsEventOf library m.id event → AllByRecursion HasNoSpace (event_words m.id event)
-      → entry_of library (pieces 32 (event_text methods event)) ≡ Ok (Seen event)
-  event_again library event there is clear =
-      let parts = subst (AllByRecursion HasNoSpace) (words_are m.id event) clear in
-      let read = spaced_pieces (verb_of event) (others_of m.id event) parts.0 parts.1 in
-      ap (entry_of library) (ap (pieces 32) (text_is event there ∙ spaced_is (verb_of event) (others_of m.id event)) ∙ read ∙ sym (words_are m.id event)) ∙ words_again library m.id event is
+  module _ (library : Library) (event : Event) (there : slice_get methods (method_of event) ≡ Some m) (is : IsEventOf library m.id event) (whole : IsInWords m.id) where
+    text_spaced : event_text methods event ≡ spaced (verb_of event) (others_of m.id event)
+    text_spaced = text_is event there ∙ spaced_is (verb_of event) (others_of m.id event)
+
+    clear : AllByRecursion HasNoBreak (verb_of event ∷ others_of m.id event)
+    clear = (verb_is_word event, others_are_words library m.id whole event is)
+
+    -- the words of the line are those of the event
+    pub line_words : pieces 32 (event_text methods event) ≡ event_words m.id event
+    line_words = ap (pieces 32) text_spaced ∙ spaced_pieces (verb_of event) (others_of m.id event) clear.0 clear.1 ∙ sym (words_are m.id event)
+
+    pub line_is_whole : AllByRecursion (λ b. b ≢ 10) (event_text methods event)
+    line_is_whole = subst (AllByRecursion (λ b. b ≢ 10)) (sym text_spaced) (in_line (verb_of event ∷ others_of m.id event) clear)
+
+pub event_again : (library : Library) (methods : List ListedMethod) (event : Event) → IsPrinted library methods event → entry_of library (pieces 32 (event_text methods event)) ≡ Ok (Seen event)
+event_again library methods event is =
+    ap (entry_of library) (line_words methods is.method library event is.there is.is is.words) ∙ words_again library is.method.id event is.is

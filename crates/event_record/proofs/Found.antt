@@ -15,10 +15,11 @@ use Rattle.api_listing.specs.declared.fault.FormFault.TheVariants.{NoForm}
 use Rattle.api_listing.specs.declared.events.ApiValue.{ApiValue}
 use Rattle.api_listing.specs.declared.events.ApiValue.TheVariants.{Int, Null, Text, Obj, Class}
 use Rattle.event_record.specs.Number.{as_index, as_int, index_of, int_of, number_of}
-use Rattle.event_record.specs.Printing.{IsValue}
+use Rattle.event_record.specs.Printing.{HasNoBreak, IsValue}
 use Rattle.event_record.specs.Value.{begins, byte_at, bytes_from, class_value, digit_at, hex, hex_at, hex_byte, hex_digit, int_value, last_at, object_parts, object_value, text_value, value_at, value_word}
 use Rattle.event_record.proofs.Again.{behind_of, front_of}
 use Rattle.event_record.proofs.Numbers.{number_found}
+use Rattle.event_record.proofs.Unbroken.{front, left}
 
 -- ---- readings that are Ok
 
@@ -182,9 +183,9 @@ Found word value = (word ≡ value_word value) × IsValue value
 some_class : (class : List ℕ) → 0 < length class → class ≢ []
 some_class class some none = absurd (omega (arith, ap length none))
 
-object_found : (text : List ℕ) (value : ApiValue) → object_value text ≡ Ok value → Found (codes "obj:" ++ text) value
+object_found : (text : List ℕ) (value : ApiValue) → HasNoBreak text → object_value text ≡ Ok value → Found (codes "obj:" ++ text) value
 unfolding object_value object_parts
-object_found text value h = at_place (last_found text 0 None first.0 (some_ok (last_at 0 None text) NoForm first.0 first.1)) where
+object_found text value clear h = at_place (last_found text 0 None first.0 (some_ok (last_at 0 None text) NoForm first.0 first.1)) where
   first : (place : ℕ) × (ok_or (last_at 0 None text) NoForm ≡ Ok place) × (object_parts text place ≡ Ok value)
   first = then_ok (ok_or (last_at 0 None text) NoForm) (object_parts text) value h
 
@@ -197,7 +198,8 @@ object_found text value h = at_place (last_found text 0 None first.0 (some_ok (l
       let object : Obj class number.0 ≡ value = ap (λ (c : List ℕ). Obj c number.0) (sym (front_of class (64 ∷ digits))) ∙ ok_is number.2 in
       let long = ltb-true 0 (length class) (need_ok (nat_lt 0 (length class)) NoForm some.0 some.1) in
       let word : codes "obj:" ++ text ≡ value_word (Obj class number.0) = ap (λ (t : List ℕ). codes "obj:" ++ t) (spelled ∙ ap (λ (t : List ℕ). class ++ 64 ∷ t) index.0) in
-      subst (Found (codes "obj:" ++ text)) object (word, (some_class class long, index.1))
+      let whole : HasNoBreak class = front (λ (b : ℕ). (b ≢ 32) × (b ≢ 10)) class (64 ∷ digits) (subst HasNoBreak spelled clear) in
+      subst (Found (codes "obj:" ++ text)) object (word, (some_class class long, whole, index.1))
 
   at_place : (None ≡ Some first.0) ⊎ IsLastAt text 0 first.0 → Found (codes "obj:" ++ text) value
   at_place (inl e) = absurd (none_some first.0 e)
@@ -210,12 +212,12 @@ text_found text value h =
     let found = hex_found text read.0 read.1 in
     subst (Found (codes "text:" ++ text)) (ok_is read.2) (ap (λ (t : List ℕ). codes "text:" ++ t) found.0, found.1)
 
-class_found : (text : List ℕ) (value : ApiValue) → class_value text ≡ Ok value → Found (codes "class:" ++ text) value
+class_found : (text : List ℕ) (value : ApiValue) → HasNoBreak text → class_value text ≡ Ok value → Found (codes "class:" ++ text) value
 unfolding class_value
-class_found text value h =
+class_found text value clear h =
     let read = then_ok (need (nat_lt 0 (length text)) NoForm) (λ some. Ok (Class text)) value h in
     let long = ltb-true 0 (length text) (need_ok (nat_lt 0 (length text)) NoForm read.0 read.1) in
-    subst (Found (codes "class:" ++ text)) (ok_is read.2) (refl, some_class text long)
+    subst (Found (codes "class:" ++ text)) (ok_is read.2) (refl, (some_class text long, clear))
 
 number_value_found : (text : List ℕ) (value : ApiValue) → int_value text ≡ Ok value → Found text value
 unfolding int_value
@@ -226,18 +228,21 @@ number_value_found text value h =
 begins_is : (front word : List ℕ) → begins front word ≡ true → word ≡ front ++ drop (length front) word
 begins_is front word h = (starts_is Decides-eqb word front (begins front word) refl).0 h
 
-pub value_found : (word : List ℕ) (value : ApiValue) → value_at word ≡ Ok value → (word ≡ value_word value) × IsValue value
+pub value_found : (word : List ℕ) (value : ApiValue) → HasNoBreak word → value_at word ≡ Ok value → (word ≡ value_word value) × IsValue value
 unfolding value_at
-value_found word value h =
+value_found word value clear h =
     either (Found word value) (bytes_eq word (codes "null")) (Ok Null) others (Ok value) h
     (λ null e. subst (Found word) (ok_is e) (text_is word (codes "null") null, tt))
     (λ null e. either (Found word value) (begins (codes "text:") word) (text_value (drop 5 word)) objects (Ok value) e
     (λ text f. subst (λ (w : List ℕ). Found w value) (sym (begins_is (codes "text:") word text)) (text_found (drop 5 word) value f))
     (λ text f. either (Found word value) (begins (codes "obj:") word) (object_value (drop 4 word)) classes (Ok value) f
-    (λ object g. subst (λ (w : List ℕ). Found w value) (sym (begins_is (codes "obj:") word object)) (object_found (drop 4 word) value g))
+    (λ object g. subst (λ (w : List ℕ). Found w value) (sym (begins_is (codes "obj:") word object)) (object_found (drop 4 word) value (behind 4) g))
     (λ object g. either (Found word value) (begins (codes "class:") word) (class_value (drop 6 word)) (int_value word) (Ok value) g
-    (λ class i. subst (λ (w : List ℕ). Found w value) (sym (begins_is (codes "class:") word class)) (class_found (drop 6 word) value i))
+    (λ class i. subst (λ (w : List ℕ). Found w value) (sym (begins_is (codes "class:") word class)) (class_found (drop 6 word) value (behind 6) i))
     (λ class i. number_value_found word value i)))) where
+      behind : (n : ℕ) → HasNoBreak (drop n word)
+      behind n = left (λ (b : ℕ). (b ≢ 32) × (b ≢ 10)) n word clear
+
       classes : Read ApiValue
       classes = cond (begins (codes "class:") word) (class_value (drop 6 word)) (int_value word)
 

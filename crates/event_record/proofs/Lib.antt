@@ -1,9 +1,12 @@
 pub mod Naming
 pub mod Numbers
 pub mod Hex
+pub mod Unbroken
 pub mod Again
 pub mod EventsAgain
 pub mod Found
 pub mod LineLaws
 pub mod TextLaws
+pub mod RecordsAgain
+pub mod FirstFault
 pub mod Indices

@@ -21,7 +21,7 @@ use Rattle.event_record.specs.declared.entry.Entry.TheVariants.{Go, Answer, Seen
 use Rattle.event_record.specs.Entry.{answer_line, answer_of, answer_with, arg_answer, bare_answer, call_event, end_line, ends, entry_of, event_line, event_of, except_event, fresh_answer, gives_nothing, go_line, id_of, index_at, int_answer, is, is_count, is_end, is_int, line_of, method_event, result_of, return_event, text_answer, throws_answer, values_from}
 use Rattle.event_record.specs.Library.{Library}
 use Rattle.event_record.specs.Number.{as_count, index_of, int_of, number_of}
-use Rattle.event_record.specs.Printing.{IsGiven, IsValue, result_words}
+use Rattle.event_record.specs.Printing.{HasNoBreak, IsGiven, IsValue, result_words}
 use Rattle.event_record.specs.Spelling.{Ending, Finished, Deadlock, Stopped, Budget, Device, Running, IsAnswer, IsStopValue, SpellsEnd, SpellsEntry, SpellsEvent, answer_words, ending_words, steps_told}
 use Rattle.event_record.specs.Value.{hex_at, value_at, value_word}
 use Rattle.event_record.proofs.Again.{hex_again, index_again, int_again}
@@ -156,12 +156,12 @@ record AreValues (done : List ApiValue) (words : List (List ℕ)) (out : List Ap
   spelled : words ≡ map value_word values
   fit : AllByRecursion IsValue values
 
-values_found : (done : List ApiValue) (words : List (List ℕ)) (out : List ApiValue) → values_from done words ≡ Ok out → AreValues done words out
-values_found done [] out h = record { values = []; all = sym (ok_is h) ∙ sym (append-nil done); spelled = refl; fit = tt }
-values_found done (word ∷ words) out h =
+values_found : (done : List ApiValue) (words : List (List ℕ)) (out : List ApiValue) → AllByRecursion HasNoBreak words → values_from done words ≡ Ok out → AreValues done words out
+values_found done [] out clear h = record { values = []; all = sym (ok_is h) ∙ sym (append-nil done); spelled = refl; fit = tt }
+values_found done (word ∷ words) out clear h =
     let first = then_ok (value_at word) (λ v. values_from (done ++ v ∷ []) words) out h in
-    let value = value_found word first.0 first.1 in
-    let later = values_found (done ++ first.0 ∷ []) words out first.2 in
+    let value = value_found word first.0 clear.0 first.1 in
+    let later = values_found (done ++ first.0 ∷ []) words out clear.1 first.2 in
     record {
       values = first.0 ∷ later.values;
       all = later.all ∙ append_assoc done (first.0 ∷ []) later.values;
@@ -174,11 +174,11 @@ module _ (library : Library) (id : MethodId) (thread method : ℕ) (numbered : t
   abbrev words_with : List ℕ → List (List ℕ) → List (List ℕ)
   words_with verb values = verb ∷ decimal thread ∷ id.class ∷ id.name ∷ id.desc ∷ values
 
-  call_found : (values : List (List ℕ)) (entry : Entry) → call_event thread method values ≡ Ok entry → SpellsEntry library (words_with (codes "call") values) entry
+  call_found : (values : List (List ℕ)) (entry : Entry) → AllByRecursion HasNoBreak values → call_event thread method values ≡ Ok entry → SpellsEntry library (words_with (codes "call") values) entry
   unfolding call_event
-  call_found values entry h =
+  call_found values entry clear h =
       let read = then_ok (values_from [] values) (λ args. Ok (Seen (Call thread method args))) entry h in
-      let found = values_found [] values read.0 read.1 in
+      let found = values_found [] values read.0 clear read.1 in
       let event : SpellsEvent library (words_with (codes "call") values) (Call thread method found.values) =
       record { id = id; spelled = ap (words_with (codes "call")) found.spelled; is = record { there = there; numbered = numbered; given = found.fit } } in
       subst (SpellsEntry library (words_with (codes "call") values)) (ap (λ (vs : List ApiValue). Seen (Call thread method vs)) (sym found.all) ∙ ok_is read.2) event
@@ -188,27 +188,27 @@ module _ (library : Library) (id : MethodId) (thread method : ℕ) (numbered : t
   returned words None spelled given = record { id = id; spelled = spelled; is = record { there = there; numbered = numbered; given = given } }
   returned words (Some value) spelled given = record { id = id; spelled = spelled; is = record { there = there; numbered = numbered; given = given } }
 
-  result_found : (values : List (List ℕ)) (value : Option ApiValue) → result_of (gives_nothing id.desc) values ≡ Ok value → SpellsEvent library (words_with (codes "return") values) (Return thread method value)
+  result_found : (values : List (List ℕ)) (value : Option ApiValue) → AllByRecursion HasNoBreak values → result_of (gives_nothing id.desc) values ≡ Ok value → SpellsEvent library (words_with (codes "return") values) (Return thread method value)
   unfolding result_of
-  result_found [] value h =
+  result_found [] value clear h =
       either (SpellsEvent library (words_with (codes "return") []) (Return thread method value)) (gives_nothing id.desc) (Ok None) (Err NoForm) (Ok value) h
       (λ void e. subst (λ (v : Option ApiValue). SpellsEvent library (words_with (codes "return") []) (Return thread method v)) (ok_is e) (returned (words_with (codes "return") []) None refl void))
       (λ void e. absurd cc)
-  result_found (word ∷ []) value h =
+  result_found (word ∷ []) value clear h =
       either (SpellsEvent library (words_with (codes "return") (word ∷ [])) (Return thread method value)) (gives_nothing id.desc) (Err NoForm) (value_at word >>= λ v. Ok (Some v)) (Ok value) h
       (λ void e. absurd cc)
       (λ void e.
       let read = then_ok (value_at word) (λ v. Ok (Some v)) value e in
-      let found = value_found word read.0 read.1 in
+      let found = value_found word read.0 clear.0 read.1 in
       let spelled : words_with (codes "return") (word ∷ []) ≡ words_with (codes "return") (value_word read.0 ∷ []) = ap (λ (w : List ℕ). words_with (codes "return") (w ∷ [])) found.0 in
       subst (λ (v : Option ApiValue). SpellsEvent library (words_with (codes "return") (word ∷ [])) (Return thread method v)) (ok_is read.2) (returned (words_with (codes "return") (word ∷ [])) (Some read.0) spelled (void, found.1)))
-  result_found (word ∷ other ∷ rest) value h = absurd cc
+  result_found (word ∷ other ∷ rest) value clear h = absurd cc
 
-  return_found : (values : List (List ℕ)) (entry : Entry) → return_event thread method (gives_nothing id.desc) values ≡ Ok entry → SpellsEntry library (words_with (codes "return") values) entry
+  return_found : (values : List (List ℕ)) (entry : Entry) → AllByRecursion HasNoBreak values → return_event thread method (gives_nothing id.desc) values ≡ Ok entry → SpellsEntry library (words_with (codes "return") values) entry
   unfolding return_event
-  return_found values entry h =
+  return_found values entry clear h =
       let read = then_ok (result_of (gives_nothing id.desc) values) (λ value. Ok (Seen (Return thread method value))) entry h in
-      subst (SpellsEntry library (words_with (codes "return") values)) (ok_is read.2) (result_found values read.0 read.1)
+      subst (SpellsEntry library (words_with (codes "return") values)) (ok_is read.2) (result_found values read.0 clear read.1)
 
   except_found : (values : List (List ℕ)) (entry : Entry) → except_event thread method values ≡ Ok entry → SpellsEntry library (words_with (codes "except") values) entry
   unfolding except_event
@@ -222,29 +222,29 @@ module _ (library : Library) (id : MethodId) (thread method : ℕ) (numbered : t
   with_verb : (verb text : List ℕ) (values : List (List ℕ)) (entry : Entry) → is verb text ≡ true → SpellsEntry library (words_with text values) entry → SpellsEntry library (words_with verb values) entry
   with_verb verb text values entry t s = subst (λ (v : List ℕ). SpellsEntry library (words_with v values) entry) (sym (text_is verb text t)) s
 
-  event_found : (verb : List ℕ) (values : List (List ℕ)) (entry : Entry) → event_of verb thread method (gives_nothing id.desc) values ≡ Ok entry → SpellsEntry library (words_with verb values) entry
+  event_found : (verb : List ℕ) (values : List (List ℕ)) (entry : Entry) → AllByRecursion HasNoBreak values → event_of verb thread method (gives_nothing id.desc) values ≡ Ok entry → SpellsEntry library (words_with verb values) entry
   unfolding event_of
-  event_found verb values entry h =
+  event_found verb values entry clear h =
       either (SpellsEntry library (words_with verb values) entry) (is verb (codes "call")) (call_event thread method values)
       (cond (is verb (codes "return")) (return_event thread method (gives_nothing id.desc) values) (cond (is verb (codes "except")) (except_event thread method values) (Err NoForm))) (Ok entry) h
-      (λ t e. with_verb verb (codes "call") values entry t (call_found values entry e))
+      (λ t e. with_verb verb (codes "call") values entry t (call_found values entry clear e))
       (λ t e. either (SpellsEntry library (words_with verb values) entry) (is verb (codes "return")) (return_event thread method (gives_nothing id.desc) values)
       (cond (is verb (codes "except")) (except_event thread method values) (Err NoForm)) (Ok entry) e
-      (λ t f. with_verb verb (codes "return") values entry t (return_found values entry f))
+      (λ t f. with_verb verb (codes "return") values entry t (return_found values entry clear f))
       (λ t f. either (SpellsEntry library (words_with verb values) entry) (is verb (codes "except")) (except_event thread method values) (Err NoForm) (Ok entry) f
       (λ t g. with_verb verb (codes "except") values entry t (except_found values entry g))
       (λ t g. absurd cc)))
 
-event_line_found : (library : Library) (verb thread class : List ℕ) (rest : List (List ℕ)) (entry : Entry) → event_line library verb thread class rest ≡ Ok entry → SpellsEntry library (verb ∷ thread ∷ class ∷ rest) entry
+event_line_found : (library : Library) (verb thread class : List ℕ) (rest : List (List ℕ)) (entry : Entry) → AllByRecursion HasNoBreak rest → event_line library verb thread class rest ≡ Ok entry → SpellsEntry library (verb ∷ thread ∷ class ∷ rest) entry
 unfolding event_line method_event
-event_line_found library verb thread class [] entry h = absurd cc
-event_line_found library verb thread class (name ∷ []) entry h = absurd cc
-event_line_found library verb thread class (name ∷ desc ∷ values) entry h =
+event_line_found library verb thread class [] entry clear h = absurd cc
+event_line_found library verb thread class (name ∷ []) entry clear h = absurd cc
+event_line_found library verb thread class (name ∷ desc ∷ values) entry clear h =
     let id = id_of class name desc in
     let t = then_ok (index_at thread) (λ t. ok_or (library.finds id) NoForm >>= λ m. event_of verb t m (gives_nothing desc) values) entry h in
     let m = then_ok (ok_or (library.finds id) NoForm) (λ m. event_of verb t.0 m (gives_nothing desc) values) entry t.2 in
     let number = index_read thread t.0 t.1 in
-    let event = event_found library id t.0 m.0 number.1 (some_ok (library.finds id) NoForm m.0 m.1) verb values entry m.2 in
+    let event = event_found library id t.0 m.0 number.1 (some_ok (library.finds id) NoForm m.0 m.1) verb values entry clear.1.1 m.2 in
     subst (λ (w : List ℕ). SpellsEntry library (verb ∷ w ∷ class ∷ name ∷ desc ∷ values) entry) (sym number.0) event
 
 -- ---- found: the end
@@ -272,14 +272,14 @@ value_told word h = by (int_of word) refl h where
 ends_found : (kind second : List ℕ) (rest : List (List ℕ)) → ends kind second rest ≡ true → SpellsEnd (codes "end" ∷ kind ∷ second ∷ rest)
 ends_found kind second [] h =
     either_or (SpellsEnd (codes "end" ∷ kind ∷ second ∷ [])) (is kind (codes "finished")) (is kind (codes "deadlock") || (is kind (codes "budget") || (is kind (codes "device") || is kind (codes "running")))) tests.0
-    (λ t. record { ending = Finished count.0; spelled = as_kind (codes "finished") t; count = count.2; value = tt })
+    (λ t. record { ending = Finished count.0; spelled = as_kind (codes "finished") t; is = record { count = count.2; value = tt } })
     (λ t. either_or (SpellsEnd (codes "end" ∷ kind ∷ second ∷ [])) (is kind (codes "deadlock")) (is kind (codes "budget") || (is kind (codes "device") || is kind (codes "running"))) t
-    (λ t. record { ending = Deadlock count.0; spelled = as_kind (codes "deadlock") t; count = count.2; value = tt })
+    (λ t. record { ending = Deadlock count.0; spelled = as_kind (codes "deadlock") t; is = record { count = count.2; value = tt } })
     (λ t. either_or (SpellsEnd (codes "end" ∷ kind ∷ second ∷ [])) (is kind (codes "budget")) (is kind (codes "device") || is kind (codes "running")) t
-    (λ t. record { ending = Budget count.0; spelled = as_kind (codes "budget") t; count = count.2; value = tt })
+    (λ t. record { ending = Budget count.0; spelled = as_kind (codes "budget") t; is = record { count = count.2; value = tt } })
     (λ t. either_or (SpellsEnd (codes "end" ∷ kind ∷ second ∷ [])) (is kind (codes "device")) (is kind (codes "running")) t
-    (λ t. record { ending = Device count.0; spelled = as_kind (codes "device") t; count = count.2; value = tt })
-    (λ t. record { ending = Running count.0; spelled = as_kind (codes "running") t; count = count.2; value = tt })))) where
+    (λ t. record { ending = Device count.0; spelled = as_kind (codes "device") t; is = record { count = count.2; value = tt } })
+    (λ t. record { ending = Running count.0; spelled = as_kind (codes "running") t; is = record { count = count.2; value = tt } })))) where
       tests : (is_end kind ≡ true) × (is_count second ≡ true)
       tests = and_parts (is_end kind) (is_count second) h
 
@@ -297,7 +297,7 @@ ends_found kind second (third ∷ []) h =
     ap (λ (k : List ℕ). codes "end" ∷ k ∷ second ∷ third ∷ []) (text_is kind (codes "stopped") tests.0)
     ∙ ap (λ (w : List ℕ). codes "end" ∷ codes "stopped" ∷ w ∷ third ∷ []) value.1
     ∙ ap (λ (w : List ℕ). codes "end" ∷ codes "stopped" ∷ signed_decimal value.0 ∷ w ∷ []) count.1 in
-    record { ending = Stopped value.0 count.0; spelled = spelled; count = count.2; value = value.2 }
+    record { ending = Stopped value.0 count.0; spelled = spelled; is = record { count = count.2; value = value.2 } }
 ends_found kind second (third ∷ other ∷ rest) h = absurd (false≢true h)
 
 end_line_found : (library : Library) (kind second : List ℕ) (rest : List (List ℕ)) (entry : Entry) → end_line kind second rest ≡ Ok entry → SpellsEntry library (codes "end" ∷ kind ∷ second ∷ rest) entry
@@ -311,12 +311,12 @@ end_line_found library kind second rest entry h =
 with_word : (library : Library) (verb text : List ℕ) (rest : List (List ℕ)) (entry : Entry) → is verb text ≡ true → SpellsEntry library (text ∷ rest) entry → SpellsEntry library (verb ∷ rest) entry
 with_word library verb text rest entry t s = subst (λ (v : List ℕ). SpellsEntry library (v ∷ rest) entry) (sym (text_is verb text t)) s
 
-pub entry_found : (library : Library) (words : List (List ℕ)) (entry : Entry) → entry_of library words ≡ Ok entry → SpellsEntry library words entry
+pub entry_found : (library : Library) (words : List (List ℕ)) (entry : Entry) → AllByRecursion HasNoBreak words → entry_of library words ≡ Ok entry → SpellsEntry library words entry
 unfolding entry_of line_of
-entry_found library [] entry h = absurd cc
-entry_found library (verb ∷ []) entry h = absurd cc
-entry_found library (verb ∷ second ∷ []) entry h = absurd cc
-entry_found library (verb ∷ second ∷ third ∷ rest) entry h =
+entry_found library [] entry clear h = absurd cc
+entry_found library (verb ∷ []) entry clear h = absurd cc
+entry_found library (verb ∷ second ∷ []) entry clear h = absurd cc
+entry_found library (verb ∷ second ∷ third ∷ rest) entry clear h =
     either (SpellsEntry library (verb ∷ second ∷ third ∷ rest) entry) (is verb (codes "go")) (go_line second third rest)
     (cond (is verb (codes "answer")) (answer_line library second third rest) (cond (is verb (codes "end")) (end_line second third rest) (event_line library verb second third rest))) (Ok entry) h
     (λ t e. with_word library verb (codes "go") (second ∷ third ∷ rest) entry t (go_found library second third rest entry e))
@@ -325,7 +325,7 @@ entry_found library (verb ∷ second ∷ third ∷ rest) entry h =
     (λ t f. with_word library verb (codes "answer") (second ∷ third ∷ rest) entry t (answer_line_found library second third rest entry f))
     (λ t f. either (SpellsEntry library (verb ∷ second ∷ third ∷ rest) entry) (is verb (codes "end")) (end_line second third rest) (event_line library verb second third rest) (Ok entry) f
     (λ t g. with_word library verb (codes "end") (second ∷ third ∷ rest) entry t (end_line_found library second third rest entry g))
-    (λ t g. event_line_found library verb second third rest entry g)))
+    (λ t g. event_line_found library verb second third rest entry clear.1.1.1 g)))
 
 -- ---- again
 
@@ -362,4 +362,4 @@ pub entry_again : (library : Library) (words : List (List ℕ)) (entry : Entry) 
 entry_again library words (Go thread count) s = ap (entry_of library) s.spelled ∙ go_again library thread count s.numbered s.some s.few
 entry_again library words (Answer thread answer) s = ap (entry_of library) s.spelled ∙ answer_again library thread answer s.numbered s.is
 entry_again library words (Seen event) s = ap (entry_of library) s.spelled ∙ words_again library s.id event s.is
-entry_again library words End s = ap (entry_of library) s.spelled ∙ ending_again library s.ending s.count s.value
+entry_again library words End s = ap (entry_of library) s.spelled ∙ ending_again library s.ending s.is.count s.is.value

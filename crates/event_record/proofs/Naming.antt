@@ -83,10 +83,6 @@ test_cases : (b : Bool) (P : Bool → Type 0) → (b ≡ true → P true) → (b
 test_cases true P f g = f refl
 test_cases false P f g = g refl
 
-is_some_or : (o p : Option ℕ) → is_some o ≡ true → o ≡ option_or o p
-is_some_or (Some x) p e = refl
-is_some_or None p e = absurd (false≢true e)
-
 none_or : (o p : Option ℕ) → is_some o ≡ false → p ≡ option_or o p
 none_or None p e = refl
 none_or (Some x) p e = absurd (false≢true (sym e))
@@ -94,13 +90,6 @@ none_or (Some x) p e = absurd (false≢true (sym e))
 or_none : (o : Option ℕ) → option_or o None ≡ o
 or_none None = refl
 or_none (Some x) = refl
-
--- a name that is there already
-pub keeps : (places : BTreeMap MethodId ℕ) (id : MethodId) (index : ℕ) → is_some (place_of places id) ≡ true → AddsFirst places places id index
-keeps places id index there = λ q.
-    test_cases (is_method q.class q.name q.desc id) (λ b. place_of places q ≡ option_or (place_of places q) (cond b (Some index) None))
-    (λ e. is_some_or (place_of places q) (Some index) (subst (λ (i : MethodId). is_some (place_of places i) ≡ true) (same_id id q e) there))
-    (λ e. sym (or_none (place_of places q)))
 
 -- a new name
 pub adds : (old new : BTreeMap MethodId ℕ) (id : MethodId) (index : ℕ) → is_some (place_of old id) ≡ false

@@ -1,7 +1,7 @@
 -- What is read of a text is spelled so, and what is spelled so is read.
-use Rattle.std.proofs.Common.{◌≡◌, ℕ, ◌+◌, ◌≤◌, true, false, cond, List, [], ◌∷◌, ◌++◌, length, replicate, Result, Ok, Err, refl, sym, ap, ap₂, ◌∙◌, subst, arith, append_assoc, length-append}
+use Rattle.std.proofs.Common.{◌≡◌, ◌≢◌, ℕ, ◌+◌, ◌≤◌, true, false, cond, List, [], ◌∷◌, ◌++◌, length, replicate, Result, Ok, Err, refl, sym, ap, ap₂, ◌∙◌, subst, arith, append_assoc, length-append}
 use Rattle.std.specs.Prelude.{nat_lt, IfOk, MatchResult}
-use Rattle.std.specs.List.{flat_map}
+use Rattle.std.specs.List.{AllByRecursion, flat_map}
 use Rattle.std.proofs.lemmas.Bool.{and_parts, le-ltb, ltb-false, false≢true}
 use Rattle.std.proofs.lemmas.List.{append-nil, length-replicate}
 use Rattle.mon_base.specs.Reading.{◌>>=◌}
@@ -17,18 +17,20 @@ use Rattle.event_record.specs.declared.fault.RecordFault.TheVariants.{Line, Memo
 use Rattle.event_record.specs.declared.reading.Record.{Record}
 use Rattle.event_record.specs.declared.reading.Told.{Told}
 use Rattle.event_record.specs.Entry.{entry_of}
-use Rattle.event_record.specs.Fault.{Answers, Refuses}
+use Rattle.mon_base.specs.Answer.{Answers, Fails}
 use Rattle.event_record.specs.Library.{Library, library_of}
+use Rattle.event_record.specs.Printing.{HasNoBreak}
 use Rattle.event_record.specs.Record.{after_line, after_lines, answered, empty_record, ended, goes_on, is_none, is_over, more_steps, over, plain, reading, with_entry, with_read, with_steps}
 use Rattle.event_record.specs.Spelling.{AreEntries, GoesOn, SpellsEnd, SpellsEntry, SpellsRecord, events_of, record_of, steps_of}
 use Rattle.event_record.proofs.Found.{either, ok_is, then_ok}
 use Rattle.event_record.proofs.LineLaws.{entry_again, entry_found}
+use Rattle.event_record.proofs.Unbroken.{lines_have_no_newline, words_have_no_break}
 
-abbrev made : List Step → List Event → Record
+abbrev pub made : List Step → List Event → Record
 made steps events = record { steps = steps; events = events }
 
 -- the record with an entry behind it, and with several
-abbrev added : Record → Entry → Record
+abbrev pub added : Record → Entry → Record
 added r entry = made (r.steps ++ steps_of entry) (r.events ++ events_of entry)
 
 abbrev with_all : Record → List Entry → Record
@@ -40,7 +42,7 @@ with_none r = ap₂ made (sym (append-nil r.steps)) (sym (append-nil r.events))
 with_more : (r : Record) (entry : Entry) (entries : List Entry) → with_all (added r entry) entries ≡ with_all r (entry ∷ entries)
 with_more r entry entries = ap₂ made (append_assoc r.steps (steps_of entry) (flat_map steps_of entries)) (append_assoc r.events (events_of entry) (flat_map events_of entries))
 
-some_line : (lines : List (List ℕ)) (last : List ℕ) (rest : List (List ℕ)) → is_none (lines ++ last ∷ rest) ≡ false
+pub some_line : (lines : List (List ℕ)) (last : List ℕ) (rest : List (List ℕ)) → is_none (lines ++ last ∷ rest) ≡ false
 some_line [] last rest = refl
 some_line (line ∷ lines) last rest = refl
 
@@ -51,7 +53,7 @@ steps_again number r count step few =
     let test : nat_lt 1000000 (length r.steps + count) ≡ false = le-ltb 1000000 (length r.steps + count) (omega (arith, few, length-append r.steps (replicate count step), length-replicate count step)) in
     rw test (ap (λ (events : List Event). Ok (goes_on (made (r.steps ++ replicate count step) events))) (sym (append-nil r.events)))
 
-entry_added : (number : ℕ) (r : Record) (entry : Entry) → GoesOn entry → length (r.steps ++ steps_of entry) ≤ 1000000 → with_entry number r entry ≡ Ok (goes_on (added r entry))
+pub entry_added : (number : ℕ) (r : Record) (entry : Entry) → GoesOn entry → length (r.steps ++ steps_of entry) ≤ 1000000 → with_entry number r entry ≡ Ok (goes_on (added r entry))
 entry_added number r (Go thread count) on few = steps_again number r count (plain thread) few
 entry_added number r (Answer thread answer) on few = steps_again number r 1 (answered thread answer) few
 entry_added number r (Seen event) on few = ap (λ (steps : List Step). Ok (goes_on (made steps (r.events ++ event ∷ [])))) (sym (append-nil r.steps))
@@ -127,7 +129,7 @@ over_is (last ∷ rest) some e = let parts = and_parts (is_none last) (is_none r
 abbrev Others : Library → List (List ℕ) → Type 0
 Others library rest = (number : ℕ) (r out : Record) → length r.steps ≤ 1000000 → after_lines library number r rest ≡ Ok out → IsRead library r out rest
 
-module _ (library : Library) (line : List ℕ) (rest : List (List ℕ)) (some : is_none rest ≡ false) (others : Others library rest) (number : ℕ) (r out : Record) (few : length r.steps ≤ 1000000) where
+module _ (library : Library) (line : List ℕ) (rest : List (List ℕ)) (clear : AllByRecursion HasNoBreak (pieces 32 line)) (some : is_none rest ≡ false) (others : Others library rest) (number : ℕ) (r out : Record) (few : length r.steps ≤ 1000000) where
   abbrev after : Told → Result Record RecordFault
   after told = cond told.is_last (over number told.after rest) (after_lines library (number + 1) told.after rest)
 
@@ -165,37 +167,37 @@ module _ (library : Library) (line : List ℕ) (rest : List (List ℕ)) (some : 
 
   line_found : (read : Read Entry) (told : Told) → entry_of library (pieces 32 line) ≡ read → with_read number r read ≡ Ok told → after told ≡ Ok out → IsRead library r out (line ∷ rest)
   line_found (Err e) told is with h = absurd cc
-  line_found (Ok (Go thread count)) told is taken h = goes (Go thread count) told tt (entry_found library (pieces 32 line) (Go thread count) is) taken h
-  line_found (Ok (Answer thread answer)) told is taken h = goes (Answer thread answer) told tt (entry_found library (pieces 32 line) (Answer thread answer) is) taken h
-  line_found (Ok (Seen event)) told is taken h = goes (Seen event) told tt (entry_found library (pieces 32 line) (Seen event) is) taken h
-  line_found (Ok End) told is taken h = ends told (entry_found library (pieces 32 line) End is) (ok_is taken) h
+  line_found (Ok (Go thread count)) told is taken h = goes (Go thread count) told tt (entry_found library (pieces 32 line) (Go thread count) clear is) taken h
+  line_found (Ok (Answer thread answer)) told is taken h = goes (Answer thread answer) told tt (entry_found library (pieces 32 line) (Answer thread answer) clear is) taken h
+  line_found (Ok (Seen event)) told is taken h = goes (Seen event) told tt (entry_found library (pieces 32 line) (Seen event) clear is) taken h
+  line_found (Ok End) told is taken h = ends told (entry_found library (pieces 32 line) End clear is) (ok_is taken) h
 
-lines_found : (library : Library) (parts : List (List ℕ)) → Others library parts
+lines_found : (library : Library) (parts : List (List ℕ)) → AllByRecursion (AllByRecursion (λ b. b ≢ 10)) parts → Others library parts
 unfolding after_line
-lines_found library [] number r out few h = absurd cc
-lines_found library (line ∷ rest) number r out few h =
+lines_found library [] clear number r out few h = absurd cc
+lines_found library (line ∷ rest) clear number r out few h =
     either (IsRead library r out (line ∷ rest)) (is_none rest) (Err (Line number)) (with_read number r (entry_of library (pieces 32 line)) >>= λ told. cond told.is_last (over number told.after rest) (after_lines library (number + 1) told.after rest)) (Ok out) h
     (λ none e. absurd cc)
     (λ some e.
     let read = then_ok (with_read number r (entry_of library (pieces 32 line))) (λ told. cond told.is_last (over number told.after rest) (after_lines library (number + 1) told.after rest)) out e in
-    line_found library line rest some (lines_found library rest) number r out few (entry_of library (pieces 32 line)) read.0 refl read.1 read.2)
+    line_found library line rest (words_have_no_break line clear.0) some (lines_found library rest clear.1) number r out few (entry_of library (pieces 32 line)) read.0 refl read.1 read.2)
 
 pub text_found : (listing : Listing) (text : List ℕ) (r : Record) → reading text listing ≡ Ok r → SpellsRecord listing text r
 unfolding reading
 text_found listing text r h =
-    let read = lines_found (library_of listing) (pieces 10 text) 1 empty_record r (omega arith) h in
+    let read = lines_found (library_of listing) (pieces 10 text) (lines_have_no_newline text) 1 empty_record r (omega arith) h in
     record { lines = read.lines; last = read.last; entries = read.entries; ended = read.ended; spelled = read.spelled; over = read.over; told = read.told; few = read.few }
 
 -- ---- a call that answers what is read
 
-pub answer_found : (listing : Listing) (text : List ℕ) (result : Result Record RecordFault) → Answers result (reading text listing) → IfOk result (λ r. SpellsRecord listing text r)
+pub answer_found : (listing : Listing) (text : List ℕ) (result : Result Record RecordFault) → Answers Memory result (reading text listing) → IfOk result (λ r. SpellsRecord listing text r)
 answer_found listing text (Ok r) h = text_found listing text r h
 answer_found listing text (Err e) h = tt
 
-refused : (e : RecordFault) (r : Record) (read : Result Record RecordFault) → Refuses e read → read ≡ Ok r → e ≡ Memory
+refused : (e : RecordFault) (r : Record) (read : Result Record RecordFault) → Fails Memory e read → read ≡ Ok r → e ≡ Memory
 refused Memory r read h is = refl
-refused (Line line) r read h is = absurd cc
+refused (Line line) r read h is = let told : read ≡ Err (Line line) = h (λ same. cc) in absurd cc
 
-pub answer_only : (listing : Listing) (text : List ℕ) (result : Result Record RecordFault) → Answers result (reading text listing) → (r : Record) → SpellsRecord listing text r → MatchResult result (λ x. x ≡ r) (λ e. e ≡ Memory)
+pub answer_only : (listing : Listing) (text : List ℕ) (result : Result Record RecordFault) → Answers Memory result (reading text listing) → (r : Record) → SpellsRecord listing text r → MatchResult result (λ x. x ≡ r) (λ e. e ≡ Memory)
 answer_only listing text (Ok x) h r s = ok_is (sym h ∙ text_again listing text r s)
 answer_only listing text (Err e) h r s = refused e r (reading text listing) h (text_again listing text r s)

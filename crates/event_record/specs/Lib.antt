@@ -6,3 +6,5 @@ pub mod Entry
 pub mod Record
 pub mod Printing
 pub mod Spelling
+pub mod Again
+pub mod FirstFault

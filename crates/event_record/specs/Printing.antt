@@ -1,5 +1,5 @@
 -- Values and events as they are printed.
-use Rattle.std.specs.Prelude.{◌≡◌, ◌≢◌, ◌<◌, ◌^◌, ◌==◌, All, FitsSigned, ℕ, ◌++◌, decimal, codes, true, false, List, [], ◌∷◌, map, Option, Some, None, slice_get}
+use Rattle.std.specs.Prelude.{◌≡◌, ◌≢◌, ◌<◌, ◌^◌, FitsSigned, ℕ, ◌++◌, decimal, codes, true, false, List, [], ◌∷◌, map, Option, Some, None, slice_get}
 use Rattle.std.specs.Int.{w32}
 use Rattle.std.specs.List.{AllByRecursion, flat_map}
 use Rattle.std.specs.Option.{option_map_or}
@@ -45,13 +45,17 @@ event_line methods event = event_text methods event ++ 10 ∷ []
 
 -- ---- what can be printed and read again
 
--- Its numbers have 32 bits, its bytes are bytes, and its class is not empty.
+-- The word has no space and no newline.
+abbrev pub HasNoBreak : List ℕ → Type 0
+HasNoBreak word = AllByRecursion (λ b. (b ≢ 32) × (b ≢ 10)) word
+
+-- Its numbers have 32 bits, its bytes are bytes, and its class is a word without a break, and not empty.
 abbrev pub IsValue : ApiValue → Type 0
 IsValue (Int n) = FitsSigned w32 n
 IsValue Null = Unit {0}
 IsValue (Text bytes) = AllByRecursion (λ b. b < 256) bytes
-IsValue (Obj class at) = (class ≢ []) × (at < 2 ^ 32)
-IsValue (Class class) = class ≢ []
+IsValue (Obj class at) = (class ≢ []) × HasNoBreak class × (at < 2 ^ 32)
+IsValue (Class class) = (class ≢ []) × HasNoBreak class
 
 abbrev pub result_words : Option ApiValue → List (List ℕ)
 result_words None = []
@@ -86,5 +90,8 @@ pub record IsEventOf (library : Library) (id : MethodId) (event : Event) : Type 
   pub numbered : thread_of event < 2 ^ 32
   pub given : IsGiven id.desc event
 
-abbrev pub HasNoSpace : List ℕ → Type 0
-HasNoSpace word = All (λ b. (b == 32) ≡ false) word
+-- The class, the name and the descriptor are words without a break.
+pub record IsInWords (id : MethodId) : Type 0 where
+  pub class : HasNoBreak id.class
+  pub name : HasNoBreak id.name
+  pub desc : HasNoBreak id.desc

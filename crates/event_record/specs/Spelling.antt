@@ -76,12 +76,16 @@ IsStopValue (Budget n) = Unit {0}
 IsStopValue (Device n) = Unit {0}
 IsStopValue (Running n) = Unit {0}
 
--- The words are those of an end line, whose number of steps is not compared with anything.
+-- Its numbers are those that an end line may have. The number of steps is not compared with anything.
+pub record IsEnding (ending : Ending) : Type 0 where
+  pub count : steps_told ending < 2 ^ 63
+  pub value : IsStopValue ending
+
+-- The words are those of an end line.
 pub record SpellsEnd (words : List (List ℕ)) : Type 0 where
   pub ending : Ending
   pub spelled : words ≡ ending_words ending
-  pub count : steps_told ending < 2 ^ 63
-  pub value : IsStopValue ending
+  pub is : IsEnding ending
 
 -- The words are those of an event of a method that the library has.
 pub record SpellsEvent (library : Library) (words : List (List ℕ)) (event : Event) : Type 0 where

@@ -1,7 +1,7 @@
 //! The lines of a record, each by itself.
 
 ghost use Rattle.std.specs.Prelude.{◌≡◌, [], IfOk, length};
-ghost use Rattle.api_listing.specs.Fault.{Reads};
+ghost use Rattle.mon_base.specs.Answer.{Answers};
 ghost use Rattle.event_record.specs.Library.{library_in};
 ghost use Rattle.event_record.specs.Entry.{
   answer_line,
@@ -57,7 +57,7 @@ pub enum Entry {
 /// What the words of a line tell, over the names of a listing.
 #[tactic(auto, unfolding(crate::specs::Entry::entry_of))]
 pub fn entry_of(alloc: Global, names: &Names, words: &[Bytes]) -> Result<Entry, FormFault>
-    ensures { Reads result (entry_of (library_in names.now) words.now) }
+    ensures { Answers FormFault.Memory result (entry_of (library_in names.now) words.now) }
 {
     match words {
         [verb, second, third, rest @ ..] => line_of(
@@ -81,7 +81,7 @@ fn line_of(
     third: &[u8],
     rest: &[Bytes],
 ) -> Result<Entry, FormFault>
-    ensures { Reads result (line_of (library_in names.now) verb.now second.now third.now rest.now) }
+    ensures { Answers FormFault.Memory result (line_of (library_in names.now) verb.now second.now third.now rest.now) }
 {
     if is_text(verb, "go") {
         go_line(second, third, rest)
@@ -95,7 +95,7 @@ fn line_of(
 }
 
 fn index_at(word: &[u8]) -> Result<u32, FormFault>
-    ensures { Reads result (index_at word.now) }
+    ensures { Answers FormFault.Memory result (index_at word.now) }
 {
     match index_of(word) {
         Some(index) => Ok(index),
@@ -107,7 +107,7 @@ fn index_at(word: &[u8]) -> Result<u32, FormFault>
 
 #[tactic(auto, unfolding(crate::specs::Entry::go_line))]
 fn go_line(thread: &[u8], count: &[u8], rest: &[Bytes]) -> Result<Entry, FormFault>
-    ensures { Reads result (go_line thread.now count.now rest.now) }
+    ensures { Answers FormFault.Memory result (go_line thread.now count.now rest.now) }
 {
     let thread = index_at(thread)?;
     let count = index_at(count)?;
@@ -125,7 +125,7 @@ fn answer_line(
     kind: &[u8],
     rest: &[Bytes],
 ) -> Result<Entry, FormFault>
-    ensures { Reads result (answer_line (library_in names.now) thread.now kind.now rest.now) }
+    ensures { Answers FormFault.Memory result (answer_line (library_in names.now) thread.now kind.now rest.now) }
 {
     let thread = index_at(thread)?;
     let answer = answer_of(alloc, names, kind, rest)?;
@@ -139,7 +139,7 @@ fn answer_of(
     kind: &[u8],
     rest: &[Bytes],
 ) -> Result<ApiAnswer, FormFault>
-    ensures { Reads result (answer_of (library_in names.now) kind.now rest.now) }
+    ensures { Answers FormFault.Memory result (answer_of (library_in names.now) kind.now rest.now) }
 {
     match rest {
         [] => bare_answer(kind),
@@ -151,7 +151,7 @@ fn answer_of(
 /// An answer of one word.
 #[tactic(auto, unfolding(crate::specs::Entry::bare_answer))]
 fn bare_answer(kind: &[u8]) -> Result<ApiAnswer, FormFault>
-    ensures { Reads result (bare_answer kind.now) }
+    ensures { Answers FormFault.Memory result (bare_answer kind.now) }
 {
     if is_text(kind, "nothing") {
         Ok(ApiAnswer::Nothing)
@@ -172,7 +172,7 @@ fn answer_with(
     kind: &[u8],
     word: &Bytes,
 ) -> Result<ApiAnswer, FormFault>
-    ensures { Reads result (answer_with (library_in names.now) kind.now word.now) }
+    ensures { Answers FormFault.Memory result (answer_with (library_in names.now) kind.now word.now) }
 {
     if is_text(kind, "int") {
         int_answer(word.as_slice())
@@ -191,7 +191,7 @@ fn answer_with(
 
 #[tactic(auto, unfolding(crate::specs::Entry::int_answer))]
 fn int_answer(word: &[u8]) -> Result<ApiAnswer, FormFault>
-    ensures { Reads result (int_answer word.now) }
+    ensures { Answers FormFault.Memory result (int_answer word.now) }
 {
     match int_of(word) {
         Some(n) => Ok(ApiAnswer::Int(n)),
@@ -201,14 +201,14 @@ fn int_answer(word: &[u8]) -> Result<ApiAnswer, FormFault>
 
 #[tactic(auto, unfolding(crate::specs::Entry::text_answer))]
 fn text_answer(alloc: Global, word: &[u8]) -> Result<ApiAnswer, FormFault>
-    ensures { Reads result (text_answer word.now) }
+    ensures { Answers FormFault.Memory result (text_answer word.now) }
 {
     Ok(ApiAnswer::Text(hex_at(alloc, word)?))
 }
 
 #[tactic(auto, unfolding(crate::specs::Entry::fresh_answer))]
 fn fresh_answer(alloc: Global, names: &Names, word: &Bytes) -> Result<ApiAnswer, FormFault>
-    ensures { Reads result (fresh_answer (library_in names.now) word.now) }
+    ensures { Answers FormFault.Memory result (fresh_answer (library_in names.now) word.now) }
 {
     if !names.classes.contains(word) {
         return Err(FormFault::NoForm);
@@ -218,7 +218,7 @@ fn fresh_answer(alloc: Global, names: &Names, word: &Bytes) -> Result<ApiAnswer,
 
 #[tactic(auto, unfolding(crate::specs::Entry::throws_answer))]
 fn throws_answer(alloc: Global, names: &Names, word: &Bytes) -> Result<ApiAnswer, FormFault>
-    ensures { Reads result (throws_answer (library_in names.now) word.now) }
+    ensures { Answers FormFault.Memory result (throws_answer (library_in names.now) word.now) }
 {
     if !names.classes.contains(word) {
         return Err(FormFault::NoForm);
@@ -228,7 +228,7 @@ fn throws_answer(alloc: Global, names: &Names, word: &Bytes) -> Result<ApiAnswer
 
 #[tactic(auto, unfolding(crate::specs::Entry::arg_answer))]
 fn arg_answer(word: &[u8]) -> Result<ApiAnswer, FormFault>
-    ensures { Reads result (arg_answer word.now) }
+    ensures { Answers FormFault.Memory result (arg_answer word.now) }
 {
     Ok(ApiAnswer::Arg(index_at(word)?))
 }
@@ -244,7 +244,7 @@ fn event_line(
     class: &[u8],
     rest: &[Bytes],
 ) -> Result<Entry, FormFault>
-    ensures { Reads result (event_line (library_in names.now) verb.now thread.now class.now rest.now) }
+    ensures { Answers FormFault.Memory result (event_line (library_in names.now) verb.now thread.now class.now rest.now) }
 {
     match rest {
         [name, desc, values @ ..] => {
@@ -274,7 +274,7 @@ fn method_event(
     id: &MethodId,
     values: &[Bytes],
 ) -> Result<Entry, FormFault>
-    ensures { Reads result (method_event (library_in names.now) verb.now thread.now id.now values.now) }
+    ensures { Answers FormFault.Memory result (method_event (library_in names.now) verb.now thread.now id.now values.now) }
 {
     let thread = index_at(thread)?;
     match names.methods.get(id) {
@@ -302,7 +302,7 @@ fn event_of(
     void: bool,
     values: &[Bytes],
 ) -> Result<Entry, FormFault>
-    ensures { Reads result (event_of verb.now thread method void values.now) }
+    ensures { Answers FormFault.Memory result (event_of verb.now thread method void values.now) }
 {
     if is_text(verb, "call") {
         call_event(alloc, thread, method, values)
@@ -317,7 +317,7 @@ fn event_of(
 
 #[tactic(auto, unfolding(crate::specs::Entry::call_event))]
 fn call_event(alloc: Global, thread: u32, method: u32, values: &[Bytes]) -> Result<Entry, FormFault>
-    ensures { Reads result (call_event thread method values.now) }
+    ensures { Answers FormFault.Memory result (call_event thread method values.now) }
 {
     let args = values_of(alloc, values)?;
     Ok(Entry::Seen(Event::Call {
@@ -328,7 +328,7 @@ fn call_event(alloc: Global, thread: u32, method: u32, values: &[Bytes]) -> Resu
 }
 
 fn values_of(alloc: Global, words: &[Bytes]) -> Result<List<ApiValue>, FormFault>
-    ensures { Reads result (values_from [] words.now) }
+    ensures { Answers FormFault.Memory result (values_from [] words.now) }
 {
     let mut values = List::new(alloc);
     let mut left = words;
@@ -347,7 +347,7 @@ fn return_event(
     void: bool,
     values: &[Bytes],
 ) -> Result<Entry, FormFault>
-    ensures { Reads result (return_event thread method void values.now) }
+    ensures { Answers FormFault.Memory result (return_event thread method void values.now) }
 {
     let value = result_of(alloc, void, values)?;
     Ok(Entry::Seen(Event::Return {
@@ -359,7 +359,7 @@ fn return_event(
 
 #[tactic(auto, unfolding(crate::specs::Entry::result_of))]
 fn result_of(alloc: Global, void: bool, values: &[Bytes]) -> Result<Option<ApiValue>, FormFault>
-    ensures { Reads result (result_of void values.now) }
+    ensures { Answers FormFault.Memory result (result_of void values.now) }
 {
     match values {
         [] => {
@@ -382,7 +382,7 @@ fn result_of(alloc: Global, void: bool, values: &[Bytes]) -> Result<Option<ApiVa
 
 #[tactic(auto, unfolding(crate::specs::Entry::except_event))]
 fn except_event(thread: u32, method: u32, values: &[Bytes]) -> Result<Entry, FormFault>
-    ensures { Reads result (except_event thread method values.now) }
+    ensures { Answers FormFault.Memory result (except_event thread method values.now) }
 {
     if !values.is_empty() {
         return Err(FormFault::NoForm);
@@ -394,7 +394,7 @@ fn except_event(thread: u32, method: u32, values: &[Bytes]) -> Result<Entry, For
 
 #[tactic(auto, unfolding(crate::specs::Entry::end_line))]
 fn end_line(kind: &[u8], second: &[u8], rest: &[Bytes]) -> Result<Entry, FormFault>
-    ensures { Reads result (end_line kind.now second.now rest.now) }
+    ensures { Answers FormFault.Memory result (end_line kind.now second.now rest.now) }
 {
     if ends(kind, second, rest) {
         Ok(Entry::End)

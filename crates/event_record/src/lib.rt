@@ -6,6 +6,7 @@
 
 mod entry;
 mod fault;
+mod laws;
 mod names;
 mod number;
 mod printing;
@@ -14,6 +15,7 @@ mod value;
 mod words;
 
 pub use fault::RecordFault;
+pub use laws::faults_stay;
 pub use names::methods_are_found;
 pub use printing::{events_are_read_again, push_event, push_value, values_are_read_again};
 pub use reading::{Record, read_record};

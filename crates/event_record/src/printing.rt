@@ -1,25 +1,17 @@
 //! Values and events as a record has them.
 
-ghost use Rattle.std.specs.Prelude.{◌≡◌, ◌<◌, ◌++◌, List, OnOk, Ok, Some, slice_get};
-ghost use Rattle.std.specs.List.{AllByRecursion, flat_map};
-ghost use Rattle.api_listing.specs.Words.{pieces};
+ghost use Rattle.std.specs.Prelude.{◌≡◌, ◌<◌, ◌++◌, OnOk, Ok};
+ghost use Rattle.std.specs.List.{flat_map};
 ghost use Rattle.api_listing.specs.declared.events.ApiValue.{ApiValue};
-ghost use Rattle.api_listing.specs.declared.events.Event.{Event};
-ghost use Rattle.api_listing.specs.declared.types.ListedMethod.{ListedMethod};
-ghost use Rattle.event_record.specs.declared.entry.Entry.TheVariants.{Seen};
-ghost use Rattle.event_record.specs.Entry.{entry_of};
-ghost use Rattle.event_record.specs.Library.{Library};
+ghost use Rattle.event_record.specs.Again.{EventIsReadAgain, EventsAreReadAgain};
 ghost use Rattle.event_record.specs.Printing.{
-  HasNoSpace,
-  IsEventOf,
+  HasNoBreak,
   IsValue,
   behind,
   event_line,
   event_text,
-  event_words,
   head_text,
   method_behind,
-  method_of,
   named_behind,
   result_behind,
   value_behind,
@@ -53,18 +45,18 @@ pub fn push_value(out: &mut Bytes, value: &ApiValue) -> Result<(), NoMemory>
     }
 }
 
-/// What is printed of a value is read as that value.
+/// What is printed of a value is read as that value, and is one word of a line.
 pub fn values_are_read_again()
-    ensures { (value : ApiValue) → IsValue value → value_at (value_word value) ≡ Ok value }
+    ensures again { (value : ApiValue) → IsValue value → value_at (value_word value) ≡ Ok value }
+    ensures word { (value : ApiValue) → IsValue value → HasNoBreak (value_word value) }
 {}
 
-/// The line of an event is read as that event, where no word of it has a space: the listing has the event's method at its
-/// index, and that is the index that is found under the method's class, name and descriptor.
+/// What is printed of events is read as these events, where no word breaks: a line by itself, and a record whole. The
+/// listing has the method of each event at its index, and that is the index that is found under the method's class, name
+/// and descriptor.
 pub fn events_are_read_again()
-    ensures { (library : Library) (methods : List ListedMethod) (m : ListedMethod) (event : Event)
-        → slice_get methods (method_of event) ≡ Some m → IsEventOf library m.id event
-        → AllByRecursion HasNoSpace (event_words m.id event)
-        → entry_of library (pieces 32 (event_text methods event)) ≡ Ok (Seen event) }
+    ensures line { EventIsReadAgain }
+    ensures text { EventsAreReadAgain }
 {}
 
 /// Two digits for each byte, or `-` for none.

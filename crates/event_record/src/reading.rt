@@ -4,7 +4,7 @@ ghost use Rattle.std.specs.Prelude.{◌≡◌, ◌<◌, ◌+◌, ◌++◌, ◌^�
 ghost use Rattle.api_listing.specs.Words.{pieces};
 ghost use Rattle.event_record.specs.declared.fault.RecordFault.TheVariants.{Memory};
 ghost use Rattle.event_record.specs.declared.reading.Record.{Record};
-ghost use Rattle.event_record.specs.Fault.{Answers};
+ghost use Rattle.mon_base.specs.Answer.{Answers};
 ghost use Rattle.event_record.specs.Library.{library_in, library_of};
 ghost use Rattle.event_record.specs.Record.{
   after_line,
@@ -46,7 +46,7 @@ pub struct Told {
 pub fn read_record(alloc: Global, text: &[u8], listing: &Listing) -> Result<Record, RecordFault>
     requires listed { length listing.now.methods < 2 ^ 32 }
     // What is read decides the answer, and which line is the first that is wrong.
-    ensures exact { Answers result (reading text.now listing.now) }
+    ensures exact { Answers RecordFault.Memory result (reading text.now listing.now) }
     // What is read is spelled so.
     ensures found { IfOk result (λ r. SpellsRecord listing.now text.now r) }
     // What is spelled so is read, unless memory runs out.
@@ -58,7 +58,7 @@ pub fn read_record(alloc: Global, text: &[u8], listing: &Listing) -> Result<Reco
 
 fn read_text(alloc: Global, text: &[u8], listing: &Listing) -> Result<Record, RecordFault>
     requires { length listing.now.methods < 2 ^ 32 }
-    ensures { Answers result (reading text.now listing.now) }
+    ensures { Answers RecordFault.Memory result (reading text.now listing.now) }
 {
     let names = names_of(alloc, listing)?;
     let lines = parts_of(alloc, text, b'\n')?;
@@ -67,7 +67,7 @@ fn read_text(alloc: Global, text: &[u8], listing: &Listing) -> Result<Record, Re
 
 fn read_lines(alloc: Global, names: &Names, lines: &[&[u8]]) -> Result<Record, RecordFault>
     requires { length lines.now < 2 ^ 63 }
-    ensures { Answers result (after_lines (library_in names.now) 1 empty_record (map (λ p. p.now) lines.now)) }
+    ensures { Answers RecordFault.Memory result (after_lines (library_in names.now) 1 empty_record (map (λ p. p.now) lines.now)) }
 {
     let mut so_far = empty_record(alloc);
     let mut number: u64 = 1;
@@ -99,7 +99,7 @@ fn empty_record(alloc: Global) -> Record
 /// What the end line gives, with what stands behind its newline.
 fn over(number: u64, so_far: Record, rest: &[&[u8]]) -> Result<Record, RecordFault>
     requires { number + 1 < 2 ^ 64 }
-    ensures { Answers result (over number so_far (map (λ p. p.now) rest.now)) }
+    ensures { Answers RecordFault.Memory result (over number so_far (map (λ p. p.now) rest.now)) }
 {
     if is_over(rest) {
         Ok(so_far)
@@ -126,7 +126,7 @@ fn after_line(
     so_far: Record,
     line: &[u8],
 ) -> Result<Told, RecordFault>
-    ensures { Answers result (after_line (library_in names.now) number so_far line.now) }
+    ensures { Answers RecordFault.Memory result (after_line (library_in names.now) number so_far line.now) }
 {
     let words = words_of(alloc, line)?;
     match entry_of(alloc, names, words.as_slice()) {
@@ -137,7 +137,7 @@ fn after_line(
 }
 
 fn with_entry(number: u64, so_far: Record, entry: Entry) -> Result<Told, RecordFault>
-    ensures { Answers result (with_entry number so_far entry) }
+    ensures { Answers RecordFault.Memory result (with_entry number so_far entry) }
 {
     match entry {
         Entry::Go { thread, count } => plain_steps(number, so_far, thread, count),
@@ -170,7 +170,7 @@ fn goes_on(steps: List<Step>, events: List<Event>) -> Told
 
 /// So many plain steps of a thread more.
 fn plain_steps(number: u64, so_far: Record, thread: u32, count: u32) -> Result<Told, RecordFault>
-    ensures { Answers result (more_steps number so_far count (plain thread)) }
+    ensures { Answers RecordFault.Memory result (more_steps number so_far count (plain thread)) }
 {
     let Record { mut steps, events } = so_far;
     if too_many(steps.len(), count) {
@@ -182,7 +182,7 @@ fn plain_steps(number: u64, so_far: Record, thread: u32, count: u32) -> Result<T
 
 /// A step more.
 fn one_step(number: u64, so_far: Record, step: Step) -> Result<Told, RecordFault>
-    ensures { Answers result (more_steps number so_far 1 step) }
+    ensures { Answers RecordFault.Memory result (more_steps number so_far 1 step) }
 {
     let Record { mut steps, events } = so_far;
     if too_many(steps.len(), 1) {

@@ -1,7 +1,7 @@
 //! Values as words of a record.
 
 ghost use Rattle.std.specs.Prelude.{◌≡◌, ◌<◌, [], length, drop, None, IfOk, IfSome};
-ghost use Rattle.api_listing.specs.Fault.{Reads};
+ghost use Rattle.mon_base.specs.Answer.{Answers};
 ghost use Rattle.event_record.specs.Value.{
   begins,
   byte_at,
@@ -26,7 +26,7 @@ use std::alloc::Global;
 /// The value that a word is.
 #[tactic(auto, unfolding(crate::specs::Value::value_at))]
 pub fn value_at(alloc: Global, word: &[u8]) -> Result<ApiValue, FormFault>
-    ensures { Reads result (value_at word.now) }
+    ensures { Answers FormFault.Memory result (value_at word.now) }
 {
     if is_text(word, "null") {
         Ok(ApiValue::Null)
@@ -56,14 +56,14 @@ fn behind(text: &[u8], n: usize) -> &[u8]
 
 #[tactic(auto, unfolding(crate::specs::Value::text_value))]
 fn text_value(alloc: Global, text: &[u8]) -> Result<ApiValue, FormFault>
-    ensures { Reads result (text_value text.now) }
+    ensures { Answers FormFault.Memory result (text_value text.now) }
 {
     Ok(ApiValue::Text(hex_at(alloc, text)?))
 }
 
 #[tactic(auto, unfolding(crate::specs::Value::object_value))]
 fn object_value(alloc: Global, text: &[u8]) -> Result<ApiValue, FormFault>
-    ensures { Reads result (object_value text.now) }
+    ensures { Answers FormFault.Memory result (object_value text.now) }
 {
     match last_at(text) {
         Some(place) => object_parts(alloc, text, place),
@@ -74,7 +74,7 @@ fn object_value(alloc: Global, text: &[u8]) -> Result<ApiValue, FormFault>
 #[tactic(auto, unfolding(crate::specs::Value::object_parts))]
 fn object_parts(alloc: Global, text: &[u8], place: usize) -> Result<ApiValue, FormFault>
     requires { place < length text.now }
-    ensures { Reads result (object_parts text.now place) }
+    ensures { Answers FormFault.Memory result (object_parts text.now place) }
 {
     if place == 0 {
         return Err(FormFault::NoForm);
@@ -106,7 +106,7 @@ fn last_at(text: &[u8]) -> Option<usize>
 
 #[tactic(auto, unfolding(crate::specs::Value::class_value))]
 fn class_value(alloc: Global, text: &[u8]) -> Result<ApiValue, FormFault>
-    ensures { Reads result (class_value text.now) }
+    ensures { Answers FormFault.Memory result (class_value text.now) }
 {
     if text.is_empty() {
         return Err(FormFault::NoForm);
@@ -116,7 +116,7 @@ fn class_value(alloc: Global, text: &[u8]) -> Result<ApiValue, FormFault>
 
 #[tactic(auto, unfolding(crate::specs::Value::int_value))]
 fn int_value(text: &[u8]) -> Result<ApiValue, FormFault>
-    ensures { Reads result (int_value text.now) }
+    ensures { Answers FormFault.Memory result (int_value text.now) }
 {
     match int_of(text) {
         Some(n) => Ok(ApiValue::Int(n)),
@@ -127,7 +127,7 @@ fn int_value(text: &[u8]) -> Result<ApiValue, FormFault>
 /// The bytes that pairs of digits spell, or `-` for none.
 #[tactic(auto, unfolding(crate::specs::Value::hex_at))]
 pub fn hex_at(alloc: Global, text: &[u8]) -> Result<Bytes, FormFault>
-    ensures { Reads result (hex_at text.now) }
+    ensures { Answers FormFault.Memory result (hex_at text.now) }
 {
     if is_text(text, "-") {
         return Ok(Bytes::new(alloc));
@@ -139,7 +139,7 @@ pub fn hex_at(alloc: Global, text: &[u8]) -> Result<Bytes, FormFault>
 }
 
 fn bytes_of(alloc: Global, text: &[u8]) -> Result<Bytes, FormFault>
-    ensures { Reads result (bytes_from [] text.now) }
+    ensures { Answers FormFault.Memory result (bytes_from [] text.now) }
 {
     let mut bytes = Bytes::new(alloc);
     let mut left = text;
@@ -155,7 +155,7 @@ fn bytes_of(alloc: Global, text: &[u8]) -> Result<Bytes, FormFault>
 }
 
 fn byte_at(high: u8, low: u8) -> Result<u8, FormFault>
-    ensures { Reads result (byte_at high low) }
+    ensures { Answers FormFault.Memory result (byte_at high low) }
 {
     let high = digit_at(high)?;
     let low = digit_at(low)?;
@@ -163,7 +163,7 @@ fn byte_at(high: u8, low: u8) -> Result<u8, FormFault>
 }
 
 fn digit_at(b: u8) -> Result<u8, FormFault>
-    ensures read { Reads result (digit_at b) }
+    ensures read { Answers FormFault.Memory result (digit_at b) }
     ensures low { IfOk result (λ n. n < 16) }
 {
     if 48 <= b && b <= 57 {

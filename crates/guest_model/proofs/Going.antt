@@ -8,12 +8,13 @@ use Rattle.api_listing.specs.declared.events.Event.{Event}
 use Rattle.insn_codec.specs.declared.insn.Insn.{Insn}
 use Rattle.insn_codec.specs.Opcodes.{goes_on as may_go_on}
 use Rattle.insn_codec.specs.Spelling.{opcode_of}
-use Rattle.insn_effect.specs.declared.shape.Heap.TheVariants as heap
-use Rattle.insn_effect.specs.declared.shape.Shape.TheVariants as shapes
-use Rattle.insn_effect.specs.Control.{successors, jump_targets}
-use Rattle.insn_effect.specs.Shapes.{shape_of}
-use Rattle.insn_effect.specs.Table.{ends}
-use Rattle.insn_effect.proofs.Table.{goes_on_alike}
+use Rattle.insn_codec.specs.declared.shape.Heap.TheVariants as heap
+use Rattle.insn_codec.specs.declared.shape.Shape.TheVariants as shapes
+use Rattle.insn_codec.specs.Control.{successors, jump_targets}
+use Rattle.insn_codec.specs.Shapes.{shape_of}
+use Rattle.insn_codec.specs.Table.{ends}
+use Rattle.insn_codec.proofs.Table.{goes_on_alike}
+use Rattle.insn_codec.specs.declared.shape.How.{How}
 use Rattle.bytecode_model.specs.declared.program.Method.{Method}
 use Rattle.bytecode_model.specs.declared.program.Program.{Program}
 use Rattle.bytecode_model.specs.declared.program.Target.{Target}
@@ -37,7 +38,8 @@ module _ (program : Program) (reached : Places) where
   pub record CallsFrom (frame : Frame) (ref : Target) : Type 0 where
     pub insn : Insn
     pub there : IsAt program frame.class frame.method frame.at insn ref
-    pub calls : shape_of insn ≡ shapes.Heap heap.Call
+    pub how : How
+    pub calls : shape_of insn ≡ shapes.Heap (heap.Call how)
 
   pub record Waits (frame : Frame) : Type 0 where
     pub ref : Target

@@ -9,16 +9,17 @@ use Rattle.api_listing.specs.declared.events.Event.{Event}
 use Rattle.api_listing.specs.declared.events.Event.TheVariants as events
 use Rattle.api_listing.specs.declared.types.ListedMethod.{ListedMethod}
 use Rattle.insn_codec.specs.declared.insn.Insn.{Insn}
-use Rattle.insn_effect.specs.declared.shape.Heap.{Heap}
-use Rattle.insn_effect.specs.declared.shape.Heap.TheVariants as heap
-use Rattle.insn_effect.specs.declared.shape.Kind.{Kind}
-use Rattle.insn_effect.specs.declared.shape.Shape.{Shape}
-use Rattle.insn_effect.specs.declared.shape.Shape.TheVariants as shapes
-use Rattle.insn_effect.specs.Control.{next_of}
-use Rattle.insn_effect.specs.Effect.{Moved, effect}
-use Rattle.insn_effect.specs.Shapes.{shape_of}
-use Rattle.insn_effect.specs.Table.{ends, is_heap}
-use Rattle.insn_effect.proofs.Table.{goes_to_successor}
+use Rattle.insn_codec.specs.declared.shape.Heap.{Heap}
+use Rattle.insn_codec.specs.declared.shape.Heap.TheVariants as heap
+use Rattle.insn_codec.specs.declared.shape.Kind.{Kind}
+use Rattle.insn_codec.specs.declared.shape.Shape.{Shape}
+use Rattle.insn_codec.specs.declared.shape.Shape.TheVariants as shapes
+use Rattle.insn_codec.specs.Control.{next_of}
+use Rattle.insn_codec.specs.Effect.{Moved, effect}
+use Rattle.insn_codec.specs.Shapes.{shape_of}
+use Rattle.insn_codec.specs.Table.{ends, is_heap}
+use Rattle.insn_codec.proofs.Table.{goes_to_successor}
+use Rattle.insn_codec.specs.declared.shape.How.{How}
 use Rattle.bytecode_model.specs.declared.program.Method.{Method}
 use Rattle.bytecode_model.specs.declared.program.Program.{Program}
 use Rattle.bytecode_model.specs.declared.program.Target.{Target}
@@ -80,13 +81,13 @@ module _ (program : Program) (reached : Places) (sound : HasInsns program) (clos
           (λ m e. let c = map_of _ (thrown_class machine.heap v) m e in
           subst (GoodMade program reached machine) c.2 (throws_good program reached closed machine machine number (frame ∷ below) thread.to_begin v c.0 None refl stands to_begin tt))
 
-      exits_well : shape_of insn ≡ shapes.Heap heap.Call → Good program reached machine (exits machine thread frame below)
-      exits_well shape = good_then program reached machine _ (slice_get frame.stack.items 0) (λ v e. good_then program reached machine _ (number_in v)
+      exits_well : (how : How) → shape_of insn ≡ shapes.Heap (heap.Call how) → Good program reached machine (exits machine thread frame below)
+      exits_well how shape = good_then program reached machine _ (slice_get frame.stack.items 0) (λ v e. good_then program reached machine _ (number_in v)
           (λ n f. goes_well (stopped_with machine n) _ refl (after_inside insn ref there (ap ends shape) (drop 1 frame.stack.items))))
 
-    calls_well : (insn : Insn) (ref : Target) → IsAt program frame.class frame.method frame.at insn ref → shape_of insn ≡ shapes.Heap heap.Call → Good program reached machine (calls program machine number thread frame below ref)
+    calls_well : (insn : Insn) (ref : Target) (how : How) → IsAt program frame.class frame.method frame.at insn ref → shape_of insn ≡ shapes.Heap (heap.Call how) → Good program reached machine (calls program machine number thread frame below ref)
     unfolding Good
-    calls_well insn (target.ApiMethod listed) there shape =
+    calls_well insn (target.ApiMethod listed) how there shape =
         good_then program reached machine _ (slice_get program.listing.methods listed) (λ m e. λ made f.
         let t = map_of (calls_api program machine number thread frame below listed) (taken m.is_static (arity m.id.desc) frame.stack.items) made f in
         subst (GoodMade program reached machine) t.2 (record {
@@ -95,18 +96,18 @@ module _ (program : Program) (reached : Places) (sound : HasInsns program) (clos
             stand = stands.stand;
             wait = stands.wait;
             to_begin = to_begin;
-            does = record { insn = insn; there = there; calls = shape };
+            does = record { insn = insn; there = there; how = how; calls = shape };
           };
-          seen = record { class = frame.class; method = frame.method; at = frame.at; insn = insn; inside = stands.stand.0; there = there; calls = shape };
+          seen = record { class = frame.class; method = frame.method; at = frame.at; insn = insn; inside = stands.stand.0; there = there; how = how; calls = shape };
         }))
-    calls_well insn (target.Builtin index) there shape = good_if program reached machine (is_exit index) _ _ (exits_well insn (target.Builtin index) there shape) (good_none program reached machine)
-    calls_well insn target.None there shape = good_none program reached machine
-    calls_well insn (target.Method class method) there shape = good_none program reached machine
-    calls_well insn (target.Field class field) there shape = good_none program reached machine
-    calls_well insn (target.ApiField index) there shape = good_none program reached machine
-    calls_well insn (target.ClassName name) there shape = good_none program reached machine
-    calls_well insn (target.Number n) there shape = good_none program reached machine
-    calls_well insn (target.Literal index) there shape = good_none program reached machine
+    calls_well insn (target.Builtin index) how there shape = good_if program reached machine (is_exit index) _ _ (exits_well insn (target.Builtin index) there how shape) (good_none program reached machine)
+    calls_well insn target.None how there shape = good_none program reached machine
+    calls_well insn (target.Method class method) how there shape = good_none program reached machine
+    calls_well insn (target.Field class field) how there shape = good_none program reached machine
+    calls_well insn (target.ApiField index) how there shape = good_none program reached machine
+    calls_well insn (target.ClassName name) how there shape = good_none program reached machine
+    calls_well insn (target.Number n) how there shape = good_none program reached machine
+    calls_well insn (target.Literal index) how there shape = good_none program reached machine
 
   -- the frames below a frame that is left
   returned_well : (machine new : Machine) (thread : Thread) (frames : List Frame) (result : Option Value) → new.threads ≡ machine.threads
@@ -131,7 +132,7 @@ module _ (program : Program) (reached : Places) (sound : HasInsns program) (clos
     heap_well heap.Exit insn ref there shape = good_then program reached machine _ (slice_get frame.stack.items 0) (λ on e. leaves_well machine number thread frame below stands to_begin insn ref there shape on)
     heap_well heap.Throw insn ref there shape = good_then program reached machine _ (slice_get frame.stack.items 0) (λ v e. throws_top_well machine number thread frame below stands to_begin insn ref there v)
     heap_well (heap.Return kind) insn ref there shape = returns_well kind
-    heap_well heap.Call insn ref there shape = calls_well machine number thread frame below stands to_begin insn ref there shape
+    heap_well (heap.Call how) insn ref there shape = calls_well machine number thread frame below stands to_begin insn ref how there shape
     heap_well (heap.ReadItem item) insn ref there shape = good_none program reached machine
     heap_well (heap.WriteItem item) insn ref there shape = good_none program reached machine
     heap_well (heap.Divide remainder) insn ref there shape = good_none program reached machine
@@ -186,7 +187,7 @@ module _ (program : Program) (reached : Places) (sound : HasInsns program) (clos
 
   called_from : (frame : Frame) (listed : ℕ) → Inside program reached frame → CallsFrom program reached frame (target.ApiMethod listed) → IsCalled program reached listed
   called_from frame listed inside from =
-      record { class = frame.class; method = frame.method; at = frame.at; insn = from.insn; inside = inside; there = from.there; calls = from.calls }
+      record { class = frame.class; method = frame.method; at = frame.at; insn = from.insn; inside = inside; there = from.there; how = from.how; calls = from.calls }
 
   module _ (machine : Machine) (number : ℕ) (thread : Thread) (listed : ℕ) (frame : Frame) (below : List Frame) (stands : Standing program reached closed (frame ∷ below)) (to_begin : AllByRecursion (BeginsInside program reached) thread.to_begin) (from : CallsFrom program reached frame (target.ApiMethod listed)) where
     seen_of : (event : Event) → method_of event ≡ listed → SeenWell program reached (Some event)

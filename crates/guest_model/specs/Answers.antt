@@ -17,7 +17,7 @@ is_number_of elements.Boolean n = between (pos 0) (pos 1) n
 is_number_of elements.Byte n = between (pos 0 -ℤ pos 128) (pos 127) n
 is_number_of elements.Char n = between (pos 0) (pos 65535) n
 is_number_of elements.Short n = between (pos 0 -ℤ pos 32768) (pos 32767) n
-is_number_of elements.Int n = true
+is_number_of elements.Int n = between (pos 0 -ℤ pos 2147483648) (pos 2147483647) n
 is_number_of (elements.Class name) n = false
 
 abbrev pub fits_number : Option FieldType → ℤ → Bool

@@ -5,10 +5,11 @@ use Rattle.api_listing.specs.declared.events.Event.{Event}
 use Rattle.api_listing.specs.declared.events.Event.TheVariants as events
 use Rattle.insn_codec.specs.declared.insn.Insn.{Insn}
 use Rattle.insn_codec.specs.Fits.{IsInsn}
-use Rattle.insn_effect.specs.declared.shape.Heap.TheVariants as heap
-use Rattle.insn_effect.specs.declared.shape.Shape.TheVariants as shapes
-use Rattle.insn_effect.specs.Control.{successors}
-use Rattle.insn_effect.specs.Shapes.{shape_of}
+use Rattle.insn_codec.specs.declared.shape.Heap.TheVariants as heap
+use Rattle.insn_codec.specs.declared.shape.Shape.TheVariants as shapes
+use Rattle.insn_codec.specs.Control.{successors}
+use Rattle.insn_codec.specs.Shapes.{shape_of}
+use Rattle.insn_codec.specs.declared.shape.How.{How}
 use Rattle.bytecode_model.specs.declared.program.Handler.{Handler}
 use Rattle.bytecode_model.specs.declared.program.Method.{Method}
 use Rattle.bytecode_model.specs.declared.program.Program.{Program}
@@ -48,7 +49,8 @@ pub record IsCalled (program : Program) (reached : Places) (listed : ℕ) : Type
   pub insn : Insn
   pub inside : IsTrue (reached class method at)
   pub there : IsAt program class method at insn (target.ApiMethod listed)
-  pub calls : shape_of insn ≡ shapes.Heap heap.Call
+  pub how : How
+  pub calls : shape_of insn ≡ shapes.Heap (heap.Call how)
 
 -- the method of the listing that an event is of
 abbrev pub method_of : Event → ℕ

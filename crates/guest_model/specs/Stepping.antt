@@ -9,14 +9,14 @@ use Rattle.api_listing.specs.declared.events.Event.TheVariants as events
 use Rattle.api_listing.specs.declared.types.ListedMethod.{ListedMethod}
 use Rattle.api_listing.specs.BuiltIn.{method_rows, is_row}
 use Rattle.insn_codec.specs.declared.insn.Insn.{Insn}
-use Rattle.insn_effect.specs.declared.shape.Heap.{Heap}
-use Rattle.insn_effect.specs.declared.shape.Heap.TheVariants as heap
-use Rattle.insn_effect.specs.declared.shape.Kind.{Kind}
-use Rattle.insn_effect.specs.declared.shape.Shape.{Shape}
-use Rattle.insn_effect.specs.declared.shape.Shape.TheVariants as shapes
-use Rattle.insn_effect.specs.Control.{next_of}
-use Rattle.insn_effect.specs.Effect.{Moved, effect}
-use Rattle.insn_effect.specs.Shapes.{shape_of}
+use Rattle.insn_codec.specs.declared.shape.Heap.{Heap}
+use Rattle.insn_codec.specs.declared.shape.Heap.TheVariants as heap
+use Rattle.insn_codec.specs.declared.shape.Kind.{Kind}
+use Rattle.insn_codec.specs.declared.shape.Shape.{Shape}
+use Rattle.insn_codec.specs.declared.shape.Shape.TheVariants as shapes
+use Rattle.insn_codec.specs.Control.{next_of}
+use Rattle.insn_codec.specs.Effect.{Moved, effect}
+use Rattle.insn_codec.specs.Shapes.{shape_of}
 use Rattle.bytecode_model.specs.declared.program.Method.{Method}
 use Rattle.bytecode_model.specs.declared.program.Program.{Program}
 use Rattle.bytecode_model.specs.declared.program.Target.{Target}
@@ -245,7 +245,7 @@ heap_stepped program machine number thread frame below heap.Enter ref = option_a
 heap_stepped program machine number thread frame below heap.Exit ref = option_and_then (leaves program machine number thread frame below) (slice_get frame.stack.items 0)
 heap_stepped program machine number thread frame below heap.Throw ref = option_and_then (throws_top program machine number thread frame below) (slice_get frame.stack.items 0)
 heap_stepped program machine number thread frame below (heap.Return kind) ref = returns program machine number thread frame below kind
-heap_stepped program machine number thread frame below heap.Call ref = calls program machine number thread frame below ref
+heap_stepped program machine number thread frame below (heap.Call how) ref = calls program machine number thread frame below ref
 heap_stepped program machine number thread frame below other ref = None
 
 abbrev pub shape_stepped : Program → Machine → ℕ → Thread → Frame → List Frame → Insn × Target → Shape → Option Made

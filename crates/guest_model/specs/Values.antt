@@ -3,14 +3,14 @@ use Rattle.std.specs.Prelude.{ℕ, ℤ, pos, ◌+◌, ◌^◌, ◌/◌, ◌%◌,
 use Rattle.std.specs.Int.{w8, w16, w32, cast_signed, cast_unsigned, int_wrapping_add, int_wrapping_sub, int_wrapping_mul, int_wrapping_neg, int_bit_and, int_bit_or, int_bit_xor, int_shl, int_shr}
 use Rattle.guest_heap.specs.declared.value.Value.{Value}
 use Rattle.guest_heap.specs.declared.value.Value.TheVariants as values
-use Rattle.insn_effect.specs.declared.shape.Kind.{Kind}
-use Rattle.insn_effect.specs.declared.shape.Kind.TheVariants as kinds
-use Rattle.insn_effect.specs.declared.shape.One.{One}
-use Rattle.insn_effect.specs.declared.shape.One.TheVariants as one
-use Rattle.insn_effect.specs.declared.shape.Two.{Two}
-use Rattle.insn_effect.specs.declared.shape.Two.TheVariants as two
-use Rattle.insn_effect.specs.Control.{View}
-use Rattle.insn_effect.specs.Effect.{Domain}
+use Rattle.insn_codec.specs.declared.shape.Kind.{Kind}
+use Rattle.insn_codec.specs.declared.shape.Kind.TheVariants as kinds
+use Rattle.insn_codec.specs.declared.shape.One.{One}
+use Rattle.insn_codec.specs.declared.shape.One.TheVariants as one
+use Rattle.insn_codec.specs.declared.shape.Two.{Two}
+use Rattle.insn_codec.specs.declared.shape.Two.TheVariants as two
+use Rattle.insn_codec.specs.Control.{View}
+use Rattle.insn_codec.specs.Effect.{Domain}
 
 abbrev pub is_number : Value → Bool
 is_number (values.Int n) = true

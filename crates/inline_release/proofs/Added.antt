@@ -30,7 +30,7 @@ use Rattle.bytecode_model.proofs.Declaring.{first_of-append}
 use Rattle.bytecode_model.proofs.Lists.{all_append, not_true}
 use Rattle.bytecode_model.proofs.Placing.{same_name}
 use Rattle.offset_patch.specs.Entries.{state_name}
-use Rattle.inline_release.specs.Outcome.{Each, way_out, way_out_index}
+use Rattle.block_template.specs.Outcome.{Each, way_out, way_out_index}
 use Rattle.inline_release.proofs.Above.{has_name, find_none, found_fits, other_name, and_both, Ends, ordered, climbs, leaves, order_same}
 use Rattle.inline_release.proofs.Free.{class_free}
 use Rattle.inline_release.proofs.Kept.{IsKept}

@@ -29,8 +29,8 @@ use Rattle.offset_patch.specs.Splicing.{grown, fronts_of, origins_of, room, spli
 use Rattle.offset_patch.proofs.CodeFits.{room_is, pool_short}
 use Rattle.offset_patch.proofs.InsnFits.{wants_there, parts_fit}
 use Rattle.block_template.specs.Blocks.{site}
-use Rattle.inline_release.specs.declared.code.WovenCode.{WovenCode}
-use Rattle.inline_release.specs.Woven.{sites_of, locals_of, blocks_put}
+use Rattle.block_template.specs.declared.woven.WovenCode.{WovenCode}
+use Rattle.block_template.specs.Woven.{sites_of, locals_of, blocks_put}
 use Rattle.inline_release.proofs.Aims.{sites_part, spliced_aims, spliced_ends}
 use Rattle.inline_release.proofs.Spells.{refs_fit}
 

@@ -25,11 +25,11 @@ use Rattle.offset_patch.specs.declared.fault.SpliceFault.{SpliceFault}
 use Rattle.offset_patch.specs.Entries.{placed, place_of, entry, text, class, name_and_type, method, wanted, with_wants}
 use Rattle.offset_patch.specs.Splicing.{wants_of, grown, origins_of, room, code_spliced}
 use Rattle.block_template.specs.State.{state_class}
-use Rattle.inline_release.specs.declared.code.WovenCode.{WovenCode}
-use Rattle.inline_release.specs.declared.members.Members.{Members}
-use Rattle.inline_release.specs.declared.weaving.Woven.{Woven}
-use Rattle.inline_release.specs.Woven.{folded, is_woven, sites_of, locals_of, clients_from, blocks_put, code_woven, first_code, attr_with, member_with, bare_put, code_put, body_woven, member_woven, members_woven, none_made, file_with, file_put, class_woven, classes_woven, state_put, woven}
-use Rattle.inline_release.specs.Outcome.{Each}
+use Rattle.block_template.specs.declared.woven.WovenCode.{WovenCode}
+use Rattle.block_template.specs.declared.woven.Members.{Members}
+use Rattle.block_template.specs.declared.woven.Woven.{Woven}
+use Rattle.block_template.specs.Woven.{folded, is_woven, sites_of, locals_of, clients_from, blocks_put, code_woven, first_code, attr_with, member_with, bare_put, code_put, body_woven, member_woven, members_woven, none_made, file_with, file_put, class_woven, classes_woven, state_put, woven}
+use Rattle.block_template.specs.Outcome.{Each, IsWovenAttr, IsWovenMember}
 
 -- ---- a pool that grew
 
@@ -97,9 +97,20 @@ pub record IsKeptMember (old new : Member) : Type 0 where
   pub name : new.name ≡ old.name
   pub desc : new.desc ≡ old.desc
   pub codes : length (codes_of new) ≡ length (codes_of old)
+  pub attrs : Each IsWovenAttr old.attrs new.attrs
+
+same_attrs : (attrs : List Attr) → Each IsWovenAttr attrs attrs
+same_attrs [] = tt
+same_attrs (attributes.Code code ∷ attrs) = (tt, same_attrs attrs)
+same_attrs (attributes.Other other ∷ attrs) = (refl, same_attrs attrs)
 
 pub same_member : (m : Member) → IsKeptMember m m
-same_member m = record { flags = refl; name = refl; desc = refl; codes = refl }
+same_member m = record { flags = refl; name = refl; desc = refl; codes = refl; attrs = same_attrs m.attrs }
+
+with_attrs : (code : Code) (attrs : List Attr) → Each IsWovenAttr attrs (map (attr_with code) attrs)
+with_attrs code [] = tt
+with_attrs code (attributes.Code old ∷ attrs) = (tt, with_attrs code attrs)
+with_attrs code (attributes.Other other ∷ attrs) = (refl, with_attrs code attrs)
 
 same_codes : (code : Code) (attrs : List Attr) → length (filter_map code_in (map (attr_with code) attrs)) ≡ length (filter_map code_in attrs)
 same_codes code [] = refl
@@ -107,7 +118,15 @@ same_codes code (attributes.Code old ∷ attrs) = ap suc (same_codes code attrs)
 same_codes code (attributes.Other other ∷ attrs) = same_codes code attrs
 
 pub with_kept : (member : Member) (code : Code) → IsKeptMember member (member_with member code)
-with_kept member code = record { flags = refl; name = refl; desc = refl; codes = same_codes code member.attrs }
+with_kept member code = record { flags = refl; name = refl; desc = refl; codes = same_codes code member.attrs; attrs = with_attrs code member.attrs }
+
+-- what is kept of each member is what is said of it
+pub members_woven_of : (olds news : List Member) → Each IsKeptMember olds news → Each IsWovenMember olds news
+members_woven_of [] [] k = tt
+members_woven_of [] (new ∷ news) k = absurd k
+members_woven_of (old ∷ olds) [] k = absurd k
+members_woven_of (old ∷ olds) (new ∷ news) k =
+    (record { flags = k.0.flags; name = k.0.name; desc = k.0.desc; attrs = k.0.attrs }, members_woven_of olds news k.1)
 
 -- What one member more makes of what was made.
 pub record IsNext (made next : Members) (member : Member) : Type 0 where
@@ -198,6 +217,10 @@ file_kept policy class file w =
       fields = refl;
       methods = subst (Each IsKeptMember class.file.methods) (sym k.are) k.kept;
     })
+
+-- all but the pool and the methods
+pub file_is : (policy : Policy) (class : LinkedClass) (file : ClassFile) → IsFileOf policy class file → file ≡ file_with class.file file.pool file.methods
+file_is policy class file w = subst (λ (f : ClassFile). f ≡ file_with class.file f.pool f.methods) w.is refl
 
 -- ---- the files that are made
 

@@ -16,3 +16,5 @@ pub mod Tables
 pub mod Steps
 pub mod Whole
 pub mod Original
+pub mod Told
+pub mod Sizing

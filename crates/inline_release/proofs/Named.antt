@@ -29,7 +29,8 @@ use Rattle.bytecode_model.specs.declared.program.Target.{Target}
 use Rattle.bytecode_model.specs.declared.program.Target.TheVariants as target
 use Rattle.bytecode_model.specs.Heads.{all_classes, text_at}
 use Rattle.bytecode_model.specs.Members.{methods_declared, fields_declared, method_of, field_of}
-use Rattle.bytecode_model.specs.Operands.{known_in, literals_of, is_array, element_is_known, array_linked, class_linked, field_fits, field_linked, call_linked, id_at, used, use_of, index_of, is_nothing, operand_linked, told_at}
+use Rattle.bytecode_model.specs.Arrays.{is_array}
+use Rattle.bytecode_model.specs.Operands.{known_in, literals_of, element_is_known, array_linked, class_linked, field_fits, field_linked, call_linked, id_at, used, use_of, index_of, is_nothing, operand_linked, told_at}
 use Rattle.bytecode_model.specs.SearchOrder.{search_order}
 use Rattle.bytecode_model.proofs.Lists.{all_get}
 use Rattle.offset_patch.specs.declared.block.Block.{Block}
@@ -37,11 +38,11 @@ use Rattle.offset_patch.specs.declared.block.BlockInsn.{BlockInsn}
 use Rattle.offset_patch.specs.declared.block.BlockInsn.TheVariants.{Plain, Byte, Short, Local, Want, Jump, Call}
 use Rattle.offset_patch.specs.declared.block.PoolWant.{PoolWant}
 use Rattle.offset_patch.specs.declared.block.PoolWant.TheVariants as wants
-use Rattle.offset_patch.specs.Entries.{state_name, place_in}
+use Rattle.offset_patch.specs.Entries.{state_name, place_in, IsThere}
 use Rattle.offset_patch.specs.Splicing.{part_of, aimed, put, parts_from, want_of, block_wants, wants_of}
-use Rattle.offset_patch.proofs.InsnFits.{split_all, IsThere}
+use Rattle.offset_patch.proofs.InsnFits.{split_all}
 use Rattle.offset_patch.proofs.PoolFits.{get_on}
-use Rattle.inline_release.specs.Outcome.{Each, way_out, way_out_index, want_named, part_named, parts_named}
+use Rattle.block_template.specs.Outcome.{Each, way_out, way_out_index, want_named, part_named, parts_named}
 use Rattle.inline_release.proofs.Aims.{IsStill, opcode_for, EndsInCall}
 use Rattle.inline_release.proofs.Free.{IsFree, class_free}
 use Rattle.inline_release.proofs.Kept.{IsLonger}

@@ -35,13 +35,14 @@ use Rattle.bytecode_model.specs.declared.program.Target.TheVariants as target
 use Rattle.bytecode_model.specs.Heads.{text_at, class_at, all_classes}
 use Rattle.bytecode_model.specs.Linking.{bare, body_linked, method_linked}
 use Rattle.bytecode_model.specs.Members.{Declared, members_from, members_of, file_members, given_from, listed_from, listed_fields_from, rows_from, methods_declared, fields_declared, first_of, first_found, in_class, method_of, field_of}
-use Rattle.bytecode_model.specs.Operands.{known_in, is_array, element_is_known, array_linked, class_linked, field_fits, field_linked, call_linked, id_at, used, use_of, index_of, is_nothing, operand_linked}
+use Rattle.bytecode_model.specs.Arrays.{is_array}
+use Rattle.bytecode_model.specs.Operands.{known_in, element_is_known, array_linked, class_linked, field_fits, field_linked, call_linked, id_at, used, use_of, index_of, is_nothing, operand_linked}
 use Rattle.bytecode_model.specs.SearchOrder.{Name, search_order}
 use Rattle.bytecode_model.proofs.Lists.{all_append}
 use Rattle.bytecode_model.proofs.Loop.{each_of}
 use Rattle.offset_patch.specs.Entries.{state_name}
-use Rattle.inline_release.specs.Woven.{first_code}
-use Rattle.inline_release.specs.Outcome.{Each, IsFreeTarget, OriginalIsFree}
+use Rattle.block_template.specs.Woven.{first_code}
+use Rattle.block_template.specs.Outcome.{Each, IsFreeTarget, OriginalIsFree}
 use Rattle.inline_release.proofs.Free.{IsFree, text_free, class_free}
 use Rattle.inline_release.proofs.Steps.{coded, conditions_of}
 use Rattle.inline_release.proofs.Whole.{IsOf, program_of, free_classes}

@@ -19,7 +19,7 @@ use Rattle.bytecode_model.specs.Operands.{text_of_string, strings_in, literals_o
 use Rattle.bytecode_model.specs.Linking.{static_main, main_from}
 use Rattle.bytecode_model.specs.SearchOrder.{Name, with_name}
 use Rattle.block_template.specs.State.{state_file}
-use Rattle.inline_release.specs.Outcome.{Each}
+use Rattle.block_template.specs.Outcome.{Each}
 use Rattle.inline_release.proofs.Kept.{IsLonger, IsPlain, IsKeptMember, same_member, IsKept}
 use Rattle.inline_release.proofs.Texts.{utf8_on, text_on, class_on}
 

@@ -21,7 +21,9 @@ use Rattle.bytecode_model.specs.Sound.{IsSoundMethod, IsSoundClass, IsSound}
 use Rattle.conspec_automaton.specs.declared.policy.Policy.{Policy}
 use Rattle.conspec_automaton.specs.Denying.{DeniesOnly}
 use Rattle.offset_patch.specs.declared.fault.SpliceFault.{SpliceFault}
-use Rattle.offset_patch.specs.Fault.{Spliced, Tells}
+use Rattle.mon_base.specs.Answer.{Answers}
+use Rattle.offset_patch.specs.declared.fault.SpliceFault.TheVariants as faults
+use Rattle.offset_patch.specs.Fault.{Spliced}
 use Rattle.offset_patch.specs.Fits.{IsSite}
 use Rattle.offset_patch.specs.Splicing.{grown, wants_of, fronts_of, origins_of, room, code_spliced}
 use Rattle.offset_patch.proofs.Lists.{all_append}
@@ -33,10 +35,11 @@ use Rattle.block_template.specs.Blocks.{has_block, site}
 use Rattle.block_template.specs.State.{state_class}
 use Rattle.block_template.proofs.BlockFits.{site_fits}
 use Rattle.block_template.proofs.StateFits.{state_fits}
-use Rattle.inline_release.specs.declared.code.WovenCode.{WovenCode}
-use Rattle.inline_release.specs.declared.members.Members.{Members}
-use Rattle.inline_release.specs.declared.weaving.Woven.{Woven}
-use Rattle.inline_release.specs.Woven.{folded, is_woven, sites_of, most_locals, locals_of, clients_from, blocks_put, code_woven, first_code, attr_with, member_with, bare_put, code_put, body_woven, member_woven, members_woven, none_made, file_with, file_put, class_woven, classes_woven, state_put, woven}
+use Rattle.block_template.specs.declared.woven.WovenCode.{WovenCode}
+use Rattle.block_template.specs.declared.woven.Members.{Members}
+use Rattle.block_template.specs.declared.woven.Woven.{Woven}
+use Rattle.block_template.proofs.FirstCode.{first_fits}
+use Rattle.block_template.specs.Woven.{folded, is_woven, sites_of, most_locals, locals_of, clients_from, blocks_put, code_woven, first_code, attr_with, member_with, bare_put, code_put, body_woven, member_woven, members_woven, none_made, file_with, file_put, class_woven, classes_woven, state_put, woven}
 
 -- ---- the code of a method
 
@@ -96,13 +99,6 @@ woven_fits policy class number pool method code w p h sound = by (is_woven polic
         subst (IsCode pool code) (ok_is SpliceFault same w e) (record { grown = ([], sym (append-nil pool)); pool_fits = p; code_fits = h; named = refl })
 
 -- ---- members
-
-pub first_fits : (pool : List Const) (attrs : List Attr) (code : Code) → AllByRecursion (FitsAttr pool true) attrs → first_code attrs ≡ Some code → FitsAttr pool true (attributes.Code code)
-first_fits pool [] code h e = absurd cc
-first_fits pool (attributes.Code c ∷ attrs) code h e =
-    let is : c ≡ code = cc in
-    subst (λ (x : Code). FitsAttr pool true (attributes.Code x)) is h.0
-first_fits pool (attributes.Other o ∷ attrs) code h e = first_fits pool attrs code h.1 e
 
 with_all : (pool : List Const) (code : Code) → FitsAttr pool true (attributes.Code code) → (attrs : List Attr) → AllByRecursion (FitsAttr pool true) attrs
     → AllByRecursion (FitsAttr pool true) (map (attr_with code) attrs)
@@ -227,6 +223,6 @@ woven_spells program policy w sound denies e =
     let all = classes_fit policy none one.0 program.classes sound.classes tt one.1 in
     subst (λ (x : Woven). AllByRecursion CanSpell x.files) is (all_append CanSpell one.0.files (state_class policy ∷ []) all (state_fits policy.vars denies.vars, tt))
 
-pub spells_if : (program : Program) (policy : Policy) (r : Spliced Woven) → IsSound program → DeniesOnly policy → Tells r (woven program policy) → IfOk r (λ w. AllByRecursion CanSpell w.files)
+pub spells_if : (program : Program) (policy : Policy) (r : Spliced Woven) → IsSound program → DeniesOnly policy → Answers faults.Memory r (woven program policy) → IfOk r (λ w. AllByRecursion CanSpell w.files)
 spells_if program policy (Ok w) sound denies told = woven_spells program policy w sound denies told
 spells_if program policy (Err e) sound denies told = tt

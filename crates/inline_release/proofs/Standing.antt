@@ -25,7 +25,7 @@ use Rattle.bytecode_model.specs.Conditions.{is_free, names_own_class, may_be_ext
 use Rattle.bytecode_model.specs.Heads.{head_of, heads_of}
 use Rattle.bytecode_model.proofs.Lists.{not_true}
 use Rattle.offset_patch.specs.Entries.{state_name}
-use Rattle.inline_release.specs.Outcome.{Each}
+use Rattle.block_template.specs.Outcome.{Each}
 use Rattle.inline_release.proofs.Above.{and_both, has_name, find_none, other_name, no_circle}
 use Rattle.inline_release.proofs.Free.{IsFree, class_free}
 use Rattle.inline_release.proofs.Kept.{IsKept}

@@ -34,15 +34,15 @@ use Rattle.offset_patch.specs.declared.block.BlockInsn.{BlockInsn}
 use Rattle.offset_patch.specs.declared.block.BlockInsn.TheVariants.{Plain, Byte, Short, Local, Want, Jump, Call}
 use Rattle.offset_patch.specs.declared.block.PoolWant.{PoolWant}
 use Rattle.offset_patch.specs.declared.fault.SpliceFault.{SpliceFault}
-use Rattle.offset_patch.specs.Entries.{Placed, wanted, place_in}
+use Rattle.offset_patch.specs.Entries.{Placed, wanted, with_wants, place_in, IsThere}
 use Rattle.offset_patch.specs.Splicing.{part_of, fronts_of, put, parts_from, spliced, want_of, block_wants, wants_of, grown}
 use Rattle.offset_patch.proofs.EntryFits.{wants_grow}
-use Rattle.offset_patch.proofs.InsnFits.{split_all, IsThere, wants_there}
+use Rattle.offset_patch.proofs.InsnFits.{split_all, wants_there}
 use Rattle.offset_patch.proofs.Steady.{steady_wanted}
-use Rattle.inline_release.specs.declared.code.WovenCode.{WovenCode}
-use Rattle.inline_release.specs.declared.members.Members.{Members}
-use Rattle.inline_release.specs.Woven.{is_woven, sites_of, locals_of, clients_from, blocks_put, code_woven, first_code, attr_with, member_with, bare_put, code_put, body_woven}
-use Rattle.inline_release.specs.Outcome.{Each, way_out, at_fronts, insns_woven, stack_woven, locals_woven, handlers_woven, parts_named, refs_woven, IsWovenMethod}
+use Rattle.block_template.specs.declared.woven.WovenCode.{WovenCode}
+use Rattle.block_template.specs.declared.woven.Members.{Members}
+use Rattle.block_template.specs.Woven.{is_woven, sites_of, locals_of, clients_from, blocks_put, code_woven, first_code, attr_with, member_with, bare_put, code_put, body_woven}
+use Rattle.block_template.specs.Outcome.{Each, way_out, at_fronts, wants_woven, insns_woven, stack_woven, locals_woven, handlers_woven, parts_named, refs_woven, IsWovenMethod}
 use Rattle.inline_release.proofs.Again.{put_reads}
 use Rattle.inline_release.proofs.Aims.{sites_part, spliced_below, spliced_within}
 use Rattle.inline_release.proofs.Free.{IsFree, class_free}
@@ -50,7 +50,7 @@ use Rattle.inline_release.proofs.Kept.{IsLonger, IsKeptMember, same_member, with
 use Rattle.inline_release.proofs.Named.{IsAdded, operand_still, parts_are_named, told_ok, ok_told}
 use Rattle.inline_release.proofs.Pairs.{each_as, each_linked, linked_each}
 use Rattle.inline_release.proofs.Same.{name_kept, desc_kept}
-use Rattle.inline_release.proofs.Spells.{first_fits}
+use Rattle.block_template.proofs.FirstCode.{first_fits}
 use Rattle.inline_release.proofs.Tables.{IsHandlerOf, handlers_of, of_handlers, handlers_kept, handlers_moved}
 use Rattle.inline_release.proofs.Wanted.{exit_there, reference_told, there_on, exit_wanted}
 use Rattle.std.proofs.lemmas.Bool.{false≢true}
@@ -188,6 +188,7 @@ module _ (policy : Policy) (file new : ClassFile) (files others : List ClassFile
     pub items : next.items ≡ made.items ++ item ∷ []
     pub number : next.number ≡ made.number + 1
     pub more : (xs : List Const) × (next.entries ≡ made.entries ++ xs)
+    pub wanted : next.entries ≡ with_wants made.entries (wants_woven policy m)
     pub is : (ys : List Const) → new.pool ≡ next.entries ++ ys → (at : ℕ) → (other : Method) × (method_linked others listing new at item ≡ Ok other) × IsWovenMethod policy new.pool m other
 
   bare_step : (made : Members) (member : Member) (m : Method) → FitsMember file.pool true member → method_linked files listing file made.number member ≡ Ok m → first_code member.attrs ≡ None
@@ -197,6 +198,7 @@ module _ (policy : Policy) (file new : ClassFile) (files others : List ClassFile
     items = refl;
     number = refl;
     more = ([], sym (append-nil made.entries));
+    wanted = ap (λ (x : Method). with_wants made.entries (wants_woven policy x)) is;
     is = λ ys grown at.
         let body : body_linked others listing new at member (first_code member.attrs) ≡ Ok (bare new member) = ap (body_linked others listing new at member) none in
         let same : IsWovenMethod policy new.pool (bare file member) (bare new member) = record {
@@ -219,6 +221,7 @@ module _ (policy : Policy) (file new : ClassFile) (files others : List ClassFile
   -- what a code was woven to
   record IsWovenCode (pool : List Const) (m : Method) (code : Code) (w : WovenCode) : Type 0 where
     more : (xs : List Const) × (w.entries ≡ pool ++ xs)
+    wanted : w.entries ≡ with_wants pool (wants_woven policy m)
     insns : (ys : List Const) → new.pool ≡ w.entries ++ ys → code_of w.code.code ≡ Ok (insns_woven policy new.pool m)
     max_stack : w.code.max_stack ≡ stack_woven policy m
     max_locals : w.code.max_locals ≡ locals_woven policy m
@@ -260,6 +263,8 @@ module _ (policy : Policy) (file new : ClassFile) (files others : List ClassFile
           let parts = sites_part policy code.max_locals m.refs in
           record {
             more = (more.0, h.entries ∙ more.1);
+            wanted = h.entries ∙ ap (λ (q : List (Option Block)). with_wants pool (wants_of q)) (sym same)
+                ∙ ap (λ (b : Bool). with_wants pool (if b then wants_of (sites_of policy m.max_locals m) else [])) (sym some);
             insns = λ ys grown. h.insns ∙ ap Ok (spliced_same ys grown ∙ sym insns_is);
             max_stack = h.max_stack ∙ ap (λ (n : ℕ). n + 3) (sym old.max_stack) ∙ sym (ap (λ (b : Bool). if b then m.max_stack + 3 else m.max_stack) some);
             max_locals = h.max_locals ∙ ap (λ (n : ℕ). n + locals_of policy m) (sym old.max_locals) ∙ sym (ap (λ (b : Bool). if b then m.max_locals + locals_of policy m else m.max_locals) some);
@@ -289,6 +294,7 @@ module _ (policy : Policy) (file new : ClassFile) (files others : List ClassFile
           let handlers_is : handlers_woven policy m ≡ m.handlers = ap (λ (b : Bool). if b then map (at_fronts (fronts_of (sites_of policy m.max_locals m))) m.handlers else m.handlers) none in
           subst (IsWovenCode pool m code) (ok_is SpliceFault same w e) (record {
             more = ([], sym (append-nil pool));
+            wanted = ap (λ (b : Bool). with_wants pool (if b then wants_of (sites_of policy m.max_locals m) else [])) (sym none);
             insns = λ ys grown. old.insns ∙ ap Ok (sym insns_is);
             max_stack = sym old.max_stack ∙ sym (ap (λ (b : Bool). if b then m.max_stack + 3 else m.max_stack) none);
             max_locals = sym old.max_locals ∙ sym (ap (λ (b : Bool). if b then m.max_locals + locals_of policy m else m.max_locals) none);
@@ -311,6 +317,7 @@ module _ (policy : Policy) (file new : ClassFile) (files others : List ClassFile
         items = refl;
         number = refl;
         more = h.more;
+        wanted = h.wanted;
         is = λ ys grown at.
             let item = member_with member w.code in
             let kept = with_kept member w.code in

@@ -25,7 +25,7 @@ use Rattle.bytecode_model.specs.Heads.{class_at}
 use Rattle.bytecode_model.specs.Operands.{class_linked, known_in, told_at}
 use Rattle.bytecode_model.specs.Sound.{IsWithin}
 use Rattle.offset_patch.specs.Splicing.{table_moved}
-use Rattle.inline_release.specs.Outcome.{Each, at_fronts}
+use Rattle.block_template.specs.Outcome.{Each, at_fronts}
 use Rattle.inline_release.proofs.Kept.{IsLonger}
 use Rattle.inline_release.proofs.Named.{IsAdded, class_still, told_ok}
 use Rattle.inline_release.proofs.Pairs.{each_linked, linked_each}

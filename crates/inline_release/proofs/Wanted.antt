@@ -13,9 +13,9 @@ use Rattle.bytecode_model.specs.Operands.{id_at}
 use Rattle.bytecode_model.proofs.Placing.{same_name}
 use Rattle.offset_patch.specs.declared.block.PoolWant.{PoolWant}
 use Rattle.offset_patch.specs.declared.block.PoolWant.TheVariants as wants
-use Rattle.offset_patch.specs.Entries.{same, Placed, placed, place_of, entry, text, class, name_and_type, method, state_name, wanted, place_in}
+use Rattle.offset_patch.specs.Entries.{same, Placed, placed, place_of, entry, text, class, name_and_type, method, state_name, wanted, place_in, IsThere}
 use Rattle.offset_patch.proofs.EntryFits.{get_last, place_found}
-use Rattle.offset_patch.proofs.InsnFits.{split_all, IsThere}
+use Rattle.offset_patch.proofs.InsnFits.{split_all}
 use Rattle.offset_patch.proofs.PoolFits.{get_on}
 use Rattle.offset_patch.proofs.Steady.{IsSteady, steady_text, steady_class_at, steady_name_and_type_at, steady_name_and_type, steady_method_at, steady_wanted}
 use Rattle.offset_patch.specs.Splicing.{want_of, block_wants, wants_of}

@@ -27,23 +27,25 @@ use Rattle.bytecode_model.specs.Linking.{method_linked, methods_linked, each_lin
 use Rattle.bytecode_model.specs.Sound.{IsSoundMethod, IsSoundClass}
 use Rattle.conspec_automaton.specs.declared.policy.Policy.{Policy}
 use Rattle.offset_patch.specs.declared.fault.SpliceFault.{SpliceFault}
+use Rattle.offset_patch.specs.Entries.{with_wants}
+use Rattle.offset_patch.proofs.Pieces.{wants_append}
 use Rattle.block_template.specs.State.{state_file, state_class}
-use Rattle.inline_release.specs.declared.members.Members.{Members}
-use Rattle.inline_release.specs.Woven.{folded, first_code, body_woven, member_woven, none_made}
-use Rattle.inline_release.specs.Outcome.{Each, IsWovenMethod, IsWovenClass, WovenLinks}
+use Rattle.block_template.specs.declared.woven.Members.{Members}
+use Rattle.block_template.specs.Woven.{folded, first_code, body_woven, member_woven, none_made}
+use Rattle.block_template.specs.Outcome.{Each, wants_woven, class_wants, IsWovenMethod, IsWovenClass, WovenLinks}
 use Rattle.inline_release.proofs.Added.{is_added, new_stand}
 use Rattle.inline_release.proofs.Free.{IsFree}
-use Rattle.inline_release.proofs.Kept.{IsLonger, IsKept, IsFileOf, file_kept, files_made}
+use Rattle.inline_release.proofs.Kept.{IsLonger, IsKept, IsFileOf, members_woven_of, file_kept, file_is, files_made}
 use Rattle.inline_release.proofs.Listed.{listed}
 use Rattle.inline_release.proofs.Named.{IsAdded}
 use Rattle.inline_release.proofs.Pairs.{first_linked}
-use Rattle.inline_release.proofs.Same.{bare_state, head_kept, main_kept}
+use Rattle.inline_release.proofs.Same.{bare_state, head_kept, literals_kept, main_kept, state_strings}
 use Rattle.inline_release.proofs.Standing.{IsGood, all_good, state_says, state_head_name}
 use Rattle.inline_release.proofs.Steps.{one_step}
 
 -- ---- lists
 
-get_behind : {X : Type 0} (xs : List X) (x : X) (ys : List X) → slice_get (xs ++ x ∷ ys) (length xs) ≡ Some x
+pub get_behind : {X : Type 0} (xs : List X) (x : X) (ys : List X) → slice_get (xs ++ x ∷ ys) (length xs) ≡ Some x
 get_behind [] x ys = refl
 get_behind (z ∷ xs) x ys = get_behind xs x ys
 
@@ -56,12 +58,13 @@ module _ (policy : Policy) (class : LinkedClass) (new : ClassFile) (files others
     items : List Member
     are : last.items ≡ made.items ++ items
     more : (xs : List Const) × (last.entries ≡ made.entries ++ xs)
+    wanted : last.entries ≡ with_wants made.entries (class_wants policy left)
     linked : List Method
     links : linked_from (method_linked others listing new) made.number items ≡ Ok linked
     each : Each (IsWovenMethod policy new.pool) left linked
 
   none_left : (made : Members) → IsRest made made []
-  none_left made = record { items = []; are = sym (append-nil made.items); more = ([], sym (append-nil made.entries)); linked = []; links = refl; each = tt }
+  none_left made = record { items = []; are = sym (append-nil made.items); more = ([], sym (append-nil made.entries)); wanted = refl; linked = []; links = refl; each = tt }
 
   members_rest : (members : List Member) (made last : Members) (done left : List Method) → class.methods ≡ done ++ left → length done ≡ made.number → AllByRecursion IsSoundMethod left
       → AllByRecursion (FitsMember class.file.pool true) members → linked_from (method_linked files listing class.file) made.number members ≡ Ok left
@@ -91,6 +94,7 @@ module _ (policy : Policy) (class : LinkedClass) (new : ClassFile) (files others
         items = step.item ∷ later.items;
         are = later.are ∙ ap (λ (xs : List Member). xs ++ later.items) step.items ∙ append_assoc made.items (step.item ∷ []) later.items;
         more = (step.more.0 ++ later.more.0, later.more.1 ∙ ap (λ (xs : List Const). xs ++ later.more.0) step.more.1 ∙ append_assoc made.entries step.more.0 later.more.0);
+        wanted = later.wanted ∙ ap (λ (p : List Const). with_wants p (class_wants policy rest)) step.wanted ∙ sym (wants_append made.entries (wants_woven policy m) (class_wants policy rest));
         linked = first.0 ∷ later.linked;
         links = ap (λ (r : Linked Method). r >>= λ x. linked_from (method_linked others listing new) (made.number + 1) later.items >>= λ xs. Ok (x ∷ xs)) first.1
             ∙ ap (λ (r : Linked (List Method)). r >>= λ xs. Ok (first.0 ∷ xs)) again;
@@ -126,6 +130,9 @@ module _ (policy : Policy) (files others : List ClassFile) (listing : Listing) (
           head = head;
           added = k.longer.more;
           pool = k.longer.is;
+          wanted = sym pool ∙ rest.wanted;
+          file = file_is policy old new w;
+          members = members_woven_of old.file.methods new.methods k.methods;
           methods = rest.each;
         },
       )
@@ -181,6 +188,9 @@ pub record IsProgramOf (files : List ClassFile) (listing : Listing) (main : List
   pub files_are : files_of p.classes ≡ files
   pub begin : (b : ℕ × ℕ) × (main_of files main ≡ Some b)
   pub listing_is : p.listing ≡ listing
+  pub literals_are : p.literals ≡ literals_of files
+  pub main_class_is : p.main_class ≡ begin.0.0
+  pub main_method_is : p.main_method ≡ begin.0.1
 
 pub program_of : (files : List ClassFile) (listing : Listing) (main : List ℕ) (side : Side) (p : Program) → linked files listing main side ≡ Ok p → IsProgramOf files listing main side p
 program_of files listing main side p e =
@@ -201,6 +211,9 @@ program_of files listing main side p e =
       files_are = of.1;
       begin = (d.0, ok_or_ok (main_of files main) faults.NoMain d.0 d.1);
       listing_is = refl;
+      literals_are = ap (λ (z : List (List Method) × List (List ℕ)). z.1) (sym (ok_is LinkFault (pair f.0) c.0 f.2));
+      main_class_is = refl;
+      main_method_is = refl;
     })
 
 linked_by : (files : List ClassFile) (listing : Listing) (main : List ℕ) (side : Side) (methods : List (List Method)) (begin : ℕ × ℕ) → not (nat_lt max_files (length files)) ≡ true
@@ -269,6 +282,9 @@ links text listing files main old policy made spelled first sound denies few w =
           classes = joined.classes;
           last = record { name = ap (λ (c : ListedClass). c.name) state_says ∙ state_head_name; file = sym bare; methods = refl };
           listing = sym p.listing_is;
+          literals = literals_kept bare_state state_strings files news fits kept ∙ sym p.literals_are;
+          main_class = sym p.main_class_is;
+          main_method = sym p.main_method_is;
         },
       ),
     )

@@ -1,2 +1,2 @@
-pub mod Woven
-pub mod Outcome
+pub mod Origins
+pub mod Sizes

@@ -3,27 +3,19 @@
 ghost use Rattle.std.specs.Prelude.{◌≡◌, ◌+◌, ◌≤◌, ◌<◌, ◌^◌, IfOk, map, length};
 ghost use Rattle.std.specs.List.{AllByRecursion, list_any};
 ghost use Rattle.bytecode_model.specs.Sound.{IsSoundMethod};
-ghost use Rattle.offset_patch.specs.Fault.{Tells};
+ghost use Rattle.mon_base.specs.Answer.{Answers};
 ghost use Rattle.offset_patch.specs.Fits.{IsSite};
 ghost use Rattle.block_template.specs.Blocks.{has_block, site, site_locals};
-ghost use Rattle.inline_release.specs.Woven.{is_woven, sites_of, most_locals, locals_of, clients_from, blocks_put, code_woven};
+ghost use Rattle.block_template.specs.Woven.{is_woven, sites_of, most_locals, locals_of, clients_from, blocks_put, code_woven};
 
-use block_template::{has_block, site, site_locals};
-use bytecode_model::{Method, Target};
+use block_template::{WovenCode, has_block, site, site_locals};
+use bytecode_model::{Method, Origin, Target};
 use class_codec::{Code, copy_list};
 use conspec_automaton::Policy;
 use insn_codec::Insn;
 use mon_base::{Bytes, List, NoMemory};
-use offset_patch::{Block, Entries, Origin, SpliceFault, origins_of, room, splice};
+use offset_patch::{Block, Entries, SpliceFault, origins_of, room, splice};
 use std::alloc::Global;
-
-/// The code of a method, the constants of its class, and where its instructions come from.
-#[derive(Drop)]
-pub struct WovenCode {
-    pub code: Code,
-    pub entries: Entries,
-    pub origins: List<Origin>,
-}
 
 /// The code of a method with a block for each call that is denied, and the constants that these need.
 pub fn code_woven(
@@ -35,8 +27,10 @@ pub fn code_woven(
     method: &Method,
     code: &Code,
 ) -> Result<WovenCode, SpliceFault>
-    requires { IsSoundMethod method.now }
-    ensures { Tells result (code_woven policy.now class.now number entries method.now code.now) }
+    requires method { IsSoundMethod method.now }
+    requires pool { length entries < 2 ^ 16 }
+    ensures is { Answers SpliceFault.Memory result (code_woven policy.now class.now number entries method.now code.now) }
+    ensures pool { IfOk result (λ w. length w.entries < 2 ^ 16) }
 {
     if is_woven(policy, method) {
         return blocks_put(alloc, policy, class, number, entries, method, code);
@@ -71,8 +65,9 @@ fn blocks_put(
     code: &Code,
 ) -> Result<WovenCode, SpliceFault>
     requires { IsSoundMethod method.now }
-    ensures { Tells result (blocks_put policy.now class.now number entries method.now code.now
+    ensures is { Answers SpliceFault.Memory result (blocks_put policy.now class.now number entries method.now code.now
         (sites_of policy.now code.now.max_locals method.now)) }
+    ensures pool { IfOk result (λ w. length w.entries < 2 ^ 16) }
 {
     let locals = most_locals(policy, method.refs.as_slice())?;
     room(alloc, class, number, code, locals)?;
@@ -127,6 +122,7 @@ fn sites_of(
 ) -> Result<List<Option<Block>>, NoMemory>
     requires { base + most_locals policy.now refs.now < 2 ^ 16 }
     ensures is { IfOk result (λ sites. sites ≡ map (site policy.now base) refs.now) }
+    ensures each { IfOk result (λ sites. length sites ≡ length refs.now) }
     ensures fits { IfOk result (AllByRecursion IsSite) }
 {
     let mut sites = List::new(alloc);

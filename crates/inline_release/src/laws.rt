@@ -1,6 +1,8 @@
 //! What holds of what is woven.
 
-ghost use Rattle.inline_release.specs.Outcome.{OriginalIsFree, WovenLinks};
+ghost use Rattle.inline_release.specs.Origins.{OriginsAreTrue};
+ghost use Rattle.inline_release.specs.Sizes.{SizesDecide};
+ghost use Rattle.block_template.specs.Outcome.{OriginalIsFree, WovenLinks};
 
 /// Class files that were woven link to the program with its blocks.
 pub fn woven_files_link()
@@ -10,4 +12,14 @@ pub fn woven_files_link()
 /// What a compiler's class files link to names nothing of what the tool keeps for itself.
 pub fn original_is_free()
     ensures free { OriginalIsFree }
+{}
+
+/// Each origin is true of its instruction.
+pub fn origins_are_true()
+    ensures true_of { OriginsAreTrue }
+{}
+
+/// Weaving stops at the first size that does not fit, and where each fits it does not.
+pub fn sizes_decide()
+    ensures decide { SizesDecide }
 {}

@@ -9,8 +9,8 @@ mod laws;
 mod members;
 mod weaving;
 
-pub use laws::{original_is_free, woven_files_link};
-pub use weaving::{Woven, inline};
+pub use laws::{original_is_free, origins_are_true, sizes_decide, woven_files_link};
+pub use weaving::inline;
 
 #[cfg(test)]
 mod tests;

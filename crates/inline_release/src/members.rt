@@ -3,27 +3,18 @@
 ghost use Rattle.std.specs.Prelude.{◌≡◌, ◌<◌, ◌^◌, ◌+◌, IfOk, length, map, option_copied};
 ghost use Rattle.std.specs.List.{AllByRecursion};
 ghost use Rattle.bytecode_model.specs.Sound.{IsSoundMethod};
-ghost use Rattle.offset_patch.specs.Fault.{Tells};
-ghost use Rattle.inline_release.specs.Woven.{first_code, attr_with, member_with, bare_put};
-ghost use Rattle.inline_release.specs.Woven.{code_put, body_woven, member_woven, members_woven, none_made};
+ghost use Rattle.mon_base.specs.Answer.{Answers};
+ghost use Rattle.block_template.specs.Woven.{first_code, attr_with, member_with, bare_put};
+ghost use Rattle.block_template.specs.Woven.{code_put, body_woven, member_woven, members_woven, none_made};
 
-use crate::code::{WovenCode, code_woven, copy_code};
-use bytecode_model::{LinkedClass, Method};
+use crate::code::{code_woven, copy_code};
+use block_template::{Members, WovenCode};
+use bytecode_model::{LinkedClass, Method, Origin};
 use class_codec::{Attr, Code, Copied, Member};
 use conspec_automaton::Policy;
 use mon_base::{Bytes, List, NoMemory};
-use offset_patch::{Entries, Origin, SpliceFault};
+use offset_patch::{Entries, SpliceFault};
 use std::alloc::Global;
-
-/// The members of a class that are made, with the constants that they need, and where the instructions of each code come
-/// from.
-#[derive(Drop)]
-pub struct Members {
-    pub number: u32,
-    pub entries: Entries,
-    pub items: List<Member>,
-    pub origins: List<List<Origin>>,
-}
 
 /// The members of a class, with its blocks.
 pub fn members_woven(
@@ -35,7 +26,9 @@ pub fn members_woven(
 ) -> Result<Members, SpliceFault>
     requires methods { AllByRecursion IsSoundMethod class.now.methods }
     requires count { made.number + length members.now < 2 ^ 17 }
-    ensures { Tells result (members_woven policy.now class.now made members.now) }
+    requires pool { length made.entries < 2 ^ 16 }
+    ensures is { Answers SpliceFault.Memory result (members_woven policy.now class.now made members.now) }
+    ensures pool { IfOk result (λ next. length next.entries < 2 ^ 16) }
 {
     let mut made = made;
     let mut left = members;
@@ -55,8 +48,10 @@ fn member_woven(
 ) -> Result<Members, SpliceFault>
     requires methods { AllByRecursion IsSoundMethod class.now.methods }
     requires count { made.number < 2 ^ 17 }
-    ensures is { Tells result (member_woven policy.now class.now made member.now) }
+    requires pool { length made.entries < 2 ^ 16 }
+    ensures is { Answers SpliceFault.Memory result (member_woven policy.now class.now made member.now) }
     ensures count { IfOk result (λ next. next.number ≡ made.number + 1) }
+    ensures pool { IfOk result (λ next. length next.entries < 2 ^ 16) }
 {
     let Some(method) = class.methods.as_slice().get(made.number as usize) else {
         let made = bare_put(alloc, made, member)?;
@@ -102,8 +97,10 @@ fn body_woven(
 ) -> Result<Members, SpliceFault>
     requires method { IsSoundMethod method.now }
     requires count { made.number < 2 ^ 17 }
-    ensures is { Tells result (body_woven policy.now class.now made member.now (Some method.now) (Some code.now)) }
+    requires pool { length made.entries < 2 ^ 16 }
+    ensures is { Answers SpliceFault.Memory result (body_woven policy.now class.now made member.now (Some method.now) (Some code.now)) }
     ensures count { IfOk result (λ next. next.number ≡ made.number + 1) }
+    ensures pool { IfOk result (λ next. length next.entries < 2 ^ 16) }
 {
     let Members {
         number,

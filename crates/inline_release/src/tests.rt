@@ -1,13 +1,14 @@
 //! Small programs that are woven, against bytes that were worked out by hand.
 
-use crate::{Woven, inline};
+use crate::inline;
 use api_listing::read;
-use bytecode_model::{Side, link};
+use block_template::Woven;
+use bytecode_model::{Origin, Side, link};
 use class_codec::{Attr, ClassFile, Code, Const, Member, decode, encode};
 use conspec_automaton::{asks_nothing, build};
 use conspec_parse::parse;
 use mon_base::{Bytes, List};
-use offset_patch::{Origin, Size, SpliceFault};
+use offset_patch::{Size, SpliceFault};
 use std::alloc::Global;
 use std::process::Abort;
 use std::test::Fail;

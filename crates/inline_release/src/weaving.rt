@@ -1,36 +1,34 @@
 //! A program and a policy become class files with blocks.
 
-ghost use Rattle.std.specs.Prelude.{◌≡◌, ◌≤◌, IfOk};
+ghost use Rattle.std.specs.Prelude.{◌≡◌, ◌≢◌, ◌<◌, ◌^◌, IfErr, IfOk, IsOk, None, Some, length};
 ghost use Rattle.std.specs.List.{AllByRecursion};
 ghost use Rattle.class_codec.specs.Fits.{CanSpell};
 ghost use Rattle.bytecode_model.specs.Sound.{IsSound, IsSoundClass};
 ghost use Rattle.conspec_automaton.specs.Denying.{DeniesOnly};
-ghost use Rattle.offset_patch.specs.Fault.{Tells};
-ghost use Rattle.inline_release.specs.Woven.{none_made, file_with, file_put, class_woven, classes_woven, state_put, woven};
+ghost use Rattle.mon_base.specs.Answer.{Answers};
+ghost use Rattle.offset_patch.specs.Sizes.{first_unfit};
+ghost use Rattle.offset_patch.specs.declared.fault.SpliceFault.TheVariants.{Memory};
+ghost use Rattle.inline_release.specs.Sizes.{program_sizes};
+ghost use Rattle.block_template.specs.Woven.{none_made, file_with, file_put, class_woven, classes_woven, state_put, woven};
 
-use crate::members::{Members, members_woven};
-use block_template::state_class;
-use bytecode_model::{LinkedClass, Program};
+use crate::members::members_woven;
+use block_template::{Members, Woven, state_class};
+use bytecode_model::{LinkedClass, Origin, Program};
 use class_codec::{ClassFile, Member, copy_list};
 use conspec_automaton::Policy;
 use mon_base::{List, NoMemory};
-use offset_patch::{Entries, Origin, SpliceFault};
+use offset_patch::{Entries, SpliceFault};
 use std::alloc::Global;
-
-/// Class files with blocks, and for each class, each of its methods with code and each instruction of that where it comes
-/// from. The last class is `conspec/State`.
-#[derive(Drop)]
-pub struct Woven {
-    pub files: List<ClassFile>,
-    pub origins: List<List<List<Origin>>>,
-}
 
 /// The class files of a program with a block for each call that the policy denies, and behind them `conspec/State`; or the
 /// first size that does not fit. A policy denies calls outright.
 pub fn inline(alloc: Global, program: &Program, policy: &Policy) -> Result<Woven, SpliceFault>
     requires sound { IsSound program.now }
     requires denies { DeniesOnly policy.now }
-    ensures exact { Tells result (woven program.now policy.now) }
+    ensures exact { Answers SpliceFault.Memory result (woven program.now policy.now) }
+    // Each size fits, or the first that does not is the fault.
+    ensures fits { IsOk result → first_unfit (program_sizes program.now policy.now) ≡ None }
+    ensures unfit { IfErr result (λ fault. fault ≢ Memory → first_unfit (program_sizes program.now policy.now) ≡ Some fault) }
     // The files can be written.
     ensures spells { IfOk result (λ made. AllByRecursion CanSpell made.files) }
 {
@@ -40,7 +38,7 @@ pub fn inline(alloc: Global, program: &Program, policy: &Policy) -> Result<Woven
 fn all_woven(alloc: Global, program: &Program, policy: &Policy) -> Result<Woven, SpliceFault>
     requires sound { IsSound program.now }
     requires denies { DeniesOnly policy.now }
-    ensures { Tells result (woven program.now policy.now) }
+    ensures { Answers SpliceFault.Memory result (woven program.now policy.now) }
 {
     let none = Woven {
         files: List::new(alloc),
@@ -70,7 +68,7 @@ fn classes_woven(
     classes: &[LinkedClass],
 ) -> Result<Woven, SpliceFault>
     requires { AllByRecursion IsSoundClass classes.now }
-    ensures { Tells result (classes_woven policy.now woven classes.now) }
+    ensures { Answers SpliceFault.Memory result (classes_woven policy.now woven classes.now) }
 {
     let mut woven = woven;
     let mut left = classes;
@@ -88,7 +86,7 @@ fn class_woven(
     class: &LinkedClass,
 ) -> Result<Woven, SpliceFault>
     requires { IsSoundClass class.now }
-    ensures { Tells result (class_woven policy.now woven class.now) }
+    ensures { Answers SpliceFault.Memory result (class_woven policy.now woven class.now) }
 {
     let none = Members {
         number: 0,
@@ -107,6 +105,7 @@ fn file_put(
     class: &LinkedClass,
     made: Members,
 ) -> Result<Woven, NoMemory>
+    requires { length made.entries < 2 ^ 16 }
     ensures { IfOk result (λ other. other ≡ file_put woven class.now made) }
 {
     let Woven { files, origins } = woven;
@@ -130,6 +129,7 @@ fn file_with(
     entries: Entries,
     methods: List<Member>,
 ) -> Result<ClassFile, NoMemory>
+    requires { length entries < 2 ^ 16 }
     ensures { IfOk result (λ other. other ≡ file_with file.now entries methods) }
 {
     Ok(ClassFile {

@@ -8,17 +8,18 @@ use Rattle.bytecode_model.specs.Fault.{Linked}
 use Rattle.bytecode_model.specs.declared.program.Side.{Side}
 use Rattle.bytecode_model.specs.Linking.{linked, unlinked}
 use Rattle.class_codec.specs.declared.tree.ClassFile.{ClassFile}
-use Rattle.cert_checker.specs.Acceptance.{IsAccepted, verdict}
+use Rattle.block_logic.specs.Accepted.{IsAccepted}
+use Rattle.cert_checker.specs.Acceptance.{verdict}
 use Rattle.cert_checker.specs.Secure.{Secure}
 use Rattle.cert_format.specs.declared.certificate.Certificate.{Certificate}
 use Rattle.cert_format.specs.declared.typing.Typing.{Typing}
 use Rattle.cert_maker.specs.Noting.{certificate_of}
-use Rattle.code_typing.specs.Typed.{IsTyped}
+use Rattle.bytecode_model.specs.Typed.{IsTyped}
 use Rattle.conspec_automaton.specs.declared.policy.Policy.{Policy}
 use Rattle.conspec_automaton.specs.Building.{built}
-use Rattle.inline_release.specs.declared.weaving.Woven.{Woven}
-use Rattle.inline_release.specs.Outcome.{IsWoven}
-use Rattle.inline_release.specs.Woven.{woven}
+use Rattle.block_template.specs.declared.woven.Woven.{Woven}
+use Rattle.block_template.specs.Outcome.{IsWoven}
+use Rattle.block_template.specs.Woven.{woven}
 use Rattle.inliner_tool.specs.declared.inline_inputs.InlineInputs.{InlineInputs}
 use Rattle.inliner_tool.specs.declared.refusal.Refusal.{Refusal}
 use Rattle.inliner_tool.specs.declared.refusal.Refusal.TheVariants as refusals
@@ -130,7 +131,7 @@ module _ (main folder : List ℕ) (client : Program) (policy : Policy) (made : W
       })
       by (Err e) (inr memory) = inr memory
 
-  pub known_rewoven : linked made.files client.listing main Inlined ≡ Ok program → unlinked program ≡ made.files → IsAccepted program policy certificate → Secure program policy
+  pub known_rewoven : linked made.files client.listing main Inlined ≡ Ok program → unlinked program ≡ made.files → IsAccepted program policy certificate → Secure certificate.mode program policy
       → (r : Step Ready) → IfOk r (λ ready. ready.outputs ≡ outputs_of folder program certificate) → IfOk r (λ ready. IsRewoven main folder client.listing policy made.files ready)
   known_rewoven links back accepted secure (Ok ready) outputs = record {
     program = program;

@@ -15,24 +15,25 @@ use Rattle.bytecode_model.specs.Sound.{IsSound}
 use Rattle.cert_format.specs.declared.typing.FrameType.{FrameType}
 use Rattle.cert_format.specs.declared.typing.Typing.{Typing}
 use Rattle.cert_maker.specs.Accepting.{IsStopped, WovenIsAccepted}
-use Rattle.code_typing.specs.Rules.{Frames, frame_of}
-use Rattle.code_typing.specs.Shape.{has_code, IsShaped}
-use Rattle.code_typing.specs.Typed.{IsTyped, frames_in, frames_told, reached_in}
+use Rattle.bytecode_model.specs.Rules.{Frames, frame_of}
+use Rattle.bytecode_model.specs.Shape.{has_code, IsShaped}
+use Rattle.bytecode_model.specs.Typed.{IsTyped, frames_in, frames_told, reached_in}
 use Rattle.conspec_automaton.specs.declared.policy.Policy.{Policy}
 use Rattle.conspec_automaton.specs.Building.{built}
 use Rattle.conspec_automaton.specs.Denying.{DeniesOnly, asks_nothing}
 use Rattle.conspec_parse.specs.declared.types.Kind.{Kind}
 use Rattle.conspec_parse.specs.declared.types.PolicyTree.{PolicyTree}
-use Rattle.inline_release.specs.declared.weaving.Woven.{Woven}
-use Rattle.inline_release.specs.Outcome.{IsWoven, OriginalIsFree, WovenLinks}
-use Rattle.inline_release.specs.Woven.{sites_of, woven}
+use Rattle.block_template.specs.declared.woven.Woven.{Woven}
+use Rattle.block_template.specs.Outcome.{IsWoven, OriginalIsFree, WovenLinks}
+use Rattle.block_template.specs.Woven.{sites_of, woven}
 use Rattle.offset_patch.specs.Splicing.{fronts_of}
 use Rattle.type_infer.specs.Untyped.{IsLeast}
 use Rattle.type_lattice.specs.Laws.{LinkedIsInOrder}
-use Rattle.woven_typing.specs.Calls.{AreRightOperands, LinkedOperandsAreRight, PolicyTellsArguments}
-use Rattle.woven_typing.specs.Framing.{TellsArguments, arguments_of}
-use Rattle.woven_typing.specs.Laws.{IsMetWoven, WovenIsTyped, frames_of_woven}
-use Rattle.woven_typing.proofs.Programs.{told_count, class_told}
+use Rattle.bytecode_model.specs.Named.{AreRightOperands, LinkedOperandsAreRight}
+use Rattle.cert_maker.specs.Calls.{PolicyTellsArguments}
+use Rattle.cert_maker.specs.Framing.{TellsArguments, arguments_of}
+use Rattle.cert_maker.specs.WovenTyping.{IsMetWoven, WovenIsTyped, frames_of_woven}
+use Rattle.cert_maker.proofs.Programs.{told_count, class_told}
 use Rattle.inliner_tool.specs.declared.inline_inputs.InlineInputs.{InlineInputs}
 use Rattle.inliner_tool.specs.declared.inline_words.Weaving.{Weaving}
 use Rattle.inliner_tool.specs.declared.refusal.Refusal.TheVariants as refusals

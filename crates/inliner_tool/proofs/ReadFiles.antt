@@ -8,25 +8,25 @@ use Rattle.inliner_tool.specs.declared.files.Stop.{Stop}
 use Rattle.inliner_tool.specs.declared.files.Stop.TheVariants.{Input, Unread, Memory}
 use Rattle.inliner_tool.specs.Forms.{Form, Count, HasText, IsUnread, ReadsForm, ReadsText}
 use Rattle.inliner_tool.specs.Inputs.{IsNoMemory, IsOfName}
-use Rattle.inliner_tool.specs.Reading.{Fails, Tells}
+use Rattle.mon_base.specs.Answer.{Fails, Answers}
 
 -- a fault that is told is that of reading
-fault_told : {A : Type 0} (fault : InputFault) (read : Result A InputFault) → IsNoMemory fault → Fails fault read → read ≡ Err fault
-fault_told (faults.TooLong len) read some told = told
-fault_told (faults.Listing fault) read some told = told
-fault_told (faults.Policy fault) read some told = told
-fault_told (faults.Class fault) read some told = told
-fault_told (faults.Record fault) read some told = told
-fault_told faults.NotBuilt read some told = told
+fault_told : {A : Type 0} (fault : InputFault) (read : Result A InputFault) → IsNoMemory fault → Fails faults.Memory fault read → read ≡ Err fault
+fault_told (faults.TooLong len) read some told = told (λ same. cc)
+fault_told (faults.Listing fault) read some told = told (λ same. cc)
+fault_told (faults.Policy fault) read some told = told (λ same. cc)
+fault_told (faults.Class fault) read some told = told (λ same. cc)
+fault_told (faults.Record fault) read some told = told (λ same. cc)
+fault_told faults.NotBuilt read some told = told (λ same. cc)
 fault_told faults.Memory read some told = absurd some
 
 -- What a text was read as, or why it was not, is the answer for its file.
 pub reads_form : {A : Type 0} (files : Files) (count : Count) (name : List ℕ) (form : Form A) (text : List ℕ) (read : Result A InputFault) (result : Result A Stop)
-    → HasText files name text → length text ≤ form.limit → Tells read (form.reads text) → IsOfName name read result → ReadsForm files count name form result
+    → HasText files name text → length text ≤ form.limit → Answers faults.Memory read (form.reads text) → IsOfName name read result → ReadsForm files count name form result
 reads_form files count name form text read (Ok tree) told short tells is =
-    record { text = text; told = told; short = short; reads = subst (λ r. Tells r (form.reads text)) is tells }
+    record { text = text; told = told; short = short; reads = subst (λ r. Answers faults.Memory r (form.reads text)) is tells }
 reads_form files count name form text read (Err (Input bad fault)) told short tells is =
-    (is.0, inr (record { text = text; told = told; short = short; reads = fault_told fault (form.reads text) is.2 (subst (λ r. Tells r (form.reads text)) is.1 tells) }))
+    (is.0, inr (record { text = text; told = told; short = short; reads = fault_told fault (form.reads text) is.2 (subst (λ r. Answers faults.Memory r (form.reads text)) is.1 tells) }))
 reads_form files count name form text read (Err (Unread bad)) told short tells is = absurd is
 reads_form files count name form text read (Err Memory) told short tells is = tt
 

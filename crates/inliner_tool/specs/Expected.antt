@@ -4,13 +4,13 @@ use Rattle.bytecode_model.specs.declared.program.Program.{Program}
 use Rattle.bytecode_model.specs.declared.program.Side.TheVariants.{Inlined}
 use Rattle.bytecode_model.specs.Linking.{linked}
 use Rattle.bytecode_model.specs.Sound.{IsSound}
-use Rattle.cert_checker.specs.Acceptance.{IsAccepted}
+use Rattle.block_logic.specs.Accepted.{IsAccepted}
 use Rattle.cert_format.specs.declared.typing.Typing.{Typing}
 use Rattle.cert_maker.specs.Noting.{certificate_of}
-use Rattle.code_typing.specs.Shape.{IsShaped}
-use Rattle.code_typing.specs.Typed.{IsTyped}
+use Rattle.bytecode_model.specs.Shape.{IsShaped}
+use Rattle.bytecode_model.specs.Typed.{IsTyped}
 use Rattle.conspec_automaton.specs.declared.policy.Policy.{Policy}
-use Rattle.inline_release.specs.declared.weaving.Woven.{Woven}
+use Rattle.block_template.specs.declared.woven.Woven.{Woven}
 use Rattle.type_infer.specs.Untyped.{IsUntypedAt, IsLeast}
 use Rattle.type_lattice.specs.Laws.{IsInOrder}
 

@@ -11,7 +11,8 @@ use Rattle.bytecode_model.specs.Linking.{linked}
 use Rattle.cert_checker.specs.declared.checking.Accepted.{Accepted}
 use Rattle.cert_checker.specs.declared.fault.CheckFault.{CheckFault}
 use Rattle.cert_checker.specs.declared.fault.CheckFault.TheVariants.{Shape, Typing, Local}
-use Rattle.cert_checker.specs.Acceptance.{IsAccepted, verdict}
+use Rattle.block_logic.specs.Accepted.{IsAccepted}
+use Rattle.cert_checker.specs.Acceptance.{verdict}
 use Rattle.cert_checker.specs.Secure.{Secure}
 use Rattle.cert_format.specs.declared.certificate.Certificate.{Certificate}
 use Rattle.class_text.specs.declared.fault.ShowFault.{ShowFault}
@@ -110,10 +111,10 @@ EndsWell (answers.Judged verdict) = is_refused verdict ≡ false
 EndsWell (answers.Inlined accepted classes) = Unit {0}
 EndsWell other = ⊥
 
--- The program is accepted with the certificate, and obeys the policy for every list of guest steps.
+-- The program is accepted with the certificate, and obeys the policy for every list of guest steps, as its mode promises.
 pub record ProgramIsChecked (policy : PolicyTree) (certificate : Certificate) (program : Program) : Type 0 where
   pub accepted : IsAccepted program (built policy) certificate
-  pub secure : Secure program (built policy)
+  pub secure : Secure certificate.mode program (built policy)
 
 -- The inputs link to such a program.
 pub record IsChecked (main : List ℕ) (inputs : CheckInputs) : Type 0 where

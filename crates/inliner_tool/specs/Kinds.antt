@@ -4,6 +4,8 @@ use Rattle.api_listing.specs.declared.fault.ListFault.{ListFault}
 use Rattle.api_listing.specs.declared.types.Listing.{Listing}
 use Rattle.api_listing.specs.Listing.{reading}
 use Rattle.cert_format.specs.declared.certificate.Certificate.{Certificate}
+use Rattle.cert_format.specs.declared.fault.CertForm.{CertForm}
+use Rattle.cert_format.specs.declared.fault.CertForm.TheVariants as forms
 use Rattle.cert_format.specs.Reading.{certificate_of}
 use Rattle.class_codec.specs.declared.fault.ClassFault.{ClassFault}
 use Rattle.class_codec.specs.declared.tree.ClassFile.{ClassFile}
@@ -44,9 +46,13 @@ policy_form listing = record { limit = 65536; reads = λ text. policy_read (poli
 abbrev pub built_only : Certificate → Result Certificate InputFault
 built_only certificate = if is_built_certificate certificate then Ok certificate else Err faults.NotBuilt
 
-abbrev pub certificate_read : Result Certificate ℕ → Result Certificate InputFault
+abbrev pub certificate_told : CertForm → InputFault
+certificate_told (forms.Form at) = faults.NotBuilt
+certificate_told forms.Memory = faults.Memory
+
+abbrev pub certificate_read : Result Certificate CertForm → Result Certificate InputFault
 certificate_read (Ok certificate) = built_only certificate
-certificate_read (Err at) = Err faults.NotBuilt
+certificate_read (Err fault) = Err (certificate_told fault)
 
 abbrev pub certificate_form : ℕ → Form Certificate
 certificate_form vars = record { limit = 67108864; reads = λ text. certificate_read (certificate_of vars text) }

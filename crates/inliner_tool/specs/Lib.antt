@@ -1,5 +1,4 @@
 pub mod Fault
-pub mod Reading
 pub mod Forms
 pub mod Built
 pub mod Kinds

@@ -161,10 +161,12 @@ line_text (answers.Unwritten name) = codes "store" ++ word name
 line_text answers.Usage = codes "usage: conspecj COMMAND WORD.."
 line_text answers.Memory = []
 
-abbrev pub is_shown : Answer → Bool
-is_shown (answers.Shown text) = true
-is_shown other = false
+-- The text of class files ends its lines itself, and for want of memory nothing is printed.
+abbrev pub is_bare : Answer → Bool
+is_bare (answers.Shown text) = true
+is_bare answers.Memory = true
+is_bare other = false
 
--- the whole output; the text of class files ends its lines itself
+-- the whole output
 abbrev pub text_of : Answer → List ℕ
-text_of answer = if is_shown answer then line_text answer else line_text answer ++ 10 ∷ []
+text_of answer = if is_bare answer then line_text answer else line_text answer ++ 10 ∷ []

@@ -34,11 +34,11 @@ Ends {A = A} Reads judge answer =
     ((inputs : A) × Reads (Ok inputs) × (answer ≡ judge inputs)) ⊎ ((stop : Stop) × Reads (Err stop) × (answer ≡ stopped stop))
 
 -- What a command answers, and what stands in the store then.
-abbrev pub Answers : Files → Files → Count → NamedCommand → Answer → Type 0
-Answers old new count (Check named) answer = Ends (ReadsCheck old count named) (check_answer named.main) answer × (new ≡ old)
-Answers old new count (Show named) answer = Ends (ReadsShow old count named) show_answer answer × (new ≡ old)
-Answers old new count (Policy named) answer = Ends (ReadsPolicy old count named) policy_answer answer × (new ≡ old)
-Answers old new count (Inline named) answer = Inlines old new count named answer
+abbrev pub CarriesOut : Files → Files → Count → NamedCommand → Answer → Type 0
+CarriesOut old new count (Check named) answer = Ends (ReadsCheck old count named) (check_answer named.main) answer × (new ≡ old)
+CarriesOut old new count (Show named) answer = Ends (ReadsShow old count named) show_answer answer × (new ≡ old)
+CarriesOut old new count (Policy named) answer = Ends (ReadsPolicy old count named) policy_answer answer × (new ≡ old)
+CarriesOut old new count (Inline named) answer = Inlines old new count named answer
 
 -- It is such an answer, or memory ran out.
 abbrev pub IsAnswer : (Answer → Type 0) → Answer → Type 0
@@ -50,7 +50,7 @@ IsAnswer P answer = P answer
 abbrev pub Says : Files → Files → Count → List (List ℕ) → Answer → Type 0
 Says old new count words answers.Usage = ((named : NamedCommand) → IsCommand words named → ⊥) × (new ≡ old)
 Says old new count words answers.Memory = Unit {0}
-Says old new count words answer = (named : NamedCommand) × IsCommand words named × Answers old new count named answer
+Says old new count words answer = (named : NamedCommand) × IsCommand words named × CarriesOut old new count named answer
 
 -- ---- status and output
 

@@ -10,7 +10,8 @@ use Rattle.bytecode_model.specs.declared.program.Side.TheVariants.{Inlined, Orig
 use Rattle.bytecode_model.specs.Fault.{Linked}
 use Rattle.bytecode_model.specs.Linking.{linked, unlinked}
 use Rattle.cert_checker.specs.declared.checking.Accepted.{Accepted}
-use Rattle.cert_checker.specs.Acceptance.{IsAccepted, verdict}
+use Rattle.block_logic.specs.Accepted.{IsAccepted}
+use Rattle.cert_checker.specs.Acceptance.{verdict}
 use Rattle.cert_checker.specs.Secure.{Secure}
 use Rattle.cert_format.specs.declared.certificate.Certificate.{Certificate}
 use Rattle.cert_format.specs.declared.typing.Typing.{Typing}
@@ -18,14 +19,14 @@ use Rattle.cert_format.specs.Spelling.{spell_certificate}
 use Rattle.cert_maker.specs.Noting.{certificate_of}
 use Rattle.class_codec.specs.declared.tree.ClassFile.{ClassFile}
 use Rattle.class_codec.specs.Spelling.{spelling}
-use Rattle.code_typing.specs.Typed.{IsTyped}
+use Rattle.bytecode_model.specs.Typed.{IsTyped}
 use Rattle.conspec_automaton.specs.declared.policy.Policy.{Policy}
 use Rattle.conspec_automaton.specs.Building.{built}
 use Rattle.conspec_automaton.specs.Denying.{asks_nothing}
 use Rattle.conspec_parse.specs.declared.types.PolicyTree.{PolicyTree}
-use Rattle.inline_release.specs.declared.weaving.Woven.{Woven}
-use Rattle.inline_release.specs.Outcome.{IsWoven}
-use Rattle.inline_release.specs.Woven.{woven}
+use Rattle.block_template.specs.declared.woven.Woven.{Woven}
+use Rattle.block_template.specs.Outcome.{IsWoven}
+use Rattle.block_template.specs.Woven.{woven}
 use Rattle.offset_patch.specs.declared.fault.SpliceFault.{SpliceFault}
 use Rattle.offset_patch.specs.declared.fault.SpliceFault.TheVariants as splices
 use Rattle.inliner_tool.specs.declared.inline_inputs.InlineInputs.{InlineInputs}
@@ -167,7 +168,7 @@ pub record IsRewoven (main folder : List ℕ) (listing : Listing) (policy : Poli
   pub same : unlinked program ≡ files
   pub certificate : Certificate
   pub accepted : IsAccepted program policy certificate
-  pub secure : Secure program policy
+  pub secure : Secure certificate.mode program policy
   pub outputs : ready.outputs ≡ outputs_of folder program certificate
 
 -- The inputs link to a program, and what the weaving of the policy makes of it is to be written: it links to the same

@@ -4,7 +4,7 @@ ghost use Rattle.std.specs.Prelude.{◌≡◌, IfOk};
 ghost use Rattle.std.specs.List.{AllByRecursion, list_all};
 ghost use Rattle.bytecode_model.specs.Sound.{IsSound};
 ghost use Rattle.class_codec.specs.Fits.{CanSpell};
-ghost use Rattle.cert_checker.specs.Operands.{is_way_out};
+ghost use Rattle.block_logic.specs.Operands.{is_way_out};
 ghost use Rattle.inliner_tool.specs.Built.{
   are_built,
   are_built_classes,
@@ -32,8 +32,8 @@ ghost use Rattle.inliner_tool.specs.Built.{
 };
 
 use api_listing::ListedMethod;
+use block_logic::is_way_out;
 use bytecode_model::{LinkedClass, Method, Program, Target};
-use cert_checker::is_way_out;
 use cert_format::{Certificate, FrameType, Mode, Note, VType};
 use class_codec::{Attr, ClassFile, Const, Member, encode};
 use insn_codec::Insn;

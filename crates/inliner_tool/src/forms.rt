@@ -7,7 +7,7 @@ ghost use Rattle.class_codec.specs.Fits.{CanSpell};
 ghost use Rattle.conspec_parse.specs.Meaning.{SpellsPolicy};
 ghost use Rattle.conspec_parse.specs.Tree.{IsPolicyTree};
 ghost use Rattle.inliner_tool.specs.Kinds.{certificate_form, class_form, listing_form, policy_form, record_form};
-ghost use Rattle.inliner_tool.specs.Reading.{Tells};
+ghost use Rattle.mon_base.specs.Answer.{Answers};
 
 use crate::built::is_built_certificate;
 use crate::fault::{InputFault, class_told, listing_told, policy_told, record_told};
@@ -42,7 +42,7 @@ pub struct ReadClass {
 
 /// The listing that a text spells.
 pub fn listing_read(alloc: Global, text: &[u8]) -> Result<Listing, InputFault>
-    ensures read { Tells result (listing_form.reads text.now) }
+    ensures read { Answers InputFault.Memory result (listing_form.reads text.now) }
     ensures few { IfOk result IsFew }
     ensures listed { IfOk result (λ listing. SpellsListing text.now listing) }
 {
@@ -55,7 +55,7 @@ pub fn listing_read(alloc: Global, text: &[u8]) -> Result<Listing, InputFault>
 /// The policy that a text spells over the methods of a listing.
 pub fn policy_read(alloc: Global, text: &[u8], listing: &Listing) -> Result<PolicyTree, InputFault>
     requires { IsFew listing.now }
-    ensures read { Tells result ((policy_form listing.now).reads text.now) }
+    ensures read { Answers InputFault.Memory result ((policy_form listing.now).reads text.now) }
     ensures few { IfOk result (λ tree. length tree.vars ≤ 16) }
     ensures sound { IfOk result (λ tree. IsPolicyTree listing.now tree) }
     ensures spells { IfOk result (λ tree. SpellsPolicy text.now listing.now tree) }
@@ -68,7 +68,7 @@ pub fn policy_read(alloc: Global, text: &[u8], listing: &Listing) -> Result<Poli
 
 /// The certificate that a text spells for a policy of so many variables, where it is of the form that is built so far.
 pub fn certificate_read(alloc: Global, text: &[u8], vars: u32) -> Result<Certificate, InputFault>
-    ensures read { Tells result ((certificate_form vars).reads text.now) }
+    ensures read { Answers InputFault.Memory result ((certificate_form vars).reads text.now) }
 {
     match cert_format::decode(alloc, text, vars) {
         Ok(certificate) => {
@@ -85,7 +85,7 @@ pub fn certificate_read(alloc: Global, text: &[u8], vars: u32) -> Result<Certifi
 
 /// The class file that a text spells, with the text's length.
 pub fn class_read(alloc: Global, text: &[u8]) -> Result<ReadClass, InputFault>
-    ensures read { Tells result (class_form.reads text.now) }
+    ensures read { Answers InputFault.Memory result (class_form.reads text.now) }
     ensures fits { IfOk result (λ class. CanSpell class.file) }
 {
     match class_codec::decode(alloc, text) {
@@ -102,7 +102,7 @@ pub fn class_read(alloc: Global, text: &[u8]) -> Result<ReadClass, InputFault>
 /// The record that a text spells over the classes and methods of a listing.
 pub fn record_read(alloc: Global, text: &[u8], listing: &Listing) -> Result<Record, InputFault>
     requires { IsFew listing.now }
-    ensures { Tells result ((record_form listing.now).reads text.now) }
+    ensures { Answers InputFault.Memory result ((record_form listing.now).reads text.now) }
 {
     match read_record(alloc, text, listing) {
         Ok(recorded) => Ok(recorded),

@@ -6,7 +6,7 @@ ghost use Rattle.inliner_tool.specs.Inlining.{Begins, IsInlined, Outputs, refuse
 ghost use Rattle.inliner_tool.specs.InlineInputs.{InlineSound};
 ghost use Rattle.inliner_tool.specs.InlineWords.{inline_named};
 ghost use Rattle.inliner_tool.specs.Judging.{EndsWell};
-ghost use Rattle.inliner_tool.specs.Tool.{Answers, IsAnswer};
+ghost use Rattle.inliner_tool.specs.Tool.{CarriesOut, IsAnswer};
 ghost use Rattle.inliner_tool.specs.Words.{Inline};
 
 use crate::answer::Answer;
@@ -20,7 +20,7 @@ use std::alloc::Global;
 
 /// The answer to `inline`.
 pub fn answer_inline<S: Store>(alloc: Global, words: &InlineWords, store: &mut S) -> Answer
-    ensures says { IsAnswer (λ answer. Answers (S.files store.old) (S.files store.new)
+    ensures says { IsAnswer (λ answer. CarriesOut (S.files store.old) (S.files store.new)
         (since (S.faults store.old) (S.faults store.new) (S.last store.new)) (Inline (inline_named words.now)) answer) result }
     ensures inlined { EndsWell result → IsInlined (S.files store.old) (S.files store.new)
         (since (S.faults store.old) (S.faults store.new) (S.last store.new)) (inline_named words.now) }

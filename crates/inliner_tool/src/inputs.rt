@@ -11,7 +11,7 @@ ghost use Rattle.inliner_tool.specs.InlineInputs.{IsListed, IsPolicyOf};
 ghost use Rattle.inliner_tool.specs.Inputs.{AreSound, IsOfListing, IsOfName};
 ghost use Rattle.inliner_tool.specs.Inputs.{ReadsCheck, ReadsClasses as ReadsFiles, ReadsPolicy, ReadsShow};
 ghost use Rattle.inliner_tool.specs.Kinds.{certificate_form, class_form, listing_form, policy_form, record_form};
-ghost use Rattle.inliner_tool.specs.Reading.{Tells};
+ghost use Rattle.mon_base.specs.Answer.{Answers};
 ghost use Rattle.inliner_tool.specs.Words.{check_named, policy_named, show_named};
 
 use crate::fault::InputFault;

@@ -8,7 +8,7 @@ ghost use Rattle.inliner_tool.specs.Lines.{
   class_fields,
   code_fields,
   field,
-  is_shown,
+  is_bare,
   line_text,
   link_fields,
   listing_fields,
@@ -43,16 +43,17 @@ pub fn text_of(alloc: Global, answer: &Answer) -> Result<Bytes, NoMemory>
 {
     let mut text = Bytes::new(alloc);
     push_line(&mut text, answer)?;
-    if !is_shown(answer) {
+    if !is_bare(answer) {
         text.push(b'\n')?;
     }
     Ok(text)
 }
 
-fn is_shown(answer: &Answer) -> bool
-    ensures { result ≡ is_shown answer.now }
+/// Whether the output is no line: the text of class files ends its lines itself, and for want of memory nothing is printed.
+fn is_bare(answer: &Answer) -> bool
+    ensures { result ≡ is_bare answer.now }
 {
-    matches!(answer, Answer::Shown(_))
+    matches!(answer, Answer::Shown(_) | Answer::Memory)
 }
 
 fn push_line(text: &mut Bytes, answer: &Answer) -> Result<(), NoMemory>

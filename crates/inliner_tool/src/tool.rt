@@ -8,7 +8,7 @@ ghost use Rattle.inliner_tool.specs.Inlining.{IsInlined, Leaves};
 ghost use Rattle.inliner_tool.specs.InlineWords.{IsInline, NamedInline};
 ghost use Rattle.inliner_tool.specs.Judging.{EndsWell, stopped};
 ghost use Rattle.inliner_tool.specs.Status.{code_of};
-ghost use Rattle.inliner_tool.specs.Tool.{Answers, Holds, IsAnswer, Replies, Says, judged_status, status_of};
+ghost use Rattle.inliner_tool.specs.Tool.{CarriesOut, Holds, IsAnswer, Replies, Says, judged_status, status_of};
 ghost use Rattle.inliner_tool.specs.Words.{Check, IsCheck, NamedCheck, Policy, Show, check_named, policy_named, show_named};
 
 use crate::answer::Answer;
@@ -137,7 +137,7 @@ fn answer_to<S: Store>(alloc: Global, words: &[Bytes], store: &mut S) -> Answer
 
 /// The answer to `check`.
 fn answer_check<S: Store>(alloc: Global, words: &CheckWords, store: &mut S) -> Answer
-    ensures says { IsAnswer (λ answer. Answers (S.files store.old) (S.files store.new)
+    ensures says { IsAnswer (λ answer. CarriesOut (S.files store.old) (S.files store.new)
         (since (S.faults store.old) (S.faults store.new) (S.last store.new)) (Check (check_named words.now)) answer) result }
     ensures holds { EndsWell result
         → Holds (S.files store.old) (since (S.faults store.old) (S.faults store.new) (S.last store.new)) (check_named words.now) }
@@ -152,7 +152,7 @@ fn answer_check<S: Store>(alloc: Global, words: &CheckWords, store: &mut S) -> A
 
 /// The answer to `show`.
 fn answer_show<S: Store>(alloc: Global, words: &ShowWords, store: &mut S) -> Answer
-    ensures says { IsAnswer (λ answer. Answers (S.files store.old) (S.files store.new)
+    ensures says { IsAnswer (λ answer. CarriesOut (S.files store.old) (S.files store.new)
         (since (S.faults store.old) (S.faults store.new) (S.last store.new)) (Show (show_named words.now)) answer) result }
     ensures files { S.files store.new ≡ S.files store.old }
     ensures faults { S.faults store.old ≤ S.faults store.new }
@@ -165,7 +165,7 @@ fn answer_show<S: Store>(alloc: Global, words: &ShowWords, store: &mut S) -> Ans
 
 /// The answer to `policy`.
 fn answer_policy<S: Store>(alloc: Global, words: &PolicyWords, store: &mut S) -> Answer
-    ensures says { IsAnswer (λ answer. Answers (S.files store.old) (S.files store.new)
+    ensures says { IsAnswer (λ answer. CarriesOut (S.files store.old) (S.files store.new)
         (since (S.faults store.old) (S.faults store.new) (S.last store.new)) (Policy (policy_named words.now)) answer) result }
     ensures files { S.files store.new ≡ S.files store.old }
     ensures faults { S.faults store.old ≤ S.faults store.new }

@@ -33,12 +33,12 @@ ghost use Rattle.inliner_tool.specs.Weaving.{
   weave_step,
 };
 ghost use Rattle.bytecode_model.specs.Linking.{linked, unlinked};
-ghost use Rattle.cert_checker.specs.Acceptance.{IsAccepted};
-ghost use Rattle.code_typing.specs.Shape.{IsShaped};
+ghost use Rattle.block_logic.specs.Accepted.{IsAccepted};
+ghost use Rattle.bytecode_model.specs.Shape.{IsShaped};
 ghost use Rattle.inliner_tool.specs.Expected.{IsExpected};
 ghost use Rattle.type_infer.specs.Untyped.{IsLeast};
 ghost use Rattle.type_lattice.specs.Laws.{IsInOrder};
-ghost use Rattle.inline_release.specs.Woven.{woven};
+ghost use Rattle.block_template.specs.Woven.{woven};
 
 use crate::built::is_built_class;
 use crate::inline_inputs::InlineInputs;
@@ -47,21 +47,21 @@ use crate::inputs::ReadClasses;
 use crate::judging::{TOTAL_LIMIT, label_of};
 use crate::refusal::Refusal;
 use api_listing::{ListedMethod, Listing};
-use bytecode_model::{LinkFault, LinkedClass, Program, Side, link};
+use block_template::Woven;
+use bytecode_model::{LinkFault, LinkedClass, Program, Side, link, linked_operands_are_right};
 use cert_checker::{Accepted, check};
 use cert_format::{CertLong, Certificate, Typing};
-use cert_maker::{make, woven_is_accepted};
+use cert_maker::{make, policy_tells_arguments, woven_is_accepted, woven_is_typed};
 use class_codec::ClassFile;
 use conspec_automaton::{Policy, asks_nothing, build};
 use conspec_parse::PolicyTree;
-use inline_release::{Woven, inline, original_is_free, woven_files_link};
+use inline_release::{inline, original_is_free, woven_files_link};
 use mon_base::{Bytes, List, NoMemory};
 use mon_store::Output;
 use offset_patch::SpliceFault;
 use std::alloc::Global;
 use type_infer::{InferFault, infer};
 use type_lattice::linked_is_in_order;
-use woven_typing::{linked_operands_are_right, policy_tells_arguments, woven_is_typed};
 
 /// What is to be written, and what is said of it.
 #[derive(Debug, Drop, PartialEq, Eq)]
@@ -275,7 +275,7 @@ fn judged(
     requires accepted { IsAccepted program.now policy.now certificate.now }
     ensures accepts { Accepts folder.now policy.now program.now certificate.now result }
     ensures accepted { IsAccepted program.now policy.now certificate.now }
-    ensures secure { Secure program.now policy.now }
+    ensures secure { Secure certificate.now.mode program.now policy.now }
     ensures outputs { IfOk result (λ ready. ready.outputs ≡ outputs_of folder.now program.now certificate.now) }
 {
     let accepted = check(program, policy, certificate).unwrap();

@@ -13,9 +13,10 @@ use Rattle.insn_codec.specs.declared.insn.Insn.TheVariants.{Plain, Byte, Short, 
 use Rattle.insn_codec.specs.Opcodes.{goes_on}
 use Rattle.insn_codec.specs.Spelling.{u1, i4, range, keyed, opcode_of, padding, size, starts_of, offset, case, cases, bytes_of, bytes_from}
 use Rattle.insn_codec.specs.Fits.{IsInsn, AimsWithin, ReachFrom, Ends, SpellsCode}
-use Rattle.insn_codec.specs.Reading.{Finder, Answers, any, among, insn_at, insns_at, insns_of, ended, code_of}
+use Rattle.mon_base.specs.Answer.{Answers}
+use Rattle.insn_codec.specs.Reading.{Finder, any, among, insn_at, insns_at, insns_of, ended, code_of}
 use Rattle.insn_codec.proofs.Laws.{Leads}
-use Rattle.insn_codec.proofs.Forms.{FitsInsn}
+use Rattle.insn_codec.proofs.InsnForms.{FitsInsn}
 use Rattle.insn_codec.proofs.InsnLaws.{insn_is}
 use Rattle.insn_codec.proofs.Finding.{leads, Alike, same_finder, insn_any}
 use Rattle.insn_codec.proofs.Sequence.{first_of, none_left, none_asked, all_read, code_read}
@@ -268,13 +269,13 @@ spelled_code code all s =
     let two' : insns_of (among g.0) code ≡ Ok all = subst (λ (find : Finder). insns_of find code ≡ Ok all) (sym (same_finder g.0 all g.2)) two in
     code_read code g.0 all g.1 two' (when_ends 0 all s.fits.ends)
 
-pub is_found : (code : List ℕ) (r : Result (List Insn) CodeFault) → IsBytes code → Answers r (code_of code) → IfOk r (λ all. SpellsCode code all)
+pub is_found : (code : List ℕ) (r : Result (List Insn) CodeFault) → IsBytes code → Answers faults.Memory r (code_of code) → IfOk r (λ all. SpellsCode code all)
 is_found code (Ok all) fits given = code_spells code all fits given
 is_found code (Err e) fits given = tt
 
-pub is_only : (code : List ℕ) (r : Result (List Insn) CodeFault) (all : List Insn) → Answers r (code_of code) → SpellsCode code all → Answers r (Ok all)
-is_only code r all given s = subst (λ (read : Result (List Insn) CodeFault). Answers r read) (spelled_code code all s) given
+pub is_only : (code : List ℕ) (r : Result (List Insn) CodeFault) (all : List Insn) → Answers faults.Memory r (code_of code) → SpellsCode code all → Answers faults.Memory r (Ok all)
+is_only code r all given s = subst (λ (read : Result (List Insn) CodeFault). Answers faults.Memory r read) (spelled_code code all s) given
 
-pub is_each : (code : List ℕ) (r : Result (List Insn) CodeFault) → IsBytes code → Answers r (code_of code) → IfOk r (λ all. AllByRecursion IsInsn all)
+pub is_each : (code : List ℕ) (r : Result (List Insn) CodeFault) → IsBytes code → Answers faults.Memory r (code_of code) → IfOk r (λ all. AllByRecursion IsInsn all)
 is_each code (Ok all) fits given = (code_spells code all fits given).fits.each
 is_each code (Err e) fits given = tt

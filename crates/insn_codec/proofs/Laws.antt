@@ -7,7 +7,7 @@ use Rattle.mon_base.specs.Reading.{Place, ◌>>=◌, need}
 use Rattle.mon_base.proofs.Reading.{bind_ok, ok_is, need_ok, ok_or_ok, Took, IsTail, IsReader, number_is, one, two, four}
 use Rattle.insn_codec.specs.declared.fault.CodeFault.TheVariants.{Cut, Target}
 use Rattle.insn_codec.specs.Spelling.{u1, u2, u4, i1, i2, i4, offset}
-use Rattle.insn_codec.specs.Fits.{IsU1, IsU2}
+use Rattle.mon_base.specs.Widths.{IsU1, IsU2}
 use Rattle.insn_codec.specs.Reading.{Finder, u1_at, u2_at, i1_at, i2_at, i4_at, target_of, near_at, far_at}
 
 -- ---- readers made of others

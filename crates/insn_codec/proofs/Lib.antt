@@ -1,7 +1,7 @@
 pub mod Ascend
 pub mod CodeLaws
 pub mod Finding
-pub mod Forms
+pub mod InsnForms
 pub mod InsnLaws
 pub mod Instruction
 pub mod Laws
@@ -13,3 +13,8 @@ pub mod Sequence
 pub mod Standing
 pub mod SwitchLaws
 pub mod WriteLaws
+mod Pairs
+mod Moving
+pub mod Following
+mod OpcodeTests
+pub mod Table

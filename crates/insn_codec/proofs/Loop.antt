@@ -4,8 +4,10 @@ use Rattle.std.proofs.Math.Nat.{mul-suc}
 use Rattle.std.proofs.lemmas.List.{append-nil, length-append}
 use Rattle.mon_base.specs.Reading.{Place, ◌>>=◌, counted}
 use Rattle.insn_codec.specs.declared.fault.CodeFault.{CodeFault}
-use Rattle.insn_codec.specs.declared.fault.CodeFault.TheVariants.{Opcode, Cut, Target, LeftOut, Form, End, Memory}
-use Rattle.insn_codec.specs.Reading.{Read, Fails}
+use Rattle.insn_codec.specs.declared.fault.CodeFault.TheVariants.{Memory}
+use Rattle.mon_base.specs.Answer.{Fails}
+use Rattle.mon_base.proofs.Answering.{failed, along}
+use Rattle.insn_codec.specs.Reading.{Read}
 
 -- what was read before, and what is still read
 abbrev pub with_front : {X : Type 0} → List X → Read (List X) → Read (List X)
@@ -15,35 +17,6 @@ pub regroup : {X : Type 0} (front : List X) (n : X) (read : Read (List X))
     → with_front front (read >>= λ x. Ok (n ∷ x.0, x.1)) ≡ with_front (front ++ n ∷ []) read
 regroup {X = X} front n (Ok x) = ap (λ (ns : List X). Ok (ns, x.1)) (simp append_assoc)
 regroup front n (Err f) = refl
-
--- A fault at an item is the answer.
-pub failed : {Y Z : Type 0} (e : CodeFault) (first : Result Y CodeFault) (others : Y → Result Z CodeFault) → Fails e first
-    → Fails e (first >>= others)
-failed Memory first others h = tt
-failed (Opcode at op) first others h = rw h refl
-failed (Cut at) first others h = rw h refl
-failed (Target at) first others h = rw h refl
-failed (LeftOut at op) first others h = rw h refl
-failed (Form at) first others h = rw h refl
-failed (End at) first others h = rw h refl
-
-pub along : {Y : Type 0} (e : CodeFault) (a b : Result Y CodeFault) → a ≡ b → Fails e a → Fails e b
-along Memory a b same h = tt
-along (Opcode at op) a b same h = sym same ∙ h
-along (Cut at) a b same h = sym same ∙ h
-along (Target at) a b same h = sym same ∙ h
-along (LeftOut at op) a b same h = sym same ∙ h
-along (Form at) a b same h = sym same ∙ h
-along (End at) a b same h = sym same ∙ h
-
-pub told : {Y : Type 0} (e : CodeFault) (answer : Result Y CodeFault) → Err e ≡ answer → Fails e answer
-told Memory answer is = tt
-told (Opcode at op) answer is = sym is
-told (Cut at) answer is = sym is
-told (Target at) answer is = sym is
-told (LeftOut at op) answer is = sym is
-told (Form at) answer is = sym is
-told (End at) answer is = sym is
 
 -- ---- items
 
@@ -58,13 +31,13 @@ goes_on item front count i place x next total lt h so_far =
     sym one ∙ so_far
 
 pub ends : {X : Type 0} (item : Place → Read X) (e : CodeFault) (front : List X) (count i : ℕ) (place : Place)
-    (total : Read (List X)) → i < count → Fails e (item place)
-    → with_front front (counted item (count - i) place) ≡ total → Fails e total
+    (total : Read (List X)) → i < count → Fails Memory e (item place)
+    → with_front front (counted item (count - i) place) ≡ total → Fails Memory e total
 unfolding counted
 ends item e front count i place total lt h so_far =
     let k : count - i ≡ suc (count - (i + 1)) = omega arith in
-    let one = failed e (counted item (suc (count - (i + 1))) place) (λ x. Ok (front ++ x.0, x.1)) (failed e (item place) (λ first. counted item (count - (i + 1)) first.1 >>= λ others. Ok (first.0 ∷ others.0, others.1)) h) in
-    along e (with_front front (counted item (suc (count - (i + 1))) place)) total (subst (λ (n : ℕ). with_front front (counted item n place) ≡ total) k so_far) one
+    let one = failed Memory e (counted item (suc (count - (i + 1))) place) (λ x. Ok (front ++ x.0, x.1)) (failed Memory e (item place) (λ first. counted item (count - (i + 1)) first.1 >>= λ others. Ok (first.0 ∷ others.0, others.1)) h) in
+    along Memory e (with_front front (counted item (suc (count - (i + 1))) place)) total (subst (λ (n : ℕ). with_front front (counted item n place) ≡ total) k so_far) one
 
 pub is_done : {X : Type 0} (item : Place → Read X) (front : List X) (count i : ℕ) (place : Place) (total : Read (List X)) → count ≤ i
     → with_front front (counted item (count - i) place) ≡ total → total ≡ Ok (front, place)

@@ -12,21 +12,11 @@ use Rattle.insn_codec.specs.declared.insn.Case.{Case}
 use Rattle.insn_codec.specs.declared.insn.Insn.{Insn}
 use Rattle.insn_codec.specs.Spelling.{i4, size, offset, case, cases, bytes_of, bytes_from, starts_of, len_from, spelling}
 use Rattle.insn_codec.specs.Fits.{IsInsn}
-use Rattle.insn_codec.specs.Writing.{far, all_far, reach, reach_from, written, FailsTo, Tells}
+use Rattle.mon_base.specs.Answer.{Fails, Answers}
+use Rattle.mon_base.proofs.Answering.{failed, along}
+use Rattle.insn_codec.specs.Writing.{far, all_far, reach, reach_from, written}
 use Rattle.insn_codec.proofs.Standing.{nothing, first_and_rest}
 use Rattle.insn_codec.proofs.Ascend.{others_are}
-
--- A fault at the first is the answer.
-pub failed_to : {Y Z : Type 0} (e : CodeOverflow) (first : Result Y CodeOverflow) (others : Y → Result Z CodeOverflow) → FailsTo e first
-    → FailsTo e (first >>= others)
-failed_to Memory first others h = tt
-failed_to (Length value) first others h = rw h refl
-failed_to (Branch value) first others h = rw h refl
-
-pub along_to : {Y : Type 0} (e : CodeOverflow) (a b : Result Y CodeOverflow) → a ≡ b → FailsTo e a → FailsTo e b
-along_to Memory a b same h = tt
-along_to (Length value) a b same h = sym same ∙ h
-along_to (Branch value) a b same h = sym same ∙ h
 
 -- ---- offsets of four bytes
 
@@ -49,11 +39,11 @@ abbrev left_of : List ℕ → List ℕ
 left_of left = take (length left - 1) (drop 1 left)
 
 pub far_ends : (e : CodeOverflow) (starts : List ℕ) (at : ℕ) (left : List ℕ) (total : Result (Unit {0}) CodeOverflow) → 1 ≤ length left
-    → FailsTo e (far starts at (get_or left 0 0)) → all_far starts at left ≡ total → FailsTo e total
+    → Fails Memory e (far starts at (get_or left 0 0)) → all_far starts at left ≡ total → Fails Memory e total
 far_ends e starts at left total some h so_far =
-    let one = failed_to e (far starts at (get_or left 0 0)) (λ _. all_far starts at (left_of left)) h in
+    let one = failed Memory e (far starts at (get_or left 0 0)) (λ _. all_far starts at (left_of left)) h in
     let same : (far starts at (get_or left 0 0) >>= λ _. all_far starts at (left_of left)) ≡ all_far starts at left = sym (far_first starts at (get_or left 0 0) (left_of left)) ∙ ap (all_far starts at) (sym (others_are left 0 some)) in
-    along_to e (far starts at (get_or left 0 0) >>= λ _. all_far starts at (left_of left)) total (same ∙ so_far) one
+    along Memory e (far starts at (get_or left 0 0) >>= λ _. all_far starts at (left_of left)) total (same ∙ so_far) one
 
 pub far_on : (starts : List ℕ) (at : ℕ) (left : List ℕ) (total : Result (Unit {0}) CodeOverflow) → 1 ≤ length left
     → far starts at (get_or left 0 0) ≡ Ok tt → all_far starts at left ≡ total → all_far starts at (left_of left) ≡ total
@@ -83,10 +73,10 @@ far_drop starts at i targets lt =
     ap (all_far starts at) (rw add-one (drop-cons targets i 0 lt)) ∙ far_first starts at (get_or targets i 0) (drop (i + 1) targets)
 
 pub case_ends : (e : CodeOverflow) (starts : List ℕ) (at i : ℕ) (targets : List ℕ) (total : Result (Unit {0}) CodeOverflow) → i < length targets
-    → FailsTo e (far starts at (get_or targets i 0)) → all_far starts at (drop i targets) ≡ total → FailsTo e total
+    → Fails Memory e (far starts at (get_or targets i 0)) → all_far starts at (drop i targets) ≡ total → Fails Memory e total
 case_ends e starts at i targets total lt h so_far =
-    let one = failed_to e (far starts at (get_or targets i 0)) (λ _. all_far starts at (drop (i + 1) targets)) h in
-    along_to e (far starts at (get_or targets i 0) >>= λ _. all_far starts at (drop (i + 1) targets)) total (sym (far_drop starts at i targets lt) ∙ so_far) one
+    let one = failed Memory e (far starts at (get_or targets i 0)) (λ _. all_far starts at (drop (i + 1) targets)) h in
+    along Memory e (far starts at (get_or targets i 0) >>= λ _. all_far starts at (drop (i + 1) targets)) total (sym (far_drop starts at i targets lt) ∙ so_far) one
 
 pub case_far : (starts : List ℕ) (at i : ℕ) (targets : List ℕ) (total : Result (Unit {0}) CodeOverflow) → i < length targets
     → far starts at (get_or targets i 0) ≡ Ok tt → all_far starts at (drop i targets) ≡ total → all_far starts at (drop (i + 1) targets) ≡ total
@@ -157,11 +147,11 @@ abbrev others_of : List Insn → List Insn
 others_of left = take (length left - 1) (drop 1 left)
 
 pub reach_ends : (e : CodeOverflow) (starts : List ℕ) (at : ℕ) (left : List Insn) (first : Insn) (total : Result (Unit {0}) CodeOverflow)
-    → 1 ≤ length left → first ≡ get_or left 0 first → FailsTo e (reach starts at first) → reach_from starts at left ≡ total → FailsTo e total
+    → 1 ≤ length left → first ≡ get_or left 0 first → Fails Memory e (reach starts at first) → reach_from starts at left ≡ total → Fails Memory e total
 reach_ends e starts at left first total some is h so_far =
-    let one = failed_to e (reach starts at first) (λ _. reach_from starts (at + size at first) (others_of left)) h in
+    let one = failed Memory e (reach starts at first) (λ _. reach_from starts (at + size at first) (others_of left)) h in
     let same : (reach starts at first >>= λ _. reach_from starts (at + size at first) (others_of left)) ≡ reach_from starts at left = sym (reach_first starts at first (others_of left)) ∙ ap (reach_from starts at) (sym (first_and_rest left first some is)) in
-    along_to e (reach starts at first >>= λ _. reach_from starts (at + size at first) (others_of left)) total (same ∙ so_far) one
+    along Memory e (reach starts at first >>= λ _. reach_from starts (at + size at first) (others_of left)) total (same ∙ so_far) one
 
 pub reach_on : (starts : List ℕ) (at len : ℕ) (left : List Insn) (first : Insn) (total : Result (Unit {0}) CodeOverflow)
     → 1 ≤ length left → first ≡ get_or left 0 first → len ≡ size at first → reach starts at first ≡ Ok tt → reach_from starts at left ≡ total
@@ -220,11 +210,11 @@ after_length insns short =
     let b : nat_le (len_from 0 insns) 65535 ≡ true = grind (arith, nat_tests) in
     rw b refl
 
-pub too_far : (insns : List Insn) (e : CodeOverflow) → len_from 0 insns ≤ 65535 → FailsTo e (reach_from (starts_of insns) 0 insns)
-    → FailsTo e (written insns)
+pub too_far : (insns : List Insn) (e : CodeOverflow) → len_from 0 insns ≤ 65535 → Fails Memory e (reach_from (starts_of insns) 0 insns)
+    → Fails Memory e (written insns)
 too_far insns e short h =
-    along_to e (reach_from (starts_of insns) 0 insns >>= λ _. Ok (spelling insns)) (written insns) (sym (after_length insns short))
-    (failed_to e (reach_from (starts_of insns) 0 insns) (λ _. Ok (spelling insns)) h)
+    along Memory e (reach_from (starts_of insns) 0 insns >>= λ _. Ok (spelling insns)) (written insns) (sym (after_length insns short))
+    (failed Memory e (reach_from (starts_of insns) 0 insns) (λ _. Ok (spelling insns)) h)
 
 abbrev refused : CodeOverflow → Result (List ℕ) CodeOverflow
 refused e = Err e
@@ -239,7 +229,7 @@ held_is : (r : Result (Unit {0}) CodeOverflow) (bytes other : List ℕ) → (r >
 held_is (Ok done) bytes other h = cc
 held_is (Err e) bytes other h = absurd (not_both e other h)
 
-pub written_is : (insns : List Insn) (r : Result (List ℕ) CodeOverflow) → Tells r (written insns) → IfOk r (λ bytes. bytes ≡ spelling insns)
+pub written_is : (insns : List Insn) (r : Result (List ℕ) CodeOverflow) → Answers Memory r (written insns) → IfOk r (λ bytes. bytes ≡ spelling insns)
 written_is insns (Err e) h = tt
 written_is insns (Ok bytes) h =
     elim (cases_lt 65535 (len_from 0 insns)) [
@@ -247,6 +237,6 @@ written_is insns (Ok bytes) h =
       | inr short ↦ sym (held_is (reach_from (starts_of insns) 0 insns) (spelling insns) bytes (sym (after_length insns short) ∙ h))
     ]
 
-pub told_long : (insns : List Insn) (r : Result (List ℕ) CodeOverflow) → Tells r (written insns) → 65535 < len_from 0 insns
-    → Tells r (Err (Length (len_from 0 insns)))
-told_long insns r h long = subst (λ (w : Result (List ℕ) CodeOverflow). Tells r w) (too_long insns long) h
+pub told_long : (insns : List Insn) (r : Result (List ℕ) CodeOverflow) → Answers Memory r (written insns) → 65535 < len_from 0 insns
+    → Answers Memory r (Err (Length (len_from 0 insns)))
+told_long insns r h long = subst (λ (w : Result (List ℕ) CodeOverflow). Answers Memory r w) (too_long insns long) h

@@ -8,8 +8,11 @@ use Rattle.mon_base.specs.Reading.{Place, ◌>>=◌}
 use Rattle.insn_codec.specs.declared.fault.CodeFault.{CodeFault}
 use Rattle.insn_codec.specs.declared.insn.Insn.{Insn}
 use Rattle.insn_codec.specs.Spelling.{size, len_from}
-use Rattle.insn_codec.specs.Reading.{Finder, Read, Fails, any, among, insn_at, insns_at, insns_of, ended, code_of}
-use Rattle.insn_codec.proofs.Loop.{with_front, regroup, failed, along}
+use Rattle.mon_base.specs.Answer.{Fails}
+use Rattle.mon_base.proofs.Answering.{failed, along}
+use Rattle.insn_codec.specs.declared.fault.CodeFault.TheVariants.{Memory}
+use Rattle.insn_codec.specs.Reading.{Finder, Read, any, among, insn_at, insns_at, insns_of, ended, code_of}
+use Rattle.insn_codec.proofs.Loop.{with_front, regroup}
 use Rattle.insn_codec.proofs.Standing.{size-some, len_push}
 
 some_bytes : (bytes : List ℕ) → 1 ≤ length bytes → (length bytes == 0) ≡ false
@@ -56,14 +59,14 @@ goes_on find front count i p x next total lt some h so_far =
     sym one ∙ so_far
 
 pub ends : (find : Finder) (e : CodeFault) (front : List Insn) (count i : ℕ) (p : Place) (total : Read (List Insn))
-    → i < count → 1 ≤ length p.rest → Fails e (insn_at find p.at p)
-    → with_front front (insns_at find (count - i) p) ≡ total → Fails e total
+    → i < count → 1 ≤ length p.rest → Fails Memory e (insn_at find p.at p)
+    → with_front front (insns_at find (count - i) p) ≡ total → Fails Memory e total
 ends find e front count i p total lt some h so_far =
     let k : count - i ≡ suc (count - (i + 1)) = omega arith in
-    let step = failed e (insn_at find p.at p) (λ first. insns_at find (count - (i + 1)) first.1 >>= λ others. Ok (first.0 ∷ others.0, others.1)) h in
-    let step' = along e (insn_at find p.at p >>= λ first. insns_at find (count - (i + 1)) first.1 >>= λ others. Ok (first.0 ∷ others.0, others.1)) (insns_at find (suc (count - (i + 1))) p) (sym (first_of find (count - (i + 1)) p some)) step in
-    let one = failed e (insns_at find (suc (count - (i + 1))) p) (λ x. Ok (front ++ x.0, x.1)) step' in
-    along e (with_front front (insns_at find (suc (count - (i + 1))) p)) total (subst (λ (n : ℕ). with_front front (insns_at find n p) ≡ total) k so_far) one
+    let step = failed Memory e (insn_at find p.at p) (λ first. insns_at find (count - (i + 1)) first.1 >>= λ others. Ok (first.0 ∷ others.0, others.1)) h in
+    let step' = along Memory e (insn_at find p.at p >>= λ first. insns_at find (count - (i + 1)) first.1 >>= λ others. Ok (first.0 ∷ others.0, others.1)) (insns_at find (suc (count - (i + 1))) p) (sym (first_of find (count - (i + 1)) p some)) step in
+    let one = failed Memory e (insns_at find (suc (count - (i + 1))) p) (λ x. Ok (front ++ x.0, x.1)) step' in
+    along Memory e (with_front front (insns_at find (suc (count - (i + 1))) p)) total (subst (λ (n : ℕ). with_front front (insns_at find n p) ≡ total) k so_far) one
 
 abbrev pub whole : Finder → List ℕ → Read (List Insn)
 whole find code = insns_at find (length code) (record { at = 0; rest = code })
@@ -72,9 +75,9 @@ pub all_read : (find : Finder) (code : List ℕ) (all : List Insn) (next : Place
 unfolding insns_of
 all_read find code all next h = rw h refl
 
-pub not_read : (find : Finder) (code : List ℕ) (e : CodeFault) → Fails e (whole find code) → Fails e (insns_of find code)
+pub not_read : (find : Finder) (code : List ℕ) (e : CodeFault) → Fails Memory e (whole find code) → Fails Memory e (insns_of find code)
 unfolding insns_of
-not_read find code e h = failed e (whole find code) (λ all. Ok all.0) h
+not_read find code e h = failed Memory e (whole find code) (λ all. Ok all.0) h
 
 -- Nothing is left.
 pub done : (find : Finder) (front : List Insn) (code : List ℕ) (i : ℕ) (p : Place) → length p.rest ≡ 0
@@ -108,9 +111,9 @@ pub code_read : (code : List ℕ) (shapes all : List Insn) → insns_of any code
 unfolding code_of
 code_read code shapes all one two end = rw (one, two, end) refl
 
-pub no_shapes : (code : List ℕ) (e : CodeFault) → Fails e (insns_of any code) → Fails e (code_of code)
+pub no_shapes : (code : List ℕ) (e : CodeFault) → Fails Memory e (insns_of any code) → Fails Memory e (code_of code)
 unfolding code_of
-no_shapes code e h = failed e (insns_of any code) (λ shapes. insns_of (among shapes) code >>= λ all. ended 0 all >>= λ _. Ok all) h
+no_shapes code e h = failed Memory e (insns_of any code) (λ shapes. insns_of (among shapes) code >>= λ all. ended 0 all >>= λ _. Ok all) h
 
 after_shapes : (code : List ℕ) (shapes : List Insn) → insns_of any code ≡ Ok shapes
     → code_of code ≡ (insns_of (among shapes) code >>= λ all. ended 0 all >>= λ _. Ok all)
@@ -118,10 +121,10 @@ unfolding code_of
 after_shapes code shapes one = rw one refl
 
 pub no_targets : (code : List ℕ) (shapes : List Insn) (e : CodeFault) → insns_of any code ≡ Ok shapes
-    → Fails e (insns_of (among shapes) code) → Fails e (code_of code)
+    → Fails Memory e (insns_of (among shapes) code) → Fails Memory e (code_of code)
 no_targets code shapes e one h =
-    let two = failed e (insns_of (among shapes) code) (λ all. ended 0 all >>= λ _. Ok all) h in
-    along e (insns_of (among shapes) code >>= λ all. ended 0 all >>= λ _. Ok all) (code_of code) (sym (after_shapes code shapes one)) two
+    let two = failed Memory e (insns_of (among shapes) code) (λ all. ended 0 all >>= λ _. Ok all) h in
+    along Memory e (insns_of (among shapes) code >>= λ all. ended 0 all >>= λ _. Ok all) (code_of code) (sym (after_shapes code shapes one)) two
 
 after_targets : (code : List ℕ) (shapes all : List Insn) → insns_of any code ≡ Ok shapes → insns_of (among shapes) code ≡ Ok all
     → code_of code ≡ (ended 0 all >>= λ _. Ok all)
@@ -129,7 +132,7 @@ unfolding code_of
 after_targets code shapes all one two = rw (one, two) refl
 
 pub no_end : (code : List ℕ) (shapes all : List Insn) (e : CodeFault) → insns_of any code ≡ Ok shapes → insns_of (among shapes) code ≡ Ok all
-    → Fails e (ended 0 all) → Fails e (code_of code)
+    → Fails Memory e (ended 0 all) → Fails Memory e (code_of code)
 no_end code shapes all e one two h =
-    let three = failed e (ended 0 all) (λ _. Ok all) h in
-    along e (ended 0 all >>= λ _. Ok all) (code_of code) (sym (after_targets code shapes all one two)) three
+    let three = failed Memory e (ended 0 all) (λ _. Ok all) h in
+    along Memory e (ended 0 all >>= λ _. Ok all) (code_of code) (sym (after_targets code shapes all one two)) three

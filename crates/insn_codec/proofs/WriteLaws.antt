@@ -9,7 +9,9 @@ use Rattle.insn_codec.specs.declared.insn.Insn.{Insn}
 use Rattle.insn_codec.specs.declared.insn.Insn.TheVariants.{Branch, GotoW, Table, Lookup}
 use Rattle.insn_codec.specs.Spelling.{size, offset, starts_of, len_from, bytes_of, bytes_from}
 use Rattle.insn_codec.specs.Fits.{IsInsn, Reaches, ReachFrom, SpellsCode}
-use Rattle.insn_codec.specs.Writing.{held_by_2, held_by_4, near, far, all_far, reach, reach_from, written, Tells}
+use Rattle.mon_base.specs.Answer.{Answers}
+use Rattle.insn_codec.specs.declared.fault.CodeOverflow.TheVariants.{Memory}
+use Rattle.insn_codec.specs.Writing.{held_by_2, held_by_4, near, far, all_far, reach, reach_from, written}
 use Rattle.insn_codec.proofs.Standing.{len_first, len_none}
 use Rattle.insn_codec.proofs.Putting.{far_first, far_none, reach_first, reach_none, bytes_first, bytes_none, is_written}
 use Rattle.insn_codec.proofs.CodeLaws.{size_is}
@@ -51,10 +53,10 @@ len_is starts at (x ∷ xs) h =
     ap length (bytes_first starts at x xs) ∙ length-append (bytes_of starts at x) (bytes_from starts (at + size at x) xs)
     ∙ ap (λ (n : ℕ). n + length (bytes_from starts (at + size at x) xs)) one ∙ ap (λ (n : ℕ). size at x + n) others ∙ sym (len_first at x xs)
 
-pub is_back : (insns : List Insn) (r : Result (List ℕ) CodeOverflow) (bytes : List ℕ) → Tells r (written insns) → SpellsCode bytes insns
-    → length bytes ≤ 65535 → Tells r (Ok bytes)
+pub is_back : (insns : List Insn) (r : Result (List ℕ) CodeOverflow) (bytes : List ℕ) → Answers Memory r (written insns) → SpellsCode bytes insns
+    → length bytes ≤ 65535 → Answers Memory r (Ok bytes)
 is_back insns r bytes told s short =
     let len = len_is (starts_of insns) 0 insns s.fits.each in
     let all : len_from 0 insns ≤ 65535 = omega (arith, len, ap length s.is, short) in
     let is : written insns ≡ Ok bytes = is_written insns all (insns_held (starts_of insns) 0 insns s.fits.offsets) ∙ ap (λ (bs : List ℕ). Ok bs) (sym s.is) in
-    subst (λ (w : Result (List ℕ) CodeOverflow). Tells r w) is told
+    subst (λ (w : Result (List ℕ) CodeOverflow). Answers Memory r w) is told

@@ -3,21 +3,12 @@
 use Rattle.std.specs.Prelude.{◌≡◌, ℕ, ℤ, pos, ◌+ℤ◌, ◌-ℤ◌, ◌<ℤ◌, ◌<◌, ◌≤◌, ◌+◌, ◌^◌, ◌||◌, ◌==◌, nat_le, ◌&&◌, Bool, true, false, List, [], ◌∷◌, length, FitsSigned, ⊤}
 use Rattle.std.specs.List.{AllByRecursion}
 use Rattle.std.specs.Int.{w8, w16, w32}
+use Rattle.mon_base.specs.Widths.{IsU1, IsU2}
 use Rattle.insn_codec.specs.declared.opcode.Operands.TheVariants as ops
 use Rattle.insn_codec.specs.declared.insn.Insn.{Insn}
 use Rattle.insn_codec.specs.declared.insn.Insn.TheVariants.{Plain, Byte, Short, Ldc, Pool, Iface, Local, Inc, Branch, GotoW, NewArray, Table, Lookup}
 use Rattle.insn_codec.specs.Opcodes.{operands_of, goes_on}
 use Rattle.insn_codec.specs.Spelling.{opcode_of, size, offset, starts_of, spelling}
-
--- numbers that one, two and four bytes hold
-abbrev pub IsU1 : ℕ → Type 0
-IsU1 n = n < 2 ^ 8
-
-abbrev pub IsU2 : ℕ → Type 0
-IsU2 n = n < 2 ^ 16
-
-abbrev pub IsU4 : ℕ → Type 0
-IsU4 n = n < 2 ^ 32
 
 -- the types of an array's items: boolean, char, byte, short, int
 abbrev pub is_item_type : ℕ → Bool

@@ -5,3 +5,9 @@ pub mod Fits
 pub mod Reading
 pub mod Targets
 pub mod Writing
+pub mod Forms
+pub mod Shapes
+pub mod Effect
+pub mod Following
+pub mod Control
+pub mod Table

@@ -18,28 +18,6 @@ use Rattle.insn_codec.specs.Fits.{is_item_type}
 abbrev pub Read : Type 0 → Type 0
 Read X = Result (X × Place) CodeFault
 
--- What a call answered, and the place where it left, are what reading gives; unless memory ran out.
-abbrev pub Fails : {Y : Type 0} → CodeFault → Result Y CodeFault → Type 0
-Fails Memory read = Unit {0}
-Fails fault read = read ≡ Err fault
-
-abbrev pub Reads : {X : Type 0} → Result X CodeFault → Read X → Place → Type 0
-Reads (Ok x) read new = read ≡ Ok (x, new)
-Reads (Err e) read new = Fails e read
-
--- the same of an answer that is seen by view
-abbrev pub ReadsAs : {X Y : Type 0} → (X → Y) → Result X CodeFault → Read Y → Place → Type 0
-ReadsAs view (Ok x) read new = read ≡ Ok (view x, new)
-ReadsAs view (Err e) read new = Fails e read
-
-abbrev pub Answers : {X : Type 0} → Result X CodeFault → Result X CodeFault → Type 0
-Answers (Ok x) answer = answer ≡ Ok x
-Answers (Err e) answer = Fails e answer
-
-abbrev pub AnswersAs : {X Y : Type 0} → (X → Y) → Result X CodeFault → Result Y CodeFault → Type 0
-AnswersAs view (Ok x) answer = answer ≡ Ok (view x)
-AnswersAs view (Err e) answer = Fails e answer
-
 -- where the bytes end
 abbrev pub end_of : Place → ℕ
 end_of p = p.at + length p.rest

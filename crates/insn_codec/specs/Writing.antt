@@ -1,6 +1,7 @@
 -- Writing a code: its bytes, or why there are none.
 use Rattle.std.specs.Prelude.{◌≡◌, ℕ, ℤ, pos, negsuc, ◌+◌, ◌++◌, ◌&&◌, Bool, List, [], ◌∷◌, Result, Ok, Err, nat_le, int_le}
 use Rattle.mon_base.specs.Reading.{◌>>=◌, need}
+use Rattle.mon_base.specs.Answer.{Fails}
 use Rattle.insn_codec.specs.declared.fault.CodeOverflow.{CodeOverflow}
 use Rattle.insn_codec.specs.declared.fault.CodeOverflow.TheVariants as overflows
 use Rattle.insn_codec.specs.declared.insn.Insn.{Insn}
@@ -45,14 +46,6 @@ written insns = do
   Ok (spelling insns)
 
 -- What a call that appends bytes answered, unless memory ran out.
-abbrev pub FailsTo : {Y : Type 0} → CodeOverflow → Result Y CodeOverflow → Type 0
-FailsTo overflows.Memory answer = Unit {0}
-FailsTo fault answer = answer ≡ Err fault
-
 abbrev pub Puts : Result (Unit {0}) CodeOverflow → Result (Unit {0}) CodeOverflow → List ℕ → List ℕ → List ℕ → Type 0
 Puts (Ok done) answer bytes old new = (answer ≡ Ok tt) × (new ≡ old ++ bytes)
-Puts (Err e) answer bytes old new = FailsTo e answer
-
-abbrev pub Tells : {X : Type 0} → Result X CodeOverflow → Result X CodeOverflow → Type 0
-Tells (Ok x) answer = answer ≡ Ok x
-Tells (Err e) answer = FailsTo e answer
+Puts (Err e) answer bytes old new = Fails overflows.Memory e answer

@@ -3,8 +3,10 @@
 ghost use Rattle.std.specs.Prelude.{◌≡◌, ◌+◌, ◌<◌, ◌^◌, length, OnOk, IfOk, Ok, List};
 ghost use Rattle.std.specs.List.{AllByRecursion};
 ghost use Rattle.insn_codec.specs.Spelling.{size, len_from};
-ghost use Rattle.insn_codec.specs.Reading.{Reads, Answers, iface_at, new_array_at, inc_at, wide_inc_at, widened_at, wide_at};
-ghost use Rattle.insn_codec.specs.Reading.{AnswersAs, end_of, operands_at, insn_at, insns_of, code_of};
+ghost use Rattle.mon_base.specs.Answer.{Reads, Answers};
+ghost use Rattle.insn_codec.specs.Reading.{iface_at, new_array_at, inc_at, wide_inc_at, widened_at, wide_at};
+ghost use Rattle.mon_base.specs.Answer.{AnswersAs};
+ghost use Rattle.insn_codec.specs.Reading.{end_of, operands_at, insn_at, insns_of, code_of};
 ghost use Rattle.insn_codec.specs.Opcodes.{operands_of};
 ghost use Rattle.insn_codec.specs.Fits.{IsInsn, SpellsCode};
 ghost use Rattle.insn_codec.specs.Targets.{finds};
@@ -23,7 +25,7 @@ use std::alloc::Global;
 /// `invokeinterface`, after its opcode.
 #[tactic(auto, unfolding(crate::specs::Reading::iface_at))]
 fn iface(at: u64, from: &mut Cursor) -> Result<Insn, CodeFault>
-    ensures reads { Reads result (iface_at at from.old) from.new }
+    ensures reads { Reads CodeFault.Memory result (iface_at at from.old) from.new }
     ensures moves { IfOk result (λ insn. from.new.at + 1 ≡ from.old.at + size at insn) }
     ensures stays { OnOk result (end_of from.new ≡ end_of from.old) }
 {
@@ -38,7 +40,7 @@ fn iface(at: u64, from: &mut Cursor) -> Result<Insn, CodeFault>
 /// `newarray`, after its opcode.
 #[tactic(auto, unfolding(crate::specs::Reading::new_array_at))]
 fn new_array(at: u64, from: &mut Cursor) -> Result<Insn, CodeFault>
-    ensures reads { Reads result (new_array_at at from.old) from.new }
+    ensures reads { Reads CodeFault.Memory result (new_array_at at from.old) from.new }
     ensures moves { IfOk result (λ insn. from.new.at + 1 ≡ from.old.at + size at insn) }
     ensures stays { OnOk result (end_of from.new ≡ end_of from.old) }
 {
@@ -55,7 +57,7 @@ fn new_array(at: u64, from: &mut Cursor) -> Result<Insn, CodeFault>
 /// `iinc`, after its opcode.
 #[tactic(auto, unfolding(crate::specs::Reading::inc_at))]
 fn inc(at: u64, from: &mut Cursor) -> Result<Insn, CodeFault>
-    ensures reads { Reads result (inc_at at from.old) from.new }
+    ensures reads { Reads CodeFault.Memory result (inc_at at from.old) from.new }
     ensures moves { IfOk result (λ insn. from.new.at + 1 ≡ from.old.at + size at insn) }
     ensures stays { OnOk result (end_of from.new ≡ end_of from.old) }
 {
@@ -71,7 +73,7 @@ fn inc(at: u64, from: &mut Cursor) -> Result<Insn, CodeFault>
 /// `iinc` after `wide`, after its opcode.
 #[tactic(auto, unfolding(crate::specs::Reading::wide_inc_at))]
 fn wide_inc(at: u64, from: &mut Cursor) -> Result<Insn, CodeFault>
-    ensures reads { Reads result (wide_inc_at at from.old) from.new }
+    ensures reads { Reads CodeFault.Memory result (wide_inc_at at from.old) from.new }
     ensures moves { IfOk result (λ insn. from.new.at + 2 ≡ from.old.at + size at insn) }
     ensures stays { OnOk result (end_of from.new ≡ end_of from.old) }
 {
@@ -86,7 +88,7 @@ fn wide_inc(at: u64, from: &mut Cursor) -> Result<Insn, CodeFault>
 
 /// What follows `wide` and an opcode.
 fn widened(op: u8, at: u64, from: &mut Cursor) -> Result<Insn, CodeFault>
-    ensures reads { Reads result (widened_at (operands_of op) at op from.old) from.new }
+    ensures reads { Reads CodeFault.Memory result (widened_at (operands_of op) at op from.old) from.new }
     ensures moves { IfOk result (λ insn. from.new.at + 2 ≡ from.old.at + size at insn) }
     ensures stays { OnOk result (end_of from.new ≡ end_of from.old) }
 {
@@ -104,7 +106,7 @@ fn widened(op: u8, at: u64, from: &mut Cursor) -> Result<Insn, CodeFault>
 /// What follows `wide`.
 #[tactic(auto, unfolding(crate::specs::Reading::wide_at))]
 fn wide(at: u64, from: &mut Cursor) -> Result<Insn, CodeFault>
-    ensures reads { Reads result (wide_at at from.old) from.new }
+    ensures reads { Reads CodeFault.Memory result (wide_at at from.old) from.new }
     ensures moves { IfOk result (λ insn. from.new.at + 1 ≡ from.old.at + size at insn) }
     ensures stays { OnOk result (end_of from.new ≡ end_of from.old) }
 {
@@ -121,7 +123,7 @@ fn operands(
     from: &mut Cursor,
 ) -> Result<Insn, CodeFault>
     requires { at < 2 ^ 32 }
-    ensures reads { Reads result (operands_at (operands_of op) (finds targets.now) at op from.old) from.new }
+    ensures reads { Reads CodeFault.Memory result (operands_at (operands_of op) (finds targets.now) at op from.old) from.new }
     ensures moves { IfOk result (λ insn. from.new.at + 1 ≡ from.old.at + size at insn) }
     ensures stays { OnOk result (end_of from.new ≡ end_of from.old) }
 {
@@ -161,7 +163,7 @@ fn operands(
 #[tactic(auto, unfolding(crate::specs::Reading::insn_at))]
 fn insn(alloc: Global, targets: &Targets, from: &mut Cursor) -> Result<Insn, CodeFault>
     requires { from.old.at < 2 ^ 32 }
-    ensures reads { Reads result (insn_at (finds targets.now) from.old.at from.old) from.new }
+    ensures reads { Reads CodeFault.Memory result (insn_at (finds targets.now) from.old.at from.old) from.new }
     ensures moves { IfOk result (λ insn. from.new.at ≡ from.old.at + size from.old.at insn) }
     ensures stays { OnOk result (end_of from.new ≡ end_of from.old) }
 {
@@ -173,7 +175,7 @@ fn insn(alloc: Global, targets: &Targets, from: &mut Cursor) -> Result<Insn, Cod
 /// All the instructions.
 fn insns(alloc: Global, targets: &Targets, code: &[u8]) -> Result<Vec<Insn>, CodeFault>
     requires { length code.now < 2 ^ 32 }
-    ensures reads { AnswersAs (λ v. v.items) result (insns_of (finds targets.now) code.now) }
+    ensures reads { AnswersAs CodeFault.Memory (λ v. v.items) result (insns_of (finds targets.now) code.now) }
     ensures len { IfOk result (λ v. len_from 0 v.items ≡ length code.now) }
 {
     let mut from = Cursor::new(code);
@@ -191,7 +193,7 @@ fn insns(alloc: Global, targets: &Targets, code: &[u8]) -> Result<Vec<Insn>, Cod
 /// The instructions of a code that ends, with targets as indices.
 fn all(alloc: Global, code: &[u8]) -> Result<List<Insn>, CodeFault>
     requires { length code.now < 2 ^ 32 }
-    ensures reads { Answers result (code_of code.now) }
+    ensures reads { Answers CodeFault.Memory result (code_of code.now) }
     ensures len { IfOk result (λ insns. len_from 0 insns ≡ length code.now) }
 {
     let shapes = insns(alloc, &Targets::Any, code)?;
@@ -207,12 +209,12 @@ pub fn read_code(alloc: Global, code: &[u8]) -> Result<List<Insn>, CodeFault>
     // What is read is spelled so.
     ensures found { IfOk result (λ insns. SpellsCode code.now insns) }
     // What is spelled so is read, unless memory runs out.
-    ensures only { (insns : List Insn) → SpellsCode code.now insns → Answers result (Ok insns) }
+    ensures only { (insns : List Insn) → SpellsCode code.now insns → Answers CodeFault.Memory result (Ok insns) }
     // The instructions can be written, and have all the bytes.
     ensures each { IfOk result (λ insns. AllByRecursion IsInsn insns) }
     ensures len { IfOk result (λ insns. len_from 0 insns ≡ length code.now) }
     // Which fault it is: the first that reading meets.
-    ensures exact { Answers result (code_of code.now) }
+    ensures exact { Answers CodeFault.Memory result (code_of code.now) }
 {
     all(alloc, code)
 }

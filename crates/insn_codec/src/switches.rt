@@ -3,7 +3,8 @@
 ghost use Rattle.std.specs.Prelude.{◌≡◌, ◌+◌, ◌*◌, ◌<◌, ◌^◌, length, map, IfOk, OnOk};
 ghost use Rattle.mon_base.specs.Reading.{counted};
 ghost use Rattle.insn_codec.specs.Spelling.{padding, size};
-ghost use Rattle.insn_codec.specs.Reading.{Reads, ReadsAs, all_zero, bounds_at, ranged_at, table_at, end_of};
+ghost use Rattle.mon_base.specs.Answer.{Reads, ReadsAs};
+ghost use Rattle.insn_codec.specs.Reading.{all_zero, bounds_at, ranged_at, table_at, end_of};
 ghost use Rattle.insn_codec.specs.Reading.{far_at, case_at, ascend, count_at, cases_at, keyed_at, lookup_at};
 ghost use Rattle.insn_codec.specs.Targets.{finds};
 
@@ -18,7 +19,8 @@ use std::alloc::Global;
 trait Item: Drop {
     ghost use Rattle.std.specs.Prelude.{◌≡◌, ◌+◌, ◌<◌, ◌^◌, ℕ, OnOk};
     ghost use Rattle.mon_base.specs.Reading.{Place};
-    ghost use Rattle.insn_codec.specs.Reading.{Finder, Read, Reads, end_of};
+    ghost use Rattle.mon_base.specs.Answer.{Reads};
+    ghost use Rattle.insn_codec.specs.Reading.{Finder, Read, end_of};
     ghost use Rattle.insn_codec.specs.Targets.{finds};
 
     /// What reading it gives, in the instruction that begins at a place.
@@ -31,7 +33,7 @@ trait Item: Drop {
     where
         Self: Sized,
         requires { at < 2 ^ 32 }
-        ensures reads { Reads result (item_at (finds targets.now) at from.old) from.new }
+        ensures reads { Reads CodeFault.Memory result (item_at (finds targets.now) at from.old) from.new }
         ensures moves { OnOk result (from.new.at ≡ from.old.at + len) }
         ensures stays { OnOk result (end_of from.new ≡ end_of from.old) };
 }
@@ -68,7 +70,7 @@ fn several<T: Item>(
     from: &mut Cursor,
 ) -> Result<Vec<T>, CodeFault>
     requires { at < 2 ^ 32 }
-    ensures reads { ReadsAs (λ v. v.items) result (counted (T.item_at (finds targets.now) at) count from.old) from.new }
+    ensures reads { ReadsAs CodeFault.Memory (λ v. v.items) result (counted (T.item_at (finds targets.now) at) count from.old) from.new }
     ensures moves { IfOk result (λ v. from.new.at ≡ from.old.at + T.len * length v.items) }
     ensures stays { OnOk result (end_of from.new ≡ end_of from.old) }
 {
@@ -90,7 +92,7 @@ fn all_zero(bytes: &[u8]) -> bool
 /// The least number of a `tableswitch`, and how many there are up to the greatest.
 #[tactic(auto, unfolding(crate::specs::Reading::bounds_at))]
 fn bounds(at: u64, from: &mut Cursor) -> Result<(i32, u64), CodeFault>
-    ensures reads { Reads result (bounds_at at from.old) from.new }
+    ensures reads { Reads CodeFault.Memory result (bounds_at at from.old) from.new }
     ensures moves { OnOk result (from.new.at ≡ from.old.at + 8) }
     ensures stays { OnOk result (end_of from.new ≡ end_of from.old) }
 {
@@ -112,7 +114,7 @@ fn ranged(
     from: &mut Cursor,
 ) -> Result<Insn, CodeFault>
     requires { at < 2 ^ 32 }
-    ensures reads { Reads result (ranged_at (finds targets.now) at pad.now from.old) from.new }
+    ensures reads { Reads CodeFault.Memory result (ranged_at (finds targets.now) at pad.now from.old) from.new }
     ensures moves { IfOk result (λ insn. from.new.at + padding at + 1 ≡ from.old.at + size at insn) }
     ensures stays { OnOk result (end_of from.new ≡ end_of from.old) }
 {
@@ -138,7 +140,7 @@ pub fn table(
     from: &mut Cursor,
 ) -> Result<Insn, CodeFault>
     requires { at < 2 ^ 32 }
-    ensures reads { Reads result (table_at (finds targets.now) at from.old) from.new }
+    ensures reads { Reads CodeFault.Memory result (table_at (finds targets.now) at from.old) from.new }
     ensures moves { IfOk result (λ insn. from.new.at + 1 ≡ from.old.at + size at insn) }
     ensures stays { OnOk result (end_of from.new ≡ end_of from.old) }
 {
@@ -187,7 +189,7 @@ fn targets_of(alloc: Global, cases: &[Case]) -> Result<Vec<u32>, NoMemory>
 /// How many keys a `lookupswitch` has.
 #[tactic(auto, unfolding(crate::specs::Reading::count_at))]
 fn count(at: u64, from: &mut Cursor) -> Result<u64, CodeFault>
-    ensures reads { Reads result (count_at at from.old) from.new }
+    ensures reads { Reads CodeFault.Memory result (count_at at from.old) from.new }
     ensures moves { OnOk result (from.new.at ≡ from.old.at + 4) }
     ensures stays { OnOk result (end_of from.new ≡ end_of from.old) }
 {
@@ -207,7 +209,7 @@ fn cases(
     from: &mut Cursor,
 ) -> Result<Vec<Case>, CodeFault>
     requires { at < 2 ^ 32 }
-    ensures reads { ReadsAs (λ v. v.items) result (cases_at (finds targets.now) at from.old) from.new }
+    ensures reads { ReadsAs CodeFault.Memory (λ v. v.items) result (cases_at (finds targets.now) at from.old) from.new }
     ensures moves { IfOk result (λ v. from.new.at ≡ from.old.at + 4 + 8 * length v.items) }
     ensures stays { OnOk result (end_of from.new ≡ end_of from.old) }
 {
@@ -225,7 +227,7 @@ fn keyed(
     from: &mut Cursor,
 ) -> Result<Insn, CodeFault>
     requires { at < 2 ^ 32 }
-    ensures reads { Reads result (keyed_at (finds targets.now) at pad.now from.old) from.new }
+    ensures reads { Reads CodeFault.Memory result (keyed_at (finds targets.now) at pad.now from.old) from.new }
     ensures moves { IfOk result (λ insn. from.new.at + padding at + 1 ≡ from.old.at + size at insn) }
     ensures stays { OnOk result (end_of from.new ≡ end_of from.old) }
 {
@@ -250,7 +252,7 @@ pub fn lookup(
     from: &mut Cursor,
 ) -> Result<Insn, CodeFault>
     requires { at < 2 ^ 32 }
-    ensures reads { Reads result (lookup_at (finds targets.now) at from.old) from.new }
+    ensures reads { Reads CodeFault.Memory result (lookup_at (finds targets.now) at from.old) from.new }
     ensures moves { IfOk result (λ insn. from.new.at + 1 ≡ from.old.at + size at insn) }
     ensures stays { OnOk result (end_of from.new ≡ end_of from.old) }
 {

@@ -1,7 +1,8 @@
 //! Which instruction begins at a position of the code.
 
 ghost use Rattle.std.specs.Prelude.{◌≡◌, ◌+◌, ◌+ℤ◌, ◌<◌, ◌^◌, pos, OnOk};
-ghost use Rattle.insn_codec.specs.Reading.{Reads, Answers, target_of, near_at, far_at, end_of};
+ghost use Rattle.mon_base.specs.Answer.{Reads, Answers};
+ghost use Rattle.insn_codec.specs.Reading.{target_of, near_at, far_at, end_of};
 ghost use Rattle.insn_codec.specs.Targets.{finds};
 
 use crate::fault::CodeFault;
@@ -39,7 +40,7 @@ impl Targets {
     /// The target of the instruction at `at` which is this far away.
     fn target(&self, at: u64, by: i32) -> Result<u32, CodeFault>
         requires { at < 2 ^ 32 }
-        ensures { Answers result (target_of (finds self.now) at by) }
+        ensures { Answers CodeFault.Memory result (target_of (finds self.now) at by) }
     {
         self.find(at as i64 + by as i64)
             .ok_or(CodeFault::Target { at })
@@ -49,7 +50,7 @@ impl Targets {
     #[tactic(auto, unfolding(crate::specs::Reading::near_at))]
     pub fn near(&self, at: u64, from: &mut Cursor) -> Result<u32, CodeFault>
         requires { at < 2 ^ 32 }
-        ensures reads { Reads result (near_at (finds self.now) at from.old) from.new }
+        ensures reads { Reads CodeFault.Memory result (near_at (finds self.now) at from.old) from.new }
         ensures moves { OnOk result (from.new.at ≡ from.old.at + 2) }
         ensures stays { OnOk result (end_of from.new ≡ end_of from.old) }
     {
@@ -61,7 +62,7 @@ impl Targets {
     #[tactic(auto, unfolding(crate::specs::Reading::far_at))]
     pub fn far(&self, at: u64, from: &mut Cursor) -> Result<u32, CodeFault>
         requires { at < 2 ^ 32 }
-        ensures reads { Reads result (far_at (finds self.now) at from.old) from.new }
+        ensures reads { Reads CodeFault.Memory result (far_at (finds self.now) at from.old) from.new }
         ensures moves { OnOk result (from.new.at ≡ from.old.at + 4) }
         ensures stays { OnOk result (end_of from.new ≡ end_of from.old) }
     {

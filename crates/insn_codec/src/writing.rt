@@ -7,7 +7,8 @@ ghost use Rattle.insn_codec.specs.Spelling.{u1, u2, u4, i1, i2, i4, offset, padd
 ghost use Rattle.insn_codec.specs.Spelling.{range, keyed, len_from, size, starts_of, spelling};
 ghost use Rattle.insn_codec.specs.Fits.{FitsSlot, FitsBy, FitsTable, FitsLookup, IsInsn, SpellsCode};
 ghost use Rattle.insn_codec.specs.declared.insn.Insn.TheVariants.{Local, Inc};
-ghost use Rattle.insn_codec.specs.Writing.{near, far, all_far, reach, reach_from, written, Puts, Tells};
+ghost use Rattle.mon_base.specs.Answer.{Answers};
+ghost use Rattle.insn_codec.specs.Writing.{near, far, all_far, reach, reach_from, written, Puts};
 ghost use Rattle.insn_codec.specs.declared.fault.CodeOverflow.TheVariants.{Length};
 
 use crate::fault::CodeOverflow;
@@ -337,7 +338,7 @@ fn put_all(out: &mut Bytes, starts: &[u32], insns: &[Insn]) -> Result<(), CodeOv
 fn written(alloc: Global, insns: &[Insn]) -> Result<Bytes, CodeOverflow>
     requires len { len_from 0 insns.now < 2 ^ 32 }
     requires each { AllByRecursion IsInsn insns.now }
-    ensures { Tells result (written insns.now) }
+    ensures { Answers CodeOverflow.Memory result (written insns.now) }
 {
     let value = len_of(insns);
     if 65_535 < value {
@@ -359,11 +360,11 @@ pub fn write_code(alloc: Global, insns: &[Insn]) -> Result<Bytes, CodeOverflow>
     // The bytes are those of the instructions.
     ensures is { IfOk result (λ bytes. bytes ≡ spelling insns.now) }
     // A code that is too long is refused before all else.
-    ensures length { 65535 < len_from 0 insns.now → Tells result (Err (Length (len_from 0 insns.now))) }
+    ensures length { 65535 < len_from 0 insns.now → Answers CodeOverflow.Memory result (Err (Length (len_from 0 insns.now))) }
     // Which overflow it is, and that there is none where the code is short and each offset is held.
-    ensures exact { Tells result (written insns.now) }
+    ensures exact { Answers CodeOverflow.Memory result (written insns.now) }
     // What was read is written as it was.
-    ensures back { (bytes : List ℕ) → SpellsCode bytes insns.now → length bytes ≤ 65535 → Tells result (Ok bytes) }
+    ensures back { (bytes : List ℕ) → SpellsCode bytes insns.now → length bytes ≤ 65535 → Answers CodeOverflow.Memory result (Ok bytes) }
 {
     written(alloc, insns)
 }

@@ -1,2 +1,3 @@
 mod Numbers
 pub mod Reading
+pub mod Answering

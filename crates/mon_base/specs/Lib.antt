@@ -1,2 +1,4 @@
 pub mod Reading
 pub mod Room
+pub mod Answer
+pub mod Widths

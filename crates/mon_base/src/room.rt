@@ -1,6 +1,6 @@
 //! Lists whose memory is taken before their items come.
 
-ghost use Rattle.std.specs.Prelude.{◌≡◌, ◌∷◌, [], ◌++◌, ◌+◌, ◌<◌, ◌≤◌, IfOk, OnOk};
+ghost use Rattle.std.specs.Prelude.{◌≡◌, ◌∷◌, [], ◌++◌, ◌+◌, ◌<◌, ◌≤◌, IfOk, OnOk, OnErr};
 
 use crate::list::List;
 use crate::memory::NoMemory;
@@ -33,10 +33,12 @@ impl<T> Room<T> {
         })
     }
 
-    /// Makes place for at least `n` items more. The items stay, on refusal too.
+    /// Makes place for at least `n` items more. The items stay; a refusal changes nothing, and there is never less place than before.
     pub fn reserve(&mut self, n: usize) -> Result<(), NoMemory>
         ensures items { self.new.items ≡ self.old.items }
         ensures spare { OnOk result (n ≤ self.new.spare) }
+        ensures same { OnErr result (self.new ≡ self.old) }
+        ensures no_less { self.old.spare ≤ self.new.spare }
     {
         self.items.reserve(n)?;
         Ok(())

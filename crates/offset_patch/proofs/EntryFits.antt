@@ -216,7 +216,7 @@ wants_fit (want ∷ others) pool p short =
 
 -- ---- places
 
-entry_few : (c : Const) (pool : List Const) → (entry c pool).1 < length (entry c pool).0
+pub entry_few : (c : Const) (pool : List Const) → (entry c pool).1 < length (entry c pool).0
 entry_few c pool = by (place_of c pool) refl
   where
     by : (o : Option ℕ) → place_of c pool ≡ o → (placed pool c o).1 < length (placed pool c o).0

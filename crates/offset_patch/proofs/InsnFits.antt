@@ -12,7 +12,7 @@ use Rattle.offset_patch.specs.declared.block.Block.{Block}
 use Rattle.offset_patch.specs.declared.block.BlockInsn.{BlockInsn}
 use Rattle.offset_patch.specs.declared.block.BlockInsn.TheVariants.{Plain, Byte, Short, Local, Want, Jump, Call}
 use Rattle.offset_patch.specs.declared.block.PoolWant.{PoolWant}
-use Rattle.offset_patch.specs.Entries.{Placed, wanted, with_wants, place_in}
+use Rattle.offset_patch.specs.Entries.{Placed, wanted, with_wants, place_in, IsThere}
 use Rattle.offset_patch.specs.Fits.{IsBlockInsn, IsSite}
 use Rattle.offset_patch.specs.Splicing.{part_of, aimed, put, parts_from, want_of, block_wants, wants_of, grown}
 use Rattle.offset_patch.proofs.Lists.{all_append}
@@ -20,10 +20,6 @@ use Rattle.offset_patch.proofs.Steady.{steady_wanted}
 use Rattle.offset_patch.proofs.EntryFits.{wants_grow, place_few}
 
 -- ---- what is wanted is there
-
--- The entry was added: it is found without a change.
-pub record IsThere (pool : List Const) (want : PoolWant) : Type 0 where
-  pub same : (wanted want pool).0 ≡ pool
 
 all_there : (wants : List PoolWant) (pool : List Const) → AllByRecursion (IsThere (with_wants pool wants)) wants
 all_there [] pool = tt
@@ -65,7 +61,7 @@ aimed_fits fronts (insns.NewArray kind) h = h
 
 -- ---- parts
 
-few_place : (pool : List Const) (want : PoolWant) → length pool ≤ 65535 → IsThere pool want → place_in pool want < 2 ^ 16
+pub few_place : (pool : List Const) (want : PoolWant) → length pool ≤ 65535 → IsThere pool want → place_in pool want < 2 ^ 16
 few_place pool want short there = omega (arith, place_few want pool, ap length there.same)
 
 part_fits : (pool : List Const) (fronts : List ℕ) (begin : ℕ) (own : Insn) (part : List BlockInsn) → length pool ≤ 65535 → IsInsn own → AllByRecursion IsBlockInsn part
@@ -87,7 +83,7 @@ split_all P (x ∷ xs) ys h =
     let rest = split_all P xs ys h.1 in
     ((h.0, rest.0), rest.1)
 
-site_part : (site : Option Block) → IsSite site → AllByRecursion IsBlockInsn (part_of site)
+pub site_part : (site : Option Block) → IsSite site → AllByRecursion IsBlockInsn (part_of site)
 site_part None h = (tt, tt)
 site_part (Some block) h = h.each
 

@@ -2,6 +2,9 @@ pub mod Lists
 pub mod Steady
 pub mod Pieces
 pub mod PoolFits
+pub mod Measure
+pub mod Putting
 pub mod EntryFits
 pub mod InsnFits
 pub mod CodeFits
+pub mod Sizing

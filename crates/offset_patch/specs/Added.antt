@@ -1,5 +1,6 @@
 -- Constants that are added to a pool.
-use Rattle.std.specs.Prelude.{List, ◌++◌, map}
+use Rattle.std.specs.Prelude.{ℕ, ◌+◌, ◌<◌, List, ◌++◌, length, map, ⊤}
+use Rattle.std.specs.List.{AllByRecursion}
 use Rattle.class_codec.specs.declared.tree.Const.{Const}
 use Rattle.class_codec.specs.declared.tree.Const.TheVariants as constants
 use Rattle.offset_patch.specs.declared.constants.Added.{Added}
@@ -14,3 +15,14 @@ const_of (Method class member) = constants.Method class member
 -- the pool with what is added behind it
 abbrev pub with_added : List Const → List Added → List Const
 with_added pool added = pool ++ map const_of added
+
+-- What the constant names stands before this place.
+abbrev pub NamesBelow : ℕ → Added → Type 0
+NamesBelow n (Text bytes) = ⊤
+NamesBelow n (Class name) = name < n
+NamesBelow n (NameAndType name desc) = (name < n) × (desc < n)
+NamesBelow n (Method class member) = (class < n) × (member < n)
+
+-- What is added names places of the pool with what is added behind it.
+abbrev pub AreNamed : List Const → List Added → Type 0
+AreNamed pool added = AllByRecursion (NamesBelow (length pool + length added)) added

@@ -74,3 +74,7 @@ place_in pool want = (wanted want pool).1
 abbrev pub IsKept : PoolWant → Option ℕ → List Const → Type 0
 IsKept want None pool = Unit {0}
 IsKept want (Some at) pool = wanted want pool ≡ (pool, at)
+
+-- The entry is there: it is found without a change.
+pub record IsThere (pool : List Const) (want : PoolWant) : Type 0 where
+  pub same : (wanted want pool).0 ≡ pool

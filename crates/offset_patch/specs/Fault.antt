@@ -1,5 +1,5 @@
 -- The number under which the fault is reported, and how calls answer what weaving gives.
-use Rattle.std.specs.Prelude.{◌≡◌, ℕ, pos, nat_le, List, Result, Ok, Err}
+use Rattle.std.specs.Prelude.{◌≡◌, ◌<◌, ◌^◌, ⊤, ℕ, pos, nat_le, List, Option, Some, None, Result, Ok, Err}
 use Rattle.mon_base.specs.Reading.{need}
 use Rattle.insn_codec.specs.declared.fault.CodeOverflow.{CodeOverflow}
 use Rattle.insn_codec.specs.declared.fault.CodeOverflow.TheVariants as codes
@@ -16,6 +16,11 @@ number_of faults.Memory = 0
 abbrev pub Spliced : Type 0 → Type 0
 Spliced X = Result X SpliceFault
 
+-- the fault, if it is one
+abbrev pub fault_of : {X : Type 0} → Spliced X → Option SpliceFault
+fault_of (Ok x) = None
+fault_of (Err fault) = Some fault
+
 -- a size of a method is at most 65,535
 abbrev pub fitted : List ℕ → ℕ → Size → ℕ → Spliced (Unit {0})
 fitted class method what value = need (nat_le value 65535) (faults.Overflow class method what (pos value))
@@ -27,16 +32,7 @@ code_fitted class method (Err (codes.Length value)) = Err (faults.Overflow class
 code_fitted class method (Err (codes.Branch value)) = Err (faults.Overflow class method sizes.Branch value)
 code_fitted class method (Err codes.Memory) = Err faults.Memory
 
-abbrev pub Fails : {X : Type 0} → SpliceFault → Spliced X → Type 0
-Fails faults.Memory spliced = Unit {0}
-Fails fault spliced = spliced ≡ Err fault
-
--- A call answered what weaving gives, unless memory ran out.
-abbrev pub Tells : {X : Type 0} → Spliced X → Spliced X → Type 0
-Tells (Ok x) spliced = spliced ≡ Ok x
-Tells (Err fault) spliced = Fails fault spliced
-
--- the same of an answer that is seen by view
-abbrev pub TellsAs : {X Y : Type 0} → (X → Y) → Spliced X → Spliced Y → Type 0
-TellsAs view (Ok x) spliced = spliced ≡ Ok (view x)
-TellsAs view (Err fault) spliced = Fails fault spliced
+-- a length that a number of 64 bits with a sign counts
+abbrev pub IsCounted : CodeOverflow → Type 0
+IsCounted (codes.Length value) = value < 2 ^ 63
+IsCounted other = ⊤

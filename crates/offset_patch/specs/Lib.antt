@@ -4,3 +4,4 @@ pub mod Entries
 pub mod Splicing
 pub mod Fits
 pub mod Length
+pub mod Sizes

@@ -1,6 +1,6 @@
 -- Blocks in the code of a method: each stands in the place of the instruction that it is for, and what goes to that
 -- instruction goes to the front of its block.
-use Rattle.std.specs.Prelude.{ℕ, ◌+◌, Bool, is_some, List, [], ◌∷◌, ◌++◌, length, map, slice_index, Option, Some, None, Ok}
+use Rattle.std.specs.Prelude.{ℕ, ◌+◌, ◌≤◌, ⊤, Bool, is_some, List, [], ◌∷◌, ◌++◌, length, map, slice_index, Option, Some, None, Ok}
 use Rattle.std.specs.List.{flat_map, filter_map, list_any, enumerate_from}
 use Rattle.mon_base.specs.Reading.{◌>>=◌}
 use Rattle.class_codec.specs.declared.tree.Code.{Code}
@@ -15,11 +15,11 @@ use Rattle.bytecode_model.specs.declared.program.Method.{Method}
 use Rattle.offset_patch.specs.declared.block.Block.{Block}
 use Rattle.offset_patch.specs.declared.block.BlockInsn.{BlockInsn}
 use Rattle.offset_patch.specs.declared.block.BlockInsn.TheVariants.{Plain, Byte, Short, Local, Want, Jump, Call}
-use Rattle.offset_patch.specs.declared.block.Origin.{Origin}
-use Rattle.offset_patch.specs.declared.block.Origin.TheVariants as origin
+use Rattle.bytecode_model.specs.declared.origin.Origin.{Origin}
+use Rattle.bytecode_model.specs.declared.origin.Origin.TheVariants as origin
 use Rattle.offset_patch.specs.declared.block.PoolWant.{PoolWant}
 use Rattle.offset_patch.specs.declared.fault.Size.TheVariants as sizes
-use Rattle.offset_patch.specs.Entries.{with_wants, place_in}
+use Rattle.offset_patch.specs.Entries.{with_wants, place_in, IsThere}
 use Rattle.offset_patch.specs.Fault.{Spliced, fitted, code_fitted}
 
 -- what stands for an instruction: its block, or the instruction alone
@@ -70,6 +70,17 @@ parts_from pool fronts begin (insn ∷ others) (site ∷ sites) =
 -- the instructions with the blocks in their places
 abbrev pub spliced : List Const → List Insn → List (Option Block) → List Insn
 spliced pool insns sites = parts_from pool (fronts_of sites) 0 insns sites
+
+-- How many instructions the parts have.
+abbrev pub count_of : List (Option Block) → ℕ
+count_of [] = 0
+count_of (site ∷ sites) = length (part_of site) + count_of sites
+
+-- What the instruction names is in the pool, and where it goes is in its part, which has so many instructions.
+abbrev pub CanStand : List Const → ℕ → BlockInsn → Type 0
+CanStand pool count (Want op want) = IsThere pool want
+CanStand pool count (Jump op place) = place ≤ count
+CanStand pool count other = ⊤
 
 -- ---- origins
 
@@ -139,10 +150,15 @@ code_with code locals fronts handlers insns bytes = record {
   attrs = [];
 }
 
+-- the code with the blocks, in a pool that has what they name, where the pool and the table fit
+abbrev pub bytes_spliced : List ℕ → ℕ → List Const → Method → Code → ℕ → List (Option Block) → Spliced Code
+bytes_spliced class number pool method code locals sites = do
+  bytes ← code_fitted class number (written (spliced pool method.insns sites))
+  Ok (code_with code locals (fronts_of sites) method.handlers (spliced pool method.insns sites) bytes)
+
 -- the code with the blocks, in a pool that has what they name
 abbrev pub code_spliced : List ℕ → ℕ → List Const → Method → Code → ℕ → List (Option Block) → Spliced Code
 code_spliced class number pool method code locals sites = do
   entries ← fitted class number sizes.Entries (length code.table)
   count ← fitted class number sizes.Pool (length pool)
-  bytes ← code_fitted class number (written (spliced pool method.insns sites))
-  Ok (code_with code locals (fronts_of sites) method.handlers (spliced pool method.insns sites) bytes)
+  bytes_spliced class number pool method code locals sites

@@ -1,7 +1,7 @@
 //! Constants are added behind a pool, each behind those that it names.
 
-ghost use Rattle.std.specs.Prelude.{◌≡◌, ◌+◌, IfOk, length};
-ghost use Rattle.offset_patch.specs.Added.{const_of, with_added};
+ghost use Rattle.std.specs.Prelude.{◌≡◌, ◌+◌, ◌<◌, ◌≤◌, IfOk, length};
+ghost use Rattle.offset_patch.specs.Added.{const_of, with_added, NamesBelow, AreNamed};
 ghost use Rattle.offset_patch.specs.Entries.{entry, place_of, text, class, name_and_type, method, wanted};
 
 use crate::block::PoolWant;
@@ -17,7 +17,8 @@ pub fn wanted(
     added: &mut List<Added>,
     want: PoolWant,
 ) -> Result<u64, NoMemory>
-    ensures { IfOk result (λ at. wanted want (with_added pool.now added.old) ≡ (with_added pool.now added.new, at)) }
+    ensures is { IfOk result (λ at. wanted want (with_added pool.now added.old) ≡ (with_added pool.now added.new, at)) }
+    ensures names { AreNamed pool.now added.old → AreNamed pool.now added.new }
 {
     match want {
         PoolWant::StateClass => class(alloc, pool, added, "conspec/State"),
@@ -33,7 +34,9 @@ fn method(
     name: &str,
     desc: &str,
 ) -> Result<u64, NoMemory>
-    ensures { IfOk result (λ at. method owner.now name.now desc.now (with_added pool.now added.old) ≡ (with_added pool.now added.new, at)) }
+    ensures is { IfOk result (λ at. method owner.now name.now desc.now (with_added pool.now added.old)
+        ≡ (with_added pool.now added.new, at)) }
+    ensures names { AreNamed pool.now added.old → AreNamed pool.now added.new }
 {
     let owner = class(alloc, pool, added, owner)?;
     let member = name_and_type(alloc, pool, added, name, desc)?;
@@ -47,7 +50,8 @@ fn name_and_type(
     name: &str,
     desc: &str,
 ) -> Result<u64, NoMemory>
-    ensures { IfOk result (λ at. name_and_type name.now desc.now (with_added pool.now added.old) ≡ (with_added pool.now added.new, at)) }
+    ensures is { IfOk result (λ at. name_and_type name.now desc.now (with_added pool.now added.old) ≡ (with_added pool.now added.new, at)) }
+    ensures names { AreNamed pool.now added.old → AreNamed pool.now added.new }
 {
     let name = text(alloc, pool, added, name)?;
     let desc = text(alloc, pool, added, desc)?;
@@ -60,7 +64,8 @@ fn class(
     added: &mut List<Added>,
     name: &str,
 ) -> Result<u64, NoMemory>
-    ensures { IfOk result (λ at. class name.now (with_added pool.now added.old) ≡ (with_added pool.now added.new, at)) }
+    ensures is { IfOk result (λ at. class name.now (with_added pool.now added.old) ≡ (with_added pool.now added.new, at)) }
+    ensures names { AreNamed pool.now added.old → AreNamed pool.now added.new }
 {
     let name = text(alloc, pool, added, name)?;
     entry(pool, added, Added::Class(name))
@@ -72,7 +77,8 @@ fn text(
     added: &mut List<Added>,
     bytes: &str,
 ) -> Result<u64, NoMemory>
-    ensures { IfOk result (λ at. text bytes.now (with_added pool.now added.old) ≡ (with_added pool.now added.new, at)) }
+    ensures is { IfOk result (λ at. text bytes.now (with_added pool.now added.old) ≡ (with_added pool.now added.new, at)) }
+    ensures names { AreNamed pool.now added.old → AreNamed pool.now added.new }
 {
     let bytes = Bytes::from_slice(alloc, bytes.as_bytes())?;
     entry(pool, added, Added::Text(bytes))
@@ -80,12 +86,13 @@ fn text(
 
 /// Sees to it that the constant is there, and tells where the first one stands.
 fn entry(pool: &[Const], added: &mut List<Added>, wanted: Added) -> Result<u64, NoMemory>
-    ensures { IfOk result (λ at. entry (const_of wanted) (with_added pool.now added.old) ≡ (with_added pool.now added.new, at)) }
+    ensures is { IfOk result (λ at. entry (const_of wanted) (with_added pool.now added.old) ≡ (with_added pool.now added.new, at)) }
+    ensures names { NamesBelow (length pool.now + length added.old) wanted → AreNamed pool.now added.old → AreNamed pool.now added.new }
 {
-    match place(pool, added.as_slice(), &wanted)? {
+    match place(pool, added.as_slice(), &wanted) {
         Some(at) => Ok(at),
         None => {
-            let at = behind(pool, added.len())?;
+            let at = behind(pool, added.as_slice(), added.len());
             added.push(wanted)?;
             Ok(at)
         }
@@ -93,24 +100,24 @@ fn entry(pool: &[Const], added: &mut List<Added>, wanted: Added) -> Result<u64, 
 }
 
 /// The place of the first constant that is equal.
-fn place(pool: &[Const], added: &[Added], wanted: &Added) -> Result<Option<u64>, NoMemory>
-    ensures { IfOk result (λ place. place ≡ place_of (const_of wanted.now) (with_added pool.now added.now)) }
+fn place(pool: &[Const], added: &[Added], wanted: &Added) -> Option<u64>
+    ensures { result ≡ place_of (const_of wanted.now) (with_added pool.now added.now) }
 {
     if let Some(at) = place_among(pool, wanted) {
-        return Ok(Some(at as u64));
+        return Some(at as u64);
     }
     match place_behind(added, wanted) {
-        Some(at) => Ok(Some(behind(pool, at)?)),
-        None => Ok(None),
+        Some(at) => Some(behind(pool, added, at)),
+        None => None,
     }
 }
 
-/// The place behind the pool. No memory holds more places than a number of 64 bits counts.
-fn behind(pool: &[Const], at: usize) -> Result<u64, NoMemory>
-    ensures { IfOk result (λ place. place ≡ length pool.now + at) }
+/// The place of what is added behind the pool.
+fn behind(pool: &[Const], added: &[Added], at: usize) -> u64
+    requires { at ≤ length added.now }
+    ensures { result ≡ length pool.now + at }
 {
-    match (pool.len() as u64).checked_add(at as u64) {
-        Some(place) => Ok(place),
-        None => Err(NoMemory),
-    }
+    let count = added.len();
+    prove!(at <= count);
+    pool.len() as u64 + at as u64
 }

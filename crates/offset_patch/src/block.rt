@@ -1,4 +1,4 @@
-//! What is put into the code of a method, and where each instruction of the output comes from.
+//! What is put into the code of a method.
 
 use mon_base::List;
 
@@ -34,13 +34,4 @@ pub enum BlockInsn {
 #[derive(Debug, Drop, PartialEq, Eq)]
 pub struct Block {
     pub insns: List<BlockInsn>,
-}
-
-/// Where an instruction of the output comes from.
-#[derive(Clone, Copy, Debug, PartialEq, Eq)]
-pub enum Origin {
-    /// The client's instruction of this index.
-    Client(u32),
-    /// An instruction of the block that stands for the client's instruction `site`.
-    Block { site: u32, place: u32 },
 }

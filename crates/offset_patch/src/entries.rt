@@ -1,8 +1,9 @@
 //! The constant pool of a class, with the entries that blocks name.
 
-ghost use Rattle.std.specs.Prelude.{◌≡◌, IfOk, IfSome, OnOk, length};
-ghost use Rattle.offset_patch.specs.Added.{const_of, with_added};
-ghost use Rattle.offset_patch.specs.Entries.{wanted, place_in};
+ghost use Rattle.std.specs.Prelude.{◌≡◌, ◌<◌, ◌^◌, IfOk, IfSome, OnOk, length};
+ghost use Rattle.std.specs.List.{AllByRecursion};
+ghost use Rattle.offset_patch.specs.Added.{const_of, with_added, NamesBelow};
+ghost use Rattle.offset_patch.specs.Entries.{wanted, place_in, IsThere};
 
 use crate::adding::wanted;
 use crate::block::PoolWant;
@@ -27,7 +28,7 @@ impl Model for Entries {
     ghost use Rattle.std.specs.Prelude.{List};
     ghost use Rattle.class_codec.specs.declared.tree.Const.{Const};
     ghost use Rattle.offset_patch.specs.declared.block.PoolWant.TheVariants as wants;
-    ghost use Rattle.offset_patch.specs.Added.{with_added};
+    ghost use Rattle.offset_patch.specs.Added.{with_added, AreNamed};
     ghost use Rattle.offset_patch.specs.Entries.{IsKept};
 
     ghost Value = { List Const };
@@ -35,7 +36,8 @@ impl Model for Entries {
     ghost view = { λ e. with_added e.items e.added };
 
     ghost invariant = { λ e. IsKept wants.StateClass e.state_class (with_added e.items e.added)
-        × IsKept wants.Exit e.exit (with_added e.items e.added) };
+        × IsKept wants.Exit e.exit (with_added e.items e.added)
+        × AreNamed e.items e.added };
 }
 
 impl Entries {
@@ -52,21 +54,19 @@ impl Entries {
     }
 
     /// The number of places.
-    pub fn count(&self) -> Result<u64, NoMemory>
-        ensures { IfOk result (λ count. count ≡ length self.now) }
+    pub fn count(&self) -> u64
+        ensures is { result ≡ length self.now }
+        ensures bound { result < 2 ^ 63 }
     {
-        match (self.items.len() as u64).checked_add(self.added.len() as u64) {
-            Some(count) => Ok(count),
-            None => Err(NoMemory),
-        }
+        self.items.as_slice().len() as u64 + self.added.as_slice().len() as u64
     }
 
-    /// Sees to it that the entry is there.
-    pub fn add(&mut self, alloc: Global, want: PoolWant) -> Result<(), NoMemory>
-        ensures { OnOk result (self.new ≡ (wanted want self.old).0) }
+    /// Sees to it that the entry is there, and tells where.
+    pub fn add(&mut self, alloc: Global, want: PoolWant) -> Result<u64, NoMemory>
+        ensures { IfOk result (λ at. wanted want self.old ≡ (self.new, at)) }
     {
-        if self.place_of(want).is_some() {
-            return Ok(());
+        if let Some(place) = self.place_of(want) {
+            return Ok(place);
         }
         let state_class = self.state_class.take();
         let exit = self.exit.take();
@@ -81,10 +81,10 @@ impl Entries {
                 self.exit = Some(place);
             }
         }
-        Ok(())
+        Ok(place)
     }
 
-    /// Where the entry stands, if it was added.
+    /// Where the entry stands, if that is kept.
     fn place_of(&self, want: PoolWant) -> Option<u64>
         ensures { IfSome result (λ at. wanted want self.now ≡ (self.now, at)) }
     {
@@ -94,21 +94,20 @@ impl Entries {
         }
     }
 
-    /// The place of an entry that was added, in two bytes.
-    pub fn place(&self, want: PoolWant) -> Result<u16, NoMemory>
-        ensures { IfOk result (λ at. at ≡ place_in self.now want) }
+    /// The place of an entry that is there, of few.
+    pub fn place(&mut self, alloc: Global, want: PoolWant) -> Result<u16, NoMemory>
+        requires few { length self.old < 2 ^ 16 }
+        requires there { IsThere self.old want }
+        ensures is { IfOk result (λ at. at ≡ place_in self.old want) }
+        ensures kept { OnOk result (self.new ≡ self.old) }
     {
-        let Some(place) = self.place_of(want) else {
-            return Err(NoMemory);
-        };
-        match u16::try_from(place) {
-            Ok(place) => Ok(place),
-            Err(_) => Err(NoMemory),
-        }
+        let place = self.add(alloc, want)?;
+        Ok(place as u16)
     }
 
-    /// The constants, where each index is held by two bytes.
+    /// The constants, of which there are few.
     pub fn into_list(self, alloc: Global) -> Result<List<Const>, NoMemory>
+        requires { length self < 2 ^ 16 }
         ensures { IfOk result (λ items. items ≡ self) }
     {
         let Entries {
@@ -125,6 +124,7 @@ impl Entries {
 
 /// Appends what was added.
 fn put_added(alloc: Global, items: &mut List<Const>, added: &[Added]) -> Result<(), NoMemory>
+    requires { AllByRecursion (NamesBelow (2 ^ 16)) added.now }
     ensures { OnOk result (items.new ≡ with_added items.old added.now) }
 {
     for one in added {
@@ -134,22 +134,13 @@ fn put_added(alloc: Global, items: &mut List<Const>, added: &[Added]) -> Result<
 }
 
 fn constant(alloc: Global, added: &Added) -> Result<Const, NoMemory>
+    requires { NamesBelow (2 ^ 16) added.now }
     ensures { IfOk result (λ constant. constant ≡ const_of added.now) }
 {
     match added {
         Added::Text(text) => Ok(Const::Utf8(text.copy(alloc)?)),
-        Added::Class(name) => Ok(Const::Class(index(*name)?)),
-        Added::NameAndType(name, desc) => Ok(Const::NameAndType(index(*name)?, index(*desc)?)),
-        Added::Method(class, member) => Ok(Const::Method(index(*class)?, index(*member)?)),
-    }
-}
-
-/// The place as an index.
-fn index(place: u64) -> Result<u16, NoMemory>
-    ensures { IfOk result (λ index. index ≡ place) }
-{
-    match u16::try_from(place) {
-        Ok(index) => Ok(index),
-        Err(_) => Err(NoMemory),
+        Added::Class(name) => Ok(Const::Class(*name as u16)),
+        Added::NameAndType(name, desc) => Ok(Const::NameAndType(*name as u16, *desc as u16)),
+        Added::Method(class, member) => Ok(Const::Method(*class as u16, *member as u16)),
     }
 }

@@ -1,7 +1,8 @@
 //! Why blocks do not fit.
 
 ghost use Rattle.std.specs.Prelude.{◌≡◌, OnErr};
-ghost use Rattle.offset_patch.specs.Fault.{number_of, fitted, Tells};
+ghost use Rattle.mon_base.specs.Answer.{Answers};
+ghost use Rattle.offset_patch.specs.Fault.{number_of, fitted};
 ghost use Rattle.offset_patch.specs.declared.fault.SpliceFault.TheVariants.{Memory};
 
 use mon_base::{Bytes, NoMemory};

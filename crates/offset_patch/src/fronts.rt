@@ -1,11 +1,12 @@
 //! Where the part of each instruction begins, and where instructions of the output come from.
 
-ghost use Rattle.std.specs.Prelude.{◌≡◌, ◌+◌, ◌++◌, IfOk, OnOk, length, map, slice_index};
+ghost use Rattle.std.specs.Prelude.{◌≡◌, ◌++◌, ◌<◌, ◌^◌, IfOk, OnOk, length, map, slice_index};
 ghost use Rattle.std.specs.List.{AllByRecursion, enumerate_from};
-ghost use Rattle.insn_codec.specs.Fits.{IsInsn};
-ghost use Rattle.offset_patch.specs.Splicing.{part_of, has_block, fronts_of, aimed, origin_of, part_origins, origins_of};
+ghost use Rattle.offset_patch.specs.Fits.{IsSite};
+ghost use Rattle.offset_patch.specs.Splicing.{part_of, has_block, fronts_of, count_of, aimed, origin_of, part_origins, origins_of};
 
-use crate::block::{Block, BlockInsn, Origin};
+use crate::block::{Block, BlockInsn};
+use bytecode_model::Origin;
 use insn_codec::Insn;
 use mon_base::{List, NoMemory};
 use std::alloc::Global;
@@ -32,6 +33,7 @@ pub fn has_block(sites: &[Option<Block>]) -> bool
 
 /// Where the part of each instruction begins, and where the last one ends.
 pub fn fronts(alloc: Global, sites: &[Option<Block>]) -> Result<List<u32>, NoMemory>
+    requires { count_of sites.now < 2 ^ 32 }
     ensures { IfOk result (λ fronts. fronts ≡ fronts_of sites.now) }
 {
     let mut fronts = List::new(alloc);
@@ -39,24 +41,11 @@ pub fn fronts(alloc: Global, sites: &[Option<Block>]) -> Result<List<u32>, NoMem
     let mut left = sites;
     while let [site, rest @ ..] = left {
         fronts.push(at)?;
-        at = behind(at, part_of(site).len())?;
+        at += part_of(site).len() as u32;
         left = rest;
     }
     fronts.push(at)?;
     Ok(fronts)
-}
-
-/// The place that many instructions further on. No memory holds more than a number of 32 bits counts.
-pub fn behind(at: u32, count: usize) -> Result<u32, NoMemory>
-    ensures { IfOk result (λ place. place ≡ at + count) }
-{
-    let Ok(count) = u32::try_from(count) else {
-        return Err(NoMemory);
-    };
-    match at.checked_add(count) {
-        Some(place) => Ok(place),
-        None => Err(NoMemory),
-    }
 }
 
 /// The front of an instruction.
@@ -144,6 +133,8 @@ pub fn aimed(alloc: Global, fronts: &[u32], insn: &Insn) -> Result<Insn, NoMemor
 
 /// Where each instruction of the output comes from.
 pub fn origins_of(alloc: Global, sites: &[Option<Block>]) -> Result<List<Origin>, NoMemory>
+    requires few { length sites.now < 2 ^ 32 }
+    requires sites { AllByRecursion IsSite sites.now }
     ensures { IfOk result (λ origins. origins ≡ origins_of sites.now) }
 {
     let mut origins = List::new(alloc);
@@ -151,20 +142,21 @@ pub fn origins_of(alloc: Global, sites: &[Option<Block>]) -> Result<List<Origin>
     let mut left = sites;
     while let [first, rest @ ..] = left {
         put_origins(&mut origins, site, part_of(first))?;
-        site = behind(site, 1)?;
+        site += 1;
         left = rest;
     }
     Ok(origins)
 }
 
 fn put_origins(origins: &mut List<Origin>, site: u32, part: &[BlockInsn]) -> Result<(), NoMemory>
+    requires { length part.now < 2 ^ 32 }
     ensures { OnOk result (origins.new ≡ origins.old ++ map (origin_of site) (enumerate_from 0 part.now)) }
 {
     let mut place: u32 = 0;
     let mut left = part;
     while let [insn, rest @ ..] = left {
         origins.push(origin_of(site, place, *insn))?;
-        place = behind(place, 1)?;
+        place += 1;
         left = rest;
     }
     Ok(())

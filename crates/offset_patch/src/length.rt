@@ -1,48 +1,84 @@
-//! Whether the bytes of a code can be counted.
+//! How many bytes the code of a method has with its blocks.
 
-ghost use Rattle.std.specs.Prelude.{◌≡◌, ◌+◌, ◌*◌, ◌<◌, ◌^◌, IfSome, IsTrue, sum_by};
-ghost use Rattle.insn_codec.specs.Spelling.{len_from};
-ghost use Rattle.offset_patch.specs.Length.{most};
+ghost use Rattle.std.specs.Prelude.{◌≡◌, ◌+◌, ◌*◌, ◌<◌, ◌≤◌, ◌^◌, length};
+ghost use Rattle.std.specs.List.{AllByRecursion};
+ghost use Rattle.insn_codec.specs.Fits.{IsInsn};
+ghost use Rattle.insn_codec.specs.Spelling.{size};
+ghost use Rattle.offset_patch.specs.Fits.{IsSite, calls_in};
+ghost use Rattle.offset_patch.specs.Length.{length_of, part_end, size_in};
 
+use crate::block::{Block, BlockInsn};
+use crate::fronts::part_of;
 use insn_codec::Insn;
 
-/// Whether the instructions surely have fewer than 4,294,967,296 bytes, as each code that was read from a class file has
-/// with its blocks.
-pub fn is_countable(insns: &[Insn]) -> bool
-    ensures { IsTrue result → len_from 0 insns.now < 2 ^ 32 }
+/// The length of the code.
+pub fn length_of(insns: &[Insn], sites: &[Option<Block>]) -> u64
+    requires few { length insns.now < 2 ^ 16 }
+    requires insns { AllByRecursion IsInsn insns.now }
+    requires sites { AllByRecursion IsSite sites.now }
+    ensures is { result ≡ length_of insns.now sites.now }
+    ensures bound { result < 2 ^ 63 }
 {
-    let mut bound: u64 = 0;
-    let mut left = insns;
-    while let [insn, rest @ ..] = left {
-        let Some(more) = most(insn) else {
-            return false;
+    let mut at: u64 = 0;
+    let mut own = insns;
+    let mut left = sites;
+    while let [insn, others @ ..] = own {
+        let [site, rest @ ..] = left else {
+            return at;
         };
-        bound += more;
-        if bound >= 1 << 32 {
-            return false;
-        }
+        at = part_end(insn, at, part_of(site));
+        own = others;
         left = rest;
     }
-    true
+    at
 }
 
-/// How many bytes an instruction has at most, if that is below 4,294,967,296.
-fn most(insn: &Insn) -> Option<u64>
-    ensures { IfSome result (λ n. (n ≡ most insn.now) × (n < 2 ^ 32)) }
+/// Where a part ends that begins at the byte `at`. The client's instruction stands in it once.
+fn part_end(own: &Insn, at: u64, part: &[BlockInsn]) -> u64
+    requires own { IsInsn own.now }
+    requires at { at < 2 ^ 60 }
+    requires few { length part.now < 2 ^ 32 }
+    requires once { calls_in part.now ≤ 1 }
+    ensures is { result ≡ part_end own.now at part.now }
+    ensures bound { result ≤ at + 2 ^ 40 }
+{
+    let mut end = at;
+    let mut left = part;
+    while let [insn, rest @ ..] = left {
+        end += size_in(own, end, *insn);
+        left = rest;
+    }
+    end
+}
+
+/// How many bytes an instruction of the part has that begins at the byte `at`.
+fn size_in(own: &Insn, at: u64, insn: BlockInsn) -> u64
+    requires { IsInsn own.now }
+    ensures { result ≡ size_in own.now at insn }
 {
     match insn {
-        Insn::Table { targets, .. } => most_of(targets.len()),
-        Insn::Lookup { targets, .. } => most_of(targets.len()),
-        _ => Some(6),
+        BlockInsn::Plain(_) => 1,
+        BlockInsn::Byte(_) => 2,
+        BlockInsn::Short(_) | BlockInsn::Want { .. } | BlockInsn::Jump { .. } => 3,
+        BlockInsn::Local { wide, .. } => { if wide { 4 } else { 2 } }
+        BlockInsn::Call => size(at, own),
     }
 }
 
-fn most_of(targets: usize) -> Option<u64>
-    ensures { IfSome result (λ n. (n ≡ 16 + 8 * targets) × (n < 2 ^ 32)) }
+/// How many bytes an instruction has that begins at the byte `at`.
+fn size(at: u64, insn: &Insn) -> u64
+    requires { IsInsn insn.now }
+    ensures { result ≡ size at insn.now }
 {
-    if targets < 1 << 28 {
-        Some(16 + 8 * targets as u64)
-    } else {
-        None
+    let padding = 3 - at % 4;
+    match insn {
+        Insn::Plain(_) => 1,
+        Insn::Byte(_) | Insn::Ldc(_) | Insn::NewArray(_) => 2,
+        Insn::Short(_) | Insn::Pool { .. } | Insn::Branch { .. } => 3,
+        Insn::Iface { .. } | Insn::GotoW { .. } => 5,
+        Insn::Local { wide, .. } => { if *wide { 4 } else { 2 } }
+        Insn::Inc { wide, .. } => { if *wide { 6 } else { 3 } }
+        Insn::Table { targets, .. } => 13 + padding + 4 * targets.len() as u64,
+        Insn::Lookup { targets, .. } => 9 + padding + 8 * targets.len() as u64,
     }
 }

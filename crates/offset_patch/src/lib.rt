@@ -16,7 +16,7 @@ mod sizes;
 mod splicing;
 mod tables;
 
-pub use block::{Block, BlockInsn, Origin, PoolWant};
+pub use block::{Block, BlockInsn, PoolWant};
 pub use entries::Entries;
 pub use fault::{Size, SpliceFault};
 pub use fronts::{has_block, origins_of};

@@ -2,7 +2,8 @@
 
 ghost use Rattle.std.specs.Prelude.{◌≡◌, ◌<◌, ◌^◌, Err, pos};
 ghost use Rattle.class_codec.specs.declared.tree.Code.{Code};
-ghost use Rattle.offset_patch.specs.Fault.{fitted, Tells};
+ghost use Rattle.mon_base.specs.Answer.{Answers};
+ghost use Rattle.offset_patch.specs.Fault.{fitted};
 ghost use Rattle.offset_patch.specs.Splicing.{room};
 
 use crate::fault::{Size, SpliceFault};
@@ -21,7 +22,7 @@ pub fn room(
     code: &Code,
     locals: u32,
 ) -> Result<(), SpliceFault>
-    ensures { Tells result (room class.now method code.now locals) }
+    ensures { Answers SpliceFault.Memory result (room class.now method code.now locals) }
 {
     let stack = u64::from(code.max_stack) + u64::from(OPERANDS);
     fitted(alloc, class, method, Size::Stack, stack)?;
@@ -37,19 +38,16 @@ pub fn fitted(
     what: Size,
     value: u64,
 ) -> Result<(), SpliceFault>
-    ensures { Tells result (fitted class.now method what value) }
+    requires { value < 2 ^ 63 }
+    ensures { Answers SpliceFault.Memory result (fitted class.now method what value) }
 {
     if value <= 65_535 {
         return Ok(());
     }
-    // No memory holds as many things as a number of 64 bits with a sign does not count.
-    match i64::try_from(value) {
-        Ok(value) => Err(SpliceFault::Overflow {
-            class: class.copy(alloc)?,
-            method,
-            what,
-            value,
-        }),
-        Err(_) => Err(SpliceFault::Memory),
-    }
+    Err(SpliceFault::Overflow {
+        class: class.copy(alloc)?,
+        method,
+        what,
+        value: value as i64,
+    })
 }

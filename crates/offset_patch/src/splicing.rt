@@ -1,21 +1,23 @@
 //! The code of a method with blocks in their places.
 
-ghost use Rattle.std.specs.Prelude.{◌≡◌, ◌+◌, ◌++◌, ◌<◌, ◌^◌, IfOk, OnOk, Err, length, map};
+ghost use Rattle.std.specs.Prelude.{◌≡◌, ◌+◌, ◌++◌, ◌<◌, ◌≤◌, ◌^◌, IfOk, OnOk, Err, length, map};
 ghost use Rattle.std.specs.List.{AllByRecursion, filter_map};
 ghost use Rattle.insn_codec.specs.Fits.{IsInsn};
 ghost use Rattle.insn_codec.specs.Spelling.{len_from};
 ghost use Rattle.insn_codec.specs.Writing.{written};
-ghost use Rattle.offset_patch.specs.Entries.{with_wants};
-ghost use Rattle.offset_patch.specs.Fault.{Tells, Fails, code_fitted};
+ghost use Rattle.offset_patch.specs.Entries.{with_wants, IsThere};
+ghost use Rattle.mon_base.specs.Answer.{Answers, Fails};
+ghost use Rattle.offset_patch.specs.Fault.{code_fitted, IsCounted};
 ghost use Rattle.offset_patch.specs.Fits.{IsBlockInsn, IsSite};
-ghost use Rattle.offset_patch.specs.Splicing.{want_of, part_of, fronts_of, put, parts_from};
-ghost use Rattle.offset_patch.specs.Splicing.{spliced, wants_of, block_wants, grown, code_with, code_spliced};
+ghost use Rattle.offset_patch.specs.Length.{length_of};
+ghost use Rattle.offset_patch.specs.Splicing.{want_of, part_of, fronts_of, count_of, put, parts_from, CanStand};
+ghost use Rattle.offset_patch.specs.Splicing.{spliced, wants_of, block_wants, grown, code_with, bytes_spliced, code_spliced};
 
 use crate::block::{Block, BlockInsn};
 use crate::entries::Entries;
 use crate::fault::{Size, SpliceFault};
-use crate::fronts::{aimed, behind, fronts, part_of};
-use crate::length::is_countable;
+use crate::fronts::{aimed, fronts, part_of};
+use crate::length::length_of;
 use crate::sizes::{OPERANDS, fitted};
 use crate::tables::table_moved;
 use bytecode_model::{Handler, Method};
@@ -35,18 +37,57 @@ pub fn splice(
     locals: u32,
     sites: &[Option<Block>],
 ) -> Result<Code, SpliceFault>
+    requires few { length method.now.insns < 2 ^ 16 }
     requires insns { AllByRecursion IsInsn method.now.insns }
+    requires each { length sites.now ≡ length method.now.insns }
     requires sites { AllByRecursion IsSite sites.now }
     requires room { code.now.max_stack + 3 < 2 ^ 16 }
     requires slots { code.now.max_locals + locals < 2 ^ 16 }
-    ensures code { Tells result (code_spliced class.now number (grown entries.old sites.now) method.now code.now locals sites.now) }
+    ensures code { Answers SpliceFault.Memory result
+        (code_spliced class.now number (grown entries.old sites.now) method.now code.now locals sites.now) }
     ensures pool { OnOk result (entries.new ≡ grown entries.old sites.now) }
+    ensures few { OnOk result (length entries.new < 2 ^ 16) }
 {
     add_wants(alloc, entries, sites)?;
-    let rows = code.table.len() as u64;
+    let rows = code.table.as_slice().len() as u64;
     fitted(alloc, class, number, Size::Entries, rows)?;
-    let count = entries.count()?;
-    fitted(alloc, class, number, Size::Pool, count)?;
+    fitted(alloc, class, number, Size::Pool, entries.count())?;
+    let length = length_of(method.insns.as_slice(), sites);
+    fitted(alloc, class, number, Size::Length, length)?;
+    code_put(
+        alloc,
+        class,
+        number,
+        entries,
+        method,
+        code,
+        locals as u16,
+        sites,
+    )
+}
+
+/// The code, where the pool and the length fit.
+fn code_put(
+    alloc: Global,
+    class: &Bytes,
+    number: u32,
+    entries: &mut Entries,
+    method: &Method,
+    code: &Code,
+    locals: u16,
+    sites: &[Option<Block>],
+) -> Result<Code, SpliceFault>
+    requires insns { AllByRecursion IsInsn method.now.insns }
+    requires each { length sites.now ≡ length method.now.insns }
+    requires sites { AllByRecursion IsSite sites.now }
+    requires room { code.now.max_stack + 3 < 2 ^ 16 }
+    requires slots { code.now.max_locals + locals < 2 ^ 16 }
+    requires pool { length entries.old < 2 ^ 16 }
+    requires there { AllByRecursion (IsThere entries.old) (wants_of sites.now) }
+    requires length { length_of method.now.insns sites.now < 2 ^ 16 }
+    ensures code { Answers SpliceFault.Memory result (bytes_spliced class.now number entries.old method.now code.now locals sites.now) }
+    ensures pool { OnOk result (entries.new ≡ entries.old) }
+{
     let fronts = fronts(alloc, sites)?;
     let insns = parts(
         alloc,
@@ -67,22 +108,19 @@ pub fn splice(
     Ok(Code {
         name: code.name,
         max_stack: code.max_stack + OPERANDS,
-        max_locals: code.max_locals + locals as u16,
+        max_locals: code.max_locals + locals,
         code: bytes,
         table,
         attrs: List::new(alloc),
     })
 }
 
-/// The bytes of the instructions.
+/// The bytes of the instructions, of which there are few.
 fn written(alloc: Global, class: &Bytes, number: u32, insns: &[Insn]) -> Result<Bytes, SpliceFault>
-    requires { AllByRecursion IsInsn insns.now }
-    ensures code { Tells result (code_fitted class.now number (written insns.now)) }
-    ensures short { OnOk result (len_from 0 insns.now < 2 ^ 32) }
+    requires each { AllByRecursion IsInsn insns.now }
+    requires short { len_from 0 insns.now < 2 ^ 16 }
+    ensures { Answers SpliceFault.Memory result (code_fitted class.now number (written insns.now)) }
 {
-    if !is_countable(insns) {
-        return Err(SpliceFault::Memory);
-    }
     match write_code(alloc, insns) {
         Ok(bytes) => Ok(bytes),
         Err(overflow) => Err(told(alloc, class, number, overflow)),
@@ -90,13 +128,11 @@ fn written(alloc: Global, class: &Bytes, number: u32, insns: &[Insn]) -> Result<
 }
 
 fn told(alloc: Global, class: &Bytes, method: u32, overflow: CodeOverflow) -> SpliceFault
-    ensures { Fails result (code_fitted {X = Unit {0}} class.now method (Err overflow)) }
+    requires { IsCounted overflow }
+    ensures { Fails SpliceFault.Memory result (code_fitted {X = Unit {0}} class.now method (Err overflow)) }
 {
     let (what, value) = match overflow {
-        CodeOverflow::Length { value } => match i64::try_from(value) {
-            Ok(value) => (Size::Length, value),
-            Err(_) => return SpliceFault::Memory,
-        },
+        CodeOverflow::Length { value } => (Size::Length, value as i64),
         CodeOverflow::Branch { value } => (Size::Branch, value),
         CodeOverflow::Memory => return SpliceFault::Memory,
     };
@@ -139,15 +175,19 @@ fn add_part(alloc: Global, entries: &mut Entries, part: &[BlockInsn]) -> Result<
 /// The parts of the instructions, one after another.
 fn parts(
     alloc: Global,
-    entries: &Entries,
+    entries: &mut Entries,
     fronts: &[u32],
     insns: &[Insn],
     sites: &[Option<Block>],
 ) -> Result<List<Insn>, NoMemory>
+    requires pool { length entries.old < 2 ^ 16 }
     requires insns { AllByRecursion IsInsn insns.now }
     requires sites { AllByRecursion IsSite sites.now }
-    ensures is { IfOk result (λ out. out ≡ parts_from entries.now fronts.now 0 insns.now sites.now) }
+    requires there { AllByRecursion (IsThere entries.old) (wants_of sites.now) }
+    requires few { count_of sites.now < 2 ^ 32 }
+    ensures is { IfOk result (λ out. out ≡ parts_from entries.old fronts.now 0 insns.now sites.now) }
     ensures each { IfOk result (AllByRecursion IsInsn) }
+    ensures kept { OnOk result (entries.new ≡ entries.old) }
 {
     let mut out = List::new(alloc);
     let mut begin: u32 = 0;
@@ -158,7 +198,7 @@ fn parts(
             return Ok(out);
         };
         put_part(alloc, &mut out, entries, fronts, begin, insn, part_of(site))?;
-        begin = behind(begin, part_of(site).len())?;
+        begin += part_of(site).len() as u32;
         own = others;
         left = rest;
     }
@@ -169,36 +209,45 @@ fn parts(
 fn put_part(
     alloc: Global,
     out: &mut List<Insn>,
-    entries: &Entries,
+    entries: &mut Entries,
     fronts: &[u32],
     begin: u32,
     own: &Insn,
     part: &[BlockInsn],
 ) -> Result<(), NoMemory>
+    requires pool { length entries.old < 2 ^ 16 }
     requires own { IsInsn own.now }
     requires part { AllByRecursion IsBlockInsn part.now }
-    ensures is { OnOk result (out.new ≡ out.old ++ map (put entries.now fronts.now begin own.now) part.now) }
+    requires stand { AllByRecursion (CanStand entries.old (length part.now)) part.now }
+    requires few { begin + length part.now < 2 ^ 32 }
+    ensures is { OnOk result (out.new ≡ out.old ++ map (put entries.old fronts.now begin own.now) part.now) }
     ensures each { OnOk result (AllByRecursion IsInsn out.old → AllByRecursion IsInsn out.new) }
+    ensures kept { OnOk result (entries.new ≡ entries.old) }
 {
     for insn in part {
-        out.push(put(alloc, entries, fronts, begin, own, *insn)?)?;
+        out.push(put(alloc, entries, fronts, begin, part.len(), own, *insn)?)?;
     }
     Ok(())
 }
 
-/// An instruction of the part.
+/// An instruction of the part, which has so many.
 fn put(
     alloc: Global,
-    entries: &Entries,
+    entries: &mut Entries,
     fronts: &[u32],
     begin: u32,
+    count: usize,
     own: &Insn,
     insn: BlockInsn,
 ) -> Result<Insn, NoMemory>
+    requires pool { length entries.old < 2 ^ 16 }
     requires own { IsInsn own.now }
     requires insn { IsBlockInsn insn }
-    ensures is { IfOk result (λ made. made ≡ put entries.now fronts.now begin own.now insn) }
+    requires stands { CanStand entries.old count insn }
+    requires few { begin + count < 2 ^ 32 }
+    ensures is { IfOk result (λ made. made ≡ put entries.old fronts.now begin own.now insn) }
     ensures each { IfOk result IsInsn }
+    ensures kept { OnOk result (entries.new ≡ entries.old) }
 {
     match insn {
         BlockInsn::Plain(op) => Ok(Insn::Plain(op)),
@@ -207,11 +256,11 @@ fn put(
         BlockInsn::Local { op, slot, wide } => Ok(Insn::Local { op, slot, wide }),
         BlockInsn::Want { op, want } => Ok(Insn::Pool {
             op,
-            index: entries.place(want)?,
+            index: entries.place(alloc, want)?,
         }),
         BlockInsn::Jump { op, place } => Ok(Insn::Branch {
             op,
-            to: behind(begin, place as usize)?,
+            to: begin + place,
         }),
         BlockInsn::Call => aimed(alloc, fronts, own),
     }

@@ -1,6 +1,8 @@
 //! The exception table of a method with blocks.
 
-ghost use Rattle.std.specs.Prelude.{◌≡◌, ◌+◌, IfOk, slice_index};
+ghost use Rattle.std.specs.Prelude.{◌≡◌, IfOk, slice_index};
+ghost use Rattle.std.specs.List.{AllByRecursion};
+ghost use Rattle.mon_base.specs.Widths.{IsU2};
 ghost use Rattle.offset_patch.specs.Splicing.{moved, table_moved};
 
 use crate::fronts::front;
@@ -17,6 +19,7 @@ pub fn table_moved(
     handlers: &[Handler],
     entries: &[TableEntry],
 ) -> Result<List<TableEntry>, NoMemory>
+    requires { AllByRecursion IsU2 starts.now }
     ensures { IfOk result (λ table. table ≡ table_moved starts.now fronts.now handlers.now entries.now) }
 {
     let mut table = List::new(alloc);
@@ -26,35 +29,32 @@ pub fn table_moved(
         let [entry, rest @ ..] = left else {
             return Ok(table);
         };
-        table.push(moved(starts, fronts, handler, entry)?)?;
+        table.push(moved(starts, fronts, handler, entry))?;
         covers = handlers;
         left = rest;
     }
     Ok(table)
 }
 
-fn moved(
-    starts: &[u32],
-    fronts: &[u32],
-    handler: &Handler,
-    entry: &TableEntry,
-) -> Result<TableEntry, NoMemory>
-    ensures { IfOk result (λ other. other ≡ moved starts.now fronts.now (handler.now, entry.now)) }
+fn moved(starts: &[u32], fronts: &[u32], handler: &Handler, entry: &TableEntry) -> TableEntry
+    requires { AllByRecursion IsU2 starts.now }
+    ensures { result ≡ moved starts.now fronts.now (handler.now, entry.now) }
 {
-    Ok(TableEntry {
-        from: start(starts, front(fronts, handler.from))?,
-        to: start(starts, front(fronts, handler.to))?,
-        at: start(starts, front(fronts, handler.at))?,
+    TableEntry {
+        from: start(starts, front(fronts, handler.from)),
+        to: start(starts, front(fronts, handler.to)),
+        at: start(starts, front(fronts, handler.at)),
         class: entry.class,
-    })
+    }
 }
 
 /// Where an instruction begins, in two bytes.
-fn start(starts: &[u32], at: u32) -> Result<u16, NoMemory>
-    ensures { IfOk result (λ start. start ≡ slice_index starts.now at) }
+fn start(starts: &[u32], at: u32) -> u16
+    requires { AllByRecursion IsU2 starts.now }
+    ensures { result ≡ slice_index starts.now at }
 {
-    match u16::try_from(front(starts, at)) {
-        Ok(start) => Ok(start),
-        Err(_) => Err(NoMemory),
+    match starts.get(at as usize) {
+        Some(start) => *start as u16,
+        None => 0,
     }
 }

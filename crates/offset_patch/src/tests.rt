@@ -18,8 +18,9 @@ fn components_stand_before_an_entry(rt: HostRuntime) -> Result<(), Fail> {
     pool.push(Const::Second)?;
     pool.push(text(alloc, "exit")?)?;
     let mut entries = Entries::new(alloc, pool);
-    entries.add(alloc, PoolWant::Exit)?;
-    assert_eq!(&rt; entries.place(PoolWant::Exit)?, 6);
+    assert_eq!(&rt; entries.add(alloc, PoolWant::Exit)?, 6);
+    assert_eq!(&rt; entries.add(alloc, PoolWant::Exit)?, 6);
+    assert_eq!(&rt; entries.count(), 7);
     let pool = entries.into_list(alloc)?;
     let mut wanted = List::new(alloc);
     wanted.push(Const::Second)?;

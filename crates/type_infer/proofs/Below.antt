@@ -4,10 +4,10 @@ use Rattle.std.proofs.lemmas.Bool.{and_from, and_parts}
 use Rattle.bytecode_model.specs.declared.program.Program.{Program}
 use Rattle.cert_format.specs.declared.typing.FrameType.{FrameType}
 use Rattle.cert_format.specs.declared.typing.VType.{VType}
-use Rattle.type_lattice.specs.Assigning.{assignable}
-use Rattle.code_typing.specs.Makes.{type_at}
+use Rattle.bytecode_model.specs.Assigning.{assignable}
+use Rattle.bytecode_model.specs.Makes.{type_at}
 use Rattle.code_typing.specs.Order.{StackBelow, LocalsBelow, IsFrameBelow}
-use Rattle.code_typing.specs.Rules.{locals_fit}
+use Rattle.bytecode_model.specs.Rules.{locals_fit}
 use Rattle.type_infer.specs.Solving.{Left, AreBelow}
 
 module _ (program : Program) where

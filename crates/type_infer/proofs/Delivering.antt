@@ -6,15 +6,15 @@ use Rattle.std.proofs.lemmas.Option.{slice_get-get_or}
 use Rattle.cert_format.specs.declared.typing.FrameType.{FrameType}
 use Rattle.insn_codec.specs.declared.insn.Insn.{Insn}
 use Rattle.insn_codec.specs.declared.insn.Insn.TheVariants as insns
-use Rattle.insn_effect.specs.Control.{successors, jump_targets}
+use Rattle.insn_codec.specs.Control.{successors, jump_targets}
 use Rattle.bytecode_model.specs.declared.program.Handler.{Handler}
 use Rattle.bytecode_model.specs.declared.program.Method.{Method}
 use Rattle.bytecode_model.specs.declared.program.Program.{Program}
 use Rattle.type_lattice.specs.Laws.{IsInOrder}
 use Rattle.code_typing.specs.Order.{IsAloneMet}
-use Rattle.code_typing.specs.Place.{Place}
-use Rattle.code_typing.specs.Rules.{Frames, frame_of, covers}
-use Rattle.code_typing.specs.Typed.{place_at}
+use Rattle.bytecode_model.specs.Place.{Place}
+use Rattle.bytecode_model.specs.Rules.{Frames, frame_of, covers}
+use Rattle.bytecode_model.specs.Typed.{place_at}
 use Rattle.type_infer.specs.Solving.{Scope, State, IsReady, place_of, put, AreFound, RowIsMet, StaysFound, IsSent, Left, IsKept, IsOfHeight, IsRaisedBy, Grows, HasGone, IsDone, left_by, next_of, thrown_to}
 use Rattle.type_infer.proofs.Flowing.{Laws, some_one, Fits, is_under, left_fits, thrown_fits, place_is, insn_there}
 use Rattle.type_infer.proofs.Staying.{successor_within, handler_within}

@@ -11,9 +11,10 @@ use Rattle.bytecode_model.specs.declared.program.Program.{Program}
 use Rattle.bytecode_model.specs.Sound.{IsSound, IsSoundClass, IsSoundMethod}
 use Rattle.type_lattice.specs.Laws.{IsInOrder}
 use Rattle.code_typing.specs.declared.fault.TypeFault.{TypeFault}
-use Rattle.code_typing.specs.Rules.{Frames}
-use Rattle.code_typing.specs.Shape.{has_code, coded}
-use Rattle.code_typing.specs.Typed.{IsTyped, row_in, list_at, frames_in, frames_told, first_row, method_fault, methods_fault, classes_fault, typing_fault}
+use Rattle.bytecode_model.specs.Rules.{Frames}
+use Rattle.bytecode_model.specs.Shape.{has_code, coded}
+use Rattle.code_typing.specs.First.{first_row, method_fault, methods_fault, classes_fault, typing_fault}
+use Rattle.bytecode_model.specs.Typed.{IsTyped, row_in, list_at, frames_in, frames_told}
 use Rattle.type_infer.specs.declared.fault.InferFault.{InferFault}
 use Rattle.type_infer.specs.declared.fault.InferFault.TheVariants as faults
 use Rattle.type_infer.specs.Solving.{IsSolved, MethodsAreSolved, ClassesAreSolved, scope_of}

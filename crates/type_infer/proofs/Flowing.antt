@@ -12,22 +12,22 @@ use Rattle.cert_format.specs.declared.typing.FrameType.{FrameType}
 use Rattle.cert_format.specs.declared.typing.VType.{VType}
 use Rattle.cert_format.specs.declared.typing.VType.TheVariants as types
 use Rattle.insn_codec.specs.declared.insn.Insn.{Insn}
-use Rattle.insn_effect.specs.declared.shape.Heap.TheVariants as heap
-use Rattle.insn_effect.specs.declared.shape.Shape.{Shape}
-use Rattle.insn_effect.specs.declared.shape.Shape.TheVariants as shapes
-use Rattle.insn_effect.specs.Control.{successors}
-use Rattle.insn_effect.specs.Shapes.{shape_of}
+use Rattle.insn_codec.specs.declared.shape.Heap.TheVariants as heap
+use Rattle.insn_codec.specs.declared.shape.Shape.{Shape}
+use Rattle.insn_codec.specs.declared.shape.Shape.TheVariants as shapes
+use Rattle.insn_codec.specs.Control.{successors}
+use Rattle.insn_codec.specs.Shapes.{shape_of}
 use Rattle.bytecode_model.specs.declared.program.Handler.{Handler}
 use Rattle.bytecode_model.specs.declared.program.Method.{Method}
 use Rattle.bytecode_model.specs.declared.program.Program.{Program}
 use Rattle.bytecode_model.specs.Classes.{is_below}
-use Rattle.type_lattice.specs.Assigning.{assignable}
+use Rattle.bytecode_model.specs.Assigning.{assignable}
 use Rattle.type_lattice.specs.Laws.{IsInOrder, IsReflexive, IsTransitive, IsThrownAlone}
-use Rattle.code_typing.specs.Makes.{type_at}
+use Rattle.bytecode_model.specs.Makes.{type_at}
 use Rattle.code_typing.specs.Order.{IsFrameBelow, IsAloneMet, IsAloneKept, IsLeftKept, IsThrownKept, FrameIsBelowItself, FramesAreInOrder, is_settled, is_settled_at, StackBelow}
-use Rattle.code_typing.specs.Place.{Place}
-use Rattle.code_typing.specs.Rules.{Frames, frame_of, covers, class_caught, local_caught, is_alone, is_handled, goes_well, catches_well, Successor, Caught, Depth, Operand, Local, Made, made_well, rule_failing, row_failing}
-use Rattle.code_typing.specs.Typed.{place_at}
+use Rattle.bytecode_model.specs.Place.{Place}
+use Rattle.bytecode_model.specs.Rules.{Frames, frame_of, covers, class_caught, local_caught, is_alone, is_handled, goes_well, catches_well, Successor, Caught, Depth, Operand, Local, Made, made_well, rule_failing, row_failing}
+use Rattle.bytecode_model.specs.Typed.{place_at}
 use Rattle.type_infer.specs.Solving.{Scope, place_of, RowIsMet, IsFound, Left, AreBelow, left_by, thrown_to}
 use Rattle.type_infer.proofs.Below.{locals_below, left_over}
 
@@ -105,7 +105,7 @@ row_met scope frames at place frame row there e =
 
 made_settled : (place : Place) (frame : FrameType) (shape : Shape) → made_well place frame shape ≡ true → is_settled_at place frame shape ≡ true
 made_settled place frame (shapes.Heap heap.New) h = h
-made_settled place frame (shapes.Heap (heap.Return kind)) h = h
+made_settled place frame (shapes.Heap (heap.Return None)) h = h
 made_settled place frame other h = refl
 
 pub some_one : {A : Type 0} (x y : A) → ◌≡◌ {A = Option A} (Some x) (Some y) → x ≡ y

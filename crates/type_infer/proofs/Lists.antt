@@ -10,8 +10,8 @@ use Rattle.cert_format.specs.declared.typing.FrameType.{FrameType}
 use Rattle.cert_format.specs.declared.typing.VType.{VType}
 use Rattle.cert_format.specs.declared.typing.VType.TheVariants as types
 use Rattle.type_lattice.specs.Merging.{merged}
-use Rattle.code_typing.specs.Makes.{type_at}
-use Rattle.code_typing.specs.Rules.{Frames, frame_of}
+use Rattle.bytecode_model.specs.Makes.{type_at}
+use Rattle.bytecode_model.specs.Rules.{Frames, frame_of}
 use Rattle.type_infer.specs.Solving.{is_marked}
 
 pub all_at : {X : Type 0} (P : X → Type 0) (xs : List X) (i : ℕ) (x : X) → AllByRecursion P xs → slice_get xs i ≡ Some x → P x

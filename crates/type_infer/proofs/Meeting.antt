@@ -11,20 +11,20 @@ use Rattle.cert_format.specs.declared.typing.FrameType.{FrameType}
 use Rattle.cert_format.specs.declared.typing.VType.{VType}
 use Rattle.cert_format.specs.declared.typing.VType.TheVariants as types
 use Rattle.insn_codec.specs.declared.insn.Insn.{Insn}
-use Rattle.insn_effect.specs.declared.shape.Heap.TheVariants as heap
-use Rattle.insn_effect.specs.declared.shape.Shape.{Shape}
-use Rattle.insn_effect.specs.declared.shape.Shape.TheVariants as shapes
-use Rattle.insn_effect.specs.Control.{successors}
-use Rattle.insn_effect.specs.Shapes.{shape_of}
+use Rattle.insn_codec.specs.declared.shape.Heap.TheVariants as heap
+use Rattle.insn_codec.specs.declared.shape.Shape.{Shape}
+use Rattle.insn_codec.specs.declared.shape.Shape.TheVariants as shapes
+use Rattle.insn_codec.specs.Control.{successors}
+use Rattle.insn_codec.specs.Shapes.{shape_of}
 use Rattle.bytecode_model.specs.declared.program.Handler.{Handler}
 use Rattle.bytecode_model.specs.declared.program.Method.{Method}
 use Rattle.bytecode_model.specs.declared.program.Program.{Program}
 use Rattle.bytecode_model.specs.Classes.{is_below}
-use Rattle.code_typing.specs.Makes.{type_at}
+use Rattle.bytecode_model.specs.Makes.{type_at}
 use Rattle.code_typing.specs.Order.{IsFrameBelow, is_settled_at, StackBelow}
-use Rattle.code_typing.specs.Place.{Place, is_maker}
-use Rattle.code_typing.specs.Rules.{Frames, frame_of, covers, class_caught, entry_locals, is_alone, goes_well, catches_well, Successor, Caught, Entry, rule_failing, row_failing}
-use Rattle.code_typing.specs.Typed.{place_at}
+use Rattle.bytecode_model.specs.Place.{Place, is_maker}
+use Rattle.bytecode_model.specs.Rules.{Frames, frame_of, covers, class_caught, entry_locals, is_alone, goes_well, catches_well, Successor, Caught, Entry, rule_failing, row_failing}
+use Rattle.bytecode_model.specs.Typed.{place_at}
 use Rattle.type_infer.specs.Solving.{Scope, State, place_of, is_marked, AreBelow, HasCome, Holds, IsMetBy, IsSolution, begun, left_by, thrown_to}
 use Rattle.type_infer.proofs.Below.{locals_fit_below, stack_at, stack_height}
 use Rattle.type_infer.proofs.Flowing.{Laws, IsUnder, is_under, thrown_fits, place_is, some_one}
@@ -61,7 +61,7 @@ one_operand class (t ∷ u ∷ stack) n e = absurd (omega arith)
 -- a frame of Top but for what is thrown has no object
 thrown_settled : (place : Place) (class : List ℕ) (shape : Shape) → is_settled_at place (record { locals = []; stack = types.Ref class ∷ [] }) shape ≡ true
 thrown_settled place class (shapes.Heap heap.New) = refl
-thrown_settled place class (shapes.Heap (heap.Return kind)) =
+thrown_settled place class (shapes.Heap (heap.Return None)) =
     elim (cases_Bool (is_maker place.method)) [
       | inl maker ↦ rw maker refl
       | inr other ↦ rw other refl

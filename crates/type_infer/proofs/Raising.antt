@@ -5,12 +5,12 @@ use Rattle.std.specs.Option.{option_or}
 use Rattle.bytecode_model.specs.declared.program.Program.{Program}
 use Rattle.cert_format.specs.declared.typing.FrameType.{FrameType}
 use Rattle.cert_format.specs.declared.typing.VType.{VType}
-use Rattle.insn_effect.specs.Shapes.{shape_of}
-use Rattle.type_lattice.specs.Assigning.{assignable}
+use Rattle.insn_codec.specs.Shapes.{shape_of}
+use Rattle.bytecode_model.specs.Assigning.{assignable}
 use Rattle.type_lattice.specs.Merging.{merged}
-use Rattle.code_typing.specs.Makes.{type_at}
+use Rattle.bytecode_model.specs.Makes.{type_at}
 use Rattle.code_typing.specs.Order.{IsFrameBelow, is_settled}
-use Rattle.code_typing.specs.Place.{Place}
+use Rattle.bytecode_model.specs.Place.{Place}
 use Rattle.type_infer.specs.Solving.{Left, AreBelow, OldIsBelow, IsRaised, IsRaisedBy, IsKept, IsUnlessBelow, local_settled, operand_settled}
 use Rattle.type_infer.proofs.Below.{below_over, stack_height, stack_at, stack_below}
 use Rattle.type_infer.proofs.Settling.{local_above, operand_above, local_least, operand_least, are_settled}

@@ -1,5 +1,5 @@
 -- What may not find an object that is not made yet finds Top in its place.
-use Rattle.std.proofs.Common.{◌≡◌, ℕ, zero, suc, Bool, true, false, List, [], ◌∷◌, refl, sym, ap, subst, ◌∙◌, inl, inr, arith}
+use Rattle.std.proofs.Common.{◌≡◌, ℕ, zero, suc, Bool, true, false, List, [], ◌∷◌, refl, sym, ap, subst, ◌∙◌, inl, inr, arith, None}
 use Rattle.std.specs.Prelude.{not, ◌||◌, if◌then◌else◌}
 use Rattle.std.proofs.lemmas.Bool.{cases_Bool}
 use Rattle.std.proofs.lemmas.Bool.Decides.{nat_tests}
@@ -7,14 +7,14 @@ use Rattle.bytecode_model.specs.declared.program.Program.{Program}
 use Rattle.cert_format.specs.declared.typing.FrameType.{FrameType}
 use Rattle.cert_format.specs.declared.typing.VType.{VType}
 use Rattle.cert_format.specs.declared.typing.VType.TheVariants as types
-use Rattle.insn_effect.specs.declared.shape.Heap.TheVariants as heap
-use Rattle.insn_effect.specs.declared.shape.Shape.{Shape}
-use Rattle.insn_effect.specs.declared.shape.Shape.TheVariants as shapes
-use Rattle.type_lattice.specs.Assigning.{assignable}
-use Rattle.code_typing.specs.Makes.{type_at, is_same_object}
+use Rattle.insn_codec.specs.declared.shape.Heap.TheVariants as heap
+use Rattle.insn_codec.specs.declared.shape.Shape.{Shape}
+use Rattle.insn_codec.specs.declared.shape.Shape.TheVariants as shapes
+use Rattle.bytecode_model.specs.Assigning.{assignable}
+use Rattle.bytecode_model.specs.Makes.{type_at, is_same_object}
 use Rattle.code_typing.specs.Order.{is_settled_at}
-use Rattle.code_typing.specs.Place.{Place, is_maker}
-use Rattle.code_typing.specs.Rules.{has_object}
+use Rattle.bytecode_model.specs.Place.{Place, is_maker}
+use Rattle.bytecode_model.specs.Rules.{has_object}
 use Rattle.type_infer.specs.Solving.{unless, local_settled, operand_settled}
 
 -- ---- an object in a list
@@ -100,7 +100,7 @@ module _ (program : Program) (reflexive : (t : VType) → assignable program t t
 
   module _ (place : Place) where
     pub local_above : (shape : Shape) (t : VType) → assignable program t (local_settled place shape t) ≡ true
-    local_above (shapes.Heap (heap.Return kind)) t =
+    local_above (shapes.Heap (heap.Return None)) t =
         elim (cases_Bool (is_maker place.method)) [
           | inl maker ↦ rw maker (unless_above types.UninitThis t)
           | inr other ↦ rw other (reflexive t)
@@ -109,7 +109,7 @@ module _ (program : Program) (reflexive : (t : VType) → assignable program t t
 
     pub operand_above : (shape : Shape) (t : VType) → assignable program t (operand_settled place shape t) ≡ true
     operand_above (shapes.Heap heap.New) t = unless_above (types.Uninit place.at) t
-    operand_above (shapes.Heap (heap.Return kind)) t =
+    operand_above (shapes.Heap (heap.Return None)) t =
         elim (cases_Bool (is_maker place.method)) [
           | inl maker ↦ rw maker (unless_above types.UninitThis t)
           | inr other ↦ rw other (reflexive t)
@@ -126,7 +126,7 @@ module _ (program : Program) (reflexive : (t : VType) → assignable program t t
 
     pub local_least : (shape : Shape) (high : FrameType) → is_settled_at place high shape ≡ true → (j : ℕ) (t : VType) → assignable program t (type_at high.locals j) ≡ true
         → assignable program (local_settled place shape t) (type_at high.locals j) ≡ true
-    local_least (shapes.Heap (heap.Return kind)) high s j t h =
+    local_least (shapes.Heap (heap.Return None)) high s j t h =
         elim (cases_Bool (is_maker place.method)) [
           | inl maker ↦
               let made = left_made (is_maker place.method) (has_object types.UninitThis high.locals) (has_object types.UninitThis high.stack) s maker in
@@ -139,7 +139,7 @@ module _ (program : Program) (reflexive : (t : VType) → assignable program t t
         → assignable program (operand_settled place shape t) (type_at high.stack j) ≡ true
     operand_least (shapes.Heap heap.New) high s j t h =
         unless_below (types.Uninit place.at) t (type_at high.stack j) h (free_at (types.Uninit place.at) high.stack (not_false _ s) j)
-    operand_least (shapes.Heap (heap.Return kind)) high s j t h =
+    operand_least (shapes.Heap (heap.Return None)) high s j t h =
         elim (cases_Bool (is_maker place.method)) [
           | inl maker ↦
               let made = left_made (is_maker place.method) (has_object types.UninitThis high.locals) (has_object types.UninitThis high.stack) s maker in
@@ -166,7 +166,7 @@ module _ (place : Place) (now : FrameType) (x y : ℕ → VType) where
       → is_settled_at place now shape ≡ true
   are_settled (shapes.Heap heap.New) l s =
       false_not _ (free_from (types.Uninit place.at) now.stack (λ j. rw (s j) (unless_free (types.Uninit place.at) (y j))))
-  are_settled (shapes.Heap (heap.Return kind)) l s =
+  are_settled (shapes.Heap (heap.Return None)) l s =
       left_free (is_maker place.method) (has_object types.UninitThis now.locals) (has_object types.UninitThis now.stack)
       (λ maker. free_from types.UninitThis now.locals (λ j. ap (is_same_object types.UninitThis) (l j) ∙ unless_maker (x j) maker))
       (λ maker. free_from types.UninitThis now.stack (λ j. ap (is_same_object types.UninitThis) (s j) ∙ unless_maker (y j) maker))
@@ -174,7 +174,7 @@ module _ (place : Place) (now : FrameType) (x y : ℕ → VType) where
 
 pub operand_top : (place : Place) (shape : Shape) → operand_settled place shape types.Top ≡ types.Top
 operand_top place (shapes.Heap heap.New) = refl
-operand_top place (shapes.Heap (heap.Return kind)) =
+operand_top place (shapes.Heap (heap.Return None)) =
     elim (cases_Bool (is_maker place.method)) [
       | inl maker ↦ rw maker refl
       | inr other ↦ rw other refl

@@ -7,10 +7,10 @@ use Rattle.std.proofs.lemmas.List.{length-set, length-replicate}
 use Rattle.cert_format.specs.declared.typing.FrameType.{FrameType}
 use Rattle.cert_format.specs.declared.typing.VType.{VType}
 use Rattle.bytecode_model.specs.declared.program.Program.{Program}
-use Rattle.type_lattice.specs.Assigning.{assignable}
-use Rattle.code_typing.specs.Makes.{type_at}
-use Rattle.code_typing.specs.Place.{Place}
-use Rattle.code_typing.specs.Rules.{Frames, frame_of, entry_locals, Entry, rule_failing, row_failing}
+use Rattle.bytecode_model.specs.Assigning.{assignable}
+use Rattle.bytecode_model.specs.Makes.{type_at}
+use Rattle.bytecode_model.specs.Place.{Place}
+use Rattle.bytecode_model.specs.Rules.{Frames, frame_of, entry_locals, Entry, rule_failing, row_failing}
 use Rattle.type_infer.specs.Solving.{Scope, State, place_of, is_marked, put, unmarked, AreFound, AreBelow, IsRaisedBy, HasCome, IsDone, Grows, Holds, IsMetBy, begun}
 use Rattle.type_infer.proofs.Below.{locals_below, stack_below}
 use Rattle.type_infer.proofs.Flowing.{Laws, Fits, row_of, place_is, some_one}

@@ -9,7 +9,7 @@ use Rattle.insn_codec.specs.declared.insn.Insn.TheVariants as insns
 use Rattle.insn_codec.specs.Fits.{AimsWithin, Ends}
 use Rattle.insn_codec.specs.Opcodes.{goes_on}
 use Rattle.insn_codec.specs.Spelling.{opcode_of}
-use Rattle.insn_effect.specs.Control.{successors, jump_targets}
+use Rattle.insn_codec.specs.Control.{successors, jump_targets}
 use Rattle.bytecode_model.specs.declared.program.Handler.{Handler}
 use Rattle.bytecode_model.specs.declared.program.Method.{Method}
 use Rattle.bytecode_model.specs.Sound.{IsSoundMethod, IsWithin}

@@ -10,11 +10,11 @@ use Rattle.cert_format.specs.declared.typing.FrameType.{FrameType}
 use Rattle.cert_format.specs.declared.typing.VType.{VType}
 use Rattle.bytecode_model.specs.declared.program.Method.{Method}
 use Rattle.bytecode_model.specs.declared.program.Program.{Program}
-use Rattle.type_lattice.specs.Assigning.{assignable}
-use Rattle.code_typing.specs.Makes.{type_at}
+use Rattle.bytecode_model.specs.Assigning.{assignable}
+use Rattle.bytecode_model.specs.Makes.{type_at}
 use Rattle.code_typing.specs.Order.{IsFrameBelow, is_settled, StackBelow}
-use Rattle.code_typing.specs.Place.{Place}
-use Rattle.code_typing.specs.Rules.{Frames, frame_of}
+use Rattle.bytecode_model.specs.Place.{Place}
+use Rattle.bytecode_model.specs.Rules.{Frames, frame_of}
 use Rattle.type_infer.specs.Solving.{Scope, State, place_of, put, is_marked, AreFound, IsFound, Left, AreBelow, OldIsBelow, IsRaisedBy, IsKept, IsOfHeight, HasCome, HasGone, IsDone, Grows}
 use Rattle.type_infer.proofs.Below.{below_over, stack_height}
 use Rattle.type_infer.proofs.Flowing.{Laws, Fits, place_is, insn_there, some_one}

@@ -7,23 +7,23 @@ use Rattle.cert_format.specs.declared.typing.VType.TheVariants as types
 use Rattle.insn_codec.specs.declared.insn.Insn.{Insn}
 use Rattle.insn_codec.specs.Opcodes.{goes_on}
 use Rattle.insn_codec.specs.Spelling.{opcode_of}
-use Rattle.insn_effect.specs.declared.shape.Heap.TheVariants as heap
-use Rattle.insn_effect.specs.declared.shape.Shape.{Shape}
-use Rattle.insn_effect.specs.declared.shape.Shape.TheVariants as shapes
-use Rattle.insn_effect.specs.Control.{successors}
+use Rattle.insn_codec.specs.declared.shape.Heap.TheVariants as heap
+use Rattle.insn_codec.specs.declared.shape.Shape.{Shape}
+use Rattle.insn_codec.specs.declared.shape.Shape.TheVariants as shapes
+use Rattle.insn_codec.specs.Control.{successors}
 use Rattle.bytecode_model.specs.declared.program.Handler.{Handler}
 use Rattle.bytecode_model.specs.declared.program.LinkedClass.{LinkedClass}
 use Rattle.bytecode_model.specs.declared.program.Method.{Method}
 use Rattle.bytecode_model.specs.declared.program.Program.{Program}
 use Rattle.bytecode_model.specs.Sound.{IsSoundMethod}
 use Rattle.type_lattice.specs.Laws.{IsInOrder}
-use Rattle.code_typing.specs.Makes.{type_at, is_same_object, local_after, stack_after}
+use Rattle.bytecode_model.specs.Makes.{type_at, is_same_object, local_after, stack_after}
 use Rattle.code_typing.specs.Order.{StackBelow, LocalsBelow, IsFrameBelow, is_settled}
-use Rattle.code_typing.specs.Place.{Place, is_maker}
-use Rattle.code_typing.specs.Rules.{Frames, frame_of, taken, entry_locals, covers, class_caught, local_caught}
-use Rattle.code_typing.specs.Shape.{has_code}
-use Rattle.code_typing.specs.Typed.{row_in, place_at, list_at}
-use Rattle.code_typing.specs.Wants.{takes}
+use Rattle.bytecode_model.specs.Place.{Place, is_maker}
+use Rattle.bytecode_model.specs.Rules.{Frames, frame_of, taken, entry_locals, covers, class_caught, local_caught}
+use Rattle.bytecode_model.specs.Shape.{has_code}
+use Rattle.bytecode_model.specs.Typed.{row_in, place_at, list_at}
+use Rattle.bytecode_model.specs.Wants.{takes}
 use Rattle.type_infer.specs.Untyped.{AreMet}
 
 -- ---- where, and how far
@@ -64,12 +64,12 @@ unless object t = if is_same_object object t then types.Top else t
 
 -- What a local, and what an operand, is before an instruction that may not find an object that is not made yet.
 abbrev pub local_settled : Place → Shape → VType → VType
-local_settled place (shapes.Heap (heap.Return kind)) t = if is_maker place.method then unless types.UninitThis t else t
+local_settled place (shapes.Heap (heap.Return None)) t = if is_maker place.method then unless types.UninitThis t else t
 local_settled place other t = t
 
 abbrev pub operand_settled : Place → Shape → VType → VType
 operand_settled place (shapes.Heap heap.New) t = unless (types.Uninit place.at) t
-operand_settled place (shapes.Heap (heap.Return kind)) t = if is_maker place.method then unless types.UninitThis t else t
+operand_settled place (shapes.Heap (heap.Return None)) t = if is_maker place.method then unless types.UninitThis t else t
 operand_settled place other t = t
 
 -- Locals and operands that come to an instruction.

@@ -7,8 +7,8 @@ use Rattle.bytecode_model.specs.declared.program.Method.{Method}
 use Rattle.bytecode_model.specs.declared.program.Program.{Program}
 use Rattle.code_typing.specs.declared.fault.TypeFault.{TypeFault}
 use Rattle.code_typing.specs.Order.{IsFrameBelow}
-use Rattle.code_typing.specs.Rules.{Frames, frame_of}
-use Rattle.code_typing.specs.Typed.{IsTyped, row_in, frames_in, frames_told}
+use Rattle.bytecode_model.specs.Rules.{Frames, frame_of}
+use Rattle.bytecode_model.specs.Typed.{IsTyped, row_in, frames_in, frames_told}
 use Rattle.type_infer.specs.declared.fault.InferFault.{InferFault}
 use Rattle.type_infer.specs.declared.fault.InferFault.TheVariants as faults
 

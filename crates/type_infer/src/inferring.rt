@@ -3,8 +3,8 @@
 ghost use Rattle.std.specs.Prelude.{◌≡◌, length, map, IfOk, IfErr};
 ghost use Rattle.std.specs.List.{AllByRecursion};
 ghost use Rattle.bytecode_model.specs.Sound.{IsSound, IsSoundClass};
-ghost use Rattle.code_typing.specs.Shape.{IsShaped};
-ghost use Rattle.code_typing.specs.Typed.{IsTyped};
+ghost use Rattle.bytecode_model.specs.Shape.{IsShaped};
+ghost use Rattle.bytecode_model.specs.Typed.{IsTyped};
 ghost use Rattle.type_infer.specs.Fits.{FitFrames, FitsTyping};
 ghost use Rattle.type_infer.specs.Shape.{class_shape};
 ghost use Rattle.type_infer.specs.Solving.{ClassesAreSolved, MethodsAreSolved};

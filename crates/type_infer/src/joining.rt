@@ -2,11 +2,11 @@
 
 ghost use Rattle.std.specs.Prelude.{◌≡◌, ◌≤◌, ℕ, true, Some, length, map, min, option_copied, IfOk, IfSome, IsSome, IsTrue};
 ghost use Rattle.std.specs.Option.{option_or};
-ghost use Rattle.insn_effect.specs.Shapes.{shape_of};
-ghost use Rattle.type_lattice.specs.Assigning.{assignable};
+ghost use Rattle.insn_codec.specs.Shapes.{shape_of};
+ghost use Rattle.bytecode_model.specs.Assigning.{assignable};
 ghost use Rattle.type_lattice.specs.Laws.{IsInOrder};
 ghost use Rattle.type_lattice.specs.Merging.{merged};
-ghost use Rattle.code_typing.specs.Makes.{type_at};
+ghost use Rattle.bytecode_model.specs.Makes.{type_at};
 ghost use Rattle.code_typing.specs.Order.{IsFrameBelow, LocalsBelow};
 ghost use Rattle.type_infer.specs.Solving.{Left, IsKept, IsOfHeight, IsRaisedBy, IsUnlessBelow, local_settled, operand_settled, unless};
 
@@ -14,7 +14,7 @@ use crate::told::Told;
 use bytecode_model::Program;
 use cert_format::{FrameType, VType};
 use code_typing::{PlaceRef, is_maker, is_same_object, rows_follow_the_order};
-use insn_effect::{Heap, Shape, shape_of};
+use insn_codec::{Heap, Shape, shape_of};
 use mon_base::{List, NoMemory};
 use std::alloc::Global;
 use type_lattice::{assignable, assignable_is_an_order, merge, merge_is_the_least};
@@ -69,7 +69,7 @@ fn settled(place: &PlaceRef, locals: List<VType>, stack: List<VType>) -> Option<
         → type_at told.stack j ≡ operand_settled place.now (shape_of place.now.insn) (type_at stack j)) }
 {
     match shape_of(place.insn) {
-        Shape::Heap(Heap::Return(_)) => {
+        Shape::Heap(Heap::Return(None)) => {
             if is_maker(place.method) {
                 Told::new(
                     place.method,

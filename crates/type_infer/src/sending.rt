@@ -1,10 +1,10 @@
 //! What flows from an instruction to those to which control can go from it.
 
 ghost use Rattle.std.specs.Prelude.{◌≡◌, ◌≤◌, ℕ, Some, ◌∷◌, length, option_copied, Contains, IfOk, IsTrue, OnOk};
-ghost use Rattle.insn_effect.specs.Control.{jump_targets, successors};
+ghost use Rattle.insn_codec.specs.Control.{jump_targets, successors};
 ghost use Rattle.type_lattice.specs.Laws.{IsInOrder};
 ghost use Rattle.code_typing.specs.Order.{IsAloneMet};
-ghost use Rattle.code_typing.specs.Rules.{Frames, covers};
+ghost use Rattle.bytecode_model.specs.Rules.{Frames, covers};
 ghost use Rattle.bytecode_model.specs.declared.program.Handler.{Handler};
 ghost use Rattle.type_infer.specs.Solving.{
   AreFound,
@@ -30,7 +30,7 @@ use crate::work::Work;
 use bytecode_model::Handler;
 use cert_format::FrameType;
 use code_typing::{
-    PlaceRef, catches_well, covers, goes_well, is_alone_met, locals_after, locals_thrown,
+    PlaceRef, catches_well, goes_well, is_alone_met, locals_after, locals_thrown,
     rows_follow_the_order, stack_after, stack_thrown,
 };
 use insn_codec::{Insn, goes_on};
@@ -301,7 +301,7 @@ fn throw(
 {
     assignable_is_an_order();
     rows_follow_the_order();
-    if !covers(place.at, handler) {
+    if !handler.covers(place.at) {
         return Ok(());
     }
     let Some(there) = body.place(handler.at) else {

@@ -1,7 +1,7 @@
 //! The least frames of a method's instructions.
 
 ghost use Rattle.std.specs.Prelude.{◌≡◌, ℕ, length, IfOk};
-ghost use Rattle.code_typing.specs.Rules.{Frames};
+ghost use Rattle.bytecode_model.specs.Rules.{Frames};
 ghost use Rattle.type_infer.specs.Fits.{FitFrames};
 ghost use Rattle.type_infer.specs.Solving.{Holds, IsMetBy, IsSolved};
 

@@ -4,7 +4,7 @@ ghost use Rattle.std.specs.Prelude.{◌≡◌, ◌≤◌, ◌<◌, ℕ, false, l
 ghost use Rattle.std.specs.List.{AllByRecursion};
 ghost use Rattle.cert_format.specs.Fits.{FitsType, FitsFrame, ends_with_top};
 ghost use Rattle.cert_format.specs.declared.typing.VType.TheVariants.{Top};
-ghost use Rattle.code_typing.specs.Makes.{type_at};
+ghost use Rattle.bytecode_model.specs.Makes.{type_at};
 
 use bytecode_model::Method;
 use cert_format::{FrameType, VType};

@@ -1,7 +1,7 @@
 //! The frames that are found so far, and the instructions whose frame has changed since they were looked at.
 
 ghost use Rattle.std.specs.Prelude.{◌≡◌, ◌≤◌, ◌<◌, ℕ, true, false, replicate, option_copied, length, None, IfOk, IfSome, IfNone};
-ghost use Rattle.code_typing.specs.Rules.{frame_of};
+ghost use Rattle.bytecode_model.specs.Rules.{frame_of};
 ghost use Rattle.type_infer.specs.Solving.{is_marked, put, unmarked};
 
 use crate::told::Told;

@@ -11,7 +11,8 @@ use Rattle.bytecode_model.specs.Classes.{classes_of, is_below, is_interface}
 use Rattle.bytecode_model.specs.Conditions.{stays_within}
 use Rattle.cert_format.specs.declared.typing.VType.{VType}
 use Rattle.cert_format.specs.declared.typing.VType.TheVariants as types
-use Rattle.type_lattice.specs.Assigning.{is_array, class_fits, array_fits, name_fits, assignable}
+use Rattle.bytecode_model.specs.Arrays.{is_array}
+use Rattle.bytecode_model.specs.Assigning.{class_fits, array_fits, name_fits, assignable}
 use Rattle.type_lattice.specs.Laws.{IsInOrder}
 use Rattle.type_lattice.proofs.Climbing.{one_named}
 use Rattle.type_lattice.proofs.Upwards.{either_of, named_so, is_up, up_from}

@@ -9,8 +9,9 @@ use Rattle.std.proofs.lemmas.Slice.Eq.{bytes_eq-Decides}
 use Rattle.api_listing.specs.BuiltIn.{object}
 use Rattle.bytecode_model.specs.declared.program.Program.{Program}
 use Rattle.bytecode_model.specs.Classes.{is_interface}
-use Rattle.type_lattice.specs.Assigning.{is_array, class_name, named, leaf_fits, class_fits, component_fits, array_fits, name_fits}
-use Rattle.type_lattice.specs.Lending.{described, array_of}
+use Rattle.bytecode_model.specs.Arrays.{is_array}
+use Rattle.bytecode_model.specs.Assigning.{class_name, named, leaf_fits, class_fits, component_fits, array_fits, name_fits}
+use Rattle.bytecode_model.specs.Arrays.{described, array_of}
 
 last_of : (name : List ℕ) → slice_index (name ++ 59 ∷ []) (length (name ++ 59 ∷ []) - 1) ≡ 59
 last_of name =

@@ -9,10 +9,11 @@ use Rattle.api_listing.specs.Nearest.{upwards}
 use Rattle.bytecode_model.specs.declared.program.Program.{Program}
 use Rattle.cert_format.specs.declared.typing.VType.{VType}
 use Rattle.cert_format.specs.declared.typing.VType.TheVariants as types
-use Rattle.type_lattice.specs.Assigning.{is_array, named, reference_of, class_fits, component_fits, array_fits, name_fits, assignable}
+use Rattle.bytecode_model.specs.Arrays.{is_array}
+use Rattle.bytecode_model.specs.Assigning.{named, reference_of, class_fits, component_fits, array_fits, name_fits, assignable}
 use Rattle.bytecode_model.specs.Classes.{classes_of, is_below, is_interface}
 use Rattle.type_lattice.specs.Laws.{IsInOrder}
-use Rattle.type_lattice.specs.Lending.{described, array_of}
+use Rattle.bytecode_model.specs.Arrays.{described, array_of}
 use Rattle.type_lattice.specs.Merging.{class_above, leaf_merged, items_merged, arrays_merged, names_merged, merged}
 use Rattle.type_lattice.proofs.Arrays.{class_itself, component_itself, named_described}
 use Rattle.type_lattice.proofs.Bounds.{pick, found_one, is_apart, leaf_apart, same_array}

@@ -26,7 +26,7 @@ use Rattle.bytecode_model.specs.Fault.{Linked}
 use Rattle.bytecode_model.specs.Heads.{head_of, heads_of}
 use Rattle.bytecode_model.specs.Linking.{members_of, main_of, classes_with, max_files, linked}
 use Rattle.bytecode_model.proofs.Whole.{files_back}
-use Rattle.type_lattice.specs.Assigning.{is_array}
+use Rattle.bytecode_model.specs.Arrays.{is_array}
 use Rattle.type_lattice.specs.Laws.{IsInOrder}
 use Rattle.type_lattice.proofs.Alone.{ended, unnamed_up}
 use Rattle.type_lattice.proofs.Climbing.{one_named, named_behind}

@@ -15,7 +15,7 @@ use Rattle.api_listing.specs.Listing.{is_known, names_known, class_declared, lis
 use Rattle.api_listing.specs.Nearest.{class_named}
 use Rattle.api_listing.specs.Words.{pieces, is_segment, is_class_name}
 use Rattle.bytecode_model.specs.Conditions.{stays_within}
-use Rattle.type_lattice.specs.Assigning.{is_array}
+use Rattle.bytecode_model.specs.Arrays.{is_array}
 use Rattle.type_lattice.proofs.Alone.{stays_less}
 use Rattle.type_lattice.proofs.Climbing.{named_behind}
 use Rattle.type_lattice.proofs.Orders.{same_of, of_same}

@@ -9,7 +9,8 @@ use Rattle.api_listing.specs.Nearest.{class_named}
 use Rattle.bytecode_model.specs.declared.program.Program.{Program}
 use Rattle.cert_format.specs.declared.typing.VType.{VType}
 use Rattle.cert_format.specs.declared.typing.VType.TheVariants as types
-use Rattle.type_lattice.specs.Assigning.{is_array, class_name, named, reference_of, class_fits, leaf_fits, component_fits, array_fits, name_fits, assignable}
+use Rattle.bytecode_model.specs.Arrays.{is_array}
+use Rattle.bytecode_model.specs.Assigning.{class_name, named, reference_of, class_fits, leaf_fits, component_fits, array_fits, name_fits, assignable}
 use Rattle.bytecode_model.specs.Classes.{classes_of, is_below, is_interface}
 use Rattle.type_lattice.specs.Laws.{IsInOrder}
 use Rattle.type_lattice.proofs.Arrays.{class_itself}

@@ -3,7 +3,7 @@ use Rattle.std.proofs.Common.{◌≡◌, ℕ, Bool, true, false, cond, List, [],
 use Rattle.std.specs.Prelude.{◌==◌, ◌&&◌}
 use Rattle.api_listing.specs.BuiltIn.{object}
 use Rattle.bytecode_model.specs.declared.program.Program.{Program}
-use Rattle.type_lattice.specs.Lending.{described}
+use Rattle.bytecode_model.specs.Arrays.{described}
 use Rattle.type_lattice.specs.Merging.{both_within, items_merged, arrays_merged}
 
 within_some : (b : Bool) (x y u v : List ℕ) (P : List ℕ) (Q : List ℕ → List ℕ → List ℕ) → ◌≡◌ {A = Option (List ℕ × List ℕ)} (cond b (Some (x, y)) None) (Some (u, v))

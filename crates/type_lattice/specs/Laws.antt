@@ -11,7 +11,8 @@ use Rattle.bytecode_model.specs.Linking.{linked}
 use Rattle.class_codec.specs.declared.tree.ClassFile.{ClassFile}
 use Rattle.cert_format.specs.declared.typing.VType.{VType}
 use Rattle.cert_format.specs.declared.typing.VType.TheVariants as types
-use Rattle.type_lattice.specs.Assigning.{is_array, assignable}
+use Rattle.bytecode_model.specs.Arrays.{is_array}
+use Rattle.bytecode_model.specs.Assigning.{assignable}
 use Rattle.type_lattice.specs.Merging.{merged}
 
 -- The classes are in order: each way up ends, Object is at the top, an interface is below nothing else, Throwable is a

@@ -4,15 +4,7 @@ use Rattle.cert_format.specs.declared.typing.VType.{VType}
 use Rattle.cert_format.specs.declared.typing.VType.TheVariants as types
 use Rattle.type_lattice.specs.declared.lending.TypeRef.{TypeRef}
 use Rattle.type_lattice.specs.declared.lending.TypeRef.TheVariants as lent
-use Rattle.type_lattice.specs.Assigning.{is_array}
-
--- the descriptor of a class or an array
-abbrev pub described : List ℕ → List ℕ
-described name = if is_array name then name else 76 ∷ (name ++ 59 ∷ [])
-
--- the array of these items
-abbrev pub array_of : List ℕ → List ℕ
-array_of item = 91 ∷ described item
+use Rattle.bytecode_model.specs.Arrays.{array_of}
 
 abbrev pub type_lent : TypeRef → VType
 type_lent lent.Top = types.Top

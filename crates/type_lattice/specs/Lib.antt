@@ -1,4 +1,3 @@
-pub mod Assigning
 pub mod Rising
 pub mod Lending
 pub mod Merging

@@ -7,9 +7,10 @@ use Rattle.api_listing.specs.Nearest.{upwards}
 use Rattle.bytecode_model.specs.declared.program.Program.{Program}
 use Rattle.cert_format.specs.declared.typing.VType.{VType}
 use Rattle.cert_format.specs.declared.typing.VType.TheVariants as types
-use Rattle.type_lattice.specs.Assigning.{is_array, reference_of}
+use Rattle.bytecode_model.specs.Arrays.{is_array}
+use Rattle.bytecode_model.specs.Assigning.{reference_of}
 use Rattle.bytecode_model.specs.Classes.{classes_of, is_below, is_interface}
-use Rattle.type_lattice.specs.Lending.{described, array_of}
+use Rattle.bytecode_model.specs.Arrays.{described, array_of}
 
 -- ---- two references, by the name of their class or the descriptor of their array
 

@@ -1,9 +1,11 @@
 //! Which type may stand in the place of which. (The Java Virtual Machine Specification, section 4.10.1.2.)
 
 ghost use Rattle.std.specs.Prelude.{◌≡◌, option_copied};
-ghost use Rattle.type_lattice.specs.Assigning.{is_array, class_name, named, reference_of, class_fits, leaf_fits};
-ghost use Rattle.type_lattice.specs.Assigning.{component_fits, array_fits, name_fits, assignable};
-ghost use Rattle.type_lattice.specs.Lending.{array_of, described, type_lent};
+ghost use Rattle.bytecode_model.specs.Arrays.{is_array};
+ghost use Rattle.bytecode_model.specs.Assigning.{class_name, named, reference_of, class_fits, leaf_fits};
+ghost use Rattle.bytecode_model.specs.Assigning.{component_fits, array_fits, name_fits, assignable};
+ghost use Rattle.bytecode_model.specs.Arrays.{array_of, described};
+ghost use Rattle.type_lattice.specs.Lending.{type_lent};
 ghost use Rattle.type_lattice.specs.declared.lending.TypeRef.{TypeRef};
 ghost use Rattle.bytecode_model.specs.declared.program.Program.{Program};
 ghost use Rattle.cert_format.specs.declared.typing.VType.TheVariants.{Ref};

@@ -3,7 +3,7 @@
 ghost use Rattle.std.specs.Prelude.{◌≡◌, ◌++◌, option_map, IfOk, OnOk};
 ghost use Rattle.api_listing.specs.BuiltIn.{object};
 ghost use Rattle.cert_format.specs.declared.typing.VType.TheVariants.{Ref};
-ghost use Rattle.type_lattice.specs.Lending.{described};
+ghost use Rattle.bytecode_model.specs.Arrays.{described};
 ghost use Rattle.type_lattice.specs.Merging.{class_above, class_merged, leaf_merged, items_merged};
 ghost use Rattle.type_lattice.specs.Merging.{both_within, arrays_merged, names_merged, merged};
 

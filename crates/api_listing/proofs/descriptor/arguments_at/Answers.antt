@@ -22,4 +22,4 @@ returns-then-is_closed c =
     ∙ ap (λ (rest : List ℕ). Ok (c.loop.arguments, rest)) (sym (rest_all c.loop.left.now))
 
 pub returns : goal.returns
-returns c = too_many c.loop.arguments c.loop.counter c.loop.left.now (arguments_at 256 c.args.bytes.now) c.loop-test.false c.loop.invariant
+returns c is_told = too_many c.loop.arguments c.loop.counter c.loop.left.now (arguments_at 256 c.args.bytes.now) c.loop-test.false c.loop.invariant

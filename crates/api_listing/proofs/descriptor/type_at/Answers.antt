@@ -19,4 +19,4 @@ returns-then-first-ne91 c =
     ends_flat c.loop-left.dimensions c.loop-left.left.now _ _ _ _ (type_at c.args.bytes.now) (first_of_list c.loop-left.left.now c.in-len1-up.len_at_least) c.if-first-ne91.true c.in_ok-element.ensures c.loop-left.invariant.0
 
 pub returns : goal.returns
-returns c = empty_type c.loop-left.dimensions c.loop-left.left.now (type_at c.args.bytes.now) c.in_default.len_below c.loop-left.invariant.0
+returns c is_told = empty_type c.loop-left.dimensions c.loop-left.left.now (type_at c.args.bytes.now) c.in_default.len_below c.loop-left.invariant.0

@@ -4,7 +4,8 @@ use Rattle.std.proofs.lemmas.Result.{err_from_is_err_and}
 use Rattle.api_listing.specs.declared.types.ListedClass.{ListedClass}
 use Rattle.api_listing.specs.Listing.{is_known}
 use Rattle.bytecode_model.specs.Heads.{head_of}
-use Rattle.bytecode_model.specs.Fault.{Fails}
+use Rattle.mon_base.specs.Answer.{Fails}
+use Rattle.bytecode_model.specs.declared.fault.LinkFault.TheVariants as faults
 use Rattle.bytecode_model.specs.Conditions.{class_linked}
 use Rattle.bytecode_model.proofs.Lists.{front_is, none_left}
 use Rattle.bytecode_model.proofs.ClassLoop.{class_goes_on, class_ends, class_done}
@@ -34,7 +35,7 @@ returns-in_err-class_linked c =
     let head = c.in_ok-head.head in
     let known = ap (λ (h : ListedClass). is_known taken h.name) (sym c.in_ok-head.ensures) ∙ sym (agrees head.name) ∙ sym c.contains-is_taken.ensures in
     let p = err_from_is_err_and c.from_residual-in_err-class_linked.result c.from_residual-in_err-class_linked.ensures.1 in
-    rw (p.1, p.2) (class_ends c.in_err-class_linked.field-0.0 c.args.side c.args.heads.now taken c.loop-left.left.now _ c.file-item.result _ c.contains-is_taken.result split known (subst (λ (h : ListedClass). Fails c.in_err-class_linked.field-0.0 (class_linked c.args.side c.args.heads.now c.contains-is_taken.result h c.file-item.result)) c.in_ok-head.ensures c.in_err-class_linked.ensures) c.loop-left.invariant.2)
+    rw (p.1, p.2) (class_ends c.in_err-class_linked.field-0.0 c.args.side c.args.heads.now taken c.loop-left.left.now _ c.file-item.result _ c.contains-is_taken.result split known (subst (λ (h : ListedClass). Fails faults.Memory c.in_err-class_linked.field-0.0 (class_linked c.args.side c.args.heads.now c.contains-is_taken.result h c.file-item.result)) c.in_ok-head.ensures c.in_err-class_linked.ensures) c.loop-left.invariant.2)
 
 pub returns : goal.returns
 returns c = class_done c.args.side c.args.heads.now c.loop-left.invariant.0 c.loop-left.left.now _ (none_left c.loop-left.left.now c.in_default.len_below) c.loop-left.invariant.2

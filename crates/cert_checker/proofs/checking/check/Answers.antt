@@ -1,5 +1,6 @@
 use Rattle.std.proofs.Common.{◌≡◌, ◌∙◌, Some, None, sym, refl}
-use Rattle.cert_checker.specs.Acceptance.{IsAccepted, notes_fault, shape_fault}
+use Rattle.block_logic.specs.Accepted.{IsAccepted}
+use Rattle.cert_checker.specs.Acceptance.{notes_fault, shape_fault}
 use Rattle.cert_checker.proofs.Differing.{none_differ, same_classes}
 use Rattle.cert_checker.proofs.Noted.{none_wrong, wrong_none}
 use Rattle.cert_checker.proofs.Security.{Laws, secure}
@@ -54,4 +55,4 @@ returns-clause-secure c = λ e.
       typed = c.in_default-check_typing.ensures.ok.0 refl;
       noted = none_wrong c.args.program.now c.args.policy.now c.args.certificate.now none;
     } in
-    secure laws c.args.program.now c.args.policy.now c.args.certificate.now c.requires accepted
+    secure laws c.args.program.now c.args.policy.now c.args.certificate.now c.requires accepted c.args.certificate.now.mode

@@ -1,7 +1,7 @@
 use Rattle.std.proofs.Common.{◌≡◌, ◌≤◌, ◌*◌, take}
 use Rattle.std.specs.Prelude.{count_by, sum_by}
 use Rattle.bytecode_model.specs.declared.program.Method.{Method}
-use Rattle.cert_checker.specs.Operands.{has_clause}
+use Rattle.block_logic.specs.Operands.{has_clause}
 use Rattle.cert_checker.proofs.checking.sites_in_class.Given as goal
 
 abbrev pub invariant-loop-method : goal.invariant-loop-method

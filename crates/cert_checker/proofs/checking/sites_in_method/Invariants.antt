@@ -1,6 +1,6 @@
 use Rattle.std.proofs.Common.{◌≡◌, ◌≤◌, take}
 use Rattle.std.specs.Prelude.{count_by}
-use Rattle.cert_checker.specs.Operands.{has_clause}
+use Rattle.block_logic.specs.Operands.{has_clause}
 use Rattle.cert_checker.proofs.checking.sites_in_method.Given as goal
 
 abbrev pub invariant-loop-target : goal.invariant-loop-target

@@ -1,5 +1,5 @@
 use Rattle.std.proofs.Common.{◌≡◌, ◌<◌, ◌+◌, ◌-◌, ◌∙◌, Some, None, sym, refl, arith}
-use Rattle.cert_checker.specs.Acceptance.{reached_fault}
+use Rattle.block_logic.specs.Accepted.{reached_fault}
 use Rattle.cert_checker.specs.Places.{first_from}
 use Rattle.cert_checker.proofs.Noted.{step_from}
 use Rattle.cert_checker.proofs.notes.in_method.Goals as goal

@@ -1,5 +1,6 @@
 use Rattle.std.proofs.Common.{◌≡◌, ◌+◌, length}
-use Rattle.cert_checker.specs.Acceptance.{in_method, reached_fault}
+use Rattle.block_logic.specs.Accepted.{reached_fault}
+use Rattle.cert_checker.specs.Acceptance.{in_method}
 use Rattle.cert_checker.specs.Places.{first_from}
 use Rattle.cert_checker.proofs.notes.in_method.Given as goal
 

@@ -1,11 +1,11 @@
 use Rattle.std.proofs.Common.{◌≡◌, ℕ, ◌≤◌, false, List, length, sym, ap, ◌∙◌, arith}
 use Rattle.cert_format.specs.declared.typing.VType.{VType}
-use Rattle.insn_effect.specs.declared.shape.Shape.{Shape}
-use Rattle.insn_effect.specs.Shapes.{shape_of}
+use Rattle.insn_codec.specs.declared.shape.Shape.{Shape}
+use Rattle.insn_codec.specs.Shapes.{shape_of}
 use Rattle.code_typing.specs.Changing.{change_told, local_told}
-use Rattle.code_typing.specs.Makes.{changed, topmost, stores}
-use Rattle.code_typing.specs.Place.{Place}
-use Rattle.code_typing.specs.Rules.{taken}
+use Rattle.bytecode_model.specs.Makes.{changed, topmost, stores}
+use Rattle.bytecode_model.specs.Place.{Place}
+use Rattle.bytecode_model.specs.Rules.{taken}
 use Rattle.code_typing.proofs.Afterwards.{pushed_each, each_local, local_same}
 use Rattle.code_typing.proofs.after.locals_after.Goals as goal
 

@@ -1,6 +1,6 @@
 use Rattle.std.proofs.Common.{◌≡◌, ℕ, ◌<◌, length}
 use Rattle.code_typing.specs.Changing.{local_told}
-use Rattle.code_typing.specs.Makes.{type_at}
+use Rattle.bytecode_model.specs.Makes.{type_at}
 use Rattle.code_typing.proofs.after.locals_after.Given as goal
 
 abbrev pub invariant-loop-j : goal.invariant-loop-j

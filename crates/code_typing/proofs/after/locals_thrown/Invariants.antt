@@ -1,5 +1,5 @@
 use Rattle.std.proofs.Common.{◌≡◌, map, take}
-use Rattle.code_typing.specs.Rules.{when_thrown}
+use Rattle.bytecode_model.specs.Rules.{when_thrown}
 use Rattle.code_typing.proofs.after.locals_thrown.Given as goal
 
 abbrev pub invariant-loop-t : goal.invariant-loop-t

@@ -1,6 +1,6 @@
 use Rattle.std.proofs.Common.{◌≡◌, ◌-◌, ◌++◌, map}
-use Rattle.code_typing.specs.Described.{types_at, type_described}
-use Rattle.code_typing.specs.Rules.{arguments_typed}
+use Rattle.bytecode_model.specs.Described.{types_at, type_described}
+use Rattle.bytecode_model.specs.Rules.{arguments_typed}
 use Rattle.code_typing.proofs.after.push_arguments.Given as goal
 
 abbrev pub invariant-loop : goal.invariant-loop

@@ -1,5 +1,5 @@
 use Rattle.std.proofs.Common.{◌≡◌, ◌++◌, map, take}
-use Rattle.code_typing.specs.Makes.{moved_from}
+use Rattle.bytecode_model.specs.Makes.{moved_from}
 use Rattle.code_typing.proofs.after.push_moved.Given as goal
 
 abbrev pub invariant-loop-place : goal.invariant-loop-place

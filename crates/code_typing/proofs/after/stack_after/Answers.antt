@@ -2,9 +2,9 @@ use Rattle.std.proofs.Common.{◌≡◌, ℕ, ◌++◌, List, length, map, take,
 use Rattle.std.proofs.lemmas.Grind.{common_steps}
 use Rattle.cert_format.specs.declared.typing.VType.{VType}
 use Rattle.code_typing.specs.Changing.{change_told}
-use Rattle.code_typing.specs.Makes.{changed, below, topmost, yields}
-use Rattle.code_typing.specs.Rules.{taken}
-use Rattle.code_typing.specs.Wants.{takes}
+use Rattle.bytecode_model.specs.Makes.{changed, below, topmost, yields}
+use Rattle.bytecode_model.specs.Rules.{taken}
+use Rattle.bytecode_model.specs.Wants.{takes}
 use Rattle.code_typing.proofs.Fitting.{map_same}
 use Rattle.code_typing.proofs.after.stack_after.Goals as goal
 

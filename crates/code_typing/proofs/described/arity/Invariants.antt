@@ -1,5 +1,5 @@
 use Rattle.std.proofs.Common.{◌≡◌, ◌+◌, ◌-◌, length}
-use Rattle.code_typing.specs.Described.{arguments, types_at}
+use Rattle.bytecode_model.specs.Described.{arguments, types_at}
 use Rattle.code_typing.proofs.described.arity.Given as goal
 
 abbrev pub invariant-loop : goal.invariant-loop

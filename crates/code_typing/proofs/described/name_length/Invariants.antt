@@ -1,5 +1,5 @@
 use Rattle.std.proofs.Common.{◌≡◌, ◌+◌, length}
-use Rattle.code_typing.specs.Described.{name_length}
+use Rattle.bytecode_model.specs.Described.{name_length}
 use Rattle.code_typing.proofs.described.name_length.Given as goal
 
 abbrev pub invariant-loop-left : goal.invariant-loop-left

@@ -1,5 +1,5 @@
 use Rattle.std.proofs.Common.{◌≡◌, length}
-use Rattle.code_typing.specs.Described.{result_text}
+use Rattle.bytecode_model.specs.Described.{result_text}
 use Rattle.code_typing.proofs.described.result_text.Given as goal
 
 abbrev pub invariant-loop-left : goal.invariant-loop-left

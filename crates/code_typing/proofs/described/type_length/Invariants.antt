@@ -1,5 +1,5 @@
 use Rattle.std.proofs.Common.{◌≡◌, ◌+◌, length}
-use Rattle.code_typing.specs.Described.{type_length}
+use Rattle.bytecode_model.specs.Described.{type_length}
 use Rattle.code_typing.proofs.described.type_length.Given as goal
 
 abbrev pub invariant-loop-left : goal.invariant-loop-left

@@ -1,8 +1,8 @@
 use Rattle.std.proofs.Common.{◌-◌, List, map, sym, ap, ◌∙◌}
 use Rattle.cert_format.specs.declared.typing.VType.{VType}
-use Rattle.code_typing.specs.Described.{Descriptor, type_described}
-use Rattle.code_typing.specs.Makes.{type_at}
-use Rattle.code_typing.specs.Rules.{locals_fit}
+use Rattle.bytecode_model.specs.Described.{Descriptor, type_described}
+use Rattle.bytecode_model.specs.Makes.{type_at}
+use Rattle.bytecode_model.specs.Rules.{locals_fit}
 use Rattle.code_typing.specs.Steps.{behind_fit}
 use Rattle.code_typing.proofs.Describing.{types_some, types_end, types_over, fit_some, fit_none}
 use Rattle.code_typing.proofs.entry.arguments_fit.Goals as goal

@@ -1,7 +1,7 @@
 use Rattle.std.proofs.Common.{◌≡◌, ◌-◌, map}
-use Rattle.code_typing.specs.Described.{types_at, type_described}
-use Rattle.code_typing.specs.Makes.{type_at}
-use Rattle.code_typing.specs.Rules.{locals_fit}
+use Rattle.bytecode_model.specs.Described.{types_at, type_described}
+use Rattle.bytecode_model.specs.Makes.{type_at}
+use Rattle.bytecode_model.specs.Rules.{locals_fit}
 use Rattle.code_typing.proofs.entry.arguments_fit.Given as goal
 
 abbrev pub invariant-loop : goal.invariant-loop

@@ -1,7 +1,7 @@
 use Rattle.std.proofs.Common.{◌≡◌, take, true, false}
 use Rattle.std.specs.List.{list_all}
 use Rattle.std.specs.Option.{option_map_or}
-use Rattle.code_typing.specs.Rules.{frame_of, goes_well}
+use Rattle.bytecode_model.specs.Rules.{frame_of, goes_well}
 use Rattle.code_typing.proofs.following.all_arrive.Given as goal
 
 abbrev pub invariant-loop-to : goal.invariant-loop-to

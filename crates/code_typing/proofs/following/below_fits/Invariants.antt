@@ -1,6 +1,6 @@
 use Rattle.std.proofs.Common.{◌≡◌, length, map}
 use Rattle.code_typing.specs.Changing.{change_told}
-use Rattle.code_typing.specs.Rules.{stack_fits}
+use Rattle.bytecode_model.specs.Rules.{stack_fits}
 use Rattle.code_typing.proofs.following.below_fits.Given as goal
 
 abbrev pub invariant-loop-from : goal.invariant-loop-from

@@ -1,9 +1,9 @@
 use Rattle.std.proofs.Common.{◌≡◌, ℕ, List, length, ap, ◌∙◌}
 use Rattle.cert_format.specs.declared.typing.VType.{VType}
 use Rattle.code_typing.specs.Changing.{change_told, frame_takes}
-use Rattle.code_typing.specs.Makes.{changed, below, topmost}
-use Rattle.code_typing.specs.Rules.{taken}
-use Rattle.code_typing.specs.Wants.{takes}
+use Rattle.bytecode_model.specs.Makes.{changed, below, topmost}
+use Rattle.bytecode_model.specs.Rules.{taken}
+use Rattle.bytecode_model.specs.Wants.{takes}
 use Rattle.code_typing.proofs.Fitting.{goes_told}
 use Rattle.code_typing.proofs.following.goes_well.Goals as goal
 

@@ -2,9 +2,9 @@ use Rattle.std.proofs.Common.{◌≡◌, Bool, true, false, List, length, take, 
 use Rattle.std.specs.Prelude.{◌&&◌}
 use Rattle.cert_format.specs.declared.typing.VType.{VType}
 use Rattle.code_typing.specs.Changing.{change_told}
-use Rattle.code_typing.specs.Makes.{yields}
-use Rattle.code_typing.specs.Place.{Place}
-use Rattle.code_typing.specs.Rules.{stack_fits}
+use Rattle.bytecode_model.specs.Makes.{yields}
+use Rattle.bytecode_model.specs.Place.{Place}
+use Rattle.bytecode_model.specs.Rules.{stack_fits}
 use Rattle.code_typing.proofs.Fitting.{joined, too_short}
 use Rattle.code_typing.proofs.following.stack_takes.Goals as goal
 

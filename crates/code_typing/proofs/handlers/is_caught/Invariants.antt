@@ -1,6 +1,6 @@
 use Rattle.std.proofs.Common.{◌≡◌, length}
 use Rattle.std.specs.List.{list_all}
-use Rattle.code_typing.specs.Rules.{Caught, is_handled}
+use Rattle.bytecode_model.specs.Rules.{Caught, is_handled}
 use Rattle.code_typing.proofs.handlers.is_caught.Given as goal
 
 abbrev pub invariant-loop-left : goal.invariant-loop-left

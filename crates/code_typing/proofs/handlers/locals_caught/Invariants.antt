@@ -1,5 +1,5 @@
 use Rattle.std.proofs.Common.{◌≡◌, ◌+◌, length}
-use Rattle.code_typing.specs.Rules.{local_caught, locals_fit}
+use Rattle.bytecode_model.specs.Rules.{local_caught, locals_fit}
 use Rattle.code_typing.proofs.handlers.locals_caught.Given as goal
 
 abbrev pub invariant-loop-left : goal.invariant-loop-left

@@ -1,6 +1,6 @@
 use Rattle.std.proofs.Common.{◌≡◌, ◌+◌, length}
 use Rattle.code_typing.specs.Changing.{local_told}
-use Rattle.code_typing.specs.Rules.{locals_fit}
+use Rattle.bytecode_model.specs.Rules.{locals_fit}
 use Rattle.code_typing.proofs.locals.locals_take.Given as goal
 
 abbrev pub invariant-loop-left : goal.invariant-loop-left

@@ -1,6 +1,6 @@
 use Rattle.std.proofs.Common.{◌≡◌, length}
 use Rattle.cert_format.specs.declared.typing.VType.TheVariants.{UninitThis}
-use Rattle.code_typing.specs.Rules.{has_object}
+use Rattle.bytecode_model.specs.Rules.{has_object}
 use Rattle.code_typing.proofs.made.has_this.Given as goal
 
 abbrev pub invariant-loop-left : goal.invariant-loop-left

@@ -1,6 +1,6 @@
 use Rattle.std.proofs.Common.{◌≡◌, ◌-◌, map}
-use Rattle.code_typing.specs.Described.{types_at}
-use Rattle.code_typing.specs.Wants.{all_met, to_described}
+use Rattle.bytecode_model.specs.Described.{types_at}
+use Rattle.bytecode_model.specs.Wants.{all_met, to_described}
 use Rattle.code_typing.proofs.operands.arguments_met.Given as goal
 
 abbrev pub invariant-loop : goal.invariant-loop

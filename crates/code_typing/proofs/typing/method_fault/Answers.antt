@@ -1,5 +1,5 @@
 use Rattle.std.proofs.Common.{◌<◌, length, sym, ◌∙◌, arith}
-use Rattle.code_typing.specs.Typed.{row_in}
+use Rattle.bytecode_model.specs.Typed.{row_in}
 use Rattle.code_typing.proofs.Faults.{row_more, row_found}
 use Rattle.code_typing.proofs.typing.method_fault.Goals as goal
 

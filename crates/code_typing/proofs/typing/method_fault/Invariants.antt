@@ -1,5 +1,6 @@
 use Rattle.std.proofs.Common.{◌≡◌, ◌-◌, length}
-use Rattle.code_typing.specs.Typed.{first_row, row_in, method_fault}
+use Rattle.code_typing.specs.First.{first_row, method_fault}
+use Rattle.bytecode_model.specs.Typed.{row_in}
 use Rattle.code_typing.proofs.typing.method_fault.Given as goal
 
 abbrev pub invariant-loop-at : goal.invariant-loop-at

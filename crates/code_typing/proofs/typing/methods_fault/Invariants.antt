@@ -1,7 +1,7 @@
 use Rattle.std.proofs.Common.{◌≡◌, ◌+◌, length}
 use Rattle.std.specs.List.{AllByRecursion}
 use Rattle.bytecode_model.specs.Sound.{IsSoundMethod}
-use Rattle.code_typing.specs.Typed.{methods_fault}
+use Rattle.code_typing.specs.First.{methods_fault}
 use Rattle.code_typing.proofs.typing.methods_fault.Given as goal
 
 abbrev pub invariant-loop-left : goal.invariant-loop-left

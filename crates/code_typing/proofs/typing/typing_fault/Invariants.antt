@@ -1,7 +1,7 @@
 use Rattle.std.proofs.Common.{◌≡◌, ◌+◌, length}
 use Rattle.std.specs.List.{AllByRecursion}
 use Rattle.bytecode_model.specs.Sound.{IsSoundClass}
-use Rattle.code_typing.specs.Typed.{classes_fault, typing_fault}
+use Rattle.code_typing.specs.First.{classes_fault, typing_fault}
 use Rattle.code_typing.proofs.typing.typing_fault.Given as goal
 
 abbrev pub invariant-loop-left : goal.invariant-loop-left

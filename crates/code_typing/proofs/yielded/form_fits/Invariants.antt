@@ -1,6 +1,6 @@
 use Rattle.std.proofs.Common.{◌≡◌, length, map}
-use Rattle.code_typing.specs.Makes.{moved_from}
-use Rattle.code_typing.specs.Rules.{stack_fits}
+use Rattle.bytecode_model.specs.Makes.{moved_from}
+use Rattle.bytecode_model.specs.Rules.{stack_fits}
 use Rattle.code_typing.proofs.yielded.form_fits.Given as goal
 
 abbrev pub invariant-loop-order : goal.invariant-loop-order

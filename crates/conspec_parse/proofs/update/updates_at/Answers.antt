@@ -3,7 +3,8 @@ use Rattle.std.proofs.lemmas.Result.{err_from_is_err_and}
 use Rattle.std.proofs.lemmas.Int.{to_z-of_z}
 use Rattle.conspec_parse.specs.Forms.{is_name, each, repeated}
 use Rattle.conspec_parse.specs.Updates.{update_at}
-use Rattle.conspec_parse.specs.Fault.{Fails}
+use Rattle.mon_base.specs.Answer.{Fails}
+use Rattle.conspec_parse.specs.declared.fault.PolicyFault.TheVariants as faults
 use Rattle.conspec_parse.proofs.Repeating.{again, stops, fails, all_read}
 use Rattle.conspec_parse.proofs.update.updates_at.Goals as goal
 
@@ -17,7 +18,7 @@ pub returns-in_err-more : goal.returns-in_err-more
 returns-in_err-more c =
     let same : to_z w32 (of_z w32 c.args.maxint) ≡ c.args.maxint = to_z-of_z w32 c.args.maxint c.ranges.maxint in
     let p = err_from_is_err_and c.from_residual.result c.from_residual.ensures.1 in
-    rw (p.1, p.2) (subst (λ m. Fails c.in_err-more.field-0.0 (each is_name (update_at c.args.vars.now m c.args.atoms) [] c.args.tokens.now)) same (fails is_name (update_at c.args.vars.now (to_z w32 (of_z w32 c.args.maxint)) c.args.atoms) (length c.args.tokens.now) c.loop.counter c.loop.updates c.loop.left.now _ c.in_err-more.field-0.0 c.loop-test.true (sym c.is_name.ensures ∙ c.if-not-is_name.false) c.in_err-more.ensures c.loop.invariant))
+    rw (p.1, p.2) (subst (λ m. Fails faults.Memory c.in_err-more.field-0.0 (each is_name (update_at c.args.vars.now m c.args.atoms) [] c.args.tokens.now)) same (fails is_name (update_at c.args.vars.now (to_z w32 (of_z w32 c.args.maxint)) c.args.atoms) (length c.args.tokens.now) c.loop.counter c.loop.updates c.loop.left.now _ c.in_err-more.field-0.0 c.loop-test.true (sym c.is_name.ensures ∙ c.if-not-is_name.false) c.in_err-more.ensures c.loop.invariant))
 
 pub loop-preserved : goal.loop-preserved
 loop-preserved c = again is_name (update_at c.args.vars.now (to_z w32 (of_z w32 c.args.maxint)) c.args.atoms) (length c.args.tokens.now) c.loop.counter c.loop.updates c.in_ok-more.more c.loop.left.now c.in_ok-more.rest.now _ c.loop-test.true (sym c.is_name.ensures ∙ c.if-not-is_name.false) c.in_ok-more.ensures c.loop.invariant

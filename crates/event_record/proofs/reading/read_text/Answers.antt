@@ -2,7 +2,8 @@ use Rattle.std.proofs.Common.{◌≡◌, Result, map, ap, subst, ◌∙◌}
 use Rattle.api_listing.specs.Words.{pieces}
 use Rattle.event_record.specs.declared.fault.RecordFault.{RecordFault}
 use Rattle.event_record.specs.declared.reading.Record.{Record}
-use Rattle.event_record.specs.Fault.{Answers}
+use Rattle.mon_base.specs.Answer.{Answers}
+use Rattle.event_record.specs.declared.fault.RecordFault.TheVariants.{Memory}
 use Rattle.event_record.specs.Library.{Library, library_in, library_of}
 use Rattle.event_record.specs.Record.{after_lines, empty_record, reading}
 use Rattle.event_record.proofs.Naming.{same_library}
@@ -16,4 +17,4 @@ returns c =
     let lines : map (λ p. p.now) c.as_slice.result.now ≡ pieces 10 c.args.text.now = ap (map (λ p. p.now)) c.as_slice.ensures.value ∙ c.in_ok-lines.ensures in
     let is : after_lines (library_in c.in_ok-names.names) 1 empty_record (map (λ p. p.now) c.as_slice.result.now) ≡ after_lines (library_of listing) 1 empty_record (pieces 10 c.args.text.now) =
     ap (λ (l : Library). after_lines l 1 empty_record (map (λ p. p.now) c.as_slice.result.now)) library ∙ ap (after_lines (library_of listing) 1 empty_record) lines in
-    subst (λ (read : Result Record RecordFault). Answers c.read_lines.result read) is c.read_lines.ensures
+    subst (λ (read : Result Record RecordFault). Answers Memory c.read_lines.result read) is c.read_lines.ensures

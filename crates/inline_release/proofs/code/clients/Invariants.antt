@@ -1,5 +1,5 @@
 use Rattle.std.proofs.Common.{◌≡◌, ◌+◌, ◌++◌, length}
-use Rattle.inline_release.specs.Woven.{clients_from}
+use Rattle.block_template.specs.Woven.{clients_from}
 use Rattle.inline_release.proofs.code.clients.Given as goal
 
 abbrev pub invariant-loop-left : goal.invariant-loop-left

@@ -1,6 +1,6 @@
 use Rattle.std.proofs.Common.{◌≡◌, length}
 use Rattle.std.specs.Prelude.{max}
-use Rattle.inline_release.specs.Woven.{most_locals}
+use Rattle.block_template.specs.Woven.{most_locals}
 use Rattle.inline_release.proofs.code.most_locals.Given as goal
 
 abbrev pub invariant-loop-left : goal.invariant-loop-left

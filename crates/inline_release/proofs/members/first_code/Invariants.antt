@@ -1,5 +1,5 @@
 use Rattle.std.proofs.Common.{◌≡◌, length}
-use Rattle.inline_release.specs.Woven.{first_code}
+use Rattle.block_template.specs.Woven.{first_code}
 use Rattle.inline_release.proofs.members.first_code.Given as goal
 
 abbrev pub invariant-loop-left : goal.invariant-loop-left

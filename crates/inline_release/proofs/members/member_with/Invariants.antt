@@ -1,5 +1,5 @@
 use Rattle.std.proofs.Common.{◌≡◌, take, map}
-use Rattle.inline_release.specs.Woven.{attr_with}
+use Rattle.block_template.specs.Woven.{attr_with}
 use Rattle.inline_release.proofs.members.member_with.Given as goal
 
 abbrev pub invariant-loop-attr : goal.invariant-loop-attr

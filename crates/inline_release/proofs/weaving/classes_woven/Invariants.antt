@@ -1,7 +1,7 @@
 use Rattle.std.proofs.Common.{◌≡◌, length}
 use Rattle.std.specs.List.{AllByRecursion}
 use Rattle.bytecode_model.specs.Sound.{IsSoundClass}
-use Rattle.inline_release.specs.Woven.{classes_woven}
+use Rattle.block_template.specs.Woven.{classes_woven}
 use Rattle.inline_release.proofs.weaving.classes_woven.Given as goal
 
 abbrev pub invariant-loop-left : goal.invariant-loop-left

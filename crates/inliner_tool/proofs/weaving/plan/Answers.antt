@@ -1,8 +1,8 @@
 use Rattle.std.proofs.Common.{Err, subst, sym}
 use Rattle.std.proofs.lemmas.Result.{err_from_is_err_and}
 use Rattle.conspec_automaton.specs.declared.policy.Policy.{Policy}
-use Rattle.inline_release.specs.Outcome.{IsWoven}
-use Rattle.inline_release.specs.Woven.{woven}
+use Rattle.block_template.specs.Outcome.{IsWoven}
+use Rattle.block_template.specs.Woven.{woven}
 use Rattle.inliner_tool.specs.InlineWords.{NamedInline, inline_named}
 use Rattle.inliner_tool.specs.Weaving.{Denying, Equals, Remakes, Typed, Types, Weaves, denying, original, weave_step}
 use Rattle.inliner_tool.proofs.Blocks.{inputs_link, planned}

@@ -4,12 +4,12 @@ use Rattle.bytecode_model.specs.declared.program.Program.{Program}
 use Rattle.bytecode_model.specs.declared.program.Side.TheVariants.{Inlined}
 use Rattle.bytecode_model.specs.Linking.{linked}
 use Rattle.bytecode_model.specs.Sound.{IsSound}
-use Rattle.cert_checker.specs.Acceptance.{IsAccepted}
+use Rattle.block_logic.specs.Accepted.{IsAccepted}
 use Rattle.cert_format.specs.declared.certificate.Certificate.{Certificate}
 use Rattle.cert_format.specs.declared.typing.Typing.{Typing}
 use Rattle.cert_maker.specs.Noting.{certificate_of}
-use Rattle.code_typing.specs.Shape.{IsShaped}
-use Rattle.code_typing.specs.Typed.{IsTyped}
+use Rattle.bytecode_model.specs.Shape.{IsShaped}
+use Rattle.bytecode_model.specs.Typed.{IsTyped}
 use Rattle.type_infer.specs.Untyped.{IsLeast, IsUntypedAt}
 use Rattle.inliner_tool.proofs.Blocks.{linked_by, same_program, types_memory, remakes, known_rewoven}
 use Rattle.inliner_tool.proofs.weaving.rewoven.Goals as goal

@@ -6,6 +6,7 @@ use Rattle.offset_patch.proofs.splicing.put_part.Given as goal
 
 abbrev pub invariant-loop-insn : goal.invariant-loop-insn
 invariant-loop-insn l = record {
-  so_far : l.out ≡ l.fn.out ++ map (put l.entries l.fronts l.begin l.own) (take l.insn-index l.part);
+  so_far : l.out ≡ l.fn.out ++ map (put l.fn.entries l.fronts l.begin l.own) (take l.insn-index l.part);
   each : AllByRecursion IsInsn l.fn.out → AllByRecursion IsInsn l.out;
+  entries : l.entries ≡ l.fn.entries;
 }

@@ -1,5 +1,5 @@
 use Rattle.std.proofs.Common.{subst, sym}
-use Rattle.code_typing.specs.Rules.{Frames}
+use Rattle.bytecode_model.specs.Rules.{Frames}
 use Rattle.type_infer.specs.Untyped.{AreMet}
 use Rattle.type_infer.proofs.failing.can_be_met.Goals as goal
 

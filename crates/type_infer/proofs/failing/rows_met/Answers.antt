@@ -1,7 +1,7 @@
 use Rattle.std.proofs.Common.{◌∙◌, sym, ap, below_more}
 use Rattle.std.specs.Prelude.{is_some}
 use Rattle.std.proofs.lemmas.Bool.{false≢true}
-use Rattle.code_typing.specs.Typed.{row_in}
+use Rattle.bytecode_model.specs.Typed.{row_in}
 use Rattle.type_infer.specs.Solving.{Scope}
 use Rattle.type_infer.proofs.Lists.{not_some}
 use Rattle.type_infer.proofs.failing.rows_met.Goals as goal

@@ -2,8 +2,8 @@ use Rattle.std.proofs.Common.{◌≡◌, ◌++◌, List, length, map}
 use Rattle.std.specs.List.{AllByRecursion}
 use Rattle.bytecode_model.specs.declared.program.Method.{Method}
 use Rattle.bytecode_model.specs.Sound.{IsSoundMethod}
-use Rattle.code_typing.specs.Rules.{Frames}
-use Rattle.code_typing.specs.Shape.{coded}
+use Rattle.bytecode_model.specs.Rules.{Frames}
+use Rattle.bytecode_model.specs.Shape.{coded}
 use Rattle.type_infer.specs.Fits.{FitFrames}
 use Rattle.type_infer.specs.Shape.{class_shape}
 use Rattle.type_infer.specs.Solving.{MethodsAreSolved}

@@ -2,8 +2,8 @@ use Rattle.std.proofs.Common.{◌≡◌, ◌+◌, ◌++◌, List, Option, length
 use Rattle.std.specs.List.{AllByRecursion}
 use Rattle.cert_format.specs.declared.typing.FrameType.{FrameType}
 use Rattle.bytecode_model.specs.Sound.{IsSoundClass}
-use Rattle.code_typing.specs.Rules.{Frames}
-use Rattle.code_typing.specs.Shape.{shape_of, program_shape}
+use Rattle.bytecode_model.specs.Rules.{Frames}
+use Rattle.bytecode_model.specs.Shape.{shape_of, program_shape}
 use Rattle.type_infer.specs.Fits.{FitFrames}
 use Rattle.type_infer.specs.Shape.{class_shape}
 use Rattle.type_infer.specs.Solving.{ClassesAreSolved}

@@ -1,6 +1,6 @@
 use Rattle.std.proofs.Common.{◌≡◌, ◌∙◌, length, subst, sym, ap}
 use Rattle.bytecode_model.specs.declared.program.Program.{Program}
-use Rattle.code_typing.specs.Place.{Place}
+use Rattle.bytecode_model.specs.Place.{Place}
 use Rattle.type_infer.specs.Solving.{IsUnlessBelow}
 use Rattle.type_infer.proofs.Raising.{IsSettledBy, merge_from, merged_kept, merged_told}
 use Rattle.type_infer.proofs.joining.merged.Goals as goal

@@ -1,11 +1,11 @@
 use Rattle.std.proofs.Common.{◌≡◌, ◌∙◌, ℕ, sym, ap}
 use Rattle.cert_format.specs.declared.typing.FrameType.{FrameType}
 use Rattle.cert_format.specs.declared.typing.VType.TheVariants as types
-use Rattle.insn_effect.specs.declared.shape.Heap.TheVariants as heap
-use Rattle.insn_effect.specs.declared.shape.Shape.TheVariants as shapes
-use Rattle.insn_effect.specs.Shapes.{shape_of}
-use Rattle.code_typing.specs.Makes.{type_at}
-use Rattle.code_typing.specs.Place.{Place}
+use Rattle.insn_codec.specs.declared.shape.Heap.TheVariants as heap
+use Rattle.insn_codec.specs.declared.shape.Shape.TheVariants as shapes
+use Rattle.insn_codec.specs.Shapes.{shape_of}
+use Rattle.bytecode_model.specs.Makes.{type_at}
+use Rattle.bytecode_model.specs.Place.{Place}
 use Rattle.type_infer.specs.Solving.{unless}
 use Rattle.type_infer.proofs.Lists.{if_some}
 use Rattle.type_infer.proofs.joining.settled.Goals as goal

@@ -1,8 +1,8 @@
 use Rattle.std.proofs.Common.{◌≡◌, true, ltb, inl, inr, sym, ap, subst, arith, below_more}
 use Rattle.std.proofs.lemmas.Bool.{cases_Bool, ltb-true, ltb-false}
 use Rattle.cert_format.specs.declared.typing.VType.{VType}
-use Rattle.type_lattice.specs.Assigning.{assignable}
-use Rattle.code_typing.specs.Makes.{type_at}
+use Rattle.bytecode_model.specs.Assigning.{assignable}
+use Rattle.bytecode_model.specs.Makes.{type_at}
 use Rattle.type_infer.proofs.Lists.{type_at-read, type_at-past}
 use Rattle.type_infer.proofs.joining.types_below.Goals as goal
 

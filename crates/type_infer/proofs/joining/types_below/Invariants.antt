@@ -1,6 +1,6 @@
 use Rattle.std.proofs.Common.{◌≡◌, ℕ, ◌<◌, true}
-use Rattle.type_lattice.specs.Assigning.{assignable}
-use Rattle.code_typing.specs.Makes.{type_at}
+use Rattle.bytecode_model.specs.Assigning.{assignable}
+use Rattle.bytecode_model.specs.Makes.{type_at}
 use Rattle.type_infer.proofs.joining.types_below.Given as goal
 
 abbrev pub invariant-loop-j : goal.invariant-loop-j

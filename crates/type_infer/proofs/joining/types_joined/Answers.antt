@@ -2,7 +2,7 @@ use Rattle.std.proofs.Common.{◌≡◌, ◌∙◌, ℕ, ◌<◌, ◌++◌, ◌�
 use Rattle.std.proofs.lemmas.Bool.{cases_Bool, ltb-true, ltb-false}
 use Rattle.std.proofs.lemmas.List.{length-append}
 use Rattle.type_lattice.specs.Merging.{merged}
-use Rattle.code_typing.specs.Makes.{type_at}
+use Rattle.bytecode_model.specs.Makes.{type_at}
 use Rattle.type_infer.proofs.Lists.{type_at-read, type_at-append, type_at-seam, type_at-past, merged-past}
 use Rattle.type_infer.proofs.joining.types_joined.Goals as goal
 

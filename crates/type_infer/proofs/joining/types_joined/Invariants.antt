@@ -1,6 +1,6 @@
 use Rattle.std.proofs.Common.{◌≡◌, ℕ, ◌<◌, length}
 use Rattle.type_lattice.specs.Merging.{merged}
-use Rattle.code_typing.specs.Makes.{type_at}
+use Rattle.bytecode_model.specs.Makes.{type_at}
 use Rattle.type_infer.proofs.joining.types_joined.Given as goal
 
 abbrev pub invariant-loop-i : goal.invariant-loop-i

@@ -6,8 +6,8 @@ use Rattle.bytecode_model.specs.declared.program.Method.{Method}
 use Rattle.bytecode_model.specs.declared.program.Program.{Program}
 use Rattle.cert_format.specs.declared.typing.FrameType.{FrameType}
 use Rattle.type_lattice.specs.Laws.{IsInOrder}
-use Rattle.code_typing.specs.Makes.{type_at}
-use Rattle.code_typing.specs.Rules.{when_thrown}
+use Rattle.bytecode_model.specs.Makes.{type_at}
+use Rattle.bytecode_model.specs.Rules.{when_thrown}
 use Rattle.type_infer.specs.Solving.{Left, IsKept, IsOfHeight, IsRaisedBy, thrown_to}
 use Rattle.type_infer.proofs.Lists.{if_ok, type_at-map}
 use Rattle.type_infer.proofs.Stepping.{same_raised}

@@ -6,9 +6,9 @@ use Rattle.bytecode_model.specs.declared.program.Method.{Method}
 use Rattle.bytecode_model.specs.declared.program.Program.{Program}
 use Rattle.cert_format.specs.declared.typing.FrameType.{FrameType}
 use Rattle.type_lattice.specs.Laws.{IsInOrder}
-use Rattle.code_typing.specs.Makes.{type_at}
+use Rattle.bytecode_model.specs.Makes.{type_at}
 use Rattle.code_typing.specs.Order.{IsAloneMet}
-use Rattle.code_typing.specs.Wants.{takes}
+use Rattle.bytecode_model.specs.Wants.{takes}
 use Rattle.type_infer.specs.Solving.{Left, IsKept, IsOfHeight, IsRaisedBy, left_by}
 use Rattle.type_infer.proofs.Lists.{if_ok}
 use Rattle.type_infer.proofs.Stepping.{same_raised}

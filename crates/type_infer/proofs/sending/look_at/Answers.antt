@@ -1,7 +1,7 @@
 use Rattle.std.proofs.Common.{◌≡◌, ◌∙◌, ℕ, Some, subst, sym, ap}
 use Rattle.std.specs.Option.{option_copied}
 use Rattle.std.proofs.lemmas.Bool.{and_from, false≢true}
-use Rattle.code_typing.specs.Rules.{frame_of}
+use Rattle.bytecode_model.specs.Rules.{frame_of}
 use Rattle.type_infer.specs.Solving.{StaysFound, place_of}
 use Rattle.type_infer.proofs.Delivering.{all_done, stays_over}
 use Rattle.type_infer.proofs.Flowing.{is_under, laws_of, place_is}

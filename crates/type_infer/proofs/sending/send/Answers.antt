@@ -2,8 +2,8 @@ use Rattle.std.proofs.Common.{◌≡◌, ◌∙◌, Option, Some, subst, sym, ap
 use Rattle.std.specs.Option.{option_copied}
 use Rattle.cert_format.specs.declared.typing.FrameType.{FrameType}
 use Rattle.type_lattice.specs.Laws.{IsInOrder}
-use Rattle.code_typing.specs.Place.{Place}
-use Rattle.code_typing.specs.Rules.{frame_of}
+use Rattle.bytecode_model.specs.Place.{Place}
+use Rattle.bytecode_model.specs.Rules.{frame_of}
 use Rattle.type_infer.specs.Solving.{State, Grows, IsKept, IsSent, StaysFound, left_by, place_of}
 use Rattle.type_infer.proofs.Delivering.{successor_there, put_kept, left_stays, left_sent}
 use Rattle.type_infer.proofs.Flowing.{laws_of}

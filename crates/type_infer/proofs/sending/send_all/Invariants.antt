@@ -1,6 +1,6 @@
 use Rattle.std.proofs.Common.{◌≡◌, ℕ, length, take}
 use Rattle.std.specs.Prelude.{Contains}
-use Rattle.insn_effect.specs.Control.{successors}
+use Rattle.insn_codec.specs.Control.{successors}
 use Rattle.type_infer.specs.Solving.{IsReady, Grows, IsSent, StaysFound, left_by}
 use Rattle.type_infer.proofs.sending.send_all.Given as goal
 

@@ -3,8 +3,8 @@ use Rattle.std.specs.Prelude.{Contains}
 use Rattle.std.proofs.lemmas.List.Elements.{Contains-append_left}
 use Rattle.insn_codec.specs.Opcodes.{goes_on}
 use Rattle.insn_codec.specs.Spelling.{opcode_of}
-use Rattle.insn_effect.specs.Control.{successors, jump_targets}
-use Rattle.code_typing.specs.Place.{Place}
+use Rattle.insn_codec.specs.Control.{successors, jump_targets}
+use Rattle.bytecode_model.specs.Place.{Place}
 use Rattle.type_infer.specs.Solving.{IsSent, left_by, next_of}
 use Rattle.type_infer.proofs.Lists.{on_ok}
 use Rattle.type_infer.proofs.Staying.{next_only}

@@ -1,8 +1,8 @@
 use Rattle.std.proofs.Common.{◌≡◌, ◌∙◌, ℕ, ◌∷◌, [], List, subst, sym, ap}
 use Rattle.std.specs.Prelude.{Contains}
 use Rattle.std.proofs.lemmas.List.Elements.{Contains-append_right}
-use Rattle.insn_effect.specs.Control.{jump_targets}
-use Rattle.code_typing.specs.Place.{Place}
+use Rattle.insn_codec.specs.Control.{jump_targets}
+use Rattle.bytecode_model.specs.Place.{Place}
 use Rattle.type_infer.specs.Solving.{next_of}
 use Rattle.type_infer.proofs.Lists.{on_ok}
 use Rattle.type_infer.proofs.sending.send_to_targets.Goals as goal

@@ -2,8 +2,8 @@ use Rattle.std.proofs.Common.{◌≡◌, ◌∙◌, ℕ, true, Option, Some, sub
 use Rattle.std.specs.Option.{option_copied}
 use Rattle.cert_format.specs.declared.typing.FrameType.{FrameType}
 use Rattle.type_lattice.specs.Laws.{IsInOrder}
-use Rattle.code_typing.specs.Place.{Place}
-use Rattle.code_typing.specs.Rules.{covers, frame_of}
+use Rattle.bytecode_model.specs.Place.{Place}
+use Rattle.bytecode_model.specs.Rules.{covers, frame_of}
 use Rattle.type_infer.specs.Solving.{State, Grows, IsKept, IsSent, StaysFound, thrown_to, place_of}
 use Rattle.type_infer.proofs.Delivering.{put_kept, thrown_stays, thrown_sent}
 use Rattle.type_infer.proofs.Flowing.{laws_of}

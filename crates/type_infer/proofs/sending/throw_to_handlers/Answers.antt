@@ -3,7 +3,7 @@ use Rattle.std.specs.Prelude.{Contains}
 use Rattle.std.proofs.lemmas.List.Elements.{Contains-get_or, Contains-push_cases}
 use Rattle.std.proofs.lemmas.List.{take_all, take_more}
 use Rattle.bytecode_model.specs.declared.program.Handler.{Handler}
-use Rattle.code_typing.specs.Rules.{covers}
+use Rattle.bytecode_model.specs.Rules.{covers}
 use Rattle.type_infer.specs.Solving.{IsSent, Scope, thrown_to}
 use Rattle.type_infer.proofs.Delivering.{stays_over, sent_before, sent_after}
 use Rattle.type_infer.proofs.Flowing.{laws_of}

@@ -1,7 +1,7 @@
 use Rattle.std.proofs.Common.{◌≡◌, length, take}
 use Rattle.std.specs.Prelude.{Contains, IsTrue}
 use Rattle.bytecode_model.specs.declared.program.Handler.{Handler}
-use Rattle.code_typing.specs.Rules.{covers}
+use Rattle.bytecode_model.specs.Rules.{covers}
 use Rattle.type_infer.specs.Solving.{IsReady, Grows, IsSent, StaysFound, thrown_to}
 use Rattle.type_infer.proofs.sending.throw_to_handlers.Given as goal
 

@@ -1,7 +1,7 @@
 use Rattle.std.proofs.Common.{◌≡◌, ◌∙◌, ℕ, ◌≤◌, false, [], List, length, replicate, None, Some, subst, sym, ap, arith}
 use Rattle.cert_format.specs.declared.typing.VType.{VType}
-use Rattle.code_typing.specs.Makes.{type_at}
-use Rattle.code_typing.specs.Rules.{entry_locals}
+use Rattle.bytecode_model.specs.Makes.{type_at}
+use Rattle.bytecode_model.specs.Rules.{entry_locals}
 use Rattle.type_lattice.specs.Laws.{IsInOrder}
 use Rattle.type_infer.specs.Solving.{Scope, State, Holds, IsRaisedBy, begun, place_of, put}
 use Rattle.type_infer.proofs.Flowing.{laws_of, place_is}

@@ -1,5 +1,5 @@
 use Rattle.std.proofs.Common.{◌≡◌, ◌∙◌, ◌<◌, subst, sym, ap}
-use Rattle.code_typing.specs.Rules.{Frames}
+use Rattle.bytecode_model.specs.Rules.{Frames}
 use Rattle.type_infer.specs.Solving.{State, AreFound, Grows, IsSolution, IsSolved, unmarked}
 use Rattle.type_infer.proofs.Flowing.{laws_of}
 use Rattle.type_infer.proofs.Lists.{if_ok}

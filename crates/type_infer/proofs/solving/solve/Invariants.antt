@@ -1,5 +1,5 @@
 use Rattle.std.proofs.Common.{◌≡◌, length}
-use Rattle.code_typing.specs.Rules.{Frames}
+use Rattle.bytecode_model.specs.Rules.{Frames}
 use Rattle.type_infer.specs.Solving.{Holds, IsMetBy}
 use Rattle.type_infer.proofs.solving.solve.Given as goal
 

@@ -1,7 +1,7 @@
 use Rattle.std.proofs.Common.{◌≡◌, ℕ, ◌≤◌, ◌<◌, false, take}
 use Rattle.cert_format.specs.Fits.{ends_with_top}
 use Rattle.cert_format.specs.declared.typing.VType.TheVariants as types
-use Rattle.code_typing.specs.Makes.{type_at}
+use Rattle.bytecode_model.specs.Makes.{type_at}
 use Rattle.type_infer.proofs.told.count_told.Given as goal
 
 abbrev pub invariant-loop-i : goal.invariant-loop-i

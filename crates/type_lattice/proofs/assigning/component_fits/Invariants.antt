@@ -1,5 +1,5 @@
 use Rattle.std.proofs.Common.{◌≡◌, length}
-use Rattle.type_lattice.specs.Assigning.{component_fits}
+use Rattle.bytecode_model.specs.Assigning.{component_fits}
 use Rattle.type_lattice.proofs.assigning.component_fits.Given as goal
 
 abbrev pub invariant-loop-from : goal.invariant-loop-from

@@ -1,6 +1,6 @@
 use Rattle.std.proofs.Common.{List, ℕ, Option, false, sym, ap, ◌∙◌}
 use Rattle.std.specs.Option.{option_map_or}
-use Rattle.type_lattice.specs.Assigning.{class_fits}
+use Rattle.bytecode_model.specs.Assigning.{class_fits}
 use Rattle.type_lattice.proofs.Arrays.{item_class}
 use Rattle.type_lattice.proofs.assigning.item_fits.Goals as goal
 

@@ -1,6 +1,6 @@
 use Rattle.std.proofs.Common.{◌++◌, ◌∷◌, [], List, ℕ, sym, ap, ◌∙◌, append_assoc}
 use Rattle.api_listing.specs.BuiltIn.{object}
-use Rattle.type_lattice.specs.Lending.{described}
+use Rattle.bytecode_model.specs.Arrays.{described}
 use Rattle.type_lattice.specs.Merging.{arrays_merged}
 use Rattle.type_lattice.proofs.Within.{merged_within}
 use Rattle.type_lattice.proofs.merging.arrays_merged.Goals as goal

@@ -1,0 +1,44 @@
+-- When a program is accepted with a certificate.
+use Rattle.std.specs.Prelude.{◌≡◌, ℕ, ◌+◌, Bool, false, ◌==◌, ◌&&◌, if◌then◌else◌, List, [], ◌∷◌, length, map, take, drop, is_some, sum_by, count_by, Option, Some, None, option_and_then, slice_get, Result, Ok, Err}
+use Rattle.std.specs.Option.{option_map_or}
+use Rattle.bytecode_model.specs.declared.program.LinkedClass.{LinkedClass}
+use Rattle.bytecode_model.specs.declared.program.Method.{Method}
+use Rattle.bytecode_model.specs.declared.program.Program.{Program}
+use Rattle.cert_format.specs.declared.certificate.Certificate.{Certificate}
+use Rattle.cert_format.specs.declared.note.Note.{Note}
+use Rattle.cert_format.specs.declared.typing.FrameType.{FrameType}
+use Rattle.bytecode_model.specs.Rules.{frame_of}
+use Rattle.bytecode_model.specs.Shape.{has_code, coded, IsShaped}
+use Rattle.bytecode_model.specs.Typed.{IsTyped, frames_in, frames_told, list_at}
+use Rattle.conspec_automaton.specs.declared.policy.Policy.{Policy}
+use Rattle.block_logic.specs.Notes.{note_fault}
+
+-- ---- notes
+
+-- the notes of the method of this index; those told are of the methods with code
+abbrev pub notes_in : List Method → List (List Note) → ℕ → List Note
+notes_in methods told method = list_at told (length (coded (take method methods)))
+
+abbrev pub notes_told : Certificate → ℕ → List (List Note)
+notes_told certificate class = list_at certificate.notes class
+
+-- where the instruction has a frame, the first rule of the notes that fails there
+abbrev pub reached_fault : Program → Policy → List (Option FrameType) → List Note → Method → ℕ → Option ℕ
+reached_fault program policy frames told method at = if is_some (frame_of frames at) then note_fault program.classes policy told method at else None
+
+abbrev pub fault_in_class : Program → Policy → Certificate → ℕ → LinkedClass → ℕ → ℕ → Option ℕ
+fault_in_class program policy certificate class c method at =
+    option_and_then (λ (m : Method). reached_fault program policy (frames_in c.methods (frames_told certificate.typing class) method) (notes_in c.methods (notes_told certificate class) method) m at) (slice_get c.methods method)
+
+-- the first rule of the notes that fails at an instruction; all methods of the class are counted
+abbrev pub note_fault_at : Program → Policy → Certificate → ℕ → ℕ → ℕ → Option ℕ
+note_fault_at program policy certificate class method at =
+    option_and_then (λ (c : LinkedClass). fault_in_class program policy certificate class c method at) (slice_get program.classes class)
+
+-- ---- acceptance
+
+pub record IsAccepted (program : Program) (policy : Policy) (certificate : Certificate) : Type 0 where
+  pub frames : IsShaped program certificate.typing.frames
+  pub notes : IsShaped program certificate.notes
+  pub typed : IsTyped program certificate.typing
+  pub noted : (class method at : ℕ) → note_fault_at program policy certificate class method at ≡ None

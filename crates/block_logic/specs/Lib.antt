@@ -1,0 +1,4 @@
+pub mod Operands
+pub mod Wanted
+pub mod Notes
+pub mod Accepted

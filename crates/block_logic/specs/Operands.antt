@@ -1,0 +1,92 @@
+-- What the rules of the notes ask of an instruction and of what its operand names.
+use Rattle.std.specs.Prelude.{ℕ, ℤ, ◌&&◌, Bool, true, false, bytes_eq, codes, List, [], ◌∷◌, Option, Some, None, slice_get}
+use Rattle.std.specs.Ordering.{int_eq}
+use Rattle.std.specs.Option.{option_map_or}
+use Rattle.insn_codec.specs.declared.insn.Insn.{Insn}
+use Rattle.insn_codec.specs.declared.insn.Insn.TheVariants as insns
+use Rattle.insn_codec.specs.declared.shape.Heap.TheVariants as heap
+use Rattle.insn_codec.specs.declared.shape.Shape.{Shape}
+use Rattle.insn_codec.specs.declared.shape.Shape.TheVariants as shapes
+use Rattle.bytecode_model.specs.declared.program.LinkedClass.{LinkedClass}
+use Rattle.bytecode_model.specs.declared.program.Program.{Program}
+use Rattle.bytecode_model.specs.declared.program.Target.{Target}
+use Rattle.bytecode_model.specs.declared.program.Target.TheVariants as target
+use Rattle.conspec_automaton.specs.declared.policy.Policy.{Policy}
+use Rattle.conspec_automaton.specs.Next.{has_clauses}
+use Rattle.guest_model.specs.Stepping.{is_exit}
+
+-- the class that holds the policy's variables, and whose monitor is the lock
+abbrev pub state_name : List ℕ
+state_name = codes "conspec/State"
+
+-- ---- shapes
+
+abbrev pub loads_constant : Shape → Bool
+loads_constant (shapes.Heap heap.Constant) = true
+loads_constant other = false
+
+abbrev pub calls : Shape → Bool
+calls (shapes.Heap (heap.Call how)) = true
+calls other = false
+
+abbrev pub enters : Shape → Bool
+enters (shapes.Heap heap.Enter) = true
+enters other = false
+
+abbrev pub leaves : Shape → Bool
+leaves (shapes.Heap heap.Exit) = true
+leaves other = false
+
+abbrev pub writes_static : Shape → Bool
+writes_static (shapes.Heap heap.WriteStatic) = true
+writes_static other = false
+
+abbrev pub pushes_null : Shape → Bool
+pushes_null shapes.PushNull = true
+pushes_null other = false
+
+abbrev pub throws : Shape → Bool
+throws (shapes.Heap heap.Throw) = true
+throws other = false
+
+-- ---- operands
+
+abbrev pub is_state_name : Target → Bool
+is_state_name (target.ClassName name) = bytes_eq name state_name
+is_state_name other = false
+
+-- The instruction pushes the object of the class that holds the policy's variables.
+abbrev pub pushes_state : Shape → Target → Bool
+pushes_state shape ref = loads_constant shape && is_state_name ref
+
+-- the given class of this number holds the policy's variables
+abbrev pub is_state : List LinkedClass → ℕ → Bool
+is_state classes class = option_map_or (λ (c : LinkedClass). bytes_eq c.name state_name) (slice_get classes class) false
+
+-- The operand names one of the policy's variables.
+abbrev pub is_variable : List LinkedClass → Target → Bool
+is_variable classes (target.Field class field) = is_state classes class
+is_variable classes other = false
+
+-- The operand names a method that the policy has a clause for.
+abbrev pub has_clause : Policy → Target → Bool
+has_clause policy (target.ApiMethod method) = has_clauses policy method
+has_clause policy other = false
+
+-- The operand names the method that stops the program.
+abbrev pub is_way_out : Target → Bool
+is_way_out (target.Builtin index) = is_exit index
+is_way_out other = false
+
+abbrev pub number_named : Target → Option ℤ
+number_named (target.Number n) = Some n
+number_named other = None
+
+-- the number that the instruction pushes
+abbrev pub number_pushed : Shape → Target → Option ℤ
+number_pushed (shapes.Push n) ref = Some n
+number_pushed (shapes.Heap heap.Constant) ref = number_named ref
+number_pushed other ref = None
+
+abbrev pub pushes : ℤ → Shape → Target → Bool
+pushes n shape ref = option_map_or (λ m. int_eq m n) (number_pushed shape ref) false

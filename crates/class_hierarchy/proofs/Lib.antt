@@ -1,0 +1,4 @@
+pub mod Ascending
+pub mod Filling
+pub mod OnNames
+pub mod ByName

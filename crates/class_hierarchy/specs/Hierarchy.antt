@@ -1,0 +1,42 @@
+-- Classes that are found by their names, with the ways up.
+use Rattle.std.specs.Prelude.{◌≡◌, ℕ, suc, Bool, bytes_eq, List, length, map, find, Option, option_map, Vec}
+use Rattle.std.specs.List.{list_any}
+use Rattle.std.specs.Ordering.{nat_cmp}
+use Rattle.std.specs.Cmp.Lexicographic.{slice_cmp}
+use Rattle.std.specs.BTreeMap.{BTreeMap, get_by}
+use Rattle.std.specs.Global.{Global}
+use Rattle.api_listing.specs.declared.types.ListedClass.{ListedClass}
+use Rattle.api_listing.specs.Nearest.{upwards}
+use Rattle.bytecode_model.specs.Index.{class_place}
+use Rattle.bytecode_model.specs.SearchOrder.{superclasses}
+
+-- Each way up ends.
+abbrev pub EachWayEnds : List ListedClass → Type 0
+EachWayEnds classes = (name : List ℕ) → upwards (suc (length classes)) classes name ≡ superclasses classes name
+
+-- the class is of this name, or one of its superclasses is
+abbrev pub is_up : List ListedClass → List ℕ → List ℕ → Bool
+is_up classes class above = list_any (λ (c : ListedClass). bytes_eq c.name above) (superclasses classes class)
+
+-- the first class upwards from the one that the other is below, too
+abbrev pub nearest_common : List ListedClass → List ℕ → List ℕ → Option (List ℕ)
+nearest_common classes a b = option_map (λ (c : ListedClass). c.name) (find (λ (c : ListedClass). is_up classes b c.name) (superclasses classes a))
+
+-- ---- places
+
+abbrev pub place_named : BTreeMap (Vec ℕ Global) ℕ → List ℕ → Option ℕ
+place_named places name = get_by (λ (k : Vec ℕ Global). slice_cmp nat_cmp name k.items) places
+
+-- The map has the place of the first class of each name.
+abbrev pub ArePlaced : BTreeMap (Vec ℕ Global) ℕ → List ListedClass → Type 0
+ArePlaced places classes = (q : List ℕ) → place_named places q ≡ class_place classes q
+
+-- the place of the superclass of each class
+abbrev pub parents_in : List ListedClass → List (Option ℕ)
+parents_in classes = map (λ (c : ListedClass). class_place classes c.parent) classes
+
+-- The classes are found by their names, and the ways are those to their superclasses.
+pub record IsHierarchy (classes : List ListedClass) (places : BTreeMap (Vec ℕ Global) ℕ) (ways : List (Option ℕ)) : Type 0 where
+  pub placed : ArePlaced places classes
+  pub parents : ways ≡ parents_in classes
+  pub ends : EachWayEnds classes

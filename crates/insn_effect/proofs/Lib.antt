@@ -1,5 +1,0 @@
-mod Pairs
-mod Moving
-pub mod Following
-mod OpcodeTests
-pub mod Table

@@ -1,5 +1,0 @@
-use Rattle.insn_effect.proofs.Table.{goes_to_successor}
-use Rattle.insn_effect.proofs.laws.control_goes_to_successor.Goals as goal
-
-pub returns : goal.returns
-returns g c = record { goes = λ view. goes_to_successor view }

@@ -1,5 +1,0 @@
-use Rattle.insn_effect.proofs.Following.{follows}
-use Rattle.insn_effect.proofs.laws.effect_follows.Goals as goal
-
-pub returns : goal.returns
-returns g c = record { follows = λ values types of respects. follows values types of respects }

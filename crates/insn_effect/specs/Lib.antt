@@ -1,6 +1,0 @@
-pub mod Forms
-pub mod Shapes
-pub mod Effect
-pub mod Following
-pub mod Control
-pub mod Table

@@ -1,0 +1,30 @@
+use Rattle.std.proofs.Common.{ℕ, List, sym, subst, ◌∙◌, arith}
+use Rattle.std.specs.List.{AllByRecursion}
+use Rattle.mon_base.specs.Widths.{IsU2}
+use Rattle.offset_patch.proofs.Measure.{count_short}
+use Rattle.offset_patch.proofs.Putting.{put_short, starts_two}
+use Rattle.offset_patch.proofs.splicing.code_put.Goals as goal
+
+pub fronts-requires : goal.fronts-requires
+fronts-requires c = omega (arith, count_short c.args.entries.now c.args.method.now.insns c.args.sites.now c.requires.each, c.requires.length)
+
+pub parts-requires-clause-few : goal.parts-requires-clause-few
+parts-requires-clause-few c = omega (arith, count_short c.args.entries.now c.args.method.now.insns c.args.sites.now c.requires.each, c.requires.length)
+
+pub written-requires-clause-short : goal.written-requires-clause-short
+written-requires-clause-short c =
+    put_short c.args.entries.now c.args.method.now.insns c.as_slice-2.result.now c.as_slice.result.now c.args.sites.now c.in_ok-insns.insns c.as_slice-3.result.now
+    (c.as_slice.ensures ∙ c.in_ok-fronts.ensures) c.as_slice-2.ensures c.in_ok-insns.ensures.is c.as_slice-3.ensures c.requires.length
+
+pub starts-requires : goal.starts-requires
+starts-requires c =
+    let few = put_short c.args.entries.now c.args.method.now.insns c.as_slice-2.result.now c.as_slice.result.now c.args.sites.now c.in_ok-insns.insns c.as_slice-4.result.now
+    (c.as_slice.ensures ∙ c.in_ok-fronts.ensures) c.as_slice-2.ensures c.in_ok-insns.ensures.is c.as_slice-4.ensures c.requires.length in
+    omega (arith, few)
+
+pub table_moved-requires : goal.table_moved-requires
+table_moved-requires c =
+    let few = put_short c.args.entries.now c.args.method.now.insns c.as_slice-2.result.now c.as_slice.result.now c.args.sites.now c.in_ok-insns.insns c.as_slice-4.result.now
+    (c.as_slice.ensures ∙ c.in_ok-fronts.ensures) c.as_slice-2.ensures c.in_ok-insns.ensures.is c.as_slice-4.ensures c.requires.length in
+    let P : List ℕ → Type 0 = AllByRecursion IsU2 in
+    subst P (sym (c.as_slice-5.ensures ∙ c.in_ok-starts.ensures)) (starts_two 0 c.as_slice-4.result.now (omega (arith, few)))

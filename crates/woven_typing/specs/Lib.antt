@@ -1,4 +1,0 @@
-pub mod Renaming
-pub mod Framing
-pub mod Calls
-pub mod Laws
