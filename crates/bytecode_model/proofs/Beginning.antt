@@ -35,11 +35,11 @@ use Rattle.bytecode_model.proofs.Loop.{linked_at}
 
 -- ---- tests
 
-and_left : (a b : Bool) → (a && b) ≡ true → a ≡ true
+pub and_left : (a b : Bool) → (a && b) ≡ true → a ≡ true
 and_left true b e = refl
 and_left false b e = e
 
-and_right : (a b : Bool) → (a && b) ≡ true → b ≡ true
+pub and_right : (a b : Bool) → (a && b) ≡ true → b ≡ true
 and_right true b e = e
 and_right false b e = absurd cc
 
@@ -122,7 +122,7 @@ some_insns find (b ∷ bytes) insns some e =
     let all = bind_ok (insns_at find (length (b ∷ bytes)) (record { at = 0; rest = b ∷ bytes })) (λ xs. Ok xs.0) insns e in
     subst (λ (xs : List Insn). 0 < length xs) (ok_is CodeFault all.0.0 insns all.2) (first_some find bytes b all.0 all.1)
 
-code_some : (code : List ℕ) (insns : List Insn) → 1 ≤ length code → code_of code ≡ Ok insns → 0 < length insns
+pub code_some : (code : List ℕ) (insns : List Insn) → 1 ≤ length code → code_of code ≡ Ok insns → 0 < length insns
 unfolding code_of
 code_some code insns some e =
     let a = bind_ok (insns_of any code) (λ shapes. insns_of (among shapes) code >>= λ all. ended 0 all >>= λ _. Ok all) insns e in
@@ -131,12 +131,12 @@ code_some code insns some e =
     let is : b.0 ≡ insns = ok_is CodeFault b.0 insns c.2 in
     subst (λ (xs : List Insn). 0 < length xs) is (some_insns (among a.0) code b.0 some b.1)
 
-read_some : (class : List ℕ) (method : ℕ) (read : Result (List Insn) CodeFault) (insns : List Insn) → read_of class method read ≡ Ok insns → read ≡ Ok insns
+pub read_some : (class : List ℕ) (method : ℕ) (read : Result (List Insn) CodeFault) (insns : List Insn) → read_of class method read ≡ Ok insns → read ≡ Ok insns
 read_some class method (Ok xs) insns e = cc
 read_some class method (Err fault) insns e = absurd cc
 
 -- the first code of a method has a byte
-first_code : (pool : List Const) (attrs : List Attr) → AllByRecursion (FitsAttr pool true) attrs → length (filter_map code_in attrs) ≡ 1
+pub first_code : (pool : List Const) (attrs : List Attr) → AllByRecursion (FitsAttr pool true) attrs → length (filter_map code_in attrs) ≡ 1
     → (code : Code) × (slice_get (filter_map code_in attrs) 0 ≡ Some code) × (1 ≤ length code.code)
 first_code pool [] fits one = absurd (omega arith)
 first_code pool (attributes.Code code ∷ attrs) fits one = (code, refl, fits.0.1.some)
@@ -180,7 +180,7 @@ module _ (files : List ClassFile) (listing : Listing) (file : ClassFile) (at : �
 
 -- ---- the program
 
-class_at_place : (files : List ClassFile) (methods : List (List Method)) (i : ℕ) (file : ClassFile) (ms : List Method) → slice_get files i ≡ Some file → slice_get methods i ≡ Some ms
+pub class_at_place : (files : List ClassFile) (methods : List (List Method)) (i : ℕ) (file : ClassFile) (ms : List Method) → slice_get files i ≡ Some file → slice_get methods i ≡ Some ms
     → slice_get (classes_with files methods) i ≡ Some (class_with file ms)
 class_at_place [] methods i file ms f m = absurd cc
 class_at_place (file' ∷ files) [] i file ms f m = absurd cc

@@ -16,3 +16,8 @@ pub mod Whole
 mod LinkedMembers
 mod LinkedOperands
 mod LinkedCalls
+mod Nearest
+mod LinkedTexts
+mod LinkedBodies
+mod LinkedPlaces
+mod LinkedUses

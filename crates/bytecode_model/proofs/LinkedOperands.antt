@@ -99,7 +99,7 @@ pool_calls op small is = one_of_three op (passed (is_call (use_of_opcode op)) _ 
 
 -- ---- instructions
 
-nothing_named : (insn : Insn) → IsInsn insn → is_nothing (use_of insn) ≡ true → index_of insn ≡ 0
+pub nothing_named : (insn : Insn) → IsInsn insn → is_nothing (use_of insn) ≡ true → index_of insn ≡ 0
 nothing_named (insns.Ldc index) is e = absurd cc
 nothing_named (insns.Iface index count) is e = absurd cc
 nothing_named (insns.Pool op index) is e =
@@ -135,11 +135,11 @@ call_shaped (insns.Lookup other keys targets) is e = absurd cc
 
 -- ---- constants
 
-named_one : (kind : Kind) (o : Option Const) → is_one_of kind o ≡ true → (c : Const) × ((o ≡ Some c) × (is_of kind c ≡ true))
+pub named_one : (kind : Kind) (o : Option Const) → is_one_of kind o ≡ true → (c : Const) × ((o ≡ Some c) × (is_of kind c ≡ true))
 named_one kind None e = absurd cc
 named_one kind (Some c) e = (c, (refl, e))
 
-text_there : (o : Option Const) → is_one_of kinds.Utf8 o ≡ true → (text : List ℕ) × (text_of o ≡ Some text)
+pub text_there : (o : Option Const) → is_one_of kinds.Utf8 o ≡ true → (text : List ℕ) × (text_of o ≡ Some text)
 text_there None e = absurd cc
 text_there (Some (constants.Utf8 text)) e = (text, refl)
 text_there (Some (constants.Integer n)) e = absurd cc
@@ -169,7 +169,7 @@ is_class (constants.NameAndType name desc) e = absurd cc
 is_class constants.Second e = absurd cc
 
 module _ (pool : List Const) (fits : FitsPool pool) where
-  class_there : (i : ℕ) → names kinds.Class pool i ≡ true → (text : List ℕ) × (class_name_at pool i ≡ Some text)
+  pub class_there : (i : ℕ) → names kinds.Class pool i ≡ true → (text : List ℕ) × (class_name_at pool i ≡ Some text)
   unfolding names class_name_at utf8_at
   class_there i e =
       let one = named_one kinds.Class (slice_get pool i) e in

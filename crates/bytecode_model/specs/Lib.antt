@@ -19,3 +19,5 @@ pub mod Rules
 pub mod Shape
 pub mod Typed
 pub mod Named
+pub mod Targets
+pub mod Standing
