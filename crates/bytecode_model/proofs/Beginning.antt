@@ -53,12 +53,12 @@ record Stands (at i : ℕ) (members : List Member) : Type 0 where
   found : slice_get members place ≡ Some member
   static : is_static member.flags ≡ true
 
-pair_first : (a b c d : ℕ) → ◌≡◌ {A = Option (ℕ × ℕ)} (Some (a, b)) (Some (c, d)) → a ≡ c
+pub pair_first : (a b c d : ℕ) → ◌≡◌ {A = Option (ℕ × ℕ)} (Some (a, b)) (Some (c, d)) → a ≡ c
 pair_first a b c d e =
     let pair : ℕ → ℕ → ℕ × ℕ = λ x y. (x, y) in
     ap (λ (p : ℕ × ℕ). p.0) (some_is (pair a b) (pair c d) e)
 
-pair_second : (a b c d : ℕ) → ◌≡◌ {A = Option (ℕ × ℕ)} (Some (a, b)) (Some (c, d)) → b ≡ d
+pub pair_second : (a b c d : ℕ) → ◌≡◌ {A = Option (ℕ × ℕ)} (Some (a, b)) (Some (c, d)) → b ≡ d
 pair_second a b c d e =
     let pair : ℕ → ℕ → ℕ × ℕ = λ x y. (x, y) in
     ap (λ (p : ℕ × ℕ). p.1) (some_is (pair a b) (pair c d) e)

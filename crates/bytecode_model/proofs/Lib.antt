@@ -21,3 +21,5 @@ mod LinkedTexts
 mod LinkedBodies
 mod LinkedPlaces
 mod LinkedUses
+mod LinkedMain
+mod LinkedWhole

@@ -42,10 +42,10 @@ module _ (files : List ClassFile) (listing : Listing) where
   -- ---- a method
 
   -- The operands of the method are those that its instructions link to.
-  record HasOperands (pool : List Const) (method : Method) : Type 0 where
-    class : List ℕ
-    index : ℕ
-    refs : operands_linked files listing class pool index method.insns ≡ Ok method.refs
+  pub record HasOperands (pool : List Const) (method : Method) : Type 0 where
+    pub class : List ℕ
+    pub index : ℕ
+    pub refs : operands_linked files listing class pool index method.insns ≡ Ok method.refs
 
   code_has : (file : ClassFile) (index : ℕ) (member : Member) (code : Code) (method : Method) → code_linked files listing file index member code ≡ Ok method → HasOperands file.pool method
   code_has file index member code method e =
@@ -76,7 +76,7 @@ module _ (files : List ClassFile) (listing : Listing) where
 
   -- ---- a class
 
-  abbrev HaveOperands : LinkedClass → Type 0
+  abbrev pub HaveOperands : LinkedClass → Type 0
   HaveOperands class = AllByRecursion (HasOperands class.file.pool) class.methods
 
   classes_have : (at : ℕ) (some : List ClassFile) (methods : List (List Method)) → linked_from (λ i. methods_linked files listing) at some ≡ Ok methods → AllByRecursion HaveOperands (classes_with some methods)
@@ -97,7 +97,7 @@ module _ (files : List ClassFile) (listing : Listing) where
   untold class method at (Ok y) x e = cc
   untold class method at (Err fault) x e = absurd cc
 
-  operand_is : (pool : List Const) (method : Method) (at : ℕ) (insn : Insn) (ref : Target) → HasOperands pool method → slice_get method.insns at ≡ Some insn → slice_get method.refs at ≡ Some ref
+  pub operand_is : (pool : List Const) (method : Method) (at : ℕ) (insn : Insn) (ref : Target) → HasOperands pool method → slice_get method.insns at ≡ Some insn → slice_get method.refs at ≡ Some ref
       → operand_linked files listing pool insn ≡ Ok ref
   operand_is pool method at insn ref has here there =
       let found = linked_at (operand_at files listing has.class pool has.index) 0 method.insns method.refs at insn has.refs here in
@@ -116,10 +116,10 @@ some_constant pool index e = by pool (slice_get pool index) refl e where
 -- ---- the program
 
 -- What linking tells of the operands of the program.
-record IsLinked (files : List ClassFile) (listing : Listing) (program : Program) : Type 0 where
-  listing_is : program.listing ≡ listing
-  count : length program.classes ≡ length files
-  classes : AllByRecursion (HaveOperands files listing) program.classes
+pub record IsLinked (files : List ClassFile) (listing : Listing) (program : Program) : Type 0 where
+  pub listing_is : program.listing ≡ listing
+  pub count : length program.classes ≡ length files
+  pub classes : AllByRecursion (HaveOperands files listing) program.classes
 
 abbrev Members : Type 0
 Members = List (List Method) × List (List ℕ)
@@ -133,7 +133,7 @@ classes_many [] methods e = refl
 classes_many (file ∷ files) [] e = absurd cc
 classes_many (file ∷ files) (first ∷ methods) e = ap suc (classes_many files methods (omega (arith, e)))
 
-is_linked : (files : List ClassFile) (listing : Listing) (main : List ℕ) (side : Side) (program : Program) → linked files listing main side ≡ Ok program → IsLinked files listing program
+pub is_linked : (files : List ClassFile) (listing : Listing) (main : List ℕ) (side : Side) (program : Program) → linked files listing main side ≡ Ok program → IsLinked files listing program
 is_linked files listing main side program e =
     let ending : Members → Linked Program = λ members. ok_or (main_of files main) faults.NoMain >>= λ begin. Ok (made files listing members begin) in
     let rest : Linked Program = members_of files listing >>= ending in

@@ -33,7 +33,7 @@ use Rattle.bytecode_model.specs.Linking.{unlinked}
 use Rattle.bytecode_model.specs.Members.{Declared, methods_declared, fields_declared, method_of, field_of, in_class}
 use Rattle.bytecode_model.specs.Operands.{use_of, index_of, is_nothing, operand_linked, used, loaded, typed, field_used, called, call_linked, field_linked, field_fits, is_api_field, class_linked, known_in, id_at, literals_of, place_of, text_of_string}
 use Rattle.bytecode_model.specs.SearchOrder.{Name, is_one_of, search_order}
-use Rattle.bytecode_model.specs.Targets.{constant_of, is_type, takes_class, takes_array, TakesClass, LoadsText, IsMethod, Calls, IsField, UsesField, Names}
+use Rattle.bytecode_model.specs.Targets.{constant_of, method_constant, is_type, takes_class, takes_array, TakesClass, LoadsText, IsMethod, Calls, IsField, UsesField, Names}
 use Rattle.bytecode_model.proofs.LinkedBodies.{ok_target, class_known}
 use Rattle.bytecode_model.proofs.LinkedOperands.{text_there, class_there, named_one}
 use Rattle.bytecode_model.proofs.LinkedTexts.{literal_there}
@@ -209,8 +209,8 @@ module _ (files : List ClassFile) (listing : Listing) (program : Program) (known
         let made : Bool → Found = λ b. record { target = found.target; is_static = b } in
         ap made ((booleans_Decides found.is_static static).0 e)
 
-    call_named : (static of_interface : Bool) (id : MethodId) → use_of insn ≡ uses.Call static of_interface → reference_at pool (index_of insn) ≡ Some id → call_linked files listing static id ≡ Ok ref → Named
-    call_named static of_interface id calls refers e =
+    call_named : (static of_interface : Bool) (owner member : ℕ) (id : MethodId) → use_of insn ≡ uses.Call static of_interface → constant_of class insn ≡ Some (method_constant of_interface owner member) → reference_at pool (index_of insn) ≡ Some id → call_linked files listing static id ≡ Ok ref → Named
+    call_named static of_interface owner member id calls constant refers e =
         let fits : Found → Result Target OperandFault = λ found. need (beq found.is_static static) (operand.Missing id.name) >>= λ _. Ok found.target in
         let described = need_ok (is_ok (method_type id.desc)) operand.Wrong (λ _. ok_or (method_of files listing id) (operand.Missing id.name) >>= fits) ref e in
         let found = bind_ok (ok_or (method_of files listing id) (operand.Missing id.name)) fits ref described.1 in
@@ -223,6 +223,9 @@ module _ (files : List ClassFile) (listing : Listing) (program : Program) (known
           static = static;
           of_interface = of_interface;
           calls = calls;
+          owner = owner;
+          member = member;
+          constant = constant;
           told = id;
           refers = refers;
           described = described.0;
@@ -236,10 +239,10 @@ module _ (files : List ClassFile) (listing : Listing) (program : Program) (known
     called_named : (static of_interface : Bool) (c : Const) → constant_of class insn ≡ Some c → use_of insn ≡ uses.Call static of_interface → called files listing static of_interface pool c ≡ Ok ref → Named
     called_named static false (constants.Method of member) constant calls e =
         let named : IsNamed pool (constants.Method of member) = all_get (IsNamed pool) pool (index_of insn) (constants.Method of member) fits.named constant in
-        call_named static false (id_at pool of member) calls (reference_told pool fits (index_of insn) of member (constants.Method of member) constant refl named.0 named.1) e
+        call_named static false of member (id_at pool of member) calls constant (reference_told pool fits (index_of insn) of member (constants.Method of member) constant refl named.0 named.1) e
     called_named static true (constants.IMethod of member) constant calls e =
         let named : IsNamed pool (constants.IMethod of member) = all_get (IsNamed pool) pool (index_of insn) (constants.IMethod of member) fits.named constant in
-        call_named static true (id_at pool of member) calls (reference_told pool fits (index_of insn) of member (constants.IMethod of member) constant refl named.0 named.1) e
+        call_named static true of member (id_at pool of member) calls constant (reference_told pool fits (index_of insn) of member (constants.IMethod of member) constant refl named.0 named.1) e
     called_named static true (constants.Method of member) constant calls e = absurd cc
     called_named static false (constants.IMethod of member) constant calls e = absurd cc
     called_named static false (constants.Field of member) constant calls e = absurd cc
@@ -271,8 +274,8 @@ module _ (files : List ClassFile) (listing : Listing) (program : Program) (known
       by true e = (refl, not_true (writes && is_api_field found.target) e)
       by false e = absurd cc
 
-    field_named : (static writes : Bool) (id : MethodId) → use_of insn ≡ uses.Field static writes → reference_at pool (index_of insn) ≡ Some id → field_linked files listing static writes id ≡ Ok ref → Named
-    field_named static writes id accesses refers e =
+    field_named : (static writes : Bool) (owner member : ℕ) (id : MethodId) → use_of insn ≡ uses.Field static writes → constant_of class insn ≡ Some (constants.Field owner member) → reference_at pool (index_of insn) ≡ Some id → field_linked files listing static writes id ≡ Ok ref → Named
+    field_named static writes owner member id accesses constant refers e =
         let fits : Found → Result Target OperandFault = λ found. need (field_fits static writes found) (operand.Missing id.name) >>= λ _. Ok found.target in
         let described = need_ok (is_ok (whole_type id.desc)) operand.Wrong (λ _. ok_or (field_of files listing id) (operand.Missing id.name) >>= fits) ref e in
         let found = bind_ok (ok_or (field_of files listing id) (operand.Missing id.name)) fits ref described.1 in
@@ -286,6 +289,9 @@ module _ (files : List ClassFile) (listing : Listing) (program : Program) (known
           static = static;
           writes = writes;
           accesses = accesses;
+          owner = owner;
+          member = member;
+          constant = constant;
           told = id;
           refers = refers;
           described = described.0;
@@ -300,7 +306,7 @@ module _ (files : List ClassFile) (listing : Listing) (program : Program) (known
     field_used_named : (static writes : Bool) (c : Const) → constant_of class insn ≡ Some c → use_of insn ≡ uses.Field static writes → field_used files listing static writes pool c ≡ Ok ref → Named
     field_used_named static writes (constants.Field of member) constant accesses e =
         let named : IsNamed pool (constants.Field of member) = all_get (IsNamed pool) pool (index_of insn) (constants.Field of member) fits.named constant in
-        field_named static writes (id_at pool of member) accesses (reference_told pool fits (index_of insn) of member (constants.Field of member) constant refl named.0 named.1) e
+        field_named static writes of member (id_at pool of member) accesses constant (reference_told pool fits (index_of insn) of member (constants.Field of member) constant refl named.0 named.1) e
     field_used_named static writes (constants.Class name) constant accesses e = absurd cc
     field_used_named static writes (constants.Integer n) constant accesses e = absurd cc
     field_used_named static writes (constants.Str text) constant accesses e = absurd cc

@@ -107,12 +107,20 @@ IsMethod program (target.ClassName text) id static = ⊥
 IsMethod program (target.Number n) id static = ⊥
 IsMethod program (target.Literal i) id static = ⊥
 
+-- the constant that refers to a method, of a class or of an interface
+abbrev pub method_constant : Bool → ℕ → ℕ → Const
+method_constant false owner member = constants.Method owner member
+method_constant true owner member = constants.IMethod owner member
+
 -- The instruction calls the method: the nearest one of the reference's name and descriptor, from its class on. The
 -- declaring class is the reference's own or one above it, and the method is static exactly where the call is.
 pub record Calls (program : Program) (class : LinkedClass) (insn : Insn) (ref : Target) : Type 0 where
   pub static : Bool
   pub of_interface : Bool
   pub calls : use_of insn ≡ uses.Call static of_interface
+  pub owner : ℕ
+  pub member : ℕ
+  pub constant : constant_of class insn ≡ Some (method_constant of_interface owner member)
   pub told : MethodId
   pub refers : reference_at class.file.pool (index_of insn) ≡ Some told
   pub described : is_ok (method_type told.desc) ≡ true
@@ -152,6 +160,9 @@ pub record UsesField (program : Program) (class : LinkedClass) (insn : Insn) (re
   pub static : Bool
   pub writes : Bool
   pub accesses : use_of insn ≡ uses.Field static writes
+  pub owner : ℕ
+  pub member : ℕ
+  pub constant : constant_of class insn ≡ Some (constants.Field owner member)
   pub told : MethodId
   pub refers : reference_at class.file.pool (index_of insn) ≡ Some told
   pub described : is_ok (whole_type told.desc) ≡ true

@@ -8,6 +8,7 @@ ghost use Rattle.mon_base.specs.Answer.{Answers};
 ghost use Rattle.bytecode_model.specs.Heads.{heads_of, is_member, main_name, main_desc};
 ghost use Rattle.bytecode_model.specs.Named.{AreRightOperands};
 ghost use Rattle.bytecode_model.specs.Sound.{IsSoundMethod, IsSound};
+ghost use Rattle.bytecode_model.specs.Standing.{IsLinkedOf};
 ghost use Rattle.bytecode_model.specs.Linking.{
   if_static,
   static_main,
@@ -25,7 +26,7 @@ use crate::fault::LinkFault;
 use crate::heads::heads_of;
 use crate::heights::Heads;
 use crate::index::Index;
-use crate::laws::linked_operands_are_right;
+use crate::laws::{linked_operands_are_right, linked_programs_are_named};
 use crate::methods::methods_linked;
 use crate::program::{LinkedClass, Method, Program, Side};
 use crate::text::{class_at, copy_class, has_flag, is_text, text_at};
@@ -54,8 +55,10 @@ pub fn link(
     ensures back { IfOk result (λ program. unlinked program ≡ files) }
     ensures sound { IfOk result IsSound }
     ensures operands { IfOk result AreRightOperands }
+    ensures named { IfOk result (IsLinkedOf listing main.now) }
 {
     linked_operands_are_right();
+    linked_programs_are_named();
     linked_program(alloc, files, listing, main, side)
 }
 

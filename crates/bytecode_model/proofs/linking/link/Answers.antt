@@ -1,6 +1,11 @@
 use Rattle.bytecode_model.proofs.LinkedCalls.{known}
+use Rattle.bytecode_model.proofs.LinkedWhole.{known as whole}
 use Rattle.bytecode_model.proofs.linking.link.Goals as goal
 
 pub returns-clause-operands : goal.returns-clause-operands
 returns-clause-operands c =
     known c.args.files c.args.listing c.args.main.now c.args.side c.linked_program.result c.linked_program.ensures.exact c.linked_program.ensures.sound
+
+pub returns-clause-named : goal.returns-clause-named
+returns-clause-named c =
+    whole c.args.files c.args.listing c.args.main.now c.args.side c.linked_program.result c.linked_program.ensures.exact c.linked_program.ensures.sound
