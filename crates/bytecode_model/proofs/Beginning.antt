@@ -1,6 +1,6 @@
 -- The main method has code.
-use Rattle.std.proofs.Common.{◌≡◌, ℕ, zero, suc, ◌+◌, ◌≤◌, ◌<◌, ◌^◌, Bool, true, false, cond, not, ◌&&◌, ◌||◌, List, [], ◌∷◌, ◌++◌, length, Option, Some, None, Result, Ok, Err, refl, sym, ap, subst, ◌∙◌, arith}
-use Rattle.std.specs.Prelude.{◌==◌, bytes_eq, slice_get, IsSomeAnd, option_and_then, if◌then◌else◌}
+use Rattle.std.proofs.Common.{◌≡◌, ℕ, zero, suc, ◌+◌, ◌≤◌, ◌<◌, Bool, true, false, cond, not, ◌&&◌, ◌||◌, List, [], ◌∷◌, length, Option, Some, None, Result, Ok, Err, refl, sym, ap, subst, ◌∙◌, arith}
+use Rattle.std.specs.Prelude.{◌==◌, bytes_eq, slice_get, IsSomeAnd, option_and_then}
 use Rattle.std.specs.List.{AllByRecursion, filter_map}
 use Rattle.std.proofs.lemmas.Bool.Decides.{nat_tests}
 use Rattle.mon_base.specs.Reading.{◌>>=◌, need}
@@ -11,7 +11,7 @@ use Rattle.class_codec.specs.declared.tree.Attr.{Attr}
 use Rattle.class_codec.specs.declared.tree.Attr.TheVariants as attributes
 use Rattle.class_codec.specs.declared.tree.Member.{Member}
 use Rattle.class_codec.specs.declared.tree.ClassFile.{ClassFile}
-use Rattle.class_codec.specs.Fits.{CanSpell, FitsMember, FitsAttr, FitsCode}
+use Rattle.class_codec.specs.Fits.{CanSpell, FitsMember, FitsAttr}
 use Rattle.insn_codec.specs.declared.fault.CodeFault.{CodeFault}
 use Rattle.insn_codec.specs.declared.insn.Insn.{Insn}
 use Rattle.insn_codec.specs.Reading.{Read, Finder, insn_at, insns_at, insns_of, among, any, ended, code_of}
@@ -20,11 +20,10 @@ use Rattle.mon_base.specs.Reading.{Place}
 use Rattle.api_listing.specs.declared.types.Listing.{Listing}
 use Rattle.bytecode_model.specs.declared.fault.LinkFault.{LinkFault}
 use Rattle.bytecode_model.specs.declared.fault.LinkFault.TheVariants as faults
-use Rattle.bytecode_model.specs.declared.program.Handler.{Handler}
 use Rattle.bytecode_model.specs.declared.program.LinkedClass.{LinkedClass}
 use Rattle.bytecode_model.specs.declared.program.Method.{Method}
 use Rattle.bytecode_model.specs.declared.program.Target.{Target}
-use Rattle.bytecode_model.specs.Fault.{Linked, linked_from}
+use Rattle.bytecode_model.specs.Fault.{Linked}
 use Rattle.bytecode_model.specs.Heads.{class_at, head_of, all_classes, name_of, desc_of, is_abstract, is_static, is_member, main_name, main_desc, maker}
 use Rattle.bytecode_model.specs.Conditions.{code_in, codes_of, is_allowed, has_good_flags, is_good_initialiser, is_begun_unlocked, describes_method, has_its_code, overrides}
 use Rattle.bytecode_model.specs.Operands.{operands_linked}

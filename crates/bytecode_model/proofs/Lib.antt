@@ -23,3 +23,4 @@ mod LinkedPlaces
 mod LinkedUses
 mod LinkedMain
 mod LinkedWhole
+mod ShapedUses

@@ -1,13 +1,12 @@
 -- The classes of a linked program: which files they are of, and that no two have one name.
-use Rattle.std.proofs.Common.{◌≡◌, ℕ, zero, suc, ◌+◌, ◌<◌, Bool, true, false, cond, not, ◌&&◌, ◌||◌, List, [], ◌∷◌, ◌++◌, length, map, Option, Some, None, Result, Ok, Err, refl, sym, ap, subst, ◌∙◌, arith}
+use Rattle.std.proofs.Common.{◌≡◌, ℕ, zero, suc, ◌+◌, ◌≤◌, Bool, true, false, not, ◌||◌, List, [], ◌∷◌, ◌++◌, length, map, Some, Ok, refl, sym, ap, subst, ◌∙◌, arith}
 use Rattle.std.specs.Prelude.{bytes_eq, slice_get, ok_or, nat_lt}
 use Rattle.std.specs.List.{AllByRecursion}
 use Rattle.std.proofs.lemmas.Bool.{false≢true}
+use Rattle.std.proofs.lemmas.Bool.Decides.{nat_tests}
 use Rattle.std.proofs.lemmas.Slice.Eq.{bytes_eq-Decides}
 use Rattle.mon_base.specs.Reading.{◌>>=◌, need}
 use Rattle.mon_base.proofs.Reading.{bind_ok, need_ok, ok_is, ok_or_ok}
-use Rattle.class_codec.specs.declared.tree.Const.{Const}
-use Rattle.class_codec.specs.declared.tree.Member.{Member}
 use Rattle.class_codec.specs.declared.tree.ClassFile.{ClassFile}
 use Rattle.api_listing.specs.declared.types.ListedClass.{ListedClass}
 use Rattle.api_listing.specs.declared.types.Listing.{Listing}
@@ -23,9 +22,9 @@ use Rattle.bytecode_model.specs.Conditions.{class_linked, classes_linked, is_fre
 use Rattle.api_listing.specs.Words.{is_class_name}
 use Rattle.bytecode_model.specs.Fault.{Linked, linked_from}
 use Rattle.bytecode_model.specs.Heads.{head_of, heads_of, all_classes}
-use Rattle.bytecode_model.specs.Linking.{class_with, classes_with, method_linked, methods_linked, each_linked, members_of, main_of, max_files, linked, unlinked}
+use Rattle.bytecode_model.specs.Linking.{classes_with, methods_linked, each_linked, members_of, main_of, max_files, linked, unlinked}
 use Rattle.bytecode_model.specs.Operands.{literals_of}
-use Rattle.bytecode_model.proofs.Lists.{some_is}
+use Rattle.bytecode_model.proofs.Lists.{some_is, not_true}
 use Rattle.bytecode_model.proofs.Whole.{files_back}
 
 -- ---- places
@@ -74,36 +73,58 @@ not_others : (a b : Bool) → (a || b) ≡ false → b ≡ false
 not_others true b e = absurd (false≢true (sym e))
 not_others false b e = e
 
--- the name of a class that links is not taken
+needed : (b : Bool) (fault : LinkFault) (x : Unit {0}) → need b fault ≡ Ok x → b ≡ true
+needed true fault x e = refl
+needed false fault x e = absurd cc
+
+-- what a class that links meets
 module _ (side : Side) (heads : List ListedClass) where
-  free_name : (taken : Bool) (c : ListedClass) (file : ClassFile) (x : Unit {0}) → class_linked side heads taken c file ≡ Ok x → taken ≡ false
-  free_name taken c file x e =
+  record Meets (taken : Bool) (c : ListedClass) (file : ClassFile) : Type 0 where
+    named : is_class_name c.name ≡ true
+    once : taken ≡ false
+    free : is_free side file ≡ true
+    supers : has_supers heads c file.fields ≡ true
+
+  meets : (taken : Bool) (c : ListedClass) (file : ClassFile) (x : Unit {0}) → class_linked side heads taken c file ≡ Ok x → Meets taken c file
+  meets taken c file x e =
       let last : Linked (Unit {0}) = need (has_supers heads c file.fields) (faults.SuperLeftOut c.name) in
       let free : Linked (Unit {0}) = need (is_free side file) (faults.NameTaken c.name) >>= λ _. last in
       let a = need_ok (is_class_name c.name) (faults.Name c.name) (λ _. need (not taken) (faults.Twice c.name) >>= λ _. free) x e in
       let b = need_ok (not taken) (faults.Twice c.name) (λ _. free) x a.1 in
-      not_is taken b.0 where
-        not_is : (b : Bool) → not b ≡ true → b ≡ false
-        not_is true e = sym e
-        not_is false e = refl
+      let d = need_ok (is_free side file) (faults.NameTaken c.name) (λ _. last) x b.1 in
+      record { named = a.0; once = not_true taken b.0; free = d.0; supers = needed (has_supers heads c file.fields) (faults.SuperLeftOut c.name) x d.1 }
 
   -- the first of some classes, and the others
   record AreLinked (taken : List ListedClass) (file : ClassFile) (files : List ClassFile) : Type 0 where
-    free : is_known taken (head_of file).name ≡ false
+    first : Meets (is_known taken (head_of file).name) (head_of file) file
     others : classes_linked side heads (head_of file ∷ taken) files ≡ Ok tt
 
   are_linked : (taken : List ListedClass) (file : ClassFile) (files : List ClassFile) → classes_linked side heads taken (file ∷ files) ≡ Ok tt → AreLinked taken file files
   are_linked taken file files e =
       let a = bind_ok (class_linked side heads (is_known taken (head_of file).name) (head_of file) file) (λ _. classes_linked side heads (head_of file ∷ taken) files) tt e in
-      record { free = free_name (is_known taken (head_of file).name) (head_of file) file a.0 a.1; others = a.2 }
+      record { first = meets (is_known taken (head_of file).name) (head_of file) file a.0 a.1; others = a.2 }
 
   -- a class of the files has none of the names that are taken
   pub none_taken : (taken : List ListedClass) (files : List ClassFile) (i : ℕ) (file : ClassFile) → classes_linked side heads taken files ≡ Ok tt → slice_get files i ≡ Some file
       → is_known taken (head_of file).name ≡ false
   none_taken taken [] i file e found = absurd cc
-  none_taken taken (f ∷ files) zero file e found = subst (λ (x : ClassFile). is_known taken (head_of x).name ≡ false) (some_is f file found) (are_linked taken f files e).free
+  none_taken taken (f ∷ files) zero file e found = subst (λ (x : ClassFile). is_known taken (head_of x).name ≡ false) (some_is f file found) (are_linked taken f files e).first.once
   none_taken taken (f ∷ files) (suc i) file e found =
       not_others (bytes_eq (head_of f).name (head_of file).name) (is_known taken (head_of file).name) (none_taken (head_of f ∷ taken) files i file (are_linked taken f files e).others found)
+
+  -- What each class of the files meets, apart from names.
+  pub record IsGood (file : ClassFile) : Type 0 where
+    pub named : is_class_name (head_of file).name ≡ true
+    pub free : is_free side file ≡ true
+    pub supers : has_supers heads (head_of file) file.fields ≡ true
+
+  pub is_good : (taken : List ListedClass) (files : List ClassFile) (i : ℕ) (file : ClassFile) → classes_linked side heads taken files ≡ Ok tt → slice_get files i ≡ Some file → IsGood file
+  is_good taken [] i file e found = absurd cc
+  is_good taken (f ∷ files) zero file e found =
+      let m = (are_linked taken f files e).first in
+      let good : IsGood f = record { named = m.named; free = m.free; supers = m.supers } in
+      subst IsGood (some_is f file found) good
+  is_good taken (f ∷ files) (suc i) file e found = is_good (head_of f ∷ taken) files i file (are_linked taken f files e).others found
 
   not_alike : (taken : List ListedClass) (f file : ClassFile) (files : List ClassFile) (i : ℕ) → classes_linked side heads taken (f ∷ files) ≡ Ok tt → slice_get files i ≡ Some file
       → (head_of f).name ≡ (head_of file).name → ⊥
@@ -134,6 +155,7 @@ pub record IsLinkedFrom (files : List ClassFile) (listing : Listing) (main : Lis
   pub back : unlinked program ≡ files
   pub literals : program.literals ≡ literals_of files
   pub classes : AllByRecursion (IsClassOf files listing) program.classes
+  pub few : length files ≤ max_files
   pub named : classes_linked side (heads_of files) listing.classes files ≡ Ok tt
   pub begin : main_of files main ≡ Some (program.main_class, program.main_method)
 
@@ -142,6 +164,9 @@ Members = List (List Method) × List (List ℕ)
 
 abbrev made : List ClassFile → Listing → Members → ℕ × ℕ → Program
 made files listing members begin = record { classes = classes_with files members.0; listing = listing; literals = members.1; main_class = begin.0; main_method = begin.1 }
+
+at_most : (n m : ℕ) → nat_lt n m ≡ false → m ≤ n
+at_most n m e = grind (arith, nat_tests)
 
 module _ (files : List ClassFile) (listing : Listing) where
   classes_are : (at : ℕ) (some : List ClassFile) (methods : List (List Method)) → linked_from (λ i. methods_linked files listing) at some ≡ Ok methods → AllByRecursion (IsClassOf files listing) (classes_with some methods)
@@ -173,6 +198,7 @@ module _ (files : List ClassFile) (listing : Listing) where
         back = files_back files listing members.0 members.1;
         literals = sym texts;
         classes = classes_are 0 files members.0.0 (each.1 ∙ ap Ok same);
+        few = at_most max_files (length files) (not_true (nat_lt max_files (length files)) few.0);
         named = sound.1;
         begin = ok_or_ok (main_of files main) faults.NoMain begin.0 begin.1;
       } in

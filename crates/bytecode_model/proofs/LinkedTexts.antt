@@ -1,8 +1,10 @@
 -- The text of each string constant is among the literals, at its place.
-use Rattle.std.proofs.Common.{◌≡◌, ℕ, zero, suc, ◌+◌, Bool, true, false, cond, ◌||◌, List, [], ◌∷◌, ◌++◌, Option, Some, None, refl, sym, ap, subst, ◌∙◌, arith}
-use Rattle.std.specs.Prelude.{slice_get, bytes_eq}
+use Rattle.std.proofs.Common.{◌≡◌, ℕ, zero, suc, ◌+◌, Bool, true, false, cond, ◌||◌, List, [], ◌∷◌, ◌++◌, Option, Some, None, refl, sym, ap, ap₂, subst, ◌∙◌, arith}
+use Rattle.std.specs.Prelude.{slice_get, bytes_eq, ⊤}
 use Rattle.std.specs.List.{position_from, fold, flat_map, filter_map, cons_option}
 use Rattle.std.specs.Option.{option_map_or}
+use Rattle.std.proofs.lemmas.Bool.{false≢true}
+use Rattle.std.proofs.lemmas.Slice.Eq.{bytes_eq-Decides}
 use Rattle.class_codec.specs.declared.tree.Const.{Const}
 use Rattle.class_codec.specs.declared.tree.ClassFile.{ClassFile}
 use Rattle.bytecode_model.specs.Operands.{literals_of, strings_in, place_of, text_of_string}
@@ -31,7 +33,7 @@ placed (other ∷ names) name at e = by (bytes_eq other name) refl e (placed nam
       let l = later e in
       let more : at + 1 + l.place ≡ at + suc l.place = omega arith in
       let found : position_from (λ (o : Name). bytes_eq o name) at (other ∷ names) ≡ position_from (λ (o : Name). bytes_eq o name) (at + 1) names
-        = ap (λ b. cond b (Some at) (position_from (λ (o : Name). bytes_eq o name) (at + 1) names)) is in
+      = ap (λ b. cond b (Some at) (position_from (λ (o : Name). bytes_eq o name) (at + 1) names)) is in
       record { place = suc l.place; is = found ∙ l.is ∙ ap Some more; there = l.there }
 
 at_its_place : (names : List Name) (name : Name) → is_one_of names name ≡ true → slice_get names (place_of names name) ≡ Some name
@@ -78,6 +80,62 @@ all_added (x ∷ xs) names name e = by (bytes_eq x name) refl e (all_added xs (w
       → is_one_of (fold with_name (with_name names x) xs) name ≡ true
   by true is e later = all_kept xs (with_name names x) name (subst (λ (n : Name). is_one_of (with_name names x) n ≡ true) (same_name x name is) (added names x))
   by false is e later = later e
+
+-- no name stands twice
+abbrev AreOnce : List Name → Type 0
+AreOnce [] = ⊤
+AreOnce (x ∷ names) = (is_one_of names x ≡ false) × AreOnce names
+
+other_way : (a b : Name) → bytes_eq a b ≡ false → bytes_eq b a ≡ false
+other_way a b e = by (bytes_eq b a) refl where
+  by : (r : Bool) → bytes_eq b a ≡ r → r ≡ false
+  by true is = absurd (false≢true (sym e ∙ (bytes_eq-Decides a b).1 (sym (same_name b a is))))
+  by false is = refl
+
+no_front : (a b : Bool) → (a || b) ≡ false → (a ≡ false) × (b ≡ false)
+no_front true b e = absurd (false≢true (sym e))
+no_front false b e = (refl, e)
+
+not_pushed : (names : List Name) (x name : Name) → is_one_of names name ≡ false → bytes_eq x name ≡ false → is_one_of (names ++ x ∷ []) name ≡ false
+not_pushed [] x name none apart = ap (λ (b : Bool). b || false) apart
+not_pushed (y ∷ names) x name none apart =
+    let n = no_front (bytes_eq y name) (is_one_of names name) none in
+    ap₂ (λ (a b : Bool). a || b) n.0 (not_pushed names x name n.1 apart)
+
+once_pushed : (names : List Name) (x : Name) → AreOnce names → is_one_of names x ≡ false → AreOnce (names ++ x ∷ [])
+once_pushed [] x once new = (refl, tt)
+once_pushed (y ∷ names) x once new =
+    let n = no_front (bytes_eq y x) (is_one_of names x) new in
+    (not_pushed names x y once.0 (other_way y x n.0), once_pushed names x once.1 n.1)
+
+once_with : (names : List Name) (x : Name) → AreOnce names → AreOnce (with_name names x)
+once_with names x once = by (is_one_of names x) refl where
+  by : (b : Bool) → is_one_of names x ≡ b → AreOnce (cond b names (names ++ x ∷ []))
+  by true e = once
+  by false e = once_pushed names x once e
+
+all_once : (xs names : List Name) → AreOnce names → AreOnce (fold with_name names xs)
+all_once [] names once = once
+all_once (x ∷ xs) names once = all_once xs (with_name names x) (once_with names x once)
+
+is_there : (names : List Name) (i : ℕ) (name : Name) → slice_get names i ≡ Some name → is_one_of names name ≡ true
+is_there [] i name e = absurd cc
+is_there (x ∷ names) zero name e = subst (λ (n : Name). is_one_of (n ∷ names) name ≡ true) (sym (some_is x name e)) (front_is_one name names)
+is_there (x ∷ names) (suc i) name e = one_more (bytes_eq x name) (is_one_of names name) (is_there names i name e)
+
+not_behind : (x name : Name) (names : List Name) (j : ℕ) → is_one_of names x ≡ false → x ≡ name → slice_get names j ≡ Some name → ⊥
+not_behind x name names j new same e = false≢true (sym new ∙ is_there names j x (e ∙ ap Some (sym same)))
+
+one_place : (names : List Name) (i j : ℕ) (name : Name) → AreOnce names → slice_get names i ≡ Some name → slice_get names j ≡ Some name → i ≡ j
+one_place [] i j name once at_i at_j = absurd cc
+one_place (x ∷ names) zero zero name once at_i at_j = refl
+one_place (x ∷ names) zero (suc j) name once at_i at_j = absurd (not_behind x name names j once.0 (some_is x name at_i) at_j)
+one_place (x ∷ names) (suc i) zero name once at_i at_j = absurd (not_behind x name names i once.0 (some_is x name at_j) at_i)
+one_place (x ∷ names) (suc i) (suc j) name once at_i at_j = ap suc (one_place names i j name once.1 at_i at_j)
+
+-- a text has one place among the literals
+pub literals_once : (files : List ClassFile) (i j : ℕ) (text : Name) → slice_get (literals_of files) i ≡ Some text → slice_get (literals_of files) j ≡ Some text → i ≡ j
+literals_once files i j text = one_place (literals_of files) i j text (all_once (flat_map strings_in files) [] tt)
 
 -- ---- the strings of files
 

@@ -1,5 +1,5 @@
 -- What the operand of an instruction names, where it links.
-use Rattle.std.proofs.Common.{◌≡◌, ℕ, ◌<◌, Bool, true, false, cond, not, ◌&&◌, List, [], ◌∷◌, length, Option, Some, None, Result, Ok, Err, refl, sym, ap, ap₂, subst, ◌∙◌}
+use Rattle.std.proofs.Common.{◌≡◌, ℕ, Bool, true, false, cond, not, ◌&&◌, List, [], Option, Some, None, Result, Ok, refl, sym, ap, ap₂, subst, ◌∙◌}
 use Rattle.std.specs.Prelude.{slice_get, ok_or, is_ok}
 use Rattle.std.specs.Bool.{beq}
 use Rattle.std.specs.Cmp.{booleans_Decides}
@@ -28,11 +28,11 @@ use Rattle.bytecode_model.specs.declared.program.Program.{Program}
 use Rattle.bytecode_model.specs.declared.program.Target.{Target}
 use Rattle.bytecode_model.specs.declared.program.Target.TheVariants as target
 use Rattle.bytecode_model.specs.Classes.{classes_of}
-use Rattle.bytecode_model.specs.Heads.{all_classes, text_at, class_at}
+use Rattle.bytecode_model.specs.Heads.{all_classes, text_at}
 use Rattle.bytecode_model.specs.Linking.{unlinked}
 use Rattle.bytecode_model.specs.Members.{Declared, methods_declared, fields_declared, method_of, field_of, in_class}
-use Rattle.bytecode_model.specs.Operands.{use_of, index_of, is_nothing, operand_linked, used, loaded, typed, field_used, called, call_linked, field_linked, field_fits, is_api_field, class_linked, known_in, id_at, literals_of, place_of, text_of_string}
-use Rattle.bytecode_model.specs.SearchOrder.{Name, is_one_of, search_order}
+use Rattle.bytecode_model.specs.Operands.{use_of, index_of, is_nothing, operand_linked, used, loaded, typed, field_used, called, call_linked, field_linked, field_fits, is_api_field, class_linked, known_in, id_at, literals_of, place_of}
+use Rattle.bytecode_model.specs.SearchOrder.{is_one_of, search_order}
 use Rattle.bytecode_model.specs.Targets.{constant_of, method_constant, is_type, takes_class, takes_array, TakesClass, LoadsText, IsMethod, Calls, IsField, UsesField, Names}
 use Rattle.bytecode_model.proofs.LinkedBodies.{ok_target, class_known}
 use Rattle.bytecode_model.proofs.LinkedOperands.{text_there, class_there, named_one}

@@ -1,5 +1,5 @@
 -- A program that files link to: each operand names what it should, and each class and method stands where it should.
-use Rattle.std.proofs.Common.{◌≡◌, ℕ, zero, suc, ◌+◌, ◌<◌, Bool, true, false, ◌&&◌, List, [], ◌∷◌, length, Option, Some, Result, Ok, Err, refl, sym, ap, ap₂, subst, ◌∙◌, arith}
+use Rattle.std.proofs.Common.{◌≡◌, ℕ, suc, ◌+◌, ◌<◌, ◌≤◌, Bool, true, false, not, ◌&&◌, List, [], ◌∷◌, length, Some, Ok, Err, refl, sym, ap, ap₂, subst, ◌∙◌, arith}
 use Rattle.std.specs.Prelude.{slice_get, bytes_eq, IfOk}
 use Rattle.std.specs.List.{AllByRecursion}
 use Rattle.mon_base.specs.Answer.{Answers}
@@ -8,12 +8,11 @@ use Rattle.class_codec.specs.declared.tree.Const.{Const}
 use Rattle.class_codec.specs.declared.tree.Member.{Member}
 use Rattle.class_codec.specs.declared.tree.ClassFile.{ClassFile}
 use Rattle.class_codec.specs.Fits.{FitsMember}
-use Rattle.insn_codec.specs.declared.insn.Insn.{Insn}
 use Rattle.api_listing.specs.declared.types.ListedClass.{ListedClass}
-use Rattle.api_listing.specs.declared.types.ListedMethod.{ListedMethod}
 use Rattle.api_listing.specs.declared.types.Listing.{Listing}
-use Rattle.api_listing.specs.BuiltIn.{MethodRow, method_rows}
+use Rattle.api_listing.specs.BuiltIn.{method_rows}
 use Rattle.api_listing.specs.Listing.{is_known}
+use Rattle.api_listing.specs.Words.{is_class_name}
 use Rattle.bytecode_model.specs.declared.declared.MemberKind.TheVariants as kinds
 use Rattle.bytecode_model.specs.declared.fault.LinkFault.TheVariants as faults
 use Rattle.bytecode_model.specs.declared.program.Handler.{Handler}
@@ -21,20 +20,22 @@ use Rattle.bytecode_model.specs.declared.program.LinkedClass.{LinkedClass}
 use Rattle.bytecode_model.specs.declared.program.Method.{Method}
 use Rattle.bytecode_model.specs.declared.program.Program.{Program}
 use Rattle.bytecode_model.specs.declared.program.Side.{Side}
-use Rattle.bytecode_model.specs.declared.program.Target.{Target}
-use Rattle.bytecode_model.specs.declared.program.Target.TheVariants as target
 use Rattle.bytecode_model.specs.Classes.{classes_of}
+use Rattle.bytecode_model.specs.Conditions.{has_supers, is_free, overrides_in}
 use Rattle.bytecode_model.specs.Fault.{Linked}
-use Rattle.bytecode_model.specs.Heads.{head_of, heads_of, all_classes, class_at, name_of, desc_of, is_static, is_member, main_name, main_desc}
-use Rattle.bytecode_model.specs.Linking.{linked, unlinked, method_linked}
-use Rattle.bytecode_model.specs.Members.{given_from, listed_from, listed_fields_from, rows_from, methods_declared, fields_declared}
+use Rattle.bytecode_model.specs.Heads.{head_of, heads_of, all_classes, class_at, name_of, desc_of, is_static, is_member, main_name, main_desc, maker}
+use Rattle.bytecode_model.specs.Linking.{linked, unlinked, method_linked, max_files}
+use Rattle.bytecode_model.specs.Members.{given_from, listed_from, methods_declared, fields_declared}
+use Rattle.bytecode_model.specs.Operands.{literals_of}
+use Rattle.bytecode_model.specs.SearchOrder.{search_order}
 use Rattle.bytecode_model.specs.Sound.{IsSound, IsSoundClass}
-use Rattle.bytecode_model.specs.Standing.{IsOfMember, CatchesKnown, IsStanding, IsClassAt, AreStanding, is_main, BeginsIn, IsLinkedOf, LinkedAreNamed}
+use Rattle.bytecode_model.specs.Standing.{IsOfMember, CatchesKnown, IsStanding, AreStanding, is_main, BeginsIn, AreLiterals, IsLinkedOf, LinkedAreNamed}
 use Rattle.bytecode_model.specs.Targets.{is_type, IsMethodAt, IsFieldAt, AreNamed}
 use Rattle.bytecode_model.proofs.LinkedBodies.{Catches, IsMethodOf, method_is, allowed_is}
 use Rattle.bytecode_model.proofs.LinkedCalls.{HasOperands, HaveOperands, operand_is, IsLinked, is_linked}
-use Rattle.bytecode_model.proofs.LinkedMain.{IsMainIn, main_at}
-use Rattle.bytecode_model.proofs.LinkedPlaces.{item_at, made_at, linked_of, none_taken, same_place, IsClassOf, IsLinkedFrom, linked_known, all_are}
+use Rattle.bytecode_model.proofs.LinkedMain.{main_at}
+use Rattle.bytecode_model.proofs.LinkedPlaces.{item_at, made_at, linked_of, none_taken, is_good, same_place, IsClassOf, IsLinkedFrom, linked_known, all_are}
+use Rattle.bytecode_model.proofs.LinkedTexts.{literals_once}
 use Rattle.bytecode_model.proofs.LinkedUses.{IsMethodDeclared, IsFieldDeclared, IsOf, operand_named}
 use Rattle.bytecode_model.proofs.Lists.{some_is, all_append, all_get}
 use Rattle.bytecode_model.proofs.Loop.{linked_at, same_length}
@@ -89,14 +90,24 @@ module _ (files : List ClassFile) (listing : Listing) (main : List ℕ) (side : 
 
     -- ---- how the class stands
 
-    stands_of : (index : ℕ) (method : Method) → slice_get class.methods index ≡ Some method → IsStanding program method
+    stands_of : (index : ℕ) (method : Method) → slice_get class.methods index ≡ Some method → IsStanding program class method
     stands_of index method e =
         let one = linked_of (method_linked files listing class.file) 0 class.file.methods class.methods index method of_file.methods e in
         let fits = all_get (FitsMember class.file.pool true) class.file.methods index one.0 sound_class.fits.methods.each one.1 in
         let is = method_is files listing class.file (0 + index) one.0 method fits one.2 in
-        let catches : (h : Handler) → Catches files listing h → CatchesKnown program h = λ h c name e. ap (λ (cs : List ListedClass). is_type cs true name) (all_are files listing program known.listing_is known.back) ∙ c name e in
+        let all = all_are files listing program known.listing_is known.back in
+        let of = is.body.of_member in
+        let over : ℕ → List ℕ → List ℕ → List ListedClass → Listing → List ℕ → Bool = λ flags n d cs l c.
+        not (is_static flags) && (not (bytes_eq n maker) && overrides_in l (record { class = c; name = n; desc = d }) (search_order cs c)) in
+        let pool = class.file.pool in
+        let rest : over one.0.flags (name_of pool one.0) (desc_of pool one.0) (classes_of program) program.listing class.name ≡ false =
+        ap₂ (λ (cs : List ListedClass) (l : Listing). over one.0.flags (name_of pool one.0) (desc_of pool one.0) cs l class.name) all known.listing_is
+        ∙ ap (over one.0.flags (name_of pool one.0) (desc_of pool one.0) (all_classes listing files) listing) of_file.name ∙ is.own in
+        let catches : (h : Handler) → Catches files listing h → CatchesKnown program h = λ h c name e. ap (λ (cs : List ListedClass). is_type cs true name) all ∙ c name e in
         record {
-          allowed = allowed_is class.file.pool one.0 method is.body.of_member is.allowed is.body.code;
+          allowed = allowed_is pool one.0 method of is.allowed is.body.code;
+          own = ap (λ (flags : ℕ). over flags method.name method.desc (classes_of program) program.listing class.name) of.flags
+              ∙ ap₂ (λ (n d : List ℕ). over one.0.flags n d (classes_of program) program.listing class.name) of.name of.desc ∙ rest;
           handlers = all_map (Catches files listing) (CatchesKnown program) method.handlers catches is.body.handlers;
         }
 
@@ -113,16 +124,22 @@ module _ (files : List ClassFile) (listing : Listing) (main : List ℕ) (side : 
   class_stands own class there =
       let heads = heads_of files in
       let name = name_is own class there in
+      let good = is_good side heads listing.classes files own class.file known.named (file_there own class there) in
       let free = none_taken side heads listing.classes files own class.file known.named (file_there own class there) in
       record {
         count = same_length (method_linked files listing class.file) 0 class.file.methods class.methods (of_file own class there).methods;
         members = member_is own class there;
-        methods = all_from (IsStanding program) class.methods (stands_of own class there);
+        methods = all_from (IsStanding program class) class.methods (stands_of own class there);
+        named = ap is_class_name name ∙ good.named;
+        supers = ap (λ (fs : List ClassFile). has_supers (heads_of fs) (head_of class.file) class.file.fields) known.back ∙ good.supers;
         once = λ other found at same.
             let alike : (head_of found.file).name ≡ (head_of class.file).name = sym (name_is other found at) ∙ same ∙ name in
             same_place side heads listing.classes files other own found.file class.file known.named (file_there other found at) (file_there own class there) alike;
         unlisted = ap₂ (λ (l : Listing) (n : List ℕ). is_known l.classes n) known.listing_is name ∙ free;
       }
+
+  class_free : (own : ℕ) (class : LinkedClass) → slice_get program.classes own ≡ Some class → is_free side class.file ≡ true
+  class_free own class there = (is_good side (heads_of files) listing.classes files own class.file known.named (file_there own class there)).free
 
   -- ---- what is declared
 
@@ -176,6 +193,14 @@ module _ (files : List ClassFile) (listing : Listing) (main : List ℕ) (side : 
     methods = methods_stand;
     fields = fields_stand;
   }
+
+  literals_are : AreLiterals program
+  literals_are =
+      let at : (i : ℕ) (text : List ℕ) → slice_get program.literals i ≡ Some text → slice_get (literals_of files) i ≡ Some text = λ i text e. ap (λ (ts : List (List ℕ)). slice_get ts i) (sym known.literals) ∙ e in
+      record {
+        are = known.literals ∙ ap literals_of (sym known.back);
+        once = λ i j text at_i at_j. literals_once files i j text (at i text at_i) (at j text at_j);
+      }
 
   -- ---- operands
 
@@ -232,15 +257,20 @@ module _ (files : List ClassFile) (listing : Listing) (main : List ℕ) (side : 
 pub all_linked : LinkedAreNamed
 all_linked files listing main side program e sound =
     let known = linked_known files listing main side program e in
+    let whole = is_linked files listing main side program e in
+    let few : length files ≤ max_files = known.few in
     record {
+      few = subst (λ (n : ℕ). n ≤ max_files) (sym whole.count) few;
+      free = class_free files listing main side program known sound;
       listing_is = known.listing_is;
+      literals = literals_are files listing main side program known sound;
       standing = class_stands files listing main side program known sound;
       begins = begins files listing main side program known sound;
-      named = all_named files listing main side program known sound (is_linked files listing main side program e);
+      named = all_named files listing main side program known sound whole;
     }
 
 -- the same of a call that answers what the files link to
 pub known : (files : List ClassFile) (listing : Listing) (main : List ℕ) (side : Side) (answer : Linked Program)
-    → Answers faults.Memory answer (linked files listing main side) → IfOk answer IsSound → IfOk answer (IsLinkedOf listing main)
+    → Answers faults.Memory answer (linked files listing main side) → IfOk answer IsSound → IfOk answer (IsLinkedOf side listing main)
 known files listing main side (Ok program) given sound = all_linked files listing main side program given sound
 known files listing main side (Err fault) given sound = tt

@@ -21,3 +21,4 @@ pub mod Typed
 pub mod Named
 pub mod Targets
 pub mod Standing
+pub mod Uses

@@ -32,7 +32,7 @@ mod text;
 pub use arrays::is_array;
 pub use declared::{Found, MemberKind};
 pub use fault::LinkFault;
-pub use laws::{linked_operands_are_right, linked_programs_are_named};
+pub use laws::{linked_operands_are_right, linked_programs_are_named, uses_are_shaped};
 pub use linking::{MAX_FILES, link, unlink};
 pub use method_conditions::code_of;
 pub use operand::{OperandFault, Use, index_of, use_of};

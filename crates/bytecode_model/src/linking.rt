@@ -55,7 +55,7 @@ pub fn link(
     ensures back { IfOk result (λ program. unlinked program ≡ files) }
     ensures sound { IfOk result IsSound }
     ensures operands { IfOk result AreRightOperands }
-    ensures named { IfOk result (IsLinkedOf listing main.now) }
+    ensures named { IfOk result (IsLinkedOf side listing main.now) }
 {
     linked_operands_are_right();
     linked_programs_are_named();
