@@ -7,6 +7,7 @@ pub mod Lists
 pub mod Loop
 pub mod Names
 pub mod Owning
+pub mod Picking
 pub mod Placing
 pub mod Reaching
 pub mod Sound

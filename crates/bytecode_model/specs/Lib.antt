@@ -16,6 +16,7 @@ pub mod Place
 pub mod Makes
 pub mod Wants
 pub mod Rules
+pub mod Spans
 pub mod Shape
 pub mod Typed
 pub mod Named

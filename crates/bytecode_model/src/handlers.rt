@@ -88,7 +88,7 @@ fn places_of(alloc: Global, starts: &[u32]) -> Result<BTreeMap<u32, u32>, NoMemo
 }
 
 /// The next number, if a number of 32 bits holds it.
-fn next(index: u32) -> Result<u32, NoMemory>
+pub fn next(index: u32) -> Result<u32, NoMemory>
     ensures { IfOk result (λ n. n ≡ index + 1) }
 {
     match index.checked_add(1) {

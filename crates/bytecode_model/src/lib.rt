@@ -10,6 +10,7 @@ mod classes;
 mod copying;
 mod covering;
 mod declared;
+mod exception_table;
 mod fault;
 mod handlers;
 mod heads;
@@ -31,6 +32,7 @@ mod text;
 
 pub use arrays::is_array;
 pub use declared::{Found, MemberKind};
+pub use exception_table::{Handlers, NearHandlers};
 pub use fault::LinkFault;
 pub use laws::{linked_operands_are_right, linked_programs_are_named, uses_are_shaped};
 pub use linking::{MAX_FILES, link, unlink};
