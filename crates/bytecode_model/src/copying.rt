@@ -45,7 +45,7 @@ impl Copied for Method {
             max_locals: self.max_locals,
             insns: copy_insns(alloc, self.insns.as_slice())?,
             refs: copy_list(alloc, &self.refs)?,
-            handlers: copy_list(alloc, &self.handlers)?,
+            handlers: self.handlers.copy(alloc)?,
         })
     }
 }

@@ -9,6 +9,7 @@ ghost use Rattle.bytecode_model.specs.declared.program.Handler.{Handler};
 
 use crate::handlers::next;
 use crate::program::Handler;
+use class_codec::copy_list;
 use mon_base::{List, NoMemory};
 use std::alloc::Global;
 use std::marker::Model;
@@ -54,6 +55,13 @@ impl Handlers {
     {
         let spans = spans_of(alloc, list.as_slice())?;
         Ok(Handlers { list, spans })
+    }
+
+    /// An equal table.
+    pub fn copy(&self, alloc: Global) -> Result<Handlers, NoMemory>
+        ensures { IfOk result (λ copy. copy ≡ self.now) }
+    {
+        Handlers::new(alloc, copy_list(alloc, &self.list)?)
     }
 
     /// The handlers in the table's order.

@@ -13,12 +13,13 @@ ghost use Rattle.bytecode_model.specs.Index.{OverridesAs};
 ghost use Rattle.bytecode_model.specs.Sound.{IsSoundMethod};
 ghost use Rattle.bytecode_model.specs.Linking.{bare, with_code, code_told, read_of, code_linked, method_linked, methods_linked};
 
+use crate::exception_table::Handlers;
 use crate::fault::LinkFault;
 use crate::handlers::{Starts, handlers_linked};
 use crate::index::Index;
 use crate::method_conditions::{code_of, is_allowed, overrides};
 use crate::operands::operands_linked;
-use crate::program::{Handler, Method, Target};
+use crate::program::{Method, Target};
 use crate::text::{copy_class, copy_text};
 use class_codec::{ClassFile, Code, Member};
 use insn_codec::{CodeFault, Insn, read_code};
@@ -99,7 +100,7 @@ fn bare(alloc: Global, file: &ClassFile, member: &Member) -> Result<Method, NoMe
         max_locals: 0,
         insns: List::new(alloc),
         refs: List::new(alloc),
-        handlers: List::new(alloc),
+        handlers: Handlers::none(alloc),
     })
 }
 
@@ -124,7 +125,8 @@ fn code_linked(
     let starts = Starts::new(alloc, insns.as_slice())?;
     let end = insns.len() as u32;
     let table = code.table.as_slice();
-    let handlers = handlers_linked(alloc, index, class, pool, method, end, &starts, table)?;
+    let list = handlers_linked(alloc, index, class, pool, method, end, &starts, table)?;
+    let handlers = Handlers::new(alloc, list)?;
     let made = with_code(alloc, file, member, code, insns, refs, handlers)?;
     Ok(made)
 }
@@ -136,7 +138,7 @@ fn with_code(
     code: &Code,
     insns: List<Insn>,
     refs: List<Target>,
-    handlers: List<Handler>,
+    handlers: Handlers,
 ) -> Result<Method, NoMemory>
     ensures { IfOk result (λ method. method ≡ with_code file.now member.now code.now insns refs handlers) }
 {

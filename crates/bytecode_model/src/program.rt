@@ -1,5 +1,6 @@
 //! What a program is once it is linked.
 
+use crate::exception_table::Handlers;
 use api_listing::Listing;
 use class_codec::{ClassFile, Copied};
 use insn_codec::Insn;
@@ -69,7 +70,7 @@ impl Copied for Target {
 }
 
 /// A method of a given class. One without code has no instructions, and sizes of 0.
-#[derive(Debug, Drop, PartialEq, Eq)]
+#[derive(Debug, Drop)]
 pub struct Method {
     pub flags: u16,
     pub name: Bytes,
@@ -79,11 +80,11 @@ pub struct Method {
     pub insns: List<Insn>,
     /// What the operand of each instruction names.
     pub refs: List<Target>,
-    pub handlers: List<Handler>,
+    pub handlers: Handlers,
 }
 
 /// A given class, with its file.
-#[derive(Debug, Drop, PartialEq, Eq)]
+#[derive(Debug, Drop)]
 pub struct LinkedClass {
     pub name: Bytes,
     pub parent: Bytes,
@@ -92,7 +93,7 @@ pub struct LinkedClass {
 }
 
 /// Class files that are linked with a listing.
-#[derive(Debug, Drop, PartialEq, Eq)]
+#[derive(Debug, Drop)]
 pub struct Program {
     pub classes: List<LinkedClass>,
     pub listing: Listing,

@@ -102,7 +102,11 @@ fn a_call_links(rt: HostRuntime) -> Result<(), Fail> {
     let program = linked.ok().ok_or("it links")?;
     assert_eq!(rt; (program.main_class, program.main_method), (0, 0));
     let copy = program.copy(alloc).ok().ok_or("memory is left")?;
-    assert!(rt; copy == program);
+    assert!(rt; copy.literals == program.literals && copy.listing == program.listing);
+    assert_eq!(rt;
+        (copy.classes.len(), copy.main_class, copy.main_method),
+        (1, 0, 0)
+    );
     let files = unlink(alloc, &program).ok().ok_or("memory is left")?;
     assert_eq!(rt; files.len(), 1);
     for class in program.classes.as_slice() {

@@ -3,6 +3,7 @@ use Rattle.insn_codec.specs.Spelling.{starts_of}
 use Rattle.bytecode_model.specs.Heads.{head_of}
 use Rattle.bytecode_model.specs.Operands.{operands_linked}
 use Rattle.bytecode_model.specs.Handlers.{handlers_linked}
+use Rattle.bytecode_model.specs.Linking.{with_code}
 use Rattle.bytecode_model.specs.Sound.{IsSoundMethod}
 use Rattle.bytecode_model.proofs.Sound.{sound_code}
 use Rattle.bytecode_model.proofs.methods.code_linked.Goals as goal
@@ -17,7 +18,7 @@ returns-clause-sound c =
     let pool = c.as_slice-pool.result.now in
     let insns = c.in_ok-insns.insns in
     let refs = c.in_ok-refs.refs in
-    let handlers = c.in_ok-handlers.handlers in
+    let handlers = c.in_ok-list.list in
     let starts = c.in_ok-starts.starts in
     let end = c.len-end.result in
     let name : (head_of file).name ≡ class = sym c.requires.name in
@@ -31,6 +32,6 @@ returns-clause-sound c =
     ap (λ cl. handlers_linked files listing cl file.pool method end (starts_of insns) c.args.code.now.table) name
     ∙ ap (λ p. handlers_linked files listing class p method end (starts_of insns) c.args.code.now.table) named
     ∙ ap (λ ss. handlers_linked files listing class pool method end ss c.args.code.now.table) begins
-    ∙ ap (λ es. handlers_linked files listing class pool method end starts es) (sym c.as_slice-table.ensures) ∙ c.in_ok-handlers.ensures in
-    subst IsSoundMethod (sym c.in_ok-made.ensures)
+    ∙ ap (λ es. handlers_linked files listing class pool method end starts es) (sym c.as_slice-table.ensures) ∙ c.in_ok-list.ensures in
+    subst IsSoundMethod (sym (c.in_ok-made.ensures ∙ ap (with_code file c.args.member.now c.args.code.now insns refs) c.in_ok-handlers.ensures))
     (sound_code files listing file method end c.args.member.now c.args.code.now insns refs handlers c.in_ok-insns.ensures.count c.in_ok-insns.ensures.fits c.requires.table operands table)
