@@ -1,3 +1,4 @@
+pub mod Covering
 pub mod Choices
 pub mod Describing
 pub mod Fitting

@@ -129,12 +129,11 @@ fn is_handled(
 pub fn is_caught(frames: &[Option<FrameType>], place: &PlaceRef, frame: &FrameType) -> bool
     ensures { result ≡ Caught frames.now place.now frame.now }
 {
-    let mut left = place.method.handlers.as_slice();
-    while let [handler, rest @ ..] = left {
+    let mut near = place.method.handlers.near(place.at);
+    while let Some(handler) = near.next() {
         if !is_handled(frames, place, frame, handler) {
             return false;
         }
-        left = rest;
     }
     true
 }

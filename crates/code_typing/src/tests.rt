@@ -7,7 +7,7 @@ mod opcodes;
 
 use super::*;
 use api_listing::read;
-use bytecode_model::{Handler, LinkedClass, Method, Program, Target};
+use bytecode_model::{Handler, Handlers, LinkedClass, Method, Program, Target};
 use cert_format::{FrameType, Typing, VType};
 use class_codec::{ClassFile, Const};
 use insn_codec::Insn;
@@ -224,7 +224,7 @@ fn bare_of(alloc: Global) -> Result<Method, NoMemory> {
         max_locals: 0,
         insns: List::new(alloc),
         refs: List::new(alloc),
-        handlers: List::new(alloc),
+        handlers: Handlers::none(alloc),
     })
 }
 
@@ -251,7 +251,7 @@ fn rule(alloc: Global, draft: Draft, at: u32) -> Result<Option<u8>, Fail> {
         max_locals,
         insns,
         refs,
-        handlers,
+        handlers: Handlers::new(alloc, handlers)?,
     })?;
     let listing = match read(alloc, b"class api/Net extends java/lang/Object\n") {
         Ok(listing) => listing,
