@@ -335,7 +335,8 @@ fn throw_to_handlers(
 {
     assignable_is_an_order();
     rows_follow_the_order();
-    for handler in body.method.handlers.as_slice() {
+    let mut near = body.method.handlers.near(place.at);
+    while let Some(handler) = near.next() {
         throw(alloc, body, work, place, handler)?;
     }
     Ok(())

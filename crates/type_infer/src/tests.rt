@@ -4,7 +4,7 @@ use crate::body::Body;
 use crate::failing::{first_failing, rows_met};
 use crate::solving::solve;
 use api_listing::read;
-use bytecode_model::{Handler, LinkedClass, Method, Program, Target};
+use bytecode_model::{Handler, Handlers, LinkedClass, Method, Program, Target};
 use cert_format::{FrameType, VType};
 use class_codec::{ClassFile, Const};
 use insn_codec::Insn;
@@ -206,7 +206,7 @@ fn inferred(alloc: Global, draft: Draft) -> Result<Found, Fail> {
         max_locals: sizes.1,
         insns,
         refs,
-        handlers,
+        handlers: Handlers::new(alloc, handlers)?,
     })?;
     let listing = match read(alloc, b"class api/Net extends java/lang/Object\n") {
         Ok(listing) => listing,

@@ -1,4 +1,4 @@
-use Rattle.std.proofs.Common.{◌≡◌, length, take}
+use Rattle.std.proofs.Common.{◌≡◌, ◌⊎◌, length}
 use Rattle.std.specs.Prelude.{Contains, IsTrue}
 use Rattle.bytecode_model.specs.declared.program.Handler.{Handler}
 use Rattle.bytecode_model.specs.Rules.{covers}
@@ -9,8 +9,12 @@ abbrev pub invariant-loop-handler : goal.invariant-loop-handler
 invariant-loop-handler l = record {
   frames : length l.work.frames ≡ length l.body.method.insns;
   marks : length l.work.marks ≡ length l.body.method.insns;
+  among : (handler : Handler) → Contains l.near handler → Contains l.body.method.handlers handler;
   grows : IsReady l.body → Grows l.body.program l.fn.work l.work;
   found : IsReady l.body → StaysFound l.body l.place.at l.fn.work l.work;
-  sent : IsReady l.body → (handler : Handler) → Contains (take l.handler-index l.body.method.handlers) handler → IsTrue (covers l.place.at handler)
-      → IsSent l.body l.place.at handler.at (thrown_to handler) l.fn.work l.work;
+  sent : IsReady l.body → (handler : Handler) → Contains l.body.method.handlers handler → IsTrue (covers l.place.at handler)
+      → Contains l.near handler ⊎ IsSent l.body l.place.at handler.at (thrown_to handler) l.fn.work l.work;
 }
+
+abbrev pub decreases-loop-handler : goal.decreases-loop-handler
+decreases-loop-handler l = length l.near
