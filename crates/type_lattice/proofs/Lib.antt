@@ -1,3 +1,7 @@
+pub mod Ascending
+pub mod Filling
+pub mod OnNames
+pub mod ByName
 pub mod Climbing
 pub mod Arrays
 pub mod Within
@@ -8,3 +12,4 @@ mod Least
 mod Alone
 mod Listed
 mod Linked
+mod Circles

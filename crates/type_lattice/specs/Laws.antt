@@ -1,9 +1,9 @@
 -- The types in order: what holds of assignability and of the least type above two.
-use Rattle.std.specs.Prelude.{◌≡◌, ℕ, suc, true, false, ◌⊎◌, List, length, None, Ok}
+use Rattle.std.specs.Prelude.{◌≡◌, ℕ, true, false, ◌⊎◌, List, None, Ok}
 use Rattle.api_listing.specs.declared.types.Listing.{Listing}
 use Rattle.api_listing.specs.BuiltIn.{object, throwable}
 use Rattle.api_listing.specs.Listing.{SpellsListing}
-use Rattle.api_listing.specs.Nearest.{class_named, upwards}
+use Rattle.api_listing.specs.Nearest.{class_named}
 use Rattle.bytecode_model.specs.declared.program.Program.{Program}
 use Rattle.bytecode_model.specs.declared.program.Side.{Side}
 use Rattle.bytecode_model.specs.Classes.{classes_of, is_below, is_interface}
@@ -13,12 +13,13 @@ use Rattle.cert_format.specs.declared.typing.VType.{VType}
 use Rattle.cert_format.specs.declared.typing.VType.TheVariants as types
 use Rattle.bytecode_model.specs.Arrays.{is_array}
 use Rattle.bytecode_model.specs.Assigning.{assignable}
+use Rattle.type_lattice.specs.Hierarchy.{EachWayEnds}
 use Rattle.type_lattice.specs.Merging.{merged}
 
 -- The classes are in order: each way up ends, Object is at the top, an interface is below nothing else, Throwable is a
 -- class, and no class is named as an array.
 pub record IsInOrder (program : Program) : Type 0 where
-  pub ends : (name : List ℕ) → upwards (suc (length (classes_of program))) (classes_of program) name ≡ upwards (length (classes_of program)) (classes_of program) name
+  pub ends : EachWayEnds (classes_of program)
   pub top : (above : List ℕ) → is_below program object above ≡ true → above ≡ object
   pub interfaces : (name above : List ℕ) → is_interface program name ≡ true → is_below program name above ≡ true → (above ≡ name) ⊎ (above ≡ object)
   pub thrown : is_interface program throwable ≡ false

@@ -1,5 +1,4 @@
 -- Types that are lent, and the type that each is.
-use Rattle.std.specs.Prelude.{ℕ, List, [], ◌∷◌, ◌++◌, if◌then◌else◌}
 use Rattle.cert_format.specs.declared.typing.VType.{VType}
 use Rattle.cert_format.specs.declared.typing.VType.TheVariants as types
 use Rattle.type_lattice.specs.declared.lending.TypeRef.{TypeRef}

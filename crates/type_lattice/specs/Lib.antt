@@ -1,4 +1,5 @@
-pub mod Rising
+pub mod Ways
+pub mod Hierarchy
 pub mod Lending
 pub mod Merging
 pub mod Laws

@@ -7,26 +7,24 @@ ghost use Rattle.bytecode_model.specs.Assigning.{component_fits, array_fits, nam
 ghost use Rattle.bytecode_model.specs.Arrays.{array_of, described};
 ghost use Rattle.type_lattice.specs.Lending.{type_lent};
 ghost use Rattle.type_lattice.specs.declared.lending.TypeRef.{TypeRef};
-ghost use Rattle.bytecode_model.specs.declared.program.Program.{Program};
 ghost use Rattle.cert_format.specs.declared.typing.VType.TheVariants.{Ref};
 
-use crate::classes::{is_below, is_interface};
+use crate::indexed::{Indexed, is_below, is_interface};
 use crate::lending::{TypeRef, lend};
-use bytecode_model::Program;
 use cert_format::VType;
 
 /// The class that each other is below, and each array.
 pub const OBJECT: &[u8] = b"java/lang/Object";
 
 /// Whether a value of the one type may stand where one of the other is wanted. It takes no memory.
-pub fn assignable(program: &Program, from: &VType, to: &VType) -> bool
+pub fn assignable(program: &Indexed, from: &VType, to: &VType) -> bool
     ensures { result ≡ assignable program.now from.now to.now }
 {
     lent_fits(program, lend(from), to)
 }
 
 /// The same of a type that is lent.
-pub fn lent_fits(program: &Program, from: TypeRef, to: &VType) -> bool
+pub fn lent_fits(program: &Indexed, from: TypeRef, to: &VType) -> bool
     ensures { result ≡ assignable program.now (type_lent from.entry) to.now }
 {
     match to {
@@ -45,7 +43,7 @@ pub fn lent_fits(program: &Program, from: TypeRef, to: &VType) -> bool
 }
 
 /// Whether a value of the type may stand where a reference to this class or array is wanted.
-pub fn fits_class(program: &Program, from: TypeRef, to: &[u8]) -> bool
+pub fn fits_class(program: &Indexed, from: TypeRef, to: &[u8]) -> bool
     ensures { result ≡ assignable program.now (type_lent from.entry) (Ref to.now) }
 {
     match from {
@@ -58,7 +56,7 @@ pub fn fits_class(program: &Program, from: TypeRef, to: &[u8]) -> bool
 
 /// An array of these items.
 #[tactic(auto, using(crate::proofs::Arrays::array_of_item))]
-fn array_of_fits(program: &Program, item: &[u8], to: &[u8]) -> bool
+fn array_of_fits(program: &Indexed, item: &[u8], to: &[u8]) -> bool
     ensures { result ≡ name_fits program.now (array_of item.now) to.now }
 {
     if to == OBJECT {
@@ -71,7 +69,7 @@ fn array_of_fits(program: &Program, item: &[u8], to: &[u8]) -> bool
 }
 
 /// An array of these items, where an array is wanted.
-fn items_fit(program: &Program, item: &[u8], to: &[u8]) -> bool
+fn items_fit(program: &Indexed, item: &[u8], to: &[u8]) -> bool
     ensures { result ≡ array_fits program.now (array_of item.now) to.now }
 {
     match to {
@@ -80,7 +78,7 @@ fn items_fit(program: &Program, item: &[u8], to: &[u8]) -> bool
     }
 }
 
-fn item_fits(program: &Program, item: &[u8], to: &[u8]) -> bool
+fn item_fits(program: &Indexed, item: &[u8], to: &[u8]) -> bool
     ensures { result ≡ component_fits program.now (described item.now) to.now }
 {
     if is_array(item) {
@@ -93,13 +91,13 @@ fn item_fits(program: &Program, item: &[u8], to: &[u8]) -> bool
     }
 }
 
-fn name_fits(program: &Program, from: &[u8], to: &[u8]) -> bool
+fn name_fits(program: &Indexed, from: &[u8], to: &[u8]) -> bool
     ensures { result ≡ name_fits program.now from.now to.now }
 {
     class_fits(program, from, to) || array_fits(program, from, to)
 }
 
-fn class_fits(program: &Program, from: &[u8], to: &[u8]) -> bool
+fn class_fits(program: &Indexed, from: &[u8], to: &[u8]) -> bool
     ensures { result ≡ class_fits program.now from.now to.now }
 {
     from == to
@@ -108,7 +106,7 @@ fn class_fits(program: &Program, from: &[u8], to: &[u8]) -> bool
         || (!is_array(from) && is_below(program, from, to))
 }
 
-fn array_fits(program: &Program, from: &[u8], to: &[u8]) -> bool
+fn array_fits(program: &Indexed, from: &[u8], to: &[u8]) -> bool
     ensures { result ≡ array_fits program.now from.now to.now }
 {
     match from {
@@ -122,7 +120,7 @@ fn array_fits(program: &Program, from: &[u8], to: &[u8]) -> bool
     }
 }
 
-fn component_fits(program: &Program, from: &[u8], to: &[u8]) -> bool
+fn component_fits(program: &Indexed, from: &[u8], to: &[u8]) -> bool
     ensures { result ≡ component_fits program.now from.now to.now }
 {
     let mut from = from;
@@ -137,7 +135,7 @@ fn component_fits(program: &Program, from: &[u8], to: &[u8]) -> bool
     leaf_fits(program, from, to)
 }
 
-fn leaf_fits(program: &Program, from: &[u8], to: &[u8]) -> bool
+fn leaf_fits(program: &Indexed, from: &[u8], to: &[u8]) -> bool
     ensures { result ≡ leaf_fits program.now from.now to.now }
 {
     if from == to {

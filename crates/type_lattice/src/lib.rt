@@ -1,15 +1,24 @@
 //! The types of the verifier, in order: which may stand in the place of which.
 //! (The Java Virtual Machine Specification, section 4.10; docs/TYPING.md.)
+//!
+//! Whether a class is below another, and the nearest class above two, is asked at each assignment of a reference. So these
+//! calls take a program as [`Indexed`]: a [`Hierarchy`] finds a class in an ordered map, and keeps for each place its height,
+//! the place above it and one further up, so that a way up is gone in as many steps as its height has digits.
 #![tactic(auto)]
 
 mod assigning;
 mod classes;
+mod ending;
+mod hierarchy;
+mod indexed;
 mod laws;
 mod lending;
 mod merging;
+mod ways;
 
 pub use assigning::{assignable, fits_class, lent_fits};
-pub use classes::{is_below, is_interface};
+pub use hierarchy::Hierarchy;
+pub use indexed::{Indexed, is_below, is_interface};
 pub use laws::{assignable_is_an_order, linked_is_in_order, merge_is_the_least};
 pub use lending::{TypeRef, lend, own};
 pub use merging::merge;

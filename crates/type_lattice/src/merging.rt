@@ -8,8 +8,7 @@ ghost use Rattle.type_lattice.specs.Merging.{class_above, class_merged, leaf_mer
 ghost use Rattle.type_lattice.specs.Merging.{both_within, arrays_merged, names_merged, merged};
 
 use crate::assigning::{OBJECT, is_array, reference_of};
-use crate::classes::{first_above, is_interface};
-use bytecode_model::Program;
+use crate::indexed::{Indexed, first_above, is_interface};
 use cert_format::VType;
 use mon_base::{Bytes, NoMemory};
 use std::alloc::Global;
@@ -18,7 +17,7 @@ use std::alloc::Global;
 const OBJECT_DESCRIBED: &[u8] = b"Ljava/lang/Object;";
 
 /// Of two classes.
-fn class_merged<'a>(program: &'a Program, a: &[u8], b: &[u8]) -> &'a [u8]
+fn class_merged<'a>(program: &'a Indexed, a: &[u8], b: &[u8]) -> &'a [u8]
     ensures { result.now ≡ class_merged program.now a.now b.now }
 {
     if is_interface(program, a) || is_interface(program, b) {
@@ -31,7 +30,7 @@ fn class_merged<'a>(program: &'a Program, a: &[u8], b: &[u8]) -> &'a [u8]
 }
 
 /// Of two classes or arrays that are not both arrays.
-fn leaf_merged<'a>(program: &'a Program, a: &'a [u8], b: &[u8]) -> &'a [u8]
+fn leaf_merged<'a>(program: &'a Indexed, a: &'a [u8], b: &[u8]) -> &'a [u8]
     ensures { result.now ≡ leaf_merged program.now a.now b.now }
 {
     if a == b {
@@ -58,7 +57,7 @@ pub fn push_described(out: &mut Bytes, name: &[u8]) -> Result<(), NoMemory>
 /// Appends the array of these two items' merge, or else what is told.
 fn push_items_merged(
     out: &mut Bytes,
-    program: &Program,
+    program: &Indexed,
     otherwise: &[u8],
     a: &[u8],
     b: &[u8],
@@ -103,7 +102,7 @@ fn both_within<'a>(a: &'a [u8], b: &'a [u8]) -> Option<(&'a [u8], &'a [u8])>
 }
 
 /// Of two arrays of these items.
-fn arrays_merged(alloc: Global, program: &Program, a: &[u8], b: &[u8]) -> Result<Bytes, NoMemory>
+fn arrays_merged(alloc: Global, program: &Indexed, a: &[u8], b: &[u8]) -> Result<Bytes, NoMemory>
     ensures { IfOk result (λ name. name ≡ arrays_merged program.now object a.now b.now) }
 {
     let mut out = Bytes::new(alloc);
@@ -121,7 +120,7 @@ fn arrays_merged(alloc: Global, program: &Program, a: &[u8], b: &[u8]) -> Result
 }
 
 /// Of two classes or arrays.
-fn names_merged(alloc: Global, program: &Program, a: &[u8], b: &[u8]) -> Result<Bytes, NoMemory>
+fn names_merged(alloc: Global, program: &Indexed, a: &[u8], b: &[u8]) -> Result<Bytes, NoMemory>
     ensures { IfOk result (λ name. name ≡ names_merged program.now a.now b.now) }
 {
     match a {
@@ -144,7 +143,7 @@ fn names_merged(alloc: Global, program: &Program, a: &[u8], b: &[u8]) -> Result<
 /// Of a reference to this class or array and a type.
 fn reference_merged(
     alloc: Global,
-    program: &Program,
+    program: &Indexed,
     a: &[u8],
     b: &VType,
 ) -> Result<VType, NoMemory>
@@ -158,7 +157,7 @@ fn reference_merged(
 }
 
 /// The least type to which both are assignable.
-pub fn merge(alloc: Global, program: &Program, a: &VType, b: &VType) -> Result<VType, NoMemory>
+pub fn merge(alloc: Global, program: &Indexed, a: &VType, b: &VType) -> Result<VType, NoMemory>
     ensures { IfOk result (λ t. t ≡ merged program.now a.now b.now) }
 {
     match a {

@@ -1,7 +1,9 @@
-//! Which types are assignable, as the JVM specification's section 4.10.1.2 tells it.
+//! Which types are assignable, as the JVM specification's section 4.10.1.2 tells it, and classes found by their names.
+
+ghost use Rattle.std.specs.Prelude.{◌≡◌, [], false, IfOk};
 
 use super::*;
-use api_listing::read;
+use api_listing::{ListedClass, read};
 use bytecode_model::{LinkedClass, Program};
 use cert_format::VType;
 use class_codec::{ClassFile, Const};
@@ -40,17 +42,12 @@ fn class_of(
     })
 }
 
-/// The classes a/A, a/B below it, a/C below java/lang/Thread, and the interface a/I.
-fn program_of(alloc: Global) -> Result<Program, Fail> {
+/// A program of these classes.
+fn program_with(alloc: Global, classes: List<LinkedClass>) -> Result<Program, Fail> {
     let listing = match read(alloc, b"class api/Net extends java/lang/Object\n") {
         Ok(listing) => listing,
         Err(_) => return Err(Fail::from("the text is a listing")),
     };
-    let mut classes = List::new(alloc);
-    classes.push(class_of(alloc, b"a/A", b"java/lang/Object", 0x21)?)?;
-    classes.push(class_of(alloc, b"a/B", b"a/A", 0x21)?)?;
-    classes.push(class_of(alloc, b"a/C", b"java/lang/Thread", 0x21)?)?;
-    classes.push(class_of(alloc, b"a/I", b"java/lang/Object", 0x601)?)?;
     Ok(Program {
         classes,
         listing,
@@ -60,8 +57,21 @@ fn program_of(alloc: Global) -> Result<Program, Fail> {
     })
 }
 
+/// The classes a/A, a/B below it, a/C below java/lang/Thread, and the interface a/I.
+fn program_of(alloc: Global) -> Result<Indexed, Fail> {
+    let mut classes = List::new(alloc);
+    classes.push(class_of(alloc, b"a/A", b"java/lang/Object", 0x21)?)?;
+    classes.push(class_of(alloc, b"a/B", b"a/A", 0x21)?)?;
+    classes.push(class_of(alloc, b"a/C", b"java/lang/Thread", 0x21)?)?;
+    classes.push(class_of(alloc, b"a/I", b"java/lang/Object", 0x601)?)?;
+    match Indexed::tested(alloc, program_with(alloc, classes)?)? {
+        Some(program) => Ok(program),
+        None => Err(Fail::from("each way up ends")),
+    }
+}
+
 /// Whether a reference to the one is assignable to a reference to the other.
-fn refs_fit(alloc: Global, program: &Program, from: &[u8], to: &[u8]) -> Result<bool, NoMemory> {
+fn refs_fit(alloc: Global, program: &Indexed, from: &[u8], to: &[u8]) -> Result<bool, NoMemory> {
     let from = VType::Ref(Bytes::from_slice(alloc, from)?);
     let to = VType::Ref(Bytes::from_slice(alloc, to)?);
     Ok(assignable(program, &from, &to))
@@ -151,7 +161,7 @@ fn arrays_of_items(rt: HostRuntime) -> Result<(), Fail> {
 /// Whether the merge of references to the two is one to the third, whichever comes first.
 fn refs_merge(
     alloc: Global,
-    program: &Program,
+    program: &Indexed,
     a: &[u8],
     b: &[u8],
     above: &[u8],
@@ -199,5 +209,45 @@ fn merges_of_others(rt: HostRuntime) -> Result<(), Fail> {
     assert!(rt; merge(alloc, &program, &VType::Uninit(1), &VType::Uninit(1))? == VType::Uninit(1));
     assert!(rt; merge(alloc, &program, &VType::Uninit(1), &VType::Uninit(2))? == VType::Top);
     assert!(rt; merge(alloc, &program, &VType::UninitThis, &class)? == VType::Top);
+    Ok(())
+}
+
+/// A class of this name and superclass, of no listing.
+fn listed_of(alloc: Global, name: &[u8], parent: &[u8]) -> Result<ListedClass, NoMemory>
+    ensures { IfOk result (λ class. class
+        ≡ record { name = name.now; parent = parent.now; interfaces = []; is_interface = false }) }
+{
+    Ok(ListedClass {
+        name: Bytes::from_slice(alloc, name)?,
+        parent: Bytes::from_slice(alloc, parent)?,
+        interfaces: List::new(alloc),
+        is_interface: false,
+    })
+}
+
+#[test]
+fn classes_below_others(rt: HostRuntime) -> Result<(), Fail> {
+    let alloc = rt.alloc();
+    let mut list = List::new(alloc);
+    list.push(listed_of(alloc, b"B", b"A")?)?;
+    list.push(listed_of(alloc, b"C", b"A")?)?;
+    list.push(listed_of(alloc, b"A", b"O")?)?;
+    let classes = Hierarchy::new(alloc, list)?;
+    assert!(rt; classes.is_below(b"B", b"A"));
+    assert!(rt; !classes.is_below(b"B", b"C"));
+    assert!(rt; !classes.is_below(b"A", b"O"));
+    assert!(rt; classes.class_named(b"O").is_none());
+    assert!(rt; classes.nearest_common(b"B", b"C") == Some(b"A".as_slice()));
+    assert!(rt; classes.nearest_common(b"B", b"O").is_none());
+    Ok(())
+}
+
+#[test]
+fn a_way_in_a_circle(rt: HostRuntime) -> Result<(), Fail> {
+    let alloc = rt.alloc();
+    let mut classes = List::new(alloc);
+    classes.push(class_of(alloc, b"a/A", b"a/B", 0x21)?)?;
+    classes.push(class_of(alloc, b"a/B", b"a/A", 0x21)?)?;
+    assert!(rt; Indexed::tested(alloc, program_with(alloc, classes)?)?.is_none());
     Ok(())
 }

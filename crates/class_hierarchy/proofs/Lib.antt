@@ -1,4 +1,0 @@
-pub mod Ascending
-pub mod Filling
-pub mod OnNames
-pub mod ByName

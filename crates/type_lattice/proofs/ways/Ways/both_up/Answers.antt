@@ -1,0 +1,30 @@
+use Rattle.std.proofs.Common.{◌≡◌, Some, sym, ap, ◌∙◌, arith}
+use Rattle.std.specs.Prelude.{slice_get}
+use Rattle.type_lattice.specs.Ways.{way}
+use Rattle.type_lattice.proofs.Ascending.{next_is, together, at_first}
+use Rattle.type_lattice.proofs.ways.Ways.both_up.Goals as goal
+
+pub returns-then-low-high-2 : goal.returns-then-low-high-2
+returns-then-low-high-2 c =
+    let ps = c.args.self.now in
+    let low = c.kept-low.ensures.way in
+    let other : slice_get (way ps c.args.b) c.kept-low.result.steps ≡ Some c.kept-high.result.jump = ap (slice_get (way ps c.args.b)) c.if-low-high.true ∙ c.kept-high.ensures.way.jump in
+    record {
+      gone = c.kept-low.result.steps;
+      one = low.jump;
+      other = other;
+      some = low.moves c.in_ok-above.above (sym c.kept-low.ensures.parent ∙ c.in_ok-above.was);
+      apart = λ k x less e f. c.if-low-high-2.true (together ps c.kept-low.ensures.parents c.args.a c.args.b c.kept-low.result.steps k x _ _ less e f low.jump other);
+    }
+
+pub returns : goal.returns
+returns c =
+    let ps = c.args.self.now in
+    let parents = c.kept-low.ensures.parents in
+    record {
+      gone = 1;
+      one = next_is ps parents c.args.a c.in_ok-above.above (sym c.kept-low.ensures.parent ∙ c.in_ok-above.was);
+      other = next_is ps parents c.args.b c.in_ok-beyond.beyond (sym c.kept-high.ensures.parent ∙ c.in_ok-beyond.was);
+      some = omega arith;
+      apart = λ k x less e f. c.requires.apart (at_first ps parents c.args.a c.args.b k x less e f);
+    }
