@@ -10,12 +10,11 @@ ghost use Rattle.bytecode_model.specs.Heads.{is_static};
 
 use crate::described::{arguments_text, arity, next_type, type_described};
 use crate::place::{PlaceRef, is_maker};
-use bytecode_model::Program;
 use cert_format::{FrameType, VType};
-use type_lattice::{TypeRef, lent_fits};
+use type_lattice::{Indexed, TypeRef, lent_fits};
 
 /// Whether locals that hold nothing are assignable to these.
-fn are_top(program: &Program, to: &[VType]) -> bool
+fn are_top(program: &Indexed, to: &[VType]) -> bool
     ensures { result ≡ locals_fit program.now (type_at []) 0 to.now }
 {
     let mut j: usize = 0;
@@ -31,7 +30,7 @@ fn are_top(program: &Program, to: &[VType]) -> bool
 }
 
 /// The locals behind the first, where the type is assignable to that or there is none.
-fn behind_fit<'a>(program: &Program, from: TypeRef, to: &'a [VType]) -> Option<&'a [VType]>
+fn behind_fit<'a>(program: &Indexed, from: TypeRef, to: &'a [VType]) -> Option<&'a [VType]>
     ensures { option_copied result ≡ behind_fit program.now (type_lent from.entry) to.now }
 {
     match to {
@@ -47,7 +46,7 @@ fn behind_fit<'a>(program: &Program, from: TypeRef, to: &'a [VType]) -> Option<&
 }
 
 /// Whether arguments of these types, and locals that hold nothing behind them, are assignable to these.
-fn arguments_fit(program: &Program, text: &[u8], to: &[VType]) -> bool
+fn arguments_fit(program: &Indexed, text: &[u8], to: &[VType]) -> bool
     ensures { result ≡ locals_fit program.now (type_at (map type_described (types_at 255 text.now))) 0 to.now }
 {
     let mut text = text;
@@ -84,7 +83,7 @@ pub fn this_type<'a>(place: &PlaceRef<'a>) -> TypeRef<'a>
 }
 
 /// Whether this first type, and arguments of these types behind it, are assignable to these.
-fn first_fits(program: &Program, from: TypeRef, text: &[u8], to: &[VType]) -> bool
+fn first_fits(program: &Indexed, from: TypeRef, text: &[u8], to: &[VType]) -> bool
     ensures { result ≡ locals_fit program.now (type_at (type_lent from.entry ∷ map type_described (types_at 255 text.now))) 0 to.now }
 {
     match behind_fit(program, from, to) {

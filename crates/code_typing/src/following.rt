@@ -14,10 +14,9 @@ use crate::locals::locals_take;
 use crate::operands::count_taken;
 use crate::place::PlaceRef;
 use crate::yielded::yields_fit;
-use bytecode_model::Program;
 use cert_format::{FrameType, VType};
 use insn_codec::{Insn, goes_on, shape_of};
-use type_lattice::lent_fits;
+use type_lattice::{Indexed, lent_fits};
 
 /// The frame of an instruction, if it is reached.
 pub fn frame_of(frames: &[Option<FrameType>], at: usize) -> Option<&FrameType>
@@ -30,7 +29,7 @@ pub fn frame_of(frames: &[Option<FrameType>], at: usize) -> Option<&FrameType>
 }
 
 /// Whether operands that stay are assignable to these.
-fn below_fits(program: &Program, change: Change, from: &[VType], to: &[VType]) -> bool
+fn below_fits(program: &Indexed, change: Change, from: &[VType], to: &[VType]) -> bool
     ensures { result ≡ stack_fits program.now (map (change_told change.entry) from.now) to.now }
 {
     let mut from = from;

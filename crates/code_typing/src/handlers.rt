@@ -18,9 +18,9 @@ ghost use Rattle.bytecode_model.specs.Rules.{
 
 use crate::following::frame_of;
 use crate::place::PlaceRef;
-use bytecode_model::{Handler, Program};
+use bytecode_model::Handler;
 use cert_format::{FrameType, VType};
-use type_lattice::{TypeRef, is_below, lend, lent_fits};
+use type_lattice::{Indexed, TypeRef, is_below, lend, lent_fits};
 
 /// The class that each other is below that is caught.
 const THROWABLE: &[u8] = b"java/lang/Throwable";
@@ -56,7 +56,7 @@ fn local_caught(locals: &[VType], j: usize) -> TypeRef<'_>
 }
 
 /// Whether the locals that a handler finds are assignable to these.
-fn locals_caught(program: &Program, locals: &[VType], to: &[VType]) -> bool
+fn locals_caught(program: &Indexed, locals: &[VType], to: &[VType]) -> bool
     ensures { result ≡ locals_fit program.now (local_caught locals.now) 0 to.now }
 {
     let mut j: usize = 0;

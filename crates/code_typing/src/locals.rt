@@ -12,10 +12,10 @@ use crate::change::{Change, change_told};
 use crate::place::PlaceRef;
 use crate::wanted::{is_number, of_kind};
 use crate::yielded::type_at;
-use bytecode_model::{Method, Program};
+use bytecode_model::Method;
 use cert_format::{FrameType, VType};
 use insn_codec::{Kind, Shape, shape_of};
-use type_lattice::{TypeRef, lent_fits};
+use type_lattice::{Indexed, TypeRef, lent_fits};
 
 /// Whether the local in the place is of the kind.
 fn holds_kind(kind: Kind, locals: &[VType], slot: u16) -> bool
@@ -78,7 +78,7 @@ pub fn local_told<'a>(
 
 /// Whether the locals afterwards are assignable to these.
 pub fn locals_take(
-    program: &Program,
+    program: &Indexed,
     shape: Shape,
     change: Change,
     locals: &[VType],

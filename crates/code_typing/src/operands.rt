@@ -30,10 +30,9 @@ use crate::place::{
     PlaceRef, calls_maker, class_referred, desc_referred, has_receiver, is_own_field,
 };
 use crate::wanted::{Wanted, is_this, one_is, three_are, to_class, to_described, two_are};
-use bytecode_model::Program;
 use cert_format::VType;
 use insn_codec::{Heap, How, Item, Kind, Shape, depth_of, shape_of};
-use type_lattice::TypeRef;
+use type_lattice::{Indexed, TypeRef};
 
 // ---- how many
 
@@ -79,7 +78,7 @@ fn none_wanted(types: &[VType]) -> bool
 }
 
 /// The operands behind the first, where that is what is described.
-fn behind_met<'a>(program: &Program, desc: &[u8], types: &'a [VType]) -> Option<&'a [VType]>
+fn behind_met<'a>(program: &Indexed, desc: &[u8], types: &'a [VType]) -> Option<&'a [VType]>
     ensures { option_copied result ≡ behind_met program.now desc.now types.now }
 {
     match types {
@@ -95,7 +94,7 @@ fn behind_met<'a>(program: &Program, desc: &[u8], types: &'a [VType]) -> Option<
 }
 
 /// Whether each type is what the argument in its place is told to be.
-fn arguments_met(program: &Program, text: &[u8], types: &[VType]) -> bool
+fn arguments_met(program: &Indexed, text: &[u8], types: &[VType]) -> bool
     ensures { result ≡ all_met (map (to_described program.now) (types_at 255 text.now)) types.now }
 {
     let mut text = text;

@@ -5,16 +5,17 @@ ghost use Rattle.bytecode_model.specs.Operands.{index_of};
 ghost use Rattle.bytecode_model.specs.Place.{class_referred, name_referred, desc_referred, class_of, target_or_none};
 ghost use Rattle.bytecode_model.specs.Place.{has_receiver, calls_maker, is_own_field, is_maker};
 
-use bytecode_model::{LinkedClass, Method, Program, Target, index_of};
+use bytecode_model::{LinkedClass, Method, Target, index_of};
 use class_codec::{Reference, reference_at};
 use insn_codec::{How, Insn};
 use std::marker::Model;
+use type_lattice::Indexed;
 
 /// The instruction `insn` at the index `at` of a method of the class with the index `own`; `target` is what its operand
 /// names.
 #[derive(Drop)]
 pub struct PlaceRef<'a> {
-    pub program: &'a Program,
+    pub program: &'a Indexed,
     pub own: u32,
     pub class: &'a LinkedClass,
     pub method: &'a Method,

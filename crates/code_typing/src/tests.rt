@@ -15,6 +15,7 @@ use mon_base::{Bytes, List, NoMemory};
 use std::alloc::Global;
 use std::process::Abort;
 use std::test::Fail;
+use type_lattice::Indexed;
 
 /// A type, told in short.
 #[derive(Clone, Copy)]
@@ -265,6 +266,9 @@ fn rule(alloc: Global, draft: Draft, at: u32) -> Result<Option<u8>, Fail> {
         literals: List::new(alloc),
         main_class: 0,
         main_method: 1,
+    };
+    let Some(program) = Indexed::tested(alloc, program)? else {
+        return Err(Fail::from("each way up ends"));
     };
     let mut of_class = List::new(alloc);
     of_class.push(frames)?;

@@ -12,13 +12,14 @@ use crate::fault::TypeFault;
 use crate::following::frame_of;
 use crate::place::PlaceRef;
 use crate::row::row_failing;
-use bytecode_model::{LinkedClass, Method, Program};
+use bytecode_model::{LinkedClass, Method};
 use cert_format::{FrameType, Typing};
 use mon_base::List;
+use type_lattice::Indexed;
 
 /// The first rule that fails at an instruction of a method with these frames.
 pub fn row_in(
-    program: &Program,
+    program: &Indexed,
     own: u32,
     class: &LinkedClass,
     method: &Method,
@@ -74,10 +75,10 @@ fn told_at<T>(told: &[List<T>], at: usize) -> &[T]
 
 /// The first rule that fails at an instruction, by the place of its method among all methods of the class; none where
 /// there is no such instruction. It takes no memory.
-pub fn check_row(program: &Program, typing: &Typing, class: u32, method: u32, at: u32) -> Option<u8>
+pub fn check_row(program: &Indexed, typing: &Typing, class: u32, method: u32, at: u32) -> Option<u8>
     ensures { result ≡ row_fault program.now typing.now class method at }
 {
-    let given = program.classes.as_slice().get(class as usize)?;
+    let given = program.program().classes.as_slice().get(class as usize)?;
     let methods = given.methods.as_slice();
     let found = methods.get(method as usize)?;
     let told = told_at(typing.frames.as_slice(), class as usize);
@@ -87,7 +88,7 @@ pub fn check_row(program: &Program, typing: &Typing, class: u32, method: u32, at
 
 /// The first instruction of a method whose row fails.
 fn method_fault(
-    program: &Program,
+    program: &Indexed,
     own: u32,
     class: &LinkedClass,
     method: &Method,
@@ -112,7 +113,7 @@ fn method_fault(
 
 /// The first instruction of the class whose row fails.
 fn methods_fault(
-    program: &Program,
+    program: &Indexed,
     own: u32,
     class: &LinkedClass,
     told: &[List<Option<FrameType>>],
@@ -148,13 +149,13 @@ fn behind_first<T>(told: &[List<T>]) -> &[List<T>]
 }
 
 /// The first instruction of the program whose row fails.
-fn typing_fault(program: &Program, typing: &Typing) -> Option<TypeFault>
+fn typing_fault(program: &Indexed, typing: &Typing) -> Option<TypeFault>
     requires { IsSound program.now }
     ensures { result ≡ typing_fault program.now typing.now }
 {
     let mut own: u32 = 0;
     let mut told = typing.frames.as_slice();
-    let mut left = program.classes.as_slice();
+    let mut left = program.program().classes.as_slice();
     while let [class, later @ ..] = left {
         if let Some(fault) = methods_fault(program, own, class, told_at(told, 0)) {
             return Some(fault);
@@ -168,7 +169,7 @@ fn typing_fault(program: &Program, typing: &Typing) -> Option<TypeFault>
 
 /// Whether the types that are told are right, or the first instruction, by class, method and its index, at which a rule
 /// fails. It takes no memory.
-pub fn check_typing(program: &Program, typing: &Typing) -> Result<(), TypeFault>
+pub fn check_typing(program: &Indexed, typing: &Typing) -> Result<(), TypeFault>
     requires { IsSound program.now }
     ensures ok { IsOk result ↔ IsTyped program.now typing.now }
     ensures exact { MatchResult result (λ u. typing_fault program.now typing.now ≡ None)

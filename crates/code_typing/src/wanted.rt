@@ -7,10 +7,10 @@ ghost use Rattle.code_typing.specs.Wanted.{want_of};
 ghost use Rattle.bytecode_model.specs.Arrays.{is_array};
 
 use crate::described::without_last;
-use bytecode_model::{Program, is_array};
+use bytecode_model::is_array;
 use cert_format::VType;
 use insn_codec::{Item, Kind};
-use type_lattice::{fits_class, lend};
+use type_lattice::{Indexed, fits_class, lend};
 
 /// What is wanted of an operand.
 #[derive(Clone, Copy)]
@@ -85,13 +85,13 @@ pub fn of_kind(kind: Kind, t: &VType) -> bool
 }
 
 /// Whether it is assignable to the class or array of this name.
-pub fn to_class(program: &Program, name: &[u8], t: &VType) -> bool
+pub fn to_class(program: &Indexed, name: &[u8], t: &VType) -> bool
     ensures { result ≡ to_class program.now name.now t.now }
 {
     fits_class(program, lend(t), name)
 }
 
-fn to_array(program: &Program, item: Item, t: &VType) -> bool
+fn to_array(program: &Indexed, item: Item, t: &VType) -> bool
     ensures { result ≡ to_array program.now item t.now }
 {
     match item {
@@ -103,7 +103,7 @@ fn to_array(program: &Program, item: Item, t: &VType) -> bool
     }
 }
 
-fn to_item(program: &Program, item: Item, t: &VType) -> bool
+fn to_item(program: &Indexed, item: Item, t: &VType) -> bool
     ensures { result ≡ to_item program.now item t.now }
 {
     match item {
@@ -113,7 +113,7 @@ fn to_item(program: &Program, item: Item, t: &VType) -> bool
 }
 
 /// Whether it is assignable to the type that the descriptor of a field or an argument tells.
-pub fn to_described(program: &Program, desc: &[u8], t: &VType) -> bool
+pub fn to_described(program: &Indexed, desc: &[u8], t: &VType) -> bool
     ensures { result ≡ to_described program.now desc.now t.now }
 {
     match desc {
@@ -131,7 +131,7 @@ pub fn to_described(program: &Program, desc: &[u8], t: &VType) -> bool
 }
 
 /// Whether the type is what is wanted.
-pub fn is_wanted(program: &Program, want: Wanted, t: &VType) -> bool
+pub fn is_wanted(program: &Indexed, want: Wanted, t: &VType) -> bool
     ensures { result ≡ want_of program.now want.entry t.now }
 {
     match want {
@@ -147,7 +147,7 @@ pub fn is_wanted(program: &Program, want: Wanted, t: &VType) -> bool
 }
 
 /// Whether there is one type, and it is what is wanted.
-pub fn one_is(program: &Program, want: Wanted, types: &[VType]) -> bool
+pub fn one_is(program: &Indexed, want: Wanted, types: &[VType]) -> bool
     ensures { result ≡ all_met (want_of program.now want.entry ∷ []) types.now }
 {
     match types {
@@ -157,7 +157,7 @@ pub fn one_is(program: &Program, want: Wanted, types: &[VType]) -> bool
 }
 
 /// Whether there are two types, and they are what is wanted.
-pub fn two_are(program: &Program, want: Wanted, second: Wanted, types: &[VType]) -> bool
+pub fn two_are(program: &Indexed, want: Wanted, second: Wanted, types: &[VType]) -> bool
     ensures { result ≡ all_met (want_of program.now want.entry ∷ want_of program.now second.entry ∷ []) types.now }
 {
     match types {
@@ -168,7 +168,7 @@ pub fn two_are(program: &Program, want: Wanted, second: Wanted, types: &[VType])
 
 /// Whether there are three types, and they are what is wanted.
 pub fn three_are(
-    program: &Program,
+    program: &Indexed,
     want: Wanted,
     second: Wanted,
     third: Wanted,

@@ -24,10 +24,10 @@ ghost use Rattle.bytecode_model.specs.Described.{result_type};
 
 use crate::described::{result_type, type_described};
 use crate::place::{PlaceRef, class_of, desc_referred};
-use bytecode_model::{Program, Target};
+use bytecode_model::Target;
 use cert_format::VType;
 use insn_codec::{Heap, Item, Shape, StackForm, depth_of, shape_of};
-use type_lattice::{TypeRef, lend, lent_fits};
+use type_lattice::{Indexed, TypeRef, lend, lent_fits};
 
 /// The type in a place, or Top.
 pub fn type_at(list: &[VType], i: usize) -> TypeRef<'_>
@@ -131,7 +131,7 @@ pub fn array_named(kind: u8) -> &'static [u8]
 
 // ---- whether the pushed are assignable
 
-fn one_fits(program: &Program, from: TypeRef, to: &[VType]) -> bool
+fn one_fits(program: &Indexed, from: TypeRef, to: &[VType]) -> bool
     ensures { result ≡ stack_fits program.now (type_lent from.entry ∷ []) to.now }
 {
     match to {
@@ -140,7 +140,7 @@ fn one_fits(program: &Program, from: TypeRef, to: &[VType]) -> bool
     }
 }
 
-fn form_fits(program: &Program, depth: u8, taken: &[VType], order: &[u8], to: &[VType]) -> bool
+fn form_fits(program: &Indexed, depth: u8, taken: &[VType], order: &[u8], to: &[VType]) -> bool
     ensures { result ≡ stack_fits program.now (map (moved_from depth taken.now) order.now) to.now }
 {
     let mut order = order;
@@ -158,7 +158,7 @@ fn form_fits(program: &Program, depth: u8, taken: &[VType], order: &[u8], to: &[
     to.is_empty()
 }
 
-fn call_fits(program: &Program, desc: &[u8], to: &[VType]) -> bool
+fn call_fits(program: &Indexed, desc: &[u8], to: &[VType]) -> bool
     ensures { result ≡ stack_fits program.now (call_yields (result_type desc.now)) to.now }
 {
     match result_type(desc) {
