@@ -3,14 +3,15 @@
 ghost use Rattle.std.specs.Prelude.{◌≡◌, option_map};
 ghost use Rattle.type_infer.specs.Solving.{place_of};
 
-use bytecode_model::{LinkedClass, Method, Program};
+use bytecode_model::{LinkedClass, Method};
 use code_typing::PlaceRef;
 use std::marker::Model;
+use type_lattice::Indexed;
 
 /// A method of the class with this index.
 #[derive(Drop)]
 pub struct Body<'a> {
-    pub program: &'a Program,
+    pub program: &'a Indexed,
     pub own: u32,
     pub class: &'a LinkedClass,
     pub method: &'a Method,

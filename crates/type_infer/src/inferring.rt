@@ -15,16 +15,17 @@ use crate::body::Body;
 use crate::failing::first_failing;
 use crate::fault::InferFault;
 use crate::solving::solve;
-use bytecode_model::{LinkedClass, Program};
+use bytecode_model::LinkedClass;
 use cert_format::{FrameType, Typing};
 use code_typing::{TypeFault, check_typing};
 use mon_base::{List, NoMemory};
 use std::alloc::Global;
+use type_lattice::Indexed;
 
 /// The frames of the class's methods with code.
 fn class_frames(
     alloc: Global,
-    program: &Program,
+    program: &Indexed,
     own: u32,
     class: &LinkedClass,
 ) -> Result<List<List<Option<FrameType>>>, NoMemory>
@@ -51,7 +52,7 @@ fn class_frames(
 }
 
 /// The frames of the program, which may fail the rules.
-fn program_frames(alloc: Global, program: &Program) -> Result<Typing, NoMemory>
+fn program_frames(alloc: Global, program: &Indexed) -> Result<Typing, NoMemory>
     requires { IsSound program.now }
     ensures shaped { IfOk result (λ typing. IsShaped program.now typing.frames) }
     ensures fits { IfOk result (λ typing. FitsTyping typing) }
@@ -59,7 +60,7 @@ fn program_frames(alloc: Global, program: &Program) -> Result<Typing, NoMemory>
 {
     let mut own: u32 = 0;
     let mut frames = List::new(alloc);
-    let mut left = program.classes.as_slice();
+    let mut left = program.program().classes.as_slice();
     while let [class, later @ ..] = left {
         frames.push(class_frames(alloc, program, own, class)?)?;
         own += 1;
@@ -69,7 +70,7 @@ fn program_frames(alloc: Global, program: &Program) -> Result<Typing, NoMemory>
 }
 
 /// Where no types are found for the method in which the rules fail.
-fn untyped(alloc: Global, program: &Program, fault: TypeFault) -> Result<InferFault, NoMemory>
+fn untyped(alloc: Global, program: &Indexed, fault: TypeFault) -> Result<InferFault, NoMemory>
     requires sound { IsSound program.now }
     requires order { IsInOrder program.now }
     requires placed { HasPlace program.now fault }
@@ -88,7 +89,7 @@ fn untyped(alloc: Global, program: &Program, fault: TypeFault) -> Result<InferFa
         method: index,
         at,
     };
-    let Some(class) = program.classes.as_slice().get(own as usize) else {
+    let Some(class) = program.program().classes.as_slice().get(own as usize) else {
         return Ok(untyped);
     };
     let Some(method) = class.methods.as_slice().get(index as usize) else {
@@ -109,7 +110,7 @@ fn untyped(alloc: Global, program: &Program, fault: TypeFault) -> Result<InferFa
 }
 
 /// A typing of the program, by class, method with code and instruction.
-pub fn infer(alloc: Global, program: &Program) -> Result<Typing, InferFault>
+pub fn infer(alloc: Global, program: &Indexed) -> Result<Typing, InferFault>
     requires sound { IsSound program.now }
     requires order { IsInOrder program.now }
     // The rules are met.

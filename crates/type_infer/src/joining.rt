@@ -11,18 +11,17 @@ ghost use Rattle.code_typing.specs.Order.{IsFrameBelow, LocalsBelow};
 ghost use Rattle.type_infer.specs.Solving.{Left, IsKept, IsOfHeight, IsRaisedBy, IsUnlessBelow, local_settled, operand_settled, unless};
 
 use crate::told::Told;
-use bytecode_model::Program;
 use cert_format::{FrameType, VType};
 use code_typing::{PlaceRef, is_maker, is_same_object, rows_follow_the_order};
 use insn_codec::{Heap, Shape, shape_of};
 use mon_base::{List, NoMemory};
 use std::alloc::Global;
-use type_lattice::{assignable, assignable_is_an_order, merge, merge_is_the_least};
+use type_lattice::{Indexed, assignable, assignable_is_an_order, merge, merge_is_the_least};
 
 /// The least types above both, in each place that both lists have.
 fn types_joined(
     alloc: Global,
-    program: &Program,
+    program: &Indexed,
     a: &[VType],
     b: &[VType],
 ) -> Result<List<VType>, NoMemory>
@@ -92,7 +91,7 @@ fn settled(place: &PlaceRef, locals: List<VType>, stack: List<VType>) -> Option<
 }
 
 /// Whether the type in this place, Top where it is absent, is assignable to the other.
-fn type_below(program: &Program, from: &[VType], j: usize, to: &VType) -> bool
+fn type_below(program: &Indexed, from: &[VType], j: usize, to: &VType) -> bool
     ensures { IsTrue result → assignable program.now (type_at from.now j) to.now ≡ true }
 {
     match from.get(j) {
@@ -102,7 +101,7 @@ fn type_below(program: &Program, from: &[VType], j: usize, to: &VType) -> bool
 }
 
 /// Whether each type is assignable to the one in its place; one that is absent is Top.
-fn types_below(program: &Program, from: &[VType], to: &[VType]) -> bool
+fn types_below(program: &Indexed, from: &[VType], to: &[VType]) -> bool
     ensures { IsTrue result → LocalsBelow program.now (type_at from.now) (type_at to.now) }
 {
     for j in 0..to.len() {
@@ -114,7 +113,7 @@ fn types_below(program: &Program, from: &[VType], to: &[VType]) -> bool
 }
 
 /// Whether the one frame may stand in the place of the other.
-fn is_below(program: &Program, from: &FrameType, to: &FrameType) -> bool
+fn is_below(program: &Indexed, from: &FrameType, to: &FrameType) -> bool
     ensures { IsTrue result → IsFrameBelow program.now from.now to.now }
 {
     if from.stack.len() != to.stack.len() {
@@ -127,7 +126,7 @@ fn is_below(program: &Program, from: &FrameType, to: &FrameType) -> bool
 }
 
 /// The frame, unless it may stand in the place of the one that stands there.
-fn unless_below(program: &Program, old: &FrameType, told: Option<Told>) -> Option<Told>
+fn unless_below(program: &Indexed, old: &FrameType, told: Option<Told>) -> Option<Told>
     ensures { IsUnlessBelow program.now old.now told result }
 {
     match told {

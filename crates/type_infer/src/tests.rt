@@ -11,6 +11,7 @@ use insn_codec::Insn;
 use mon_base::{Bytes, List, NoMemory};
 use std::alloc::Global;
 use std::test::Fail;
+use type_lattice::Indexed;
 
 /// What is found of a method.
 #[derive(Drop)]
@@ -159,8 +160,8 @@ fn class_of(alloc: Global, methods: List<Method>) -> Result<LinkedClass, NoMemor
 }
 
 /// What is found of the first method of the program's first class.
-fn first_found(alloc: Global, program: &Program) -> Result<Found, Fail> {
-    let [class, ..] = program.classes.as_slice() else {
+fn first_found(alloc: Global, program: &Indexed) -> Result<Found, Fail> {
+    let [class, ..] = program.program().classes.as_slice() else {
         return Err(Fail::from("there is a class"));
     };
     let [method, ..] = class.methods.as_slice() else {
@@ -221,7 +222,10 @@ fn inferred(alloc: Global, draft: Draft) -> Result<Found, Fail> {
         main_class: 0,
         main_method: 0,
     };
-    first_found(alloc, &program)
+    match Indexed::tested(alloc, program)? {
+        Some(program) => first_found(alloc, &program),
+        None => Err(Fail::from("each way up ends")),
+    }
 }
 
 fn reference(alloc: Global, name: &[u8]) -> Result<VType, NoMemory> {

@@ -1,9 +1,10 @@
-use Rattle.std.proofs.Common.{◌≡◌, ℕ, List, Some, length, refl, subst, sym, arith}
+use Rattle.std.proofs.Common.{◌≡◌, ◌∙◌, ℕ, List, Some, ap, length, refl, subst, sym, arith}
 use Rattle.std.specs.Prelude.{slice_get}
 use Rattle.std.proofs.lemmas.Bool.{ltb-true}
 use Rattle.std.proofs.lemmas.Option.{slice_get_read}
 use Rattle.bytecode_model.specs.declared.program.LinkedClass.{LinkedClass}
 use Rattle.bytecode_model.specs.declared.program.Method.{Method}
+use Rattle.bytecode_model.specs.declared.program.Program.{Program}
 use Rattle.bytecode_model.specs.Sound.{IsSoundClass, IsSoundMethod}
 use Rattle.type_infer.specs.Untyped.{CannotBeMet}
 use Rattle.type_infer.proofs.Lists.{all_at}
@@ -20,7 +21,7 @@ returns c =
     let classes = c.as_slice.result.now in
     let methods = c.as_slice-2.result.now in
     let class_there : slice_get program.classes fault.class ≡ Some class =
-    subst (λ (xs : List LinkedClass). slice_get xs fault.class ≡ Some class) c.as_slice.ensures
+    subst (λ (xs : List LinkedClass). slice_get xs fault.class ≡ Some class) (c.as_slice.ensures ∙ ap (λ (p : Program). p.classes) c.program.ensures)
     (slice_get_read classes (length classes) fault.class class refl (ltb-true fault.class (length classes) (sym found.0)) found.1) in
     let method_there : slice_get class.methods fault.method ≡ Some method =
     subst (λ (xs : List Method). slice_get xs fault.method ≡ Some method) c.as_slice-2.ensures
