@@ -18,6 +18,7 @@ use cert_format::{Certificate, Mode};
 use code_typing::{check_typing, typed_is_closed};
 use conspec_automaton::Policy;
 use guest_model::sees_only_what_is_called;
+use type_lattice::Indexed;
 
 /// The answer yes.
 #[derive(Clone, Copy, Debug, PartialEq, Eq)]
@@ -30,7 +31,7 @@ pub struct Accepted {
 
 /// Checks a program with its certificate. It runs nothing, and takes no memory.
 pub fn check(
-    program: &Program,
+    program: &Indexed,
     policy: &Policy,
     certificate: &Certificate,
 ) -> Result<Accepted, CheckFault>
@@ -42,7 +43,8 @@ pub fn check(
     // Which answer it is: the first test that fails, with its first place.
     ensures exact { result ≡ verdict program.now policy.now certificate.now }
 {
-    if let Some((class, method)) = shape_fault(program, certificate) {
+    let linked = program.program();
+    if let Some((class, method)) = shape_fault(linked, certificate) {
         return Err(CheckFault::Shape { class, method });
     }
     if let Err(fault) = check_typing(program, &certificate.typing) {
@@ -53,7 +55,7 @@ pub fn check(
             rule: fault.rule,
         });
     }
-    if let Some((class, (method, (at, rule)))) = notes_fault(program, policy, certificate) {
+    if let Some((class, (method, (at, rule)))) = notes_fault(linked, policy, certificate) {
         return Err(CheckFault::Local {
             class,
             method,
@@ -65,7 +67,7 @@ pub fn check(
     sees_only_what_is_called();
     Ok(Accepted {
         mode: certificate.mode,
-        sites: sites_of(program, policy),
+        sites: sites_of(linked, policy),
     })
 }
 
