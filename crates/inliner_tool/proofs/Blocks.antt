@@ -5,9 +5,7 @@ use Rattle.api_listing.specs.declared.types.Listing.{Listing}
 use Rattle.bytecode_model.specs.declared.program.Program.{Program}
 use Rattle.bytecode_model.specs.declared.program.Side.TheVariants.{Inlined, Original}
 use Rattle.bytecode_model.specs.Fault.{Linked}
-use Rattle.bytecode_model.specs.declared.program.Side.{Side}
 use Rattle.bytecode_model.specs.Linking.{linked, unlinked}
-use Rattle.class_codec.specs.declared.tree.ClassFile.{ClassFile}
 use Rattle.block_logic.specs.Accepted.{IsAccepted}
 use Rattle.cert_checker.specs.Acceptance.{verdict}
 use Rattle.cert_checker.specs.Secure.{Secure}
@@ -26,9 +24,7 @@ use Rattle.inliner_tool.specs.declared.refusal.Refusal.TheVariants as refusals
 use Rattle.inliner_tool.specs.declared.weaving.Ready.{Ready}
 use Rattle.inliner_tool.specs.InlineWords.{NamedInline}
 use Rattle.inliner_tool.specs.Forms.{Then, Gives}
-use Rattle.inliner_tool.specs.InlineInputs.{IsListed}
 use Rattle.inliner_tool.specs.Weaving.{Accepts, Equals, IsPlanned, IsRewoven, Remakes, Step, Types, UnlessMemory, link_step, original, outputs_of, outputs_step}
-use Rattle.type_lattice.specs.Laws.{IsInOrder, LinkedIsInOrder}
 use Rattle.type_infer.specs.Untyped.{IsUntypedAt}
 
 -- A step that gives a program comes from files that link to it.
@@ -99,13 +95,6 @@ types_memory program (refusals.Overflow class method what value) typable (inl to
 types_memory program (refusals.LongCertificate value) typable (inl told) = absurd told
 types_memory program refusals.Memory typable (inl told) = absurd told
 types_memory program e typable (inr memory) = memory
-
--- The classes of what files link to are in order.
-pub in_order : LinkedIsInOrder → (listing : Listing) (files : List ClassFile) (main : List ℕ) (side : Side) (long : Bool) (total : ℕ) (r : Step Program) → IsListed listing
-    → UnlessMemory (Equals (cond long (Err (refusals.TotalLong total)) (link_step (linked files listing main side)))) r → IfOk r IsInOrder
-in_order order listing files main side long total (Ok program) listed told =
-    order listed.text listing files main side program listed.spells (original_by long total (linked files listing main side) program (sym told))
-in_order order listing files main side long total (Err e) listed told = tt
 
 module _ (main folder : List ℕ) (client : Program) (policy : Policy) (made : Woven) (program : Program) (certificate : Certificate) where
   -- What is judged is what is made anew.

@@ -3,7 +3,7 @@ use Rattle.std.specs.Prelude.{ℕ, ◌≤◌, List, length, Result}
 use Rattle.std.specs.List.{AllByRecursion}
 use Rattle.mon_store.specs.Store.{Files}
 use Rattle.api_listing.specs.declared.types.Listing.{Listing}
-use Rattle.api_listing.specs.Listing.{IsFew, SpellsListing}
+use Rattle.api_listing.specs.Listing.{IsFew}
 use Rattle.class_codec.specs.Fits.{CanSpell}
 use Rattle.conspec_parse.specs.declared.types.PolicyTree.{PolicyTree}
 use Rattle.conspec_parse.specs.Meaning.{SpellsPolicy}
@@ -12,7 +12,7 @@ use Rattle.inliner_tool.specs.declared.files.Stop.{Stop}
 use Rattle.inliner_tool.specs.declared.inline_inputs.InlineInputs.{InlineInputs}
 use Rattle.inliner_tool.specs.Forms.{Count, ReadsForm, Then, Gives}
 use Rattle.inliner_tool.specs.InlineWords.{NamedInline}
-use Rattle.inliner_tool.specs.Inputs.{ReadsClasses}
+use Rattle.inliner_tool.specs.Inputs.{IsListed, ReadsClasses}
 use Rattle.inliner_tool.specs.Kinds.{listing_form, policy_form}
 
 -- listing, policy, classes
@@ -22,11 +22,6 @@ ReadsInline files count named =
     Then (ReadsForm files count named.policy (policy_form listing)) (λ policy.
     Then (ReadsClasses files count named.classes) (λ classes.
     Gives (record { listing = listing; policy = policy; classes = classes }))))
-
--- Some text spells the listing.
-pub record IsListed (listing : Listing) : Type 0 where
-  pub text : List ℕ
-  pub spells : SpellsListing text listing
 
 -- Some text spells the policy, over the listing.
 pub record IsPolicyOf (listing : Listing) (tree : PolicyTree) : Type 0 where

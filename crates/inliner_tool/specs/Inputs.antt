@@ -3,7 +3,7 @@ use Rattle.std.specs.Prelude.{◌≡◌, ℕ, ◌+◌, List, [], ◌∷◌, ◌+
 use Rattle.std.specs.List.{AllByRecursion}
 use Rattle.mon_store.specs.Store.{Files}
 use Rattle.api_listing.specs.declared.types.Listing.{Listing}
-use Rattle.api_listing.specs.Listing.{IsFew}
+use Rattle.api_listing.specs.Listing.{IsFew, SpellsListing}
 use Rattle.class_codec.specs.declared.tree.ClassFile.{ClassFile}
 use Rattle.class_codec.specs.Fits.{CanSpell}
 use Rattle.inliner_tool.specs.declared.fault.InputFault.{InputFault}
@@ -86,9 +86,15 @@ IsOfName name read (Err (Input bad fault)) = (bad ≡ name) × (read ≡ Err fau
 IsOfName name read (Err (Unread bad)) = ⊥
 IsOfName name read (Err Memory) = Unit {0}
 
+-- Some text spells the listing.
+pub record IsListed (listing : Listing) : Type 0 where
+  pub text : List ℕ
+  pub spells : SpellsListing text listing
+
 -- What is known of inputs that were read.
 pub record AreSound (inputs : CheckInputs) : Type 0 where
   pub listing : IsFew inputs.listing
+  pub listed : IsListed inputs.listing
   pub classes : AllByRecursion CanSpell inputs.classes.files
 
 -- The policy was read over some listing.

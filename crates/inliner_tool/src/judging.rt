@@ -2,6 +2,7 @@
 
 ghost use Rattle.std.specs.Prelude.{◌≡◌, ◌≤◌, length, map, IfOk};
 ghost use Rattle.std.specs.List.{AllByRecursion};
+ghost use Rattle.bytecode_model.specs.Classes.{classes_of};
 ghost use Rattle.bytecode_model.specs.Sound.{IsSound};
 ghost use Rattle.class_codec.specs.Fits.{CanSpell};
 ghost use Rattle.inliner_tool.specs.Inputs.{AreSound, IsOfListing};
@@ -19,6 +20,7 @@ ghost use Rattle.inliner_tool.specs.Judging.{
   program_answer,
   show_answer,
 };
+ghost use Rattle.type_lattice.specs.Hierarchy.{EachWayEnds};
 
 use crate::answer::Answer;
 use crate::built::is_built;
@@ -31,6 +33,7 @@ use conspec_automaton::{accept, asks_nothing, build};
 use conspec_parse::PolicyTree;
 use mon_base::{Bytes, NoMemory};
 use std::alloc::Global;
+use type_lattice::{Indexed, linked_is_in_order};
 
 /// The greatest number of bytes that the class files of a command may have in all.
 pub const TOTAL_LIMIT: u64 = 16_777_216;
@@ -51,8 +54,9 @@ pub fn check_answer(alloc: Global, inputs: CheckInputs, main: &Bytes) -> Answer
         certificate,
         classes,
     } = inputs;
+    linked_is_in_order();
     match link(alloc, classes.files, listing, main, Side::Inlined) {
-        Ok(program) => program_answer(alloc, &program, &policy, &certificate),
+        Ok(program) => indexed_answer(alloc, program, &policy, &certificate),
         Err(fault) => link_answer(fault),
     }
 }
@@ -68,10 +72,28 @@ fn link_answer(fault: LinkFault) -> Answer
     }
 }
 
+/// What is answered to a check of a linked program, whose classes are indexed first.
+fn indexed_answer(
+    alloc: Global,
+    program: Program,
+    policy: &PolicyTree,
+    certificate: &Certificate,
+) -> Answer
+    requires sound { IsSound program }
+    requires ends { EachWayEnds (classes_of program) }
+    ensures is { Is result (program_answer policy.now certificate.now program) }
+    ensures checked { EndsWell result → ProgramIsChecked policy.now certificate.now program }
+{
+    match Indexed::new(alloc, program) {
+        Ok(program) => program_answer(alloc, &program, policy, certificate),
+        Err(NoMemory) => Answer::Memory,
+    }
+}
+
 /// What is answered to a check of a linked program.
 fn program_answer(
     alloc: Global,
-    program: &Program,
+    program: &Indexed,
     policy: &PolicyTree,
     certificate: &Certificate,
 ) -> Answer
@@ -79,7 +101,7 @@ fn program_answer(
     ensures is { Is result (program_answer policy.now certificate.now program.now) }
     ensures checked { EndsWell result → ProgramIsChecked policy.now certificate.now program.now }
 {
-    match is_built(alloc, program) {
+    match is_built(alloc, program.program()) {
         Ok(built) => {
             if !built || !asks_nothing(policy) {
                 return Answer::NotBuilt;
@@ -92,7 +114,7 @@ fn program_answer(
     };
     match check(program, &policy, certificate) {
         Ok(accepted) => Answer::Accepted(accepted),
-        Err(fault) => denied(alloc, program, fault),
+        Err(fault) => denied(alloc, program.program(), fault),
     }
 }
 

@@ -8,8 +8,9 @@ ghost use Rattle.cert_checker.specs.Secure.{Secure};
 ghost use Rattle.class_codec.specs.Fits.{CanSpell};
 ghost use Rattle.conspec_automaton.specs.Building.{built};
 ghost use Rattle.conspec_automaton.specs.Denying.{DeniesOnly};
-ghost use Rattle.inliner_tool.specs.InlineInputs.{InlineSound, IsListed};
+ghost use Rattle.inliner_tool.specs.InlineInputs.{InlineSound};
 ghost use Rattle.inliner_tool.specs.InlineWords.{inline_named};
+ghost use Rattle.inliner_tool.specs.Inputs.{IsListed};
 ghost use Rattle.inliner_tool.specs.Weaving.{
   Accepts,
   Equals,
@@ -61,7 +62,7 @@ use mon_store::Output;
 use offset_patch::SpliceFault;
 use std::alloc::Global;
 use type_infer::{InferFault, infer};
-use type_lattice::linked_is_in_order;
+use type_lattice::{Indexed, linked_is_in_order};
 
 /// What is to be written, and what is said of it.
 #[derive(Debug, Drop, PartialEq, Eq)]
@@ -96,7 +97,14 @@ pub fn plan(alloc: Global, inputs: InlineInputs, words: &InlineWords) -> Result<
     policy_tells_arguments();
     woven_is_typed();
     woven_is_accepted();
-    rewoven(alloc, words.main, words.folder, client, &policy, made)
+    rewoven(
+        alloc,
+        words.main,
+        words.folder,
+        client.into_program(),
+        &policy,
+        made,
+    )
 }
 
 /// The program that the inputs link to.
@@ -105,16 +113,16 @@ fn original(
     listing: Listing,
     classes: ReadClasses,
     main: &Bytes,
-) -> Result<Program, Refusal>
+) -> Result<Indexed, Refusal>
     requires few { IsFew listing }
+    requires listed { IsListed listing }
     requires fits { AllByRecursion CanSpell classes.files }
     ensures is { UnlessMemory (Equals (original listing classes main.now)) result }
     ensures listing { IfOk result (λ program. program.listing ≡ listing) }
     ensures back { IfOk result (λ program. unlinked program ≡ classes.files) }
     ensures sound { IfOk result IsSound }
-    ensures order { IsListed listing → IfOk result IsInOrder }
+    ensures order { IfOk result IsInOrder }
 {
-    linked_is_in_order();
     let total = classes.total;
     if total > TOTAL_LIMIT {
         return Err(Refusal::TotalLong { len: total });
@@ -122,22 +130,26 @@ fn original(
     linked(alloc, classes.files, listing, main, Side::Original)
 }
 
+/// The program that the files link to, with an index of its classes.
 fn linked(
     alloc: Global,
     files: List<ClassFile>,
     listing: Listing,
     main: &Bytes,
     side: Side,
-) -> Result<Program, Refusal>
+) -> Result<Indexed, Refusal>
     requires few { IsFew listing }
+    requires listed { IsListed listing }
     requires fits { AllByRecursion CanSpell files }
     ensures is { UnlessMemory (Equals (link_step (linked files listing main.now side))) result }
     ensures back { IfOk result (λ program. unlinked program ≡ files) }
     ensures listing { IfOk result (λ program. program.listing ≡ listing) }
     ensures sound { IfOk result IsSound }
+    ensures order { IfOk result IsInOrder }
 {
+    linked_is_in_order();
     match link(alloc, files, listing, main, side) {
-        Ok(program) => Ok(program),
+        Ok(program) => Ok(Indexed::new(alloc, program)?),
         Err(fault) => Err(link_refusal(fault)),
     }
 }
@@ -152,7 +164,7 @@ fn link_refusal(fault: LinkFault) -> Refusal
 }
 
 /// The types of a program.
-fn types_of(alloc: Global, program: &Program) -> Result<Typing, Refusal>
+fn types_of(alloc: Global, program: &Indexed) -> Result<Typing, Refusal>
     requires sound { IsSound program.now }
     requires order { IsInOrder program.now }
     ensures is { UnlessMemory (Types program.now) result }
@@ -162,7 +174,7 @@ fn types_of(alloc: Global, program: &Program) -> Result<Typing, Refusal>
     match infer(alloc, program) {
         Ok(typing) => Ok(typing),
         Err(InferFault::Untyped { class, method, at }) => {
-            let class = label_of(alloc, program, class)?;
+            let class = label_of(alloc, program.program(), class)?;
             Err(Refusal::Untyped { class, method, at })
         }
         Err(InferFault::Memory) => Err(Refusal::Memory),
@@ -174,13 +186,13 @@ fn denying(
     alloc: Global,
     weaving: Weaving,
     policy: &PolicyTree,
-    program: &Program,
+    program: &Indexed,
 ) -> Result<Policy, Refusal>
     ensures is { UnlessMemory (Equals (denying weaving policy.now program.now)) result }
     ensures built { IfOk result (λ made. made ≡ built policy.now) }
     ensures denies { IfOk result DeniesOnly }
 {
-    if !lets_go(weaving) || !is_built_client(program) || !asks_nothing(policy) {
+    if !lets_go(weaving) || !is_built_client(program.program()) || !asks_nothing(policy) {
         return Err(Refusal::NotBuilt);
     }
     let policy = build(alloc, policy)?;
@@ -204,13 +216,14 @@ fn is_built_client(program: &Program) -> bool
 }
 
 /// The woven files.
-fn woven(alloc: Global, client: &Program, policy: &Policy) -> Result<Woven, Refusal>
+fn woven(alloc: Global, client: &Indexed, policy: &Policy) -> Result<Woven, Refusal>
     requires sound { IsSound client.now }
     requires denies { DeniesOnly policy.now }
     ensures is { UnlessMemory (Equals (weave_step (woven client.now policy.now))) result }
     ensures exact { IfOk result (λ made. woven client.now policy.now ≡ Ok made) }
     ensures fits { IfOk result (λ made. AllByRecursion CanSpell made.files) }
 {
+    let client = client.program();
     match inline(alloc, client, policy) {
         Ok(made) => Ok(made),
         Err(
@@ -240,6 +253,7 @@ fn rewoven(
     made: Woven,
 ) -> Result<Ready, Refusal>
     requires few { IsFew client.listing }
+    requires listed { IsListed client.listing }
     requires fits { AllByRecursion CanSpell made.files }
     requires expected { IsExpected main.now client policy.now made }
     ensures steps { UnlessMemory (Remakes main.now folder.now client policy.now made) result }
@@ -268,7 +282,7 @@ fn judged(
     alloc: Global,
     folder: &Bytes,
     policy: &Policy,
-    program: &Program,
+    program: &Indexed,
     certificate: &Certificate,
 ) -> Result<Ready, Refusal>
     requires sound { IsSound program.now }
@@ -279,6 +293,7 @@ fn judged(
     ensures outputs { IfOk result (λ ready. ready.outputs ≡ outputs_of folder.now program.now certificate.now) }
 {
     let accepted = check(program, policy, certificate).unwrap();
+    let program = program.program();
     let outputs = outputs_of(alloc, folder, program, certificate)?;
     Ok(Ready {
         outputs,

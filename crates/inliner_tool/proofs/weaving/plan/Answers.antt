@@ -29,10 +29,11 @@ rewoven-requires-clause-expected c =
     let inputs = c.args.inputs in
     let client = c.in_ok-client.client in
     let policy = c.in_ok-policy.policy in
-    expected c.woven_files_link.ensures.links inputs c.requires named.main client policy c.in_ok-made.made (inputs_link named inputs client (sym c.in_ok-client.ensures.is))
+    rw c.into_program.ensures
+    (expected c.woven_files_link.ensures.links inputs c.requires named.main client policy c.in_ok-made.made (inputs_link named inputs client (sym c.in_ok-client.ensures.is))
     c.in_ok-client.ensures.back c.in_ok-client.ensures.sound (one_file named.weaving inputs.policy client policy (sym c.in_ok-policy.ensures.is)) c.in_ok-policy.ensures.denies
     c.in_ok-made.ensures.exact c.original_is_free.ensures.free c.linked_is_in_order.ensures c.linked_operands_are_right.ensures.right c.policy_tells_arguments.ensures.tells c.woven_is_typed.ensures.typed
-    c.woven_is_accepted.ensures.accepted c.in_ok-types_of.field-0 c.in_ok-client.ensures.listing c.in_ok-policy.ensures.built c.in_ok-types_of.ensures.is c.in_ok-types_of.ensures.shaped
+    c.woven_is_accepted.ensures.accepted c.in_ok-types_of.field-0 c.in_ok-client.ensures.listing c.in_ok-policy.ensures.built c.in_ok-types_of.ensures.is c.in_ok-types_of.ensures.shaped)
 
 pub returns-clause-plans : goal.returns-clause-plans
 returns-clause-plans c =
@@ -45,7 +46,7 @@ returns-clause-plans c =
     later (Equals (original inputs.listing inputs.classes named.main)) (Typed named inputs.policy) client c.in_ok-client.ensures.is result
     (later (Types client) (λ typing. Denying named inputs.policy client) c.in_ok-types_of.field-0 c.in_ok-types_of.ensures.is result
     (later (Equals (denying named.weaving inputs.policy client)) (Weaves named.main named.folder client) policy c.in_ok-policy.ensures.is result
-    (later (Equals (weave_step (woven client policy))) (Remakes named.main named.folder client policy) made c.in_ok-made.ensures.is result c.rewoven.ensures.steps)))
+    (later (Equals (weave_step (woven client policy))) (Remakes named.main named.folder client policy) made c.in_ok-made.ensures.is result (rw c.into_program.ensures at c.rewoven.ensures.steps))))
 
 pub returns-clause-planned : goal.returns-clause-planned
 returns-clause-planned c =
@@ -57,4 +58,4 @@ returns-clause-planned c =
     let again = remade c.woven_files_link.ensures.links inputs c.requires named.main client policy made (inputs_link named inputs client (sym c.in_ok-client.ensures.is)) c.in_ok-client.ensures.back
     c.in_ok-client.ensures.sound (one_file named.weaving inputs.policy client policy (sym c.in_ok-policy.ensures.is)) c.in_ok-policy.ensures.denies c.in_ok-made.ensures.exact in
     planned named inputs client made (sym c.in_ok-client.ensures.is) (again.0, (again.1.0, subst (λ (p : Policy). IsWoven client p again.0) c.in_ok-policy.ensures.built again.1.1))
-    policy c.rewoven.result c.in_ok-policy.ensures.built c.in_ok-client.ensures.listing c.in_ok-made.ensures.exact c.rewoven.ensures.rewoven
+    policy c.rewoven.result c.in_ok-policy.ensures.built c.in_ok-client.ensures.listing c.in_ok-made.ensures.exact (rw c.into_program.ensures at c.rewoven.ensures.rewoven)
