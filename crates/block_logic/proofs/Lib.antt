@@ -1,1 +1,2 @@
 pub mod ExitRows
+pub mod Covering

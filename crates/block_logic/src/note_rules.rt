@@ -134,7 +134,7 @@ fn all_meet(
     ensures { result ≡ (next_meet policy.now wanted told.now here.now && handlers_meet policy.now wanted told.now method.now here.now) }
 {
     next_meet(policy, wanted, told, here.at, here.insn)
-        && handlers_meet(policy, wanted, told, here.at, method.handlers.as_slice())
+        && handlers_meet(policy, wanted, told, here.at, &method.handlers)
 }
 
 fn taking_fault(policy: &Policy, told: &[Note], site: Site, here: &Here<'_>) -> Option<u8>

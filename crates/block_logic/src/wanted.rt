@@ -6,7 +6,7 @@ ghost use Rattle.insn_codec.specs.Control.{jump_targets, successors};
 ghost use Rattle.block_logic.specs.Wanted.{all_meet, denies_site, handlers_of, is_before, is_free, is_stop, is_stop_at, is_taking};
 ghost use Rattle.block_logic.specs.Wanted.{meets, same_phase, same_site, takes_for_call};
 
-use bytecode_model::Handler;
+use bytecode_model::Handlers;
 use cert_format::{Note, Phase8, Site};
 use conspec_automaton::{Policy, has_clauses};
 use insn_codec::{Insn, goes_on};
@@ -72,12 +72,12 @@ pub fn handlers_meet(
     wanted: Wanted,
     told: &[Note],
     at: u32,
-    handlers: &[Handler],
+    handlers: &Handlers,
 ) -> bool
     ensures { result ≡ all_meet policy.now wanted told.now (handlers_of at handlers.now) }
 {
-    let mut left = handlers;
-    while let [handler, later @ ..] = left {
+    let mut near = handlers.near(at);
+    while let Some(handler) = near.next() {
         if handler.covers(at) {
             if !note_meets(policy, wanted, told, handler.at as usize) {
                 return false;
@@ -86,7 +86,6 @@ pub fn handlers_meet(
                 return true;
             }
         }
-        left = later;
     }
     true
 }

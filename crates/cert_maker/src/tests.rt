@@ -1,7 +1,7 @@
 //! A method with a denied call, and the notes of what it is woven to.
 
 use crate::making::make;
-use bytecode_model::{LinkedClass, Method, Origin, Target};
+use bytecode_model::{Handlers, LinkedClass, Method, Origin, Target};
 use cert_format::{Certificate, FrameType, Mode, Note, Phase8, Site, Typing};
 use class_codec::ClassFile;
 use conspec_automaton::{Clause, Policy};
@@ -40,7 +40,7 @@ fn bare(alloc: Global, name: &[u8]) -> Result<Method, NoMemory> {
         max_locals: 2,
         insns: List::new(alloc),
         refs: List::new(alloc),
-        handlers: List::new(alloc),
+        handlers: Handlers::none(alloc),
     })
 }
 
