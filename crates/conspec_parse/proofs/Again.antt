@@ -1,6 +1,6 @@
 -- What is spelled is read: names, types, parameters and methods.
 use Rattle.std.proofs.Common.{◌≡◌, ℕ, zero, suc, true, false, cond, List, [], ◌∷◌, ◌++◌, map, drop, replicate, Option, Some, None, refl, sym, ap, subst, ◌∙◌, arith, append_assoc}
-use Rattle.std.specs.Prelude.{not, codes, IsTrue, ◌||◌}
+use Rattle.std.specs.Prelude.{is_some, not, codes, IsTrue, ◌||◌}
 use Rattle.std.specs.List.{flat_map}
 use Rattle.std.proofs.lemmas.List.{append-nil}
 use Rattle.api_listing.specs.Descriptor.{class_spelled}
@@ -12,7 +12,7 @@ use Rattle.conspec_parse.specs.declared.types.Var.{Var}
 use Rattle.conspec_parse.specs.declared.type_name.TypeName.{TypeName}
 use Rattle.conspec_parse.specs.declared.signature.Param.{Param}
 use Rattle.conspec_parse.specs.declared.fault.PolicyFault.TheVariants.{Twice, Limit}
-use Rattle.conspec_parse.specs.Forms.{front_at, is_next, is_name, is_some, is_short}
+use Rattle.conspec_parse.specs.Forms.{front_at, is_next, is_name, is_short}
 use Rattle.conspec_parse.specs.Types.{judged_name, type_named, plain_type, next_part, class_at, class_type_at, element_at, dimension_at, array_of, type_at}
 use Rattle.conspec_parse.specs.Head.{is_variable}
 use Rattle.conspec_parse.specs.Methods.{is_parameter, is_free, given_name_at, parameter_name_at, parameter_at, next_parameter, some_parameters, parameters_at}

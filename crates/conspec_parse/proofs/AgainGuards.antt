@@ -1,6 +1,6 @@
 -- What is spelled is read: guards and updates.
 use Rattle.std.proofs.Common.{◌≡◌, ◌≢◌, ℕ, ◌+◌, ◌<◌, ◌≤◌, ℤ, pos, neg_ℤ, Bool, true, false, cond, List, [], ◌∷◌, ◌++◌, length, drop, Option, Some, None, refl, sym, ap, subst, ◌∙◌, arith, append_assoc, length-append}
-use Rattle.std.specs.Prelude.{◌≤ℤ◌, not, codes, bytes_eq, nat_lt, nat_le, int_le, AllPairs, ◌||◌, ◌&&◌, ◌==◌}
+use Rattle.std.specs.Prelude.{is_some, ◌≤ℤ◌, not, codes, bytes_eq, nat_lt, nat_le, int_le, AllPairs, ◌||◌, ◌&&◌, ◌==◌}
 use Rattle.std.specs.List.{AllByRecursion, flat_map}
 use Rattle.std.specs.Ordering.{int_eq}
 use Rattle.std.proofs.lemmas.Bool.{le-leb, lt-ltb, eqb-true, eq-eqb}
@@ -18,7 +18,7 @@ use Rattle.conspec_parse.specs.declared.types.Update.{Update}
 use Rattle.conspec_parse.specs.declared.types.Update.TheVariants.{Set, Add}
 use Rattle.conspec_parse.specs.declared.types.Var.{Var}
 use Rattle.conspec_parse.specs.declared.fault.PolicyFault.TheVariants.{Name as WrongName, Kind as WrongKind, Range, Twice, Limit}
-use Rattle.conspec_parse.specs.Forms.{front_at, is_next, is_name, is_some, taken}
+use Rattle.conspec_parse.specs.Forms.{front_at, is_next, is_name, taken}
 use Rattle.conspec_parse.specs.Head.{variable_from}
 use Rattle.conspec_parse.specs.Scope.{Scope, base_named}
 use Rattle.conspec_parse.specs.Guards.{is_truth, is_object, next_rel, is_equality, truth_value, negative_at, positive_at, constant_at, atom_at, next_atom, no_atoms, atoms_at, conj_at, next_conj, conjs_at}

@@ -1,6 +1,6 @@
 -- What is spelled is read: clauses, variables and the whole.
 use Rattle.std.proofs.Common.{◌≡◌, ◌≢◌, ℕ, zero, suc, ◌+◌, ◌<◌, ◌≤◌, ℤ, pos, Bool, true, false, List, [], ◌∷◌, ◌++◌, length, map, drop, Option, Some, None, Ok, Err, refl, sym, ap, subst, ◌∙◌, arith, append_assoc, length-append}
-use Rattle.std.specs.Prelude.{not, codes, nat_lt, nat_le, int_le, AllPairs, MatchResult, ◌||◌, ◌&&◌, ◌==◌}
+use Rattle.std.specs.Prelude.{max, is_some, not, codes, nat_lt, nat_le, int_le, AllPairs, MatchResult, ◌||◌, ◌&&◌, ◌==◌}
 use Rattle.std.specs.List.{AllByRecursion, flat_map}
 use Rattle.std.proofs.lemmas.Bool.{le-leb, lt-ltb, eqb-true}
 use Rattle.std.proofs.lemmas.Bool.Decides.{nat_tests}
@@ -25,12 +25,12 @@ use Rattle.conspec_parse.specs.declared.fault.PolicyFault.TheVariants.{Syntax, K
 use Rattle.mon_base.specs.Answer.{Answers}
 use Rattle.conspec_parse.specs.Fault.{Judged}
 use Rattle.conspec_parse.specs.Tokens.{tokens_of}
-use Rattle.conspec_parse.specs.Forms.{front_at, is_next, is_some, is_end, is_short}
+use Rattle.conspec_parse.specs.Forms.{front_at, is_next, is_end, is_short}
 use Rattle.conspec_parse.specs.Head.{is_variable, header_at, truth_at, count_at, first_at, begins_variable, variable_at}
 use Rattle.conspec_parse.specs.Methods.{phase_number, has_clause}
 use Rattle.conspec_parse.specs.Scope.{Scope}
 use Rattle.conspec_parse.specs.Updates.{all_range_atoms}
-use Rattle.conspec_parse.specs.Clauses.{branches, greater, longest_from, longest, begins_guard, guard_at, last_guard, with_else, body_at, next_phase, begins_clause, is_after, is_assigned, given_result_at, result_name_at, scope_of, clause_of, clause_at}
+use Rattle.conspec_parse.specs.Clauses.{branches, longest_from, longest, begins_guard, guard_at, last_guard, with_else, body_at, next_phase, begins_clause, is_after, is_assigned, given_result_at, result_name_at, scope_of, clause_of, clause_at}
 use Rattle.conspec_parse.specs.Policy.{policy_at, reading}
 use Rattle.conspec_parse.specs.Tree.{Differ}
 use Rattle.conspec_parse.specs.Written.{WrittenAtom, WrittenUpdate, WrittenGuard, WrittenParam, MethodName, WrittenClause, WrittenVar, Written, led, conj_spelled, block_spelled, guard_spelled, else_spelled, body_spelled, type_spelled, phase_spelled, result_spelled, signature_spelled, clause_spelled, first_spelled, variable_word, variable_spelled, header_spelled, policy_spelled}
@@ -46,7 +46,7 @@ longest_short : (most more : ℕ) (conjs : List (List Atom)) → AllByRecursion 
 longest_short most more [] short low = low
 longest_short most more (c ∷ conjs) short low =
     let one = short.0 in
-    longest_short (greater most (length c)) more conjs short.1 (grind (arith, nat_tests))
+    longest_short (max most (length c)) more conjs short.1 (grind (arith, nat_tests))
 
 each_short : (more : ℕ) (conjs : List (List Atom)) → AllByRecursion (λ (c : List Atom). length c + more ≤ 16) conjs → AllByRecursion (λ (c : List Atom). length c ≤ 16) conjs
 each_short more [] short = tt

@@ -1,6 +1,6 @@
 -- What is read of two lists of tokens that agree at first: clauses and the whole.
 use Rattle.std.proofs.Common.{◌≡◌, ⊎_elim, ℕ, zero, suc, ◌+◌, ◌<◌, ◌≤◌, ℤ, Bool, true, false, cond, List, [], ◌∷◌, ◌++◌, length, take, drop, Option, Some, None, Ok, refl, sym, ◌∙◌, arith}
-use Rattle.std.specs.Prelude.{not, codes, nat_lt, ok_or, bytes_eq, ◌||◌, ◌&&◌}
+use Rattle.std.specs.Prelude.{is_some, not, codes, nat_lt, ok_or, bytes_eq, ◌||◌, ◌&&◌}
 use Rattle.std.proofs.lemmas.Slice.Eq.{bytes_eq-Decides}
 use Rattle.mon_base.specs.Reading.{◌>>=◌, need}
 use Rattle.api_listing.specs.declared.types.ListedMethod.{ListedMethod}
@@ -13,7 +13,7 @@ use Rattle.conspec_parse.specs.declared.types.TreeClause.{TreeClause}
 use Rattle.conspec_parse.specs.declared.types.Var.{Var}
 use Rattle.conspec_parse.specs.declared.type_name.TypeName.{TypeName}
 use Rattle.conspec_parse.specs.declared.fault.PolicyFault.TheVariants as faults
-use Rattle.conspec_parse.specs.Forms.{Read, front_at, quotes, is_next, next_name, is_name, is_some, is_short, behind, name_at, each}
+use Rattle.conspec_parse.specs.Forms.{Read, front_at, quotes, is_next, next_name, is_name, is_short, behind, name_at, each}
 use Rattle.conspec_parse.specs.Head.{begins_variable, first_at, is_variable, variable_at, variables_at}
 use Rattle.conspec_parse.specs.Types.{judged_name, type_at}
 use Rattle.conspec_parse.specs.Methods.{method_at}

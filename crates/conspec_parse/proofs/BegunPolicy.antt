@@ -1,6 +1,6 @@
 -- Before a 181 stands the beginning of a written policy: methods, clauses and the whole.
 use Rattle.std.proofs.Common.{◌≡◌, ◌≢◌, ◌⊎◌, inl, inr, ℕ, ◌<◌, ℤ, pos, Bool, true, false, List, [], ◌∷◌, ◌++◌, length, drop, Option, Some, None, Ok, Err, refl, sym, ◌∙◌, ap, subst, append_assoc}
-use Rattle.std.specs.Prelude.{not, codes, nat_le, nat_lt, int_le, ok_or, ◌||◌, ◌&&◌}
+use Rattle.std.specs.Prelude.{is_some, not, codes, nat_le, nat_lt, int_le, ok_or, ◌||◌, ◌&&◌}
 use Rattle.std.specs.List.{AllByRecursion, flat_map}
 use Rattle.std.proofs.lemmas.List.{append-nil}
 use Rattle.mon_base.specs.Reading.{◌>>=◌, need}
@@ -20,7 +20,7 @@ use Rattle.conspec_parse.specs.declared.signature.Parts.{Parts}
 use Rattle.conspec_parse.specs.declared.signature.Signature.{Signature}
 use Rattle.conspec_parse.specs.declared.fault.PolicyFault.{PolicyFault}
 use Rattle.conspec_parse.specs.declared.fault.PolicyFault.TheVariants as faults
-use Rattle.conspec_parse.specs.Forms.{Read, front_at, is_next, is_name, is_some, is_short, is_end}
+use Rattle.conspec_parse.specs.Forms.{Read, front_at, is_next, is_name, is_short, is_end}
 use Rattle.conspec_parse.specs.Head.{header_at, truth_at, count_at, first_at, begins_variable, is_variable, variable_at}
 use Rattle.conspec_parse.specs.Methods.{is_free, given_name_at, parameter_name_at, parameter_at, next_parameter, some_parameters, parameters_at, init, part_at, class_under, next_step, path_at, signature_at, desc_of, has_clause, index_at, method_of, method_at}
 use Rattle.conspec_parse.specs.Clauses.{next_phase, begins_clause, is_after, is_assigned, given_result_at, result_name_at, scope_of, clause_of, clause_at}

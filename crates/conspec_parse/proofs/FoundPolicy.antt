@@ -1,6 +1,6 @@
 -- What is read is spelled so: clauses, variables and the whole.
 use Rattle.std.proofs.Common.{◌≡◌, ◌≢◌, ⊎_elim, ℕ, zero, suc, ◌+◌, ◌≤◌, ℤ, pos, Bool, true, false, cond, List, [], ◌∷◌, ◌++◌, length, map, drop, take, Option, Some, None, refl, sym, ap, subst, ◌∙◌, arith, append_assoc}
-use Rattle.std.specs.Prelude.{not, codes, nat_lt, nat_le, int_le, ◌||◌, ◌&&◌, ◌==◌}
+use Rattle.std.specs.Prelude.{is_some, not, codes, nat_lt, nat_le, int_le, ◌||◌, ◌&&◌, ◌==◌}
 use Rattle.std.specs.List.{flat_map}
 use Rattle.std.specs.Option.{option_map_or}
 use Rattle.std.specs.List.{prefix_len}
@@ -29,7 +29,7 @@ use Rattle.conspec_parse.specs.declared.type_name.TypeName.{TypeName}
 use Rattle.conspec_parse.specs.declared.fault.PolicyFault.TheVariants.{Syntax, Kind as WrongKind, Range, Twice, Limit}
 use Rattle.conspec_parse.specs.Words.{is_keyword, signs}
 use Rattle.conspec_parse.specs.Tokens.{number_of, number_from, first_sign, sign_of, is_blank, begins_comment, in_gap, seen, begun, is_wrong, next_spot, tokens_from, tokens_of}
-use Rattle.conspec_parse.specs.Forms.{front_at, is_next, is_some, ends, is_end, is_short}
+use Rattle.conspec_parse.specs.Forms.{front_at, is_next, ends, is_end, is_short}
 use Rattle.conspec_parse.specs.Head.{is_variable, header_at, truth_at, count_at, first_at, begins_variable, variable_at}
 use Rattle.conspec_parse.specs.Clauses.{next_phase, begins_clause, is_after, is_assigned, given_result_at, result_name_at, scope_of, clause_of, clause_at}
 use Rattle.conspec_parse.specs.Policy.{policy_at, reading}

@@ -1,6 +1,6 @@
 -- What is spelled is read, made from the laws of the parts, a line for each part, in the reading's order.
 use Rattle.std.proofs.Common.{◌≡◌, ℕ, zero, suc, ◌≤◌, Bool, true, false, cond, List, [], ◌∷◌, ◌++◌, length, drop, Option, Some, None, Ok, refl, sym, ap, subst, ◌∙◌, arith, append_assoc, length-append}
-use Rattle.std.specs.Prelude.{ok_or, bytes_eq}
+use Rattle.std.specs.Prelude.{is_some, ok_or, bytes_eq}
 use Rattle.std.specs.List.{flat_map}
 use Rattle.std.proofs.lemmas.List.{append-nil, length-map}
 use Rattle.std.proofs.lemmas.Slice.Eq.{bytes_eq-Decides}
@@ -10,7 +10,7 @@ use Rattle.conspec_parse.specs.declared.token.Lexeme.TheVariants.{Quoted, Name, 
 use Rattle.conspec_parse.specs.declared.token.Token.{Token}
 use Rattle.conspec_parse.specs.declared.fault.PolicyFault.{PolicyFault}
 use Rattle.conspec_parse.specs.Fault.{Judged}
-use Rattle.conspec_parse.specs.Forms.{Read, quotes, is_next, names, next_name, is_some, is_name, counts, next_number, behind, taken, name_at, number_at, repeated, each}
+use Rattle.conspec_parse.specs.Forms.{Read, quotes, is_next, names, next_name, is_name, counts, next_number, behind, taken, name_at, number_at, repeated, each}
 use Rattle.conspec_parse.specs.Meaning.{lexemes}
 
 -- ---- readings

@@ -1,6 +1,6 @@
 -- Every policy that is read keeps the limits and ranges, and what its parts name is there: clauses and the whole.
 use Rattle.std.proofs.Common.{◌≡◌, ℕ, zero, suc, ◌+◌, ◌<◌, ◌≤◌, ℤ, Bool, true, false, cond, List, [], ◌∷◌, ◌++◌, length, map, drop, get_or, Option, Some, None, Ok, Err, refl, sym, ap, arith}
-use Rattle.std.specs.Prelude.{ok_or, not, codes, nat_lt, nat_le, AllPairs, ◌&&◌, ◌==◌}
+use Rattle.std.specs.Prelude.{max, is_some, ok_or, not, codes, nat_lt, nat_le, AllPairs, ◌&&◌, ◌==◌}
 use Rattle.std.specs.List.{AllByRecursion, position_from}
 use Rattle.std.proofs.lemmas.Bool.{ltb-true, leb-true, eq-eqb}
 use Rattle.std.proofs.lemmas.Bool.Decides.{nat_tests}
@@ -19,7 +19,7 @@ use Rattle.conspec_parse.specs.declared.types.Var.{Var}
 use Rattle.conspec_parse.specs.declared.signature.Param.{Param}
 use Rattle.conspec_parse.specs.declared.signature.Signature.{Signature}
 use Rattle.conspec_parse.specs.declared.fault.PolicyFault.TheVariants.{Syntax, Kind as WrongKind, NoMethod, Twice, Limit, Builtin}
-use Rattle.conspec_parse.specs.Forms.{Read, front_at, is_next, is_end, is_some, is_short, name_at, behind}
+use Rattle.conspec_parse.specs.Forms.{Read, front_at, is_next, is_end, is_short, name_at, behind}
 use Rattle.conspec_parse.specs.Head.{is_variable}
 use Rattle.conspec_parse.specs.Types.{type_at}
 use Rattle.api_listing.specs.BuiltIn.{is_built_in, is_method}
@@ -27,7 +27,7 @@ use Rattle.api_listing.specs.Nearest.{declared_in}
 use Rattle.conspec_parse.specs.Scope.{Scope}
 use Rattle.conspec_parse.specs.Updates.{all_range_atoms}
 use Rattle.conspec_parse.specs.Methods.{kind_or_object, phase_number, has_clause, desc_of, index_at, method_of, method_at, signature_at}
-use Rattle.conspec_parse.specs.Clauses.{branches, greater, longest_from, longest, begins_guard, guard_at, last_guard, body_at, next_phase, begins_clause, is_after, is_assigned, given_result_at, result_name_at, scope_of, clause_of, clause_at}
+use Rattle.conspec_parse.specs.Clauses.{branches, longest_from, longest, begins_guard, guard_at, last_guard, body_at, next_phase, begins_clause, is_after, is_assigned, given_result_at, result_name_at, scope_of, clause_of, clause_at}
 use Rattle.conspec_parse.specs.Tokens.{tokens_of}
 use Rattle.conspec_parse.specs.Policy.{policy_at, reading}
 use Rattle.conspec_parse.specs.Tree.{Askable, asked, AreAtoms, IsGuardIn, IsClauseIn, Differ, IsPolicyTree}
@@ -41,20 +41,20 @@ use Rattle.conspec_parse.proofs.SoundUpdates.{AreUpdates, block_sound}
 longest_grows : (most : ℕ) (conjs : List (List Atom)) → most ≤ longest_from most conjs
 longest_grows most [] = omega arith
 longest_grows most (c ∷ conjs) =
-    let more = longest_grows (greater most (length c)) conjs in
+    let more = longest_grows (max most (length c)) conjs in
     grind (arith, nat_tests)
 
 pub longest_low : (scope : Scope) (askable : Askable) (most : ℕ) (conjs : List (List Atom)) → AllByRecursion (IsConj scope askable) conjs → most ≤ 16 → longest_from most conjs ≤ 16
 longest_low scope askable most [] are low = low
 longest_low scope askable most (c ∷ conjs) are low =
     let few = are.0.few in
-    longest_low scope askable (greater most (length c)) conjs are.1 (grind (arith, nat_tests))
+    longest_low scope askable (max most (length c)) conjs are.1 (grind (arith, nat_tests))
 
 pub all_short : (most more : ℕ) (conjs : List (List Atom)) → longest_from most conjs + more ≤ 16 → AllByRecursion (λ (conj : List Atom). length conj + more ≤ 16) conjs
 all_short most more [] low = tt
 all_short most more (c ∷ conjs) low =
-    let grown = longest_grows (greater most (length c)) conjs in
-    (grind (arith, nat_tests), all_short (greater most (length c)) more conjs low)
+    let grown = longest_grows (max most (length c)) conjs in
+    (grind (arith, nat_tests), all_short (max most (length c)) more conjs low)
 
 -- ---- guards
 

@@ -1,5 +1,5 @@
 -- Clauses: the events of a method, and what is asked and done there.
-use Rattle.std.specs.Prelude.{◌||◌, ◌&&◌, not, ℕ, ◌+◌, ℤ, Bool, true, false, List, [], ◌∷◌, ◌++◌, length, map, drop, codes, nat_lt, Option, Some, None, ok_or, Ok, if◌then◌else◌}
+use Rattle.std.specs.Prelude.{is_some, max, ◌||◌, ◌&&◌, not, ℕ, ◌+◌, ℤ, Bool, true, false, List, [], ◌∷◌, ◌++◌, length, map, drop, codes, nat_lt, Option, Some, None, ok_or, Ok, if◌then◌else◌}
 use Rattle.mon_base.specs.Reading.{◌>>=◌, need}
 use Rattle.api_listing.specs.declared.types.ListedMethod.{ListedMethod}
 use Rattle.conspec_parse.specs.declared.token.Token.{Token}
@@ -12,7 +12,7 @@ use Rattle.conspec_parse.specs.declared.types.Guard.{Guard}
 use Rattle.conspec_parse.specs.declared.types.TreeClause.{TreeClause}
 use Rattle.conspec_parse.specs.declared.signature.Param.{Param}
 use Rattle.conspec_parse.specs.declared.fault.PolicyFault.TheVariants.{Syntax, Kind as WrongKind, Twice, Limit}
-use Rattle.conspec_parse.specs.Forms.{Read, front_at, is_next, is_name, is_some, behind, name_at, is_short, each}
+use Rattle.conspec_parse.specs.Forms.{Read, front_at, is_next, is_name, behind, name_at, is_short, each}
 use Rattle.conspec_parse.specs.Head.{is_variable}
 use Rattle.conspec_parse.specs.Types.{type_at}
 use Rattle.conspec_parse.specs.Methods.{kind_or_object, method_at}
@@ -27,13 +27,10 @@ abbrev pub branches : List Guard → ℕ
 branches [] = 0
 branches (g ∷ guards) = length g.conjs + branches guards
 
-abbrev pub greater : ℕ → ℕ → ℕ
-greater m n = if nat_lt m n then n else m
-
 -- how many atoms the longest of the branches has
 abbrev pub longest_from : ℕ → List (List Atom) → ℕ
 longest_from most [] = most
-longest_from most (c ∷ conjs) = longest_from (greater most (length c)) conjs
+longest_from most (c ∷ conjs) = longest_from (max most (length c)) conjs
 
 abbrev pub longest : List (List Atom) → ℕ
 longest conjs = longest_from 0 conjs

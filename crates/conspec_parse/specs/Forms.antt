@@ -1,5 +1,5 @@
 -- The forms in which tokens are read, one after another.
-use Rattle.std.specs.Prelude.{ℕ, zero, suc, Bool, true, false, List, [], ◌∷◌, length, drop, bytes_eq, nat_le, Option, Some, None, ok_or, Ok, Err, if◌then◌else◌}
+use Rattle.std.specs.Prelude.{is_some, ℕ, zero, suc, Bool, true, false, List, [], ◌∷◌, length, drop, bytes_eq, nat_le, Option, Some, None, ok_or, Ok, Err, if◌then◌else◌}
 use Rattle.mon_base.specs.Reading.{◌>>=◌}
 use Rattle.conspec_parse.specs.declared.token.Lexeme.{Lexeme}
 use Rattle.conspec_parse.specs.declared.token.Lexeme.TheVariants.{Quoted, Name, Number, End}
@@ -46,10 +46,6 @@ names other = None
 abbrev pub next_name : List Token → Option (List ℕ)
 next_name [] = None
 next_name (t ∷ others) = names t.lexeme
-
-abbrev pub is_some : {X : Type 0} → Option X → Bool
-is_some None = false
-is_some (Some x) = true
 
 abbrev pub is_name : List Token → Bool
 is_name tokens = is_some (next_name tokens)

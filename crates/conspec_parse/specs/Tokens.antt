@@ -1,5 +1,5 @@
 -- The tokens of a policy's text.
-use Rattle.std.specs.Prelude.{ℕ, zero, suc, ◌+◌, ◌-◌, ◌*◌, ◌==◌, ◌||◌, ◌&&◌, Bool, true, false, List, [], ◌∷◌, ◌++◌, length, take, codes, nat_eq, nat_lt, Option, Some, None, if◌then◌else◌}
+use Rattle.std.specs.Prelude.{min, ℕ, zero, suc, ◌+◌, ◌-◌, ◌*◌, ◌==◌, ◌||◌, ◌&&◌, Bool, true, false, List, [], ◌∷◌, ◌++◌, length, take, codes, nat_eq, nat_lt, Option, Some, None, if◌then◌else◌}
 use Rattle.std.specs.Option.{option_map_or}
 use Rattle.std.specs.List.{starts_with, prefix_len}
 use Rattle.std.specs.Char.{is_ascii_digit}
@@ -19,13 +19,10 @@ use Rattle.conspec_parse.specs.Words.{is_keyword, signs}
 abbrev pub most : ℕ
 most = 10000000000
 
-abbrev pub capped : ℕ → ℕ
-capped n = if nat_lt most n then most else n
-
 -- the number of which these are the further digits
 abbrev pub number_from : ℕ → List ℕ → ℕ
 number_from n [] = n
-number_from n (digit ∷ digits) = number_from (capped (n * 10 + (digit - 48))) digits
+number_from n (digit ∷ digits) = number_from (min (n * 10 + (digit - 48)) most) digits
 
 -- A longer run of digits does not begin with `0`.
 abbrev pub number_of : List ℕ → Lexeme

@@ -6,7 +6,6 @@ ghost use Rattle.conspec_parse.specs.Forms.{each};
 ghost use Rattle.conspec_parse.specs.Scope.{HasFewNames};
 ghost use Rattle.conspec_parse.specs.Clauses.{
   branches,
-  greater,
   longest,
   begins_guard,
   guard_at,
@@ -59,16 +58,10 @@ fn longest(conjs: &[List<Atom>]) -> usize
     let mut most: usize = 0;
     let mut left = conjs;
     while let [first, others @ ..] = left {
-        most = greater(most, first.len());
+        most = most.max(first.len());
         left = others;
     }
     most
-}
-
-fn greater(m: usize, n: usize) -> usize
-    ensures { result ≡ greater m n }
-{
-    if m < n { n } else { m }
 }
 
 fn begins_guard(tokens: &[Token]) -> bool

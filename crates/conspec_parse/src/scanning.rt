@@ -10,7 +10,6 @@ ghost use Rattle.api_listing.specs.Words.{is_name_start, is_name_byte};
 ghost use Rattle.conspec_parse.specs.Words.{is_keyword, signs};
 ghost use Rattle.conspec_parse.specs.Tokens.{
   most,
-  capped,
   number_from,
   number_of,
   word_of,
@@ -247,17 +246,10 @@ fn value_of(digits: &[u8]) -> u64
     let mut value: u64 = 0;
     let mut left = digits;
     while let [digit, others @ ..] = left {
-        value = capped(value * 10 + (*digit).saturating_sub(b'0') as u64);
+        value = (value * 10 + (*digit).saturating_sub(b'0') as u64).min(MOST);
         left = others;
     }
     value
-}
-
-fn capped(n: u64) -> u64
-    ensures value { result ≡ capped n }
-    ensures low { result ≤ most }
-{
-    if MOST < n { MOST } else { n }
 }
 
 fn sign_at(alloc: Global, text: &[u8]) -> Result<Piece, NoMemory>
