@@ -8,7 +8,7 @@ use Rattle.conspec_parse.specs.declared.types.Phase.TheVariants.{Before, After, 
 use Rattle.conspec_parse.specs.declared.types.PolicyTree.{PolicyTree}
 use Rattle.conspec_parse.specs.declared.types.TreeClause.{TreeClause}
 use Rattle.conspec_automaton.specs.Building.{built, branches_of, clause_built}
-use Rattle.conspec_automaton.specs.Denying.{Denies, DeniesOnly, asks_nothing, is_before, is_denial, is_empty}
+use Rattle.conspec_automaton.specs.Denying.{Denies, DeniesOnly, denies_only, is_before, is_denial, is_empty}
 
 none_there : {X : Type 0} (xs : List X) → is_empty xs ≡ true → xs ≡ []
 none_there [] e = refl
@@ -34,7 +34,7 @@ all_deny maxint (clause ∷ clauses) e =
     let p = and_parts (is_denial clause) (list_all is_denial clauses) e in
     (denies maxint clause p.0, all_deny maxint clauses p.1)
 
-pub only_denies : (tree : PolicyTree) → asks_nothing tree ≡ true → DeniesOnly (built tree)
+pub only_denies : (tree : PolicyTree) → denies_only tree ≡ true → DeniesOnly (built tree)
 only_denies tree e =
     let p = and_parts (is_empty tree.vars) (list_all is_denial tree.clauses) e in
     record { vars = none_there tree.vars p.0; clauses = all_deny tree.maxint tree.clauses p.1 }

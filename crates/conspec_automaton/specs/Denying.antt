@@ -29,5 +29,5 @@ is_empty other = false
 abbrev pub is_denial : TreeClause → Bool
 is_denial clause = is_before clause.phase && is_empty clause.guards
 
-abbrev pub asks_nothing : PolicyTree → Bool
-asks_nothing tree = is_empty tree.vars && list_all is_denial tree.clauses
+abbrev pub denies_only : PolicyTree → Bool
+denies_only tree = is_empty tree.vars && list_all is_denial tree.clauses

@@ -15,7 +15,7 @@ ghost use Rattle.conspec_automaton.specs.Building.{
 ghost use Rattle.conspec_automaton.specs.Sound.{IsPolicy, NamesMethods};
 ghost use Rattle.conspec_parse.specs.Tree.{IsPolicyTree};
 ghost use Rattle.api_listing.specs.declared.types.Listing.{Listing};
-ghost use Rattle.conspec_automaton.specs.Denying.{DeniesOnly, asks_nothing, is_denial};
+ghost use Rattle.conspec_automaton.specs.Denying.{DeniesOnly, denies_only, is_denial};
 
 use crate::policy::{Branch, Clause, Policy};
 use conspec_parse::{Atom, Base, Guard, Phase, PolicyTree, Rel, TreeClause, Update, Var};
@@ -45,15 +45,15 @@ fn built(alloc: Global, tree: &PolicyTree) -> Result<Policy, NoMemory>
 
 /// Whether the policy denies calls outright, and says nothing else: it has no variables, and its clauses are for calls
 /// and have no branch.
-pub fn asks_nothing(tree: &PolicyTree) -> bool
-    ensures is { result ≡ asks_nothing tree.now }
+pub fn denies_only(tree: &PolicyTree) -> bool
+    ensures is { result ≡ denies_only tree.now }
     ensures denies { IsTrue result → DeniesOnly (built tree.now) }
 {
     are_denied(tree)
 }
 
 fn are_denied(tree: &PolicyTree) -> bool
-    ensures { result ≡ asks_nothing tree.now }
+    ensures { result ≡ denies_only tree.now }
 {
     tree.vars.is_empty() && are_denials(tree.clauses.as_slice())
 }

@@ -14,7 +14,7 @@ mod running;
 mod state;
 
 pub use asking::{clause_of, has_clause, is_return};
-pub use building::{asks_nothing, build};
+pub use building::{build, denies_only};
 pub use laws::{ranges_are_kept, runs_join};
 pub use policy::{Branch, Clause, Policy, has_clauses};
 pub use running::{Verdict, accept, initial, next, stays_in_range};

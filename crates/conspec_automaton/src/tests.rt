@@ -6,7 +6,7 @@ ghost use Rattle.std.specs.Prelude.{IfOk};
 ghost use Rattle.conspec_automaton.specs.Sound.{IsOfListing, IsPolicy};
 
 use crate::policy::{Branch, Policy};
-use crate::{asks_nothing, build, has_clauses};
+use crate::{build, denies_only, has_clauses};
 use api_listing::read;
 use conspec_parse::{Atom, Base, PolicyTree, Rel, Update, parse};
 use std::alloc::Global;
@@ -140,7 +140,7 @@ fn denials_ask_nothing(rt: HostRuntime) -> Result<(), Fail> {
         let Ok(tree) = parse(rt.alloc(), text.as_slice(), &listing) else {
             return Err("the policy".into());
         };
-        assert_eq!(&rt; asks_nothing(&tree), *wanted, "{rest}");
+        assert_eq!(&rt; denies_only(&tree), *wanted, "{rest}");
     }
     Ok(())
 }

@@ -5,7 +5,7 @@ use api_listing::read;
 use block_template::Woven;
 use bytecode_model::{Origin, Side, link};
 use class_codec::{Attr, ClassFile, Code, Const, Member, decode, encode};
-use conspec_automaton::{asks_nothing, build};
+use conspec_automaton::{build, denies_only};
 use conspec_parse::parse;
 use mon_base::{Bytes, List};
 use offset_patch::{Size, SpliceFault};
@@ -88,7 +88,7 @@ fn woven(alloc: Global, class: ClassFile) -> Result<Result<Woven, SpliceFault>, 
     let Ok(tree) = parse(alloc, POLICY, &listing) else {
         return Err("the policy".into());
     };
-    if !asks_nothing(&tree) {
+    if !denies_only(&tree) {
         return Err("the policy".into());
     }
     let policy = build(alloc, &tree)?;

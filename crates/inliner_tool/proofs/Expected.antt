@@ -20,7 +20,7 @@ use Rattle.bytecode_model.specs.Shape.{has_code, IsShaped}
 use Rattle.bytecode_model.specs.Typed.{IsTyped, frames_in, frames_told, reached_in}
 use Rattle.conspec_automaton.specs.declared.policy.Policy.{Policy}
 use Rattle.conspec_automaton.specs.Building.{built}
-use Rattle.conspec_automaton.specs.Denying.{DeniesOnly, asks_nothing}
+use Rattle.conspec_automaton.specs.Denying.{DeniesOnly, denies_only}
 use Rattle.conspec_parse.specs.declared.types.Kind.{Kind}
 use Rattle.conspec_parse.specs.declared.types.PolicyTree.{PolicyTree}
 use Rattle.block_template.specs.declared.woven.Woven.{Woven}
@@ -59,7 +59,7 @@ built_of false b asks tree policy e = absurd cc
 
 pub one_file : (weaving : Weaving) (tree : PolicyTree) (client : Program) (policy : Policy) → denying weaving tree client ≡ Ok policy → length client.classes ≡ 1
 one_file weaving tree client policy e =
-    one_class client.listing client.classes (built_of (lets_go weaving) (is_built_client client) (asks_nothing tree) tree policy e)
+    one_class client.listing client.classes (built_of (lets_go weaving) (is_built_client client) (denies_only tree) tree policy e)
 
 -- ---- what is reached
 

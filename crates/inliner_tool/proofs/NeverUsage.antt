@@ -11,7 +11,7 @@ use Rattle.cert_checker.specs.Acceptance.{verdict}
 use Rattle.std.specs.Prelude.{Result}
 use Rattle.cert_format.specs.declared.certificate.Certificate.{Certificate}
 use Rattle.conspec_automaton.specs.Building.{built}
-use Rattle.conspec_automaton.specs.Denying.{asks_nothing}
+use Rattle.conspec_automaton.specs.Denying.{denies_only}
 use Rattle.conspec_parse.specs.declared.types.PolicyTree.{PolicyTree}
 use Rattle.inliner_tool.specs.declared.answer.Answer.{Answer}
 use Rattle.inliner_tool.specs.declared.answer.Answer.TheVariants as answers
@@ -44,7 +44,7 @@ no_link links.Memory e = absurd cc
 
 no_linked : (policy : PolicyTree) (certificate : Certificate) (linked : Linked Program) → linked_answer policy certificate linked ≡ answers.Usage → ⊥
 no_linked policy certificate (Ok program) e =
-    no_choice (is_built program && asks_nothing policy) (verdict_answer program (verdict program (built policy) certificate)) (no_verdict program (verdict program (built policy) certificate)) e
+    no_choice (is_built program && denies_only policy) (verdict_answer program (verdict program (built policy) certificate)) (no_verdict program (verdict program (built policy) certificate)) e
 no_linked policy certificate (Err fault) e = no_link fault e
 
 no_total : (b : Bool) (total : ℕ) (other : Answer) → (other ≡ answers.Usage → ⊥) → cond b (answers.TotalLong total) other ≡ answers.Usage → ⊥

@@ -19,7 +19,7 @@ use Rattle.class_text.specs.declared.fault.ShowFault.{ShowFault}
 use Rattle.class_text.specs.declared.fault.ShowFault.TheVariants as shows
 use Rattle.class_text.specs.Shown.{shown}
 use Rattle.conspec_automaton.specs.Building.{built}
-use Rattle.conspec_automaton.specs.Denying.{asks_nothing}
+use Rattle.conspec_automaton.specs.Denying.{denies_only}
 use Rattle.conspec_automaton.specs.Verdict.{is_refused, verdict as judged}
 use Rattle.conspec_parse.specs.declared.types.PolicyTree.{PolicyTree}
 use Rattle.inliner_tool.specs.declared.answer.Answer.{Answer}
@@ -61,7 +61,7 @@ verdict_answer program (Err fault) = denied_answer program fault
 -- a program and a policy of the built forms are checked
 abbrev pub program_answer : PolicyTree → Certificate → Program → Answer
 program_answer policy certificate program =
-    if is_built program && asks_nothing policy then verdict_answer program (verdict program (built policy) certificate) else answers.NotBuilt
+    if is_built program && denies_only policy then verdict_answer program (verdict program (built policy) certificate) else answers.NotBuilt
 
 abbrev pub link_answer : LinkFault → Answer
 link_answer links.Memory = answers.Memory

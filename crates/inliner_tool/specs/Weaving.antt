@@ -22,7 +22,7 @@ use Rattle.class_codec.specs.Spelling.{spelling}
 use Rattle.bytecode_model.specs.Typed.{IsTyped}
 use Rattle.conspec_automaton.specs.declared.policy.Policy.{Policy}
 use Rattle.conspec_automaton.specs.Building.{built}
-use Rattle.conspec_automaton.specs.Denying.{asks_nothing}
+use Rattle.conspec_automaton.specs.Denying.{denies_only}
 use Rattle.conspec_parse.specs.declared.types.PolicyTree.{PolicyTree}
 use Rattle.block_template.specs.declared.woven.Woven.{Woven}
 use Rattle.block_template.specs.Outcome.{IsWoven}
@@ -83,7 +83,7 @@ lets_go other = true
 -- the policy, where this program is of the form that is woven so far, and the policy denies calls outright
 abbrev pub denying : Weaving → PolicyTree → Program → Step Policy
 denying weaving policy program =
-    if lets_go weaving && (is_built_client program && asks_nothing policy) then Ok (built policy) else Err refusals.NotBuilt
+    if lets_go weaving && (is_built_client program && denies_only policy) then Ok (built policy) else Err refusals.NotBuilt
 
 abbrev pub weave_step : Result Woven SpliceFault → Step Woven
 weave_step (Ok made) = Ok made

@@ -29,7 +29,7 @@ use bytecode_model::{LinkFault, Program, Side, link};
 use cert_checker::{CheckFault, check};
 use cert_format::Certificate;
 use class_text::{ShowFault, show};
-use conspec_automaton::{accept, asks_nothing, build};
+use conspec_automaton::{accept, build, denies_only};
 use conspec_parse::PolicyTree;
 use mon_base::{Bytes, NoMemory};
 use std::alloc::Global;
@@ -103,7 +103,7 @@ fn program_answer(
 {
     match is_built(alloc, program.program()) {
         Ok(built) => {
-            if !built || !asks_nothing(policy) {
+            if !built || !denies_only(policy) {
                 return Answer::NotBuilt;
             }
         }

@@ -54,7 +54,7 @@ use cert_checker::{Accepted, check};
 use cert_format::{CertLong, Certificate, Typing};
 use cert_maker::{make, policy_tells_arguments, woven_is_accepted, woven_is_typed};
 use class_codec::ClassFile;
-use conspec_automaton::{Policy, asks_nothing, build};
+use conspec_automaton::{Policy, build, denies_only};
 use conspec_parse::PolicyTree;
 use inline_release::{inline, original_is_free, woven_files_link};
 use mon_base::{Bytes, List, NoMemory};
@@ -192,7 +192,7 @@ fn denying(
     ensures built { IfOk result (λ made. made ≡ built policy.now) }
     ensures denies { IfOk result DeniesOnly }
 {
-    if !lets_go(weaving) || !is_built_client(program.program()) || !asks_nothing(policy) {
+    if !lets_go(weaving) || !is_built_client(program.program()) || !denies_only(policy) {
         return Err(Refusal::NotBuilt);
     }
     let policy = build(alloc, policy)?;
