@@ -8,8 +8,9 @@ ghost use Rattle.class_codec.specs.Fits.{CanSpell};
 ghost use Rattle.api_listing.specs.Listing.{IsFew};
 
 use api_listing::{Listing, read};
-use bytecode_model::{Side, link};
+use bytecode_model::Side;
 use class_codec::{ClassFile, decode};
+use class_linking::link;
 use mon_base::{Bytes, List, NoMemory, read_number};
 use std::alloc::Global;
 use std::env;

@@ -1,22 +1,17 @@
 -- What class files that were woven link to: the classes of the program, in which each call that is denied stands in its
 -- block, and behind them conspec/State.
 use Rattle.mon_base.specs.declared.method.MethodId.{MethodId}
-use Rattle.std.specs.Prelude.{◌≡◌, ◌≢◌, ℕ, ◌+◌, ◌<◌, true, codes, if◌then◌else◌, List, [], ◌∷◌, ◌++◌, length, map, slice_index, Option, Some, Ok, ⊤}
+use Rattle.std.specs.Prelude.{◌≡◌, ◌≢◌, ℕ, ◌+◌, true, codes, if◌then◌else◌, List, [], ◌∷◌, ◌++◌, map, slice_index, Option, Some, ⊤}
 use Rattle.std.specs.List.{AllByRecursion}
 use Rattle.class_codec.specs.declared.tree.Attr.{Attr}
 use Rattle.class_codec.specs.declared.tree.Attr.TheVariants as attributes
-use Rattle.class_codec.specs.declared.tree.ClassFile.{ClassFile}
 use Rattle.class_codec.specs.declared.tree.Const.{Const}
 use Rattle.class_codec.specs.declared.tree.Member.{Member}
 use Rattle.insn_codec.specs.declared.insn.Insn.{Insn}
-use Rattle.api_listing.specs.declared.types.Listing.{Listing}
-use Rattle.api_listing.specs.Listing.{SpellsListing}
-use Rattle.bytecode_model.specs.declared.program.Side.TheVariants as sides
 use Rattle.bytecode_model.specs.declared.program.Target.{Target}
 use Rattle.bytecode_model.specs.declared.program.Target.TheVariants as target
 use Rattle.bytecode_model.specs.Heads.{head_of}
 use Rattle.class_codec.specs.Pool.{reference_at}
-use Rattle.conspec_automaton.specs.Denying.{DeniesOnly}
 use Rattle.offset_patch.specs.declared.block.Block.{Block}
 use Rattle.offset_patch.specs.declared.block.BlockInsn.{BlockInsn}
 use Rattle.offset_patch.specs.declared.block.BlockInsn.TheVariants.{Want, Call}
@@ -26,14 +21,11 @@ use Rattle.bytecode_model.specs.declared.program.Handler.{Handler}
 use Rattle.bytecode_model.specs.declared.program.LinkedClass.{LinkedClass}
 use Rattle.bytecode_model.specs.declared.program.Method.{Method}
 use Rattle.bytecode_model.specs.declared.program.Program.{Program}
-use Rattle.bytecode_model.specs.Linking.{linked}
-use Rattle.bytecode_model.specs.Sound.{IsSound}
 use Rattle.conspec_automaton.specs.declared.policy.Policy.{Policy}
 use Rattle.offset_patch.specs.Entries.{state_name, place_in, with_wants}
 use Rattle.offset_patch.specs.Splicing.{part_of, fronts_of, spliced, wants_of, operands_needed}
 use Rattle.block_template.specs.State.{state_class}
-use Rattle.block_template.specs.declared.woven.Woven.{Woven}
-use Rattle.block_template.specs.Woven.{is_woven, sites_of, locals_of, file_with, woven}
+use Rattle.block_template.specs.Woven.{is_woven, sites_of, locals_of, file_with}
 
 -- Two lists have as many items, and those of one place belong together.
 abbrev pub Each : {X Y : Type 0} → (X → Y → Type 0) → List X → List Y → Type 0
@@ -171,7 +163,7 @@ pub record IsWoven (old : Program) (policy : Policy) (new : Program) : Type 0 wh
   pub main_class : new.main_class ≡ old.main_class
   pub main_method : new.main_method ≡ old.main_method
 
--- ---- the laws
+-- ---- names that are kept
 
 -- The operand names nothing of conspec/State.
 abbrev pub IsFreeTarget : Target → Type 0
@@ -182,17 +174,3 @@ IsFreeTarget other = ⊤
 pub record IsFreeOfState (program : Program) : Type 0 where
   pub classes : AllByRecursion (λ (c : LinkedClass). c.name ≢ state_name) program.classes
   pub operands : AllByRecursion (λ (c : LinkedClass). AllByRecursion (λ (m : Method). AllByRecursion IsFreeTarget m.refs) c.methods) program.classes
-
--- A program of a compiler's class files is free of it.
-abbrev pub OriginalIsFree : Type 0
-OriginalIsFree =
-    (text : List ℕ) (listing : Listing) (files : List ClassFile) (main : List ℕ) (program : Program)
-    → SpellsListing text listing → linked files listing main sides.Original ≡ Ok program → IsFreeOfState program
-
--- Of a program that was linked of a compiler's files, what is woven links to the woven program. (One class is added, so
--- there is to be room for one.)
-abbrev pub WovenLinks : Type 0
-WovenLinks =
-    (text : List ℕ) (listing : Listing) (files : List ClassFile) (main : List ℕ) (old : Program) (policy : Policy) (made : Woven)
-    → SpellsListing text listing → linked files listing main sides.Original ≡ Ok old → IsSound old → DeniesOnly policy → length files < 1000
-    → woven old policy ≡ Ok made → (new : Program) × ((linked made.files listing main sides.Inlined ≡ Ok new) × IsWoven old policy new)

@@ -12,7 +12,7 @@ use Rattle.std.specs.Map.{lookup}
 use Rattle.std.proofs.lemmas.Bool.{false≢true}
 use Rattle.std.proofs.lemmas.Map.Text.{is_eq-slice_cmp}
 use Rattle.std.proofs.lemmas.Slice.Eq.{bytes_eq-Decides}
-use Rattle.bytecode_model.specs.Index.{place_in, name_place, NamesPlaced}
+use Rattle.bytecode_model.specs.Places.{place_in, name_place, NamesPlaced}
 use Rattle.bytecode_model.specs.SearchOrder.{is_one_of, with_name}
 use Rattle.bytecode_model.proofs.Lists.{or_none, or_or}
 

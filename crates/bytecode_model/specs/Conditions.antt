@@ -1,8 +1,7 @@
 -- The conditions that each class and each method of a program meets, one definition for each refusal.
-use Rattle.std.specs.Prelude.{ℕ, zero, suc, Bool, true, false, not, ◌==◌, ◌&&◌, ◌||◌, bytes_eq, if◌then◌else◌, List, [], ◌∷◌, length, nat_eq, Option, Some, None, Ok, is_ok}
+use Rattle.std.specs.Prelude.{ℕ, zero, suc, Bool, true, false, not, ◌==◌, ◌&&◌, ◌||◌, bytes_eq, if◌then◌else◌, List, [], ◌∷◌, length, nat_eq, Option, Some, None, is_ok}
 use Rattle.std.specs.List.{list_all, list_any, filter_map, starts_with}
 use Rattle.std.specs.Option.{option_map_or}
-use Rattle.mon_base.specs.Reading.{◌>>=◌, need}
 use Rattle.mon_base.specs.declared.method.MethodId.{MethodId}
 use Rattle.class_codec.specs.declared.tree.Const.{Const}
 use Rattle.class_codec.specs.declared.tree.Const.TheVariants as constants
@@ -17,12 +16,9 @@ use Rattle.api_listing.specs.BuiltIn.{object, thread, runnable, throwables, is_b
 use Rattle.api_listing.specs.Listing.{is_known, has_method, own_class}
 use Rattle.api_listing.specs.Nearest.{class_named}
 use Rattle.api_listing.specs.Descriptor.{method_type}
-use Rattle.api_listing.specs.Words.{is_class_name}
-use Rattle.bytecode_model.specs.declared.fault.LinkFault.TheVariants as faults
 use Rattle.bytecode_model.specs.declared.program.Side.{Side}
 use Rattle.bytecode_model.specs.declared.program.Side.TheVariants as sides
-use Rattle.bytecode_model.specs.Fault.{Linked}
-use Rattle.bytecode_model.specs.Heads.{is_static, is_synchronized, is_native, is_abstract, head_of, name_of, desc_of, main_name, main_desc, maker, initialiser, takes_nothing, run_name}
+use Rattle.bytecode_model.specs.Heads.{is_static, is_synchronized, is_native, is_abstract, name_of, desc_of, main_name, main_desc, maker, initialiser, takes_nothing, run_name}
 use Rattle.bytecode_model.specs.Members.{in_class}
 use Rattle.bytecode_model.specs.SearchOrder.{Name, is_one_of, search_order}
 
@@ -73,22 +69,6 @@ is_good_interface c fields = not c.is_interface || (bytes_eq c.parent object && 
 
 abbrev pub has_supers : List ListedClass → ListedClass → List Member → Bool
 has_supers heads c fields = stands_below heads c && is_good_interface c fields
-
--- ---- classes, in order (150, 142, 145, 144)
-
--- the conditions of a class of a file, whose name is taken or not
-abbrev pub class_linked : Side → List ListedClass → Bool → ListedClass → ClassFile → Linked (Unit {0})
-class_linked side heads is_taken c file = do
-  named ← need (is_class_name c.name) (faults.Name c.name)
-  once ← need (not is_taken) (faults.Twice c.name)
-  free ← need (is_free side file) (faults.NameTaken c.name)
-  need (has_supers heads c file.fields) (faults.SuperLeftOut c.name)
-
--- those of some classes, where the names of others are taken
-abbrev pub classes_linked : Side → List ListedClass → List ListedClass → List ClassFile → Linked (Unit {0})
-classes_linked side heads taken [] = Ok tt
-classes_linked side heads taken (file ∷ files) =
-    class_linked side heads (is_known taken (head_of file).name) (head_of file) file >>= λ _. classes_linked side heads (head_of file ∷ taken) files
 
 -- ---- methods (146)
 

@@ -1,4 +1,3 @@
-pub mod Fault
 pub mod Heads
 pub mod Classes
 pub mod Arrays
@@ -8,9 +7,9 @@ pub mod SearchOrder
 pub mod Members
 pub mod Conditions
 pub mod Operands
-pub mod Handlers
-pub mod Linking
-pub mod Index
+pub mod Starts
+pub mod Files
+pub mod Places
 pub mod Sound
 pub mod Place
 pub mod Makes

@@ -9,9 +9,9 @@ use Rattle.mon_base.specs.declared.method.MethodId.{MethodId}
 use Rattle.api_listing.specs.declared.types.ListedMethod.{ListedMethod}
 use Rattle.api_listing.specs.declared.types.Listing.{Listing}
 use Rattle.api_listing.specs.BuiltIn.{MethodRow, method_rows, is_method}
-use Rattle.bytecode_model.specs.declared.declared.Found.{Found}
-use Rattle.bytecode_model.specs.declared.declared.MemberKind.{MemberKind}
-use Rattle.bytecode_model.specs.declared.declared.MemberKind.TheVariants as kinds
+use Rattle.bytecode_model.specs.declared.members.Found.{Found}
+use Rattle.bytecode_model.specs.declared.members.MemberKind.{MemberKind}
+use Rattle.bytecode_model.specs.declared.members.MemberKind.TheVariants as kinds
 use Rattle.bytecode_model.specs.declared.program.Target.{Target}
 use Rattle.bytecode_model.specs.declared.program.Target.TheVariants as target
 use Rattle.bytecode_model.specs.Heads.{class_at, name_of, desc_of, is_static, all_classes}

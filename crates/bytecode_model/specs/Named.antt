@@ -1,11 +1,9 @@
 -- What is known of the operands of a linked program.
-use Rattle.std.specs.Prelude.{◌≡◌, ℕ, ◌<◌, List, [], length, slice_get, Some, Ok}
+use Rattle.std.specs.Prelude.{◌≡◌, ℕ, ◌<◌, List, [], length, slice_get, Some}
 use Rattle.std.specs.Option.{option_map_or}
 use Rattle.mon_base.specs.declared.method.MethodId.{MethodId}
 use Rattle.api_listing.specs.declared.types.ListedMethod.{ListedMethod}
 use Rattle.api_listing.specs.declared.types.Listing.{Listing}
-use Rattle.api_listing.specs.Listing.{SpellsListing}
-use Rattle.class_codec.specs.declared.tree.ClassFile.{ClassFile}
 use Rattle.class_codec.specs.Pool.{reference_at}
 use Rattle.insn_codec.specs.declared.insn.Insn.{Insn}
 use Rattle.insn_codec.specs.declared.shape.Heap.TheVariants as heap
@@ -15,12 +13,9 @@ use Rattle.insn_codec.specs.declared.shape.How.{How}
 use Rattle.bytecode_model.specs.declared.program.LinkedClass.{LinkedClass}
 use Rattle.bytecode_model.specs.declared.program.Method.{Method}
 use Rattle.bytecode_model.specs.declared.program.Program.{Program}
-use Rattle.bytecode_model.specs.declared.program.Side.{Side}
 use Rattle.bytecode_model.specs.declared.program.Target.{Target}
 use Rattle.bytecode_model.specs.declared.program.Target.TheVariants as target
-use Rattle.bytecode_model.specs.Linking.{linked}
 use Rattle.bytecode_model.specs.Operands.{index_of}
-use Rattle.bytecode_model.specs.Sound.{IsSound}
 
 -- the descriptor that the reference of an instruction tells
 abbrev pub desc_told : LinkedClass → Insn → List ℕ
@@ -47,8 +42,3 @@ AreRightOperands program =
     (own index at : ℕ) (class : LinkedClass) (method : Method) (insn : Insn) (ref : Target) → slice_get program.classes own ≡ Some class
     → slice_get class.methods index ≡ Some method → slice_get method.insns at ≡ Some insn → slice_get method.refs at ≡ Some ref
     → IsRightOperand program class insn ref
-
-abbrev pub LinkedOperandsAreRight : Type 0
-LinkedOperandsAreRight =
-    (files : List ClassFile) (listing : Listing) (main : List ℕ) (side : Side) (program : Program) → linked files listing main side ≡ Ok program → IsSound program
-    → AreRightOperands program

@@ -1,5 +1,5 @@
 -- What holds of each linked program.
-use Rattle.std.specs.Prelude.{◌≡◌, ℕ, ◌^◌, ◌<◌, ◌≤◌, List, length, option_and_then, slice_get, IsSomeAnd}
+use Rattle.std.specs.Prelude.{◌≡◌, ℕ, ◌^◌, ◌<◌, ◌≤◌, length, option_and_then, slice_get, IsSomeAnd}
 use Rattle.std.specs.List.{AllByRecursion}
 use Rattle.class_codec.specs.Fits.{CanSpell}
 use Rattle.insn_codec.specs.Fits.{IsInsn, AimsWithin, Ends}

@@ -1,7 +1,6 @@
 -- What stands where in a linked program: its classes, their methods, and the method that it begins with.
 use Rattle.std.specs.Prelude.{◌≡◌, ℕ, ◌<◌, ◌≤◌, ◌==◌, Bool, true, false, not, ◌&&◌, ◌||◌, bytes_eq, if◌then◌else◌, List, [], ◌∷◌, length, slice_get, Some, None, Ok}
 use Rattle.std.specs.List.{AllByRecursion}
-use Rattle.class_codec.specs.declared.tree.ClassFile.{ClassFile}
 use Rattle.class_codec.specs.declared.tree.Code.{Code}
 use Rattle.class_codec.specs.declared.tree.Const.{Const}
 use Rattle.class_codec.specs.declared.tree.Member.{Member}
@@ -18,13 +17,12 @@ use Rattle.bytecode_model.specs.declared.program.Program.{Program}
 use Rattle.bytecode_model.specs.declared.program.Side.{Side}
 use Rattle.bytecode_model.specs.Classes.{classes_of}
 use Rattle.bytecode_model.specs.Conditions.{codes_of, describes_method, has_its_code, has_supers, is_free, is_run, overrides_in}
-use Rattle.bytecode_model.specs.Handlers.{index_at, insn_at}
+use Rattle.bytecode_model.specs.Starts.{index_at, insn_at}
 use Rattle.bytecode_model.specs.Heads.{class_at, head_of, heads_of, name_of, desc_of, is_static, is_native, is_abstract, is_synchronized, main_name, main_desc, maker, initialiser, takes_nothing}
-use Rattle.bytecode_model.specs.Linking.{linked, unlinked, max_files}
+use Rattle.bytecode_model.specs.Files.{unlinked, max_files}
 use Rattle.bytecode_model.specs.Operands.{literals_of}
 use Rattle.bytecode_model.specs.SearchOrder.{Name, search_order}
 use Rattle.bytecode_model.specs.Shape.{has_code}
-use Rattle.bytecode_model.specs.Sound.{IsSound}
 use Rattle.bytecode_model.specs.Targets.{is_type, AreNamed}
 
 -- ---- the code of a method
@@ -124,7 +122,7 @@ pub record AreLiterals (program : Program) : Type 0 where
   pub are : program.literals ≡ literals_of (unlinked program)
   pub once : (i j : ℕ) (text : List ℕ) → slice_get program.literals i ≡ Some text → slice_get program.literals j ≡ Some text → i ≡ j
 
--- ---- the law
+-- ---- the whole
 
 -- What so many files, the listing and the class link to, on this side.
 pub record IsLinkedOf (side : Side) (listing : Listing) (main : List ℕ) (program : Program) : Type 0 where
@@ -135,8 +133,3 @@ pub record IsLinkedOf (side : Side) (listing : Listing) (main : List ℕ) (progr
   pub standing : AreStanding program
   pub begins : BeginsIn main program
   pub named : AreNamed program
-
-abbrev pub LinkedAreNamed : Type 0
-LinkedAreNamed =
-    (files : List ClassFile) (listing : Listing) (main : List ℕ) (side : Side) (program : Program) → linked files listing main side ≡ Ok program → IsSound program
-    → IsLinkedOf side listing main program

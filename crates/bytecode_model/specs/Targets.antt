@@ -23,7 +23,7 @@ use Rattle.bytecode_model.specs.declared.program.Target.TheVariants as target
 use Rattle.bytecode_model.specs.Arrays.{is_array}
 use Rattle.bytecode_model.specs.Classes.{classes_of}
 use Rattle.bytecode_model.specs.Heads.{name_of, desc_of, is_static}
-use Rattle.bytecode_model.specs.Linking.{unlinked}
+use Rattle.bytecode_model.specs.Files.{unlinked}
 use Rattle.bytecode_model.specs.Members.{in_class, method_of, field_of}
 use Rattle.bytecode_model.specs.Operands.{use_of, index_of, element_is_known, is_api_field}
 use Rattle.bytecode_model.specs.SearchOrder.{Name, is_one_of, search_order}

@@ -1,6 +1,6 @@
 -- When a program is typed, and the first place at which it is not.
-use Rattle.std.specs.Prelude.{◌≡◌, ℕ, zero, suc, ◌+◌, Bool, false, ◌&&◌, if◌then◌else◌, List, [], ◌∷◌, length, drop, take, Option, None, is_some, option_map, option_and_then, slice_get}
-use Rattle.std.specs.Option.{option_map_or, option_or}
+use Rattle.std.specs.Prelude.{◌≡◌, ℕ, Bool, false, ◌&&◌, List, [], length, take, Option, None, is_some, option_and_then, slice_get}
+use Rattle.std.specs.Option.{option_map_or}
 use Rattle.cert_format.specs.declared.typing.Typing.{Typing}
 use Rattle.insn_codec.specs.declared.insn.Insn.{Insn}
 use Rattle.bytecode_model.specs.declared.program.LinkedClass.{LinkedClass}

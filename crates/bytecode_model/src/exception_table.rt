@@ -1,13 +1,12 @@
 //! The exception table of a method, in which the handlers near an instruction are found without a search.
 //! (The Java Virtual Machine Specification, section 4.7.3.)
 
-ghost use Rattle.std.specs.Prelude.{◌≡◌, ◌≤◌, ◌∷◌, ◌++◌, ◌&&◌, [], ℕ, Contains, IfOk, MatchOption, OnOk};
+ghost use Rattle.std.specs.Prelude.{◌≡◌, ◌+◌, ◌≤◌, ◌∷◌, ◌++◌, ◌&&◌, [], ℕ, Contains, IfOk, MatchOption, OnOk};
 ghost use Rattle.std.specs.Prelude.{filter, get_or, if◌then◌else◌, nat_le, nat_lt, option_copied, vec_len};
 ghost use Rattle.bytecode_model.specs.Rules.{covers};
 ghost use Rattle.bytecode_model.specs.Spans.{AreListed, IsAdded, handlers_at, places_near};
 ghost use Rattle.bytecode_model.specs.declared.program.Handler.{Handler};
 
-use crate::handlers::next;
 use crate::program::Handler;
 use class_codec::copy_list;
 use mon_base::{List, NoMemory};
@@ -145,9 +144,19 @@ fn spans_of(alloc: Global, table: &[Handler]) -> Result<Vec<List<u32>>, NoMemory
     let mut place: u32 = 0;
     for handler in table {
         add_handler(alloc, &mut spans, handler, place)?;
-        place = next(place)?;
+        place = next_place(place)?;
     }
     Ok(spans)
+}
+
+/// The next place, if a number of 32 bits holds it.
+pub fn next_place(index: u32) -> Result<u32, NoMemory>
+    ensures { IfOk result (λ n. n ≡ index + 1) }
+{
+    match index.checked_add(1) {
+        Some(n) => Ok(n),
+        None => Err(NoMemory),
+    }
 }
 
 /// Adds the handler's place to each span that has an instruction which the handler covers.

@@ -1,20 +1,6 @@
-//! What holds of linked programs.
+//! What holds of instructions.
 
-ghost use Rattle.bytecode_model.specs.Named.{LinkedOperandsAreRight};
-ghost use Rattle.bytecode_model.specs.Standing.{LinkedAreNamed};
 ghost use Rattle.bytecode_model.specs.Uses.{UsesAreShaped};
-
-/// The constant of each instruction of a linked program is in the pool of its class, and what names a method of the listing
-/// calls it, by its descriptor.
-pub fn linked_operands_are_right()
-    ensures right { LinkedOperandsAreRight }
-{}
-
-/// A linked program is that of its files: each operand names what its constant does, each method and class stands where
-/// its file has it, and the program begins with the first `main` of its class.
-pub fn linked_programs_are_named()
-    ensures named { LinkedAreNamed }
-{}
 
 /// Each instruction uses its constant as its shape tells, so that what its operand names is told of its shape, too.
 pub fn uses_are_shaped()

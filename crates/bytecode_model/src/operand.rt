@@ -1,11 +1,9 @@
 //! How an instruction uses the constant that it names. (The Java Virtual Machine Specification, section 6.5.)
 
 ghost use Rattle.std.specs.Prelude.{◌≡◌};
-ghost use Rattle.bytecode_model.specs.declared.operand.OperandFault.TheVariants.{Memory};
 ghost use Rattle.bytecode_model.specs.Operands.{index_of, use_of, use_of_opcode};
 
 use insn_codec::Insn;
-use mon_base::{Bytes, NoMemory};
 
 /// How an instruction uses a constant.
 #[derive(Clone, Copy, Debug, PartialEq, Eq)]
@@ -22,17 +20,6 @@ pub enum Use {
     New,
     /// It names a class or an array type.
     Type,
-}
-
-/// Why an operand has no target.
-#[derive(Debug, Drop, PartialEq, Eq)]
-pub enum OperandFault {
-    /// The instruction does not take such a constant.
-    Wrong,
-    /// There is no field, method or class of this name, or not as the instruction wants it.
-    Missing(Bytes),
-    /// Memory ran out.
-    Memory,
 }
 
 /// The index of the constant that the instruction names, or 0, which names none.
@@ -94,13 +81,5 @@ fn use_of_opcode(op: u8) -> Use
         0xBB => Use::New,
         0xBD | 0xC0 | 0xC1 => Use::Type,
         _ => Use::Nothing,
-    }
-}
-
-impl From<NoMemory> for OperandFault {
-    ghost from_gives = { λ _ e. e ≡ Memory };
-
-    fn from(_error: NoMemory) -> OperandFault {
-        OperandFault::Memory
     }
 }

@@ -249,5 +249,5 @@ module _ (old new : Program) (policy : Policy) (made : Woven) (typing : Typing) 
   all_conditions = record { frames = shaped; notes = notes_shaped; typed = typed; noted = no_fault }
 
 pub accepted : WovenIsAccepted
-accepted files listing main side old new policy made typing links sound sound_new right free is weaves typed shaped stopped =
-    all_conditions old new policy made typing (classes_of_files files listing main side old links sound) sound right free is weaves typed shaped stopped
+accepted old new policy made typing standing sound sound_new right free is weaves typed shaped stopped =
+    all_conditions old new policy made typing (classes_of_files old standing) sound right free is weaves typed shaped stopped

@@ -1,13 +1,9 @@
 -- The certificate of a woven program is accepted.
 use Rattle.std.specs.Prelude.{◌≡◌, ℕ, ◌+◌, ◌<◌, ◌≤◌, false, List, length, slice_get, slice_index, Some, Ok}
-use Rattle.class_codec.specs.declared.tree.ClassFile.{ClassFile}
-use Rattle.api_listing.specs.declared.types.Listing.{Listing}
 use Rattle.bytecode_model.specs.declared.program.LinkedClass.{LinkedClass}
 use Rattle.bytecode_model.specs.declared.program.Method.{Method}
 use Rattle.bytecode_model.specs.declared.program.Program.{Program}
-use Rattle.bytecode_model.specs.declared.program.Side.{Side}
 use Rattle.bytecode_model.specs.declared.program.Target.{Target}
-use Rattle.bytecode_model.specs.Linking.{linked}
 use Rattle.bytecode_model.specs.Sound.{IsSound}
 use Rattle.block_logic.specs.Accepted.{IsAccepted}
 use Rattle.cert_format.specs.declared.typing.Typing.{Typing}
@@ -20,6 +16,7 @@ use Rattle.block_template.specs.Outcome.{IsFreeOfState, IsWoven}
 use Rattle.block_template.specs.Woven.{sites_of, woven}
 use Rattle.offset_patch.specs.Splicing.{fronts_of}
 use Rattle.bytecode_model.specs.Named.{AreRightOperands}
+use Rattle.bytecode_model.specs.Standing.{AreStanding}
 use Rattle.cert_maker.specs.Framing.{arguments_of}
 use Rattle.cert_maker.specs.Noting.{certificate_of}
 
@@ -31,11 +28,10 @@ IsStopped old policy new typing =
     → slice_get class.methods index ≡ Some method → slice_get method.refs i ≡ Some ref → arguments_of policy ref ≡ Some args → length args + 6 ≤ k
     → k < length args + length args + 9 → reached new typing own index (slice_index (fronts_of (sites_of policy method.max_locals method)) i + k) ≡ false
 
--- Of a program that was linked: where the types of the woven program are right, and no block goes on behind its way out, the
--- woven program is accepted with the certificate that is made of them.
+-- Of a program whose classes stand as their files have them: where the types of the woven program are right, and no block
+-- goes on behind its way out, the woven program is accepted with the certificate that is made of them.
 abbrev pub WovenIsAccepted : Type 0
 WovenIsAccepted =
-    (files : List ClassFile) (listing : Listing) (main : List ℕ) (side : Side) (old new : Program) (policy : Policy) (made : Woven) (typing : Typing)
-    → linked files listing main side ≡ Ok old → IsSound old → IsSound new → AreRightOperands old → IsFreeOfState old → IsWoven old policy new → woven old policy ≡ Ok made
+    (old new : Program) (policy : Policy) (made : Woven) (typing : Typing) → AreStanding old → IsSound old → IsSound new → AreRightOperands old → IsFreeOfState old → IsWoven old policy new → woven old policy ≡ Ok made
     → IsTyped new typing → IsShaped new typing.frames → IsStopped old policy new typing
     → IsAccepted new policy (certificate_of old.classes policy made.origins typing)

@@ -6,7 +6,7 @@ use Rattle.api_listing.specs.declared.types.ListedMethod.{ListedMethod}
 use Rattle.api_listing.specs.declared.types.Listing.{Listing}
 use Rattle.api_listing.specs.Nearest.{declared_in}
 use Rattle.api_listing.specs.Seen.{id_cmp}
-use Rattle.bytecode_model.specs.Index.{ClassesPlaced}
+use Rattle.bytecode_model.specs.Places.{ClassesPlaced}
 
 abbrev pub method_in : BTreeMap MethodId ℕ → MethodId → Option ℕ
 method_in places id = get id_cmp places id

@@ -5,7 +5,7 @@ ghost use Rattle.std.specs.Option.{option_or};
 ghost use Rattle.mon_base.specs.declared.method.MethodId.{MethodId};
 ghost use Rattle.api_listing.specs.BuiltIn.{is_method};
 ghost use Rattle.api_listing.specs.Nearest.{class_named, declared_in, first_declared, upwards, names_of, interfaces_of, looked_in};
-ghost use Rattle.bytecode_model.specs.Index.{place_in, ClassesPlaced};
+ghost use Rattle.bytecode_model.specs.Places.{place_in, ClassesPlaced};
 ghost use Rattle.class_text.specs.Library.{method_in, MethodsPlaced};
 ghost use Rattle.class_text.specs.Lines.{listed_for};
 

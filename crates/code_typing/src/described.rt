@@ -2,18 +2,7 @@
 
 ghost use Rattle.std.specs.Prelude.{◌≡◌, ◌≤◌, ◌-◌, length, take, option_map};
 ghost use Rattle.type_lattice.specs.Lending.{type_lent};
-ghost use Rattle.bytecode_model.specs.Described.{
-  name_length,
-  type_length,
-  first_type,
-  behind_type,
-  next_type,
-  types_at,
-  arguments,
-  result_text,
-  type_described,
-  result_type,
-};
+ghost use Rattle.bytecode_model.specs.Described.{name_length, type_length, first_type, behind_type, next_type, types_at, arguments, result_text, type_described, result_type};
 
 use type_lattice::TypeRef;
 

@@ -3,18 +3,7 @@
 ghost use Rattle.std.specs.Prelude.{◌≡◌};
 ghost use Rattle.std.specs.List.{list_all};
 ghost use Rattle.type_lattice.specs.Lending.{type_lent};
-ghost use Rattle.bytecode_model.specs.Rules.{
-  Caught,
-  is_handled,
-  covers,
-  class_caught,
-  when_thrown,
-  local_caught,
-  is_reference_to,
-  is_alone,
-  catches_well,
-  locals_fit,
-};
+ghost use Rattle.bytecode_model.specs.Rules.{Caught, is_handled, covers, class_caught, when_thrown, local_caught, is_reference_to, is_alone, catches_well, locals_fit};
 
 use crate::following::frame_of;
 use crate::place::PlaceRef;

@@ -4,22 +4,7 @@ ghost use Rattle.std.specs.Prelude.{◌≡◌, ◌∷◌, ◌&&◌, [], length, 
 ghost use Rattle.code_typing.specs.Steps.{behind_met};
 ghost use Rattle.insn_codec.specs.Shapes.{shape_of};
 ghost use Rattle.bytecode_model.specs.Described.{types_at};
-ghost use Rattle.bytecode_model.specs.Wants.{
-  all_met,
-  anything,
-  takes,
-  takes_of,
-  heap_takes,
-  call_takes,
-  to_written,
-  to_own,
-  to_receiver,
-  to_result,
-  to_arguments,
-  to_described,
-  returns_well,
-  is_result_of,
-};
+ghost use Rattle.bytecode_model.specs.Wants.{all_met, anything, takes, takes_of, heap_takes, call_takes, to_written, to_own, to_receiver, to_result, to_arguments, to_described, returns_well, is_result_of};
 ghost use Rattle.bytecode_model.specs.Described.{result_type};
 ghost use Rattle.bytecode_model.specs.Place.{desc_referred};
 ghost use Rattle.insn_codec.specs.declared.shape.Heap.TheVariants as heap;

@@ -3,19 +3,7 @@
 ghost use Rattle.std.specs.Prelude.{◌≡◌, ◌≤◌, ◌∷◌, [], ℕ, List, length, map, reverse, option_copied};
 ghost use Rattle.insn_codec.specs.Forms.{order_of};
 ghost use Rattle.type_lattice.specs.Lending.{type_lent};
-ghost use Rattle.bytecode_model.specs.Makes.{
-  type_at,
-  moved_from,
-  form_yields,
-  constant_type,
-  item_type,
-  read_type,
-  array_named,
-  call_yields,
-  heap_yields,
-  yields,
-  yields_of,
-};
+ghost use Rattle.bytecode_model.specs.Makes.{type_at, moved_from, form_yields, constant_type, item_type, read_type, array_named, call_yields, heap_yields, yields, yields_of};
 ghost use Rattle.bytecode_model.specs.Place.{target_or_none};
 ghost use Rattle.bytecode_model.specs.Rules.{stack_fits};
 ghost use Rattle.cert_format.specs.declared.typing.VType.{VType};

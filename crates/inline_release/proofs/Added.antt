@@ -17,16 +17,17 @@ use Rattle.api_listing.specs.BuiltIn.{object, class_rows, built_in_classes, meth
 use Rattle.api_listing.specs.Listing.{is_known, has_method}
 use Rattle.api_listing.specs.Nearest.{class_named}
 use Rattle.api_listing.specs.Words.{is_class_name}
-use Rattle.bytecode_model.specs.declared.declared.Found.{Found}
-use Rattle.bytecode_model.specs.declared.declared.MemberKind.{MemberKind}
-use Rattle.bytecode_model.specs.declared.declared.MemberKind.TheVariants as members
+use Rattle.bytecode_model.specs.declared.members.Found.{Found}
+use Rattle.bytecode_model.specs.declared.members.MemberKind.{MemberKind}
+use Rattle.bytecode_model.specs.declared.members.MemberKind.TheVariants as members
 use Rattle.bytecode_model.specs.declared.program.Side.TheVariants as sides
 use Rattle.bytecode_model.specs.declared.program.Target.TheVariants as target
-use Rattle.bytecode_model.specs.Conditions.{stays_within, runs_in_circle, stands_below, is_good_interface, has_supers, is_super, is_above, classes_linked}
+use Rattle.bytecode_model.specs.Conditions.{stays_within, runs_in_circle, stands_below, is_good_interface, has_supers, is_super, is_above}
+use Rattle.class_linking.specs.ClassConditions.{classes_linked}
 use Rattle.bytecode_model.specs.Heads.{head_of, heads_of, all_classes}
 use Rattle.bytecode_model.specs.Members.{Declared, members_from, file_members, given_from, listed_from, listed_fields_from, rows_from, methods_declared, fields_declared, first_of, first_found, method_of}
 use Rattle.bytecode_model.specs.SearchOrder.{Name, search_order}
-use Rattle.bytecode_model.proofs.Declaring.{first_of-append}
+use Rattle.class_index.proofs.Declaring.{first_of-append}
 use Rattle.bytecode_model.proofs.Lists.{all_append, not_true}
 use Rattle.bytecode_model.proofs.Placing.{same_name}
 use Rattle.offset_patch.specs.Entries.{state_name}

@@ -19,10 +19,10 @@ use Rattle.api_listing.specs.declared.types.Listing.{Listing}
 use Rattle.api_listing.specs.Descriptor.{method_type, whole_type}
 use Rattle.api_listing.specs.Descriptor as descriptors
 use Rattle.api_listing.specs.Fault.{Read}
-use Rattle.bytecode_model.specs.declared.declared.Found.{Found}
-use Rattle.bytecode_model.specs.declared.fault.LinkFault.{LinkFault}
-use Rattle.bytecode_model.specs.declared.operand.OperandFault.{OperandFault}
-use Rattle.bytecode_model.specs.declared.operand.OperandFault.TheVariants as operand
+use Rattle.bytecode_model.specs.declared.members.Found.{Found}
+use Rattle.class_linking.specs.declared.fault.LinkFault.{LinkFault}
+use Rattle.class_linking.specs.declared.operand_fault.OperandFault.{OperandFault}
+use Rattle.class_linking.specs.declared.operand_fault.OperandFault.TheVariants as operand
 use Rattle.bytecode_model.specs.declared.operand.Use.{Use}
 use Rattle.bytecode_model.specs.declared.operand.Use.TheVariants as uses
 use Rattle.bytecode_model.specs.declared.program.Target.{Target}
@@ -30,7 +30,8 @@ use Rattle.bytecode_model.specs.declared.program.Target.TheVariants as target
 use Rattle.bytecode_model.specs.Heads.{all_classes, text_at}
 use Rattle.bytecode_model.specs.Members.{methods_declared, fields_declared, method_of, field_of}
 use Rattle.bytecode_model.specs.Arrays.{is_array}
-use Rattle.bytecode_model.specs.Operands.{known_in, literals_of, element_is_known, array_linked, class_linked, field_fits, field_linked, call_linked, id_at, used, use_of, index_of, is_nothing, operand_linked, told_at}
+use Rattle.bytecode_model.specs.Operands.{known_in, literals_of, element_is_known, id_at, use_of, index_of}
+use Rattle.class_linking.specs.Operands.{array_linked, class_linked, field_fits, field_linked, call_linked, used, is_nothing, operand_linked, told_at}
 use Rattle.bytecode_model.specs.SearchOrder.{search_order}
 use Rattle.bytecode_model.proofs.Lists.{all_get}
 use Rattle.offset_patch.specs.declared.block.Block.{Block}

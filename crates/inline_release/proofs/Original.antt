@@ -19,12 +19,12 @@ use Rattle.api_listing.specs.declared.types.Listing.{Listing}
 use Rattle.api_listing.specs.BuiltIn.{MethodRow, method_rows, is_method}
 use Rattle.api_listing.specs.Descriptor.{method_type, whole_type}
 use Rattle.api_listing.specs.Fault.{Read}
-use Rattle.bytecode_model.specs.declared.declared.Found.{Found}
-use Rattle.bytecode_model.specs.declared.declared.MemberKind.{MemberKind}
-use Rattle.bytecode_model.specs.declared.declared.MemberKind.TheVariants as members
-use Rattle.bytecode_model.specs.declared.fault.LinkFault.{LinkFault}
-use Rattle.bytecode_model.specs.declared.operand.OperandFault.{OperandFault}
-use Rattle.bytecode_model.specs.declared.operand.OperandFault.TheVariants as operand
+use Rattle.bytecode_model.specs.declared.members.Found.{Found}
+use Rattle.bytecode_model.specs.declared.members.MemberKind.{MemberKind}
+use Rattle.bytecode_model.specs.declared.members.MemberKind.TheVariants as members
+use Rattle.class_linking.specs.declared.fault.LinkFault.{LinkFault}
+use Rattle.class_linking.specs.declared.operand_fault.OperandFault.{OperandFault}
+use Rattle.class_linking.specs.declared.operand_fault.OperandFault.TheVariants as operand
 use Rattle.bytecode_model.specs.declared.operand.Use.{Use}
 use Rattle.bytecode_model.specs.declared.operand.Use.TheVariants as uses
 use Rattle.bytecode_model.specs.declared.program.LinkedClass.{LinkedClass}
@@ -33,16 +33,18 @@ use Rattle.bytecode_model.specs.declared.program.Side.TheVariants as sides
 use Rattle.bytecode_model.specs.declared.program.Target.{Target}
 use Rattle.bytecode_model.specs.declared.program.Target.TheVariants as target
 use Rattle.bytecode_model.specs.Heads.{text_at, class_at, all_classes}
-use Rattle.bytecode_model.specs.Linking.{bare, body_linked, method_linked}
+use Rattle.class_linking.specs.Linking.{bare, body_linked, method_linked}
 use Rattle.bytecode_model.specs.Members.{Declared, members_from, members_of, file_members, given_from, listed_from, listed_fields_from, rows_from, methods_declared, fields_declared, first_of, first_found, in_class, method_of, field_of}
 use Rattle.bytecode_model.specs.Arrays.{is_array}
-use Rattle.bytecode_model.specs.Operands.{known_in, element_is_known, array_linked, class_linked, field_fits, field_linked, call_linked, id_at, used, use_of, index_of, is_nothing, operand_linked}
+use Rattle.bytecode_model.specs.Operands.{known_in, element_is_known, id_at, use_of, index_of}
+use Rattle.class_linking.specs.Operands.{array_linked, class_linked, field_fits, field_linked, call_linked, used, is_nothing, operand_linked}
 use Rattle.bytecode_model.specs.SearchOrder.{Name, search_order}
 use Rattle.bytecode_model.proofs.Lists.{all_append}
-use Rattle.bytecode_model.proofs.Loop.{each_of}
+use Rattle.class_linking.proofs.Loop.{each_of}
 use Rattle.offset_patch.specs.Entries.{state_name}
 use Rattle.block_template.specs.Woven.{first_code}
-use Rattle.block_template.specs.Outcome.{Each, IsFreeTarget, OriginalIsFree}
+use Rattle.block_template.specs.Outcome.{Each, IsFreeTarget}
+use Rattle.inline_release.specs.Links.{OriginalIsFree}
 use Rattle.inline_release.proofs.Free.{IsFree, text_free, class_free}
 use Rattle.inline_release.proofs.Steps.{coded, conditions_of}
 use Rattle.inline_release.proofs.Whole.{IsOf, program_of, free_classes}

@@ -11,12 +11,12 @@ use Rattle.class_codec.specs.declared.tree.Member.{Member}
 use Rattle.class_codec.specs.Fits.{CanSpell, FitsMember, FitsPool, IsIndex, IsNamed}
 use Rattle.class_codec.specs.Pool.{names, utf8_at}
 use Rattle.api_listing.specs.declared.types.ListedClass.{ListedClass}
-use Rattle.bytecode_model.specs.declared.declared.MemberKind.{MemberKind}
-use Rattle.bytecode_model.specs.declared.declared.MemberKind.TheVariants as members
+use Rattle.bytecode_model.specs.declared.members.MemberKind.{MemberKind}
+use Rattle.bytecode_model.specs.declared.members.MemberKind.TheVariants as members
 use Rattle.bytecode_model.specs.Heads.{text_at, class_at, head_of, heads_of, is_interface, is_static, name_of, desc_of}
 use Rattle.bytecode_model.specs.Members.{Declared, member_declared, members_from, file_members, given_from, target_in}
 use Rattle.bytecode_model.specs.Operands.{text_of_string, strings_in, literals_of}
-use Rattle.bytecode_model.specs.Linking.{static_main, main_from}
+use Rattle.class_linking.specs.Linking.{static_main, main_from}
 use Rattle.bytecode_model.specs.SearchOrder.{Name, with_name}
 use Rattle.block_template.specs.State.{state_file}
 use Rattle.block_template.specs.Outcome.{Each}

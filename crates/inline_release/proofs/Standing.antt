@@ -17,11 +17,12 @@ use Rattle.api_listing.specs.BuiltIn.{object}
 use Rattle.api_listing.specs.Listing.{is_known}
 use Rattle.api_listing.specs.Nearest.{class_named}
 use Rattle.api_listing.specs.Words.{is_class_name}
-use Rattle.bytecode_model.specs.declared.fault.LinkFault.{LinkFault}
-use Rattle.bytecode_model.specs.declared.fault.LinkFault.TheVariants as faults
+use Rattle.class_linking.specs.declared.fault.LinkFault.{LinkFault}
+use Rattle.class_linking.specs.declared.fault.LinkFault.TheVariants as faults
 use Rattle.bytecode_model.specs.declared.program.Side.TheVariants as sides
-use Rattle.bytecode_model.specs.Fault.{Linked}
-use Rattle.bytecode_model.specs.Conditions.{is_free, names_own_class, may_be_extended, is_super, is_above, stays_within, runs_in_circle, stands_below, is_good_interface, has_supers, class_linked, classes_linked}
+use Rattle.class_linking.specs.Fault.{Linked}
+use Rattle.bytecode_model.specs.Conditions.{is_free, names_own_class, may_be_extended, is_super, is_above, stays_within, runs_in_circle, stands_below, is_good_interface, has_supers}
+use Rattle.class_linking.specs.ClassConditions.{class_linked, classes_linked}
 use Rattle.bytecode_model.specs.Heads.{head_of, heads_of}
 use Rattle.bytecode_model.proofs.Lists.{not_true}
 use Rattle.offset_patch.specs.Entries.{state_name}

@@ -16,17 +16,17 @@ use Rattle.insn_codec.specs.declared.insn.Insn.{Insn}
 use Rattle.insn_codec.specs.Reading.{code_of}
 use Rattle.insn_codec.specs.Spelling.{starts_of}
 use Rattle.api_listing.specs.declared.types.Listing.{Listing}
-use Rattle.bytecode_model.specs.declared.fault.LinkFault.{LinkFault}
-use Rattle.bytecode_model.specs.declared.fault.LinkFault.TheVariants as faults
+use Rattle.class_linking.specs.declared.fault.LinkFault.{LinkFault}
+use Rattle.class_linking.specs.declared.fault.LinkFault.TheVariants as faults
 use Rattle.bytecode_model.specs.declared.program.Handler.{Handler}
 use Rattle.bytecode_model.specs.declared.program.Method.{Method}
 use Rattle.bytecode_model.specs.declared.program.Target.{Target}
 use Rattle.bytecode_model.specs.Conditions.{codes_of, code_in, is_allowed, overrides, overrides_in, id_of}
 use Rattle.bytecode_model.specs.Heads.{head_of, all_classes, name_of, desc_of, is_static, maker}
-use Rattle.bytecode_model.specs.Operands.{operand_linked, operand_at, operands_linked}
+use Rattle.class_linking.specs.Operands.{operand_linked, operand_at, operands_linked}
 use Rattle.bytecode_model.specs.SearchOrder.{Name}
-use Rattle.bytecode_model.specs.Handlers.{handlers_linked}
-use Rattle.bytecode_model.specs.Linking.{bare, with_code, read_of, code_linked, body_linked, method_linked}
+use Rattle.class_linking.specs.Handlers.{handlers_linked}
+use Rattle.class_linking.specs.Linking.{bare, with_code, read_of, code_linked, body_linked, method_linked}
 use Rattle.bytecode_model.specs.Sound.{IsSoundMethod}
 use Rattle.conspec_automaton.specs.declared.policy.Policy.{Policy}
 use Rattle.offset_patch.specs.declared.block.Block.{Block}

@@ -15,14 +15,16 @@ use Rattle.insn_codec.specs.declared.insn.Insn.{Insn}
 use Rattle.insn_codec.specs.Spelling.{size, starts_from, starts_of}
 use Rattle.insn_codec.proofs.Standing.{size-some}
 use Rattle.api_listing.specs.declared.types.Listing.{Listing}
-use Rattle.bytecode_model.specs.declared.fault.LinkFault.{LinkFault}
-use Rattle.bytecode_model.specs.declared.fault.LinkFault.TheVariants as faults
-use Rattle.bytecode_model.specs.declared.operand.OperandFault.{OperandFault}
+use Rattle.class_linking.specs.declared.fault.LinkFault.{LinkFault}
+use Rattle.class_linking.specs.declared.fault.LinkFault.TheVariants as faults
+use Rattle.class_linking.specs.declared.operand_fault.OperandFault.{OperandFault}
 use Rattle.bytecode_model.specs.declared.program.Handler.{Handler}
 use Rattle.bytecode_model.specs.declared.program.Target.{Target}
-use Rattle.bytecode_model.specs.Handlers.{index_at, insn_at, caught, handler_linked, handlers_linked}
+use Rattle.bytecode_model.specs.Starts.{index_at, insn_at}
+use Rattle.class_linking.specs.Handlers.{caught, handler_linked, handlers_linked}
 use Rattle.bytecode_model.specs.Heads.{class_at}
-use Rattle.bytecode_model.specs.Operands.{class_linked, known_in, told_at}
+use Rattle.class_linking.specs.Operands.{class_linked, told_at}
+use Rattle.bytecode_model.specs.Operands.{known_in}
 use Rattle.bytecode_model.specs.Sound.{IsWithin}
 use Rattle.offset_patch.specs.Splicing.{table_moved}
 use Rattle.block_template.specs.Outcome.{Each, at_fronts}

@@ -11,12 +11,12 @@ use Rattle.class_codec.specs.declared.tree.Const.{Const}
 use Rattle.class_codec.specs.declared.tree.Member.{Member}
 use Rattle.insn_codec.specs.declared.insn.Insn.{Insn}
 use Rattle.api_listing.specs.declared.types.Listing.{Listing}
-use Rattle.bytecode_model.specs.declared.fault.LinkFault.{LinkFault}
+use Rattle.class_linking.specs.declared.fault.LinkFault.{LinkFault}
 use Rattle.bytecode_model.specs.declared.program.LinkedClass.{LinkedClass}
 use Rattle.bytecode_model.specs.declared.program.Method.{Method}
 use Rattle.bytecode_model.specs.declared.program.Side.TheVariants as sides
-use Rattle.bytecode_model.specs.Fault.{linked_from}
-use Rattle.bytecode_model.specs.Linking.{body_linked, method_linked}
+use Rattle.class_linking.specs.Fault.{linked_from}
+use Rattle.class_linking.specs.Linking.{body_linked, method_linked}
 use Rattle.bytecode_model.specs.Sound.{IsSoundMethod, IsSoundClass}
 use Rattle.conspec_automaton.specs.declared.policy.Policy.{Policy}
 use Rattle.offset_patch.specs.declared.block.Block.{Block}

@@ -12,18 +12,19 @@ use Rattle.class_codec.specs.declared.tree.Member.{Member}
 use Rattle.class_codec.specs.Fits.{CanSpell, FitsMember, FitsPool}
 use Rattle.api_listing.specs.declared.types.ListedClass.{ListedClass}
 use Rattle.api_listing.specs.declared.types.Listing.{Listing}
-use Rattle.bytecode_model.specs.declared.fault.LinkFault.{LinkFault}
-use Rattle.bytecode_model.specs.declared.fault.LinkFault.TheVariants as faults
+use Rattle.class_linking.specs.declared.fault.LinkFault.{LinkFault}
+use Rattle.class_linking.specs.declared.fault.LinkFault.TheVariants as faults
 use Rattle.bytecode_model.specs.declared.program.LinkedClass.{LinkedClass}
 use Rattle.bytecode_model.specs.declared.program.Method.{Method}
 use Rattle.bytecode_model.specs.declared.program.Program.{Program}
 use Rattle.bytecode_model.specs.declared.program.Side.{Side}
 use Rattle.bytecode_model.specs.declared.program.Side.TheVariants as sides
-use Rattle.bytecode_model.specs.Conditions.{classes_linked}
-use Rattle.bytecode_model.specs.Fault.{Linked, linked_from}
+use Rattle.class_linking.specs.ClassConditions.{classes_linked}
+use Rattle.class_linking.specs.Fault.{Linked, linked_from}
 use Rattle.bytecode_model.specs.Heads.{class_at, head_of, heads_of}
 use Rattle.bytecode_model.specs.Operands.{literals_of}
-use Rattle.bytecode_model.specs.Linking.{method_linked, methods_linked, each_linked, class_with, classes_with, members_of, main_of, max_files, linked}
+use Rattle.class_linking.specs.Linking.{method_linked, methods_linked, each_linked, class_with, classes_with, members_of, main_of, linked}
+use Rattle.bytecode_model.specs.Files.{max_files}
 use Rattle.bytecode_model.specs.Sound.{IsSoundMethod, IsSoundClass}
 use Rattle.conspec_automaton.specs.declared.policy.Policy.{Policy}
 use Rattle.offset_patch.specs.declared.fault.SpliceFault.{SpliceFault}
@@ -32,7 +33,8 @@ use Rattle.offset_patch.proofs.Pieces.{wants_append}
 use Rattle.block_template.specs.State.{state_file, state_class}
 use Rattle.block_template.specs.declared.woven.Members.{Members}
 use Rattle.block_template.specs.Woven.{folded, first_code, body_woven, member_woven, none_made}
-use Rattle.block_template.specs.Outcome.{Each, wants_woven, class_wants, IsWovenMethod, IsWovenClass, WovenLinks}
+use Rattle.block_template.specs.Outcome.{Each, wants_woven, class_wants, IsWovenMethod, IsWovenClass}
+use Rattle.inline_release.specs.Links.{WovenLinks}
 use Rattle.inline_release.proofs.Added.{is_added, new_stand}
 use Rattle.inline_release.proofs.Free.{IsFree}
 use Rattle.inline_release.proofs.Kept.{IsLonger, IsKept, IsFileOf, members_woven_of, file_kept, file_is, files_made}

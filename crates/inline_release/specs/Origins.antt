@@ -9,7 +9,7 @@ use Rattle.bytecode_model.specs.declared.program.LinkedClass.{LinkedClass}
 use Rattle.bytecode_model.specs.declared.program.Method.{Method}
 use Rattle.bytecode_model.specs.declared.program.Program.{Program}
 use Rattle.bytecode_model.specs.declared.program.Side.TheVariants as sides
-use Rattle.bytecode_model.specs.Linking.{linked}
+use Rattle.class_linking.specs.Linking.{linked}
 use Rattle.bytecode_model.specs.Sound.{IsSound}
 use Rattle.conspec_automaton.specs.declared.policy.Policy.{Policy}
 use Rattle.offset_patch.specs.declared.block.Block.{Block}

@@ -1,8 +1,8 @@
 //! What holds of what is woven.
 
+ghost use Rattle.inline_release.specs.Links.{OriginalIsFree, WovenLinks};
 ghost use Rattle.inline_release.specs.Origins.{OriginsAreTrue};
 ghost use Rattle.inline_release.specs.Sizes.{SizesDecide};
-ghost use Rattle.block_template.specs.Outcome.{OriginalIsFree, WovenLinks};
 
 /// Class files that were woven link to the program with its blocks.
 pub fn woven_files_link()

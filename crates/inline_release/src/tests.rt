@@ -3,8 +3,9 @@
 use crate::inline;
 use api_listing::read;
 use block_template::Woven;
-use bytecode_model::{Origin, Side, link};
+use bytecode_model::{Origin, Side};
 use class_codec::{Attr, ClassFile, Code, Const, Member, decode, encode};
+use class_linking::link;
 use conspec_automaton::{build, denies_only};
 use conspec_parse::parse;
 use mon_base::{Bytes, List};

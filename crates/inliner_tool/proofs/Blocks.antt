@@ -4,8 +4,9 @@ use Rattle.std.specs.Prelude.{nat_lt, IfOk}
 use Rattle.api_listing.specs.declared.types.Listing.{Listing}
 use Rattle.bytecode_model.specs.declared.program.Program.{Program}
 use Rattle.bytecode_model.specs.declared.program.Side.TheVariants.{Inlined, Original}
-use Rattle.bytecode_model.specs.Fault.{Linked}
-use Rattle.bytecode_model.specs.Linking.{linked, unlinked}
+use Rattle.class_linking.specs.Fault.{Linked}
+use Rattle.class_linking.specs.Linking.{linked}
+use Rattle.bytecode_model.specs.Files.{unlinked}
 use Rattle.block_logic.specs.Accepted.{IsAccepted}
 use Rattle.cert_checker.specs.Acceptance.{verdict}
 use Rattle.cert_checker.specs.Secure.{Secure}

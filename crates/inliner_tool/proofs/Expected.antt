@@ -10,7 +10,8 @@ use Rattle.bytecode_model.specs.declared.program.Method.{Method}
 use Rattle.bytecode_model.specs.declared.program.Program.{Program}
 use Rattle.bytecode_model.specs.declared.program.Side.TheVariants.{Inlined, Original}
 use Rattle.bytecode_model.specs.declared.program.Target.{Target}
-use Rattle.bytecode_model.specs.Linking.{linked, unlinked}
+use Rattle.class_linking.specs.Linking.{linked}
+use Rattle.bytecode_model.specs.Files.{unlinked}
 use Rattle.bytecode_model.specs.Sound.{IsSound}
 use Rattle.cert_format.specs.declared.typing.FrameType.{FrameType}
 use Rattle.cert_format.specs.declared.typing.Typing.{Typing}
@@ -24,12 +25,14 @@ use Rattle.conspec_automaton.specs.Denying.{DeniesOnly, denies_only}
 use Rattle.conspec_parse.specs.declared.types.Kind.{Kind}
 use Rattle.conspec_parse.specs.declared.types.PolicyTree.{PolicyTree}
 use Rattle.block_template.specs.declared.woven.Woven.{Woven}
-use Rattle.block_template.specs.Outcome.{IsWoven, OriginalIsFree, WovenLinks}
+use Rattle.block_template.specs.Outcome.{IsWoven}
+use Rattle.inline_release.specs.Links.{OriginalIsFree, WovenLinks}
 use Rattle.block_template.specs.Woven.{sites_of, woven}
 use Rattle.offset_patch.specs.Splicing.{fronts_of}
 use Rattle.type_infer.specs.Untyped.{IsLeast}
 use Rattle.type_lattice.specs.Laws.{LinkedIsInOrder}
-use Rattle.bytecode_model.specs.Named.{AreRightOperands, LinkedOperandsAreRight}
+use Rattle.bytecode_model.specs.Named.{AreRightOperands}
+use Rattle.class_linking.specs.Laws.{LinkedOperandsAreRight, LinkedAreNamed}
 use Rattle.cert_maker.specs.Calls.{PolicyTellsArguments}
 use Rattle.cert_maker.specs.Framing.{TellsArguments, arguments_of}
 use Rattle.cert_maker.specs.WovenTyping.{IsMetWoven, WovenIsTyped, frames_of_woven}
@@ -132,7 +135,7 @@ module _ (links : WovenLinks) (inputs : InlineInputs) (known : InlineSound input
 module _ (links : WovenLinks) (inputs : InlineInputs) (known : InlineSound inputs) (main : List ℕ) (client : Program) (policy : Policy) (made : Woven)
     (client_links : linked inputs.classes.files inputs.listing main Original ≡ Ok client) (back : unlinked client ≡ inputs.classes.files)
     (sound : IsSound client) (one : length client.classes ≡ 1) (denies : DeniesOnly policy) (weaves : woven client policy ≡ Ok made)
-    (free : OriginalIsFree) (order : LinkedIsInOrder) (right : LinkedOperandsAreRight) (tells : PolicyTellsArguments) (types : WovenIsTyped) (accepts : WovenIsAccepted)
+    (free : OriginalIsFree) (order : LinkedIsInOrder) (right : LinkedOperandsAreRight) (named : LinkedAreNamed) (tells : PolicyTellsArguments) (types : WovenIsTyped) (accepts : WovenIsAccepted)
     (typing : Typing) (listing : client.listing ≡ inputs.listing) (is : policy ≡ built inputs.policy) (typed : IsTyped client typing) (shaped : IsShaped client typing.frames) where
   new : (p : Program) × ((linked made.files inputs.listing main Inlined ≡ Ok p) × IsWoven client policy p)
   new = remade links inputs known main client policy made client_links back sound one denies weaves
@@ -160,7 +163,7 @@ module _ (links : WovenLinks) (inputs : InlineInputs) (known : InlineSound input
         let m = met class method untyped.of untyped.body untyped.class_there untyped.method_there in
         untyped.fails (frames_of_woven policy typing class method m.of.class m.of.method, λ j lt. m.met j (omega (arith, lt, untyped.within)));
     accepted = λ new_types new_sound new_typed new_shaped least.
-        accepts inputs.classes.files inputs.listing main Original client new.0 policy made new_types client_links sound new_sound operands
+        accepts client new.0 policy made new_types (named inputs.classes.files inputs.listing main Original client client_links sound).standing sound new_sound operands
         (free known.listed.text inputs.listing inputs.classes.files main client known.listed.spells client_links)
         new.1.1 weaves new_typed new_shaped (stopped client new.0 policy typing new_types new_shaped least met);
   }

@@ -2,7 +2,7 @@
 use Rattle.std.specs.Prelude.{◌≡◌, ℕ, List, Ok}
 use Rattle.bytecode_model.specs.declared.program.Program.{Program}
 use Rattle.bytecode_model.specs.declared.program.Side.TheVariants.{Inlined}
-use Rattle.bytecode_model.specs.Linking.{linked}
+use Rattle.class_linking.specs.Linking.{linked}
 use Rattle.bytecode_model.specs.Sound.{IsSound}
 use Rattle.block_logic.specs.Accepted.{IsAccepted}
 use Rattle.cert_format.specs.declared.typing.Typing.{Typing}

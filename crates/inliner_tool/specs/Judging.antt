@@ -1,13 +1,13 @@
 -- What is answered once all files of a command are read.
 use Rattle.std.specs.Prelude.{◌≡◌, ℕ, ◌&&◌, nat_lt, false, List, codes, if◌then◌else◌, slice_get, Result, Ok, Err}
 use Rattle.std.specs.Option.{option_map_or}
-use Rattle.bytecode_model.specs.declared.fault.LinkFault.{LinkFault}
-use Rattle.bytecode_model.specs.declared.fault.LinkFault.TheVariants as links
+use Rattle.class_linking.specs.declared.fault.LinkFault.{LinkFault}
+use Rattle.class_linking.specs.declared.fault.LinkFault.TheVariants as links
 use Rattle.bytecode_model.specs.declared.program.LinkedClass.{LinkedClass}
 use Rattle.bytecode_model.specs.declared.program.Program.{Program}
 use Rattle.bytecode_model.specs.declared.program.Side.TheVariants.{Inlined}
-use Rattle.bytecode_model.specs.Fault.{Linked}
-use Rattle.bytecode_model.specs.Linking.{linked}
+use Rattle.class_linking.specs.Fault.{Linked}
+use Rattle.class_linking.specs.Linking.{linked}
 use Rattle.cert_checker.specs.declared.checking.Accepted.{Accepted}
 use Rattle.cert_checker.specs.declared.fault.CheckFault.{CheckFault}
 use Rattle.cert_checker.specs.declared.fault.CheckFault.TheVariants.{Shape, Typing, Local}

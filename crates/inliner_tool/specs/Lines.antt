@@ -3,9 +3,8 @@ use Rattle.std.specs.Prelude.{ℕ, Bool, true, false, List, [], ◌∷◌, ◌++
 use Rattle.std.specs.Fmt.{signed_decimal}
 use Rattle.api_listing.specs.declared.fault.ListFault.{ListFault}
 use Rattle.api_listing.specs.declared.fault.ListFault.TheVariants as listings
-use Rattle.bytecode_model.specs.declared.fault.LinkFault.{LinkFault}
-use Rattle.bytecode_model.specs.declared.fault.LinkFault.TheVariants as links
-use Rattle.bytecode_model.specs.Fault.{number_of as link_number}
+use Rattle.class_linking.specs.declared.fault.LinkFault.{LinkFault}
+use Rattle.class_linking.specs.declared.fault.LinkFault.TheVariants as links
 use Rattle.cert_checker.specs.declared.fault.CheckFault.{CheckFault}
 use Rattle.cert_checker.specs.declared.fault.CheckFault.TheVariants.{Shape, Typing, Local}
 use Rattle.cert_checker.specs.Fault.{number_of as check_number}
@@ -98,6 +97,21 @@ code_fields (codes_of.LeftOut at op) = field at ++ field op
 code_fields (codes_of.Form at) = field at
 code_fields (codes_of.End at) = field at
 code_fields codes_of.Memory = []
+
+-- the number of a condition of linking that fails
+abbrev pub link_number : LinkFault → ℕ
+link_number links.NoMain = 141
+link_number (links.Twice class) = 142
+link_number (links.Unresolved class name) = 143
+link_number (links.SuperLeftOut class) = 144
+link_number (links.NameTaken class) = 145
+link_number (links.Method class name) = 146
+link_number (links.TooMany count) = 147
+link_number (links.Code class method fault) = 148
+link_number (links.Overrides class name) = 149
+link_number (links.Name class) = 150
+link_number (links.Operand class method at) = 151
+link_number links.Memory = 0
 
 abbrev pub link_fields : LinkFault → List ℕ
 link_fields links.NoMain = []

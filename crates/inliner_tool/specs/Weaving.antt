@@ -2,13 +2,14 @@
 use Rattle.std.specs.Prelude.{◌≡◌, ◌⊎◌, ℕ, ◌&&◌, nat_lt, Bool, true, false, List, [], ◌∷◌, ◌++◌, codes, length, map, if◌then◌else◌, Result, Ok, Err}
 use Rattle.mon_store.specs.declared.outputs.Output.{Output}
 use Rattle.api_listing.specs.declared.types.Listing.{Listing}
-use Rattle.bytecode_model.specs.declared.fault.LinkFault.{LinkFault}
-use Rattle.bytecode_model.specs.declared.fault.LinkFault.TheVariants as links
+use Rattle.class_linking.specs.declared.fault.LinkFault.{LinkFault}
+use Rattle.class_linking.specs.declared.fault.LinkFault.TheVariants as links
 use Rattle.bytecode_model.specs.declared.program.LinkedClass.{LinkedClass}
 use Rattle.bytecode_model.specs.declared.program.Program.{Program}
 use Rattle.bytecode_model.specs.declared.program.Side.TheVariants.{Inlined, Original}
-use Rattle.bytecode_model.specs.Fault.{Linked}
-use Rattle.bytecode_model.specs.Linking.{linked, unlinked}
+use Rattle.class_linking.specs.Fault.{Linked}
+use Rattle.class_linking.specs.Linking.{linked}
+use Rattle.bytecode_model.specs.Files.{unlinked}
 use Rattle.cert_checker.specs.declared.checking.Accepted.{Accepted}
 use Rattle.block_logic.specs.Accepted.{IsAccepted}
 use Rattle.cert_checker.specs.Acceptance.{verdict}

@@ -1,8 +1,8 @@
 //! What is answered to a command.
 
 use crate::fault::InputFault;
-use bytecode_model::LinkFault;
 use cert_checker::{Accepted, CheckFault};
+use class_linking::LinkFault;
 use conspec_automaton::Verdict;
 use mon_base::Bytes;
 use offset_patch::Size;

@@ -1,7 +1,7 @@
 //! What is printed for an answer.
 
 ghost use Rattle.std.specs.Prelude.{◌≡◌, ◌++◌, IfOk, OnOk, [], codes};
-ghost use Rattle.bytecode_model.specs.declared.fault.LinkFault.TheVariants as links;
+ghost use Rattle.class_linking.specs.declared.fault.LinkFault.TheVariants as links;
 ghost use Rattle.inliner_tool.specs.declared.answer.Answer.TheVariants as answers;
 ghost use Rattle.inliner_tool.specs.Lines.{
   check_fields,
@@ -11,6 +11,7 @@ ghost use Rattle.inliner_tool.specs.Lines.{
   is_bare,
   line_text,
   link_fields,
+  link_number,
   listing_fields,
   mode_name,
   policy_fields,
@@ -25,10 +26,10 @@ ghost use Rattle.inliner_tool.specs.Lines.{
 use crate::answer::Answer;
 use crate::fault::InputFault;
 use api_listing::ListFault;
-use bytecode_model::LinkFault;
 use cert_checker::{Accepted, CheckFault};
 use cert_format::Mode;
 use class_codec::ClassFault;
+use class_linking::LinkFault;
 use conspec_automaton::Verdict;
 use conspec_parse::PolicyFault;
 use event_record::RecordFault;
@@ -71,7 +72,7 @@ fn push_line(text: &mut Bytes, answer: &Answer) -> Result<(), NoMemory>
             push_field(text, *len)
         }
         Answer::Link(fault) => {
-            push_refused(text, fault.number(), b"-")?;
+            push_refused(text, link_number(fault), b"-")?;
             push_link_fields(text, fault)
         }
         Answer::Untyped { class, method, at } => push_untyped(text, class, *method, *at),
@@ -294,6 +295,26 @@ fn push_class_fields(text: &mut Bytes, fault: &ClassFault) -> Result<(), NoMemor
         ClassFault::Index { at } => push_field(text, *at),
         ClassFault::TooLong { len } => push_field(text, *len),
         ClassFault::Memory => Ok(()),
+    }
+}
+
+/// The number of a condition of linking that fails, or 0 for want of memory.
+fn link_number(fault: &LinkFault) -> u32
+    ensures { result ≡ link_number fault.now }
+{
+    match fault {
+        LinkFault::NoMain => 141,
+        LinkFault::Twice { .. } => 142,
+        LinkFault::Unresolved { .. } => 143,
+        LinkFault::SuperLeftOut { .. } => 144,
+        LinkFault::NameTaken { .. } => 145,
+        LinkFault::Method { .. } => 146,
+        LinkFault::TooMany { .. } => 147,
+        LinkFault::Code { .. } => 148,
+        LinkFault::Overrides { .. } => 149,
+        LinkFault::Name { .. } => 150,
+        LinkFault::Operand { .. } => 151,
+        LinkFault::Memory => 0,
     }
 }
 

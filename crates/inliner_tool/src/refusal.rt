@@ -3,7 +3,7 @@
 ghost use Rattle.std.specs.Prelude.{◌≡◌};
 ghost use Rattle.inliner_tool.specs.declared.refusal.Refusal.TheVariants as refusals;
 
-use bytecode_model::LinkFault;
+use class_linking::LinkFault;
 use mon_base::{Bytes, NoMemory};
 use offset_patch::Size;
 

@@ -33,7 +33,8 @@ ghost use Rattle.inliner_tool.specs.Weaving.{
   outputs_step,
   weave_step,
 };
-ghost use Rattle.bytecode_model.specs.Linking.{linked, unlinked};
+ghost use Rattle.class_linking.specs.Linking.{linked};
+ghost use Rattle.bytecode_model.specs.Files.{unlinked};
 ghost use Rattle.block_logic.specs.Accepted.{IsAccepted};
 ghost use Rattle.bytecode_model.specs.Shape.{IsShaped};
 ghost use Rattle.inliner_tool.specs.Expected.{IsExpected};
@@ -49,11 +50,12 @@ use crate::judging::{TOTAL_LIMIT, label_of};
 use crate::refusal::Refusal;
 use api_listing::{ListedMethod, Listing};
 use block_template::Woven;
-use bytecode_model::{LinkFault, LinkedClass, Program, Side, link, linked_operands_are_right};
+use bytecode_model::{LinkedClass, Program, Side};
 use cert_checker::{Accepted, check};
 use cert_format::{CertLong, Certificate, Typing};
 use cert_maker::{make, policy_tells_arguments, woven_is_accepted, woven_is_typed};
 use class_codec::ClassFile;
+use class_linking::{LinkFault, link, linked_operands_are_right, linked_programs_are_named};
 use conspec_automaton::{Policy, build, denies_only};
 use conspec_parse::PolicyTree;
 use inline_release::{inline, original_is_free, woven_files_link};
@@ -94,6 +96,7 @@ pub fn plan(alloc: Global, inputs: InlineInputs, words: &InlineWords) -> Result<
     original_is_free();
     linked_is_in_order();
     linked_operands_are_right();
+    linked_programs_are_named();
     policy_tells_arguments();
     woven_is_typed();
     woven_is_accepted();

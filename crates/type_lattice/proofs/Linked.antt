@@ -14,18 +14,20 @@ use Rattle.api_listing.specs.BuiltIn.{object, throwable, class_rows, class_of_ro
 use Rattle.api_listing.specs.Listing.{is_known, SpellsListing}
 use Rattle.api_listing.specs.Nearest.{class_named, upwards}
 use Rattle.api_listing.specs.Words.{is_class_name}
-use Rattle.bytecode_model.specs.declared.fault.LinkFault.{LinkFault}
-use Rattle.bytecode_model.specs.declared.fault.LinkFault.TheVariants as faults
+use Rattle.class_linking.specs.declared.fault.LinkFault.{LinkFault}
+use Rattle.class_linking.specs.declared.fault.LinkFault.TheVariants as faults
 use Rattle.bytecode_model.specs.declared.program.LinkedClass.{LinkedClass}
 use Rattle.bytecode_model.specs.declared.program.Method.{Method}
 use Rattle.bytecode_model.specs.declared.program.Program.{Program}
 use Rattle.bytecode_model.specs.declared.program.Side.{Side}
 use Rattle.bytecode_model.specs.Classes.{classes_of}
-use Rattle.bytecode_model.specs.Conditions.{is_free, stays_within, runs_in_circle, stands_below, is_good_interface, has_supers, class_linked, classes_linked}
-use Rattle.bytecode_model.specs.Fault.{Linked}
+use Rattle.bytecode_model.specs.Conditions.{is_free, stays_within, runs_in_circle, stands_below, is_good_interface, has_supers}
+use Rattle.class_linking.specs.ClassConditions.{class_linked, classes_linked}
+use Rattle.class_linking.specs.Fault.{Linked}
 use Rattle.bytecode_model.specs.Heads.{head_of, heads_of}
-use Rattle.bytecode_model.specs.Linking.{members_of, main_of, classes_with, max_files, linked}
-use Rattle.bytecode_model.proofs.Whole.{files_back}
+use Rattle.class_linking.specs.Linking.{members_of, main_of, classes_with, linked}
+use Rattle.bytecode_model.specs.Files.{max_files}
+use Rattle.class_linking.proofs.Whole.{files_back}
 use Rattle.bytecode_model.specs.Arrays.{is_array}
 use Rattle.type_lattice.specs.Laws.{IsInOrder}
 use Rattle.type_lattice.proofs.Alone.{ended, unnamed_up}

@@ -7,7 +7,7 @@ use Rattle.std.specs.BTreeMap.{BTreeMap, get_by}
 use Rattle.std.specs.Global.{Global}
 use Rattle.api_listing.specs.declared.types.ListedClass.{ListedClass}
 use Rattle.api_listing.specs.Nearest.{upwards}
-use Rattle.bytecode_model.specs.Index.{class_place}
+use Rattle.bytecode_model.specs.Places.{class_place}
 use Rattle.bytecode_model.specs.SearchOrder.{superclasses}
 
 -- Each way up ends.

@@ -7,7 +7,7 @@ use Rattle.api_listing.specs.Nearest.{class_named}
 use Rattle.bytecode_model.specs.declared.program.Program.{Program}
 use Rattle.bytecode_model.specs.declared.program.Side.{Side}
 use Rattle.bytecode_model.specs.Classes.{classes_of, is_below, is_interface}
-use Rattle.bytecode_model.specs.Linking.{linked}
+use Rattle.class_linking.specs.Linking.{linked}
 use Rattle.class_codec.specs.declared.tree.ClassFile.{ClassFile}
 use Rattle.cert_format.specs.declared.typing.VType.{VType}
 use Rattle.cert_format.specs.declared.typing.VType.TheVariants as types

@@ -6,7 +6,7 @@ ghost use Rattle.std.specs.Option.{option_map_or, option_or};
 ghost use Rattle.api_listing.specs.declared.types.ListedClass.{ListedClass};
 ghost use Rattle.api_listing.specs.Nearest.{class_named};
 ghost use Rattle.type_lattice.specs.Hierarchy.{ArePlaced, EachWayEnds, is_up, nearest_common, parents_in, place_named};
-ghost use Rattle.bytecode_model.specs.Index.{class_place};
+ghost use Rattle.bytecode_model.specs.Places.{class_place};
 
 use crate::ways::Ways;
 use api_listing::ListedClass;

@@ -1,7 +1,7 @@
 use Rattle.std.proofs.Common.{◌∙◌, sym, ap, cond, Some}
 use Rattle.std.specs.Ordering.{is_eq, nat_cmp}
 use Rattle.std.specs.Cmp.Lexicographic.{slice_cmp}
-use Rattle.bytecode_model.specs.Index.{place_in}
+use Rattle.bytecode_model.specs.Places.{place_in}
 use Rattle.bytecode_model.proofs.Placing.{adds_place}
 use Rattle.class_text.proofs.library.add_class.Goals as goal
 

@@ -3,7 +3,7 @@ use Rattle.std.specs.Prelude.{bytes_eq}
 use Rattle.std.specs.List.{position_from}
 use Rattle.std.specs.Option.{option_or}
 use Rattle.api_listing.specs.declared.types.ListedClass.{ListedClass}
-use Rattle.bytecode_model.specs.Index.{place_in, class_place}
+use Rattle.bytecode_model.specs.Places.{place_in, class_place}
 use Rattle.class_text.proofs.library.class_places.Given as goal
 
 abbrev pub invariant-loop-left : goal.invariant-loop-left

@@ -1,7 +1,7 @@
 use Rattle.std.proofs.Common.{◌∙◌, ap, sym}
 use Rattle.std.specs.List.{slice_get, filter_map}
 use Rattle.bytecode_model.specs.Conditions.{code_in}
-use Rattle.bytecode_model.proofs.Telling.{code_short}
+use Rattle.bytecode_model.proofs.Codes.{code_short}
 use Rattle.class_text.proofs.printing.push_method.Goals as goal
 
 pub push_body-requires : goal.push_body-requires

@@ -1,6 +1,6 @@
 use Rattle.std.proofs.Common.{◌≡◌, suc, Some, length, sym, arith}
 use Rattle.api_listing.specs.Nearest.{class_named}
-use Rattle.bytecode_model.proofs.ClassLoop.{stays_some}
+use Rattle.bytecode_model.proofs.Staying.{stays_some}
 use Rattle.type_lattice.proofs.ending.runs_in_circle.Goals as goal
 
 pub loop-preserved : goal.loop-preserved

@@ -1,6 +1,6 @@
 use Rattle.std.proofs.Common.{◌≡◌, map, take}
 use Rattle.api_listing.specs.declared.types.ListedClass.{ListedClass}
-use Rattle.bytecode_model.specs.Index.{class_place}
+use Rattle.bytecode_model.specs.Places.{class_place}
 use Rattle.type_lattice.proofs.hierarchy.parent_places.Given as goal
 
 abbrev pub invariant-loop-class : goal.invariant-loop-class

@@ -4,7 +4,7 @@ use Rattle.std.specs.List.{position_from}
 use Rattle.std.specs.Option.{option_or}
 use Rattle.api_listing.specs.declared.types.ListedClass.{ListedClass}
 use Rattle.type_lattice.specs.Hierarchy.{place_named}
-use Rattle.bytecode_model.specs.Index.{class_place}
+use Rattle.bytecode_model.specs.Places.{class_place}
 use Rattle.type_lattice.proofs.hierarchy.places_by_name.Given as goal
 
 abbrev pub invariant-loop-left : goal.invariant-loop-left

@@ -1,7 +1,7 @@
 use Rattle.std.proofs.Common.{◌≡◌, ℕ, ◌<◌, List, length, Option, Some, None, sym, subst, ap, ◌∙◌}
 use Rattle.api_listing.specs.declared.types.ListedClass.{ListedClass}
 use Rattle.type_lattice.specs.Hierarchy.{is_up}
-use Rattle.bytecode_model.specs.Index.{class_place}
+use Rattle.bytecode_model.specs.Places.{class_place}
 use Rattle.type_lattice.specs.Ways.{has_place, way}
 use Rattle.type_lattice.proofs.OnNames.{place_within, up_is, nothing_below, nothing_above}
 use Rattle.type_lattice.proofs.hierarchy.Hierarchy.is_below.Goals as goal

@@ -1,9 +1,0 @@
-use Rattle.std.proofs.Common.{◌≡◌, ◌+◌, length}
-use Rattle.api_listing.specs.Nearest.{interfaces_of}
-use Rattle.bytecode_model.proofs.classes.count_interfaces.Given as goal
-
-abbrev pub invariant-loop-left : goal.invariant-loop-left
-invariant-loop-left l = l.count + length (interfaces_of l.left) ≡ length (interfaces_of l.classes)
-
-abbrev pub decreases-loop-left : goal.decreases-loop-left
-decreases-loop-left l = length l.left

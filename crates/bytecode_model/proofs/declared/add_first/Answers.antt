@@ -1,6 +1,0 @@
-use Rattle.std.proofs.Common.{◌∙◌, sym}
-use Rattle.bytecode_model.proofs.Declaring.{adds}
-use Rattle.bytecode_model.proofs.declared.add_first.Goals as goal
-
-pub returns-in_ok-insert : goal.returns-in_ok-insert
-returns-in_ok-insert c = adds c.args.found.now c.insert.new.self c.args.id c.args.first (sym c.contains_key.ensures ∙ c.if-not-contains_key.true) c.in_ok-insert.ensures.updates.0

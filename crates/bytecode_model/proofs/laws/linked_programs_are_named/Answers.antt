@@ -1,5 +1,0 @@
-use Rattle.bytecode_model.proofs.LinkedWhole.{all_linked}
-use Rattle.bytecode_model.proofs.laws.linked_programs_are_named.Goals as goal
-
-pub returns : goal.returns
-returns c = record { named = all_linked }

@@ -1,0 +1,15 @@
+use Rattle.std.proofs.Common.{◌≡◌, ◌+◌, length}
+use Rattle.std.specs.Option.{option_or}
+use Rattle.mon_base.specs.declared.method.MethodId.{MethodId}
+use Rattle.class_index.specs.Index.{found_in}
+use Rattle.bytecode_model.specs.Members.{first_of, listed_from}
+use Rattle.class_index.proofs.declared.add_listed.Given as goal
+
+abbrev pub invariant-loop-left : goal.invariant-loop-left
+invariant-loop-left l = record {
+  found : (q : MethodId) → option_or (found_in l.found q) (first_of (listed_from l.index l.left) q) ≡ option_or (found_in l.fn.found q) (first_of (listed_from 0 l.methods) q);
+  count : l.index + length l.left ≡ length (l.methods);
+}
+
+abbrev pub decreases-loop-left : goal.decreases-loop-left
+decreases-loop-left l = length l.left

@@ -1,0 +1,124 @@
+//! Lists of classes in which one is found by its name without a search through the list.
+
+ghost use Rattle.std.specs.Prelude.{◌≡◌, ◌+◌, ◌<◌, ◌≤◌, ◌^◌, ℕ, length, IfOk, OnOk, option_copied};
+ghost use Rattle.api_listing.specs.Listing.{is_known};
+ghost use Rattle.api_listing.specs.Nearest.{class_named, interfaces_of};
+ghost use Rattle.bytecode_model.specs.Places.{place_in, class_place, ClassesPlaced};
+
+use crate::places::add_place;
+use api_listing::ListedClass;
+use mon_base::{Bytes, List, NoMemory};
+use std::alloc::Global;
+use std::collections::BTreeMap;
+use std::marker::Model;
+
+/// Classes, of which the first of each name is found by that name. A contract sees the list.
+#[derive(Drop)]
+pub struct Classes {
+    list: List<ListedClass>,
+    places: BTreeMap<Bytes, usize>,
+    interfaces: u64,
+}
+
+impl Model for Classes {
+    ghost use Rattle.std.specs.Prelude.{List};
+    ghost use Rattle.api_listing.specs.declared.types.ListedClass.{ListedClass};
+    ghost use Rattle.class_index.specs.Index.{AreClasses};
+
+    ghost Value = { List ListedClass };
+
+    ghost view = { λ c. c.list };
+
+    ghost invariant = { λ c. AreClasses c.places c.interfaces c.list };
+}
+
+impl Classes {
+    /// These classes.
+    pub fn new(alloc: Global, list: List<ListedClass>) -> Result<Classes, NoMemory>
+        ensures { IfOk result (λ classes. classes ≡ list) }
+    {
+        let places = places_of(alloc, list.as_slice())?;
+        let interfaces = count_interfaces(list.as_slice())?;
+        Ok(Classes {
+            list,
+            places,
+            interfaces,
+        })
+    }
+
+    /// The first class with the name.
+    pub fn named(&self, name: &Bytes) -> Option<&ListedClass>
+        ensures { option_copied result ≡ class_named self.now name.now }
+    {
+        match self.places.get(name) {
+            Some(place) => self.list.as_slice().get(*place),
+            None => None,
+        }
+    }
+
+    /// Whether one has the name.
+    pub fn has(&self, name: &Bytes) -> bool
+        ensures { result ≡ is_known self.now name.now }
+    {
+        self.places.contains_key(name)
+    }
+
+    /// The classes in their order.
+    pub fn as_slice(&self) -> &[ListedClass]
+        ensures { result.now ≡ self.now }
+    {
+        self.list.as_slice()
+    }
+
+    /// How many interfaces they name, each as often as it is named.
+    pub fn interfaces(&self) -> u64
+        ensures { result ≡ length (interfaces_of self.now) }
+    {
+        self.interfaces
+    }
+
+    /// How many classes there are.
+    pub fn len(&self) -> usize
+        ensures { result ≡ length self.now }
+    {
+        self.list.len()
+    }
+}
+
+/// How many interfaces the classes name. No memory holds more than a number of 64 bits counts.
+fn count_interfaces(classes: &[ListedClass]) -> Result<u64, NoMemory>
+    ensures { IfOk result (λ count. count ≡ length (interfaces_of classes.now)) }
+{
+    let mut count: u64 = 0;
+    let mut left = classes;
+    while let [class, rest @ ..] = left {
+        count = add(count, class.interfaces.len())?;
+        left = rest;
+    }
+    Ok(count)
+}
+
+/// The sum, if a number of 64 bits holds it.
+pub fn add(count: u64, more: usize) -> Result<u64, NoMemory>
+    ensures { IfOk result (λ sum. sum ≡ count + more) }
+{
+    match count.checked_add(more as u64) {
+        Some(sum) => Ok(sum),
+        None => Err(NoMemory),
+    }
+}
+
+/// The place of the first class of each name.
+fn places_of(alloc: Global, classes: &[ListedClass]) -> Result<BTreeMap<Bytes, usize>, NoMemory>
+    ensures { IfOk result (λ places. ClassesPlaced places classes.now) }
+{
+    let mut places = BTreeMap::new(alloc);
+    let mut index = 0;
+    let mut left = classes;
+    while let [class, rest @ ..] = left {
+        add_place(alloc, &mut places, &class.name, index)?;
+        index += 1;
+        left = rest;
+    }
+    Ok(places)
+}

@@ -1,0 +1,211 @@
+//! What files and a listing declare, in maps that are made once.
+
+ghost use Rattle.std.specs.Prelude.{◌≡◌, ◌≤◌, ◌&&◌, ◌++◌, ◌∷◌, [], not, length, IfOk, OnOk};
+ghost use Rattle.std.specs.List.{AllByRecursion, filter};
+ghost use Rattle.class_codec.specs.Fits.{CanSpell};
+ghost use Rattle.api_listing.specs.Listing.{IsFew};
+ghost use Rattle.bytecode_model.specs.Heads.{heads_of, all_classes};
+ghost use Rattle.bytecode_model.specs.SearchOrder.{search_order};
+ghost use Rattle.bytecode_model.specs.Members.{method_of, field_of};
+ghost use Rattle.bytecode_model.specs.Conditions.{is_of_library, is_run};
+ghost use Rattle.api_listing.specs.BuiltIn.{is_built_in};
+ghost use Rattle.bytecode_model.specs.Operands.{known_in, literals_of, place_of};
+ghost use Rattle.class_index.specs.Index.{may_own, OverridesAs};
+
+use crate::classes::Classes;
+use crate::declared::{fields_of, listed_methods, methods_of, owners_of};
+use crate::heads::copy_both;
+use crate::literals::Literals;
+use crate::near::{Near, member_of, near_of};
+use crate::search::search_order;
+use api_listing::{ListedClass, Listing, is_built_in};
+use bytecode_model::{Found, MemberKind, is_text};
+use class_codec::ClassFile;
+use mon_base::{Bytes, List, MethodId, NoMemory};
+use std::alloc::Global;
+use std::collections::{BTreeMap, BTreeSet};
+use std::marker::Model;
+
+/// Class files and a listing, in which classes, members and literals are found by their names. A contract sees the
+/// files and the listing.
+#[derive(Drop)]
+pub struct Index<'a> {
+    files: &'a [ClassFile],
+    listing: &'a Listing,
+    classes: Classes,
+    methods: BTreeMap<MethodId, Found>,
+    fields: BTreeMap<MethodId, Found>,
+    near_methods: BTreeMap<MethodId, Near>,
+    near_fields: BTreeMap<MethodId, Near>,
+    library: BTreeSet<MethodId>,
+    owners: BTreeSet<Bytes>,
+    literals: Literals,
+}
+
+impl<'a> Model for Index<'a> {
+    ghost use Rattle.class_index.specs.Index.{Given, IsIndex};
+
+    ghost Value = { Given };
+
+    ghost view = { λ i. record { files = i.files.now; listing = i.listing.now } };
+
+    ghost invariant = { λ i. IsIndex i.files.now i.listing.now i.classes i.methods i.fields
+        i.near_methods i.near_fields i.library i.owners i.literals };
+}
+
+impl<'a> Index<'a> {
+    /// The index of the files, with what they say of their classes, and the listing.
+    pub fn new(
+        alloc: Global,
+        files: &'a [ClassFile],
+        heads: &[ListedClass],
+        listing: &'a Listing,
+    ) -> Result<Index<'a>, NoMemory>
+        requires count { length files.now ≤ 1000 }
+        requires fits { AllByRecursion CanSpell files.now }
+        requires heads { heads.now ≡ heads_of files.now }
+        requires listed { IsFew listing.now }
+        ensures { IfOk result (λ index. index ≡ record { files = files.now; listing = listing.now }) }
+    {
+        let all = copy_both(alloc, listing.classes.as_slice(), heads)?;
+        let classes = Classes::new(alloc, all)?;
+        let methods = methods_of(alloc, files, listing)?;
+        let fields = fields_of(alloc, files, listing)?;
+        let near_methods = near_of(alloc, &classes, &methods, MemberKind::Method, files)?;
+        let near_fields = near_of(alloc, &classes, &fields, MemberKind::Field, files)?;
+        let library = listed_methods(alloc, listing.methods.as_slice())?;
+        let owners = owners_of(alloc, listing.methods.as_slice())?;
+        let literals = Literals::new(alloc, files)?;
+        Ok(Index {
+            files,
+            listing,
+            classes,
+            methods,
+            fields,
+            near_methods,
+            near_fields,
+            library,
+            owners,
+            literals,
+        })
+    }
+
+    /// Whether a file or the listing has the class.
+    pub fn knows(&self, name: &Bytes) -> bool
+        ensures { result ≡ known_in self.now.files self.now.listing name.now }
+    {
+        self.classes.has(name)
+    }
+
+    /// Those of the classes in which a member of the class is looked for that may have methods of the library.
+    pub fn library_above(&self, alloc: Global, name: &Bytes) -> Result<List<Bytes>, NoMemory>
+        ensures { IfOk result (λ above.
+            OverridesAs self.now.listing above (search_order (all_classes self.now.listing self.now.files) name.now)) }
+    {
+        let order = search_order(alloc, &self.classes, name)?;
+        let above = owners_among(alloc, &self.owners, order.as_slice())?;
+        Ok(above)
+    }
+
+    /// The method that a class has: its own, or the nearest above it.
+    pub fn method_of(&self, alloc: Global, id: &MethodId) -> Result<Option<Found>, NoMemory>
+        ensures { IfOk result (λ found. found ≡ method_of self.now.files self.now.listing id.now) }
+    {
+        let found = member_of(alloc, &self.classes, &self.methods, &self.near_methods, id)?;
+        Ok(found)
+    }
+
+    /// The field that a class has: its own, or the nearest above it.
+    pub fn field_of(&self, alloc: Global, id: &MethodId) -> Result<Option<Found>, NoMemory>
+        ensures { IfOk result (λ found. found ≡ field_of self.now.files self.now.listing id.now) }
+    {
+        let found = member_of(alloc, &self.classes, &self.fields, &self.near_fields, id)?;
+        Ok(found)
+    }
+
+    /// Whether the library declares the method in this very class. That a Thread or a Runnable runs counts for nothing.
+    pub fn is_of_library(&self, id: &MethodId) -> bool
+        ensures { result ≡ is_of_library self.now.listing id.now }
+    {
+        self.library.contains(id) || is_built_in_but_run(id)
+    }
+
+    /// The place of a text among the literals. No memory holds more texts than a number of 32 bits counts.
+    pub fn literal(&self, text: &Bytes) -> Result<u32, NoMemory>
+        ensures { IfOk result (λ place. place ≡ place_of (literals_of self.now.files) text.now) }
+    {
+        let place = self.literals.place(text);
+        match u32::try_from(place) {
+            Ok(place) => Ok(place),
+            Err(_) => Err(NoMemory),
+        }
+    }
+
+    /// The texts of the string constants of the files, each once, in order.
+    pub fn into_literals(self) -> List<Bytes>
+        ensures { result ≡ literals_of self.entry.files }
+    {
+        let Index {
+            files,
+            listing,
+            classes,
+            methods,
+            fields,
+            near_methods,
+            near_fields,
+            library,
+            owners,
+            literals,
+        } = self;
+        literals.into_list()
+    }
+}
+
+fn is_built_in_but_run(id: &MethodId) -> bool
+    ensures { result ≡ (is_built_in id.now.class id.now.name id.now.desc && not (is_run id.now.name id.now.desc)) }
+{
+    is_built_in(id.class.as_slice(), id.name.as_slice(), id.desc.as_slice()) && !is_run(id)
+}
+
+fn is_run(id: &MethodId) -> bool
+    ensures { result ≡ is_run id.now.name id.now.desc }
+{
+    is_text(id.name.as_slice(), "run") && is_text(id.desc.as_slice(), "()V")
+}
+
+/// Those of the classes that may have methods of the library.
+fn owners_among(
+    alloc: Global,
+    owners: &BTreeSet<Bytes>,
+    order: &[Bytes],
+) -> Result<List<Bytes>, NoMemory>
+    ensures { IfOk result (λ some. some ≡ filter (may_own owners.now) order.now) }
+{
+    let mut some = List::new(alloc);
+    let mut left = order;
+    while let [name, rest @ ..] = left {
+        add_owner(alloc, owners, &mut some, name)?;
+        left = rest;
+    }
+    Ok(some)
+}
+
+fn add_owner(
+    alloc: Global,
+    owners: &BTreeSet<Bytes>,
+    some: &mut List<Bytes>,
+    name: &Bytes,
+) -> Result<(), NoMemory>
+    ensures { OnOk result (some.new ≡ some.old ++ filter (may_own owners.now) (name.now ∷ [])) }
+{
+    if may_own(owners, name) {
+        some.push(name.copy(alloc)?)?;
+    }
+    Ok(())
+}
+
+fn may_own(owners: &BTreeSet<Bytes>, name: &Bytes) -> bool
+    ensures { result ≡ may_own owners.now name.now }
+{
+    owners.contains(name) || name.as_slice().starts_with(b"java/lang/".as_slice())
+}

@@ -1,0 +1,20 @@
+//! What class files and a listing declare, found by name without a search through them.
+//!
+//! An [`Index`] is made once of the files and the listing; it knows their classes, finds the nearest declaration of a
+//! member, and has the string constants, each text once. (The Java Virtual Machine Specification, section 5.4.3.)
+#![tactic(auto)]
+
+mod classes;
+mod declared;
+mod heads;
+mod index;
+mod literals;
+mod near;
+mod places;
+mod search;
+
+pub use classes::Classes;
+pub use heads::{head_of, heads_of};
+pub use index::Index;
+pub use near::in_class;
+pub use places::{add_name, add_place};

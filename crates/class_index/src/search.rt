@@ -1,0 +1,132 @@
+//! The classes in which a field or a method is looked for, the nearest first. (The Java Virtual Machine Specification,
+//! section 5.4.3.)
+
+ghost use Rattle.std.specs.Prelude.{◌≡◌, ◌+◌, ◌++◌, [], ℕ, List, length, IfOk, OnOk};
+ghost use Rattle.std.specs.Option.{option_map_or};
+ghost use Rattle.api_listing.specs.Nearest.{upwards, names_of, interfaces_of};
+ghost use Rattle.api_listing.specs.Seen.{has_name};
+ghost use Rattle.bytecode_model.specs.SearchOrder.{superclasses, search_order, interfaces_from, interfaces_above, with_name, with_above};
+ghost use Rattle.class_index.specs.Index.{NamesSeen};
+
+use crate::classes::{Classes, add};
+use crate::places::add_name;
+use api_listing::ListedClass;
+use mon_base::{Bytes, List, NoMemory};
+use std::alloc::Global;
+use std::collections::{BTreeSet, VecDeque};
+
+/// The names of the classes in which a member of the class of this name is looked for.
+pub fn search_order(alloc: Global, classes: &Classes, name: &Bytes) -> Result<List<Bytes>, NoMemory>
+    ensures { IfOk result (λ order. order ≡ search_order classes.now name.now) }
+{
+    let mut order = List::new(alloc);
+    let mut interfaces = List::new(alloc);
+    climb(alloc, classes, name, &mut order, &mut interfaces)?;
+    let above = interfaces_from(alloc, classes, interfaces.as_slice())?;
+    add_names(alloc, &mut order, above.as_slice())?;
+    Ok(order)
+}
+
+/// Adds the names of the class and its superclasses, and the interfaces of these.
+fn climb(
+    alloc: Global,
+    classes: &Classes,
+    name: &Bytes,
+    names: &mut List<Bytes>,
+    interfaces: &mut List<Bytes>,
+) -> Result<(), NoMemory>
+    ensures names { OnOk result (names.new ≡ names.old ++ names_of (superclasses classes.now name.now)) }
+    ensures interfaces { OnOk result (interfaces.new ≡ interfaces.old ++ interfaces_of (superclasses classes.now name.now)) }
+{
+    let mut at = name;
+    for _ in 0..classes.len() {
+        let Some(class) = classes.named(at) else {
+            return Ok(());
+        };
+        names.push(class.name.copy(alloc)?)?;
+        add_names(alloc, interfaces, class.interfaces.as_slice())?;
+        at = &class.parent;
+    }
+    Ok(())
+}
+
+fn add_names(alloc: Global, names: &mut List<Bytes>, others: &[Bytes]) -> Result<(), NoMemory>
+    ensures { OnOk result (names.new ≡ names.old ++ others.now) }
+{
+    for name in others {
+        names.push(name.copy(alloc)?)?;
+    }
+    Ok(())
+}
+
+/// The interfaces and those above them, each once, level by level.
+fn interfaces_from(
+    alloc: Global,
+    classes: &Classes,
+    names: &[Bytes],
+) -> Result<List<Bytes>, NoMemory>
+    ensures { IfOk result (λ found. found ≡ interfaces_from classes.now names.now) }
+{
+    let most = add(classes.interfaces(), names.len())?;
+    let mut found = List::new(alloc);
+    let mut seen = BTreeSet::new(alloc);
+    let mut waiting = VecDeque::new(alloc);
+    add_waiting(alloc, &mut waiting, names)?;
+    for _ in 0..most {
+        let Some(name) = waiting.pop_front() else {
+            return Ok(found);
+        };
+        visit(alloc, classes, &mut found, &mut seen, &mut waiting, name)?;
+    }
+    Ok(found)
+}
+
+/// Takes up a name that has waited: if it is new, its interfaces wait behind the others.
+fn visit(
+    alloc: Global,
+    classes: &Classes,
+    found: &mut List<Bytes>,
+    seen: &mut BTreeSet<Bytes>,
+    waiting: &mut VecDeque<Bytes>,
+    name: Bytes,
+) -> Result<(), NoMemory>
+    requires { NamesSeen seen.old found.old }
+    ensures seen { OnOk result (NamesSeen seen.new found.new) }
+    ensures found { OnOk result (found.new ≡ with_name found.old name) }
+    ensures waiting { OnOk result (waiting.new.items ≡ with_above classes.now found.old name waiting.old.items) }
+{
+    if seen.contains(&name) {
+        return Ok(());
+    }
+    add_above(alloc, classes, &name, waiting)?;
+    add_name(alloc, seen, &name)?;
+    found.push(name)?;
+    Ok(())
+}
+
+fn add_above(
+    alloc: Global,
+    classes: &Classes,
+    name: &Bytes,
+    waiting: &mut VecDeque<Bytes>,
+) -> Result<(), NoMemory>
+    ensures { OnOk result (waiting.new.items ≡ waiting.old.items ++ interfaces_above classes.now name.now) }
+{
+    match classes.named(name) {
+        Some(class) => add_waiting(alloc, waiting, class.interfaces.as_slice()),
+        None => Ok(()),
+    }
+}
+
+fn add_waiting(
+    alloc: Global,
+    waiting: &mut VecDeque<Bytes>,
+    names: &[Bytes],
+) -> Result<(), NoMemory>
+    ensures { OnOk result (waiting.new.items ≡ waiting.old.items ++ names.now) }
+{
+    for name in names {
+        waiting.push_back(name.copy(alloc)?)?;
+    }
+    Ok(())
+}

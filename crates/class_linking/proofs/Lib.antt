@@ -1,0 +1,18 @@
+pub mod Beginning
+pub mod ClassLoop
+pub mod Leaving
+pub mod Loop
+pub mod Sound
+pub mod Starting
+pub mod Telling
+pub mod Whole
+mod LinkedMembers
+mod LinkedOperands
+mod LinkedCalls
+mod Nearest
+mod LinkedTexts
+mod LinkedBodies
+mod LinkedPlaces
+mod LinkedUses
+mod LinkedMain
+mod LinkedWhole

@@ -1,0 +1,75 @@
+-- The program that files link to, step by step.
+use Rattle.std.proofs.Common.{◌≡◌, ℕ, ◌+◌, Bool, false, List, [], ◌∷◌, length, map, Option, Some, None, Ok, Err, refl, sym, ap, ◌∙◌, suc, arith}
+use Rattle.std.specs.Prelude.{ok_or, nat_lt, not}
+use Rattle.mon_base.specs.Reading.{◌>>=◌, need}
+use Rattle.mon_base.proofs.Reading.{bind_ok}
+use Rattle.class_codec.specs.declared.tree.ClassFile.{ClassFile}
+use Rattle.api_listing.specs.declared.types.Listing.{Listing}
+use Rattle.class_linking.specs.declared.fault.LinkFault.{LinkFault}
+use Rattle.class_linking.specs.declared.fault.LinkFault.TheVariants as faults
+use Rattle.bytecode_model.specs.declared.program.LinkedClass.{LinkedClass}
+use Rattle.bytecode_model.specs.declared.program.Method.{Method}
+use Rattle.bytecode_model.specs.declared.program.Program.{Program}
+use Rattle.bytecode_model.specs.declared.program.Side.{Side}
+use Rattle.mon_base.specs.Answer.{Fails}
+use Rattle.class_linking.specs.Fault.{Linked, linked_from}
+use Rattle.bytecode_model.specs.Heads.{heads_of}
+use Rattle.class_linking.specs.ClassConditions.{classes_linked}
+use Rattle.bytecode_model.specs.Operands.{literals_of}
+use Rattle.class_linking.specs.Linking.{members_of, main_of, each_linked, classes_with, linked}
+use Rattle.bytecode_model.specs.Files.{max_files}
+use Rattle.mon_base.proofs.Answering.{through}
+use Rattle.class_linking.proofs.Loop.{same_length}
+
+abbrev Members : Type 0
+Members = List (List Method) × List (List ℕ)
+
+abbrev program : List ClassFile → Listing → Members → ℕ × ℕ → Program
+program files listing members begin = record { classes = classes_with files members.0; listing = listing; literals = members.1; main_class = begin.0; main_method = begin.1 }
+
+abbrev ending : List ClassFile → Listing → List ℕ → Members → Linked Program
+ending files listing main members = ok_or (main_of files main) faults.NoMain >>= λ begin. Ok (program files listing members begin)
+
+abbrev rest : List ClassFile → Listing → List ℕ → Linked Program
+rest files listing main = members_of files listing >>= λ members. ending files listing main members
+
+module _ (files : List ClassFile) (listing : Listing) (main : List ℕ) (side : Side) (few : nat_lt max_files (length files) ≡ false) where
+  few_step : linked files listing main side ≡ (classes_linked side (heads_of files) listing.classes files >>= λ sound. rest files listing main)
+  few_step = ap (λ (b : Bool). need (not b) (faults.TooMany (length files)) >>= λ small. classes_linked side (heads_of files) listing.classes files >>= λ sound. rest files listing main) few
+
+  pub ends_classes : (e : LinkFault) → Fails faults.Memory e (classes_linked side (heads_of files) listing.classes files) → Fails faults.Memory e (linked files listing main side)
+  ends_classes e fails =
+      through faults.Memory e (classes_linked side (heads_of files) listing.classes files) (linked files listing main side)
+      (λ err. few_step ∙ ap (λ (r : Linked (Unit {0})). r >>= λ sound. rest files listing main) err) fails
+
+  sound_step : classes_linked side (heads_of files) listing.classes files ≡ Ok tt → linked files listing main side ≡ rest files listing main
+  sound_step ok = few_step ∙ ap (λ (r : Linked (Unit {0})). r >>= λ sound. rest files listing main) ok
+
+  pub ends_members : (e : LinkFault) → classes_linked side (heads_of files) listing.classes files ≡ Ok tt → Fails faults.Memory e (members_of files listing) → Fails faults.Memory e (linked files listing main side)
+  ends_members e ok fails =
+      through faults.Memory e (members_of files listing) (linked files listing main side)
+      (λ err. sound_step ok ∙ ap (λ (r : Linked Members). r >>= λ members. ending files listing main members) err) fails
+
+  pub is_ending : (members : Members) → classes_linked side (heads_of files) listing.classes files ≡ Ok tt → members_of files listing ≡ Ok members → linked files listing main side ≡ ending files listing main members
+  is_ending members ok made = sound_step ok ∙ ap (λ (r : Linked Members). r >>= λ ms. ending files listing main ms) made
+
+  pub no_main : (members : Members) → classes_linked side (heads_of files) listing.classes files ≡ Ok tt → members_of files listing ≡ Ok members → main_of files main ≡ None → linked files listing main side ≡ Err faults.NoMain
+  no_main members ok made none = is_ending members ok made ∙ ap (λ (o : Option (ℕ × ℕ)). ok_or o faults.NoMain >>= λ begin. Ok (program files listing members begin)) none
+
+  pub is_program : (members : Members) (begin : ℕ × ℕ) → classes_linked side (heads_of files) listing.classes files ≡ Ok tt → members_of files listing ≡ Ok members → main_of files main ≡ Some begin
+      → linked files listing main side ≡ Ok (program files listing members begin)
+  is_program members begin ok made some = is_ending members ok made ∙ ap (λ (o : Option (ℕ × ℕ)). ok_or o faults.NoMain >>= λ b. Ok (program files listing members b)) some
+
+map_back : (files : List ClassFile) (methods : List (List Method)) → length methods ≡ length files → map (λ (c : LinkedClass). c.file) (classes_with files methods) ≡ files
+map_back [] methods e = refl
+map_back (file ∷ files) [] e = absurd (omega arith)
+map_back (file ∷ files) (first ∷ others) e =
+    let n : length others ≡ length files = omega arith in
+    ap (λ (fs : List ClassFile). file ∷ fs) (map_back files others n)
+
+-- the class files come back
+pub files_back : (files : List ClassFile) (listing : Listing) (members : Members) → members_of files listing ≡ Ok members → map (λ (c : LinkedClass). c.file) (classes_with files members.0) ≡ files
+files_back files listing members made =
+    let b = bind_ok (each_linked files listing files) (λ (methods : List (List Method)). Ok (methods, literals_of files)) members made in
+    let is : b.0 ≡ members.0 = cc (b.2) in
+    map_back files members.0 (ap length (sym is) ∙ same_length _ 0 files b.0 b.1)

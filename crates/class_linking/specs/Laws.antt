@@ -1,0 +1,20 @@
+-- What is known of each program that files link to.
+use Rattle.std.specs.Prelude.{◌≡◌, ℕ, List, Ok}
+use Rattle.class_codec.specs.declared.tree.ClassFile.{ClassFile}
+use Rattle.api_listing.specs.declared.types.Listing.{Listing}
+use Rattle.bytecode_model.specs.declared.program.Program.{Program}
+use Rattle.bytecode_model.specs.declared.program.Side.{Side}
+use Rattle.bytecode_model.specs.Named.{AreRightOperands}
+use Rattle.bytecode_model.specs.Sound.{IsSound}
+use Rattle.bytecode_model.specs.Standing.{IsLinkedOf}
+use Rattle.class_linking.specs.Linking.{linked}
+
+abbrev pub LinkedOperandsAreRight : Type 0
+LinkedOperandsAreRight =
+    (files : List ClassFile) (listing : Listing) (main : List ℕ) (side : Side) (program : Program) → linked files listing main side ≡ Ok program → IsSound program
+    → AreRightOperands program
+
+abbrev pub LinkedAreNamed : Type 0
+LinkedAreNamed =
+    (files : List ClassFile) (listing : Listing) (main : List ℕ) (side : Side) (program : Program) → linked files listing main side ≡ Ok program → IsSound program
+    → IsLinkedOf side listing main program

@@ -1,0 +1,7 @@
+pub mod Fault
+pub mod ClassConditions
+pub mod Heights
+pub mod Operands
+pub mod Handlers
+pub mod Linking
+pub mod Laws

@@ -1,0 +1,23 @@
+//! Class files, a listing and a main class become one program in which each operand has its target.
+//!
+//! [`link`] tries its conditions in a fixed order and answers the first that fails.
+//! (The Java Virtual Machine Specification, chapter 5; docs/LINKING.md.)
+#![tactic(auto)]
+
+mod class_conditions;
+mod fault;
+mod handlers;
+mod heights;
+mod laws;
+mod linking;
+mod method_conditions;
+mod methods;
+mod operand_fault;
+mod operands;
+
+pub use fault::LinkFault;
+pub use laws::{linked_operands_are_right, linked_programs_are_named};
+pub use linking::{MAX_FILES, link};
+
+#[cfg(test)]
+mod tests;

@@ -1,0 +1,230 @@
+//! Class files, a listing and a main class become one program.
+
+ghost use Rattle.std.specs.Prelude.{◌≡◌, ◌≤◌, length, IfOk};
+ghost use Rattle.std.specs.List.{AllByRecursion};
+ghost use Rattle.class_codec.specs.Fits.{CanSpell};
+ghost use Rattle.api_listing.specs.Listing.{IsFew};
+ghost use Rattle.mon_base.specs.Answer.{Answers};
+ghost use Rattle.bytecode_model.specs.Heads.{heads_of, is_member, main_name, main_desc};
+ghost use Rattle.bytecode_model.specs.Named.{AreRightOperands};
+ghost use Rattle.bytecode_model.specs.Sound.{IsSoundMethod, IsSound};
+ghost use Rattle.bytecode_model.specs.Standing.{IsLinkedOf};
+ghost use Rattle.class_linking.specs.Linking.{if_static, static_main, main_of, each_linked, class_with, classes_with, members_of, linked};
+ghost use Rattle.bytecode_model.specs.Files.{unlinked};
+
+use crate::class_conditions::classes_linked;
+use crate::fault::LinkFault;
+use crate::heights::Heads;
+use crate::laws::{linked_operands_are_right, linked_programs_are_named};
+use crate::methods::methods_linked;
+use api_listing::{ListedClass, Listing};
+use bytecode_model::{
+    LinkedClass, Method, Program, Side, class_at, copy_class, has_flag, is_text, text_at,
+};
+use class_codec::{ClassFile, Const, Member};
+use class_index::{Index, heads_of};
+use mon_base::{Bytes, List, NoMemory};
+use std::alloc::Global;
+use std::collections::VecDeque;
+
+/// The greatest number of class files.
+pub const MAX_FILES: usize = 1000;
+
+/// What the files, the listing and the main class link to, or the first condition that fails. The conditions are tried
+/// in this order: the number of files; those of each class; those of each method, of each of its instructions and of
+/// each of its handlers; and the main class. (The Java Virtual Machine Specification, chapter 5.)
+pub fn link(
+    alloc: Global,
+    files: List<ClassFile>,
+    listing: Listing,
+    main: &Bytes,
+    side: Side,
+) -> Result<Program, LinkFault>
+    requires fits { AllByRecursion CanSpell files }
+    requires listed { IsFew listing }
+    ensures exact { Answers LinkFault.Memory result (linked files listing main.now side) }
+    ensures back { IfOk result (λ program. unlinked program ≡ files) }
+    ensures sound { IfOk result IsSound }
+    ensures operands { IfOk result AreRightOperands }
+    ensures named { IfOk result (IsLinkedOf side listing main.now) }
+{
+    linked_operands_are_right();
+    linked_programs_are_named();
+    linked_program(alloc, files, listing, main, side)
+}
+
+fn linked_program(
+    alloc: Global,
+    files: List<ClassFile>,
+    listing: Listing,
+    main: &Bytes,
+    side: Side,
+) -> Result<Program, LinkFault>
+    requires fits { AllByRecursion CanSpell files }
+    requires listed { IsFew listing }
+    ensures exact { Answers LinkFault.Memory result (linked files listing main.now side) }
+    ensures back { IfOk result (λ program. unlinked program ≡ files) }
+    ensures sound { IfOk result IsSound }
+{
+    let count = files.len();
+    if count > MAX_FILES {
+        return Err(LinkFault::TooMany {
+            count: count as u64,
+        });
+    }
+    let heads = Heads::new(alloc, heads_of(alloc, files.as_slice())?)?;
+    classes_linked(
+        alloc,
+        side,
+        &heads,
+        listing.classes.as_slice(),
+        files.as_slice(),
+    )?;
+    let (methods, literals) = members(alloc, files.as_slice(), heads.as_slice(), &listing)?;
+    let Some((main_class, main_method)) = main_of(files.as_slice(), main.as_slice()) else {
+        return Err(LinkFault::NoMain);
+    };
+    let classes = classes_with(alloc, files, methods)?;
+    Ok(Program {
+        classes,
+        listing,
+        literals,
+        main_class,
+        main_method,
+    })
+}
+
+/// The methods of each class, and the literals.
+fn members(
+    alloc: Global,
+    files: &[ClassFile],
+    heads: &[ListedClass],
+    listing: &Listing,
+) -> Result<(List<List<Method>>, List<Bytes>), LinkFault>
+    requires count { length files.now ≤ 1000 }
+    requires fits { AllByRecursion CanSpell files.now }
+    requires heads { heads.now ≡ heads_of files.now }
+    requires listed { IsFew listing.now }
+    ensures answers { Answers LinkFault.Memory result (members_of files.now listing.now) }
+    ensures sound { IfOk result (λ members. AllByRecursion (AllByRecursion IsSoundMethod) members.0) }
+{
+    let index = Index::new(alloc, files, heads, listing)?;
+    let methods = each_linked(alloc, &index, files)?;
+    let literals = index.into_literals();
+    Ok((methods, literals))
+}
+
+/// What each of some of the files links to.
+fn each_linked(
+    alloc: Global,
+    index: &Index,
+    files: &[ClassFile],
+) -> Result<List<List<Method>>, LinkFault>
+    requires { AllByRecursion CanSpell files.now }
+    ensures answers { Answers LinkFault.Memory result (each_linked index.now.files index.now.listing files.now) }
+    ensures sound { IfOk result (AllByRecursion (AllByRecursion IsSoundMethod)) }
+{
+    let mut classes = List::new(alloc);
+    let mut left = files;
+    while let [file, rest @ ..] = left {
+        let methods = methods_linked(alloc, index, file)?;
+        classes.push(methods)?;
+        left = rest;
+    }
+    Ok(classes)
+}
+
+/// The classes of the files, each with its methods.
+fn classes_with(
+    alloc: Global,
+    files: List<ClassFile>,
+    methods: List<List<Method>>,
+) -> Result<List<LinkedClass>, NoMemory>
+    ensures { IfOk result (λ classes. classes ≡ classes_with files methods) }
+{
+    let mut classes = List::new(alloc);
+    let count = files.len();
+    let mut files = VecDeque::from_vec(files.into_vec());
+    let mut methods = VecDeque::from_vec(methods.into_vec());
+    for _ in 0..count {
+        let Some(file) = files.pop_front() else {
+            return Ok(classes);
+        };
+        let Some(first) = methods.pop_front() else {
+            return Ok(classes);
+        };
+        let class = class_with(alloc, file, first)?;
+        classes.push(class)?;
+    }
+    Ok(classes)
+}
+
+fn class_with(
+    alloc: Global,
+    file: ClassFile,
+    methods: List<Method>,
+) -> Result<LinkedClass, NoMemory>
+    ensures { IfOk result (λ class. class ≡ class_with file methods) }
+{
+    let name = copy_class(alloc, file.pool.as_slice(), file.this_class)?;
+    let parent = copy_class(alloc, file.pool.as_slice(), file.super_class)?;
+    Ok(LinkedClass {
+        name,
+        parent,
+        file,
+        methods,
+    })
+}
+
+/// The class and the method, by their indices, that a program begins with.
+fn main_of(files: &[ClassFile], main: &[u8]) -> Option<(u32, u32)>
+    requires count { length files.now ≤ 1000 }
+    requires fits { AllByRecursion CanSpell files.now }
+    ensures { result ≡ main_of files.now main.now }
+{
+    let mut class: u32 = 0;
+    let mut left = files;
+    while let [file, rest @ ..] = left {
+        if class_at(file.pool.as_slice(), file.this_class) == main {
+            return static_main(class, file);
+        }
+        class += 1;
+        left = rest;
+    }
+    None
+}
+
+/// The first `main` of the class, if it is static.
+fn static_main(class: u32, file: &ClassFile) -> Option<(u32, u32)>
+    requires { CanSpell file.now }
+    ensures { result ≡ static_main class file.now.pool 0 file.now.methods }
+{
+    let pool = file.pool.as_slice();
+    let mut method: u32 = 0;
+    let mut left = file.methods.as_slice();
+    while let [member, rest @ ..] = left {
+        if is_main(pool, member) {
+            return if_static(class, method, member);
+        }
+        method += 1;
+        left = rest;
+    }
+    None
+}
+
+fn is_main(pool: &[Const], member: &Member) -> bool
+    ensures { result ≡ is_member pool.now main_name main_desc member.now }
+{
+    is_text(text_at(pool, member.name), "main")
+        && is_text(text_at(pool, member.desc), "([Ljava/lang/String;)V")
+}
+
+fn if_static(class: u32, method: u32, member: &Member) -> Option<(u32, u32)>
+    ensures { result ≡ if_static class method member.now }
+{
+    if has_flag(member.flags, 8) {
+        Some((class, method))
+    } else {
+        None
+    }
+}

@@ -1,0 +1,187 @@
+//! What the methods of a class link to.
+
+ghost use Rattle.std.specs.Prelude.{◌≡◌, ◌≤◌, ◌<◌, ◌^◌, true, length, IfOk};
+ghost use Rattle.std.specs.List.{AllByRecursion};
+ghost use Rattle.class_codec.specs.Fits.{CanSpell, FitsMember};
+ghost use Rattle.insn_codec.specs.Fits as insns;
+ghost use Rattle.insn_codec.specs.Reading.{code_of};
+ghost use Rattle.insn_codec.specs.Spelling.{len_from};
+ghost use Rattle.mon_base.specs.Answer.{Answers, Tells};
+ghost use Rattle.bytecode_model.specs.Heads.{all_classes, head_of};
+ghost use Rattle.bytecode_model.specs.SearchOrder.{search_order};
+ghost use Rattle.class_index.specs.Index.{OverridesAs};
+ghost use Rattle.bytecode_model.specs.Sound.{IsSoundMethod};
+ghost use Rattle.class_linking.specs.Linking.{bare, with_code, code_told, read_of, code_linked, method_linked, methods_linked};
+
+use crate::fault::LinkFault;
+use crate::handlers::{Starts, handlers_linked};
+use crate::method_conditions::{is_allowed, overrides};
+use crate::operands::operands_linked;
+use bytecode_model::{Handlers, Method, Target, code_of, copy_class, copy_text};
+use class_codec::{ClassFile, Code, Member};
+use class_index::Index;
+use insn_codec::{CodeFault, Insn, read_code};
+use mon_base::{Bytes, List, NoMemory};
+use std::alloc::Global;
+
+/// The methods of a class, or the first condition that one of them does not meet.
+pub fn methods_linked(
+    alloc: Global,
+    index: &Index,
+    file: &ClassFile,
+) -> Result<List<Method>, LinkFault>
+    requires { CanSpell file.now }
+    ensures answers { Answers LinkFault.Memory result (methods_linked index.now.files index.now.listing file.now) }
+    ensures sound { IfOk result (AllByRecursion IsSoundMethod) }
+{
+    let class = copy_class(alloc, file.pool.as_slice(), file.this_class)?;
+    let order = index.library_above(alloc, &class)?;
+    let mut methods = List::new(alloc);
+    let mut number: u32 = 0;
+    let mut left = file.methods.as_slice();
+    while let [member, rest @ ..] = left {
+        let method = method_linked(alloc, index, order.as_slice(), file, &class, number, member)?;
+        methods.push(method)?;
+        number += 1;
+        left = rest;
+    }
+    Ok(methods)
+}
+
+fn method_linked(
+    alloc: Global,
+    index: &Index,
+    order: &[Bytes],
+    file: &ClassFile,
+    class: &Bytes,
+    method: u32,
+    member: &Member,
+) -> Result<Method, LinkFault>
+    requires fits { FitsMember file.now.pool true member.now }
+    requires name { class.now ≡ (head_of file.now).name }
+    requires order { OverridesAs index.now.listing order.now (search_order (all_classes index.now.listing index.now.files) class.now) }
+    ensures answers { Answers LinkFault.Memory result (method_linked index.now.files index.now.listing file.now method member.now) }
+    ensures sound { IfOk result IsSoundMethod }
+{
+    let pool = file.pool.as_slice();
+    if !is_allowed(alloc, pool, member)? {
+        return Err(LinkFault::Method {
+            class: class.copy(alloc)?,
+            name: copy_text(alloc, pool, member.name)?,
+        });
+    }
+    if overrides(alloc, index, order, class, pool, member)? {
+        return Err(LinkFault::Overrides {
+            class: class.copy(alloc)?,
+            name: copy_text(alloc, pool, member.name)?,
+        });
+    }
+    match code_of(member.attrs.as_slice()) {
+        Some(code) => code_linked(alloc, index, file, class, method, member, code),
+        None => {
+            let method = bare(alloc, file, member)?;
+            Ok(method)
+        }
+    }
+}
+
+/// A method without code.
+fn bare(alloc: Global, file: &ClassFile, member: &Member) -> Result<Method, NoMemory>
+    ensures is { IfOk result (λ method. method ≡ bare file.now member.now) }
+    ensures sound { IfOk result IsSoundMethod }
+{
+    Ok(Method {
+        flags: member.flags,
+        name: copy_text(alloc, file.pool.as_slice(), member.name)?,
+        desc: copy_text(alloc, file.pool.as_slice(), member.desc)?,
+        max_stack: 0,
+        max_locals: 0,
+        insns: List::new(alloc),
+        refs: List::new(alloc),
+        handlers: Handlers::none(alloc),
+    })
+}
+
+fn code_linked(
+    alloc: Global,
+    index: &Index,
+    file: &ClassFile,
+    class: &Bytes,
+    method: u32,
+    member: &Member,
+    code: &Code,
+) -> Result<Method, LinkFault>
+    requires short { length code.now.code ≤ 65535 }
+    requires table { length code.now.table < 2 ^ 16 }
+    requires name { class.now ≡ (head_of file.now).name }
+    ensures answers { Answers LinkFault.Memory result (code_linked index.now.files index.now.listing file.now method member.now code.now) }
+    ensures sound { IfOk result IsSoundMethod }
+{
+    let pool = file.pool.as_slice();
+    let insns = read_insns(alloc, class, method, code.code.as_slice())?;
+    let refs = operands_linked(alloc, index, class, pool, method, insns.as_slice())?;
+    let starts = Starts::new(alloc, insns.as_slice())?;
+    let end = insns.len() as u32;
+    let table = code.table.as_slice();
+    let list = handlers_linked(alloc, index, class, pool, method, end, &starts, table)?;
+    let handlers = Handlers::new(alloc, list)?;
+    let made = with_code(alloc, file, member, code, insns, refs, handlers)?;
+    Ok(made)
+}
+
+fn with_code(
+    alloc: Global,
+    file: &ClassFile,
+    member: &Member,
+    code: &Code,
+    insns: List<Insn>,
+    refs: List<Target>,
+    handlers: Handlers,
+) -> Result<Method, NoMemory>
+    ensures { IfOk result (λ method. method ≡ with_code file.now member.now code.now insns refs handlers) }
+{
+    Ok(Method {
+        flags: member.flags,
+        name: copy_text(alloc, file.pool.as_slice(), member.name)?,
+        desc: copy_text(alloc, file.pool.as_slice(), member.desc)?,
+        max_stack: code.max_stack,
+        max_locals: code.max_locals,
+        insns,
+        refs,
+        handlers,
+    })
+}
+
+fn read_insns(
+    alloc: Global,
+    class: &Bytes,
+    method: u32,
+    code: &[u8],
+) -> Result<List<Insn>, LinkFault>
+    requires { length code.now ≤ 65535 }
+    ensures answers { Answers LinkFault.Memory result (read_of class.now method (code_of code.now)) }
+    ensures fits { IfOk result insns.CanSpell }
+    ensures len { IfOk result (λ insns. len_from 0 insns ≡ length code.now) }
+    ensures count { IfOk result (λ insns. length insns ≤ 65535) }
+{
+    match read_code(alloc, code) {
+        Ok(insns) => Ok(insns),
+        Err(fault) => Err(code_told(alloc, class, method, fault)),
+    }
+}
+
+fn code_told(alloc: Global, class: &Bytes, method: u32, fault: CodeFault) -> LinkFault
+    ensures { Tells LinkFault.Memory result (code_told class.now method fault) }
+{
+    match fault {
+        CodeFault::Memory => LinkFault::Memory,
+        fault => match class.copy(alloc) {
+            Ok(class) => LinkFault::Code {
+                class,
+                method,
+                fault,
+            },
+            Err(_) => LinkFault::Memory,
+        },
+    }
+}

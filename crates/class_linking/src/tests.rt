@@ -1,0 +1,162 @@
+//! Small programs that link, and refusals.
+
+ghost use Rattle.std.specs.Prelude.{IfOk};
+ghost use Rattle.class_codec.specs.Fits.{CanSpell};
+ghost use Rattle.api_listing.specs.Listing.{IsFew};
+
+use super::*;
+use api_listing::{Listing, read};
+use bytecode_model::{Program, Side, Target, unlink};
+use class_codec::{ClassFile, decode};
+use mon_base::{Bytes, List};
+use std::alloc::{AllocError, Global};
+use std::test::Fail;
+
+const NET: &str = "class api/Net extends java/lang/Object\nstatic api/Net send ()V\n";
+
+/// The class `a/E`, whose `main` is `return`.
+const QUIET: &[u8] = b"\xca\xfe\xba\xbe\x00\x00\x00\x31\x00\x08\
+    \x01\x00\x03a/E\x07\x00\x01\x01\x00\x10java/lang/Object\x07\x00\x03\
+    \x01\x00\x04main\x01\x00\x16([Ljava/lang/String;)V\x01\x00\x04Code\
+    \x00\x21\x00\x02\x00\x04\x00\x00\x00\x00\x00\x01\
+    \x00\x09\x00\x05\x00\x06\x00\x01\
+    \x00\x07\x00\x00\x00\x0d\x00\x00\x00\x01\x00\x00\x00\x01\xb1\x00\x00\x00\x00\
+    \x00\x00";
+
+/// The class `a/S`, whose `main` is `invokestatic api/Net.send; return`.
+const SENDS: &[u8] = b"\xca\xfe\xba\xbe\x00\x00\x00\x31\x00\x0e\
+    \x01\x00\x03a/S\x07\x00\x01\x01\x00\x10java/lang/Object\x07\x00\x03\
+    \x01\x00\x04main\x01\x00\x16([Ljava/lang/String;)V\x01\x00\x04Code\
+    \x01\x00\x07api/Net\x07\x00\x08\x01\x00\x04send\x01\x00\x03()V\x0c\x00\x0a\x00\x0b\x0a\x00\x09\x00\x0c\
+    \x00\x21\x00\x02\x00\x04\x00\x00\x00\x00\x00\x01\
+    \x00\x09\x00\x05\x00\x06\x00\x01\
+    \x00\x07\x00\x00\x00\x10\x00\x00\x00\x01\x00\x00\x00\x04\xb8\x00\x0d\xb1\x00\x00\x00\x00\
+    \x00\x00";
+
+/// The class `conspec/State`, empty.
+const STATE: &[u8] = b"\xca\xfe\xba\xbe\x00\x00\x00\x31\x00\x05\
+    \x01\x00\x0dconspec/State\x07\x00\x01\x01\x00\x10java/lang/Object\x07\x00\x03\
+    \x00\x21\x00\x02\x00\x04\x00\x00\x00\x00\x00\x00\x00\x00";
+
+/// The class file of the bytes.
+fn file_of(alloc: Global, bytes: &[u8]) -> Result<ClassFile, &'static str>
+    ensures { IfOk result CanSpell }
+{
+    match decode(alloc, bytes) {
+        Ok(file) => Ok(file),
+        Err(_) => Err("the bytes are a class file"),
+    }
+}
+
+fn listing_of(alloc: Global, text: &str) -> Result<Listing, &'static str>
+    ensures { IfOk result IsFew }
+{
+    match read(alloc, text.as_bytes()) {
+        Ok(listing) => Ok(listing),
+        Err(_) => Err("the text is a listing"),
+    }
+}
+
+/// The bytes with some of them changed.
+fn with(alloc: Global, bytes: &[u8], at: usize, new: &[u8]) -> Result<Vec<u8>, AllocError> {
+    let mut changed = Vec::from_slice(alloc, bytes)?;
+    for (i, byte) in new.iter().enumerate() {
+        if at < changed.len() && i < changed.len() - at {
+            changed[at + i] = *byte;
+        }
+    }
+    Ok(changed)
+}
+
+/// What one class file links to.
+fn outcome(
+    alloc: Global,
+    listing: &str,
+    bytes: &[u8],
+    main: &str,
+    side: Side,
+) -> Result<Result<Program, LinkFault>, Fail> {
+    let listing = listing_of(alloc, listing)?;
+    let file = file_of(alloc, bytes)?;
+    let mut files = List::new(alloc);
+    if files.push(file).is_err() {
+        return Ok(Err(LinkFault::Memory));
+    }
+    match Bytes::from_slice(alloc, main.as_bytes()) {
+        Ok(main) => Ok(link(alloc, files, listing, &main, side)),
+        Err(_) => Ok(Err(LinkFault::Memory)),
+    }
+}
+
+#[test]
+fn a_call_links(rt: HostRuntime) -> Result<(), Fail> {
+    let alloc = rt.alloc();
+    let linked = outcome(alloc, NET, SENDS, "a/S", Side::Original)?;
+    let program = linked.ok().ok_or("it links")?;
+    assert_eq!(rt; (program.main_class, program.main_method), (0, 0));
+    let copy = program.copy(alloc).ok().ok_or("memory is left")?;
+    assert!(rt; copy.literals == program.literals && copy.listing == program.listing);
+    assert_eq!(rt;
+        (copy.classes.len(), copy.main_class, copy.main_method),
+        (1, 0, 0)
+    );
+    let files = unlink(alloc, &program).ok().ok_or("memory is left")?;
+    assert_eq!(rt; files.len(), 1);
+    for class in program.classes.as_slice() {
+        assert_eq!(rt; class.name.as_slice(), b"a/S".as_slice());
+        for method in class.methods.as_slice() {
+            assert_eq!(rt; method.insns.len(), 2);
+            let refs = method.refs.as_slice();
+            assert_eq!(rt; refs.len(), 2);
+            assert!(rt; refs[0] == Target::ApiMethod(0) && refs[1] == Target::None);
+        }
+    }
+    Ok(())
+}
+
+#[test]
+fn refusals(rt: HostRuntime) -> Result<(), Fail> {
+    let alloc = rt.alloc();
+    let original = Side::Original;
+    let quiet = outcome(alloc, "", QUIET, "a/E", original)?;
+    assert!(rt; quiet.is_ok());
+    let other = outcome(alloc, "", QUIET, "a/F", original)?;
+    assert!(rt; matches!(other, Err(LinkFault::NoMain)));
+    let listed = "class a/E extends java/lang/Object\n";
+    let twice = outcome(alloc, listed, QUIET, "a/E", original)?;
+    assert!(rt; matches!(twice, Err(LinkFault::Twice { .. })));
+    let unlisted = "class api/Net extends java/lang/Object\n";
+    let unresolved = outcome(alloc, unlisted, SENDS, "a/S", original)?;
+    assert!(rt; matches!(unresolved, Err(LinkFault::Unresolved { .. })));
+    let above = with(alloc, QUIET, 22, b"k")?;
+    let left_out = outcome(alloc, "", &above, "a/E", original)?;
+    assert!(rt; matches!(left_out, Err(LinkFault::SuperLeftOut { .. })));
+    let taken = outcome(alloc, "", STATE, "a/E", original)?;
+    assert!(rt; matches!(taken, Err(LinkFault::NameTaken { .. })));
+    let own = outcome(alloc, "", STATE, "a/E", Side::Inlined)?;
+    assert!(rt; matches!(own, Err(LinkFault::NoMain)));
+    Ok(())
+}
+
+#[test]
+fn refusals_of_methods(rt: HostRuntime) -> Result<(), Fail> {
+    let alloc = rt.alloc();
+    let original = Side::Original;
+    let flags = with(alloc, QUIET, 92, b"\x01")?;
+    let native = outcome(alloc, "", &flags, "a/E", original)?;
+    assert!(rt; matches!(native, Err(LinkFault::Method { .. })));
+    let code = with(alloc, QUIET, 114, b"\xff")?;
+    let refused = outcome(alloc, "", &code, "a/E", original)?;
+    assert!(rt; matches!(refused, Err(LinkFault::Code { .. })));
+    let listed = "method java/lang/Object main ([Ljava/lang/String;)V\n";
+    let instance = with(alloc, QUIET, 93, b"\x01")?;
+    let overrides = outcome(alloc, listed, &instance, "a/E", original)?;
+    assert!(rt; matches!(overrides, Err(LinkFault::Overrides { .. })));
+    let name = with(alloc, QUIET, 13, b"-")?;
+    let none = outcome(alloc, "", &name, "a/E", original)?;
+    assert!(rt; matches!(none, Err(LinkFault::Name { .. })));
+    let operand = with(alloc, SENDS, 151, b"\x00\x07")?;
+    let wrong = outcome(alloc, NET, &operand, "a/S", original)?;
+    assert!(rt; matches!(wrong, Err(LinkFault::Operand { .. })));
+    Ok(())
+}
