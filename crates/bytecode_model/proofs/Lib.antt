@@ -1,8 +1,10 @@
 pub mod Climbing
 pub mod Codes
+pub mod Ending
 pub mod Lists
 pub mod Names
 pub mod Picking
 pub mod Placing
 pub mod Staying
+pub mod Upwards
 mod ShapedUses

@@ -4,6 +4,7 @@ pub mod Arrays
 pub mod Assigning
 pub mod Described
 pub mod SearchOrder
+pub mod Order
 pub mod Members
 pub mod Conditions
 pub mod Operands

@@ -6,7 +6,8 @@ use Rattle.std.specs.Cmp.Lexicographic.{slice_cmp}
 use Rattle.std.specs.BTreeMap.{BTreeMap, get}
 use Rattle.api_listing.specs.declared.types.ListedClass.{ListedClass}
 
-abbrev pub place_in : BTreeMap (List ℕ) ℕ → List ℕ → Option ℕ
+-- what a map has for the name
+abbrev pub place_in : {X : Type 0} → BTreeMap (List ℕ) X → List ℕ → Option X
 place_in places name = get (slice_cmp nat_cmp) places name
 
 -- the index of the first class with the name

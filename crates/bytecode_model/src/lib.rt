@@ -22,7 +22,7 @@ pub use arrays::is_array;
 pub use exception_table::{Handlers, NearHandlers, next_place};
 pub use files::unlink;
 pub use laws::uses_are_shaped;
-pub use member_code::code_of;
+pub use member_code::{code_of, has_its_code};
 pub use members::{Found, MemberKind};
 pub use operand::{Use, index_of, use_of};
 pub use origin::Origin;

@@ -1,10 +1,46 @@
 //! The code of a method, among the attributes of its member. (The Java Virtual Machine Specification, section 4.7.3.)
 
-ghost use Rattle.std.specs.Prelude.{◌≡◌, option_copied, slice_get};
+ghost use Rattle.std.specs.Prelude.{◌≡◌, length, option_copied, slice_get};
 ghost use Rattle.std.specs.List.{filter_map};
-ghost use Rattle.bytecode_model.specs.Conditions.{code_in};
+ghost use Rattle.bytecode_model.specs.Conditions.{code_in, has_its_code};
 
-use class_codec::{Attr, Code};
+use crate::text::has_flag;
+use class_codec::{Attr, Code, Member};
+
+/// Whether a method has one code, or none where it is abstract.
+pub fn has_its_code(member: &Member) -> bool
+    ensures { result ≡ has_its_code member.now }
+{
+    let codes = count_codes(member.attrs.as_slice());
+    if has_flag(member.flags, 1024) {
+        codes == 0
+    } else {
+        codes == 1
+    }
+}
+
+fn count_codes(attrs: &[Attr]) -> usize
+    ensures { result ≡ length (filter_map code_in attrs.now) }
+{
+    let mut count = 0;
+    let mut left = attrs;
+    while let [attr, rest @ ..] = left {
+        if code_in(attr).is_some() {
+            count += 1;
+        }
+        left = rest;
+    }
+    count
+}
+
+fn code_in(attr: &Attr) -> Option<&Code>
+    ensures { option_copied result ≡ code_in attr.now }
+{
+    match attr {
+        Attr::Code(code) => Some(code),
+        Attr::Other(_) => None,
+    }
+}
 
 /// The first code of a method.
 pub fn code_of(attrs: &[Attr]) -> Option<&Code>

@@ -1,3 +1,4 @@
 pub mod Declaring
+pub mod Leaving
 pub mod Owning
 pub mod Reaching

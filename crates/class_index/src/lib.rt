@@ -7,14 +7,15 @@
 mod classes;
 mod declared;
 mod heads;
+mod heights;
 mod index;
 mod literals;
 mod near;
 mod places;
 mod search;
 
-pub use classes::Classes;
 pub use heads::{head_of, heads_of};
+pub use heights::Heads;
 pub use index::Index;
 pub use near::in_class;
-pub use places::{add_name, add_place};
+pub use places::add_name;

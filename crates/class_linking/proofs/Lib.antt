@@ -1,6 +1,5 @@
 pub mod Beginning
 pub mod ClassLoop
-pub mod Leaving
 pub mod Loop
 pub mod Sound
 pub mod Starting
@@ -16,3 +15,5 @@ mod LinkedPlaces
 mod LinkedUses
 mod LinkedMain
 mod LinkedWhole
+mod Listed
+mod LinkedOrder

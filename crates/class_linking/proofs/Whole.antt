@@ -1,5 +1,5 @@
 -- The program that files link to, step by step.
-use Rattle.std.proofs.Common.{◌≡◌, ℕ, ◌+◌, Bool, false, List, [], ◌∷◌, length, map, Option, Some, None, Ok, Err, refl, sym, ap, ◌∙◌, suc, arith}
+use Rattle.std.proofs.Common.{◌≡◌, ℕ, Bool, false, List, [], ◌∷◌, length, map, Option, Some, None, Ok, Err, refl, sym, ap, ◌∙◌, arith}
 use Rattle.std.specs.Prelude.{ok_or, nat_lt, not}
 use Rattle.mon_base.specs.Reading.{◌>>=◌, need}
 use Rattle.mon_base.proofs.Reading.{bind_ok}
@@ -12,7 +12,7 @@ use Rattle.bytecode_model.specs.declared.program.Method.{Method}
 use Rattle.bytecode_model.specs.declared.program.Program.{Program}
 use Rattle.bytecode_model.specs.declared.program.Side.{Side}
 use Rattle.mon_base.specs.Answer.{Fails}
-use Rattle.class_linking.specs.Fault.{Linked, linked_from}
+use Rattle.class_linking.specs.Fault.{Linked}
 use Rattle.bytecode_model.specs.Heads.{heads_of}
 use Rattle.class_linking.specs.ClassConditions.{classes_linked}
 use Rattle.bytecode_model.specs.Operands.{literals_of}

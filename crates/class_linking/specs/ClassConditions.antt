@@ -9,7 +9,6 @@ use Rattle.class_linking.specs.declared.fault.LinkFault.TheVariants as faults
 use Rattle.bytecode_model.specs.declared.program.Side.{Side}
 use Rattle.class_linking.specs.Fault.{Linked}
 use Rattle.bytecode_model.specs.Heads.{head_of}
-use Rattle.bytecode_model.specs.SearchOrder.{Name}
 use Rattle.bytecode_model.specs.Conditions.{is_free, has_supers}
 
 -- the conditions of a class of a file, whose name is taken or not

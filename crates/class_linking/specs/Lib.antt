@@ -1,6 +1,5 @@
 pub mod Fault
 pub mod ClassConditions
-pub mod Heights
 pub mod Operands
 pub mod Handlers
 pub mod Linking

@@ -1,5 +1,5 @@
 -- What an instruction's operand names. (The Java Virtual Machine Specification, sections 4.4, 5.4.3 and 6.5.)
-use Rattle.std.specs.Prelude.{ℕ, Bool, true, false, not, ◌&&◌, if◌then◌else◌, List, None, slice_get, ok_or, Result, Ok, Err, is_ok}
+use Rattle.std.specs.Prelude.{ℕ, Bool, true, false, not, ◌&&◌, if◌then◌else◌, List, slice_get, ok_or, Result, Ok, Err, is_ok}
 use Rattle.std.specs.Bool.{beq}
 use Rattle.mon_base.specs.Reading.{◌>>=◌, need}
 use Rattle.mon_base.specs.declared.method.MethodId.{MethodId}

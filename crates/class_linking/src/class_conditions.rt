@@ -14,11 +14,10 @@ ghost use Rattle.bytecode_model.specs.Conditions.{holds, names_own_class, is_fre
 ghost use Rattle.class_linking.specs.ClassConditions.{class_linked, classes_linked};
 
 use crate::fault::LinkFault;
-use crate::heights::Heads;
 use api_listing::{ListedClass, class_name};
 use bytecode_model::{Side, has_flag, is_text};
 use class_codec::{ClassFile, Const, Member};
-use class_index::{add_name, head_of};
+use class_index::{Heads, add_name, head_of};
 use mon_base::{Bytes, NoMemory};
 use std::alloc::Global;
 use std::collections::BTreeSet;

@@ -7,7 +7,6 @@
 mod class_conditions;
 mod fault;
 mod handlers;
-mod heights;
 mod laws;
 mod linking;
 mod method_conditions;
@@ -16,7 +15,7 @@ mod operand_fault;
 mod operands;
 
 pub use fault::LinkFault;
-pub use laws::{linked_operands_are_right, linked_programs_are_named};
+pub use laws::{linked_is_in_order, linked_operands_are_right, linked_programs_are_named};
 pub use linking::{MAX_FILES, link};
 
 #[cfg(test)]

@@ -1,12 +1,13 @@
 //! Class files, a listing and a main class become one program.
 
-ghost use Rattle.std.specs.Prelude.{◌≡◌, ◌≤◌, length, IfOk};
+ghost use Rattle.std.specs.Prelude.{◌≡◌, ◌≤◌, ℕ, List, length, IfOk};
 ghost use Rattle.std.specs.List.{AllByRecursion};
 ghost use Rattle.class_codec.specs.Fits.{CanSpell};
-ghost use Rattle.api_listing.specs.Listing.{IsFew};
+ghost use Rattle.api_listing.specs.Listing.{IsFew, SpellsListing};
 ghost use Rattle.mon_base.specs.Answer.{Answers};
 ghost use Rattle.bytecode_model.specs.Heads.{heads_of, is_member, main_name, main_desc};
 ghost use Rattle.bytecode_model.specs.Named.{AreRightOperands};
+ghost use Rattle.bytecode_model.specs.Order.{IsInOrder};
 ghost use Rattle.bytecode_model.specs.Sound.{IsSoundMethod, IsSound};
 ghost use Rattle.bytecode_model.specs.Standing.{IsLinkedOf};
 ghost use Rattle.class_linking.specs.Linking.{if_static, static_main, main_of, each_linked, class_with, classes_with, members_of, linked};
@@ -14,15 +15,14 @@ ghost use Rattle.bytecode_model.specs.Files.{unlinked};
 
 use crate::class_conditions::classes_linked;
 use crate::fault::LinkFault;
-use crate::heights::Heads;
-use crate::laws::{linked_operands_are_right, linked_programs_are_named};
+use crate::laws::{linked_is_in_order, linked_operands_are_right, linked_programs_are_named};
 use crate::methods::methods_linked;
 use api_listing::{ListedClass, Listing};
 use bytecode_model::{
     LinkedClass, Method, Program, Side, class_at, copy_class, has_flag, is_text, text_at,
 };
 use class_codec::{ClassFile, Const, Member};
-use class_index::{Index, heads_of};
+use class_index::{Heads, Index, heads_of};
 use mon_base::{Bytes, List, NoMemory};
 use std::alloc::Global;
 use std::collections::VecDeque;
@@ -47,9 +47,11 @@ pub fn link(
     ensures sound { IfOk result IsSound }
     ensures operands { IfOk result AreRightOperands }
     ensures named { IfOk result (IsLinkedOf side listing main.now) }
+    ensures order { IfOk result (λ program. (text : List ℕ) → SpellsListing text listing → IsInOrder program) }
 {
     linked_operands_are_right();
     linked_programs_are_named();
+    linked_is_in_order();
     linked_program(alloc, files, listing, main, side)
 }
 

@@ -1,7 +1,6 @@
 //! The conditions that each method meets. (The Java Virtual Machine Specification, sections 4.6 and 4.7.3.)
 
 ghost use Rattle.std.specs.Prelude.{◌≡◌, ◌&&◌, ◌≤◌, length, IfOk, IfSome, option_copied, slice_get};
-ghost use Rattle.std.specs.List.{filter_map, AllByRecursion};
 ghost use Rattle.mon_base.specs.Answer.{Answers};
 ghost use Rattle.bytecode_model.specs.Heads.{all_classes};
 ghost use Rattle.bytecode_model.specs.SearchOrder.{search_order};
@@ -9,8 +8,8 @@ ghost use Rattle.class_index.specs.Index.{OverridesAs};
 ghost use Rattle.bytecode_model.specs.Conditions.{code_in, has_good_flags, is_good_initialiser, is_begun_unlocked, describes_method, has_its_code, is_allowed, overrides_in, overrides, id_of};
 
 use api_listing::{FormFault, parse_descriptor};
-use bytecode_model::{copy_text, has_flag, is_text, text_at};
-use class_codec::{Attr, Code, Const, Member};
+use bytecode_model::{copy_text, has_flag, has_its_code, is_text, text_at};
+use class_codec::{Const, Member};
 use class_index::{Index, in_class};
 use mon_base::{Bytes, MethodId, NoMemory};
 use std::alloc::Global;
@@ -68,40 +67,6 @@ fn describes_method(alloc: Global, desc: &[u8]) -> Result<bool, NoMemory>
         Ok(_) => Ok(true),
         Err(FormFault::NoForm) => Ok(false),
         Err(FormFault::Memory) => Err(NoMemory),
-    }
-}
-
-fn has_its_code(member: &Member) -> bool
-    ensures { result ≡ has_its_code member.now }
-{
-    let codes = count_codes(member.attrs.as_slice());
-    if has_flag(member.flags, 1024) {
-        codes == 0
-    } else {
-        codes == 1
-    }
-}
-
-fn count_codes(attrs: &[Attr]) -> usize
-    ensures { result ≡ length (filter_map code_in attrs.now) }
-{
-    let mut count = 0;
-    let mut left = attrs;
-    while let [attr, rest @ ..] = left {
-        if code_in(attr).is_some() {
-            count += 1;
-        }
-        left = rest;
-    }
-    count
-}
-
-fn code_in(attr: &Attr) -> Option<&Code>
-    ensures { option_copied result ≡ code_in attr.now }
-{
-    match attr {
-        Attr::Code(code) => Some(code),
-        Attr::Other(_) => None,
     }
 }
 

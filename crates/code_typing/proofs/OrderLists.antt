@@ -5,7 +5,7 @@ use Rattle.std.proofs.lemmas.Bool.{and_parts}
 use Rattle.cert_format.specs.declared.typing.VType.{VType}
 use Rattle.bytecode_model.specs.declared.program.Program.{Program}
 use Rattle.bytecode_model.specs.Assigning.{assignable}
-use Rattle.type_lattice.specs.Laws.{IsInOrder}
+use Rattle.bytecode_model.specs.Order.{IsInOrder}
 use Rattle.type_lattice.proofs.Orders.{itself, type_over}
 use Rattle.bytecode_model.specs.Makes.{type_at, topmost, below}
 use Rattle.code_typing.specs.Order.{StackBelow, LocalsBelow}

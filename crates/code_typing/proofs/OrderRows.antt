@@ -11,7 +11,7 @@ use Rattle.insn_codec.specs.declared.shape.Shape.TheVariants as shapes
 use Rattle.insn_codec.specs.Shapes.{shape_of}
 use Rattle.bytecode_model.specs.declared.program.Program.{Program}
 use Rattle.bytecode_model.specs.Assigning.{assignable}
-use Rattle.type_lattice.specs.Laws.{IsInOrder}
+use Rattle.bytecode_model.specs.Order.{IsInOrder}
 use Rattle.type_lattice.proofs.Orders.{itself, type_over}
 use Rattle.bytecode_model.specs.Makes.{type_at, changed, yields, stores, local_after, below, stack_after}
 use Rattle.code_typing.specs.Order.{StackBelow, LocalsBelow, IsFrameBelow, IsAloneMet, IsLeftBelow, IsAloneKept, IsLeftKept, GoesKept, FrameIsBelowItself, FramesAreInOrder, is_settled, is_settled_at}

@@ -20,9 +20,9 @@ use Rattle.insn_codec.specs.declared.shape.How.TheVariants as hows
 use Rattle.bytecode_model.specs.declared.program.Program.{Program}
 use Rattle.bytecode_model.specs.Arrays.{is_array}
 use Rattle.bytecode_model.specs.Assigning.{assignable, class_fits, name_fits}
-use Rattle.type_lattice.specs.Laws.{IsInOrder}
+use Rattle.bytecode_model.specs.Order.{IsInOrder}
 use Rattle.type_lattice.proofs.Orders.{type_over, seen, array_equal, array_first}
-use Rattle.type_lattice.proofs.Upwards.{either_of, or_first, or_second}
+use Rattle.bytecode_model.proofs.Upwards.{either_of, or_first, or_second}
 use Rattle.bytecode_model.specs.Described.{arguments, result_type}
 use Rattle.code_typing.specs.Order.{StackBelow}
 use Rattle.bytecode_model.specs.Place.{Place, class_referred, desc_referred, has_receiver, calls_maker, is_own_field}

@@ -15,9 +15,9 @@ use Rattle.insn_codec.specs.Forms.{depth_of, order_of}
 use Rattle.bytecode_model.specs.declared.program.Program.{Program}
 use Rattle.bytecode_model.specs.Arrays.{is_array}
 use Rattle.bytecode_model.specs.Assigning.{assignable, named, class_name, reference_of, class_fits, component_fits, array_fits, name_fits}
-use Rattle.type_lattice.specs.Laws.{IsInOrder}
+use Rattle.bytecode_model.specs.Order.{IsInOrder}
 use Rattle.type_lattice.proofs.Orders.{Leaf, same, classes, itself, seen, array_equal, leaf_seen, at_leaf, named_told, array_told, never_both}
-use Rattle.type_lattice.proofs.Upwards.{either_of, both_of, or_first, or_second}
+use Rattle.bytecode_model.proofs.Upwards.{either_of, both_of, or_first, or_second}
 use Rattle.bytecode_model.specs.Described.{type_described}
 use Rattle.bytecode_model.specs.Makes.{type_at, moved_from, form_yields, item_type, read_type, heap_yields, yields_of}
 use Rattle.code_typing.specs.Order.{StackBelow, LocalsBelow}

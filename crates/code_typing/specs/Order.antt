@@ -9,7 +9,7 @@ use Rattle.insn_codec.specs.declared.shape.Shape.TheVariants as shapes
 use Rattle.insn_codec.specs.Shapes.{shape_of}
 use Rattle.bytecode_model.specs.declared.program.Program.{Program}
 use Rattle.bytecode_model.specs.Assigning.{assignable}
-use Rattle.type_lattice.specs.Laws.{IsInOrder}
+use Rattle.bytecode_model.specs.Order.{IsInOrder}
 use Rattle.bytecode_model.specs.Makes.{type_at, local_after, stack_after}
 use Rattle.bytecode_model.specs.Place.{Place}
 use Rattle.bytecode_model.specs.Rules.{stack_fits, taken, Depth, Operand, Local, Made, has_object, leaves_made, goes_well, local_caught}

@@ -30,7 +30,7 @@ use Rattle.inline_release.specs.Links.{OriginalIsFree, WovenLinks}
 use Rattle.block_template.specs.Woven.{sites_of, woven}
 use Rattle.offset_patch.specs.Splicing.{fronts_of}
 use Rattle.type_infer.specs.Untyped.{IsLeast}
-use Rattle.type_lattice.specs.Laws.{LinkedIsInOrder}
+use Rattle.class_linking.specs.Laws.{LinkedIsInOrder}
 use Rattle.bytecode_model.specs.Named.{AreRightOperands}
 use Rattle.class_linking.specs.Laws.{LinkedOperandsAreRight, LinkedAreNamed}
 use Rattle.cert_maker.specs.Calls.{PolicyTellsArguments}

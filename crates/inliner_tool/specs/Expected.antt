@@ -12,7 +12,7 @@ use Rattle.bytecode_model.specs.Typed.{IsTyped}
 use Rattle.conspec_automaton.specs.declared.policy.Policy.{Policy}
 use Rattle.block_template.specs.declared.woven.Woven.{Woven}
 use Rattle.type_infer.specs.Untyped.{IsUntypedAt, IsLeast}
-use Rattle.type_lattice.specs.Laws.{IsInOrder}
+use Rattle.bytecode_model.specs.Order.{IsInOrder}
 
 -- They link to a program whose classes are in order and which can be typed; with the certificate that is made of its least
 -- types it is accepted.

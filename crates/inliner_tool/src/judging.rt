@@ -20,7 +20,7 @@ ghost use Rattle.inliner_tool.specs.Judging.{
   program_answer,
   show_answer,
 };
-ghost use Rattle.type_lattice.specs.Hierarchy.{EachWayEnds};
+ghost use Rattle.bytecode_model.specs.Order.{EachWayEnds};
 
 use crate::answer::Answer;
 use crate::built::is_built;
@@ -34,7 +34,7 @@ use conspec_automaton::{accept, build, denies_only};
 use conspec_parse::PolicyTree;
 use mon_base::{Bytes, NoMemory};
 use std::alloc::Global;
-use type_lattice::{Indexed, linked_is_in_order};
+use type_lattice::Indexed;
 
 /// The greatest number of bytes that the class files of a command may have in all.
 pub const TOTAL_LIMIT: u64 = 16_777_216;
@@ -55,7 +55,6 @@ pub fn check_answer(alloc: Global, inputs: CheckInputs, main: &Bytes) -> Answer
         certificate,
         classes,
     } = inputs;
-    linked_is_in_order();
     match link(alloc, classes.files, listing, main, Side::Inlined) {
         Ok(program) => indexed_answer(alloc, program, &policy, &certificate),
         Err(fault) => link_answer(fault),

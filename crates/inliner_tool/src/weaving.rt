@@ -39,7 +39,7 @@ ghost use Rattle.block_logic.specs.Accepted.{IsAccepted};
 ghost use Rattle.bytecode_model.specs.Shape.{IsShaped};
 ghost use Rattle.inliner_tool.specs.Expected.{IsExpected};
 ghost use Rattle.type_infer.specs.Untyped.{IsLeast};
-ghost use Rattle.type_lattice.specs.Laws.{IsInOrder};
+ghost use Rattle.bytecode_model.specs.Order.{IsInOrder};
 ghost use Rattle.block_template.specs.Woven.{woven};
 
 use crate::built::is_built_class;
@@ -55,7 +55,9 @@ use cert_checker::{Accepted, check};
 use cert_format::{CertLong, Certificate, Typing};
 use cert_maker::{make, policy_tells_arguments, woven_is_accepted, woven_is_typed};
 use class_codec::ClassFile;
-use class_linking::{LinkFault, link, linked_operands_are_right, linked_programs_are_named};
+use class_linking::{
+    LinkFault, link, linked_is_in_order, linked_operands_are_right, linked_programs_are_named,
+};
 use conspec_automaton::{Policy, build, denies_only};
 use conspec_parse::PolicyTree;
 use inline_release::{inline, original_is_free, woven_files_link};
@@ -64,7 +66,7 @@ use mon_store::Output;
 use offset_patch::SpliceFault;
 use std::alloc::Global;
 use type_infer::{InferFault, infer};
-use type_lattice::{Indexed, linked_is_in_order};
+use type_lattice::Indexed;
 
 /// What is to be written, and what is said of it.
 #[derive(Debug, Drop, PartialEq, Eq)]
@@ -150,7 +152,6 @@ fn linked(
     ensures sound { IfOk result IsSound }
     ensures order { IfOk result IsInOrder }
 {
-    linked_is_in_order();
     match link(alloc, files, listing, main, side) {
         Ok(program) => Ok(Indexed::new(alloc, program)?),
         Err(fault) => Err(link_refusal(fault)),

@@ -10,7 +10,7 @@ use Rattle.insn_codec.specs.Control.{successors, jump_targets}
 use Rattle.bytecode_model.specs.declared.program.Handler.{Handler}
 use Rattle.bytecode_model.specs.declared.program.Method.{Method}
 use Rattle.bytecode_model.specs.declared.program.Program.{Program}
-use Rattle.type_lattice.specs.Laws.{IsInOrder}
+use Rattle.bytecode_model.specs.Order.{IsInOrder}
 use Rattle.code_typing.specs.Order.{IsAloneMet}
 use Rattle.bytecode_model.specs.Place.{Place}
 use Rattle.bytecode_model.specs.Rules.{Frames, frame_of, covers}

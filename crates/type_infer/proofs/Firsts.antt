@@ -9,7 +9,7 @@ use Rattle.bytecode_model.specs.declared.program.LinkedClass.{LinkedClass}
 use Rattle.bytecode_model.specs.declared.program.Method.{Method}
 use Rattle.bytecode_model.specs.declared.program.Program.{Program}
 use Rattle.bytecode_model.specs.Sound.{IsSound, IsSoundClass, IsSoundMethod}
-use Rattle.type_lattice.specs.Laws.{IsInOrder}
+use Rattle.bytecode_model.specs.Order.{IsInOrder}
 use Rattle.code_typing.specs.declared.fault.TypeFault.{TypeFault}
 use Rattle.bytecode_model.specs.Rules.{Frames}
 use Rattle.bytecode_model.specs.Shape.{has_code, coded}

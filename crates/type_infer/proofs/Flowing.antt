@@ -22,7 +22,8 @@ use Rattle.bytecode_model.specs.declared.program.Method.{Method}
 use Rattle.bytecode_model.specs.declared.program.Program.{Program}
 use Rattle.bytecode_model.specs.Classes.{is_below}
 use Rattle.bytecode_model.specs.Assigning.{assignable}
-use Rattle.type_lattice.specs.Laws.{IsInOrder, IsReflexive, IsTransitive, IsThrownAlone}
+use Rattle.bytecode_model.specs.Order.{IsInOrder}
+use Rattle.type_lattice.specs.Laws.{IsReflexive, IsTransitive, IsThrownAlone}
 use Rattle.bytecode_model.specs.Makes.{type_at}
 use Rattle.code_typing.specs.Order.{IsFrameBelow, IsAloneMet, IsAloneKept, IsLeftKept, IsThrownKept, FrameIsBelowItself, FramesAreInOrder, is_settled, is_settled_at, StackBelow}
 use Rattle.bytecode_model.specs.Place.{Place}

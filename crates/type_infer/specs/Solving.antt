@@ -16,7 +16,7 @@ use Rattle.bytecode_model.specs.declared.program.LinkedClass.{LinkedClass}
 use Rattle.bytecode_model.specs.declared.program.Method.{Method}
 use Rattle.bytecode_model.specs.declared.program.Program.{Program}
 use Rattle.bytecode_model.specs.Sound.{IsSoundMethod}
-use Rattle.type_lattice.specs.Laws.{IsInOrder}
+use Rattle.bytecode_model.specs.Order.{IsInOrder}
 use Rattle.bytecode_model.specs.Makes.{type_at, is_same_object, local_after, stack_after}
 use Rattle.code_typing.specs.Order.{StackBelow, LocalsBelow, IsFrameBelow, is_settled}
 use Rattle.bytecode_model.specs.Place.{Place, is_maker}

@@ -9,7 +9,7 @@ ghost use Rattle.type_infer.specs.Fits.{FitFrames, FitsTyping};
 ghost use Rattle.type_infer.specs.Shape.{class_shape};
 ghost use Rattle.type_infer.specs.Solving.{ClassesAreSolved, MethodsAreSolved};
 ghost use Rattle.type_infer.specs.Untyped.{AreMetBefore, CannotBeMetAt, HasPlace, FirstUntyped, IsLeast, IsUntypable};
-ghost use Rattle.type_lattice.specs.Laws.{IsInOrder};
+ghost use Rattle.bytecode_model.specs.Order.{IsInOrder};
 
 use crate::body::Body;
 use crate::failing::first_failing;

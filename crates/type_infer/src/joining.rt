@@ -4,7 +4,7 @@ ghost use Rattle.std.specs.Prelude.{◌≡◌, ◌≤◌, ℕ, true, Some, lengt
 ghost use Rattle.std.specs.Option.{option_or};
 ghost use Rattle.insn_codec.specs.Shapes.{shape_of};
 ghost use Rattle.bytecode_model.specs.Assigning.{assignable};
-ghost use Rattle.type_lattice.specs.Laws.{IsInOrder};
+ghost use Rattle.bytecode_model.specs.Order.{IsInOrder};
 ghost use Rattle.type_lattice.specs.Merging.{merged};
 ghost use Rattle.bytecode_model.specs.Makes.{type_at};
 ghost use Rattle.code_typing.specs.Order.{IsFrameBelow, LocalsBelow};

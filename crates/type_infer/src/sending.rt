@@ -2,7 +2,7 @@
 
 ghost use Rattle.std.specs.Prelude.{◌≡◌, ◌≤◌, ℕ, Some, ◌∷◌, length, option_copied, Contains, IfOk, IsTrue, OnOk};
 ghost use Rattle.insn_codec.specs.Control.{jump_targets, successors};
-ghost use Rattle.type_lattice.specs.Laws.{IsInOrder};
+ghost use Rattle.bytecode_model.specs.Order.{IsInOrder};
 ghost use Rattle.code_typing.specs.Order.{IsAloneMet};
 ghost use Rattle.bytecode_model.specs.Rules.{Frames, covers};
 ghost use Rattle.bytecode_model.specs.declared.program.Handler.{Handler};

@@ -12,13 +12,14 @@ use Rattle.cert_format.specs.declared.typing.VType.TheVariants as types
 use Rattle.bytecode_model.specs.Arrays.{is_array}
 use Rattle.bytecode_model.specs.Assigning.{named, reference_of, class_fits, component_fits, array_fits, name_fits, assignable}
 use Rattle.bytecode_model.specs.Classes.{classes_of, is_below, is_interface}
-use Rattle.type_lattice.specs.Laws.{IsInOrder}
+use Rattle.bytecode_model.specs.Order.{IsInOrder}
 use Rattle.bytecode_model.specs.Arrays.{described, array_of}
 use Rattle.type_lattice.specs.Merging.{leaf_merged, items_merged, arrays_merged, names_merged, merged}
 use Rattle.type_lattice.proofs.Arrays.{class_itself, component_itself, named_described}
-use Rattle.type_lattice.proofs.Climbing.{one_named}
-use Rattle.type_lattice.proofs.Upwards.{both_of, or_first, or_second, none_up}
-use Rattle.type_lattice.proofs.Orders.{top, under, classes, fits, same_of, of_same, leaf_is, at_leaf, never_both, class_apart, itself}
+use Rattle.bytecode_model.proofs.Upwards.{one_named}
+use Rattle.bytecode_model.proofs.Upwards.{both_of, or_first, or_second, none_up}
+use Rattle.type_lattice.proofs.Orders.{top, under, classes, fits, leaf_is, at_leaf, never_both, class_apart, itself}
+use Rattle.bytecode_model.proofs.Upwards.{same_of, of_same}
 
 -- ---- choices
 

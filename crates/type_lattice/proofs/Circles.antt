@@ -5,10 +5,10 @@ use Rattle.std.specs.List.{list_all}
 use Rattle.api_listing.specs.declared.types.ListedClass.{ListedClass}
 use Rattle.api_listing.specs.Nearest.{class_named}
 use Rattle.bytecode_model.specs.Conditions.{stays_within, runs_in_circle}
-use Rattle.type_lattice.specs.Hierarchy.{EachWayEnds}
-use Rattle.type_lattice.proofs.Alone.{ended}
-use Rattle.type_lattice.proofs.Listed.{named_passes}
-use Rattle.type_lattice.proofs.Upwards.{named_so}
+use Rattle.bytecode_model.specs.Order.{EachWayEnds}
+use Rattle.bytecode_model.proofs.Ending.{ended}
+use Rattle.bytecode_model.proofs.Upwards.{named_passes}
+use Rattle.bytecode_model.proofs.Upwards.{named_so}
 
 -- the way up from the class does not run in a circle
 abbrev pub leaves : List ListedClass → ListedClass → Bool

@@ -12,13 +12,14 @@ use Rattle.cert_format.specs.declared.typing.VType.TheVariants as types
 use Rattle.bytecode_model.specs.Arrays.{is_array}
 use Rattle.bytecode_model.specs.Assigning.{named, reference_of, class_fits, component_fits, array_fits, name_fits, assignable}
 use Rattle.bytecode_model.specs.Classes.{classes_of, is_below, is_interface}
-use Rattle.type_lattice.specs.Laws.{IsInOrder}
+use Rattle.bytecode_model.specs.Order.{IsInOrder}
 use Rattle.bytecode_model.specs.Arrays.{described, array_of}
 use Rattle.type_lattice.specs.Merging.{class_above, leaf_merged, items_merged, arrays_merged, names_merged, merged}
 use Rattle.type_lattice.proofs.Arrays.{class_itself, component_itself, named_described}
 use Rattle.type_lattice.proofs.Bounds.{pick, found_one, is_apart, leaf_apart, same_array}
-use Rattle.type_lattice.proofs.Upwards.{none_up, both_of, either_of, or_first, or_second, first_under, one_first}
-use Rattle.type_lattice.proofs.Orders.{Fit, equal, top, interface, under, Leaf, same, classes, seen, fits, of_same, same_of, leaf_is, leaf_seen, at_leaf, never_both, named_apart, named_told, array_told, class_apart, array_equal, array_second, from_array, to_any}
+use Rattle.bytecode_model.proofs.Upwards.{none_up, both_of, either_of, or_first, or_second, first_under, one_first}
+use Rattle.type_lattice.proofs.Orders.{Fit, equal, top, interface, under, Leaf, same, classes, seen, fits, leaf_is, leaf_seen, at_leaf, never_both, named_apart, named_told, array_told, class_apart, array_equal, array_second, from_array, to_any}
+use Rattle.bytecode_model.proofs.Upwards.{of_same, same_of}
 
 module _ (program : Program) (order : IsInOrder program) where
   -- ---- classes

@@ -8,7 +8,8 @@ use Rattle.std.proofs.lemmas.List.{length-map}
 use Rattle.std.proofs.lemmas.Slice.Eq.{bytes_eq-Decides}
 use Rattle.api_listing.specs.declared.types.ListedClass.{ListedClass}
 use Rattle.api_listing.specs.Nearest.{class_named, upwards}
-use Rattle.type_lattice.specs.Hierarchy.{EachWayEnds, is_up, nearest_common, parents_in}
+use Rattle.bytecode_model.specs.Order.{EachWayEnds}
+use Rattle.type_lattice.specs.Hierarchy.{is_up, nearest_common, parents_in}
 use Rattle.bytecode_model.specs.Places.{class_place}
 use Rattle.bytecode_model.specs.SearchOrder.{superclasses}
 use Rattle.type_lattice.specs.Ways.{parent_of, way_up, way, AreParents, has_place, meeting}

@@ -12,9 +12,9 @@ use Rattle.cert_format.specs.declared.typing.VType.TheVariants as types
 use Rattle.bytecode_model.specs.Arrays.{is_array}
 use Rattle.bytecode_model.specs.Assigning.{class_name, named, reference_of, class_fits, leaf_fits, component_fits, array_fits, name_fits, assignable}
 use Rattle.bytecode_model.specs.Classes.{classes_of, is_below, is_interface}
-use Rattle.type_lattice.specs.Laws.{IsInOrder}
+use Rattle.bytecode_model.specs.Order.{IsInOrder}
 use Rattle.type_lattice.proofs.Arrays.{class_itself}
-use Rattle.type_lattice.proofs.Upwards.{either_of, both_of, both_are, or_first, or_second, none_up, up_and_up}
+use Rattle.bytecode_model.proofs.Upwards.{same_of, of_same, either_of, both_of, both_are, or_first, or_second, none_up, up_and_up}
 
 -- ---- itself
 
@@ -49,12 +49,6 @@ false_of false e = refl
 
 not_of : (b : Bool) → b ≡ false → not b ≡ true
 not_of b e = rw e refl
-
-pub same_of : (a b : List ℕ) → bytes_eq a b ≡ true → a ≡ b
-same_of a b e = (bytes_eq-Decides a b).0 e
-
-pub of_same : (a b : List ℕ) → a ≡ b → bytes_eq a b ≡ true
-of_same a b e = (bytes_eq-Decides a b).1 e
 
 pub seen : (program : Program) (from to : List ℕ) → class_fits program from to ≡ true → Fit program from to
 seen program from to e =

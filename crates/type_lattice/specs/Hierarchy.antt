@@ -8,11 +8,8 @@ use Rattle.std.specs.Global.{Global}
 use Rattle.api_listing.specs.declared.types.ListedClass.{ListedClass}
 use Rattle.api_listing.specs.Nearest.{upwards}
 use Rattle.bytecode_model.specs.Places.{class_place}
+use Rattle.bytecode_model.specs.Order.{EachWayEnds}
 use Rattle.bytecode_model.specs.SearchOrder.{superclasses}
-
--- Each way up ends.
-abbrev pub EachWayEnds : List ListedClass → Type 0
-EachWayEnds classes = (name : List ℕ) → upwards (suc (length classes)) classes name ≡ superclasses classes name
 
 -- the class is of this name, or one of its superclasses is
 abbrev pub is_up : List ListedClass → List ℕ → List ℕ → Bool

@@ -7,29 +7,13 @@ use Rattle.api_listing.specs.Nearest.{class_named}
 use Rattle.bytecode_model.specs.declared.program.Program.{Program}
 use Rattle.bytecode_model.specs.declared.program.Side.{Side}
 use Rattle.bytecode_model.specs.Classes.{classes_of, is_below, is_interface}
-use Rattle.class_linking.specs.Linking.{linked}
 use Rattle.class_codec.specs.declared.tree.ClassFile.{ClassFile}
 use Rattle.cert_format.specs.declared.typing.VType.{VType}
 use Rattle.cert_format.specs.declared.typing.VType.TheVariants as types
 use Rattle.bytecode_model.specs.Arrays.{is_array}
 use Rattle.bytecode_model.specs.Assigning.{assignable}
-use Rattle.type_lattice.specs.Hierarchy.{EachWayEnds}
+use Rattle.bytecode_model.specs.Order.{IsInOrder}
 use Rattle.type_lattice.specs.Merging.{merged}
-
--- The classes are in order: each way up ends, Object is at the top, an interface is below nothing else, Throwable is a
--- class, and no class is named as an array.
-pub record IsInOrder (program : Program) : Type 0 where
-  pub ends : EachWayEnds (classes_of program)
-  pub top : (above : List ℕ) → is_below program object above ≡ true → above ≡ object
-  pub interfaces : (name above : List ℕ) → is_interface program name ≡ true → is_below program name above ≡ true → (above ≡ name) ⊎ (above ≡ object)
-  pub thrown : is_interface program throwable ≡ false
-  pub no_arrays : (name : List ℕ) → is_array name ≡ true → class_named (classes_of program) name ≡ None
-
--- The classes of each program that links with a listing that was read are in order.
-abbrev pub LinkedIsInOrder : Type 0
-LinkedIsInOrder =
-    (text : List ℕ) (listing : Listing) (files : List ClassFile) (main : List ℕ) (side : Side) (program : Program)
-    → SpellsListing text listing → linked files listing main side ≡ Ok program → IsInOrder program
 
 abbrev pub IsReflexive : Type 0
 IsReflexive = (program : Program) (t : VType) → assignable program t t ≡ true

@@ -4,7 +4,7 @@ ghost use Rattle.std.specs.Prelude.{◌≡◌, IsTrue, not};
 ghost use Rattle.std.specs.List.{list_all};
 ghost use Rattle.api_listing.specs.declared.types.ListedClass.{ListedClass};
 ghost use Rattle.bytecode_model.specs.Conditions.{runs_in_circle};
-ghost use Rattle.type_lattice.specs.Hierarchy.{EachWayEnds};
+ghost use Rattle.bytecode_model.specs.Order.{EachWayEnds};
 
 use api_listing::{ListedClass, find_class};
 

@@ -5,7 +5,8 @@ ghost use Rattle.std.specs.Prelude.{bytes_eq, if◌then◌else◌, option_copied
 ghost use Rattle.std.specs.Option.{option_map_or, option_or};
 ghost use Rattle.api_listing.specs.declared.types.ListedClass.{ListedClass};
 ghost use Rattle.api_listing.specs.Nearest.{class_named};
-ghost use Rattle.type_lattice.specs.Hierarchy.{ArePlaced, EachWayEnds, is_up, nearest_common, parents_in, place_named};
+ghost use Rattle.type_lattice.specs.Hierarchy.{ArePlaced, is_up, nearest_common, parents_in, place_named};
+ghost use Rattle.bytecode_model.specs.Order.{EachWayEnds};
 ghost use Rattle.bytecode_model.specs.Places.{class_place};
 
 use crate::ways::Ways;

@@ -4,7 +4,7 @@ ghost use Rattle.std.specs.Prelude.{◌≡◌, option_map, option_copied, find, 
 ghost use Rattle.api_listing.specs.declared.types.ListedClass.{ListedClass};
 ghost use Rattle.api_listing.specs.Nearest.{upwards};
 ghost use Rattle.bytecode_model.specs.Classes.{classes_of, is_below, is_interface};
-ghost use Rattle.type_lattice.specs.Hierarchy.{EachWayEnds};
+ghost use Rattle.bytecode_model.specs.Order.{EachWayEnds};
 
 use crate::classes::classes_of;
 use crate::ending::each_way_ends;

@@ -1,19 +1,6 @@
 //! What holds of types in order.
 
-ghost use Rattle.std.specs.Prelude.{◌≡◌};
-ghost use Rattle.type_lattice.specs.Laws.{
-  IsMergeAbove,
-  IsMergeLeast,
-  IsReflexive,
-  IsThrownAlone,
-  IsTransitive,
-  LinkedIsInOrder,
-};
-
-/// The classes of a linked program are in order.
-pub fn linked_is_in_order()
-    ensures { LinkedIsInOrder }
-{}
+ghost use Rattle.type_lattice.specs.Laws.{IsMergeAbove, IsMergeLeast, IsReflexive, IsThrownAlone, IsTransitive};
 
 /// Assignability is an order of the types of a program whose classes are in order.
 pub fn assignable_is_an_order()

@@ -19,7 +19,7 @@ mod ways;
 pub use assigning::{assignable, fits_class, lent_fits};
 pub use hierarchy::Hierarchy;
 pub use indexed::{Indexed, is_below, is_interface};
-pub use laws::{assignable_is_an_order, linked_is_in_order, merge_is_the_least};
+pub use laws::{assignable_is_an_order, merge_is_the_least};
 pub use lending::{TypeRef, lend, own};
 pub use merging::merge;
 

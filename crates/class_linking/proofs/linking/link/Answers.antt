@@ -1,5 +1,6 @@
 use Rattle.class_linking.proofs.LinkedCalls.{known}
 use Rattle.class_linking.proofs.LinkedWhole.{known as whole}
+use Rattle.class_linking.proofs.LinkedOrder.{known as order}
 use Rattle.class_linking.proofs.linking.link.Goals as goal
 
 pub returns-clause-operands : goal.returns-clause-operands
@@ -9,3 +10,7 @@ returns-clause-operands c =
 pub returns-clause-named : goal.returns-clause-named
 returns-clause-named c =
     whole c.args.files c.args.listing c.args.main.now c.args.side c.linked_program.result c.linked_program.ensures.exact c.linked_program.ensures.sound
+
+pub returns-clause-order : goal.returns-clause-order
+returns-clause-order c =
+    order c.args.files c.args.listing c.args.main.now c.args.side c.linked_program.result c.linked_program.ensures.exact

@@ -1,7 +1,7 @@
 use Rattle.std.proofs.Common.{◌≡◌, ◌∙◌, ℕ, true, Option, Some, subst, sym, ap}
 use Rattle.std.specs.Option.{option_copied}
 use Rattle.cert_format.specs.declared.typing.FrameType.{FrameType}
-use Rattle.type_lattice.specs.Laws.{IsInOrder}
+use Rattle.bytecode_model.specs.Order.{IsInOrder}
 use Rattle.bytecode_model.specs.Place.{Place}
 use Rattle.bytecode_model.specs.Rules.{covers, frame_of}
 use Rattle.type_infer.specs.Solving.{State, Grows, IsKept, IsSent, StaysFound, thrown_to, place_of}

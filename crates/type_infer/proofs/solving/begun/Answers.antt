@@ -2,7 +2,7 @@ use Rattle.std.proofs.Common.{◌≡◌, ◌∙◌, ℕ, ◌≤◌, false, [], L
 use Rattle.cert_format.specs.declared.typing.VType.{VType}
 use Rattle.bytecode_model.specs.Makes.{type_at}
 use Rattle.bytecode_model.specs.Rules.{entry_locals}
-use Rattle.type_lattice.specs.Laws.{IsInOrder}
+use Rattle.bytecode_model.specs.Order.{IsInOrder}
 use Rattle.type_infer.specs.Solving.{Scope, State, Holds, IsRaisedBy, begun, place_of, put}
 use Rattle.type_infer.proofs.Flowing.{laws_of, place_is}
 use Rattle.type_infer.proofs.Solutions.{begun_holds, entered, nothing, nothing_holds}

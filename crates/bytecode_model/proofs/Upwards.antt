@@ -1,12 +1,12 @@
 -- Classes below others, one way up after the other.
-use Rattle.std.proofs.Common.{◌≡◌, ℕ, zero, suc, ◌+◌, Bool, true, false, List, [], ◌∷◌, ◌⊎◌, Option, Some, None, refl, sym, ap, subst, ◌∙◌, inl, inr, arith}
+use Rattle.std.specs.List.{list_any, list_all}
+use Rattle.std.proofs.Common.{◌≡◌, ℕ, zero, suc, ◌+◌, Bool, true, false, List, [], ◌∷◌, ◌++◌, ◌⊎◌, Option, Some, None, refl, sym, ap, subst, ◌∙◌, inl, inr, arith}
 use Rattle.std.specs.Prelude.{bytes_eq, find, ◌||◌, ◌&&◌}
 use Rattle.std.specs.Option.{option_map_or}
 use Rattle.std.proofs.lemmas.Bool.{cases_Bool, false≢true}
 use Rattle.std.proofs.lemmas.Slice.Eq.{bytes_eq-Decides}
 use Rattle.api_listing.specs.declared.types.ListedClass.{ListedClass}
 use Rattle.api_listing.specs.Nearest.{class_named, upwards}
-use Rattle.type_lattice.proofs.Climbing.{one_named}
 
 -- ---- tests of tests
 
@@ -30,6 +30,12 @@ or_second false b e = e
 
 -- ---- names
 
+pub same_of : (a b : List ℕ) → bytes_eq a b ≡ true → a ≡ b
+same_of a b e = (bytes_eq-Decides a b).0 e
+
+pub of_same : (a b : List ℕ) → a ≡ b → bytes_eq a b ≡ true
+of_same a b e = (bytes_eq-Decides a b).1 e
+
 pub named_so : (classes : List ListedClass) (name : List ℕ) (c : ListedClass) → class_named classes name ≡ Some c → c.name ≡ name
 named_so [] name c e = absurd cc
 named_so (x ∷ classes) name c e =
@@ -41,7 +47,33 @@ named_so (x ∷ classes) name c e =
       | inr fails ↦ let h : class_named classes name ≡ Some c = rw fails at e in named_so classes name c h
     ]
 
+-- what holds of each holds of the one of the name
+pub named_passes : (test : ListedClass → Bool) (classes : List ListedClass) (name : List ℕ) (c : ListedClass) → list_all test classes ≡ true → class_named classes name ≡ Some c → test c ≡ true
+named_passes test [] name c all e = absurd cc
+named_passes test (x ∷ classes) name c all e =
+    let both = both_of (test x) (list_all test classes) all in
+    elim (cases_Bool (bytes_eq x.name name)) [
+      | inl is ↦
+          let h : ◌≡◌ {A = Option ListedClass} (Some x) (Some c) = rw is at e in
+          let same : x ≡ c = cc in
+          subst (λ (k : ListedClass). test k ≡ true) same both.0
+      | inr fails ↦ let h : class_named classes name ≡ Some c = rw fails at e in named_passes test classes name c both.1 h
+    ]
+
+module _ (ys : List ListedClass) (name : List ℕ) where
+  -- what the front of a list has not
+  pub named_behind : (xs : List ListedClass) → class_named xs name ≡ None → class_named (xs ++ ys) name ≡ class_named ys name
+  named_behind [] e = refl
+  named_behind (x ∷ xs) e =
+      elim (cases_Bool (bytes_eq x.name name)) [
+        | inl is ↦ let h : ◌≡◌ {A = Option ListedClass} (Some x) None = rw is at e in absurd cc
+        | inr fails ↦ let h : class_named xs name ≡ None = rw fails at e in rw fails (named_behind xs h)
+      ]
+
 -- ---- the way up
+
+abbrev pub one_named : List ℕ → List ListedClass → Bool
+one_named above classes = list_any (λ (c : ListedClass). bytes_eq c.name above) classes
 
 module _ (classes : List ListedClass) where
   abbrev pub is_up : ℕ → List ℕ → List ℕ → Bool

@@ -1,6 +1,7 @@
 -- The classes of a program that links with a listing: those of the listing, and then the given ones.
-use Rattle.std.proofs.Common.{◌≡◌, ℕ, zero, suc, ◌+◌, Bool, true, false, not, List, [], ◌∷◌, ◌++◌, ◌⊎◌, length, map, Option, Some, None, Ok, refl, sym, ap, subst, ◌∙◌, inl, inr, append_assoc, arith}
-use Rattle.std.specs.Prelude.{bytes_eq, nat_lt, ok_or, ◌||◌, ◌&&◌}
+use Rattle.std.proofs.Common.{◌≡◌, ℕ, zero, suc, ◌+◌, Bool, true, false, not, List, [], ◌∷◌, ◌++◌, ◌⊎◌, length, map, Option, Some, None, Ok, Err, refl, sym, ap, subst, ◌∙◌, inl, inr, append_assoc, arith}
+use Rattle.mon_base.specs.Answer.{Answers}
+use Rattle.std.specs.Prelude.{IfOk, bytes_eq, nat_lt, ok_or, ◌||◌, ◌&&◌}
 use Rattle.std.specs.List.{list_all}
 use Rattle.std.specs.Option.{option_map_or}
 use Rattle.std.proofs.lemmas.Bool.{cases_Bool, false≢true}
@@ -29,12 +30,14 @@ use Rattle.class_linking.specs.Linking.{members_of, main_of, classes_with, linke
 use Rattle.bytecode_model.specs.Files.{max_files}
 use Rattle.class_linking.proofs.Whole.{files_back}
 use Rattle.bytecode_model.specs.Arrays.{is_array}
-use Rattle.type_lattice.specs.Laws.{IsInOrder}
-use Rattle.type_lattice.proofs.Alone.{ended, unnamed_up}
-use Rattle.type_lattice.proofs.Climbing.{one_named, named_behind}
-use Rattle.type_lattice.proofs.Listed.{array_unnamed, is_proper, named_passes, all_behind, nameless, unknown, EndsIn, ends_later, ends_unnamed, ends_above, front_ends, IsListed, is_listed, founded}
-use Rattle.type_lattice.proofs.Orders.{same_of, false_of}
-use Rattle.type_lattice.proofs.Upwards.{either_of, both_of, both_are, named_so, is_up, up_from}
+use Rattle.bytecode_model.specs.Order.{IsInOrder}
+use Rattle.bytecode_model.proofs.Ending.{ended, unnamed_up}
+use Rattle.bytecode_model.proofs.Upwards.{one_named, named_behind}
+use Rattle.class_linking.proofs.Listed.{array_unnamed, is_proper, all_behind, nameless, unknown, EndsIn, ends_later, ends_unnamed, ends_above, front_ends, IsListed, is_listed, founded}
+use Rattle.bytecode_model.proofs.Upwards.{named_passes}
+use Rattle.bytecode_model.proofs.Upwards.{same_of}
+use Rattle.bytecode_model.proofs.Lists.{not_true}
+use Rattle.bytecode_model.proofs.Upwards.{either_of, both_of, both_are, named_so, is_up, up_from}
 
 -- ---- the given classes
 
@@ -139,7 +142,7 @@ module _ (listed heads : List ListedClass) (founds : founded [] listed ≡ true)
     by : (o : Option ListedClass) → class_named heads name ≡ o → stays_within (suc (length heads)) heads name ≡ false
     by None e = rw e refl
     by (Some c) e =
-        let out : runs_in_circle heads c.name ≡ false = false_of _ (named_passes (goes_up heads) heads name c up e) in
+        let out : runs_in_circle heads c.name ≡ false = not_true _ (named_passes (goes_up heads) heads name c up e) in
         subst (λ (n : List ℕ). stays_within (suc (length heads)) heads n ≡ false) (named_so heads name c e) out
 
   listed_ends : (k : ℕ) (name : List ℕ) → is_known listed name ≡ true → EndsIn all no_name (k + length listed) name
@@ -241,3 +244,9 @@ pub linked_in_order : (text : List ℕ) (listing : Listing) (files : List ClassF
 linked_in_order text listing files main side program spells e =
     let given = is_given files listing main side program e in
     in_order program (subst Ordered (sym given.whole) (ordered files listing program (is_listed text listing spells) given))
+
+-- the same of a call that answers what the files link to
+pub known : (files : List ClassFile) (listing : Listing) (main : List ℕ) (side : Side) (answer : Linked Program) → Answers faults.Memory answer (linked files listing main side)
+    → IfOk answer (λ program. (text : List ℕ) → SpellsListing text listing → IsInOrder program)
+known files listing main side (Ok program) given = λ text spells. linked_in_order text listing files main side program spells given
+known files listing main side (Err fault) given = tt

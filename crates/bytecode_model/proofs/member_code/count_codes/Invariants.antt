@@ -1,7 +1,7 @@
 use Rattle.std.proofs.Common.{◌≡◌, ◌≤◌, ◌+◌, length}
 use Rattle.std.specs.List.{filter_map}
 use Rattle.bytecode_model.specs.Conditions.{code_in}
-use Rattle.class_linking.proofs.method_conditions.count_codes.Given as goal
+use Rattle.bytecode_model.proofs.member_code.count_codes.Given as goal
 
 abbrev pub invariant-loop-left : goal.invariant-loop-left
 invariant-loop-left l = record {

@@ -1,7 +1,7 @@
 use Rattle.std.proofs.Common.{◌≡◌, ℕ, ◌+◌, ap, sym, arith}
 use Rattle.bytecode_model.specs.Conditions.{stays_within}
-use Rattle.class_linking.proofs.Leaving.{gone_up, leaves_known, sum_leaves}
-use Rattle.class_linking.proofs.heights.height_of.Goals as goal
+use Rattle.class_index.proofs.Leaving.{gone_up, leaves_known, sum_leaves}
+use Rattle.class_index.proofs.heights.height_of.Goals as goal
 
 pub loop-steps-init : goal.loop-steps-init
 loop-steps-init c m =

@@ -16,10 +16,10 @@ use Rattle.api_listing.specs.Nearest.{class_named}
 use Rattle.api_listing.specs.Words.{pieces, is_segment, is_class_name}
 use Rattle.bytecode_model.specs.Conditions.{stays_within}
 use Rattle.bytecode_model.specs.Arrays.{is_array}
-use Rattle.type_lattice.proofs.Alone.{stays_less}
-use Rattle.type_lattice.proofs.Climbing.{named_behind}
-use Rattle.type_lattice.proofs.Orders.{same_of, of_same}
-use Rattle.type_lattice.proofs.Upwards.{either_of, both_of, both_are, or_first, or_second, named_so}
+use Rattle.bytecode_model.proofs.Ending.{stays_less}
+use Rattle.bytecode_model.proofs.Upwards.{named_behind, named_passes}
+use Rattle.bytecode_model.proofs.Upwards.{same_of, of_same}
+use Rattle.bytecode_model.proofs.Upwards.{either_of, both_of, both_are, or_first, or_second, named_so}
 
 -- ---- names
 
@@ -37,19 +37,6 @@ array_unnamed (c ∷ rest) e = rw (eqb-true c 91 e) (first_letter (pieces 47 res
 -- a class has the name of one, and an interface is below Object
 abbrev pub is_proper : ListedClass → Bool
 is_proper c = is_class_name c.name && (not c.is_interface || bytes_eq c.parent object)
-
--- what holds of each holds of the one of the name
-pub named_passes : (test : ListedClass → Bool) (classes : List ListedClass) (name : List ℕ) (c : ListedClass) → list_all test classes ≡ true → class_named classes name ≡ Some c → test c ≡ true
-named_passes test [] name c all e = absurd cc
-named_passes test (x ∷ classes) name c all e =
-    let both = both_of (test x) (list_all test classes) all in
-    elim (cases_Bool (bytes_eq x.name name)) [
-      | inl is ↦
-          let h : ◌≡◌ {A = Option ListedClass} (Some x) (Some c) = rw is at e in
-          let same : x ≡ c = cc in
-          subst (λ (k : ListedClass). test k ≡ true) same both.0
-      | inr fails ↦ let h : class_named classes name ≡ Some c = rw fails at e in named_passes test classes name c both.1 h
-    ]
 
 pub all_behind : (test : ListedClass → Bool) (xs ys : List ListedClass) → list_all test xs ≡ true → list_all test ys ≡ true → list_all test (xs ++ ys) ≡ true
 all_behind test [] ys e f = f

@@ -1,6 +1,6 @@
 use Rattle.std.proofs.Common.{◌≡◌, ◌+◌, sym, arith}
-use Rattle.class_linking.proofs.Leaving.{leaves_sooner, with_height}
-use Rattle.class_linking.proofs.heights.add_heights.Goals as goal
+use Rattle.class_index.proofs.Leaving.{leaves_sooner, with_height}
+use Rattle.class_index.proofs.heights.add_heights.Goals as goal
 
 pub loop-preserved : goal.loop-preserved
 loop-preserved c =

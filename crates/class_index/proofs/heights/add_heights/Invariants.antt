@@ -1,5 +1,5 @@
-use Rattle.class_linking.specs.Heights.{AreHeights, LeavesAfter}
-use Rattle.class_linking.proofs.heights.add_heights.Given as goal
+use Rattle.class_index.specs.Heights.{AreHeights, LeavesAfter}
+use Rattle.class_index.proofs.heights.add_heights.Given as goal
 
 abbrev pub invariant-loop : goal.invariant-loop
 invariant-loop l = record {

@@ -1,7 +1,7 @@
 use Rattle.std.proofs.Common.{◌≡◌, ◌+◌, Some, length, sym, arith}
 use Rattle.api_listing.specs.Nearest.{class_named}
 use Rattle.bytecode_model.proofs.Staying.{stays_some}
-use Rattle.class_linking.proofs.heights.runs_in_circle.Goals as goal
+use Rattle.class_index.proofs.heights.runs_in_circle.Goals as goal
 
 pub loop-preserved : goal.loop-preserved
 loop-preserved c =

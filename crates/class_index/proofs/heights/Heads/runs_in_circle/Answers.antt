@@ -1,8 +1,8 @@
 use Rattle.std.proofs.Common.{◌∙◌, ap, sym}
 use Rattle.std.specs.Prelude.{nat_lt}
 use Rattle.bytecode_model.specs.Conditions.{runs_in_circle}
-use Rattle.class_linking.proofs.Leaving.{circle_is}
-use Rattle.class_linking.proofs.heights.Heads.runs_in_circle.Goals as goal
+use Rattle.class_index.proofs.Leaving.{circle_is}
+use Rattle.class_index.proofs.heights.Heads.runs_in_circle.Goals as goal
 
 pub returns-in-Some : goal.returns-in-Some
 returns-in-Some c =

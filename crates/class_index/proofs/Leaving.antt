@@ -9,7 +9,7 @@ use Rattle.api_listing.specs.declared.types.ListedClass.{ListedClass}
 use Rattle.api_listing.specs.Nearest.{class_named}
 use Rattle.bytecode_model.specs.Conditions.{stays_within, runs_in_circle}
 use Rattle.bytecode_model.specs.Places.{place_in}
-use Rattle.class_linking.specs.Heights.{LeavesAfter, AreHeights}
+use Rattle.class_index.specs.Heights.{LeavesAfter, AreHeights}
 use Rattle.bytecode_model.proofs.Lists.{some_is}
 use Rattle.bytecode_model.proofs.Placing.{test_cases, same_name}
 

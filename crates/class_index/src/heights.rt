@@ -4,10 +4,11 @@ ghost use Rattle.std.specs.Prelude.{◌≡◌, ◌≤◌, ◌<◌, ◌+◌, ℕ,
 ghost use Rattle.api_listing.specs.Listing.{is_known};
 ghost use Rattle.api_listing.specs.Nearest.{class_named};
 ghost use Rattle.bytecode_model.specs.Conditions.{runs_in_circle};
-ghost use Rattle.class_linking.specs.Heights.{AreHeights, LeavesAfter};
+ghost use Rattle.class_index.specs.Heights.{AreHeights, LeavesAfter};
 
+use crate::classes::Classes;
+use crate::places::add_place;
 use api_listing::ListedClass;
-use class_index::{Classes, add_place};
 use mon_base::{Bytes, List, NoMemory};
 use std::alloc::Global;
 use std::collections::BTreeMap;
@@ -23,7 +24,7 @@ pub struct Heads {
 impl Model for Heads {
     ghost use Rattle.std.specs.Prelude.{List};
     ghost use Rattle.api_listing.specs.declared.types.ListedClass.{ListedClass};
-    ghost use Rattle.class_linking.specs.Heights.{AreHeights};
+    ghost use Rattle.class_index.specs.Heights.{AreHeights};
 
     ghost Value = { List ListedClass };
 
