@@ -30,7 +30,7 @@ use cert_checker::{CheckFault, check};
 use cert_format::Certificate;
 use class_text::{ShowFault, show};
 use conspec_automaton::{accept, build, denies_only};
-use conspec_parse::PolicyTree;
+use conspec_tree::PolicyTree;
 use mon_base::{Bytes, NoMemory};
 use std::alloc::Global;
 use type_lattice::{Indexed, linked_is_in_order};

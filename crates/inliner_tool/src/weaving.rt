@@ -55,7 +55,8 @@ use cert_format::{CertLong, Certificate, Typing};
 use cert_maker::{make, policy_tells_arguments, woven_is_accepted, woven_is_typed};
 use class_codec::ClassFile;
 use conspec_automaton::{Policy, build, denies_only};
-use conspec_parse::PolicyTree;
+use conspec_parse::kinds_are_told;
+use conspec_tree::PolicyTree;
 use inline_release::{inline, original_is_free, woven_files_link};
 use mon_base::{Bytes, List, NoMemory};
 use mon_store::Output;
@@ -94,6 +95,7 @@ pub fn plan(alloc: Global, inputs: InlineInputs, words: &InlineWords) -> Result<
     original_is_free();
     linked_is_in_order();
     linked_operands_are_right();
+    kinds_are_told();
     policy_tells_arguments();
     woven_is_typed();
     woven_is_accepted();
