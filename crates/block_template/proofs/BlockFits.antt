@@ -8,8 +8,8 @@ use Rattle.insn_codec.specs.declared.opcode.Operands.TheVariants as ops
 use Rattle.insn_codec.specs.Opcodes.{opcode_at, operands_of}
 use Rattle.mon_base.specs.Widths.{IsU1}
 use Rattle.insn_codec.specs.Fits.{FitsSlot}
-use Rattle.conspec_parse.specs.declared.types.Kind.{Kind}
-use Rattle.conspec_parse.specs.declared.types.Kind.TheVariants as kinds
+use Rattle.conspec_tree.specs.declared.types.Kind.{Kind}
+use Rattle.conspec_tree.specs.declared.types.Kind.TheVariants as kinds
 use Rattle.offset_patch.specs.declared.block.BlockInsn.{BlockInsn}
 use Rattle.offset_patch.specs.declared.block.BlockInsn.TheVariants.{Plain, Local, Call}
 use Rattle.offset_patch.specs.Fits.{IsBlockInsn, JumpsWithin, calls_in, IsBlock, IsSite}

@@ -5,7 +5,7 @@ use Rattle.std.specs.List.{AllByRecursion, list_all}
 use Rattle.std.proofs.lemmas.Bool.Decides.{nat_tests}
 use Rattle.class_codec.specs.Pool.{names}
 use Rattle.class_codec.specs.Fits.{IsTextByte, FitsConst, HasSeconds, IsNamed, CanSpell}
-use Rattle.conspec_parse.specs.declared.types.Var.{Var}
+use Rattle.conspec_tree.specs.declared.types.Var.{Var}
 use Rattle.offset_patch.specs.Entries.{state_name}
 use Rattle.block_template.specs.State.{head, state_file}
 

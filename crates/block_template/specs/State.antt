@@ -7,7 +7,7 @@ use Rattle.class_codec.specs.declared.tree.ClassFile.{ClassFile}
 use Rattle.class_codec.specs.declared.tree.Const.{Const}
 use Rattle.class_codec.specs.declared.tree.Const.TheVariants.{Utf8, Integer, Class, Second}
 use Rattle.class_codec.specs.declared.tree.Member.{Member}
-use Rattle.conspec_parse.specs.declared.types.Var.{Var}
+use Rattle.conspec_tree.specs.declared.types.Var.{Var}
 use Rattle.conspec_automaton.specs.declared.policy.Policy.{Policy}
 use Rattle.offset_patch.specs.Entries.{state_name}
 

@@ -5,7 +5,7 @@ ghost use Rattle.std.specs.List.{AllByRecursion};
 ghost use Rattle.offset_patch.specs.Fits.{IsBlock, IsBlockInsn};
 ghost use Rattle.block_template.specs.Blocks.{local, store, load, loads, save, lock, stop, unlock, denial};
 
-use conspec_parse::Kind;
+use conspec_tree::Kind;
 use mon_base::{List, NoMemory};
 use offset_patch::{Block, BlockInsn, PoolWant};
 use std::alloc::Global;

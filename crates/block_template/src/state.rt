@@ -11,7 +11,7 @@ ghost use Rattle.block_template.specs.State.{type_at, field, fields_from, state_
 use byteorder::{BigEndian, ByteOrder};
 use class_codec::{Attr, ClassFile, Const, Member, Other};
 use conspec_automaton::Policy;
-use conspec_parse::Var;
+use conspec_tree::Var;
 use mon_base::{Bytes, List, NoMemory, push_count};
 use std::alloc::Global;
 

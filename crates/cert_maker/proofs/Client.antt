@@ -20,7 +20,7 @@ use Rattle.bytecode_model.specs.declared.program.Program.{Program}
 use Rattle.bytecode_model.specs.declared.program.Target.{Target}
 use Rattle.bytecode_model.specs.Classes.{is_below}
 use Rattle.bytecode_model.specs.Sound.{IsWithin}
-use Rattle.conspec_parse.specs.declared.types.Kind.{Kind}
+use Rattle.conspec_tree.specs.declared.types.Kind.{Kind}
 use Rattle.conspec_automaton.specs.declared.policy.Policy.{Policy}
 use Rattle.bytecode_model.specs.Makes.{stack_after}
 use Rattle.bytecode_model.specs.Place.{Place, target_or_none}

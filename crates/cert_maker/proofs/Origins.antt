@@ -6,8 +6,8 @@ use Rattle.std.proofs.lemmas.List.{length-map}
 use Rattle.std.proofs.lemmas.List.FromFn.{length-enumerate_from}
 use Rattle.std.proofs.lemmas.Option.{slice_get_within}
 use Rattle.bytecode_model.specs.declared.program.Target.{Target}
-use Rattle.conspec_parse.specs.declared.types.Kind.{Kind}
-use Rattle.conspec_parse.specs.declared.types.Kind.TheVariants as kinds
+use Rattle.conspec_tree.specs.declared.types.Kind.{Kind}
+use Rattle.conspec_tree.specs.declared.types.Kind.TheVariants as kinds
 use Rattle.conspec_automaton.specs.declared.policy.Policy.{Policy}
 use Rattle.offset_patch.specs.declared.block.BlockInsn.{BlockInsn}
 use Rattle.offset_patch.specs.declared.block.BlockInsn.TheVariants.{Plain, Local}

@@ -24,7 +24,7 @@ use Rattle.bytecode_model.specs.Shape.{has_code, coded, program_shape, shape_of,
 use Rattle.bytecode_model.specs.Typed.{IsTyped, row_in, row_of_method, row_fault, list_at, frames_in, frames_told}
 use Rattle.block_template.specs.Outcome.{Each, IsWovenMethod, IsWovenClass, IsState, IsWoven, refs_woven}
 use Rattle.bytecode_model.specs.Named.{IsRightOperand, AreRightOperands}
-use Rattle.conspec_parse.specs.declared.types.Kind.{Kind}
+use Rattle.conspec_tree.specs.declared.types.Kind.{Kind}
 use Rattle.block_template.specs.Woven.{sites_of}
 use Rattle.offset_patch.specs.Splicing.{fronts_of}
 use Rattle.cert_maker.specs.Framing.{TellsArguments, arguments_of, moved_in, part_framed, low, frames_woven}

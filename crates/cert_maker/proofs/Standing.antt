@@ -26,7 +26,7 @@ use Rattle.cert_format.specs.declared.note.Phase8.TheVariants.{Before}
 use Rattle.cert_format.specs.declared.note.Site.{Site}
 use Rattle.cert_format.specs.declared.typing.FrameType.{FrameType}
 use Rattle.bytecode_model.specs.Rules.{frame_of}
-use Rattle.conspec_parse.specs.declared.types.Kind.{Kind}
+use Rattle.conspec_tree.specs.declared.types.Kind.{Kind}
 use Rattle.conspec_automaton.specs.declared.policy.Clause.{Clause}
 use Rattle.conspec_automaton.specs.declared.policy.Policy.{Policy}
 use Rattle.conspec_automaton.specs.Next.{has_clauses}

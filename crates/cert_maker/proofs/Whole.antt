@@ -10,7 +10,7 @@ use Rattle.bytecode_model.specs.declared.program.LinkedClass.{LinkedClass}
 use Rattle.bytecode_model.specs.declared.program.Method.{Method}
 use Rattle.bytecode_model.specs.declared.program.Program.{Program}
 use Rattle.bytecode_model.specs.declared.program.Target.{Target}
-use Rattle.conspec_parse.specs.declared.types.Kind.{Kind}
+use Rattle.conspec_tree.specs.declared.types.Kind.{Kind}
 use Rattle.conspec_automaton.specs.declared.policy.Policy.{Policy}
 use Rattle.bytecode_model.specs.Makes.{type_at}
 use Rattle.bytecode_model.specs.Rules.{Frames, frame_of, locals_fit, entry_locals, row_failing}

@@ -10,7 +10,7 @@ use Rattle.cert_format.specs.declared.typing.Typing.{Typing}
 use Rattle.bytecode_model.specs.Shape.{IsShaped}
 use Rattle.bytecode_model.specs.Typed.{IsTyped, reached}
 use Rattle.conspec_automaton.specs.declared.policy.Policy.{Policy}
-use Rattle.conspec_parse.specs.declared.types.Kind.{Kind}
+use Rattle.conspec_tree.specs.declared.types.Kind.{Kind}
 use Rattle.block_template.specs.declared.woven.Woven.{Woven}
 use Rattle.block_template.specs.Outcome.{IsFreeOfState, IsWoven}
 use Rattle.block_template.specs.Woven.{sites_of, woven}

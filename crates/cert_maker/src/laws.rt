@@ -1,10 +1,10 @@
-//! What holds of policies that were read, of what is woven, and of certificates that are made.
+//! What holds of policies, of what is woven, and of certificates that are made.
 
 ghost use Rattle.cert_maker.specs.Accepting.{WovenIsAccepted};
 ghost use Rattle.cert_maker.specs.Calls.{PolicyTellsArguments};
 ghost use Rattle.cert_maker.specs.WovenTyping.{WovenIsTyped};
 
-/// A policy that was read tells of each of its methods the kinds of the arguments that its descriptor tells.
+/// Where a policy tells the kinds of the arguments of its methods, it tells those of each call that has a clause.
 pub fn policy_tells_arguments()
     ensures tells { PolicyTellsArguments }
 {}

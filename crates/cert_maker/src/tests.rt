@@ -5,7 +5,7 @@ use bytecode_model::{Handlers, LinkedClass, Method, Origin, Target};
 use cert_format::{Certificate, FrameType, Mode, Note, Phase8, Site, Typing};
 use class_codec::ClassFile;
 use conspec_automaton::{Clause, Policy};
-use conspec_parse::{Kind, Phase};
+use conspec_tree::{Kind, Phase};
 use insn_codec::Insn;
 use mon_base::{Bytes, List, NoMemory};
 use std::alloc::Global;

@@ -5,16 +5,16 @@ use Rattle.std.specs.List.{AllByRecursion, flat_map}
 use Rattle.std.proofs.lemmas.Int.{ints}
 use Rattle.std.proofs.lemmas.Option.{slice_get_within}
 use Rattle.api_listing.specs.declared.types.Listing.{Listing}
-use Rattle.conspec_parse.specs.declared.types.Atom.{Atom}
-use Rattle.conspec_parse.specs.declared.types.Guard.{Guard}
-use Rattle.conspec_parse.specs.declared.types.PolicyTree.{PolicyTree}
-use Rattle.conspec_parse.specs.declared.types.TreeClause.{TreeClause}
-use Rattle.conspec_parse.specs.declared.types.Update.{Update}
-use Rattle.conspec_parse.specs.declared.types.Update.TheVariants.{Set, Add}
-use Rattle.conspec_parse.specs.declared.types.Var.{Var}
-use Rattle.conspec_parse.specs.Clauses.{branches}
-use Rattle.conspec_parse.specs.Tree.{Askable, AreAtoms, Differ as TreesDiffer, IsBase, IsClauseIn as IsTreeClauseIn, IsGuardIn, IsPolicyTree, IsUpdateIn, asked}
-use Rattle.conspec_parse.specs.Updates.{all_range_atoms, range_atoms as count_of}
+use Rattle.conspec_tree.specs.declared.types.Atom.{Atom}
+use Rattle.conspec_tree.specs.declared.types.Guard.{Guard}
+use Rattle.conspec_tree.specs.declared.types.PolicyTree.{PolicyTree}
+use Rattle.conspec_tree.specs.declared.types.TreeClause.{TreeClause}
+use Rattle.conspec_tree.specs.declared.types.Update.{Update}
+use Rattle.conspec_tree.specs.declared.types.Update.TheVariants.{Set, Add}
+use Rattle.conspec_tree.specs.declared.types.Var.{Var}
+use Rattle.conspec_tree.specs.Guards.{branches}
+use Rattle.conspec_tree.specs.Tree.{Askable, AreAtoms, Differ as TreesDiffer, IsBase, IsClauseIn as IsTreeClauseIn, IsGuardIn, IsPolicyTree, IsUpdateIn, asked}
+use Rattle.conspec_tree.specs.Updates.{all_range_atoms, range_atoms as count_of}
 use Rattle.conspec_automaton.specs.declared.policy.Clause.{Clause}
 use Rattle.conspec_automaton.specs.Building.{branch_of, branches_of, built, clause_built, guard_branches, range_atoms}
 use Rattle.conspec_automaton.specs.Sound.{Differ, IsBranchIn, IsClauseIn, IsPolicy, NamesMethods}

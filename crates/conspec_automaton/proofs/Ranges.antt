@@ -9,13 +9,13 @@ use Rattle.std.proofs.lemmas.Int.{ints, int_wrap_fits, wrapping_sub_is, wrapping
 use Rattle.std.proofs.lemmas.List.{take_all}
 use Rattle.std.proofs.lemmas.Option.{slice_get_within}
 use Rattle.api_listing.specs.declared.events.Event.{Event}
-use Rattle.conspec_parse.specs.declared.types.Atom.{Atom}
-use Rattle.conspec_parse.specs.declared.types.Rel.TheVariants.{Le, Ge}
-use Rattle.conspec_parse.specs.declared.types.Update.{Update}
-use Rattle.conspec_parse.specs.declared.types.Update.TheVariants.{Set, Add}
-use Rattle.conspec_parse.specs.declared.types.Var.{Var}
-use Rattle.conspec_parse.specs.Tree.{Askable, greatest, IsInRange, IsUpdateIn}
-use Rattle.conspec_parse.specs.Updates.{target}
+use Rattle.conspec_tree.specs.declared.types.Atom.{Atom}
+use Rattle.conspec_tree.specs.declared.types.Rel.TheVariants.{Le, Ge}
+use Rattle.conspec_tree.specs.declared.types.Update.{Update}
+use Rattle.conspec_tree.specs.declared.types.Update.TheVariants.{Set, Add}
+use Rattle.conspec_tree.specs.declared.types.Var.{Var}
+use Rattle.conspec_tree.specs.Tree.{Askable, greatest, IsInRange, IsUpdateIn}
+use Rattle.conspec_tree.specs.Updates.{target}
 use Rattle.conspec_automaton.specs.declared.policy.Branch.{Branch}
 use Rattle.conspec_automaton.specs.declared.policy.Clause.{Clause}
 use Rattle.conspec_automaton.specs.declared.policy.Policy.{Policy}

@@ -2,15 +2,15 @@
 use Rattle.std.specs.Prelude.{ℕ, ℤ, pos, ◌++◌, int_lt, if◌then◌else◌, List, [], ◌∷◌, map}
 use Rattle.std.specs.Int.{w32, int_wrapping_sub, int_wrapping_neg}
 use Rattle.std.specs.List.{flat_map}
-use Rattle.conspec_parse.specs.declared.types.Atom.{Atom}
-use Rattle.conspec_parse.specs.declared.types.Base.TheVariants as bases
-use Rattle.conspec_parse.specs.declared.types.Guard.{Guard}
-use Rattle.conspec_parse.specs.declared.types.PolicyTree.{PolicyTree}
-use Rattle.conspec_parse.specs.declared.types.Rel.{Rel}
-use Rattle.conspec_parse.specs.declared.types.Rel.TheVariants.{Le, Ge}
-use Rattle.conspec_parse.specs.declared.types.TreeClause.{TreeClause}
-use Rattle.conspec_parse.specs.declared.types.Update.{Update}
-use Rattle.conspec_parse.specs.declared.types.Update.TheVariants.{Set, Add}
+use Rattle.conspec_tree.specs.declared.types.Atom.{Atom}
+use Rattle.conspec_tree.specs.declared.types.Base.TheVariants as bases
+use Rattle.conspec_tree.specs.declared.types.Guard.{Guard}
+use Rattle.conspec_tree.specs.declared.types.PolicyTree.{PolicyTree}
+use Rattle.conspec_tree.specs.declared.types.Rel.{Rel}
+use Rattle.conspec_tree.specs.declared.types.Rel.TheVariants.{Le, Ge}
+use Rattle.conspec_tree.specs.declared.types.TreeClause.{TreeClause}
+use Rattle.conspec_tree.specs.declared.types.Update.{Update}
+use Rattle.conspec_tree.specs.declared.types.Update.TheVariants.{Set, Add}
 use Rattle.conspec_automaton.specs.declared.policy.Branch.{Branch}
 use Rattle.conspec_automaton.specs.declared.policy.Clause.{Clause}
 use Rattle.conspec_automaton.specs.declared.policy.Policy.{Policy}

@@ -7,16 +7,16 @@ use Rattle.api_listing.specs.declared.events.ApiValue.{ApiValue}
 use Rattle.api_listing.specs.declared.events.ApiValue.TheVariants as api
 use Rattle.api_listing.specs.declared.events.Event.{Event}
 use Rattle.api_listing.specs.declared.events.Event.TheVariants as events
-use Rattle.conspec_parse.specs.declared.types.Atom.{Atom}
-use Rattle.conspec_parse.specs.declared.types.Base.{Base}
-use Rattle.conspec_parse.specs.declared.types.Base.TheVariants as bases
-use Rattle.conspec_parse.specs.declared.types.Phase.{Phase}
-use Rattle.conspec_parse.specs.declared.types.Phase.TheVariants.{Before, After, Exceptional}
-use Rattle.conspec_parse.specs.declared.types.Rel.{Rel}
-use Rattle.conspec_parse.specs.declared.types.Rel.TheVariants as relations
-use Rattle.conspec_parse.specs.declared.types.Update.{Update}
-use Rattle.conspec_parse.specs.declared.types.Update.TheVariants.{Set, Add}
-use Rattle.conspec_parse.specs.declared.types.Var.{Var}
+use Rattle.conspec_tree.specs.declared.types.Atom.{Atom}
+use Rattle.conspec_tree.specs.declared.types.Base.{Base}
+use Rattle.conspec_tree.specs.declared.types.Base.TheVariants as bases
+use Rattle.conspec_tree.specs.declared.types.Phase.{Phase}
+use Rattle.conspec_tree.specs.declared.types.Phase.TheVariants.{Before, After, Exceptional}
+use Rattle.conspec_tree.specs.declared.types.Rel.{Rel}
+use Rattle.conspec_tree.specs.declared.types.Rel.TheVariants as relations
+use Rattle.conspec_tree.specs.declared.types.Update.{Update}
+use Rattle.conspec_tree.specs.declared.types.Update.TheVariants.{Set, Add}
+use Rattle.conspec_tree.specs.declared.types.Var.{Var}
 use Rattle.conspec_automaton.specs.declared.policy.Branch.{Branch}
 use Rattle.conspec_automaton.specs.declared.policy.Clause.{Clause}
 use Rattle.conspec_automaton.specs.declared.policy.Policy.{Policy}

@@ -1,12 +1,10 @@
 -- What is true of every automaton that is built: its limits and ranges, and that what its parts name is there, and is a number.
 use Rattle.std.specs.Prelude.{◌≡◌, ◌≢◌, ℕ, ◌<◌, ◌≤◌, ℤ, pos, ◌≤ℤ◌, List, length, AllPairs}
 use Rattle.std.specs.List.{AllByRecursion}
-use Rattle.conspec_parse.specs.declared.types.Atom.{Atom}
-use Rattle.conspec_parse.specs.declared.types.Var.{Var}
-use Rattle.api_listing.specs.declared.types.Listing.{Listing}
-use Rattle.conspec_parse.specs.declared.types.PolicyTree.{PolicyTree}
-use Rattle.conspec_parse.specs.Tree.{Askable, IsInRange, IsPolicyTree, AreAtoms, IsUpdateIn, asked}
-use Rattle.conspec_parse.specs.Updates.{target}
+use Rattle.conspec_tree.specs.declared.types.Atom.{Atom}
+use Rattle.conspec_tree.specs.declared.types.Var.{Var}
+use Rattle.conspec_tree.specs.Tree.{Askable, IsInRange, AreAtoms, IsUpdateIn, asked}
+use Rattle.conspec_tree.specs.Updates.{target}
 use Rattle.conspec_automaton.specs.declared.policy.Branch.{Branch}
 use Rattle.conspec_automaton.specs.declared.policy.Clause.{Clause}
 use Rattle.conspec_automaton.specs.declared.policy.Policy.{Policy}
@@ -43,8 +41,3 @@ pub record IsPolicy (policy : Policy) : Type 0 where
 -- The clauses are for methods of a listing that has so many.
 abbrev pub NamesMethods : ℕ → Policy → Type 0
 NamesMethods methods policy = AllByRecursion (λ (c : Clause). c.method < methods) policy.clauses
-
--- The tree was read over some listing.
-pub record IsOfListing (tree : PolicyTree) : Type 0 where
-  pub listing : Listing
-  pub sound : IsPolicyTree listing tree

@@ -22,7 +22,7 @@ ghost use Rattle.conspec_automaton.specs.Obeys.{is_return};
 use crate::policy::{Branch, Clause, Policy};
 use crate::state::State;
 use api_listing::{ApiValue, Event};
-use conspec_parse::{Atom, Base, Phase, Rel};
+use conspec_tree::{Atom, Base, Phase, Rel};
 
 /// The clause that speaks of the event.
 pub fn clause_of<'a>(policy: &'a Policy, event: &Event) -> Option<&'a Clause>

@@ -13,12 +13,12 @@ ghost use Rattle.conspec_automaton.specs.Building.{
   range_atoms,
 };
 ghost use Rattle.conspec_automaton.specs.Sound.{IsPolicy, NamesMethods};
-ghost use Rattle.conspec_parse.specs.Tree.{IsPolicyTree};
+ghost use Rattle.conspec_tree.specs.Tree.{IsPolicyTree};
 ghost use Rattle.api_listing.specs.declared.types.Listing.{Listing};
 ghost use Rattle.conspec_automaton.specs.Denying.{DeniesOnly, denies_only, is_denial};
 
 use crate::policy::{Branch, Clause, Policy};
-use conspec_parse::{Atom, Base, Guard, Phase, PolicyTree, Rel, TreeClause, Update, Var};
+use conspec_tree::{Atom, Base, Guard, Phase, PolicyTree, Rel, TreeClause, Update, Var};
 use mon_base::{List, NoMemory};
 use std::alloc::Global;
 

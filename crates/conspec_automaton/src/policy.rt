@@ -3,7 +3,7 @@
 ghost use Rattle.std.specs.Prelude.{◌≡◌};
 ghost use Rattle.conspec_automaton.specs.Next.{has_clauses};
 
-use conspec_parse::{Atom, Kind, Phase, Update, Var};
+use conspec_tree::{Atom, Kind, Phase, Update, Var};
 use mon_base::List;
 
 /// What is done where all atoms hold.

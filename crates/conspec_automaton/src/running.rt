@@ -2,7 +2,7 @@
 
 ghost use Rattle.std.specs.Prelude.{◌≡◌, ◌<◌, length, IsTrue, MatchBool, Some, None, List, false};
 ghost use Rattle.api_listing.specs.declared.events.Event.{Event};
-ghost use Rattle.conspec_parse.specs.Updates.{target};
+ghost use Rattle.conspec_tree.specs.Updates.{target};
 ghost use Rattle.conspec_automaton.specs.declared.policy.Policy.{Policy};
 ghost use Rattle.conspec_automaton.specs.Next.{initial, next, next_by, updated, updated_once};
 ghost use Rattle.conspec_automaton.specs.Obeys.{IsFollowed};
@@ -15,7 +15,7 @@ use crate::asking::{any_has_clause, branch_of, clause_of, is_return};
 use crate::policy::{Clause, Policy};
 use crate::state::State;
 use api_listing::Event;
-use conspec_parse::Update;
+use conspec_tree::Update;
 
 /// What is said of a list of events. The indices count all events, from 0.
 #[derive(Clone, Copy, Debug, PartialEq, Eq)]

@@ -1,42 +1,86 @@
-//! The automata of small policies.
-
-mod running;
-
-ghost use Rattle.std.specs.Prelude.{IfOk};
-ghost use Rattle.conspec_automaton.specs.Sound.{IsOfListing, IsPolicy};
+//! The automata of small trees.
 
 use crate::policy::{Branch, Policy};
 use crate::{build, denies_only, has_clauses};
-use api_listing::read;
-use conspec_parse::{Atom, Base, PolicyTree, Rel, Update, parse};
+use conspec_tree::{Atom, Base, Guard, Phase, PolicyTree, Rel, TreeClause, Update, Var};
+use mon_base::{Bytes, List, NoMemory};
 use std::alloc::Global;
 use std::process::Abort;
 use std::test::Fail;
 
-const LISTING: &[u8] =
-    b"class api/Net extends java/lang/Object\nstatic api/Net send ()V\nstatic api/Net read ()I\n\
-    static api/Net ask ()Z\nstatic api/Net put (BLjava/lang/String;)V\nstatic api/Net find (I)Ljava/lang/String;\n";
-
-fn tree(alloc: Global, text: &str) -> Result<PolicyTree, Fail>
-    ensures { IfOk result (λ tree. IsOfListing tree) }
-{
-    let Ok(listing) = read(alloc, LISTING) else {
-        return Err("the listing".into());
-    };
-    match parse(alloc, text.as_bytes(), &listing) {
-        Ok(tree) => Ok(tree),
-        Err(_) => Err("the policy".into()),
+/// An atom over a variable.
+fn atom(var: u32, rel: Rel, value: i32) -> Atom {
+    Atom {
+        base: Base::Var(var),
+        rel,
+        value,
     }
 }
 
-fn automaton(alloc: Global, text: &str) -> Result<Policy, Fail>
-    ensures { IfOk result (λ policy. IsPolicy policy) }
-{
-    let tree = tree(alloc, text)?;
-    match build(alloc, &tree) {
-        Ok(policy) => Ok(policy),
-        Err(_) => Err("memory".into()),
+fn list<T: Copy + Drop>(alloc: Global, items: &[T]) -> Result<List<T>, NoMemory> {
+    let mut list = List::new(alloc);
+    for item in items {
+        list.push(*item)?;
     }
+    Ok(list)
+}
+
+fn guard(alloc: Global, conjs: &[&[Atom]], updates: &[Update]) -> Result<Guard, NoMemory> {
+    let mut lists = List::new(alloc);
+    for conj in conjs {
+        lists.push(list(alloc, *conj)?)?;
+    }
+    Ok(Guard {
+        conjs: lists,
+        updates: list(alloc, updates)?,
+    })
+}
+
+/// An int variable `n` and a bool `b`.
+fn variables(alloc: Global) -> Result<List<Var>, NoMemory> {
+    let mut vars = List::new(alloc);
+    for (name, is_bool) in [("n", false), ("b", true)].iter() {
+        vars.push(Var {
+            name: Bytes::from_slice(alloc, name.as_bytes())?,
+            is_bool: *is_bool,
+            first: 0,
+        })?;
+    }
+    Ok(vars)
+}
+
+fn clause(alloc: Global, method: u32, phase: Phase, guards: List<Guard>) -> TreeClause {
+    TreeClause {
+        method,
+        phase,
+        args: List::new(alloc),
+        result: None,
+        guards,
+    }
+}
+
+/// The automaton of a policy with the guards at the calls of the first method.
+fn automaton(alloc: Global, maxint: i32, guards: List<Guard>) -> Result<Policy, NoMemory> {
+    let mut clauses = List::new(alloc);
+    clauses.push(clause(alloc, 0, Phase::Before, guards))?;
+    let vars = variables(alloc)?;
+    build(
+        alloc,
+        &PolicyTree {
+            maxint,
+            vars,
+            clauses,
+        },
+    )
+}
+
+/// At most three calls, which `n` counts.
+fn three(alloc: Global) -> Result<Policy, NoMemory> {
+    let few = [atom(0, Rel::Le, 2)];
+    let counts = [Update::Add { var: 0, by: 1 }];
+    let mut guards = List::new(alloc);
+    guards.push(guard(alloc, &[few.as_slice()], counts.as_slice())?)?;
+    automaton(alloc, 1000, guards)
 }
 
 /// The branches of the only clause.
@@ -47,28 +91,13 @@ fn branches_of(policy: &Policy) -> Result<&[Branch], Fail> {
     }
 }
 
-/// At most three sends.
-const THREE: &str = "MAXINT 1000 SCOPE Session SECURITY STATE int n = 0; \
-    BEFORE void api.Net.send() PERFORM n <= 2 -> { n = n + 1; }";
-
 #[test]
 fn a_sum_is_kept_in_range(rt: HostRuntime) -> Result<(), Fail> {
-    let policy = automaton(rt.alloc(), THREE)?;
+    let policy = three(rt.alloc())?;
     let [branch] = branches_of(&policy)? else {
         return Err("one branch".into());
     };
-    let atoms = [
-        Atom {
-            base: Base::Var(0),
-            rel: Rel::Le,
-            value: 2,
-        },
-        Atom {
-            base: Base::Var(0),
-            rel: Rel::Le,
-            value: 999,
-        },
-    ];
+    let atoms = [atom(0, Rel::Le, 2), atom(0, Rel::Le, 999)];
     assert_eq!(&rt; branch.atoms.as_slice(), atoms.as_slice());
     assert_eq!(&rt;
         branch.updates.as_slice(),
@@ -79,26 +108,28 @@ fn a_sum_is_kept_in_range(rt: HostRuntime) -> Result<(), Fail> {
 
 #[test]
 fn a_difference_is_kept_in_range(rt: HostRuntime) -> Result<(), Fail> {
-    let text = "MAXINT 9 SCOPE Session SECURITY STATE int n = 5; \
-        AFTER int api.Net.read() PERFORM ELSE -> { n = n - 3; }";
-    let policy = automaton(rt.alloc(), text)?;
+    let alloc = rt.alloc();
+    let takes = [Update::Add { var: 0, by: -3 }];
+    let mut guards = List::new(alloc);
+    guards.push(guard(alloc, &[[].as_slice()], takes.as_slice())?)?;
+    let policy = automaton(alloc, 9, guards)?;
     let [branch] = branches_of(&policy)? else {
         return Err("one branch".into());
     };
-    let atoms = [Atom {
-        base: Base::Var(0),
-        rel: Rel::Ge,
-        value: 3,
-    }];
-    assert_eq!(&rt; branch.atoms.as_slice(), atoms.as_slice());
+    assert_eq!(&rt; branch.atoms.as_slice(), [atom(0, Rel::Ge, 3)].as_slice());
     Ok(())
 }
 
 #[test]
 fn each_list_of_atoms_is_a_branch(rt: HostRuntime) -> Result<(), Fail> {
-    let text = "MAXINT 9 SCOPE Session SECURITY STATE int n = 0; bool b = false; \
-        BEFORE void api.Net.send() PERFORM n == 1 && b == true || n == 2 -> { b = true; } ELSE -> { }";
-    let policy = automaton(rt.alloc(), text)?;
+    let alloc = rt.alloc();
+    let both = [atom(0, Rel::Eq, 1), atom(1, Rel::Eq, 1)];
+    let one = [atom(0, Rel::Eq, 2)];
+    let sets = [Update::Set { var: 1, value: 1 }];
+    let mut guards = List::new(alloc);
+    guards.push(guard(alloc, &[both.as_slice(), one.as_slice()], sets.as_slice())?)?;
+    guards.push(guard(alloc, &[[].as_slice()], [].as_slice())?)?;
+    let policy = automaton(alloc, 9, guards)?;
     let branches = branches_of(&policy)?;
     assert_eq!(&rt; branches.len(), 3);
     let mut lengths = [9usize; 3];
@@ -111,36 +142,45 @@ fn each_list_of_atoms_is_a_branch(rt: HostRuntime) -> Result<(), Fail> {
 
 #[test]
 fn clauses_are_found_by_method(rt: HostRuntime) -> Result<(), Fail> {
-    let policy = automaton(rt.alloc(), THREE)?;
+    let policy = three(rt.alloc())?;
     assert!(&rt; has_clauses(&policy, 0));
     assert!(&rt; !has_clauses(&policy, 1));
     Ok(())
 }
 
+/// Whether a policy of clauses without guards denies calls alone.
+fn denies(alloc: Global, vars: List<Var>, phases: &[Phase]) -> Result<bool, NoMemory> {
+    let mut clauses = List::new(alloc);
+    let mut method = 0u32;
+    for phase in phases {
+        clauses.push(clause(alloc, method, *phase, List::new(alloc)))?;
+        method = method.wrapping_add(1);
+    }
+    Ok(denies_only(&PolicyTree {
+        maxint: 1,
+        vars,
+        clauses,
+    }))
+}
+
 #[test]
 fn denials_ask_nothing(rt: HostRuntime) -> Result<(), Fail> {
-    let head = "MAXINT 1 SCOPE Session SECURITY STATE ";
-    let table = [
-        ("BEFORE void api.Net.send() PERFORM", true),
-        (
-            "BEFORE void api.Net.send() PERFORM BEFORE int api.Net.read() PERFORM",
-            true,
-        ),
-        ("", true),
-        ("AFTER void api.Net.send() PERFORM", false),
-        ("BEFORE void api.Net.send() PERFORM ELSE -> { }", false),
-        ("int n = 0; BEFORE void api.Net.send() PERFORM", false),
-    ];
-    for (rest, wanted) in table.iter() {
-        let mut text = mon_base::Bytes::from_slice(rt.alloc(), head.as_bytes())?;
-        text.extend(rest.as_bytes())?;
-        let Ok(listing) = read(rt.alloc(), LISTING) else {
-            return Err("the listing".into());
-        };
-        let Ok(tree) = parse(rt.alloc(), text.as_slice(), &listing) else {
-            return Err("the policy".into());
-        };
-        assert_eq!(&rt; denies_only(&tree), *wanted, "{rest}");
-    }
+    let alloc = rt.alloc();
+    let calls = [Phase::Before, Phase::Before];
+    assert!(&rt; denies(alloc, List::new(alloc), calls.as_slice())?);
+    assert!(&rt; denies(alloc, List::new(alloc), &calls[..1])?);
+    assert!(&rt; denies(alloc, List::new(alloc), &calls[..0])?);
+    assert!(&rt; !denies(alloc, List::new(alloc), [Phase::After].as_slice())?);
+    assert!(&rt; !denies(alloc, variables(alloc)?, &calls[..1])?);
+    let mut guards = List::new(alloc);
+    guards.push(guard(alloc, &[[].as_slice()], [].as_slice())?)?;
+    let mut clauses = List::new(alloc);
+    clauses.push(clause(alloc, 0, Phase::Before, guards))?;
+    let asking = PolicyTree {
+        maxint: 1,
+        vars: List::new(alloc),
+        clauses,
+    };
+    assert!(&rt; !denies_only(&asking));
     Ok(())
 }

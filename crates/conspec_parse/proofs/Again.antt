@@ -4,17 +4,18 @@ use Rattle.std.specs.Prelude.{is_some, not, codes, IsTrue, ◌||◌}
 use Rattle.std.specs.List.{flat_map}
 use Rattle.std.proofs.lemmas.List.{append-nil}
 use Rattle.api_listing.specs.Descriptor.{class_spelled}
-use Rattle.conspec_parse.specs.declared.token.Lexeme.{Lexeme}
-use Rattle.conspec_parse.specs.declared.token.Lexeme.TheVariants.{Quoted, Name}
-use Rattle.conspec_parse.specs.declared.token.Token.{Token}
-use Rattle.conspec_parse.specs.declared.types.Kind.TheVariants as kinds
-use Rattle.conspec_parse.specs.declared.types.Var.{Var}
+use Rattle.conspec_tokens.specs.declared.token.Lexeme.{Lexeme}
+use Rattle.conspec_tokens.specs.declared.token.Lexeme.TheVariants.{Quoted, Name}
+use Rattle.conspec_tokens.specs.declared.token.Token.{Token}
+use Rattle.conspec_tree.specs.declared.types.Kind.TheVariants as kinds
+use Rattle.conspec_tree.specs.declared.types.Var.{Var}
 use Rattle.conspec_parse.specs.declared.type_name.TypeName.{TypeName}
 use Rattle.conspec_parse.specs.declared.signature.Param.{Param}
 use Rattle.conspec_parse.specs.declared.fault.PolicyFault.TheVariants.{Twice, Limit}
-use Rattle.conspec_parse.specs.Forms.{front_at, is_next, is_name, is_short}
+use Rattle.conspec_tokens.specs.Front.{front_at, is_next, is_name}
+use Rattle.conspec_parse.specs.Forms.{is_short}
 use Rattle.conspec_parse.specs.Types.{judged_name, type_named, plain_type, next_part, class_at, class_type_at, element_at, dimension_at, array_of, type_at}
-use Rattle.conspec_parse.specs.Head.{is_variable}
+use Rattle.conspec_tree.specs.Variables.{is_variable}
 use Rattle.conspec_parse.specs.Methods.{is_parameter, is_free, given_name_at, parameter_name_at, parameter_at, next_parameter, some_parameters, parameters_at}
 use Rattle.conspec_parse.specs.Written.{Element, WrittenType, WrittenParam, led, one_name, element_spelled, brackets_spelled, type_spelled, name_spelled, param_spelled, params_spelled}
 use Rattle.conspec_parse.specs.Written.Element.{Void, Int, Boolean, Byte, Short, Char, Class}

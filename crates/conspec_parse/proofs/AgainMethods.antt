@@ -9,19 +9,21 @@ use Rattle.std.proofs.lemmas.Slice.Eq.{bytes_eq-Decides}
 use Rattle.api_listing.specs.BuiltIn.{is_built_in}
 use Rattle.api_listing.specs.Nearest.{declared_in}
 use Rattle.api_listing.specs.declared.types.ListedMethod.{ListedMethod}
-use Rattle.conspec_parse.specs.declared.token.Lexeme.{Lexeme}
-use Rattle.conspec_parse.specs.declared.token.Lexeme.TheVariants.{Quoted, Name}
-use Rattle.conspec_parse.specs.declared.token.Token.{Token}
-use Rattle.conspec_parse.specs.declared.types.Phase.{Phase}
-use Rattle.conspec_parse.specs.declared.types.TreeClause.{TreeClause}
-use Rattle.conspec_parse.specs.declared.types.Var.{Var}
+use Rattle.conspec_tokens.specs.declared.token.Lexeme.{Lexeme}
+use Rattle.conspec_tokens.specs.declared.token.Lexeme.TheVariants.{Quoted, Name}
+use Rattle.conspec_tokens.specs.declared.token.Token.{Token}
+use Rattle.conspec_tree.specs.declared.types.Phase.{Phase}
+use Rattle.conspec_tree.specs.declared.types.TreeClause.{TreeClause}
+use Rattle.conspec_tree.specs.declared.types.Var.{Var}
 use Rattle.conspec_parse.specs.declared.signature.Param.{Param}
 use Rattle.conspec_parse.specs.declared.signature.Parts.{Parts as PathParts}
 use Rattle.conspec_parse.specs.declared.signature.Signature.{Signature}
 use Rattle.conspec_parse.specs.declared.fault.PolicyFault.TheVariants.{Syntax}
-use Rattle.conspec_parse.specs.Forms.{front_at, is_next, is_short}
-use Rattle.conspec_parse.specs.Head.{is_variable}
-use Rattle.conspec_parse.specs.Methods.{is_named, is_parameter, init, part_at, class_under, next_step, path_at, signature_at, desc_of, has_clause, index_at, method_at}
+use Rattle.conspec_tokens.specs.Front.{front_at, is_next}
+use Rattle.conspec_parse.specs.Forms.{is_short}
+use Rattle.conspec_tree.specs.Variables.{is_variable}
+use Rattle.conspec_parse.specs.Methods.{is_named, is_parameter, init, part_at, class_under, next_step, path_at, signature_at, desc_of, index_at, method_at}
+use Rattle.conspec_tree.specs.Clauses.{has_clause}
 use Rattle.conspec_parse.specs.Written.{WrittenParam, MethodName, dotted, method_spelled, path_spelled, params_spelled, signature_spelled}
 use Rattle.conspec_parse.specs.Written.MethodName.{Constructor, Plain}
 use Rattle.conspec_parse.specs.Meaning.{AreShort, below, joined, param_of, element_names, optional, names_of_param, param_names, AreParams, method_bytes, method_names, IsMethodIn, lexemes}

@@ -8,31 +8,35 @@ use Rattle.std.proofs.lemmas.List.{append-nil}
 use Rattle.mon_base.proofs.Reading.{ok_is}
 use Rattle.api_listing.specs.declared.types.ListedMethod.{ListedMethod}
 use Rattle.api_listing.specs.declared.types.Listing.{Listing}
-use Rattle.conspec_parse.specs.declared.token.Lexeme.{Lexeme}
-use Rattle.conspec_parse.specs.declared.token.Lexeme.TheVariants.{Quoted, Name, End}
-use Rattle.conspec_parse.specs.declared.token.Token.{Token}
-use Rattle.conspec_parse.specs.declared.types.Atom.{Atom}
-use Rattle.conspec_parse.specs.declared.types.Guard.{Guard}
-use Rattle.conspec_parse.specs.declared.types.Kind.{Kind}
-use Rattle.conspec_parse.specs.declared.types.Phase.{Phase}
-use Rattle.conspec_parse.specs.declared.types.Phase.TheVariants.{Before, After, Exceptional}
-use Rattle.conspec_parse.specs.declared.types.TreeClause.{TreeClause}
-use Rattle.conspec_parse.specs.declared.types.Var.{Var}
-use Rattle.conspec_parse.specs.declared.types.PolicyTree.{PolicyTree}
+use Rattle.conspec_tokens.specs.declared.token.Lexeme.{Lexeme}
+use Rattle.conspec_tokens.specs.declared.token.Lexeme.TheVariants.{Quoted, Name, End}
+use Rattle.conspec_tokens.specs.declared.token.Token.{Token}
+use Rattle.conspec_tree.specs.declared.types.Atom.{Atom}
+use Rattle.conspec_tree.specs.declared.types.Guard.{Guard}
+use Rattle.conspec_tree.specs.declared.types.Kind.{Kind}
+use Rattle.conspec_tree.specs.declared.types.Phase.{Phase}
+use Rattle.conspec_tree.specs.declared.types.Phase.TheVariants.{Before, After, Exceptional}
+use Rattle.conspec_tree.specs.declared.types.TreeClause.{TreeClause}
+use Rattle.conspec_tree.specs.declared.types.Var.{Var}
+use Rattle.conspec_tree.specs.declared.types.PolicyTree.{PolicyTree}
 use Rattle.conspec_parse.specs.declared.fault.PolicyFault.{PolicyFault}
 use Rattle.conspec_parse.specs.declared.fault.PolicyFault.TheVariants as faults
 use Rattle.conspec_parse.specs.declared.fault.PolicyFault.TheVariants.{Syntax, Kind as WrongKind, Range, Twice, Limit}
 use Rattle.mon_base.specs.Answer.{Answers}
 use Rattle.conspec_parse.specs.Fault.{Judged}
-use Rattle.conspec_parse.specs.Tokens.{tokens_of}
-use Rattle.conspec_parse.specs.Forms.{front_at, is_next, is_end, is_short}
-use Rattle.conspec_parse.specs.Head.{is_variable, header_at, truth_at, count_at, first_at, begins_variable, variable_at}
-use Rattle.conspec_parse.specs.Methods.{phase_number, has_clause}
+use Rattle.conspec_tokens.specs.Tokens.{tokens_of}
+use Rattle.conspec_tokens.specs.Front.{front_at, is_next, is_end}
+use Rattle.conspec_parse.specs.Forms.{is_short}
+use Rattle.conspec_tree.specs.Variables.{is_variable}
+use Rattle.conspec_parse.specs.Head.{header_at, truth_at, count_at, first_at, begins_variable, variable_at}
+use Rattle.conspec_tree.specs.Clauses.{phase_number, has_clause}
 use Rattle.conspec_parse.specs.Scope.{Scope}
-use Rattle.conspec_parse.specs.Updates.{all_range_atoms}
-use Rattle.conspec_parse.specs.Clauses.{branches, longest_from, longest, begins_guard, guard_at, last_guard, with_else, body_at, next_phase, begins_clause, is_after, is_assigned, given_result_at, result_name_at, scope_of, clause_of, clause_at}
+use Rattle.conspec_tree.specs.Updates.{all_range_atoms}
+use Rattle.conspec_tree.specs.Guards.{branches, longest_from, longest}
+use Rattle.conspec_parse.specs.Clauses.{begins_guard, guard_at, last_guard, with_else, body_at, next_phase, begins_clause, is_assigned, given_result_at, result_name_at, scope_of, clause_of, clause_at}
+use Rattle.conspec_tree.specs.Clauses.{is_after}
 use Rattle.conspec_parse.specs.Policy.{policy_at, reading}
-use Rattle.conspec_parse.specs.Tree.{Differ}
+use Rattle.conspec_tree.specs.Tree.{Differ}
 use Rattle.conspec_parse.specs.Written.{WrittenAtom, WrittenUpdate, WrittenGuard, WrittenParam, MethodName, WrittenClause, WrittenVar, Written, led, conj_spelled, block_spelled, guard_spelled, else_spelled, body_spelled, type_spelled, phase_spelled, result_spelled, signature_spelled, clause_spelled, first_spelled, variable_word, variable_spelled, header_spelled, policy_spelled}
 use Rattle.conspec_parse.specs.Meaning.{EachIs, type_desc, type_kind, param_of, IsAtom, IsBlock, IsGuard, IsOtherwise, AreGuards, IsResult, MayName, IsClause, IsFirst, IsVar, IsPolicy, lexemes, SpellsPolicy}
 use Rattle.conspec_parse.proofs.Got.{Got, ended, ended_as, gets, passes, holds, there, on_true, on_false, heads, head_name, next_at, is_name_here, drop_one, behind_again, name_again, number_again, Stops, Parts, each_again, Steps, Grows, grows}

@@ -6,13 +6,14 @@ use Rattle.std.proofs.lemmas.Bool.Decides.{nat_tests}
 use Rattle.std.proofs.lemmas.List.{length-drop}
 use Rattle.std.proofs.lemmas.Slice.Eq.{bytes_eq-Decides}
 use Rattle.mon_base.specs.Reading.{◌>>=◌, need}
-use Rattle.conspec_parse.specs.declared.token.Lexeme.{Lexeme}
-use Rattle.conspec_parse.specs.declared.token.Lexeme.TheVariants.{Quoted, Name, Number, Wrong, End}
-use Rattle.conspec_parse.specs.declared.token.Token.{Token}
+use Rattle.conspec_tokens.specs.declared.token.Lexeme.{Lexeme}
+use Rattle.conspec_tokens.specs.declared.token.Lexeme.TheVariants.{Quoted, Name, Number, Wrong, End}
+use Rattle.conspec_tokens.specs.declared.token.Token.{Token}
 use Rattle.conspec_parse.specs.declared.fault.PolicyFault.{PolicyFault}
 use Rattle.conspec_parse.specs.declared.fault.PolicyFault.TheVariants as faults
 use Rattle.conspec_parse.specs.Fault.{Judged}
-use Rattle.conspec_parse.specs.Forms.{Read, front_at, quotes, is_next, behind, names, next_name, counts, next_number, name_at, number_at, taken, repeated, each}
+use Rattle.conspec_parse.specs.Forms.{Read, behind, name_at, number_at, taken, repeated, each}
+use Rattle.conspec_tokens.specs.Front.{front_at, quotes, is_next, names, next_name, counts, next_number}
 use Rattle.conspec_parse.specs.Deciding.{is_open}
 
 -- ---- two lists

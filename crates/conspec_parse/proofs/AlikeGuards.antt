@@ -2,22 +2,28 @@
 use Rattle.std.proofs.Common.{◌≡◌, ℕ, ◌+◌, ◌≤◌, ℤ, pos, Bool, true, false, List, [], ◌∷◌, ◌++◌, length, drop, Some, refl, arith}
 use Rattle.std.specs.Prelude.{not, codes, bytes_eq, nat_le, nat_lt, int_le, neg_ℤ, ◌||◌, ◌&&◌, ◌==◌}
 use Rattle.mon_base.specs.Reading.{◌>>=◌, need}
-use Rattle.conspec_parse.specs.declared.token.Lexeme.{Lexeme}
-use Rattle.conspec_parse.specs.declared.token.Lexeme.TheVariants.{Quoted, Name as Named, Number, Wrong, End}
-use Rattle.conspec_parse.specs.declared.token.Token.{Token}
-use Rattle.conspec_parse.specs.declared.types.Atom.{Atom}
-use Rattle.conspec_parse.specs.declared.types.Guard.{Guard}
-use Rattle.conspec_parse.specs.declared.types.Rel.{Rel}
-use Rattle.conspec_parse.specs.declared.types.Update.{Update}
-use Rattle.conspec_parse.specs.declared.types.Update.TheVariants.{Set, Add}
-use Rattle.conspec_parse.specs.declared.types.Var.{Var}
+use Rattle.conspec_tokens.specs.declared.token.Lexeme.{Lexeme}
+use Rattle.conspec_tokens.specs.declared.token.Lexeme.TheVariants.{Quoted, Name as Named, Number, Wrong, End}
+use Rattle.conspec_tokens.specs.declared.token.Token.{Token}
+use Rattle.conspec_tree.specs.declared.types.Atom.{Atom}
+use Rattle.conspec_tree.specs.declared.types.Guard.{Guard}
+use Rattle.conspec_tree.specs.declared.types.Rel.{Rel}
+use Rattle.conspec_tree.specs.declared.types.Update.{Update}
+use Rattle.conspec_tree.specs.declared.types.Update.TheVariants.{Set, Add}
+use Rattle.conspec_tree.specs.declared.types.Var.{Var}
 use Rattle.conspec_parse.specs.declared.fault.PolicyFault.TheVariants.{Syntax, Name, Kind, Range, Twice, Limit}
-use Rattle.conspec_parse.specs.Forms.{Read, front_at, is_next, is_name, number_at}
-use Rattle.conspec_parse.specs.Head.{header_at, truth_at, count_at, first_at, variable_from}
+use Rattle.conspec_parse.specs.Forms.{Read, number_at}
+use Rattle.conspec_tokens.specs.Front.{front_at, is_next, is_name}
+use Rattle.conspec_parse.specs.Head.{header_at, truth_at, count_at, first_at}
+use Rattle.conspec_tree.specs.Variables.{variable_from}
 use Rattle.conspec_parse.specs.Scope.{Scope, base_named}
-use Rattle.conspec_parse.specs.Guards.{is_truth, is_object, is_equality, next_rel, truth_value, negative_at, positive_at, constant_at, atom_at, next_atom, no_atoms, atoms_at, conj_at, next_conj, conjs_at}
-use Rattle.conspec_parse.specs.Updates.{is_updated, all_range_atoms, set_at, next_sign, signed, sum_at, right_at, update_at, block_at}
-use Rattle.conspec_parse.specs.Clauses.{branches, longest, begins_guard, guard_at, last_guard, body_at}
+use Rattle.conspec_tree.specs.Kinds.{is_truth, is_object}
+use Rattle.conspec_parse.specs.Guards.{next_rel, truth_value, negative_at, positive_at, constant_at, atom_at, next_atom, no_atoms, atoms_at, conj_at, next_conj, conjs_at}
+use Rattle.conspec_tree.specs.Kinds.{is_equality}
+use Rattle.conspec_tree.specs.Updates.{is_updated, all_range_atoms}
+use Rattle.conspec_parse.specs.Updates.{set_at, next_sign, signed, sum_at, right_at, update_at, block_at}
+use Rattle.conspec_tree.specs.Guards.{branches, longest}
+use Rattle.conspec_parse.specs.Clauses.{begins_guard, guard_at, last_guard, body_at}
 use Rattle.conspec_parse.proofs.Alike.{Pair, Here, Alike, is_word, goes_on, next, next_goes_on, reached, ended, told, onward, loosened, lessened, joined, then, then_some, tested, given, either, either_then, after, taking, naming, numbered, numbering, each_alike, syntax, unknown, of_kind, of_range, twice, limit}
 
 -- ---- constants

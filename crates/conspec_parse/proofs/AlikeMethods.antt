@@ -5,19 +5,21 @@ use Rattle.mon_base.specs.Reading.{◌>>=◌, need}
 use Rattle.api_listing.specs.BuiltIn.{is_built_in}
 use Rattle.api_listing.specs.Nearest.{declared_in}
 use Rattle.api_listing.specs.declared.types.ListedMethod.{ListedMethod}
-use Rattle.conspec_parse.specs.declared.token.Token.{Token}
-use Rattle.conspec_parse.specs.declared.types.Phase.{Phase}
-use Rattle.conspec_parse.specs.declared.types.TreeClause.{TreeClause}
-use Rattle.conspec_parse.specs.declared.types.Var.{Var}
+use Rattle.conspec_tokens.specs.declared.token.Token.{Token}
+use Rattle.conspec_tree.specs.declared.types.Phase.{Phase}
+use Rattle.conspec_tree.specs.declared.types.TreeClause.{TreeClause}
+use Rattle.conspec_tree.specs.declared.types.Var.{Var}
 use Rattle.conspec_parse.specs.declared.signature.Param.{Param}
 use Rattle.conspec_parse.specs.declared.signature.Path.{Path}
 use Rattle.conspec_parse.specs.declared.signature.Signature.{Signature}
 use Rattle.conspec_parse.specs.declared.fault.PolicyFault.{PolicyFault}
 use Rattle.conspec_parse.specs.declared.fault.PolicyFault.TheVariants as faults
 use Rattle.conspec_parse.specs.Fault.{Judged}
-use Rattle.conspec_parse.specs.Forms.{Read, front_at, is_next, behind}
+use Rattle.conspec_parse.specs.Forms.{Read, behind}
+use Rattle.conspec_tokens.specs.Front.{front_at, is_next}
 use Rattle.conspec_parse.specs.Types.{judged_name}
-use Rattle.conspec_parse.specs.Methods.{next_step, path_at, parameters_at, signature_at, desc_of, has_clause, index_at, method_at}
+use Rattle.conspec_parse.specs.Methods.{next_step, path_at, parameters_at, signature_at, desc_of, index_at, method_at}
+use Rattle.conspec_tree.specs.Clauses.{has_clause}
 use Rattle.conspec_parse.specs.Deciding.{is_open}
 use Rattle.conspec_parse.proofs.Alike.{Pair, Here, Alike, Stops, NoClose, place, ahead, is_of_method, within, none, both_quiet, next, next_goes_on, seen_same, front_same, ended, told, then, loosened, given, after, each_alike, syntax}
 use Rattle.conspec_parse.proofs.AlikeTypes.{step_alike, parameters_alike}

@@ -4,20 +4,23 @@ use Rattle.std.specs.Prelude.{is_some, not, codes, nat_lt, ok_or, bytes_eq, ◌|
 use Rattle.std.proofs.lemmas.Slice.Eq.{bytes_eq-Decides}
 use Rattle.mon_base.specs.Reading.{◌>>=◌, need}
 use Rattle.api_listing.specs.declared.types.ListedMethod.{ListedMethod}
-use Rattle.conspec_parse.specs.declared.token.Lexeme.{Lexeme}
-use Rattle.conspec_parse.specs.declared.token.Lexeme.TheVariants.{Quoted, Name, Number, Wrong, End}
-use Rattle.conspec_parse.specs.declared.token.Token.{Token}
-use Rattle.conspec_parse.specs.declared.types.Kind.{Kind}
-use Rattle.conspec_parse.specs.declared.types.Phase.{Phase}
-use Rattle.conspec_parse.specs.declared.types.TreeClause.{TreeClause}
-use Rattle.conspec_parse.specs.declared.types.Var.{Var}
+use Rattle.conspec_tokens.specs.declared.token.Lexeme.{Lexeme}
+use Rattle.conspec_tokens.specs.declared.token.Lexeme.TheVariants.{Quoted, Name, Number, Wrong, End}
+use Rattle.conspec_tokens.specs.declared.token.Token.{Token}
+use Rattle.conspec_tree.specs.declared.types.Kind.{Kind}
+use Rattle.conspec_tree.specs.declared.types.Phase.{Phase}
+use Rattle.conspec_tree.specs.declared.types.TreeClause.{TreeClause}
+use Rattle.conspec_tree.specs.declared.types.Var.{Var}
 use Rattle.conspec_parse.specs.declared.type_name.TypeName.{TypeName}
 use Rattle.conspec_parse.specs.declared.fault.PolicyFault.TheVariants as faults
-use Rattle.conspec_parse.specs.Forms.{Read, front_at, quotes, is_next, next_name, is_name, is_short, behind, name_at, each}
-use Rattle.conspec_parse.specs.Head.{begins_variable, first_at, is_variable, variable_at, variables_at}
+use Rattle.conspec_parse.specs.Forms.{Read, is_short, behind, name_at, each}
+use Rattle.conspec_tokens.specs.Front.{front_at, quotes, is_next, next_name, is_name}
+use Rattle.conspec_parse.specs.Head.{begins_variable, first_at, variable_at, variables_at}
+use Rattle.conspec_tree.specs.Variables.{is_variable}
 use Rattle.conspec_parse.specs.Types.{judged_name, type_at}
 use Rattle.conspec_parse.specs.Methods.{method_at}
-use Rattle.conspec_parse.specs.Clauses.{is_after, is_assigned, given_result_at, some_result_at, result_name_at, next_phase, begins_clause, scope_of, clause_of, clause_at, body_at}
+use Rattle.conspec_parse.specs.Clauses.{is_assigned, given_result_at, some_result_at, result_name_at, next_phase, begins_clause, scope_of, clause_of, clause_at, body_at}
+use Rattle.conspec_tree.specs.Clauses.{is_after}
 use Rattle.conspec_parse.specs.Deciding.{opened_by, is_open_from}
 use Rattle.conspec_parse.proofs.Alike.{Pair, Here, Alike, NoClose, is_word, goes_on, within, none, both_quiet, next, next_goes_on, name_goes_on, name_quiet, seen_same, ended, told, onward, loosened, lessened, unsaid, joined, then, then_open, tested, peeked, after, named, knowing, each_alike, of_kind, syntax, twice, limit}
 use Rattle.conspec_parse.proofs.AlikeTypes.{judged_alike, type_alike}

@@ -4,18 +4,20 @@ use Rattle.std.specs.Prelude.{not, codes, ◌||◌}
 use Rattle.std.proofs.lemmas.Slice.Eq.{bytes_eq-Decides}
 use Rattle.api_listing.specs.Descriptor.{class_spelled}
 use Rattle.mon_base.specs.Reading.{◌>>=◌}
-use Rattle.conspec_parse.specs.declared.token.Lexeme.{Lexeme}
-use Rattle.conspec_parse.specs.declared.token.Lexeme.TheVariants.{Quoted, Name, Number, Wrong, End}
-use Rattle.conspec_parse.specs.declared.token.Token.{Token}
-use Rattle.conspec_parse.specs.declared.types.Kind.TheVariants as kinds
-use Rattle.conspec_parse.specs.declared.types.Var.{Var}
+use Rattle.conspec_tokens.specs.declared.token.Lexeme.{Lexeme}
+use Rattle.conspec_tokens.specs.declared.token.Lexeme.TheVariants.{Quoted, Name, Number, Wrong, End}
+use Rattle.conspec_tokens.specs.declared.token.Token.{Token}
+use Rattle.conspec_tree.specs.declared.types.Kind.TheVariants as kinds
+use Rattle.conspec_tree.specs.declared.types.Var.{Var}
 use Rattle.conspec_parse.specs.declared.type_name.TypeName.{TypeName}
 use Rattle.conspec_parse.specs.declared.signature.Param.{Param}
 use Rattle.conspec_parse.specs.declared.signature.Parts.{Parts}
 use Rattle.conspec_parse.specs.declared.fault.PolicyFault.TheVariants.{Syntax, Twice, Limit}
-use Rattle.conspec_parse.specs.Forms.{Read, is_next, is_name, is_short}
+use Rattle.conspec_parse.specs.Forms.{Read, is_short}
+use Rattle.conspec_tokens.specs.Front.{is_next, is_name}
 use Rattle.conspec_parse.specs.Types.{judged_name, type_named, plain_type, next_part, class_at, class_type_at, element_of, element_at, dimension_at, array_of, type_at}
-use Rattle.conspec_parse.specs.Methods.{kind_or_object, is_free, given_name_at, parameter_name_at, parameter_at, next_parameter, some_parameters, parameters_at, init, part_at, class_under, next_step}
+use Rattle.conspec_tree.specs.Kinds.{kind_or_object}
+use Rattle.conspec_parse.specs.Methods.{is_free, given_name_at, parameter_name_at, parameter_at, next_parameter, some_parameters, parameters_at, init, part_at, class_under, next_step}
 use Rattle.conspec_parse.proofs.Alike.{Pair, Here, Alike, is_word, goes_on, none, next, next_goes_on, ended, told, onward, loosened, then, then_some, tested, peeked, either, after, named, apart_quiet, one_quiet, each_alike, syntax, twice, limit}
 
 -- ---- types

@@ -1,18 +1,19 @@
--- Before a 181 stands the beginning of a written policy: the forms of the law, a line for each part of a reading, and types.
+-- Before a fault of syntax stands the beginning of a written policy: the forms of the law, a line for each part of a reading, and types.
 use Rattle.std.proofs.Common.{◌≡◌, ℕ, zero, suc, ◌+◌, ◌<◌, Bool, true, false, cond, List, [], ◌∷◌, ◌++◌, length, drop, Option, Some, None, Ok, Err, refl, sym, ◌∙◌, ap, subst, arith, append_assoc, length-append}
 use Rattle.std.specs.Prelude.{ok_or, codes, not, ◌||◌}
 use Rattle.std.specs.List.{AllByRecursion, flat_map}
 use Rattle.std.proofs.lemmas.List.{append-nil, append_cancel_right, map-append}
 use Rattle.mon_base.specs.Reading.{◌>>=◌, need}
 use Rattle.mon_base.proofs.Reading.{ok_is}
-use Rattle.conspec_parse.specs.declared.token.Lexeme.{Lexeme}
-use Rattle.conspec_parse.specs.declared.token.Lexeme.TheVariants.{Quoted, Name, Number}
-use Rattle.conspec_parse.specs.declared.token.Token.{Token}
+use Rattle.conspec_tokens.specs.declared.token.Lexeme.{Lexeme}
+use Rattle.conspec_tokens.specs.declared.token.Lexeme.TheVariants.{Quoted, Name, Number}
+use Rattle.conspec_tokens.specs.declared.token.Token.{Token}
 use Rattle.conspec_parse.specs.declared.type_name.TypeName.{TypeName}
 use Rattle.conspec_parse.specs.declared.fault.PolicyFault.{PolicyFault}
 use Rattle.conspec_parse.specs.declared.fault.PolicyFault.TheVariants as faults
 use Rattle.conspec_parse.specs.Fault.{Judged}
-use Rattle.conspec_parse.specs.Forms.{Read, front_at, is_next, behind, next_name, next_number, name_at, number_at, taken, is_short, repeated, each}
+use Rattle.conspec_parse.specs.Forms.{Read, behind, name_at, number_at, taken, is_short, repeated, each}
+use Rattle.conspec_tokens.specs.Front.{front_at, is_next, next_name, next_number}
 use Rattle.conspec_parse.specs.Types.{judged_name, plain_type, next_part, class_at, class_type_at, element_of, element_at, dimension_at, type_at}
 use Rattle.conspec_parse.specs.Written.{Element, WrittenType, Written, one_name, element_spelled, brackets_spelled, type_spelled, policy_spelled}
 use Rattle.conspec_parse.specs.Written.Element.{Class}
@@ -43,7 +44,7 @@ pub record At (s : Source) (tokens : List Token) (Next : List Lexeme → Type 0)
   pub some : 0 < length tokens
   pub meant : (words : List Lexeme) → Next words → Viable (lexemes before ++ words)
 
--- What is read is so, and where the fault is 181 the tokens before it begin a written policy.
+-- What is read is so, and where the fault is one of syntax the tokens before it begin a written policy.
 pub record Leads {X : Type 0} (s : Source) (read : Judged X) (Is : X → Type 0) : Type 0 where
   pub of : (x : X) → read ≡ Ok x → Is x
   pub begins : (at : ℕ) → read ≡ Err (faults.Syntax at) → BeginsPolicy s.tokens at

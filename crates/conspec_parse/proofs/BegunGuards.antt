@@ -1,23 +1,27 @@
--- Before a 181 stands the beginning of a written policy: guards, updates and bodies.
+-- Before a fault of syntax stands the beginning of a written policy: guards, updates and bodies.
 use Rattle.std.proofs.Common.{◌≡◌, ℕ, ◌+◌, ℤ, pos, Bool, true, false, List, [], ◌∷◌, ◌++◌, length, drop, Some, None, refl, sym, ◌∙◌, ap, subst, append_assoc}
 use Rattle.std.specs.Prelude.{not, codes, bytes_eq, nat_le, nat_lt, int_le, neg_ℤ, ◌||◌, ◌&&◌, ◌==◌}
 use Rattle.std.specs.List.{flat_map}
-use Rattle.conspec_parse.specs.declared.token.Lexeme.{Lexeme}
-use Rattle.conspec_parse.specs.declared.token.Lexeme.TheVariants.{Quoted, Name, Number}
-use Rattle.conspec_parse.specs.declared.token.Token.{Token}
-use Rattle.conspec_parse.specs.declared.types.Atom.{Atom}
-use Rattle.conspec_parse.specs.declared.types.Guard.{Guard}
-use Rattle.conspec_parse.specs.declared.types.Rel.TheVariants as rels
-use Rattle.conspec_parse.specs.declared.types.Update.{Update}
-use Rattle.conspec_parse.specs.declared.types.Update.TheVariants.{Set, Add}
-use Rattle.conspec_parse.specs.declared.types.Var.{Var}
+use Rattle.conspec_tokens.specs.declared.token.Lexeme.{Lexeme}
+use Rattle.conspec_tokens.specs.declared.token.Lexeme.TheVariants.{Quoted, Name, Number}
+use Rattle.conspec_tokens.specs.declared.token.Token.{Token}
+use Rattle.conspec_tree.specs.declared.types.Atom.{Atom}
+use Rattle.conspec_tree.specs.declared.types.Guard.{Guard}
+use Rattle.conspec_tree.specs.declared.types.Rel.TheVariants as rels
+use Rattle.conspec_tree.specs.declared.types.Update.{Update}
+use Rattle.conspec_tree.specs.declared.types.Update.TheVariants.{Set, Add}
+use Rattle.conspec_tree.specs.declared.types.Var.{Var}
 use Rattle.conspec_parse.specs.declared.fault.PolicyFault.TheVariants as faults
-use Rattle.conspec_parse.specs.Forms.{front_at, is_next, is_name}
-use Rattle.conspec_parse.specs.Head.{variable_from}
+use Rattle.conspec_tokens.specs.Front.{front_at, is_next, is_name}
+use Rattle.conspec_tree.specs.Variables.{variable_from}
 use Rattle.conspec_parse.specs.Scope.{Scope, base_named}
-use Rattle.conspec_parse.specs.Guards.{is_truth, is_object, is_equality, next_rel, truth_value, negative_at, positive_at, constant_at, atom_at, next_atom, no_atoms, atoms_at, conj_at, next_conj, conjs_at}
-use Rattle.conspec_parse.specs.Updates.{is_updated, all_range_atoms, set_at, next_sign, signed, sum_at, right_at, update_at, block_at}
-use Rattle.conspec_parse.specs.Clauses.{branches, longest, begins_guard, guard_at, last_guard, body_at}
+use Rattle.conspec_tree.specs.Kinds.{is_truth, is_object}
+use Rattle.conspec_parse.specs.Guards.{next_rel, truth_value, negative_at, positive_at, constant_at, atom_at, next_atom, no_atoms, atoms_at, conj_at, next_conj, conjs_at}
+use Rattle.conspec_tree.specs.Kinds.{is_equality}
+use Rattle.conspec_tree.specs.Updates.{is_updated, all_range_atoms}
+use Rattle.conspec_parse.specs.Updates.{set_at, next_sign, signed, sum_at, right_at, update_at, block_at}
+use Rattle.conspec_tree.specs.Guards.{branches, longest}
+use Rattle.conspec_parse.specs.Clauses.{begins_guard, guard_at, last_guard, body_at}
 use Rattle.conspec_parse.specs.Written.{Constant, WrittenAtom, Right, WrittenUpdate, WrittenGuard, rel_spelled, constant_spelled, atom_spelled, conj_spelled, sign_spelled, right_spelled, update_spelled, block_spelled, guard_spelled}
 use Rattle.conspec_parse.specs.Written.Constant.{Truth, Natural, Minus}
 use Rattle.conspec_parse.specs.Written.Right.{Value, Sum}

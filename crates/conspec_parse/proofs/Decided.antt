@@ -4,23 +4,24 @@ use Rattle.std.specs.Option.{option_map_or}
 use Rattle.std.proofs.Math.Seq.{drop-nil}
 use Rattle.mon_base.specs.Reading.{◌>>=◌, need}
 use Rattle.api_listing.specs.declared.types.ListedMethod.{ListedMethod}
-use Rattle.conspec_parse.specs.declared.token.Lexeme.{Lexeme}
-use Rattle.conspec_parse.specs.declared.token.Lexeme.TheVariants.{Quoted, Name, Number, Wrong, End}
-use Rattle.conspec_parse.specs.declared.token.Token.{Token}
-use Rattle.conspec_parse.specs.declared.scanning.Spot.{Spot}
-use Rattle.conspec_parse.specs.declared.scanning.Spot.TheVariants.{Inside}
-use Rattle.conspec_parse.specs.declared.scanning.Piece.{Piece}
-use Rattle.conspec_parse.specs.declared.scanning.Piece.TheVariants.{Skips, Begins}
-use Rattle.conspec_parse.specs.declared.types.TreeClause.{TreeClause}
-use Rattle.conspec_parse.specs.declared.types.PolicyTree.{PolicyTree}
-use Rattle.conspec_parse.specs.declared.types.Var.{Var}
+use Rattle.conspec_tokens.specs.declared.token.Lexeme.{Lexeme}
+use Rattle.conspec_tokens.specs.declared.token.Lexeme.TheVariants.{Quoted, Name, Number, Wrong, End}
+use Rattle.conspec_tokens.specs.declared.token.Token.{Token}
+use Rattle.conspec_tokens.specs.declared.scanning.Spot.{Spot}
+use Rattle.conspec_tokens.specs.declared.scanning.Spot.TheVariants.{Inside}
+use Rattle.conspec_tokens.specs.declared.scanning.Piece.{Piece}
+use Rattle.conspec_tokens.specs.declared.scanning.Piece.TheVariants.{Skips, Begins}
+use Rattle.conspec_tree.specs.declared.types.TreeClause.{TreeClause}
+use Rattle.conspec_tree.specs.declared.types.PolicyTree.{PolicyTree}
+use Rattle.conspec_tree.specs.declared.types.Var.{Var}
 use Rattle.conspec_parse.specs.declared.fault.PolicyFault.{PolicyFault}
 use Rattle.conspec_parse.specs.declared.fault.PolicyFault.TheVariants as faults
 use Rattle.conspec_parse.specs.Fault.{Judged}
-use Rattle.conspec_parse.specs.Forms.{Read, front_at, is_end, each}
+use Rattle.conspec_parse.specs.Forms.{Read, each}
+use Rattle.conspec_tokens.specs.Front.{front_at, is_end}
 use Rattle.conspec_parse.specs.Head.{header_at, variables_at}
 use Rattle.conspec_parse.specs.Clauses.{begins_clause, clause_at}
-use Rattle.conspec_parse.specs.Tokens.{token, seen, begun, next_spot, tokens_from, tokens_of}
+use Rattle.conspec_tokens.specs.Tokens.{token, seen, begun, next_spot, tokens_from, tokens_of}
 use Rattle.conspec_parse.specs.Policy.{policy_at}
 use Rattle.conspec_parse.specs.Deciding.{is_open, Decides, FaultsAreDecided, BeginningsAreRight}
 use Rattle.conspec_parse.proofs.Alike.{Pair, Here, Alike, Shares, Stands, IsNear, IsInMethod, place, ahead, is_of_method, goes_on, within, seen_same, front_same, ended, then}
@@ -271,7 +272,7 @@ faults_are_decided one other listing fault before rest others last fails decides
     let read : policy_at listing.methods (before ++ last ∷ rest) ≡ Err fault = rw is_one at fails in
     rw is_other (tokens_decided before rest others last are listing.methods fault read decides)
 
--- ---- 181
+-- ---- faults of syntax
 
 pub beginnings_are_right : BeginningsAreRight
 beginnings_are_right text listing at fails =

@@ -8,18 +8,20 @@ use Rattle.std.proofs.lemmas.List.{append-nil, map-append}
 use Rattle.std.proofs.lemmas.List.Quantifiers.{all_pairs_push}
 use Rattle.std.proofs.lemmas.Slice.Eq.{bytes_eq-Decides}
 use Rattle.api_listing.specs.Descriptor.{class_spelled}
-use Rattle.conspec_parse.specs.declared.token.Lexeme.{Lexeme}
-use Rattle.conspec_parse.specs.declared.token.Lexeme.TheVariants.{Quoted, Name, Number, Wrong, End}
-use Rattle.conspec_parse.specs.declared.token.Token.{Token}
-use Rattle.conspec_parse.specs.declared.types.Kind.TheVariants as kinds
-use Rattle.conspec_parse.specs.declared.types.Var.{Var}
+use Rattle.conspec_tokens.specs.declared.token.Lexeme.{Lexeme}
+use Rattle.conspec_tokens.specs.declared.token.Lexeme.TheVariants.{Quoted, Name, Number, Wrong, End}
+use Rattle.conspec_tokens.specs.declared.token.Token.{Token}
+use Rattle.conspec_tree.specs.declared.types.Kind.TheVariants as kinds
+use Rattle.conspec_tree.specs.declared.types.Var.{Var}
 use Rattle.conspec_parse.specs.declared.type_name.TypeName.{TypeName}
 use Rattle.conspec_parse.specs.declared.signature.Param.{Param}
 use Rattle.conspec_parse.specs.declared.fault.PolicyFault.TheVariants.{Twice, Limit}
-use Rattle.conspec_parse.specs.Forms.{front_at, quotes, is_next, is_name, behind, names, next_name, name_at, counts, next_number, number_at, taken, is_short}
+use Rattle.conspec_tokens.specs.Front.{front_at, quotes, is_next, is_name, names, next_name, counts, next_number}
+use Rattle.conspec_parse.specs.Forms.{behind, name_at, number_at, taken, is_short}
 use Rattle.conspec_parse.specs.Types.{judged_name, type_named, plain_type, next_part, class_at, class_type_at, element_of, element_at, dimension_at, array_of, type_at}
-use Rattle.conspec_parse.specs.Head.{is_variable}
-use Rattle.conspec_parse.specs.Methods.{kind_or_object, is_named, is_parameter, is_free, given_name_at, parameter_name_at, parameter_at, next_parameter, some_parameters, parameters_at}
+use Rattle.conspec_tree.specs.Variables.{is_variable}
+use Rattle.conspec_tree.specs.Kinds.{kind_or_object}
+use Rattle.conspec_parse.specs.Methods.{is_named, is_parameter, is_free, given_name_at, parameter_name_at, parameter_at, next_parameter, some_parameters, parameters_at}
 use Rattle.conspec_parse.specs.Written.{Element, WrittenType, WrittenParam, led, one_name, element_spelled, brackets_spelled, type_spelled, name_spelled, param_spelled, params_spelled}
 use Rattle.conspec_parse.specs.Written.Element.{Void, Int, Boolean, Byte, Short, Char, Class}
 use Rattle.conspec_parse.specs.Meaning.{EachIs, AreShort, below, element_desc, element_kind, type_desc, kind_in, type_kind, param_of, element_names, optional, names_of_param, param_names, AreParams, lexemes}

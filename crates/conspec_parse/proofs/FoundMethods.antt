@@ -10,19 +10,21 @@ use Rattle.conspec_parse.specs.declared.fault.PolicyFault.{PolicyFault}
 use Rattle.api_listing.specs.BuiltIn.{is_built_in}
 use Rattle.api_listing.specs.Nearest.{declared_in}
 use Rattle.api_listing.specs.declared.types.ListedMethod.{ListedMethod}
-use Rattle.conspec_parse.specs.declared.token.Lexeme.{Lexeme}
-use Rattle.conspec_parse.specs.declared.token.Lexeme.TheVariants.{Quoted, Name}
-use Rattle.conspec_parse.specs.declared.token.Token.{Token}
-use Rattle.conspec_parse.specs.declared.types.Phase.{Phase}
-use Rattle.conspec_parse.specs.declared.types.TreeClause.{TreeClause}
-use Rattle.conspec_parse.specs.declared.types.Var.{Var}
+use Rattle.conspec_tokens.specs.declared.token.Lexeme.{Lexeme}
+use Rattle.conspec_tokens.specs.declared.token.Lexeme.TheVariants.{Quoted, Name}
+use Rattle.conspec_tokens.specs.declared.token.Token.{Token}
+use Rattle.conspec_tree.specs.declared.types.Phase.{Phase}
+use Rattle.conspec_tree.specs.declared.types.TreeClause.{TreeClause}
+use Rattle.conspec_tree.specs.declared.types.Var.{Var}
 use Rattle.conspec_parse.specs.declared.signature.Param.{Param}
 use Rattle.conspec_parse.specs.declared.signature.Path.{Path}
 use Rattle.conspec_parse.specs.declared.signature.Parts.{Parts}
 use Rattle.conspec_parse.specs.declared.signature.Signature.{Signature}
 use Rattle.conspec_parse.specs.declared.fault.PolicyFault.TheVariants.{Syntax, NoMethod, Twice, Builtin}
-use Rattle.conspec_parse.specs.Forms.{Read, front_at, is_next, is_short}
-use Rattle.conspec_parse.specs.Methods.{init, part_at, class_under, next_step, path_at, signature_at, desc_of, has_clause, index_at, method_of, method_at}
+use Rattle.conspec_parse.specs.Forms.{Read, is_short}
+use Rattle.conspec_tokens.specs.Front.{front_at, is_next}
+use Rattle.conspec_parse.specs.Methods.{init, part_at, class_under, next_step, path_at, signature_at, desc_of, index_at, method_of, method_at}
+use Rattle.conspec_tree.specs.Clauses.{has_clause}
 use Rattle.conspec_parse.specs.Written.{WrittenParam, MethodName, dotted, method_spelled, path_spelled, signature_spelled}
 use Rattle.conspec_parse.specs.Written.MethodName.{Constructor, Plain}
 use Rattle.conspec_parse.specs.Meaning.{AreShort, below, joined, param_of, AreParams, method_bytes, method_names, IsMethodIn}

@@ -10,28 +10,31 @@ use Rattle.std.proofs.lemmas.Bool.{leb-true}
 use Rattle.std.proofs.lemmas.List.{append-nil}
 use Rattle.api_listing.specs.declared.types.ListedMethod.{ListedMethod}
 use Rattle.api_listing.specs.declared.types.Listing.{Listing}
-use Rattle.conspec_parse.specs.declared.token.Lexeme.{Lexeme}
-use Rattle.conspec_parse.specs.declared.token.Lexeme.TheVariants.{Quoted, Name, Number, Wrong, End}
-use Rattle.conspec_parse.specs.declared.token.Token.{Token}
-use Rattle.conspec_parse.specs.declared.scanning.Spot.{Spot}
-use Rattle.conspec_parse.specs.declared.scanning.Spot.TheVariants.{Comment, Inside}
-use Rattle.conspec_parse.specs.declared.scanning.Piece.{Piece}
-use Rattle.conspec_parse.specs.declared.scanning.Piece.TheVariants.{Skips, Begins}
-use Rattle.conspec_parse.specs.declared.types.Guard.{Guard}
-use Rattle.conspec_parse.specs.declared.types.Kind.{Kind}
-use Rattle.conspec_parse.specs.declared.types.Phase.{Phase}
-use Rattle.conspec_parse.specs.declared.types.Phase.TheVariants.{Before, After, Exceptional}
-use Rattle.conspec_parse.specs.declared.types.TreeClause.{TreeClause}
-use Rattle.conspec_parse.specs.declared.types.Var.{Var}
-use Rattle.conspec_parse.specs.declared.types.PolicyTree.{PolicyTree}
+use Rattle.conspec_tokens.specs.declared.token.Lexeme.{Lexeme}
+use Rattle.conspec_tokens.specs.declared.token.Lexeme.TheVariants.{Quoted, Name, Number, Wrong, End}
+use Rattle.conspec_tokens.specs.declared.token.Token.{Token}
+use Rattle.conspec_tokens.specs.declared.scanning.Spot.{Spot}
+use Rattle.conspec_tokens.specs.declared.scanning.Spot.TheVariants.{Comment, Inside}
+use Rattle.conspec_tokens.specs.declared.scanning.Piece.{Piece}
+use Rattle.conspec_tokens.specs.declared.scanning.Piece.TheVariants.{Skips, Begins}
+use Rattle.conspec_tree.specs.declared.types.Guard.{Guard}
+use Rattle.conspec_tree.specs.declared.types.Kind.{Kind}
+use Rattle.conspec_tree.specs.declared.types.Phase.{Phase}
+use Rattle.conspec_tree.specs.declared.types.Phase.TheVariants.{Before, After, Exceptional}
+use Rattle.conspec_tree.specs.declared.types.TreeClause.{TreeClause}
+use Rattle.conspec_tree.specs.declared.types.Var.{Var}
+use Rattle.conspec_tree.specs.declared.types.PolicyTree.{PolicyTree}
 use Rattle.conspec_parse.specs.declared.signature.Param.{Param}
 use Rattle.conspec_parse.specs.declared.type_name.TypeName.{TypeName}
 use Rattle.conspec_parse.specs.declared.fault.PolicyFault.TheVariants.{Syntax, Kind as WrongKind, Range, Twice, Limit}
-use Rattle.conspec_parse.specs.Words.{is_keyword, signs}
-use Rattle.conspec_parse.specs.Tokens.{number_of, number_from, first_sign, sign_of, is_blank, begins_comment, in_gap, seen, begun, is_wrong, next_spot, tokens_from, tokens_of}
-use Rattle.conspec_parse.specs.Forms.{front_at, is_next, ends, is_end, is_short}
-use Rattle.conspec_parse.specs.Head.{is_variable, header_at, truth_at, count_at, first_at, begins_variable, variable_at}
-use Rattle.conspec_parse.specs.Clauses.{next_phase, begins_clause, is_after, is_assigned, given_result_at, result_name_at, scope_of, clause_of, clause_at}
+use Rattle.conspec_tokens.specs.Words.{is_keyword, signs}
+use Rattle.conspec_tokens.specs.Tokens.{number_of, number_from, first_sign, sign_of, is_blank, begins_comment, in_gap, seen, begun, is_wrong, next_spot, tokens_from, tokens_of}
+use Rattle.conspec_tokens.specs.Front.{front_at, is_next, ends, is_end}
+use Rattle.conspec_parse.specs.Forms.{is_short}
+use Rattle.conspec_tree.specs.Variables.{is_variable}
+use Rattle.conspec_parse.specs.Head.{header_at, truth_at, count_at, first_at, begins_variable, variable_at}
+use Rattle.conspec_parse.specs.Clauses.{next_phase, begins_clause, is_assigned, given_result_at, result_name_at, scope_of, clause_of, clause_at}
+use Rattle.conspec_tree.specs.Clauses.{is_after}
 use Rattle.conspec_parse.specs.Policy.{policy_at, reading}
 use Rattle.conspec_parse.specs.Written.{WrittenType, WrittenClause, WrittenVar, Written, phase_spelled, result_spelled, clause_spelled, first_spelled, variable_word, variable_spelled, header_spelled, policy_spelled}
 use Rattle.conspec_parse.specs.Meaning.{EachIs, type_desc, type_kind, param_of, AreGuards, IsResult, MayName, IsMethodIn, IsClause, IsFirst, IsVar, lexemes, SpellsPolicy}

@@ -5,12 +5,13 @@ use Rattle.std.specs.List.{flat_map}
 use Rattle.std.proofs.lemmas.List.{append-nil, length-map}
 use Rattle.std.proofs.lemmas.Slice.Eq.{bytes_eq-Decides}
 use Rattle.mon_base.specs.Reading.{◌>>=◌, need}
-use Rattle.conspec_parse.specs.declared.token.Lexeme.{Lexeme}
-use Rattle.conspec_parse.specs.declared.token.Lexeme.TheVariants.{Quoted, Name, Number}
-use Rattle.conspec_parse.specs.declared.token.Token.{Token}
+use Rattle.conspec_tokens.specs.declared.token.Lexeme.{Lexeme}
+use Rattle.conspec_tokens.specs.declared.token.Lexeme.TheVariants.{Quoted, Name, Number}
+use Rattle.conspec_tokens.specs.declared.token.Token.{Token}
 use Rattle.conspec_parse.specs.declared.fault.PolicyFault.{PolicyFault}
 use Rattle.conspec_parse.specs.Fault.{Judged}
-use Rattle.conspec_parse.specs.Forms.{Read, quotes, is_next, names, next_name, is_name, counts, next_number, behind, taken, name_at, number_at, repeated, each}
+use Rattle.conspec_parse.specs.Forms.{Read, behind, taken, name_at, number_at, repeated, each}
+use Rattle.conspec_tokens.specs.Front.{quotes, is_next, names, next_name, is_name, counts, next_number}
 use Rattle.conspec_parse.specs.Meaning.{lexemes}
 
 -- ---- readings

@@ -23,3 +23,4 @@ mod Repeating
 mod Sound
 mod SoundClauses
 mod SoundUpdates
+mod Telling

@@ -2,15 +2,16 @@
 use Rattle.std.proofs.Common.{◌≡◌, ◌⊎◌, inl, inr, ℕ, zero, suc, Bool, true, false, cond, List, [], length, drop, Option, Some, None, Ok, Err, refl, ap}
 use Rattle.std.specs.Prelude.{not, codes, ◌||◌, ok_or}
 use Rattle.mon_base.specs.Reading.{◌>>=◌, need}
-use Rattle.conspec_parse.specs.declared.token.Token.{Token}
-use Rattle.conspec_parse.specs.declared.types.Var.{Var}
+use Rattle.conspec_tokens.specs.declared.token.Token.{Token}
+use Rattle.conspec_tree.specs.declared.types.Var.{Var}
 use Rattle.conspec_parse.specs.declared.type_name.TypeName.{TypeName}
 use Rattle.conspec_parse.specs.declared.signature.Param.{Param}
 use Rattle.conspec_parse.specs.declared.signature.Parts.{Parts}
 use Rattle.conspec_parse.specs.declared.fault.PolicyFault.{PolicyFault}
 use Rattle.conspec_parse.specs.declared.fault.PolicyFault.TheVariants.{Syntax, Twice, Limit}
 use Rattle.conspec_parse.specs.Fault.{Judged}
-use Rattle.conspec_parse.specs.Forms.{Read, front_at, is_next, is_name, behind, name_at, is_short, repeated, each}
+use Rattle.conspec_parse.specs.Forms.{Read, behind, name_at, is_short, repeated, each}
+use Rattle.conspec_tokens.specs.Front.{front_at, is_next, is_name}
 use Rattle.conspec_parse.specs.Types.{judged_name, plain_type, next_part, class_at, class_type_at, element_of, element_at, dimension_at, type_at}
 use Rattle.conspec_parse.specs.Methods.{is_free, given_name_at, parameter_name_at, parameter_at, next_parameter, some_parameters, parameters_at, init, part_at, next_step, path_at, signature_at}
 

@@ -3,7 +3,7 @@ use Rattle.std.proofs.Common.{◌≡◌, ℕ, zero, suc, Bool, true, false, cond
 use Rattle.std.specs.Prelude.{ok_or, IfOk}
 use Rattle.mon_base.specs.Reading.{◌>>=◌, need}
 use Rattle.mon_base.proofs.Reading.{bind_ok, need_ok, ok_is}
-use Rattle.conspec_parse.specs.declared.token.Token.{Token}
+use Rattle.conspec_tokens.specs.declared.token.Token.{Token}
 use Rattle.conspec_parse.specs.declared.fault.PolicyFault.{PolicyFault}
 use Rattle.mon_base.specs.Answer.{Answers}
 use Rattle.conspec_parse.specs.declared.fault.PolicyFault.TheVariants as faults

@@ -1,6 +1,6 @@
 -- Parts that are read as long as more of them stand there, as loops do.
 use Rattle.std.proofs.Common.{◌≡◌, ℕ, suc, ◌+◌, ◌-◌, ◌<◌, ◌≤◌, Bool, true, false, List, Ok, Err, refl, sym, ◌∙◌, arith}
-use Rattle.conspec_parse.specs.declared.token.Token.{Token}
+use Rattle.conspec_tokens.specs.declared.token.Token.{Token}
 use Rattle.conspec_parse.specs.declared.fault.PolicyFault.{PolicyFault}
 use Rattle.conspec_parse.specs.declared.fault.PolicyFault.TheVariants as faults
 use Rattle.mon_base.specs.Answer.{Fails}

@@ -9,20 +9,24 @@ use Rattle.std.proofs.lemmas.Int.{ints}
 use Rattle.std.proofs.lemmas.Option.{slice_get_within}
 use Rattle.std.proofs.lemmas.Slice.Eq.{bytes_eq-Decides}
 use Rattle.std.proofs.lemmas.List.Quantifiers.{all_pairs_push}
-use Rattle.conspec_parse.specs.declared.token.Token.{Token}
-use Rattle.conspec_parse.specs.declared.types.Atom.{Atom}
-use Rattle.conspec_parse.specs.declared.types.Base.{Base}
-use Rattle.conspec_parse.specs.declared.types.Base.TheVariants as bases
-use Rattle.conspec_parse.specs.declared.types.Kind.{Kind}
-use Rattle.conspec_parse.specs.declared.types.Var.{Var}
+use Rattle.conspec_tokens.specs.declared.token.Token.{Token}
+use Rattle.conspec_tree.specs.declared.types.Atom.{Atom}
+use Rattle.conspec_tree.specs.declared.types.Base.{Base}
+use Rattle.conspec_tree.specs.declared.types.Base.TheVariants as bases
+use Rattle.conspec_tree.specs.declared.types.Kind.{Kind}
+use Rattle.conspec_tree.specs.declared.types.Var.{Var}
 use Rattle.conspec_parse.specs.declared.signature.Param.{Param}
 use Rattle.conspec_parse.specs.declared.fault.PolicyFault.TheVariants.{Syntax, Name, Kind as WrongKind, Range, Twice, Limit}
-use Rattle.conspec_parse.specs.Forms.{front_at, is_next, behind, name_at, number_at, taken, is_short}
-use Rattle.conspec_parse.specs.Head.{header_at, truth_at, count_at, first_at, begins_variable, variable_from, is_variable, variable_at, variables_at}
+use Rattle.conspec_tokens.specs.Front.{front_at, is_next}
+use Rattle.conspec_parse.specs.Forms.{behind, name_at, number_at, taken, is_short}
+use Rattle.conspec_parse.specs.Head.{header_at, truth_at, count_at, first_at, begins_variable, variable_at, variables_at}
+use Rattle.conspec_tree.specs.Variables.{variable_from, is_variable}
 use Rattle.conspec_parse.specs.Methods.{is_named}
 use Rattle.conspec_parse.specs.Scope.{Scope, as_variable, argument_from, result_named, base_named}
-use Rattle.conspec_parse.specs.Guards.{is_truth, is_object, is_equality, next_rel, constant_at, atom_at, next_atom, no_atoms, atoms_at, conj_at, next_conj, conjs_at}
-use Rattle.conspec_parse.specs.Tree.{IsInRange, Askable, IsNumber, IsBase, AreAtoms}
+use Rattle.conspec_tree.specs.Kinds.{is_truth, is_object}
+use Rattle.conspec_parse.specs.Guards.{next_rel, constant_at, atom_at, next_atom, no_atoms, atoms_at, conj_at, next_conj, conjs_at}
+use Rattle.conspec_tree.specs.Kinds.{is_equality}
+use Rattle.conspec_tree.specs.Tree.{IsInRange, Askable, IsNumber, IsBase, AreAtoms}
 use Rattle.conspec_parse.proofs.Made.{Makes, done, then, tested, either, failed, any, given, said, each_makes}
 
 -- ---- lists and tests

@@ -8,29 +8,34 @@ use Rattle.std.proofs.lemmas.List.{length-map}
 use Rattle.std.proofs.lemmas.List.Quantifiers.{all_pairs_push}
 use Rattle.api_listing.specs.declared.types.ListedMethod.{ListedMethod}
 use Rattle.api_listing.specs.declared.types.Listing.{Listing}
-use Rattle.conspec_parse.specs.declared.token.Token.{Token}
-use Rattle.conspec_parse.specs.declared.types.Atom.{Atom}
-use Rattle.conspec_parse.specs.declared.types.Guard.{Guard}
-use Rattle.conspec_parse.specs.declared.types.Kind.{Kind}
-use Rattle.conspec_parse.specs.declared.types.Phase.{Phase}
-use Rattle.conspec_parse.specs.declared.types.Phase.TheVariants.{Before, After, Exceptional}
-use Rattle.conspec_parse.specs.declared.types.TreeClause.{TreeClause}
-use Rattle.conspec_parse.specs.declared.types.Var.{Var}
+use Rattle.conspec_tokens.specs.declared.token.Token.{Token}
+use Rattle.conspec_tree.specs.declared.types.Atom.{Atom}
+use Rattle.conspec_tree.specs.declared.types.Guard.{Guard}
+use Rattle.conspec_tree.specs.declared.types.Kind.{Kind}
+use Rattle.conspec_tree.specs.declared.types.Phase.{Phase}
+use Rattle.conspec_tree.specs.declared.types.Phase.TheVariants.{Before, After, Exceptional}
+use Rattle.conspec_tree.specs.declared.types.TreeClause.{TreeClause}
+use Rattle.conspec_tree.specs.declared.types.Var.{Var}
 use Rattle.conspec_parse.specs.declared.signature.Param.{Param}
 use Rattle.conspec_parse.specs.declared.signature.Signature.{Signature}
 use Rattle.conspec_parse.specs.declared.fault.PolicyFault.TheVariants.{Syntax, Kind as WrongKind, NoMethod, Twice, Limit, Builtin}
-use Rattle.conspec_parse.specs.Forms.{Read, front_at, is_next, is_end, is_short, name_at, behind}
-use Rattle.conspec_parse.specs.Head.{is_variable}
+use Rattle.conspec_parse.specs.Forms.{Read, is_short, name_at, behind}
+use Rattle.conspec_tokens.specs.Front.{front_at, is_next, is_end}
+use Rattle.conspec_tree.specs.Variables.{is_variable}
 use Rattle.conspec_parse.specs.Types.{type_at}
 use Rattle.api_listing.specs.BuiltIn.{is_built_in, is_method}
 use Rattle.api_listing.specs.Nearest.{declared_in}
 use Rattle.conspec_parse.specs.Scope.{Scope}
-use Rattle.conspec_parse.specs.Updates.{all_range_atoms}
-use Rattle.conspec_parse.specs.Methods.{kind_or_object, phase_number, has_clause, desc_of, index_at, method_of, method_at, signature_at}
-use Rattle.conspec_parse.specs.Clauses.{branches, longest_from, longest, begins_guard, guard_at, last_guard, body_at, next_phase, begins_clause, is_after, is_assigned, given_result_at, result_name_at, scope_of, clause_of, clause_at}
-use Rattle.conspec_parse.specs.Tokens.{tokens_of}
+use Rattle.conspec_tree.specs.Updates.{all_range_atoms}
+use Rattle.conspec_tree.specs.Kinds.{kind_or_object}
+use Rattle.conspec_tree.specs.Clauses.{phase_number, has_clause}
+use Rattle.conspec_parse.specs.Methods.{desc_of, index_at, method_of, method_at, signature_at}
+use Rattle.conspec_tree.specs.Guards.{branches, longest_from, longest}
+use Rattle.conspec_parse.specs.Clauses.{begins_guard, guard_at, last_guard, body_at, next_phase, begins_clause, is_assigned, given_result_at, result_name_at, scope_of, clause_of, clause_at}
+use Rattle.conspec_tree.specs.Clauses.{is_after}
+use Rattle.conspec_tokens.specs.Tokens.{tokens_of}
 use Rattle.conspec_parse.specs.Policy.{policy_at, reading}
-use Rattle.conspec_parse.specs.Tree.{Askable, asked, AreAtoms, IsGuardIn, IsClauseIn, Differ, IsPolicyTree}
+use Rattle.conspec_tree.specs.Tree.{Askable, asked, AreAtoms, IsGuardIn, IsClauseIn, Differ, IsPolicyTree}
 use Rattle.conspec_parse.proofs.Branches.{branches_more}
 use Rattle.conspec_parse.proofs.Made.{Makes, done, then, tested, either, failed, any, given, each_makes}
 use Rattle.conspec_parse.proofs.Sound.{all_more, no_pairs, neither, both, Asks, is_not, room_for_one, IsConj, conjs_sound, variables_sound, header_sound}

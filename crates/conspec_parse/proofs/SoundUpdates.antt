@@ -6,16 +6,18 @@ use Rattle.std.specs.Ordering.{int_eq}
 use Rattle.std.proofs.lemmas.Bool.{ltb-true, leb-true, eqb-true, eq-eqb}
 use Rattle.std.proofs.lemmas.Int.{ints}
 use Rattle.std.proofs.lemmas.List.Quantifiers.{all_pairs_push}
-use Rattle.conspec_parse.specs.declared.token.Token.{Token}
-use Rattle.conspec_parse.specs.declared.types.Update.{Update}
-use Rattle.conspec_parse.specs.declared.types.Update.TheVariants.{Set, Add}
-use Rattle.conspec_parse.specs.declared.types.Var.{Var}
+use Rattle.conspec_tokens.specs.declared.token.Token.{Token}
+use Rattle.conspec_tree.specs.declared.types.Update.{Update}
+use Rattle.conspec_tree.specs.declared.types.Update.TheVariants.{Set, Add}
+use Rattle.conspec_tree.specs.declared.types.Var.{Var}
 use Rattle.conspec_parse.specs.declared.fault.PolicyFault.TheVariants.{Name, Kind as WrongKind, Range, Twice, Limit}
-use Rattle.conspec_parse.specs.Forms.{front_at, is_next, is_name, behind, name_at, number_at, taken}
-use Rattle.conspec_parse.specs.Head.{variable_from}
+use Rattle.conspec_tokens.specs.Front.{front_at, is_next, is_name}
+use Rattle.conspec_parse.specs.Forms.{behind, name_at, number_at, taken}
+use Rattle.conspec_tree.specs.Variables.{variable_from}
 use Rattle.conspec_parse.specs.Guards.{truth_value, negative_at, positive_at, constant_at}
-use Rattle.conspec_parse.specs.Updates.{target, is_updated, range_atoms, all_range_atoms, set_at, next_sign, signed, sum_at, right_at, update_at, block_at}
-use Rattle.conspec_parse.specs.Tree.{IsInRange, IsUpdateOf, IsUpdateIn}
+use Rattle.conspec_tree.specs.Updates.{target, is_updated, range_atoms, all_range_atoms}
+use Rattle.conspec_parse.specs.Updates.{set_at, next_sign, signed, sum_at, right_at, update_at, block_at}
+use Rattle.conspec_tree.specs.Tree.{IsInRange, IsUpdateOf, IsUpdateIn}
 use Rattle.conspec_parse.proofs.Made.{Makes, done, then, tested, either, any, given, each_makes}
 use Rattle.conspec_parse.proofs.Sound.{all_more, no_pairs, neither, both, is_not, variable_there}
 

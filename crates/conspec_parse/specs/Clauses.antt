@@ -1,39 +1,29 @@
 -- Clauses: the events of a method, and what is asked and done there.
-use Rattle.std.specs.Prelude.{is_some, max, ◌||◌, ◌&&◌, not, ℕ, ◌+◌, ℤ, Bool, true, false, List, [], ◌∷◌, ◌++◌, length, map, drop, codes, nat_lt, Option, Some, None, ok_or, Ok, if◌then◌else◌}
+use Rattle.std.specs.Prelude.{is_some, ◌||◌, ◌&&◌, not, ℕ, ℤ, Bool, true, List, [], ◌∷◌, ◌++◌, length, map, drop, codes, nat_lt, Option, Some, None, ok_or, Ok, if◌then◌else◌}
 use Rattle.mon_base.specs.Reading.{◌>>=◌, need}
 use Rattle.api_listing.specs.declared.types.ListedMethod.{ListedMethod}
-use Rattle.conspec_parse.specs.declared.token.Token.{Token}
-use Rattle.conspec_parse.specs.declared.types.Kind.{Kind}
-use Rattle.conspec_parse.specs.declared.types.Phase.{Phase}
-use Rattle.conspec_parse.specs.declared.types.Phase.TheVariants.{Before, After, Exceptional}
-use Rattle.conspec_parse.specs.declared.types.Atom.{Atom}
-use Rattle.conspec_parse.specs.declared.types.Var.{Var}
-use Rattle.conspec_parse.specs.declared.types.Guard.{Guard}
-use Rattle.conspec_parse.specs.declared.types.TreeClause.{TreeClause}
+use Rattle.conspec_tokens.specs.declared.token.Token.{Token}
+use Rattle.conspec_tree.specs.declared.types.Kind.{Kind}
+use Rattle.conspec_tree.specs.declared.types.Phase.{Phase}
+use Rattle.conspec_tree.specs.declared.types.Phase.TheVariants.{Before, After, Exceptional}
+use Rattle.conspec_tree.specs.declared.types.Var.{Var}
+use Rattle.conspec_tree.specs.declared.types.Guard.{Guard}
+use Rattle.conspec_tree.specs.declared.types.TreeClause.{TreeClause}
 use Rattle.conspec_parse.specs.declared.signature.Param.{Param}
 use Rattle.conspec_parse.specs.declared.fault.PolicyFault.TheVariants.{Syntax, Kind as WrongKind, Twice, Limit}
-use Rattle.conspec_parse.specs.Forms.{Read, front_at, is_next, is_name, behind, name_at, is_short, each}
-use Rattle.conspec_parse.specs.Head.{is_variable}
+use Rattle.conspec_parse.specs.Forms.{Read, behind, name_at, is_short, each}
+use Rattle.conspec_tokens.specs.Front.{front_at, is_next, is_name}
+use Rattle.conspec_tree.specs.Clauses.{is_after}
+use Rattle.conspec_tree.specs.Guards.{branches, longest}
+use Rattle.conspec_tree.specs.Variables.{is_variable}
 use Rattle.conspec_parse.specs.Types.{type_at}
-use Rattle.conspec_parse.specs.Methods.{kind_or_object, method_at}
+use Rattle.conspec_tree.specs.Kinds.{kind_or_object}
+use Rattle.conspec_parse.specs.Methods.{method_at}
 use Rattle.conspec_parse.specs.Guards.{conjs_at}
 use Rattle.conspec_parse.specs.Scope.{Scope}
 use Rattle.conspec_parse.specs.Updates.{block_at}
 
 -- ---- bodies
-
--- how many branches the guards have
-abbrev pub branches : List Guard → ℕ
-branches [] = 0
-branches (g ∷ guards) = length g.conjs + branches guards
-
--- how many atoms the longest of the branches has
-abbrev pub longest_from : ℕ → List (List Atom) → ℕ
-longest_from most [] = most
-longest_from most (c ∷ conjs) = longest_from (max most (length c)) conjs
-
-abbrev pub longest : List (List Atom) → ℕ
-longest conjs = longest_from 0 conjs
 
 abbrev pub begins_guard : List Token → Bool
 begins_guard tokens = is_next (codes "true") tokens || is_name tokens
@@ -73,10 +63,6 @@ next_phase tokens =
 
 abbrev pub begins_clause : List Token → Bool
 begins_clause tokens = is_some (next_phase tokens)
-
-abbrev pub is_after : Phase → Bool
-is_after After = true
-is_after other = false
 
 -- a name and `=`
 abbrev pub is_assigned : List Token → Bool

@@ -2,14 +2,14 @@
 use Rattle.std.specs.Prelude.{◌≡◌, ◌≢◌, ◌<◌, ◌≤◌, ℕ, Bool, true, false, List, [], ◌∷◌, ◌++◌, codes, None, Err, if◌then◌else◌}
 use Rattle.std.specs.List.{AllByRecursion}
 use Rattle.api_listing.specs.declared.types.Listing.{Listing}
-use Rattle.conspec_parse.specs.declared.token.Lexeme.{Lexeme}
-use Rattle.conspec_parse.specs.declared.token.Token.{Token}
-use Rattle.conspec_parse.specs.declared.types.Phase.TheVariants.{After}
+use Rattle.conspec_tokens.specs.declared.token.Lexeme.{Lexeme}
+use Rattle.conspec_tokens.specs.declared.token.Token.{Token}
+use Rattle.conspec_tree.specs.declared.types.Phase.TheVariants.{After}
 use Rattle.conspec_parse.specs.declared.fault.PolicyFault.{PolicyFault}
 use Rattle.conspec_parse.specs.declared.fault.PolicyFault.TheVariants as faults
-use Rattle.conspec_parse.specs.Forms.{quotes}
+use Rattle.conspec_tokens.specs.Front.{quotes}
 use Rattle.conspec_parse.specs.Clauses.{begins_clause}
-use Rattle.conspec_parse.specs.Tokens.{tokens_of}
+use Rattle.conspec_tokens.specs.Tokens.{tokens_of}
 use Rattle.conspec_parse.specs.Policy.{reading}
 use Rattle.conspec_parse.specs.Meaning.{lexemes}
 use Rattle.conspec_parse.specs.Written.{Written, WrittenClause, policy_spelled}
@@ -29,8 +29,8 @@ is_open_from now (t ∷ tokens) = is_open_from (opened_by now t) tokens
 abbrev pub is_open : List Token → Bool
 is_open tokens = is_open_from false tokens
 
--- The tokens up to and with the last decide the fault. 181 and 182 are decided by the token where they stand. 183 and 184 hang on one
--- token more at most: a name is that of a result where `=` stands behind it, and `-` is part of the number behind it. The others may
+-- The tokens up to and with the last decide the fault. Faults of syntax and of names are decided by the token where they stand. Those of
+-- kinds and ranges hang on one token more at most: a name is that of a result where `=` stands behind it, and `-` is part of the number behind it. The others may
 -- stand in a method, which is judged as a whole before the names in it are, so they hang on its `)`; outside of methods they, too, hang
 -- on one token more at most.
 abbrev pub Decides : PolicyFault → List Token → Token → Type 0
@@ -52,7 +52,7 @@ FaultsAreDecided =
     → tokens_of one ≡ before ++ last ∷ behind → tokens_of other ≡ before ++ last ∷ others
     → reading other listing ≡ Err fault
 
--- ---- 181
+-- ---- faults of syntax
 
 -- A method is written with its class, and a result only behind AFTER.
 pub record IsInGrammar (clause : WrittenClause) : Type 0 where
@@ -71,7 +71,7 @@ pub record BeginsPolicy (tokens : List Token) (at : ℕ) : Type 0 where
   pub more : List Lexeme
   pub spelled : policy_spelled written ≡ lexemes before ++ more
 
--- Before a 181 stands the beginning of a written policy.
+-- Before a fault of syntax stands the beginning of a written policy.
 abbrev pub BeginningsAreRight : Type 0
 BeginningsAreRight =
     (text : List ℕ) (listing : Listing) (at : ℕ) → reading text listing ≡ Err (faults.Syntax at) → BeginsPolicy (tokens_of text) at

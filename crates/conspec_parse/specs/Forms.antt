@@ -1,9 +1,8 @@
 -- The forms in which tokens are read, one after another.
-use Rattle.std.specs.Prelude.{is_some, ℕ, zero, suc, Bool, true, false, List, [], ◌∷◌, length, drop, bytes_eq, nat_le, Option, Some, None, ok_or, Ok, Err, if◌then◌else◌}
+use Rattle.std.specs.Prelude.{ℕ, zero, suc, Bool, List, length, drop, nat_le, Option, ok_or, Ok, Err, if◌then◌else◌}
 use Rattle.mon_base.specs.Reading.{◌>>=◌}
-use Rattle.conspec_parse.specs.declared.token.Lexeme.{Lexeme}
-use Rattle.conspec_parse.specs.declared.token.Lexeme.TheVariants.{Quoted, Name, Number, End}
-use Rattle.conspec_parse.specs.declared.token.Token.{Token}
+use Rattle.conspec_tokens.specs.declared.token.Token.{Token}
+use Rattle.conspec_tokens.specs.Front.{front_at, is_next, next_name, next_number}
 use Rattle.conspec_parse.specs.declared.fault.PolicyFault.TheVariants.{Syntax}
 use Rattle.conspec_parse.specs.Fault.{Judged}
 
@@ -11,53 +10,9 @@ use Rattle.conspec_parse.specs.Fault.{Judged}
 abbrev pub Read : Type 0 → Type 0
 Read X = Judged (X × List Token)
 
--- where the first token stands
-abbrev pub front_at : List Token → ℕ
-front_at [] = 0
-front_at (t ∷ others) = t.at
-
-abbrev pub quotes : List ℕ → Lexeme → Bool
-quotes text (Quoted word) = bytes_eq word text
-quotes text other = false
-
--- whether the first token is this keyword or sign
-abbrev pub is_next : List ℕ → List Token → Bool
-is_next text [] = false
-is_next text (t ∷ others) = quotes text t.lexeme
-
-abbrev pub ends : Lexeme → Bool
-ends End = true
-ends other = false
-
--- whether the first token is the end of the text
-abbrev pub is_end : List Token → Bool
-is_end [] = false
-is_end (t ∷ others) = ends t.lexeme
-
 -- The tokens behind this keyword or sign, which has to stand first.
 abbrev pub behind : List ℕ → List Token → Judged (List Token)
 behind text tokens = if is_next text tokens then Ok (drop 1 tokens) else Err (Syntax (front_at tokens))
-
-abbrev pub names : Lexeme → Option (List ℕ)
-names (Name word) = Some word
-names other = None
-
--- the name that the first token is
-abbrev pub next_name : List Token → Option (List ℕ)
-next_name [] = None
-next_name (t ∷ others) = names t.lexeme
-
-abbrev pub is_name : List Token → Bool
-is_name tokens = is_some (next_name tokens)
-
-abbrev pub counts : Lexeme → Option ℕ
-counts (Number n) = Some n
-counts other = None
-
--- the number that the first token is
-abbrev pub next_number : List Token → Option ℕ
-next_number [] = None
-next_number (t ∷ others) = counts t.lexeme
 
 -- a token that has to stand first
 abbrev pub taken : {X : Type 0} → Option X → List Token → Read X

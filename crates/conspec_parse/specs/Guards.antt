@@ -1,23 +1,15 @@
 -- Guards: atoms over the variables, the arguments and the result.
-use Rattle.std.specs.Prelude.{◌||◌, not, ℕ, ◌+◌, ℤ, pos, neg_ℤ, Bool, true, false, List, [], ◌∷◌, ◌++◌, length, drop, codes, nat_le, nat_lt, Option, Some, None, ok_or, Ok, if◌then◌else◌}
+use Rattle.std.specs.Prelude.{◌||◌, not, ℕ, ◌+◌, ℤ, pos, neg_ℤ, Bool, List, [], ◌∷◌, ◌++◌, length, drop, codes, nat_le, nat_lt, Option, Some, None, ok_or, Ok, if◌then◌else◌}
 use Rattle.mon_base.specs.Reading.{◌>>=◌, need}
-use Rattle.conspec_parse.specs.declared.token.Token.{Token}
-use Rattle.conspec_parse.specs.declared.types.Kind.{Kind}
-use Rattle.conspec_parse.specs.declared.types.Kind.TheVariants as kinds
-use Rattle.conspec_parse.specs.declared.types.Rel.{Rel}
-use Rattle.conspec_parse.specs.declared.types.Rel.TheVariants as rels
-use Rattle.conspec_parse.specs.declared.types.Atom.{Atom}
+use Rattle.conspec_tokens.specs.declared.token.Token.{Token}
+use Rattle.conspec_tree.specs.declared.types.Rel.{Rel}
+use Rattle.conspec_tree.specs.declared.types.Rel.TheVariants as rels
+use Rattle.conspec_tree.specs.declared.types.Atom.{Atom}
+use Rattle.conspec_tree.specs.Kinds.{is_truth, is_object, is_equality}
 use Rattle.conspec_parse.specs.declared.fault.PolicyFault.TheVariants.{Name, Kind as WrongKind, Range, Limit}
-use Rattle.conspec_parse.specs.Forms.{Read, front_at, is_next, behind, name_at, number_at, taken, each}
+use Rattle.conspec_parse.specs.Forms.{Read, behind, name_at, number_at, taken, each}
+use Rattle.conspec_tokens.specs.Front.{front_at, is_next}
 use Rattle.conspec_parse.specs.Scope.{Scope, base_named}
-
-abbrev pub is_truth : Kind → Bool
-is_truth kinds.Bool = true
-is_truth other = false
-
-abbrev pub is_object : Kind → Bool
-is_object kinds.Object = true
-is_object other = false
 
 -- ---- atoms
 
@@ -30,11 +22,6 @@ next_rel tokens =
     else if is_next (codes ">") tokens then Some rels.Gt
     else if is_next (codes ">=") tokens then Some rels.Ge
     else None
-
-abbrev pub is_equality : Rel → Bool
-is_equality rels.Eq = true
-is_equality rels.Ne = true
-is_equality other = false
 
 -- `true` or `false`, where a truth value may stand
 unfoldable pub truth_value : ℕ → Bool → List Token → Read ℤ

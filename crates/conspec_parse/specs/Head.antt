@@ -1,10 +1,12 @@
 -- The head of a policy and its state variables.
-use Rattle.std.specs.Prelude.{ℕ, ℤ, pos, ◌+◌, ◌&&◌, ◌||◌, not, Bool, true, false, List, [], ◌∷◌, ◌++◌, length, drop, codes, bytes_eq, nat_le, nat_lt, int_le, Option, Some, None, Ok, Err, if◌then◌else◌}
+use Rattle.std.specs.Prelude.{ℤ, pos, ◌&&◌, ◌||◌, not, Bool, true, false, List, [], ◌∷◌, ◌++◌, length, drop, codes, nat_le, nat_lt, int_le, Ok, Err, if◌then◌else◌}
 use Rattle.mon_base.specs.Reading.{◌>>=◌, need}
-use Rattle.conspec_parse.specs.declared.token.Token.{Token}
-use Rattle.conspec_parse.specs.declared.types.Var.{Var}
+use Rattle.conspec_tokens.specs.declared.token.Token.{Token}
+use Rattle.conspec_tree.specs.declared.types.Var.{Var}
+use Rattle.conspec_tree.specs.Variables.{is_variable}
 use Rattle.conspec_parse.specs.declared.fault.PolicyFault.TheVariants.{Syntax, Range, Twice, Limit}
-use Rattle.conspec_parse.specs.Forms.{Read, front_at, is_next, behind, name_at, number_at, is_short, each}
+use Rattle.conspec_parse.specs.Forms.{Read, behind, name_at, number_at, is_short, each}
+use Rattle.conspec_tokens.specs.Front.{front_at, is_next}
 
 -- `MAXINT` and its number, `SCOPE Session SECURITY STATE`
 unfoldable pub header_at : List Token → Read ℤ
@@ -17,15 +19,6 @@ header_at tokens = do
   security ← behind (codes "SECURITY") session
   state ← behind (codes "STATE") security
   Ok (pos maxint.0, state)
-
--- the index of the variable with the name, counted on from i, and whether it is a bool
-abbrev pub variable_from : ℕ → List Var → List ℕ → Option (ℕ × Bool)
-variable_from i [] name = None
-variable_from i (v ∷ vars) name = if bytes_eq v.name name then Some (i, v.is_bool) else variable_from (i + 1) vars name
-
-abbrev pub is_variable : List Var → List ℕ → Bool
-is_variable [] name = false
-is_variable (v ∷ vars) name = bytes_eq v.name name || is_variable vars name
 
 -- `true` or `false`
 unfoldable pub truth_at : List Token → Read ℤ

@@ -8,9 +8,7 @@ pub mod Meaning
 pub mod Methods
 pub mod Policy
 pub mod Scope
-pub mod Tokens
-pub mod Tree
+pub mod Telling
 pub mod Types
 pub mod Updates
-pub mod Words
 pub mod Written

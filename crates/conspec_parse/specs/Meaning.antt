@@ -6,29 +6,34 @@ use Rattle.api_listing.specs.Nearest.{declared_in}
 use Rattle.api_listing.specs.Descriptor.{class_spelled}
 use Rattle.api_listing.specs.declared.types.ListedMethod.{ListedMethod}
 use Rattle.api_listing.specs.declared.types.Listing.{Listing}
-use Rattle.conspec_parse.specs.declared.token.Token.{Token}
-use Rattle.conspec_parse.specs.declared.token.Lexeme.{Lexeme}
-use Rattle.conspec_parse.specs.declared.types.Atom.{Atom}
-use Rattle.conspec_parse.specs.declared.types.Kind.{Kind}
-use Rattle.conspec_parse.specs.declared.types.Kind.TheVariants as kinds
-use Rattle.conspec_parse.specs.declared.types.Phase.{Phase}
-use Rattle.conspec_parse.specs.declared.types.Phase.TheVariants as phases
-use Rattle.conspec_parse.specs.declared.types.Update.{Update}
-use Rattle.conspec_parse.specs.declared.types.Update.TheVariants.{Set, Add}
-use Rattle.conspec_parse.specs.declared.types.Var.{Var}
-use Rattle.conspec_parse.specs.declared.types.Guard.{Guard}
-use Rattle.conspec_parse.specs.declared.types.TreeClause.{TreeClause}
-use Rattle.conspec_parse.specs.declared.types.PolicyTree.{PolicyTree}
+use Rattle.conspec_tokens.specs.declared.token.Token.{Token}
+use Rattle.conspec_tokens.specs.declared.token.Lexeme.{Lexeme}
+use Rattle.conspec_tree.specs.declared.types.Atom.{Atom}
+use Rattle.conspec_tree.specs.declared.types.Kind.{Kind}
+use Rattle.conspec_tree.specs.declared.types.Kind.TheVariants as kinds
+use Rattle.conspec_tree.specs.declared.types.Phase.{Phase}
+use Rattle.conspec_tree.specs.declared.types.Phase.TheVariants as phases
+use Rattle.conspec_tree.specs.declared.types.Update.{Update}
+use Rattle.conspec_tree.specs.declared.types.Update.TheVariants.{Set, Add}
+use Rattle.conspec_tree.specs.declared.types.Var.{Var}
+use Rattle.conspec_tree.specs.declared.types.Guard.{Guard}
+use Rattle.conspec_tree.specs.declared.types.TreeClause.{TreeClause}
+use Rattle.conspec_tree.specs.declared.types.PolicyTree.{PolicyTree}
 use Rattle.conspec_parse.specs.declared.signature.Param.{Param}
-use Rattle.conspec_parse.specs.Tokens.{tokens_of}
+use Rattle.conspec_tokens.specs.Tokens.{tokens_of}
 use Rattle.conspec_parse.specs.Forms.{is_short}
-use Rattle.conspec_parse.specs.Head.{variable_from, is_variable}
-use Rattle.conspec_parse.specs.Methods.{init, kind_or_object, desc_of}
+use Rattle.conspec_tree.specs.Variables.{variable_from, is_variable}
+use Rattle.conspec_parse.specs.Methods.{init, desc_of}
+use Rattle.conspec_tree.specs.Kinds.{kind_or_object}
 use Rattle.conspec_parse.specs.Scope.{Scope, base_named}
-use Rattle.conspec_parse.specs.Guards.{is_truth, is_object, is_equality}
-use Rattle.conspec_parse.specs.Updates.{target, all_range_atoms, signed}
-use Rattle.conspec_parse.specs.Clauses.{branches, scope_of, clause_of}
-use Rattle.conspec_parse.specs.Tree.{Differ}
+use Rattle.conspec_tree.specs.Kinds.{is_truth, is_object}
+use Rattle.conspec_parse.specs.Guards.{}
+use Rattle.conspec_tree.specs.Kinds.{is_equality}
+use Rattle.conspec_tree.specs.Updates.{target, all_range_atoms}
+use Rattle.conspec_parse.specs.Updates.{signed}
+use Rattle.conspec_tree.specs.Guards.{branches}
+use Rattle.conspec_parse.specs.Clauses.{scope_of, clause_of}
+use Rattle.conspec_tree.specs.Tree.{Differ}
 use Rattle.conspec_parse.specs.Written.{Element, WrittenType, WrittenParam, MethodName, Constant, WrittenAtom, Right, WrittenUpdate, WrittenGuard, WrittenClause, WrittenVar, Written, policy_spelled}
 use Rattle.conspec_parse.specs.Written.Element.{Void, Int, Boolean, Byte, Short, Char, Class}
 use Rattle.conspec_parse.specs.Written.MethodName.{Constructor, Plain}

@@ -1,33 +1,28 @@
 -- The method of a clause: its class and name, its parameters, and which listed method it is.
-use Rattle.std.specs.Prelude.{◌||◌, ◌&&◌, ◌==◌, not, ℕ, Bool, true, false, List, [], ◌∷◌, ◌++◌, length, drop, codes, bytes_eq, nat_le, Option, Some, None, ok_or, Ok, Err, if◌then◌else◌}
+use Rattle.std.specs.Prelude.{◌||◌, not, ℕ, Bool, true, false, List, [], ◌∷◌, ◌++◌, length, drop, codes, bytes_eq, nat_le, Option, Some, None, ok_or, Ok, Err, if◌then◌else◌}
 use Rattle.std.specs.List.{flat_map}
 use Rattle.mon_base.specs.Reading.{◌>>=◌, need}
 use Rattle.api_listing.specs.BuiltIn.{is_built_in}
 use Rattle.api_listing.specs.Nearest.{declared_in}
 use Rattle.api_listing.specs.declared.types.ListedMethod.{ListedMethod}
-use Rattle.conspec_parse.specs.declared.token.Token.{Token}
-use Rattle.conspec_parse.specs.declared.types.Kind.{Kind}
-use Rattle.conspec_parse.specs.declared.types.Kind.TheVariants.{Object}
-use Rattle.conspec_parse.specs.declared.types.Phase.{Phase}
-use Rattle.conspec_parse.specs.declared.types.Phase.TheVariants.{Before, After, Exceptional}
-use Rattle.conspec_parse.specs.declared.types.Var.{Var}
-use Rattle.conspec_parse.specs.declared.types.TreeClause.{TreeClause}
+use Rattle.conspec_tokens.specs.declared.token.Token.{Token}
+use Rattle.conspec_tree.specs.declared.types.Phase.{Phase}
+use Rattle.conspec_tree.specs.declared.types.Var.{Var}
+use Rattle.conspec_tree.specs.declared.types.TreeClause.{TreeClause}
 use Rattle.conspec_parse.specs.declared.signature.Param.{Param}
 use Rattle.conspec_parse.specs.declared.signature.Path.{Path}
 use Rattle.conspec_parse.specs.declared.signature.Parts.{Parts}
 use Rattle.conspec_parse.specs.declared.signature.Signature.{Signature}
 use Rattle.conspec_parse.specs.declared.fault.PolicyFault.TheVariants.{Syntax, NoMethod, Twice, Limit, Builtin}
 use Rattle.conspec_parse.specs.Fault.{Judged}
-use Rattle.conspec_parse.specs.Forms.{Read, front_at, is_next, is_name, behind, name_at, is_short, each}
-use Rattle.conspec_parse.specs.Head.{is_variable}
+use Rattle.conspec_parse.specs.Forms.{Read, behind, name_at, is_short, each}
+use Rattle.conspec_tokens.specs.Front.{front_at, is_next, is_name}
+use Rattle.conspec_tree.specs.Clauses.{has_clause}
+use Rattle.conspec_tree.specs.Kinds.{kind_or_object}
+use Rattle.conspec_tree.specs.Variables.{is_variable}
 use Rattle.conspec_parse.specs.Types.{judged_name, type_at}
 
 -- ---- parameters
-
--- the kind of a type that is not `void` alone
-abbrev pub kind_or_object : Option Kind → Kind
-kind_or_object None = Object
-kind_or_object (Some kind) = kind
 
 abbrev pub is_named : Option (List ℕ) → List ℕ → Bool
 is_named None name = false
@@ -119,16 +114,6 @@ signature_at judged vars tokens = do
 -- the descriptor of a method with the parameters and the result
 abbrev pub desc_of : List Param → List ℕ → List ℕ
 desc_of params result = 40 ∷ (flat_map (λ p. p.desc) params ++ 41 ∷ result)
-
-abbrev pub phase_number : Phase → ℕ
-phase_number Before = 0
-phase_number After = 1
-phase_number Exceptional = 2
-
--- whether one of the clauses is for the same events of the method
-abbrev pub has_clause : List TreeClause → Phase → ℕ → Bool
-has_clause [] phase method = false
-has_clause (c ∷ clauses) phase method = (c.method == method && phase_number c.phase == phase_number phase) || has_clause clauses phase method
 
 -- The listed method with this class, name and descriptor, which stands at a token. It has no clause of the phase yet, and no method
 -- has more than 255 parameters.

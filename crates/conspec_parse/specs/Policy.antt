@@ -3,14 +3,15 @@ use Rattle.std.specs.Prelude.{ℕ, List, [], Ok}
 use Rattle.mon_base.specs.Reading.{◌>>=◌, need}
 use Rattle.api_listing.specs.declared.types.ListedMethod.{ListedMethod}
 use Rattle.api_listing.specs.declared.types.Listing.{Listing}
-use Rattle.conspec_parse.specs.declared.token.Token.{Token}
-use Rattle.conspec_parse.specs.declared.types.PolicyTree.{PolicyTree}
+use Rattle.conspec_tokens.specs.declared.token.Token.{Token}
+use Rattle.conspec_tree.specs.declared.types.PolicyTree.{PolicyTree}
 use Rattle.conspec_parse.specs.declared.fault.PolicyFault.TheVariants.{Syntax}
 use Rattle.conspec_parse.specs.Fault.{Judged}
-use Rattle.conspec_parse.specs.Forms.{front_at, is_end, each}
+use Rattle.conspec_tokens.specs.Front.{front_at, is_end}
+use Rattle.conspec_parse.specs.Forms.{each}
 use Rattle.conspec_parse.specs.Head.{header_at, variables_at}
 use Rattle.conspec_parse.specs.Clauses.{begins_clause, clause_at}
-use Rattle.conspec_parse.specs.Tokens.{tokens_of}
+use Rattle.conspec_tokens.specs.Tokens.{tokens_of}
 
 unfoldable pub policy_at : List ListedMethod → List Token → Judged PolicyTree
 policy_at methods tokens = do

@@ -1,13 +1,13 @@
 -- What names mean in a clause.
 use Rattle.std.specs.Prelude.{ℕ, ◌+◌, ◌≤◌, Bool, true, false, List, [], ◌∷◌, length, Option, Some, None, if◌then◌else◌}
 use Rattle.std.specs.Option.{option_or, option_map}
-use Rattle.conspec_parse.specs.declared.types.Base.{Base}
-use Rattle.conspec_parse.specs.declared.types.Base.TheVariants as bases
-use Rattle.conspec_parse.specs.declared.types.Kind.{Kind}
-use Rattle.conspec_parse.specs.declared.types.Kind.TheVariants as kinds
-use Rattle.conspec_parse.specs.declared.types.Var.{Var}
+use Rattle.conspec_tree.specs.declared.types.Base.{Base}
+use Rattle.conspec_tree.specs.declared.types.Base.TheVariants as bases
+use Rattle.conspec_tree.specs.declared.types.Kind.{Kind}
+use Rattle.conspec_tree.specs.declared.types.Kind.TheVariants as kinds
+use Rattle.conspec_tree.specs.declared.types.Var.{Var}
 use Rattle.conspec_parse.specs.declared.signature.Param.{Param}
-use Rattle.conspec_parse.specs.Head.{variable_from}
+use Rattle.conspec_tree.specs.Variables.{variable_from}
 use Rattle.conspec_parse.specs.Methods.{is_named}
 
 -- the variables, the parameters that may be asked, and the result's name, where it has one, and its kind

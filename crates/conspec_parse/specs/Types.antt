@@ -2,12 +2,13 @@
 use Rattle.std.specs.Prelude.{◌||◌, not, ℕ, Bool, List, [], ◌∷◌, ◌++◌, drop, codes, Option, Some, None, Ok, if◌then◌else◌}
 use Rattle.mon_base.specs.Reading.{◌>>=◌, need}
 use Rattle.api_listing.specs.Descriptor.{class_spelled}
-use Rattle.conspec_parse.specs.declared.token.Token.{Token}
-use Rattle.conspec_parse.specs.declared.types.Kind.{Kind}
-use Rattle.conspec_parse.specs.declared.types.Kind.TheVariants as kinds
+use Rattle.conspec_tokens.specs.declared.token.Token.{Token}
+use Rattle.conspec_tree.specs.declared.types.Kind.{Kind}
+use Rattle.conspec_tree.specs.declared.types.Kind.TheVariants as kinds
 use Rattle.conspec_parse.specs.declared.type_name.TypeName.{TypeName}
 use Rattle.conspec_parse.specs.declared.fault.PolicyFault.TheVariants.{Limit}
-use Rattle.conspec_parse.specs.Forms.{Read, front_at, is_next, behind, name_at, is_short, each}
+use Rattle.conspec_parse.specs.Forms.{Read, behind, name_at, is_short, each}
+use Rattle.conspec_tokens.specs.Front.{front_at, is_next}
 
 -- a name that is not too long, where names are judged
 unfoldable pub judged_name : Bool → List Token → Read (List ℕ)

@@ -1,32 +1,16 @@
 -- What a guard does to the variables.
 use Rattle.std.specs.Prelude.{◌||◌, ◌&&◌, ◌==◌, not, ℕ, ◌+◌, ℤ, pos, neg_ℤ, Bool, true, false, List, [], ◌∷◌, ◌++◌, codes, bytes_eq, nat_le, nat_lt, int_le, Option, Some, None, ok_or, Ok, if◌then◌else◌}
-use Rattle.std.specs.Ordering.{int_eq}
 use Rattle.mon_base.specs.Reading.{◌>>=◌, need}
-use Rattle.conspec_parse.specs.declared.token.Token.{Token}
-use Rattle.conspec_parse.specs.declared.types.Update.{Update}
-use Rattle.conspec_parse.specs.declared.types.Update.TheVariants.{Set, Add}
-use Rattle.conspec_parse.specs.declared.types.Var.{Var}
+use Rattle.conspec_tokens.specs.declared.token.Token.{Token}
+use Rattle.conspec_tree.specs.declared.types.Update.{Update}
+use Rattle.conspec_tree.specs.declared.types.Update.TheVariants.{Set, Add}
+use Rattle.conspec_tree.specs.declared.types.Var.{Var}
 use Rattle.conspec_parse.specs.declared.fault.PolicyFault.TheVariants.{Name, Kind, Range, Twice, Limit}
-use Rattle.conspec_parse.specs.Forms.{Read, front_at, is_next, is_name, behind, name_at, number_at, taken, each}
-use Rattle.conspec_parse.specs.Head.{variable_from}
+use Rattle.conspec_parse.specs.Forms.{Read, behind, name_at, number_at, taken, each}
+use Rattle.conspec_tokens.specs.Front.{front_at, is_next, is_name}
+use Rattle.conspec_tree.specs.Updates.{is_updated, all_range_atoms}
+use Rattle.conspec_tree.specs.Variables.{variable_from}
 use Rattle.conspec_parse.specs.Guards.{constant_at}
-
-abbrev pub target : Update → ℕ
-target (Set var value) = var
-target (Add var by) = var
-
-abbrev pub is_updated : List Update → ℕ → Bool
-is_updated [] var = false
-is_updated (u ∷ updates) var = target u == var || is_updated updates var
-
--- how many range atoms the update asks for
-abbrev pub range_atoms : Update → ℕ
-range_atoms (Set var value) = 0
-range_atoms (Add var by) = if int_eq by (pos 0) then 0 else 1
-
-abbrev pub all_range_atoms : List Update → ℕ
-all_range_atoms [] = 0
-all_range_atoms (u ∷ updates) = range_atoms u + all_range_atoms updates
 
 -- a constant of the variable's range
 unfoldable pub set_at : ℤ → ℕ → Bool → List Token → Read Update

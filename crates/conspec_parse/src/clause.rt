@@ -4,65 +4,25 @@ ghost use Rattle.std.specs.Prelude.{◌≡◌, ◌≤◌, ◌<◌, ◌^◌, [], 
 ghost use Rattle.mon_base.specs.Answer.{AnswersAs};
 ghost use Rattle.conspec_parse.specs.Forms.{each};
 ghost use Rattle.conspec_parse.specs.Scope.{HasFewNames};
-ghost use Rattle.conspec_parse.specs.Clauses.{
-  branches,
-  longest,
-  begins_guard,
-  guard_at,
-  last_guard,
-  with_else,
-  body_at,
-  next_phase,
-  begins_clause,
-  is_after,
-  is_assigned,
-  given_result_at,
-  result_name_at,
-  asked_params,
-  clause_at,
-};
+ghost use Rattle.conspec_tree.specs.Guards.{branches};
+ghost use Rattle.conspec_parse.specs.Clauses.{begins_guard, guard_at, last_guard, with_else, body_at, next_phase, begins_clause, is_assigned, given_result_at, result_name_at, asked_params, clause_at};
 
 use crate::fault::PolicyFault;
-use crate::forms::{behind, front_at, is_name, is_next, is_short, name_at, rest_of};
+use crate::forms::{behind, is_short, name_at};
 use crate::guard::conjs_at;
-use crate::head::is_variable;
 use crate::method::method_at;
 use crate::scope::Names;
-use crate::signature::{Param, kind_or_object};
-use crate::token::Token;
+use crate::signature::Param;
 use crate::type_name::type_at;
-use crate::types::{Atom, Guard, Kind, Phase, TreeClause, Var};
 use crate::update::block_at;
 use api_listing::ListedMethod;
+use conspec_tokens::{Token, front_at, is_name, is_next, rest_of};
+use conspec_tree::{
+    Atom, Guard, Kind, Phase, TreeClause, Var, branches, is_after, is_variable, kind_or_object,
+    longest,
+};
 use mon_base::{Bytes, List, NoMemory};
 use std::alloc::Global;
-
-/// How many branches the guards have.
-fn branches(guards: &[Guard]) -> usize
-    requires { branches guards.now ≤ 64 }
-    ensures { result ≡ branches guards.now }
-{
-    let mut count: usize = 0;
-    let mut left = guards;
-    while let [first, others @ ..] = left {
-        count += first.conjs.len();
-        left = others;
-    }
-    count
-}
-
-/// How many atoms the longest of the branches has.
-fn longest(conjs: &[List<Atom>]) -> usize
-    ensures { result ≡ longest conjs.now }
-{
-    let mut most: usize = 0;
-    let mut left = conjs;
-    while let [first, others @ ..] = left {
-        most = most.max(first.len());
-        left = others;
-    }
-    most
-}
 
 fn begins_guard(tokens: &[Token]) -> bool
     ensures { result ≡ begins_guard tokens.now }
@@ -197,15 +157,6 @@ pub fn begins_clause(tokens: &[Token]) -> bool
     ensures { result ≡ begins_clause tokens.now }
 {
     next_phase(tokens).is_some()
-}
-
-fn is_after(phase: Phase) -> bool
-    ensures { result ≡ is_after phase }
-{
-    match phase {
-        Phase::After => true,
-        _ => false,
-    }
 }
 
 fn is_assigned(tokens: &[Token]) -> bool

@@ -1,15 +1,14 @@
 //! Why a text is no policy.
 
 ghost use Rattle.std.specs.Prelude.{◌≡◌};
-ghost use Rattle.conspec_parse.specs.Fault.{number_of};
 ghost use Rattle.conspec_parse.specs.declared.fault.PolicyFault.TheVariants as faults;
 
 use mon_base::NoMemory;
 use std::alloc::{AllocError, AllocFailed};
 use thiserror::Error;
 
-/// What is wrong with the text: the fault that stands first in it, and of several at one token that with the lowest
-/// number. `at` is how many bytes stand before its token.
+/// What is wrong with the text: the fault that stands first in it, and of several at one token that which is
+/// named first here. `at` is how many bytes stand before its token.
 #[derive(Clone, Copy, Debug, PartialEq, Eq, Error)]
 pub enum PolicyFault {
     /// No text of the grammar goes on with this token, or the text ends too early.
@@ -40,25 +39,6 @@ pub enum PolicyFault {
     /// Memory ran out.
     #[error("out of memory")]
     Memory,
-}
-
-impl PolicyFault {
-    /// The number under which the fault is reported.
-    pub fn number(&self) -> u32
-        ensures { result ≡ number_of self.now }
-    {
-        match self {
-            PolicyFault::Syntax { .. } => 181,
-            PolicyFault::Name { .. } => 182,
-            PolicyFault::Kind { .. } => 183,
-            PolicyFault::Range { .. } => 184,
-            PolicyFault::NoMethod { .. } => 185,
-            PolicyFault::Twice { .. } => 186,
-            PolicyFault::Limit { .. } => 187,
-            PolicyFault::Builtin { .. } => 188,
-            PolicyFault::Memory => 0,
-        }
-    }
 }
 
 impl From<NoMemory> for PolicyFault {

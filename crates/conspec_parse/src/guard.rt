@@ -2,51 +2,18 @@
 
 ghost use Rattle.std.specs.Prelude.{◌≡◌, ◌+◌, ◌≤◌, length, codes, IfOk, IsTrue};
 ghost use Rattle.mon_base.specs.Answer.{AnswersAs};
-ghost use Rattle.conspec_parse.specs.Forms.{is_next, taken, each};
+ghost use Rattle.conspec_tokens.specs.Front.{is_next};
+ghost use Rattle.conspec_parse.specs.Forms.{taken, each};
 ghost use Rattle.conspec_parse.specs.Scope.{HasFewNames};
-ghost use Rattle.conspec_parse.specs.Guards.{
-  is_truth,
-  is_object,
-  next_rel,
-  is_equality,
-  truth_value,
-  negative_at,
-  positive_at,
-  constant_at,
-  atom_at,
-  next_atom,
-  no_atoms,
-  atoms_at,
-  conj_at,
-  next_conj,
-  conjs_at,
-};
+ghost use Rattle.conspec_parse.specs.Guards.{next_rel, truth_value, negative_at, positive_at, constant_at, atom_at, next_atom, no_atoms, atoms_at, conj_at, next_conj, conjs_at};
 
 use crate::fault::PolicyFault;
-use crate::forms::{behind, front_at, is_next, name_at, number_at, rest_of};
+use crate::forms::{behind, name_at, number_at};
 use crate::scope::Names;
-use crate::token::Token;
-use crate::types::{Atom, Kind, Rel};
+use conspec_tokens::{Token, front_at, is_next, rest_of};
+use conspec_tree::{Atom, Rel, is_equality, is_object, is_truth};
 use mon_base::List;
 use std::alloc::Global;
-
-fn is_truth(kind: Kind) -> bool
-    ensures { result ≡ is_truth kind }
-{
-    match kind {
-        Kind::Bool => true,
-        _ => false,
-    }
-}
-
-fn is_object(kind: Kind) -> bool
-    ensures { result ≡ is_object kind }
-{
-    match kind {
-        Kind::Object => true,
-        _ => false,
-    }
-}
 
 fn next_rel(tokens: &[Token]) -> Option<Rel>
     ensures { result ≡ next_rel tokens.now }
@@ -65,15 +32,6 @@ fn next_rel(tokens: &[Token]) -> Option<Rel>
         Some(Rel::Ge)
     } else {
         None
-    }
-}
-
-fn is_equality(rel: Rel) -> bool
-    ensures { result ≡ is_equality rel }
-{
-    match rel {
-        Rel::Eq | Rel::Ne => true,
-        _ => false,
     }
 }
 

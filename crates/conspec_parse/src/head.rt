@@ -1,23 +1,13 @@
 //! The head of a policy and its state variables.
 
-ghost use Rattle.std.specs.Prelude.{◌≡◌, ◌+◌, ◌≤◌, ◌<◌, ◌^◌, ◌≤ℤ◌, pos, length, IfOk};
+ghost use Rattle.std.specs.Prelude.{◌≡◌, ◌≤◌, length, IfOk};
 ghost use Rattle.mon_base.specs.Answer.{AnswersAs};
-ghost use Rattle.conspec_parse.specs.Head.{
-  header_at,
-  variable_from,
-  is_variable,
-  truth_at,
-  count_at,
-  first_at,
-  begins_variable,
-  variable_at,
-  variables_at,
-};
+ghost use Rattle.conspec_parse.specs.Head.{header_at, truth_at, count_at, first_at, begins_variable, variable_at, variables_at};
 
 use crate::fault::PolicyFault;
-use crate::forms::{behind, front_at, is_next, is_short, name_at, number_at, rest_of};
-use crate::token::Token;
-use crate::types::Var;
+use crate::forms::{behind, is_short, name_at, number_at};
+use conspec_tokens::{Token, front_at, is_next, rest_of};
+use conspec_tree::{Var, is_variable};
 use mon_base::{Bytes, List};
 use std::alloc::Global;
 
@@ -38,37 +28,6 @@ pub fn header_at(tokens: &[Token]) -> Result<(i32, &[Token]), PolicyFault>
     let state = behind("SECURITY", security)?;
     let rest = behind("STATE", state)?;
     Ok((maxint as i32, rest))
-}
-
-/// The index of the variable with the name, and whether it is a bool.
-pub fn variable_named(vars: &[Var], name: &[u8]) -> Option<(u32, bool)>
-    requires { length vars.now < 2 ^ 32 }
-    ensures { result ≡ variable_from 0 vars.now name.now }
-{
-    let mut index: u32 = 0;
-    let mut left = vars;
-    while let [first, others @ ..] = left {
-        if first.name.as_slice() == name {
-            return Some((index, first.is_bool));
-        }
-        index += 1;
-        left = others;
-    }
-    None
-}
-
-/// Whether a variable has the name.
-pub fn is_variable(vars: &[Var], name: &[u8]) -> bool
-    ensures { result ≡ is_variable vars.now name.now }
-{
-    let mut left = vars;
-    while let [first, others @ ..] = left {
-        if first.name.as_slice() == name {
-            return true;
-        }
-        left = others;
-    }
-    false
 }
 
 #[tactic(auto, unfolding(crate::specs::Head::truth_at))]

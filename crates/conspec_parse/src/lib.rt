@@ -16,18 +16,14 @@ mod head;
 mod laws;
 mod method;
 mod reading;
-mod scanning;
 mod scope;
 mod signature;
-mod token;
 mod type_name;
-mod types;
 mod update;
 
 pub use fault::PolicyFault;
-pub use laws::{beginnings_are_right, faults_are_decided};
+pub use laws::{beginnings_are_right, faults_are_decided, kinds_are_told};
 pub use reading::parse;
-pub use types::{Atom, Base, Guard, Kind, Phase, PolicyTree, Rel, TreeClause, Update, Var};
 
 #[cfg(test)]
 mod tests;

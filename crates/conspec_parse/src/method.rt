@@ -2,21 +2,14 @@
 
 ghost use Rattle.std.specs.Prelude.{◌≡◌, ◌<◌, ◌≤◌, ◌^◌, ◌++◌, length, IfOk, OnOk};
 ghost use Rattle.mon_base.specs.Answer.{Answers, AnswersAs};
-ghost use Rattle.conspec_parse.specs.Methods.{
-  desc_of,
-  phase_number,
-  has_clause,
-  index_at,
-  method_at,
-};
+ghost use Rattle.conspec_parse.specs.Methods.{desc_of, index_at, method_at};
 ghost use Rattle.std.specs.List.{flat_map};
 
 use crate::fault::PolicyFault;
-use crate::forms::front_at;
 use crate::signature::{Param, Signature, signature_at};
-use crate::token::Token;
-use crate::types::{Phase, TreeClause, Var};
 use api_listing::{ListedMethod, index_of, is_built_in};
+use conspec_tokens::{Token, front_at};
+use conspec_tree::{Phase, TreeClause, Var, has_clause};
 use mon_base::{Bytes, List, NoMemory};
 use std::alloc::Global;
 
@@ -41,29 +34,6 @@ fn push_params(desc: &mut Bytes, params: &[Param]) -> Result<(), NoMemory>
         left = others;
     }
     Ok(())
-}
-
-fn phase_number(phase: Phase) -> u8
-    ensures { result ≡ phase_number phase }
-{
-    match phase {
-        Phase::Before => 0,
-        Phase::After => 1,
-        Phase::Exceptional => 2,
-    }
-}
-
-fn has_clause(clauses: &[TreeClause], phase: Phase, method: u32) -> bool
-    ensures { result ≡ has_clause clauses.now phase method }
-{
-    let mut left = clauses;
-    while let [first, others @ ..] = left {
-        if first.method == method && phase_number(first.phase) == phase_number(phase) {
-            return true;
-        }
-        left = others;
-    }
-    false
 }
 
 /// The index of the listed method that the signature, which stands at a token, names with the result. It has no

@@ -5,16 +5,14 @@ ghost use Rattle.conspec_parse.specs.declared.fault.PolicyFault.TheVariants as f
 ghost use Rattle.mon_base.specs.Answer.{Answers};
 ghost use Rattle.conspec_parse.specs.Meaning.{SpellsPolicy};
 ghost use Rattle.conspec_parse.specs.Policy.{policy_at, reading};
-ghost use Rattle.conspec_parse.specs.Tree.{IsPolicyTree};
+ghost use Rattle.conspec_tree.specs.Tree.{IsPolicyTree};
 
 use crate::clause::clauses_at;
 use crate::fault::PolicyFault;
-use crate::forms::{front_at, is_end};
 use crate::head::{header_at, variables_at};
-use crate::scanning::tokens_of;
-use crate::token::Token;
-use crate::types::PolicyTree;
 use api_listing::{ListedMethod, Listing};
+use conspec_tokens::{Token, front_at, is_end, tokens_of};
+use conspec_tree::PolicyTree;
 use mon_base::List;
 use std::alloc::Global;
 

@@ -3,9 +3,8 @@
 ghost use Rattle.std.specs.Prelude.{◌≡◌, ◌<◌, ◌^◌, length};
 ghost use Rattle.conspec_parse.specs.Scope.{HasFewNames, argument_from, base_named};
 
-use crate::head::variable_named;
 use crate::signature::{Param, is_named};
-use crate::types::{Base, Kind, Var};
+use conspec_tree::{Base, Kind, Var, variable_named};
 use mon_base::Bytes;
 use std::marker::Model;
 

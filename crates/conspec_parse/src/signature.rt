@@ -2,31 +2,15 @@
 
 ghost use Rattle.std.specs.Prelude.{◌≡◌, codes, IfOk};
 ghost use Rattle.mon_base.specs.Answer.{AnswersAs};
-ghost use Rattle.conspec_parse.specs.Forms.{is_next, each};
-ghost use Rattle.conspec_parse.specs.Methods.{
-  kind_or_object,
-  is_named,
-  is_parameter,
-  is_free,
-  given_name_at,
-  parameter_name_at,
-  parameter_at,
-  next_parameter,
-  some_parameters,
-  parameters_at,
-  part_at,
-  class_under,
-  next_step,
-  path_at,
-  signature_at,
-};
+ghost use Rattle.conspec_tokens.specs.Front.{is_next};
+ghost use Rattle.conspec_parse.specs.Forms.{each};
+ghost use Rattle.conspec_parse.specs.Methods.{is_named, is_parameter, is_free, given_name_at, parameter_name_at, parameter_at, next_parameter, some_parameters, parameters_at, part_at, class_under, next_step, path_at, signature_at};
 
 use crate::fault::PolicyFault;
-use crate::forms::{behind, front_at, is_name, is_next, is_short, name_at, rest_of};
-use crate::head::is_variable;
-use crate::token::Token;
+use crate::forms::{behind, is_short, name_at};
 use crate::type_name::{judged_name, type_at};
-use crate::types::{Kind, Var};
+use conspec_tokens::{Token, front_at, is_name, is_next, rest_of};
+use conspec_tree::{Kind, Var, is_variable, kind_or_object};
 use mon_base::{Bytes, List, NoMemory};
 use std::alloc::Global;
 
@@ -59,16 +43,6 @@ pub struct Parts {
 pub struct Signature {
     pub path: Path,
     pub params: List<Param>,
-}
-
-/// The kind, or that of a class where there is none.
-pub fn kind_or_object(kind: Option<Kind>) -> Kind
-    ensures { result ≡ kind_or_object kind }
-{
-    match kind {
-        Some(kind) => kind,
-        None => Kind::Object,
-    }
 }
 
 /// Whether the name is this one.

@@ -15,14 +15,12 @@ method api/Net push (I)V\n\
 method api/Net <init> ()V\n\
 static api/Net mix (ZBSCLapi/Net;[I)Z\n";
 
-/// The fault's number and place, or 0 and the number of clauses.
-fn answer(alloc: Global, listing: &Listing, text: &str) -> (u32, u64)
+/// How many clauses the text has, or its fault.
+fn answer(alloc: Global, listing: &Listing, text: &str) -> Result<u64, PolicyFault>
     requires { length listing.now.methods < 2 ^ 32 }
 {
-    match parse(alloc, text.as_bytes(), listing) {
-        Ok(tree) => (0, tree.clauses.len() as u64),
-        Err(fault) => (fault.number(), place(fault)),
-    }
+    let tree = parse(alloc, text.as_bytes(), listing)?;
+    Ok(tree.clauses.len() as u64)
 }
 
 /// The texts one after another, each so often.
@@ -34,20 +32,6 @@ fn built(alloc: Global, parts: &[(&str, u32)]) -> Result<String, Fail> {
         }
     }
     Ok(text)
-}
-
-fn place(fault: PolicyFault) -> u64 {
-    match fault {
-        PolicyFault::Syntax { at } => at,
-        PolicyFault::Name { at } => at,
-        PolicyFault::Kind { at } => at,
-        PolicyFault::Range { at } => at,
-        PolicyFault::NoMethod { at } => at,
-        PolicyFault::Twice { at } => at,
-        PolicyFault::Limit { at } => at,
-        PolicyFault::Builtin { at } => at,
-        PolicyFault::Memory => 0,
-    }
 }
 
 const POLICIES: [(&str, u64); 8] = [
@@ -92,141 +76,128 @@ short c, char d, api.Net e, int[] f) PERFORM a != true && b >= -128 || true -> {
 fn policies(rt: HostRuntime) -> Result<(), Fail> {
     let net = read(rt.alloc(), NET.as_bytes()).ok().ok_or("a listing")?;
     for (text, clauses) in POLICIES.iter() {
-        assert_eq!(rt; answer(rt.alloc(), &net, text), (0, *clauses), "{text}");
+        assert_eq!(rt; answer(rt.alloc(), &net, text), Ok(*clauses), "{text}");
     }
     Ok(())
 }
 
-const FAULTS: [(&str, u32, u64); 30] = [
-    ("MAXINT 1 SCOPE Global", 181, 15),
-    ("MAXINT 2000000000 SCOPE Session", 184, 7),
-    ("", 181, 0),
-    ("MAXINT 01 SCOPE", 181, 7),
-    ("MAXINT 1 SCOPE Session SECURITY STATE !", 181, 38),
-    ("MAXINT 1 SCOPE Session SECURITY STATE int n = 2;", 184, 46),
+const FAULTS: [(&str, PolicyFault); 30] = [
+    ("MAXINT 1 SCOPE Global", PolicyFault::Syntax { at: 15 }),
+    (
+        "MAXINT 2000000000 SCOPE Session",
+        PolicyFault::Range { at: 7 },
+    ),
+    ("", PolicyFault::Syntax { at: 0 }),
+    ("MAXINT 01 SCOPE", PolicyFault::Syntax { at: 7 }),
+    (
+        "MAXINT 1 SCOPE Session SECURITY STATE !",
+        PolicyFault::Syntax { at: 38 },
+    ),
+    (
+        "MAXINT 1 SCOPE Session SECURITY STATE int n = 2;",
+        PolicyFault::Range { at: 46 },
+    ),
     (
         "MAXINT 1 SCOPE Session SECURITY STATE int n = 0; bool n = true;",
-        186,
-        54,
+        PolicyFault::Twice { at: 54 },
     ),
     (
         "MAXINT 1 SCOPE Session SECURITY STATE BEFORE void api.Net.read() PERFORM",
-        185,
-        50,
+        PolicyFault::NoMethod { at: 50 },
     ),
     (
         "MAXINT 1 SCOPE Session SECURITY STATE BEFORE void java.lang.Thread.start() PERFORM",
-        188,
-        50,
+        PolicyFault::Builtin { at: 50 },
     ),
     (
         "MAXINT 1 SCOPE Session SECURITY STATE BEFORE void api.Net.<init>.send() PERFORM",
-        181,
-        64,
+        PolicyFault::Syntax { at: 64 },
     ),
     (
         "MAXINT 1 SCOPE Session SECURITY STATE BEFORE void api.Net.send() PERFORM BEFORE void api.Net.send() PERFORM",
-        186,
-        85,
+        PolicyFault::Twice { at: 85 },
     ),
     (
         "MAXINT 1 SCOPE Session SECURITY STATE BEFORE void api.Net.push(int a) PERFORM b == 1 -> { }",
-        182,
-        78,
+        PolicyFault::Name { at: 78 },
     ),
     (
         "MAXINT 1 SCOPE Session SECURITY STATE BEFORE void api.Net.push(int a) PERFORM a == true -> { }",
-        183,
-        83,
+        PolicyFault::Kind { at: 83 },
     ),
     (
         "MAXINT 1 SCOPE Session SECURITY STATE bool b = true; BEFORE void api.Net.push(int a) PERFORM b < 1 -> { }",
-        183,
-        95,
+        PolicyFault::Kind { at: 95 },
     ),
     (
         "MAXINT 1 SCOPE Session SECURITY STATE BEFORE void api.Net.push(int a) PERFORM a == -2147483649 -> { }",
-        184,
-        83,
+        PolicyFault::Range { at: 83 },
     ),
     (
         "MAXINT 1 SCOPE Session SECURITY STATE AFTER void r = api.Net.send() PERFORM",
-        183,
-        49,
+        PolicyFault::Kind { at: 49 },
     ),
     (
         "MAXINT 1 SCOPE Session SECURITY STATE int n = 0; BEFORE void api.Net.send() PERFORM true -> { n \
 = n + 1; n = 0; }",
-        186,
-        105,
+        PolicyFault::Twice { at: 105 },
     ),
     (
         "MAXINT 1 SCOPE Session SECURITY STATE int n = 0; BEFORE void api.Net.send() PERFORM true -> { n = m + 1; }",
-        182,
-        98,
+        PolicyFault::Name { at: 98 },
     ),
-    // Of several faults the first is answered, and at one token that with the lowest number.
-    ("MAXINT 0 SCOPE Global", 184, 7),
-    ("MAXINT 1000000001", 184, 7),
+    // Of several faults the first is answered, and at one token that which is named first.
+    ("MAXINT 0 SCOPE Global", PolicyFault::Range { at: 7 }),
+    ("MAXINT 1000000001", PolicyFault::Range { at: 7 }),
     (
         "MAXINT 1 SCOPE Session SECURITY STATE int n = 0; BEFORE void api.Net.push(int n) ELSE",
-        186,
-        78,
+        PolicyFault::Twice { at: 78 },
     ),
     (
         "MAXINT 1 SCOPE Session SECURITY STATE BEFORE boolean api.Net.mix(boolean a, byte b, short c, \
 char d, api.Net e, int[] a) ELSE",
-        186,
-        118,
+        PolicyFault::Twice { at: 118 },
     ),
     (
         "MAXINT 1 SCOPE Session SECURITY STATE BEFORE void api.Net.push(int a, int a) PERFORM",
-        185,
-        50,
+        PolicyFault::NoMethod { at: 50 },
     ),
     (
         "MAXINT 1 SCOPE Session SECURITY STATE BEFORE void java.lang.Thread.start() ELSE",
-        188,
-        50,
+        PolicyFault::Builtin { at: 50 },
     ),
     (
         "MAXINT 1 SCOPE Session SECURITY STATE AFTER void r = api.Net.push(int) PERFORM r == 1 -> { }",
-        183,
-        49,
+        PolicyFault::Kind { at: 49 },
     ),
     (
         "MAXINT 1 SCOPE Session SECURITY STATE BEFORE int r = api.Net.read() PERFORM",
-        181,
-        51,
+        PolicyFault::Syntax { at: 51 },
     ),
     (
         "MAXINT 1 SCOPE Session SECURITY STATE AFTER int r = api.Net.read() PERFORM r == 99999999999 && \
 q == 1 -> { }",
-        184,
-        80,
+        PolicyFault::Range { at: 80 },
     ),
     (
         "MAXINT 1 SCOPE Session SECURITY STATE AFTER void api.Net.push(int a) PERFORM a == 1 -> { }",
-        182,
-        77,
+        PolicyFault::Name { at: 77 },
     ),
     (
         "MAXINT 1 SCOPE Session SECURITY STATE BEFORE void SCOPE.Net.send() PERFORM",
-        181,
-        50,
+        PolicyFault::Syntax { at: 50 },
     ),
     (
         "MAXINT 1 SCOPE Session SECURITY STATE // x\r BEFORE\n int n = 00;",
-        181,
-        60,
+        PolicyFault::Syntax { at: 60 },
     ),
 ];
 
 #[test]
 fn faults(rt: HostRuntime) -> Result<(), Fail> {
     let net = read(rt.alloc(), NET.as_bytes()).ok().ok_or("a listing")?;
-    for (text, number, at) in FAULTS.iter() {
-        assert_eq!(rt; answer(rt.alloc(), &net, text), (*number, *at), "{text}");
+    for (text, fault) in FAULTS.iter() {
+        assert_eq!(rt; answer(rt.alloc(), &net, text), Err(*fault), "{text}");
     }
     Ok(())
 }
@@ -245,13 +216,12 @@ const SEND: &str = "BEFORE void api.Net.send() PERFORM ";
 
 const PUSH: &str = "BEFORE void api.Net.push(int a) PERFORM ";
 
-const LIMITS: [(Parts, u32, u64); 20] = [
+const LIMITS: [(Parts, Result<u64, PolicyFault>); 20] = [
     // 16 variables
-    ([(HEAD, 1), (VARS, 1), NONE, NONE, NONE], 0, 0),
+    ([(HEAD, 1), (VARS, 1), NONE, NONE, NONE], Ok(0)),
     (
         [(HEAD, 1), (VARS, 1), ("bool q int", 1), NONE, NONE],
-        187,
-        166,
+        Err(PolicyFault::Limit { at: 166 }),
     ),
     // 64 branches, by `||`, by guards, and with ELSE
     (
@@ -262,19 +232,16 @@ const LIMITS: [(Parts, u32, u64); 20] = [
             ("||true", 63),
             ("->{}", 1),
         ],
-        0,
-        1,
+        Ok(1),
     ),
     (
         [(HEAD, 1), (SEND, 1), ("true", 1), ("||true", 64), ("!", 1)],
-        187,
-        457,
+        Err(PolicyFault::Limit { at: 457 }),
     ),
-    ([(HEAD, 1), (SEND, 1), ("true->{}", 64), NONE, NONE], 0, 1),
+    ([(HEAD, 1), (SEND, 1), ("true->{}", 64), NONE, NONE], Ok(1)),
     (
         [(HEAD, 1), (SEND, 1), ("true->{}", 65), ("!", 1), NONE],
-        187,
-        585,
+        Err(PolicyFault::Limit { at: 585 }),
     ),
     (
         [
@@ -284,13 +251,11 @@ const LIMITS: [(Parts, u32, u64); 20] = [
             ("ELSE->{}", 1),
             NONE,
         ],
-        0,
-        1,
+        Ok(1),
     ),
     (
         [(HEAD, 1), (SEND, 1), ("true->{}", 64), ("ELSE->!", 1), NONE],
-        187,
-        585,
+        Err(PolicyFault::Limit { at: 585 }),
     ),
     // 16 atoms in a branch, with the range atom of a sum; adding 0 asks for NONE
     (
@@ -301,13 +266,11 @@ const LIMITS: [(Parts, u32, u64); 20] = [
             ("&&a==0", 15),
             ("->{}", 1),
         ],
-        0,
-        1,
+        Ok(1),
     ),
     (
         [(HEAD, 1), (PUSH, 1), ("a==0", 1), ("&&a==0", 16), ("!", 1)],
-        187,
-        174,
+        Err(PolicyFault::Limit { at: 174 }),
     ),
     (
         [
@@ -317,8 +280,7 @@ const LIMITS: [(Parts, u32, u64); 20] = [
             ("&&a==0", 14),
             ("->{n=n+1;}", 1),
         ],
-        0,
-        1,
+        Ok(1),
     ),
     (
         [
@@ -328,8 +290,7 @@ const LIMITS: [(Parts, u32, u64); 20] = [
             ("&&a==0", 15),
             ("->{n=n-0;}", 1),
         ],
-        0,
-        1,
+        Ok(1),
     ),
     (
         [
@@ -339,12 +300,14 @@ const LIMITS: [(Parts, u32, u64); 20] = [
             ("&&a==0", 15),
             ("->{n=n-1;n=0;}", 1),
         ],
-        187,
-        187,
+        Err(PolicyFault::Limit { at: 187 }),
     ),
     // 64 bytes in a name
-    ([(HEAD, 1), ("int ", 1), ("a", 64), ("=0;", 1), NONE], 0, 0),
-    ([(HEAD, 1), ("int ", 1), ("a", 65), ("!", 1), NONE], 187, 42),
+    ([(HEAD, 1), ("int ", 1), ("a", 64), ("=0;", 1), NONE], Ok(0)),
+    (
+        [(HEAD, 1), ("int ", 1), ("a", 65), ("!", 1), NONE],
+        Err(PolicyFault::Limit { at: 42 }),
+    ),
     // What is wrong with a method stands before its long names, if its text is whole.
     (
         [
@@ -354,8 +317,7 @@ const LIMITS: [(Parts, u32, u64); 20] = [
             (".send() PERFORM", 1),
             NONE,
         ],
-        185,
-        50,
+        Err(PolicyFault::NoMethod { at: 50 }),
     ),
     (
         [
@@ -365,8 +327,7 @@ const LIMITS: [(Parts, u32, u64); 20] = [
             (".send( PERFORM", 1),
             NONE,
         ],
-        187,
-        54,
+        Err(PolicyFault::Limit { at: 54 }),
     ),
     // the greatest and the least MAXINT
     (
@@ -380,8 +341,7 @@ const LIMITS: [(Parts, u32, u64); 20] = [
             NONE,
             NONE,
         ],
-        0,
-        0,
+        Ok(0),
     ),
     (
         [
@@ -391,23 +351,21 @@ const LIMITS: [(Parts, u32, u64); 20] = [
             NONE,
             NONE,
         ],
-        0,
-        0,
+        Ok(0),
     ),
-    ([("MAXINT 9", 1), ("9", 60000), NONE, NONE, NONE], 184, 7),
+    (
+        [("MAXINT 9", 1), ("9", 60000), NONE, NONE, NONE],
+        Err(PolicyFault::Range { at: 7 }),
+    ),
 ];
 
 /// Each limit at its number, and one above. The places are sums of the lengths of the parts before.
 #[test]
 fn limits(rt: HostRuntime) -> Result<(), Fail> {
     let net = read(rt.alloc(), NET.as_bytes()).ok().ok_or("a listing")?;
-    for (parts, number, at) in LIMITS.iter() {
+    for (parts, wanted) in LIMITS.iter() {
         let text = built(rt.alloc(), parts.as_slice())?;
-        assert_eq!(rt;
-            answer(rt.alloc(), &net, text.as_str()),
-            (*number, *at),
-            "{text}"
-        );
+        assert_eq!(rt; answer(rt.alloc(), &net, text.as_str()), *wanted, "{text}");
     }
     Ok(())
 }
@@ -443,17 +401,19 @@ fn many_clauses(rt: HostRuntime) -> Result<(), Fail> {
     let mut text = String::from_str(alloc, HEAD)?;
     clauses(alloc, &mut text, "BEFORE", 32)?;
     clauses(alloc, &mut text, "AFTER", 32)?;
-    assert_eq!(rt; answer(alloc, &net, text.as_str()), (0, 64));
+    assert_eq!(rt; answer(alloc, &net, text.as_str()), Ok(64));
     text.push_str("EXCEPTIONAL !")?;
-    assert_eq!(rt; answer(alloc, &net, text.as_str()), (187, 3046));
+    assert_eq!(rt;
+        answer(alloc, &net, text.as_str()),
+        Err(PolicyFault::Limit { at: 3046 })
+    );
     Ok(())
 }
 
-const HOSTILE: [(Parts, u32, u64); 7] = [
+const HOSTILE: [(Parts, Result<u64, PolicyFault>); 7] = [
     (
         [(HEAD, 1), ("BEFORE void a", 1), (".a", 32000), NONE, NONE],
-        181,
-        64051,
+        Err(PolicyFault::Syntax { at: 64051 }),
     ),
     (
         [
@@ -463,18 +423,15 @@ const HOSTILE: [(Parts, u32, u64); 7] = [
             (" x.y() PERFORM", 1),
             NONE,
         ],
-        185,
-        64047,
+        Err(PolicyFault::NoMethod { at: 64047 }),
     ),
     (
         [(HEAD, 1), (SEND, 1), ("true", 1), ("||", 32000), NONE],
-        181,
-        79,
+        Err(PolicyFault::Syntax { at: 79 }),
     ),
     (
         [("//\n", 20000), ("MAXINT 0", 1), NONE, NONE, NONE],
-        184,
-        60007,
+        Err(PolicyFault::Range { at: 60007 }),
     ),
     (
         [
@@ -484,8 +441,7 @@ const HOSTILE: [(Parts, u32, u64); 7] = [
             (" api.Net.x() PERFORM", 1),
             NONE,
         ],
-        185,
-        60049,
+        Err(PolicyFault::NoMethod { at: 60049 }),
     ),
     (
         [
@@ -495,19 +451,21 @@ const HOSTILE: [(Parts, u32, u64); 7] = [
             ("int) PERFORM", 1),
             NONE,
         ],
-        185,
-        50,
+        Err(PolicyFault::NoMethod { at: 50 }),
     ),
-    ([("(", 65536), NONE, NONE, NONE, NONE], 181, 0),
+    (
+        [("(", 65536), NONE, NONE, NONE, NONE],
+        Err(PolicyFault::Syntax { at: 0 }),
+    ),
 ];
 
 /// Long texts of one token after another: no call is made deeper by them.
 #[test]
 fn hostile(rt: HostRuntime) -> Result<(), Fail> {
     let net = read(rt.alloc(), NET.as_bytes()).ok().ok_or("a listing")?;
-    for (parts, number, at) in HOSTILE.iter() {
+    for (parts, wanted) in HOSTILE.iter() {
         let text = built(rt.alloc(), parts.as_slice())?;
-        assert_eq!(rt; answer(rt.alloc(), &net, text.as_str()), (*number, *at));
+        assert_eq!(rt; answer(rt.alloc(), &net, text.as_str()), *wanted);
     }
     Ok(())
 }

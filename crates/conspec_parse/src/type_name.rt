@@ -2,24 +2,14 @@
 
 ghost use Rattle.std.specs.Prelude.{◌≡◌, codes, IfOk};
 ghost use Rattle.mon_base.specs.Answer.{AnswersAs};
-ghost use Rattle.conspec_parse.specs.Types.{
-  judged_name,
-  type_named,
-  plain_type,
-  next_part,
-  class_at,
-  class_type_at,
-  element_at,
-  dimension_at,
-  array_of,
-  type_at,
-};
-ghost use Rattle.conspec_parse.specs.Forms.{is_next, each};
+ghost use Rattle.conspec_parse.specs.Types.{judged_name, type_named, plain_type, next_part, class_at, class_type_at, element_at, dimension_at, array_of, type_at};
+ghost use Rattle.conspec_tokens.specs.Front.{is_next};
+ghost use Rattle.conspec_parse.specs.Forms.{each};
 
 use crate::fault::PolicyFault;
-use crate::forms::{behind, front_at, is_next, is_short, name_at, rest_of};
-use crate::token::Token;
-use crate::types::Kind;
+use crate::forms::{behind, is_short, name_at};
+use conspec_tokens::{Token, front_at, is_next, rest_of};
+use conspec_tree::Kind;
 use mon_base::{Bytes, NoMemory};
 use std::alloc::Global;
 

@@ -2,74 +2,17 @@
 
 ghost use Rattle.std.specs.Prelude.{◌≡◌, ◌≤◌, [], length};
 ghost use Rattle.mon_base.specs.Answer.{AnswersAs};
-ghost use Rattle.conspec_parse.specs.Forms.{is_name, taken, each};
-ghost use Rattle.conspec_parse.specs.Updates.{
-  target,
-  is_updated,
-  range_atoms,
-  all_range_atoms,
-  set_at,
-  next_sign,
-  signed,
-  sum_at,
-  right_at,
-  update_at,
-  block_at,
-};
+ghost use Rattle.conspec_tokens.specs.Front.{is_name};
+ghost use Rattle.conspec_parse.specs.Forms.{taken, each};
+ghost use Rattle.conspec_parse.specs.Updates.{set_at, next_sign, signed, sum_at, right_at, update_at, block_at};
 
 use crate::fault::PolicyFault;
-use crate::forms::{behind, front_at, is_name, is_next, name_at, number_at, rest_of};
+use crate::forms::{behind, name_at, number_at};
 use crate::guard::constant_at;
-use crate::head::variable_named;
-use crate::token::Token;
-use crate::types::{Update, Var};
+use conspec_tokens::{Token, front_at, is_name, is_next, rest_of};
+use conspec_tree::{Update, Var, all_range_atoms, is_updated, variable_named};
 use mon_base::List;
 use std::alloc::Global;
-
-fn target(update: &Update) -> u32
-    ensures { result ≡ target update.now }
-{
-    match update {
-        Update::Set { var, .. } => *var,
-        Update::Add { var, .. } => *var,
-    }
-}
-
-fn is_updated(updates: &[Update], var: u32) -> bool
-    ensures { result ≡ is_updated updates.now var }
-{
-    let mut left = updates;
-    while let [first, others @ ..] = left {
-        if target(first) == var {
-            return true;
-        }
-        left = others;
-    }
-    false
-}
-
-fn range_atoms(update: &Update) -> usize
-    ensures value { result ≡ range_atoms update.now }
-    ensures low { result ≤ 1 }
-{
-    match update {
-        Update::Set { .. } => 0,
-        Update::Add { by, .. } => { if *by == 0 { 0 } else { 1 } }
-    }
-}
-
-/// How many range atoms the updates ask for.
-fn all_range_atoms(updates: &[Update]) -> usize
-    ensures { result ≡ all_range_atoms updates.now }
-{
-    let mut count: usize = 0;
-    let mut left = updates;
-    while let [first, others @ ..] = left {
-        count += range_atoms(first);
-        left = others;
-    }
-    count
-}
 
 #[tactic(auto, unfolding(crate::specs::Updates::set_at))]
 fn set_at(

@@ -22,7 +22,7 @@ use Rattle.offset_patch.specs.Splicing.{want_of, block_wants, wants_of}
 use Rattle.offset_patch.specs.declared.block.BlockInsn.TheVariants.{Call}
 use Rattle.bytecode_model.specs.declared.program.Target.{Target}
 use Rattle.bytecode_model.specs.declared.program.Target.TheVariants as target
-use Rattle.conspec_parse.specs.declared.types.Kind.{Kind}
+use Rattle.conspec_tree.specs.declared.types.Kind.{Kind}
 use Rattle.conspec_automaton.specs.declared.policy.Clause.{Clause}
 use Rattle.conspec_automaton.specs.declared.policy.Policy.{Policy}
 use Rattle.block_template.specs.Blocks.{save, loads, lock, stop, unlock, denial, has_block, site}

@@ -7,7 +7,7 @@ use bytecode_model::{Origin, Side};
 use class_codec::{Attr, ClassFile, Code, Const, Member, decode, encode};
 use class_linking::link;
 use conspec_automaton::{build, denies_only};
-use conspec_parse::parse;
+use conspec_tree::{Kind, Phase, PolicyTree, TreeClause};
 use mon_base::{Bytes, List};
 use offset_patch::{Size, SpliceFault};
 use std::alloc::Global;
@@ -17,8 +17,31 @@ use std::test::Fail;
 const LISTING: &[u8] = b"class api/Net extends java/lang/Object\nstatic api/Net send ()V\n\
     static api/Net put (II)I\n";
 
-const POLICY: &[u8] = b"MAXINT 1 SCOPE Session SECURITY STATE \
-    BEFORE void api.Net.send() PERFORM BEFORE int api.Net.put(int a, int b) PERFORM";
+/// The clause that denies each call of a method.
+fn denial(alloc: Global, method: u32, args: List<Kind>, kind: Option<Kind>) -> TreeClause {
+    TreeClause {
+        method,
+        phase: Phase::Before,
+        args,
+        result: kind,
+        guards: List::new(alloc),
+    }
+}
+
+/// The policy that denies both methods of the listing.
+fn denials(alloc: Global) -> Result<PolicyTree, Fail> {
+    let mut args = List::new(alloc);
+    args.push(Kind::Int)?;
+    args.push(Kind::Int)?;
+    let mut clauses = List::new(alloc);
+    clauses.push(denial(alloc, 0, List::new(alloc), None))?;
+    clauses.push(denial(alloc, 1, args, Some(Kind::Int)))?;
+    Ok(PolicyTree {
+        maxint: 1,
+        vars: List::new(alloc),
+        clauses,
+    })
+}
 
 fn text(alloc: Global, text: &[u8]) -> Result<Const, Fail> {
     Ok(Const::Utf8(Bytes::from_slice(alloc, text)?))
@@ -86,9 +109,7 @@ fn woven(alloc: Global, class: ClassFile) -> Result<Result<Woven, SpliceFault>, 
     let Ok(listing) = read(alloc, LISTING) else {
         return Err("the listing".into());
     };
-    let Ok(tree) = parse(alloc, POLICY, &listing) else {
-        return Err("the policy".into());
-    };
+    let tree = denials(alloc)?;
     if !denies_only(&tree) {
         return Err("the policy".into());
     }

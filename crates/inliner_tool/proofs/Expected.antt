@@ -22,8 +22,8 @@ use Rattle.bytecode_model.specs.Typed.{IsTyped, frames_in, frames_told, reached_
 use Rattle.conspec_automaton.specs.declared.policy.Policy.{Policy}
 use Rattle.conspec_automaton.specs.Building.{built}
 use Rattle.conspec_automaton.specs.Denying.{DeniesOnly, denies_only}
-use Rattle.conspec_parse.specs.declared.types.Kind.{Kind}
-use Rattle.conspec_parse.specs.declared.types.PolicyTree.{PolicyTree}
+use Rattle.conspec_tree.specs.declared.types.Kind.{Kind}
+use Rattle.conspec_tree.specs.declared.types.PolicyTree.{PolicyTree}
 use Rattle.block_template.specs.declared.woven.Woven.{Woven}
 use Rattle.block_template.specs.Outcome.{IsWoven}
 use Rattle.inline_release.specs.Links.{OriginalIsFree, WovenLinks}
@@ -33,6 +33,7 @@ use Rattle.type_infer.specs.Untyped.{IsLeast}
 use Rattle.class_linking.specs.Laws.{LinkedIsInOrder}
 use Rattle.bytecode_model.specs.Named.{AreRightOperands}
 use Rattle.class_linking.specs.Laws.{LinkedOperandsAreRight, LinkedAreNamed}
+use Rattle.conspec_parse.specs.Telling.{KindsAreTold}
 use Rattle.cert_maker.specs.Calls.{PolicyTellsArguments}
 use Rattle.cert_maker.specs.Framing.{TellsArguments, arguments_of}
 use Rattle.cert_maker.specs.WovenTyping.{IsMetWoven, WovenIsTyped, frames_of_woven}
@@ -135,7 +136,7 @@ module _ (links : WovenLinks) (inputs : InlineInputs) (known : InlineSound input
 module _ (links : WovenLinks) (inputs : InlineInputs) (known : InlineSound inputs) (main : List ℕ) (client : Program) (policy : Policy) (made : Woven)
     (client_links : linked inputs.classes.files inputs.listing main Original ≡ Ok client) (back : unlinked client ≡ inputs.classes.files)
     (sound : IsSound client) (one : length client.classes ≡ 1) (denies : DeniesOnly policy) (weaves : woven client policy ≡ Ok made)
-    (free : OriginalIsFree) (order : LinkedIsInOrder) (right : LinkedOperandsAreRight) (named : LinkedAreNamed) (tells : PolicyTellsArguments) (types : WovenIsTyped) (accepts : WovenIsAccepted)
+    (free : OriginalIsFree) (order : LinkedIsInOrder) (right : LinkedOperandsAreRight) (named : LinkedAreNamed) (kinds : KindsAreTold) (tells : PolicyTellsArguments) (types : WovenIsTyped) (accepts : WovenIsAccepted)
     (typing : Typing) (listing : client.listing ≡ inputs.listing) (is : policy ≡ built inputs.policy) (typed : IsTyped client typing) (shaped : IsShaped client typing.frames) where
   new : (p : Program) × ((linked made.files inputs.listing main Inlined ≡ Ok p) × IsWoven client policy p)
   new = remade links inputs known main client policy made client_links back sound one denies weaves
@@ -146,7 +147,7 @@ module _ (links : WovenLinks) (inputs : InlineInputs) (known : InlineSound input
   told : TellsArguments client.listing policy
   told =
       let a : TellsArguments inputs.listing (built inputs.policy) =
-      tells known.policy.text known.listed.text inputs.listing inputs.policy known.listed.spells known.policy.spells known.policy.sound in
+      tells known.listed.text inputs.listing inputs.policy known.listed.spells (kinds known.policy.text inputs.listing inputs.policy known.policy.spells) in
       let b : TellsArguments inputs.listing policy = subst (λ (x : Policy). TellsArguments inputs.listing x) (sym is) a in
       subst (λ (l : Listing). TellsArguments l policy) (sym listing) b
 

@@ -5,9 +5,9 @@ use Rattle.mon_store.specs.Store.{Files}
 use Rattle.api_listing.specs.declared.types.Listing.{Listing}
 use Rattle.api_listing.specs.Listing.{IsFew}
 use Rattle.class_codec.specs.Fits.{CanSpell}
-use Rattle.conspec_parse.specs.declared.types.PolicyTree.{PolicyTree}
+use Rattle.conspec_tree.specs.declared.types.PolicyTree.{PolicyTree}
 use Rattle.conspec_parse.specs.Meaning.{SpellsPolicy}
-use Rattle.conspec_parse.specs.Tree.{IsPolicyTree}
+use Rattle.conspec_tree.specs.Tree.{IsPolicyTree}
 use Rattle.inliner_tool.specs.declared.files.Stop.{Stop}
 use Rattle.inliner_tool.specs.declared.inline_inputs.InlineInputs.{InlineInputs}
 use Rattle.inliner_tool.specs.Forms.{Count, ReadsForm, Then, Gives}

@@ -10,8 +10,8 @@ use Rattle.inliner_tool.specs.declared.fault.InputFault.{InputFault}
 use Rattle.inliner_tool.specs.declared.fault.InputFault.TheVariants as faults
 use Rattle.inliner_tool.specs.declared.files.Stop.{Stop}
 use Rattle.inliner_tool.specs.declared.files.Stop.TheVariants.{Input, Unread, Memory}
-use Rattle.conspec_parse.specs.declared.types.PolicyTree.{PolicyTree}
-use Rattle.conspec_parse.specs.Tree.{IsPolicyTree}
+use Rattle.conspec_tree.specs.declared.types.PolicyTree.{PolicyTree}
+use Rattle.conspec_tree.specs.Tree.{IsPolicyTree}
 use Rattle.inliner_tool.specs.declared.inputs.CheckInputs.{CheckInputs}
 use Rattle.inliner_tool.specs.declared.inputs.PolicyInputs.{PolicyInputs}
 use Rattle.inliner_tool.specs.declared.inputs.ReadClasses.{ReadClasses as Classes}

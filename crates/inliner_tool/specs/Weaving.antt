@@ -24,7 +24,7 @@ use Rattle.bytecode_model.specs.Typed.{IsTyped}
 use Rattle.conspec_automaton.specs.declared.policy.Policy.{Policy}
 use Rattle.conspec_automaton.specs.Building.{built}
 use Rattle.conspec_automaton.specs.Denying.{denies_only}
-use Rattle.conspec_parse.specs.declared.types.PolicyTree.{PolicyTree}
+use Rattle.conspec_tree.specs.declared.types.PolicyTree.{PolicyTree}
 use Rattle.block_template.specs.declared.woven.Woven.{Woven}
 use Rattle.block_template.specs.Outcome.{IsWoven}
 use Rattle.block_template.specs.Woven.{woven}

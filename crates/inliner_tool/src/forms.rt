@@ -5,7 +5,7 @@ ghost use Rattle.std.specs.List.{AllByRecursion};
 ghost use Rattle.api_listing.specs.Listing.{IsFew, SpellsListing};
 ghost use Rattle.class_codec.specs.Fits.{CanSpell};
 ghost use Rattle.conspec_parse.specs.Meaning.{SpellsPolicy};
-ghost use Rattle.conspec_parse.specs.Tree.{IsPolicyTree};
+ghost use Rattle.conspec_tree.specs.Tree.{IsPolicyTree};
 ghost use Rattle.inliner_tool.specs.Kinds.{certificate_form, class_form, listing_form, policy_form, record_form};
 ghost use Rattle.mon_base.specs.Answer.{Answers};
 
@@ -14,7 +14,8 @@ use crate::fault::{InputFault, class_told, listing_told, policy_told, record_tol
 use api_listing::{Listing, read};
 use cert_format::{CertForm, Certificate};
 use class_codec::ClassFile;
-use conspec_parse::{PolicyTree, parse};
+use conspec_parse::parse;
+use conspec_tree::PolicyTree;
 use event_record::{Record, read_record};
 use std::alloc::Global;
 

@@ -9,7 +9,7 @@ use crate::files::Stop;
 use crate::inline_words::InlineWords;
 use crate::inputs::{ReadClasses, classes_of, listing_of, policy_of};
 use api_listing::Listing;
-use conspec_parse::PolicyTree;
+use conspec_tree::PolicyTree;
 use mon_store::Store;
 use std::alloc::Global;
 

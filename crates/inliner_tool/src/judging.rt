@@ -31,7 +31,7 @@ use cert_format::Certificate;
 use class_linking::{LinkFault, link};
 use class_text::{ShowFault, show};
 use conspec_automaton::{accept, build, denies_only};
-use conspec_parse::PolicyTree;
+use conspec_tree::PolicyTree;
 use mon_base::{Bytes, NoMemory};
 use std::alloc::Global;
 use type_lattice::Indexed;

@@ -59,7 +59,8 @@ use class_linking::{
     LinkFault, link, linked_is_in_order, linked_operands_are_right, linked_programs_are_named,
 };
 use conspec_automaton::{Policy, build, denies_only};
-use conspec_parse::PolicyTree;
+use conspec_parse::kinds_are_told;
+use conspec_tree::PolicyTree;
 use inline_release::{inline, original_is_free, woven_files_link};
 use mon_base::{Bytes, List, NoMemory};
 use mon_store::Output;
@@ -99,6 +100,7 @@ pub fn plan(alloc: Global, inputs: InlineInputs, words: &InlineWords) -> Result<
     linked_is_in_order();
     linked_operands_are_right();
     linked_programs_are_named();
+    kinds_are_told();
     policy_tells_arguments();
     woven_is_typed();
     woven_is_accepted();

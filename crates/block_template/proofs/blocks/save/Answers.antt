@@ -1,5 +1,5 @@
 use Rattle.std.proofs.Common.{◌≡◌, ◌+◌, ◌-◌, ◌++◌, ◌∷◌, [], take, ap, ◌∙◌, arith}
-use Rattle.conspec_parse.specs.declared.types.Kind.TheVariants.{Int}
+use Rattle.conspec_tree.specs.declared.types.Kind.TheVariants.{Int}
 use Rattle.block_template.specs.Blocks.{save}
 use Rattle.block_template.proofs.Saves.{save_step}
 use Rattle.block_template.proofs.blocks.save.Goals as goal

@@ -1,5 +1,5 @@
 use Rattle.std.proofs.Common.{◌≡◌, length, map, take}
-use Rattle.conspec_parse.specs.declared.types.Var.{Var}
+use Rattle.conspec_tree.specs.declared.types.Var.{Var}
 use Rattle.conspec_automaton.proofs.running.initial.Given as goal
 
 abbrev pub invariant-loop-var : goal.invariant-loop-var

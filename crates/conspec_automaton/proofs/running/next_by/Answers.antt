@@ -1,6 +1,6 @@
 use Rattle.std.proofs.Common.{List, sym, ap, subst, ◌∙◌}
 use Rattle.std.specs.Prelude.{find}
-use Rattle.conspec_parse.specs.declared.types.Update.{Update}
+use Rattle.conspec_tree.specs.declared.types.Update.{Update}
 use Rattle.conspec_automaton.specs.declared.policy.Branch.{Branch}
 use Rattle.conspec_automaton.specs.Next.{is_taken}
 use Rattle.conspec_automaton.specs.Range.{MayUpdate}

@@ -1,6 +1,6 @@
 use Rattle.std.proofs.Common.{List, pos, take, drop, length, ◌-◌, sym, ap, subst, ◌∙◌}
-use Rattle.conspec_parse.specs.declared.types.Update.{Update}
-use Rattle.conspec_parse.specs.declared.types.Update.TheVariants.{Set}
+use Rattle.conspec_tree.specs.declared.types.Update.{Update}
+use Rattle.conspec_tree.specs.declared.types.Update.TheVariants.{Set}
 use Rattle.conspec_automaton.specs.Next.{Values, updated}
 use Rattle.conspec_automaton.specs.Range.{MayUpdate}
 use Rattle.conspec_automaton.proofs.Ranges.{front_at, may_go_on, none_left, sum_fits, target_there}

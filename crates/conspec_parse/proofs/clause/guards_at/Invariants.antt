@@ -1,6 +1,7 @@
 use Rattle.std.proofs.Common.{◌≡◌, ◌-◌, length, [], ◌≤◌}
 use Rattle.conspec_parse.specs.Forms.{each, repeated}
-use Rattle.conspec_parse.specs.Clauses.{begins_guard, guard_at, branches}
+use Rattle.conspec_parse.specs.Clauses.{begins_guard, guard_at}
+use Rattle.conspec_tree.specs.Guards.{branches}
 use Rattle.conspec_parse.proofs.clause.guards_at.Given as goal
 
 abbrev pub invariant-loop : goal.invariant-loop

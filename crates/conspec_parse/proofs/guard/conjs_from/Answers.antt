@@ -1,7 +1,7 @@
 use Rattle.std.proofs.Common.{sym, ◌∙◌, length}
 use Rattle.std.proofs.lemmas.Result.{err_from_is_err_and}
 use Rattle.std.specs.Prelude.{codes}
-use Rattle.conspec_parse.specs.Forms.{is_next}
+use Rattle.conspec_tokens.specs.Front.{is_next}
 use Rattle.conspec_parse.specs.Guards.{next_conj}
 use Rattle.conspec_parse.proofs.Repeating.{again, stops, fails, all_read}
 use Rattle.conspec_parse.proofs.guard.conjs_from.Goals as goal

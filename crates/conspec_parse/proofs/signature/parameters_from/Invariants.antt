@@ -1,6 +1,7 @@
 use Rattle.std.proofs.Common.{◌≡◌, ◌-◌, length}
 use Rattle.std.specs.Prelude.{codes}
-use Rattle.conspec_parse.specs.Forms.{is_next, each, repeated}
+use Rattle.conspec_tokens.specs.Front.{is_next}
+use Rattle.conspec_parse.specs.Forms.{each, repeated}
 use Rattle.conspec_parse.specs.Methods.{next_parameter}
 use Rattle.conspec_parse.proofs.signature.parameters_from.Given as goal
 

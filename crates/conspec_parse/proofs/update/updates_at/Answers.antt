@@ -1,7 +1,8 @@
 use Rattle.std.proofs.Common.{◌≡◌, sym, subst, ◌∙◌, ◌-◌, length, [], w32, to_z, of_z}
 use Rattle.std.proofs.lemmas.Result.{err_from_is_err_and}
 use Rattle.std.proofs.lemmas.Int.{to_z-of_z}
-use Rattle.conspec_parse.specs.Forms.{is_name, each, repeated}
+use Rattle.conspec_tokens.specs.Front.{is_name}
+use Rattle.conspec_parse.specs.Forms.{each, repeated}
 use Rattle.conspec_parse.specs.Updates.{update_at}
 use Rattle.mon_base.specs.Answer.{Fails}
 use Rattle.conspec_parse.specs.declared.fault.PolicyFault.TheVariants as faults

@@ -1,5 +1,6 @@
 use Rattle.std.proofs.Common.{◌≡◌, ◌-◌, length, []}
-use Rattle.conspec_parse.specs.Forms.{is_name, each, repeated}
+use Rattle.conspec_tokens.specs.Front.{is_name}
+use Rattle.conspec_parse.specs.Forms.{each, repeated}
 use Rattle.conspec_parse.specs.Updates.{update_at}
 use Rattle.conspec_parse.proofs.update.updates_at.Given as goal
 

@@ -1,9 +1,0 @@
-use Rattle.std.proofs.Common.{◌≡◌, length}
-use Rattle.conspec_parse.specs.Methods.{has_clause}
-use Rattle.conspec_parse.proofs.method.has_clause.Given as goal
-
-abbrev pub invariant-loop-left : goal.invariant-loop-left
-invariant-loop-left l = has_clause l.left l.phase l.method ≡ has_clause l.clauses l.phase l.method
-
-abbrev pub decreases-loop-left : goal.decreases-loop-left
-decreases-loop-left l = length l.left
