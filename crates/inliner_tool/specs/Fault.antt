@@ -1,28 +1,14 @@
--- The numbers under which faults of files are reported.
-use Rattle.std.specs.Prelude.{ℕ}
-use Rattle.api_listing.specs.Fault.{number_of as listing_number}
+-- How the faults of texts are those of files.
 use Rattle.api_listing.specs.declared.fault.ListFault.{ListFault}
 use Rattle.api_listing.specs.declared.fault.ListFault.TheVariants as listings
-use Rattle.class_codec.specs.Fault.{number_of as class_number}
 use Rattle.class_codec.specs.declared.fault.ClassFault.{ClassFault}
 use Rattle.class_codec.specs.declared.fault.ClassFault.TheVariants as classes
-use Rattle.conspec_parse.specs.Fault.{number_of as policy_number}
 use Rattle.conspec_parse.specs.declared.fault.PolicyFault.{PolicyFault}
 use Rattle.conspec_parse.specs.declared.fault.PolicyFault.TheVariants as policies
-use Rattle.event_record.specs.Fault.{number_of as record_number}
 use Rattle.event_record.specs.declared.fault.RecordFault.{RecordFault}
 use Rattle.event_record.specs.declared.fault.RecordFault.TheVariants as records
 use Rattle.inliner_tool.specs.declared.fault.InputFault.{InputFault}
 use Rattle.inliner_tool.specs.declared.fault.InputFault.TheVariants as faults
-
-abbrev pub number_of : InputFault → ℕ
-number_of (faults.TooLong len) = 107
-number_of (faults.Listing fault) = listing_number fault
-number_of (faults.Policy fault) = policy_number fault
-number_of (faults.Class fault) = class_number fault
-number_of (faults.Record fault) = record_number fault
-number_of faults.NotBuilt = 199
-number_of faults.Memory = 0
 
 -- the fault of a file, where want of memory is one of its own
 

@@ -7,7 +7,8 @@ pub mod InlineWords
 pub mod InlineInputs
 pub mod Words
 pub mod Judging
-pub mod Lines
+pub mod Numbers
+pub mod Replies
 pub mod Status
 pub mod Expected
 pub mod Weaving

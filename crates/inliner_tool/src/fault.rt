@@ -1,7 +1,7 @@
 //! Why a file is not read as what it is named for.
 
 ghost use Rattle.std.specs.Prelude.{◌≡◌};
-ghost use Rattle.inliner_tool.specs.Fault.{class_told, listing_told, number_of, policy_told, record_told};
+ghost use Rattle.inliner_tool.specs.Fault.{class_told, listing_told, policy_told, record_told};
 
 use api_listing::ListFault;
 use class_codec::ClassFault;
@@ -21,23 +21,6 @@ pub enum InputFault {
     NotBuilt,
     /// Memory ran out.
     Memory,
-}
-
-impl InputFault {
-    /// The number under which the fault is reported, or 0 for want of memory.
-    pub fn number(&self) -> u32
-        ensures { result ≡ number_of self.now }
-    {
-        match self {
-            InputFault::TooLong { .. } => 107,
-            InputFault::Listing(fault) => fault.number(),
-            InputFault::Policy(fault) => fault.number(),
-            InputFault::Class(fault) => fault.number(),
-            InputFault::Record(fault) => fault.number(),
-            InputFault::NotBuilt => 199,
-            InputFault::Memory => 0,
-        }
-    }
 }
 
 /// The fault of a listing. Want of memory is one of its own.

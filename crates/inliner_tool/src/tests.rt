@@ -5,6 +5,7 @@ mod files;
 mod inline;
 mod limits;
 mod notes;
+mod numbers;
 mod policy;
 mod reading;
 mod refusals;

@@ -16,7 +16,7 @@ use crate::files::Stop;
 use crate::inlining::answer_inline;
 use crate::inputs::{read_check, read_policy, read_show};
 use crate::judging::{check_answer, policy_answer, show_answer};
-use crate::lines::text_of;
+use crate::replies::text_of;
 use crate::words::{CheckWords, Command, PolicyWords, ShowWords, command_of};
 use conspec_automaton::Verdict;
 use mon_base::Bytes;
@@ -98,11 +98,12 @@ pub fn run_tool<S: Store, K: Sink>(
     if is_memory(&answer) {
         return Status::Memory;
     }
-    let Ok(text) = text_of(alloc, &answer) else {
+    let status = status_of(&answer);
+    let Ok(text) = text_of(alloc, answer) else {
         return Status::Memory;
     };
     match out.put(text.as_slice()) {
-        Ok(()) => status_of(&answer),
+        Ok(()) => status,
         Err(SinkFault::Failed) => Status::SinkFault,
         Err(SinkFault::Memory) => Status::Memory,
     }
