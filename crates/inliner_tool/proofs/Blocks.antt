@@ -22,7 +22,7 @@ use Rattle.inliner_tool.specs.declared.inline_inputs.InlineInputs.{InlineInputs}
 use Rattle.inliner_tool.specs.declared.refusal.Refusal.{Refusal}
 use Rattle.inliner_tool.specs.declared.refusal.Refusal.TheVariants as refusals
 use Rattle.inliner_tool.specs.declared.weaving.Ready.{Ready}
-use Rattle.inliner_tool.specs.InlineWords.{NamedInline}
+use Rattle.command_words.specs.InlineWords.{NamedInline}
 use Rattle.inliner_tool.specs.Forms.{Then, Gives}
 use Rattle.inliner_tool.specs.Weaving.{Accepts, Equals, IsPlanned, IsRewoven, Remakes, Step, Types, UnlessMemory, link_step, original, outputs_of, outputs_step}
 use Rattle.type_infer.specs.Untyped.{IsUntypedAt}

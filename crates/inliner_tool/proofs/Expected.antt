@@ -35,7 +35,7 @@ use Rattle.cert_maker.specs.Framing.{TellsArguments, arguments_of}
 use Rattle.cert_maker.specs.WovenTyping.{IsMetWoven, WovenIsTyped, frames_of_woven}
 use Rattle.cert_maker.proofs.Programs.{told_count, class_told}
 use Rattle.inliner_tool.specs.declared.inline_inputs.InlineInputs.{InlineInputs}
-use Rattle.inliner_tool.specs.declared.inline_words.Weaving.{Weaving}
+use Rattle.command_words.specs.declared.inline_words.Weaving.{Weaving}
 use Rattle.inliner_tool.specs.declared.refusal.Refusal.TheVariants as refusals
 use Rattle.inliner_tool.specs.Expected.{IsExpected}
 use Rattle.inliner_tool.specs.InlineInputs.{InlineSound}

@@ -6,4 +6,3 @@ pub mod Planning
 pub mod Replying
 mod Blocks
 mod Expected
-mod NamedOnce

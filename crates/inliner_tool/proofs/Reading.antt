@@ -8,10 +8,10 @@ use Rattle.inliner_tool.specs.declared.files.Stop.{Stop}
 use Rattle.inliner_tool.specs.declared.inputs.ReadClasses.{ReadClasses as Classes}
 use Rattle.inliner_tool.specs.Forms.{IsRead, ReadsForm}
 use Rattle.inliner_tool.specs.InlineInputs.{ReadsInline}
-use Rattle.inliner_tool.specs.InlineWords.{NamedInline}
+use Rattle.command_words.specs.InlineWords.{NamedInline}
 use Rattle.inliner_tool.specs.Inputs.{ReadsCheck, ReadsClasses, ReadsPolicy, ReadsShow, AreClasses}
 use Rattle.inliner_tool.specs.Kinds.{certificate_form, listing_form, policy_form, record_form}
-use Rattle.inliner_tool.specs.Words.{NamedCheck, NamedPolicy, NamedShow}
+use Rattle.command_words.specs.Words.{NamedCheck, NamedPolicy, NamedShow}
 use Rattle.inliner_tool.proofs.ReadFiles.{counted, stops_since}
 use Rattle.inliner_tool.proofs.ReadClasses.{among_since}
 

@@ -11,7 +11,7 @@ use Rattle.conspec_parse.specs.Tree.{IsPolicyTree}
 use Rattle.inliner_tool.specs.declared.files.Stop.{Stop}
 use Rattle.inliner_tool.specs.declared.inline_inputs.InlineInputs.{InlineInputs}
 use Rattle.inliner_tool.specs.Forms.{Count, ReadsForm, Then, Gives}
-use Rattle.inliner_tool.specs.InlineWords.{NamedInline}
+use Rattle.command_words.specs.InlineWords.{NamedInline}
 use Rattle.inliner_tool.specs.Inputs.{IsListed, ReadsClasses}
 use Rattle.inliner_tool.specs.Kinds.{listing_form, policy_form}
 

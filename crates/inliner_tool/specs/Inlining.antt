@@ -11,7 +11,7 @@ use Rattle.inliner_tool.specs.declared.refusal.Refusal.TheVariants as refusals
 use Rattle.inliner_tool.specs.declared.weaving.Ready.{Ready}
 use Rattle.inliner_tool.specs.Forms.{Count}
 use Rattle.inliner_tool.specs.InlineInputs.{ReadsInline}
-use Rattle.inliner_tool.specs.InlineWords.{IsInline, NamedInline}
+use Rattle.command_words.specs.InlineWords.{IsInline, NamedInline}
 use Rattle.inliner_tool.specs.Judging.{stopped}
 use Rattle.inliner_tool.specs.Weaving.{IsPlanned, Plans}
 

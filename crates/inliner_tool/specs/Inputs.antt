@@ -18,7 +18,7 @@ use Rattle.inliner_tool.specs.declared.inputs.ReadClasses.{ReadClasses as Classe
 use Rattle.inliner_tool.specs.declared.inputs.ShowInputs.{ShowInputs}
 use Rattle.inliner_tool.specs.Forms.{Count, IsRead, ReadsForm, Then, Gives}
 use Rattle.inliner_tool.specs.Kinds.{certificate_form, class_form, listing_form, policy_form, record_form}
-use Rattle.inliner_tool.specs.Words.{NamedCheck, NamedPolicy, NamedShow}
+use Rattle.command_words.specs.Words.{NamedCheck, NamedPolicy, NamedShow}
 
 -- ---- class files
 

@@ -3,9 +3,7 @@ pub mod Forms
 pub mod Built
 pub mod Kinds
 pub mod Inputs
-pub mod InlineWords
 pub mod InlineInputs
-pub mod Words
 pub mod Judging
 pub mod Numbers
 pub mod Replies

@@ -15,7 +15,7 @@ use Rattle.inliner_tool.specs.Inputs.{ReadsCheck, ReadsPolicy, ReadsShow}
 use Rattle.inliner_tool.specs.Inlining.{Inlines}
 use Rattle.inliner_tool.specs.Judging.{IsChecked, check_answer, policy_answer, show_answer, stopped}
 use Rattle.inliner_tool.specs.Replies.{text_of}
-use Rattle.inliner_tool.specs.Words.{NamedCheck, NamedCommand, Check, Show, Policy, Inline, IsCommand}
+use Rattle.command_words.specs.Words.{NamedCheck, NamedCommand, Check, Show, Policy, Inline, IsCommand}
 
 -- ---- the headline
 

@@ -3,7 +3,7 @@
 ghost use Rattle.std.specs.Prelude.{◌≡◌, ◌≤◌, length, IfOk};
 ghost use Rattle.inliner_tool.specs.Forms.{since};
 ghost use Rattle.inliner_tool.specs.InlineInputs.{InlineSound, ReadsInline};
-ghost use Rattle.inliner_tool.specs.InlineWords.{inline_named};
+ghost use Rattle.command_words.specs.InlineWords.{inline_named};
 
 use crate::files::Stop;
 use crate::inline_words::InlineWords;

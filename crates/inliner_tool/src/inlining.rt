@@ -4,10 +4,10 @@ ghost use Rattle.std.specs.Prelude.{◌≡◌, ◌≤◌};
 ghost use Rattle.inliner_tool.specs.Forms.{since};
 ghost use Rattle.inliner_tool.specs.Inlining.{Begins, IsInlined, Outputs, refused};
 ghost use Rattle.inliner_tool.specs.InlineInputs.{InlineSound};
-ghost use Rattle.inliner_tool.specs.InlineWords.{inline_named};
+ghost use Rattle.command_words.specs.InlineWords.{inline_named};
 ghost use Rattle.inliner_tool.specs.Judging.{EndsWell};
 ghost use Rattle.inliner_tool.specs.Tool.{CarriesOut, IsAnswer};
-ghost use Rattle.inliner_tool.specs.Words.{Inline};
+ghost use Rattle.command_words.specs.Words.{Inline};
 
 use crate::answer::Answer;
 use crate::inline_inputs::read_inline;

@@ -12,7 +12,7 @@ ghost use Rattle.inliner_tool.specs.Inputs.{AreSound, IsListed, IsOfListing, IsO
 ghost use Rattle.inliner_tool.specs.Inputs.{ReadsCheck, ReadsClasses as ReadsFiles, ReadsPolicy, ReadsShow};
 ghost use Rattle.inliner_tool.specs.Kinds.{certificate_form, class_form, listing_form, policy_form, record_form};
 ghost use Rattle.mon_base.specs.Answer.{Answers};
-ghost use Rattle.inliner_tool.specs.Words.{check_named, policy_named, show_named};
+ghost use Rattle.command_words.specs.Words.{check_named, policy_named, show_named};
 
 use crate::fault::InputFault;
 use crate::files::{Stop, text_of};

@@ -5,11 +5,11 @@ ghost use Rattle.mon_store.specs.Store.{Rose};
 ghost use Rattle.inliner_tool.specs.declared.answer.Answer.TheVariants as answers;
 ghost use Rattle.inliner_tool.specs.Forms.{since};
 ghost use Rattle.inliner_tool.specs.Inlining.{IsInlined, Leaves};
-ghost use Rattle.inliner_tool.specs.InlineWords.{IsInline, NamedInline};
+ghost use Rattle.command_words.specs.InlineWords.{IsInline, NamedInline};
 ghost use Rattle.inliner_tool.specs.Judging.{EndsWell, stopped};
 ghost use Rattle.inliner_tool.specs.Status.{code_of};
 ghost use Rattle.inliner_tool.specs.Tool.{CarriesOut, Holds, IsAnswer, Replies, Says, judged_status, status_of};
-ghost use Rattle.inliner_tool.specs.Words.{Check, IsCheck, NamedCheck, Policy, Show, check_named, policy_named, show_named};
+ghost use Rattle.command_words.specs.Words.{Check, IsCheck, NamedCheck, Policy, Show, check_named, policy_named, show_named};
 
 use crate::answer::Answer;
 use crate::files::Stop;

@@ -9,7 +9,7 @@ ghost use Rattle.class_codec.specs.Fits.{CanSpell};
 ghost use Rattle.conspec_automaton.specs.Building.{built};
 ghost use Rattle.conspec_automaton.specs.Denying.{DeniesOnly};
 ghost use Rattle.inliner_tool.specs.InlineInputs.{InlineSound};
-ghost use Rattle.inliner_tool.specs.InlineWords.{inline_named};
+ghost use Rattle.command_words.specs.InlineWords.{inline_named};
 ghost use Rattle.inliner_tool.specs.Inputs.{IsListed};
 ghost use Rattle.inliner_tool.specs.Weaving.{
   Accepts,

@@ -2,7 +2,7 @@ use Rattle.std.proofs.Common.{◌≤◌, ◌∙◌, List, ℕ, Ok, Err, subst, a
 use Rattle.std.proofs.lemmas.Result.{err_from_is_err_and}
 use Rattle.mon_store.specs.Store.{Files}
 use Rattle.inliner_tool.specs.Forms.{IsRead}
-use Rattle.inliner_tool.specs.InlineWords.{NamedInline, inline_named}
+use Rattle.command_words.specs.InlineWords.{NamedInline, inline_named}
 use Rattle.inliner_tool.specs.Inputs.{ReadsClasses}
 use Rattle.inliner_tool.specs.Kinds.{policy_form}
 use Rattle.inliner_tool.proofs.ReadFiles.{counted}

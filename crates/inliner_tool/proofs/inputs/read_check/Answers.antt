@@ -4,7 +4,7 @@ use Rattle.mon_store.specs.Store.{Files}
 use Rattle.inliner_tool.specs.Forms.{IsRead, ReadsForm}
 use Rattle.inliner_tool.specs.Inputs.{ReadsClasses}
 use Rattle.inliner_tool.specs.Kinds.{certificate_form, policy_form}
-use Rattle.inliner_tool.specs.Words.{NamedCheck, check_named}
+use Rattle.command_words.specs.Words.{NamedCheck, check_named}
 use Rattle.inliner_tool.proofs.ReadFiles.{counted}
 use Rattle.inliner_tool.proofs.Reading.{policy_stops, certificate_stops, classes_stop}
 use Rattle.inliner_tool.proofs.inputs.read_check.Goals as goal

@@ -3,7 +3,7 @@ use Rattle.std.proofs.lemmas.Result.{err_from_is_err_and}
 use Rattle.mon_store.specs.Store.{Files}
 use Rattle.inliner_tool.specs.Forms.{IsRead, ReadsForm}
 use Rattle.inliner_tool.specs.Kinds.{policy_form, record_form}
-use Rattle.inliner_tool.specs.Words.{NamedPolicy, policy_named}
+use Rattle.command_words.specs.Words.{NamedPolicy, policy_named}
 use Rattle.inliner_tool.proofs.ReadFiles.{counted}
 use Rattle.inliner_tool.proofs.Reading.{run_policy_stops, record_stops}
 use Rattle.inliner_tool.proofs.inputs.read_policy.Goals as goal

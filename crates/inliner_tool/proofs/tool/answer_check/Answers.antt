@@ -2,7 +2,7 @@ use Rattle.std.proofs.Common.{inl}
 use Rattle.mon_store.specs.Store.{Files}
 use Rattle.inliner_tool.specs.Forms.{Count, since}
 use Rattle.inliner_tool.specs.Tool.{CarriesOut}
-use Rattle.inliner_tool.specs.Words.{Check, check_named}
+use Rattle.command_words.specs.Words.{Check, check_named}
 use Rattle.inliner_tool.proofs.NeverUsage.{check_says}
 use Rattle.inliner_tool.proofs.tool.answer_check.Goals as goal
 

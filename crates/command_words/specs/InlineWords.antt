@@ -1,8 +1,8 @@
 -- The words of the command `inline`.
 use Rattle.std.specs.Prelude.{◌≡◌, ◌≢◌, ℕ, List, [], ◌∷◌, codes}
-use Rattle.inliner_tool.specs.declared.inline_words.InlineWords.{InlineWords}
-use Rattle.inliner_tool.specs.declared.inline_words.Weaving.{Weaving}
-use Rattle.inliner_tool.specs.declared.inline_words.Weaving.TheVariants.{Auto, Hold, Release}
+use Rattle.command_words.specs.declared.inline_words.InlineWords.{InlineWords}
+use Rattle.command_words.specs.declared.inline_words.Weaving.{Weaving}
+use Rattle.command_words.specs.declared.inline_words.Weaving.TheVariants.{Auto, Hold, Release}
 
 -- the files of which a program is woven, the name of its main class, the folder that the outputs go to, and the blocks
 pub record NamedInline : Type 0 where

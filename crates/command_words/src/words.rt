@@ -2,7 +2,7 @@
 
 ghost use Rattle.std.specs.Prelude.{◌≡◌, ◌≢◌, ◌↔◌, ◌∷◌, [], ◌++◌, IfSome, IfNone, IsTrue};
 ghost use Rattle.std.specs.List.{AllByRecursion};
-ghost use Rattle.inliner_tool.specs.Words.{
+ghost use Rattle.command_words.specs.Words.{
   IsCheck,
   IsCommand,
   IsPolicyCommand,

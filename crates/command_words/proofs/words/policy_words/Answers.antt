@@ -1,7 +1,7 @@
 use Rattle.std.proofs.Common.{rules, refl, ◌≡◌, ℕ, List, [], ◌∷◌, Bool, true, length, eqb, ap, sym, ◌∙◌, arith}
 use Rattle.std.proofs.lemmas.Bool.{eqb-true}
 use Rattle.std.specs.Prelude.{codes}
-use Rattle.inliner_tool.proofs.words.policy_words.Goals as goal
+use Rattle.command_words.proofs.words.policy_words.Goals as goal
 
 none_there : {X : Type 0} (xs : List X) (b : Bool) → b ≡ true → b ≡ eqb (length xs) 0 → xs ≡ []
 none_there [] b empty is = refl

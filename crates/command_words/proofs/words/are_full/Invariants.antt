@@ -1,6 +1,6 @@
 use Rattle.std.proofs.Common.{◌≢◌, ◌↔◌, [], length}
 use Rattle.std.specs.List.{AllByRecursion}
-use Rattle.inliner_tool.proofs.words.are_full.Given as goal
+use Rattle.command_words.proofs.words.are_full.Given as goal
 
 abbrev pub invariant-loop-rest : goal.invariant-loop-rest
 invariant-loop-rest l = AllByRecursion (λ word. word ≢ []) l.fn.words ↔ AllByRecursion (λ word. word ≢ []) l.rest

@@ -1,9 +1,9 @@
 -- The words of the command inline name one set of files, one folder and one way of weaving.
 use Rattle.std.proofs.Common.{◌≡◌, ℕ, List, ◌∷◌, get_or, refl, sym, ap, ◌∙◌, arith}
 use Rattle.std.specs.Prelude.{codes}
-use Rattle.inliner_tool.specs.declared.inline_words.Weaving.{Weaving}
-use Rattle.inliner_tool.specs.declared.inline_words.Weaving.TheVariants.{Auto, Hold, Release}
-use Rattle.inliner_tool.specs.InlineWords.{IsInline, NamedInline, weaving_word}
+use Rattle.command_words.specs.declared.inline_words.Weaving.{Weaving}
+use Rattle.command_words.specs.declared.inline_words.Weaving.TheVariants.{Auto, Hold, Release}
+use Rattle.command_words.specs.InlineWords.{IsInline, NamedInline, weaving_word}
 
 -- the first letter of a word
 abbrev first : List ℕ → ℕ

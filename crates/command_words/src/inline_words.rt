@@ -1,8 +1,8 @@
 //! The words of the command `inline`.
 
 ghost use Rattle.std.specs.Prelude.{◌≡◌, IfNone, IfSome};
-ghost use Rattle.inliner_tool.specs.InlineWords.{IsInline, NamedInline, inline_named, weaving_word};
-ghost use Rattle.inliner_tool.specs.declared.inline_words.Weaving.{Weaving as AWeaving};
+ghost use Rattle.command_words.specs.InlineWords.{IsInline, NamedInline, inline_named, weaving_word};
+ghost use Rattle.command_words.specs.declared.inline_words.Weaving.{Weaving as AWeaving};
 
 use crate::words::first_of;
 use mon_base::Bytes;

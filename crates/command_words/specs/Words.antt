@@ -1,12 +1,12 @@
 -- The commands and their words.
 use Rattle.std.specs.Prelude.{◌≡◌, ◌≢◌, ℕ, List, [], ◌∷◌, codes}
 use Rattle.std.specs.List.{AllByRecursion}
-use Rattle.inliner_tool.specs.declared.words.CheckWords.{CheckWords}
-use Rattle.inliner_tool.specs.declared.words.Command.{Command}
-use Rattle.inliner_tool.specs.declared.words.Command.TheVariants as commands
-use Rattle.inliner_tool.specs.declared.words.PolicyWords.{PolicyWords}
-use Rattle.inliner_tool.specs.declared.words.ShowWords.{ShowWords}
-use Rattle.inliner_tool.specs.InlineWords.{IsInline, NamedInline, inline_named}
+use Rattle.command_words.specs.declared.words.CheckWords.{CheckWords}
+use Rattle.command_words.specs.declared.words.Command.{Command}
+use Rattle.command_words.specs.declared.words.Command.TheVariants as commands
+use Rattle.command_words.specs.declared.words.PolicyWords.{PolicyWords}
+use Rattle.command_words.specs.declared.words.ShowWords.{ShowWords}
+use Rattle.command_words.specs.InlineWords.{IsInline, NamedInline, inline_named}
 
 -- the files of a check, and the name of its main class
 pub record NamedCheck : Type 0 where
