@@ -22,8 +22,8 @@ use Rattle.insn_codec.specs.declared.fault.CodeFault.{CodeFault}
 use Rattle.insn_codec.specs.declared.fault.CodeFault.TheVariants as instructions
 use Rattle.offset_patch.specs.declared.fault.Size.{Size}
 use Rattle.offset_patch.specs.declared.fault.Size.TheVariants as sizes
-use Rattle.inliner_tool.specs.declared.fault.InputFault.{InputFault}
-use Rattle.inliner_tool.specs.declared.fault.InputFault.TheVariants as inputs
+use Rattle.input_files.specs.declared.fault.InputFault.{InputFault}
+use Rattle.input_files.specs.declared.fault.InputFault.TheVariants as inputs
 
 -- want of memory, which is never printed
 abbrev pub no_report : Report

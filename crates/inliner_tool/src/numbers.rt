@@ -21,7 +21,6 @@ ghost use Rattle.inliner_tool.specs.Numbers.{
   untyped_report,
 };
 
-use crate::fault::InputFault;
 use answer_text::{Field, Report};
 use api_listing::ListFault;
 use bytecode_model::LinkFault;
@@ -30,6 +29,7 @@ use cert_format::CertForm;
 use class_codec::ClassFault;
 use conspec_parse::PolicyFault;
 use event_record::RecordFault;
+use input_files::InputFault;
 use insn_codec::CodeFault;
 use mon_base::{Bytes, NoMemory};
 use offset_patch::Size;

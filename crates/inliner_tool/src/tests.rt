@@ -3,7 +3,6 @@
 mod answers;
 mod files;
 mod inline;
-mod limits;
 mod notes;
 mod numbers;
 mod policy;

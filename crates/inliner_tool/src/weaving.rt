@@ -8,9 +8,9 @@ ghost use Rattle.cert_checker.specs.Secure.{Secure};
 ghost use Rattle.class_codec.specs.Fits.{CanSpell};
 ghost use Rattle.conspec_automaton.specs.Building.{built};
 ghost use Rattle.conspec_automaton.specs.Denying.{DeniesOnly};
-ghost use Rattle.inliner_tool.specs.InlineInputs.{InlineSound};
+ghost use Rattle.input_files.specs.InlineInputs.{InlineSound};
 ghost use Rattle.command_words.specs.InlineWords.{inline_named};
-ghost use Rattle.inliner_tool.specs.Inputs.{IsListed};
+ghost use Rattle.input_files.specs.Named.{IsListed};
 ghost use Rattle.inliner_tool.specs.Weaving.{
   Accepts,
   Equals,
@@ -42,10 +42,7 @@ ghost use Rattle.type_lattice.specs.Laws.{IsInOrder};
 ghost use Rattle.block_template.specs.Woven.{woven};
 
 use crate::built::is_built_class;
-use crate::inline_inputs::InlineInputs;
-use crate::inline_words::{InlineWords, Weaving};
-use crate::inputs::ReadClasses;
-use crate::judging::{TOTAL_LIMIT, label_of};
+use crate::classes::{TOTAL_LIMIT, label_of};
 use crate::refusal::Refusal;
 use api_listing::{ListedMethod, Listing};
 use block_template::Woven;
@@ -54,9 +51,11 @@ use cert_checker::{Accepted, check};
 use cert_format::{CertLong, Certificate, Typing};
 use cert_maker::{make, policy_tells_arguments, woven_is_accepted, woven_is_typed};
 use class_codec::ClassFile;
+use command_words::{InlineWords, Weaving};
 use conspec_automaton::{Policy, build, denies_only};
 use conspec_parse::PolicyTree;
 use inline_release::{inline, original_is_free, woven_files_link};
+use input_files::{InlineInputs, ReadClasses};
 use mon_base::{Bytes, List, NoMemory};
 use mon_store::Output;
 use offset_patch::SpliceFault;

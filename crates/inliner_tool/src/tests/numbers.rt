@@ -1,6 +1,5 @@
 //! The table of numbers: each fault with its number and its fields.
 
-use crate::InputFault;
 use crate::numbers::{
     check_report, class_report, code_report, event_report, form_report, input_report,
     length_report, link_report, listing_report, policy_report, record_report, size_report,
@@ -14,6 +13,7 @@ use cert_format::CertForm;
 use class_codec::ClassFault;
 use conspec_parse::PolicyFault;
 use event_record::RecordFault;
+use input_files::InputFault;
 use insn_codec::CodeFault;
 use mon_base::{Bytes, NoMemory};
 use offset_patch::Size;
