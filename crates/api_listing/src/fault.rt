@@ -1,7 +1,6 @@
 //! Why a text is no listing.
 
 ghost use Rattle.std.specs.Prelude.{◌≡◌};
-ghost use Rattle.api_listing.specs.Fault.{number_of};
 ghost use Rattle.api_listing.specs.declared.fault.ListFault.TheVariants as faults;
 ghost use Rattle.api_listing.specs.declared.fault.FormFault.TheVariants as forms;
 
@@ -28,21 +27,6 @@ pub enum ListFault {
     /// Memory ran out.
     #[error("out of memory")]
     Memory,
-}
-
-impl ListFault {
-    /// The number under which the fault is reported.
-    pub fn number(&self) -> u32
-        ensures { result ≡ number_of self.now }
-    {
-        match self {
-            ListFault::Line { .. } => 161,
-            ListFault::Twice { .. } => 162,
-            ListFault::NoSuper { .. } => 163,
-            ListFault::TooMany { .. } => 164,
-            ListFault::Memory => 0,
-        }
-    }
 }
 
 /// Why words or bytes are not read.

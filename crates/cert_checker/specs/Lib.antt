@@ -1,4 +1,3 @@
-pub mod Fault
 pub mod Places
 pub mod Acceptance
 pub mod Secure

@@ -1,8 +1,5 @@
 //! Why a program is not accepted.
 
-ghost use Rattle.std.specs.Prelude.{◌≡◌};
-ghost use Rattle.cert_checker.specs.Fault.{number_of};
-
 use thiserror::Error;
 
 /// The first test that fails, with its first place. Classes, methods and instructions are counted from 0; of a shape the
@@ -31,17 +28,4 @@ pub enum CheckFault {
         at: u32,
         rule: u8,
     },
-}
-
-impl CheckFault {
-    /// The number under which the fault is reported.
-    pub fn number(&self) -> u32
-        ensures { result ≡ number_of self.now }
-    {
-        match self {
-            CheckFault::Shape { .. } => 242,
-            CheckFault::Typing { .. } => 202,
-            CheckFault::Local { .. } => 243,
-        }
-    }
 }

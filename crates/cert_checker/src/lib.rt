@@ -13,6 +13,3 @@ mod shape;
 pub use checking::{Accepted, check};
 pub use fault::CheckFault;
 pub use laws::denied_call_disobeys;
-
-#[cfg(test)]
-mod tests;

@@ -1,7 +1,6 @@
 //! Why bytes are no certificate, and why a certificate cannot be written.
 
 ghost use Rattle.std.specs.Prelude.{◌≡◌};
-ghost use Rattle.cert_format.specs.Fault.{form_number, long_number};
 ghost use Rattle.cert_format.specs.declared.fault.CertForm.TheVariants as forms;
 ghost use Rattle.cert_format.specs.declared.fault.CertLong.TheVariants as lengths;
 
@@ -18,18 +17,6 @@ pub enum CertForm {
     /// Memory ran out.
     #[error("out of memory")]
     Memory,
-}
-
-impl CertForm {
-    /// The number under which the fault is reported.
-    pub fn number(&self) -> u32
-        ensures { result ≡ form_number self.now }
-    {
-        match self {
-            CertForm::Form { .. } => 241,
-            CertForm::Memory => 0,
-        }
-    }
 }
 
 impl From<NoMemory> for CertForm {
@@ -65,18 +52,6 @@ pub enum CertLong {
     /// Memory ran out.
     #[error("out of memory")]
     Memory,
-}
-
-impl CertLong {
-    /// The number under which the fault is reported.
-    pub fn number(&self) -> u32
-        ensures { result ≡ long_number self.now }
-    {
-        match self {
-            CertLong::Certificate { .. } => 223,
-            CertLong::Memory => 0,
-        }
-    }
 }
 
 impl From<NoMemory> for CertLong {

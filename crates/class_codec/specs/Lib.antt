@@ -1,4 +1,3 @@
-pub mod Fault
 pub mod Pool
 pub mod Spelling
 pub mod Fits

@@ -1,7 +1,6 @@
 //! Why bytes are no class file of version 49.
 
 ghost use Rattle.std.specs.Prelude.{◌≡◌};
-ghost use Rattle.class_codec.specs.Fault.{number_of};
 ghost use Rattle.class_codec.specs.declared.fault.ClassFault.TheVariants.{Memory};
 
 use mon_base::NoMemory;
@@ -36,24 +35,6 @@ pub enum ClassFault {
     /// Memory ran out.
     #[error("out of memory")]
     Memory,
-}
-
-impl ClassFault {
-    /// The number under which the fault is reported.
-    pub fn number(&self) -> u32
-        ensures { result ≡ number_of self.now }
-    {
-        match self {
-            ClassFault::Magic => 101,
-            ClassFault::Version { .. } => 102,
-            ClassFault::Short { .. } => 103,
-            ClassFault::Tail { .. } => 104,
-            ClassFault::Tag { .. } => 105,
-            ClassFault::Index { .. } => 106,
-            ClassFault::TooLong { .. } => 107,
-            ClassFault::Memory => 0,
-        }
-    }
 }
 
 impl From<NoMemory> for ClassFault {

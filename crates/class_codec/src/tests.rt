@@ -263,25 +263,22 @@ fn long_files(rt: HostRuntime) -> Result<(), Fail> {
 fn printed_faults(rt: HostRuntime) -> Result<(), Fail> {
     let alloc = rt.alloc();
     let table = [
-        (ClassFault::Magic, 101, "no class file"),
+        (ClassFault::Magic, "no class file"),
         (
             ClassFault::Version { major: 50 },
-            102,
             "class file of version 50",
         ),
-        (ClassFault::Short { at: 119 }, 103, "cut short at 119"),
-        (ClassFault::Tail { at: 121 }, 104, "left over from 121"),
-        (ClassFault::Tag { at: 10, tag: 2 }, 105, "tag 2 at 10"),
-        (ClassFault::Index { at: 82 }, 106, "wrong index at 82"),
+        (ClassFault::Short { at: 119 }, "cut short at 119"),
+        (ClassFault::Tail { at: 121 }, "left over from 121"),
+        (ClassFault::Tag { at: 10, tag: 2 }, "tag 2 at 10"),
+        (ClassFault::Index { at: 82 }, "wrong index at 82"),
         (
             ClassFault::TooLong { len: 1_048_577 },
-            107,
             "1048577 bytes are too long",
         ),
-        (ClassFault::Memory, 0, "out of memory"),
+        (ClassFault::Memory, "out of memory"),
     ];
-    for (fault, number, text) in table {
-        assert_eq!(rt; fault.number(), number);
+    for (fault, text) in table {
         let printed = format!(in alloc; "{fault}")?;
         assert_eq!(rt; printed.as_str(), text);
     }

@@ -19,10 +19,6 @@ use Rattle.mon_base.specs.Answer.{Fails}
 use Rattle.class_text.specs.declared.fault.ShowFault.TheVariants as faults
 use Rattle.class_text.specs.Lines.{class_line, method_line, insn_line, handler_line}
 
-abbrev pub number_of : ShowFault → ℕ
-number_of (faults.Code class method fault) = 148
-number_of faults.Memory = 0
-
 abbrev pub Shown : Type 0
 Shown = Result (List ℕ) ShowFault
 

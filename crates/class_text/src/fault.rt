@@ -1,7 +1,6 @@
 //! Why class files have no text.
 
 ghost use Rattle.std.specs.Prelude.{◌≡◌};
-ghost use Rattle.class_text.specs.Shown.{number_of};
 ghost use Rattle.class_text.specs.declared.fault.ShowFault.TheVariants as faults;
 
 use insn_codec::CodeFault;
@@ -22,18 +21,6 @@ pub enum ShowFault {
     /// Memory ran out.
     #[error("out of memory")]
     Memory,
-}
-
-impl ShowFault {
-    /// The number under which the fault is reported.
-    pub fn number(&self) -> u32
-        ensures { result ≡ number_of self.now }
-    {
-        match self {
-            ShowFault::Code { .. } => 148,
-            ShowFault::Memory => 0,
-        }
-    }
 }
 
 impl From<NoMemory> for ShowFault {

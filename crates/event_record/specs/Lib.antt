@@ -1,4 +1,3 @@
-pub mod Fault
 pub mod Number
 pub mod Library
 pub mod Value

@@ -1,7 +1,6 @@
 //! Why a text is no record.
 
 ghost use Rattle.std.specs.Prelude.{◌≡◌};
-ghost use Rattle.event_record.specs.Fault.{number_of};
 ghost use Rattle.event_record.specs.declared.fault.RecordFault.TheVariants as faults;
 
 use mon_base::NoMemory;
@@ -18,18 +17,6 @@ pub enum RecordFault {
     /// Memory ran out.
     #[error("out of memory")]
     Memory,
-}
-
-impl RecordFault {
-    /// The number under which the fault is reported.
-    pub fn number(&self) -> u32
-        ensures { result ≡ number_of self.now }
-    {
-        match self {
-            RecordFault::Line { .. } => 261,
-            RecordFault::Memory => 0,
-        }
-    }
 }
 
 impl From<NoMemory> for RecordFault {

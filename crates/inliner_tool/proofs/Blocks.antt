@@ -19,12 +19,12 @@ use Rattle.conspec_automaton.specs.Building.{built}
 use Rattle.block_template.specs.declared.woven.Woven.{Woven}
 use Rattle.block_template.specs.Outcome.{IsWoven}
 use Rattle.block_template.specs.Woven.{woven}
-use Rattle.inliner_tool.specs.declared.inline_inputs.InlineInputs.{InlineInputs}
+use Rattle.input_files.specs.declared.inline_inputs.InlineInputs.{InlineInputs}
 use Rattle.inliner_tool.specs.declared.refusal.Refusal.{Refusal}
 use Rattle.inliner_tool.specs.declared.refusal.Refusal.TheVariants as refusals
 use Rattle.inliner_tool.specs.declared.weaving.Ready.{Ready}
-use Rattle.inliner_tool.specs.InlineWords.{NamedInline}
-use Rattle.inliner_tool.specs.Forms.{Then, Gives}
+use Rattle.command_words.specs.InlineWords.{NamedInline}
+use Rattle.input_files.specs.Forms.{Then, Gives}
 use Rattle.inliner_tool.specs.Weaving.{Accepts, Equals, IsPlanned, IsRewoven, Remakes, Step, Types, UnlessMemory, link_step, original, outputs_of, outputs_step}
 use Rattle.type_infer.specs.Untyped.{IsUntypedAt}
 

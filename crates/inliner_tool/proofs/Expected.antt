@@ -38,11 +38,11 @@ use Rattle.cert_maker.specs.Calls.{PolicyTellsArguments}
 use Rattle.cert_maker.specs.Framing.{TellsArguments, arguments_of}
 use Rattle.cert_maker.specs.WovenTyping.{IsMetWoven, WovenIsTyped, frames_of_woven}
 use Rattle.cert_maker.proofs.Programs.{told_count, class_told}
-use Rattle.inliner_tool.specs.declared.inline_inputs.InlineInputs.{InlineInputs}
-use Rattle.inliner_tool.specs.declared.inline_words.Weaving.{Weaving}
+use Rattle.input_files.specs.declared.inline_inputs.InlineInputs.{InlineInputs}
+use Rattle.command_words.specs.declared.inline_words.Weaving.{Weaving}
 use Rattle.inliner_tool.specs.declared.refusal.Refusal.TheVariants as refusals
 use Rattle.inliner_tool.specs.Expected.{IsExpected}
-use Rattle.inliner_tool.specs.InlineInputs.{InlineSound}
+use Rattle.input_files.specs.InlineInputs.{InlineSound}
 use Rattle.inliner_tool.specs.Weaving.{are_one_class, is_built_client, lets_go, denying}
 
 some_is : {A : Type 0} (x y : A) → ◌≡◌ {A = Option A} (Some x) (Some y) → x ≡ y

@@ -15,9 +15,10 @@ use Rattle.conspec_automaton.specs.Denying.{denies_only}
 use Rattle.conspec_tree.specs.declared.types.PolicyTree.{PolicyTree}
 use Rattle.inliner_tool.specs.declared.answer.Answer.{Answer}
 use Rattle.inliner_tool.specs.declared.answer.Answer.TheVariants as answers
-use Rattle.inliner_tool.specs.declared.inputs.CheckInputs.{CheckInputs}
+use Rattle.input_files.specs.declared.check_inputs.CheckInputs.{CheckInputs}
 use Rattle.inliner_tool.specs.Built.{is_built}
-use Rattle.inliner_tool.specs.Judging.{Is, check_answer, linked_answer, link_answer, link_inputs, verdict_answer}
+use Rattle.inliner_tool.specs.Answers.{Is}
+use Rattle.inliner_tool.specs.Check.{check_answer, linked_answer, link_answer, link_inputs, verdict_answer}
 use Rattle.inliner_tool.specs.Tool.{IsAnswer}
 
 no_verdict : (program : Program) (verdict : Result Accepted CheckFault) → verdict_answer program verdict ≡ answers.Usage → ⊥

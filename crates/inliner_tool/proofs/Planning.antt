@@ -7,7 +7,7 @@ use Rattle.bytecode_model.specs.declared.program.Program.{Program}
 use Rattle.cert_format.specs.declared.certificate.Certificate.{Certificate}
 use Rattle.cert_format.specs.Spelling.{spell_certificate}
 use Rattle.inliner_tool.specs.declared.refusal.Refusal.{Refusal}
-use Rattle.inliner_tool.specs.Forms.{Then}
+use Rattle.input_files.specs.Forms.{Then}
 use Rattle.inliner_tool.specs.Weaving.{Step, UnlessMemory, outputs_of, outputs_step}
 
 module _ {A B : Type 0} (First : Step A → Type 0) (Second : A → Step B → Type 0) where

@@ -4,7 +4,7 @@ use Rattle.conspec_automaton.specs.declared.running.Verdict.TheVariants as verdi
 use Rattle.inliner_tool.specs.declared.answer.Answer.{Answer}
 use Rattle.inliner_tool.specs.declared.answer.Answer.TheVariants as answers
 use Rattle.inliner_tool.specs.declared.tool.Status.TheVariants as statuses
-use Rattle.inliner_tool.specs.Judging.{EndsWell}
+use Rattle.inliner_tool.specs.Answers.{EndsWell}
 use Rattle.inliner_tool.specs.Tool.{status_of}
 
 pub ends_well : (answer : Answer) → status_of answer ≡ statuses.Done → EndsWell answer

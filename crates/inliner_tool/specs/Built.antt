@@ -27,33 +27,6 @@ use Rattle.class_codec.specs.Spelling.{spelling}
 use Rattle.insn_codec.specs.declared.insn.Insn.{Insn}
 use Rattle.insn_codec.specs.declared.insn.Insn.TheVariants as insns
 
--- ---- certificates: of the mode release, with the notes of denied methods, and types of objects that are made
-
-abbrev pub is_release : Mode → Bool
-is_release modes.Release = true
-is_release modes.Hold = false
-
-abbrev pub is_built_type : VType → Bool
-is_built_type types.UninitThis = false
-is_built_type (types.Uninit at) = false
-is_built_type other = true
-
-abbrev pub is_built_frame : Option FrameType → Bool
-is_built_frame None = true
-is_built_frame (Some frame) = list_all is_built_type frame.locals && list_all is_built_type frame.stack
-
-abbrev pub is_built_note : Note → Bool
-is_built_note notes.Free = true
-is_built_note (notes.Taking site) = true
-is_built_note (notes.Stop site place) = true
-is_built_note other = false
-
-abbrev pub is_built_certificate : Certificate → Bool
-is_built_certificate certificate =
-    is_release certificate.mode
-    && (list_all (λ class. list_all (λ method. list_all is_built_frame method) class) certificate.typing.frames
-    && list_all (λ class. list_all (λ method. list_all is_built_note method) class) certificate.notes)
-
 -- ---- instructions
 
 -- nop, aconst_null, iconst_m1 to 5, iload_0 to 3, istore_0 to 3, pop, iadd, isub, return, athrow, monitorenter and -exit

@@ -6,16 +6,21 @@ use Rattle.conspec_automaton.specs.declared.running.Verdict.{Verdict}
 use Rattle.conspec_automaton.specs.declared.running.Verdict.TheVariants as verdicts
 use Rattle.inliner_tool.specs.declared.answer.Answer.{Answer}
 use Rattle.inliner_tool.specs.declared.answer.Answer.TheVariants as answers
-use Rattle.inliner_tool.specs.declared.files.Stop.{Stop}
-use Rattle.inliner_tool.specs.declared.inputs.CheckInputs.{CheckInputs}
+use Rattle.input_files.specs.declared.files.Stop.{Stop}
+use Rattle.input_files.specs.declared.check_inputs.CheckInputs.{CheckInputs}
 use Rattle.inliner_tool.specs.declared.tool.Status.{Status}
 use Rattle.inliner_tool.specs.declared.tool.Status.TheVariants as statuses
-use Rattle.inliner_tool.specs.Forms.{Count}
-use Rattle.inliner_tool.specs.Inputs.{ReadsCheck, ReadsPolicy, ReadsShow}
-use Rattle.inliner_tool.specs.Inlining.{Inlines}
-use Rattle.inliner_tool.specs.Judging.{IsChecked, check_answer, policy_answer, show_answer, stopped}
-use Rattle.inliner_tool.specs.Lines.{text_of}
-use Rattle.inliner_tool.specs.Words.{NamedCheck, NamedCommand, Check, Show, Policy, Inline, IsCommand}
+use Rattle.input_files.specs.Forms.{Count}
+use Rattle.input_files.specs.CheckInputs.{ReadsCheck}
+use Rattle.input_files.specs.PolicyInputs.{ReadsPolicy}
+use Rattle.input_files.specs.ShowInputs.{ReadsShow}
+use Rattle.inliner_tool.specs.Inline.{Inlines}
+use Rattle.inliner_tool.specs.Check.{IsChecked, check_answer}
+use Rattle.inliner_tool.specs.Policy.{policy_answer}
+use Rattle.inliner_tool.specs.Show.{show_answer}
+use Rattle.inliner_tool.specs.Answers.{stopped}
+use Rattle.inliner_tool.specs.Replies.{text_of}
+use Rattle.command_words.specs.Words.{NamedCheck, NamedCommand, Check, Show, Policy, Inline, IsCommand}
 
 -- ---- the headline
 

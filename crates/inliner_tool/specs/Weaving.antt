@@ -30,17 +30,17 @@ use Rattle.block_template.specs.Outcome.{IsWoven}
 use Rattle.block_template.specs.Woven.{woven}
 use Rattle.offset_patch.specs.declared.fault.SpliceFault.{SpliceFault}
 use Rattle.offset_patch.specs.declared.fault.SpliceFault.TheVariants as splices
-use Rattle.inliner_tool.specs.declared.inline_inputs.InlineInputs.{InlineInputs}
-use Rattle.inliner_tool.specs.declared.inline_words.Weaving.{Weaving}
-use Rattle.inliner_tool.specs.declared.inline_words.Weaving.TheVariants as weavings
-use Rattle.inliner_tool.specs.declared.inputs.ReadClasses.{ReadClasses as Classes}
+use Rattle.input_files.specs.declared.inline_inputs.InlineInputs.{InlineInputs}
+use Rattle.command_words.specs.declared.inline_words.Weaving.{Weaving}
+use Rattle.command_words.specs.declared.inline_words.Weaving.TheVariants as weavings
+use Rattle.input_files.specs.declared.named.ReadClasses.{ReadClasses as Classes}
 use Rattle.inliner_tool.specs.declared.refusal.Refusal.{Refusal}
 use Rattle.inliner_tool.specs.declared.refusal.Refusal.TheVariants as refusals
 use Rattle.inliner_tool.specs.declared.weaving.Ready.{Ready}
 use Rattle.inliner_tool.specs.Built.{is_built_class}
-use Rattle.inliner_tool.specs.Forms.{Gives, Then}
-use Rattle.inliner_tool.specs.InlineWords.{NamedInline}
-use Rattle.inliner_tool.specs.Judging.{label_of}
+use Rattle.input_files.specs.Forms.{Gives, Then}
+use Rattle.command_words.specs.InlineWords.{NamedInline}
+use Rattle.inliner_tool.specs.Classes.{label_of}
 use Rattle.type_infer.specs.Untyped.{IsUntypedAt}
 
 -- ---- the steps

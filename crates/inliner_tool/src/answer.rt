@@ -1,9 +1,12 @@
 //! What is answered to a command.
 
-use crate::fault::InputFault;
-use cert_checker::{Accepted, CheckFault};
+ghost use Rattle.std.specs.Prelude.{◌≡◌};
+ghost use Rattle.inliner_tool.specs.Answers.{stopped};
+
 use class_linking::LinkFault;
+use cert_checker::{Accepted, CheckFault};
 use conspec_automaton::Verdict;
+use input_files::{InputFault, Stop};
 use mon_base::Bytes;
 use offset_patch::Size;
 
@@ -58,4 +61,15 @@ pub enum Answer {
     Usage,
     /// Memory ran out.
     Memory,
+}
+
+/// The answer where the reading of files stopped.
+pub fn stopped(stop: Stop) -> Answer
+    ensures { result ≡ stopped stop }
+{
+    match stop {
+        Stop::Input(name, fault) => Answer::Input(name, fault),
+        Stop::Unread(name) => Answer::Unread(name),
+        Stop::Memory => Answer::Memory,
+    }
 }

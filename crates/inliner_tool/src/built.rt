@@ -1,4 +1,4 @@
-//! The forms of certificates and programs that are built so far.
+//! The form of programs that is built so far.
 
 ghost use Rattle.std.specs.Prelude.{◌≡◌, IfOk};
 ghost use Rattle.std.specs.List.{AllByRecursion, list_all};
@@ -10,22 +10,17 @@ ghost use Rattle.inliner_tool.specs.Built.{
   are_built_classes,
   is_built,
   is_built_call,
-  is_built_certificate,
   is_built_class,
   is_built_code,
   is_built_const,
   is_built_desc,
   is_built_file,
-  is_built_frame,
   is_built_insn,
   is_built_member,
   is_built_method,
-  is_built_note,
   is_built_opcode,
   is_built_result,
-  is_built_type,
   is_built_use,
-  is_release,
   is_state,
   names_class,
   takes_ints,
@@ -34,7 +29,6 @@ ghost use Rattle.inliner_tool.specs.Built.{
 use api_listing::ListedMethod;
 use block_logic::is_way_out;
 use bytecode_model::{LinkedClass, Method, Program, Target};
-use cert_format::{Certificate, FrameType, Mode, Note, VType};
 use class_codec::{Attr, ClassFile, Const, Member, encode};
 use insn_codec::Insn;
 use mon_base::{List, NoMemory};
@@ -45,92 +39,6 @@ const STATE: &[u8] = b"\xca\xfe\xba\xbe\x00\x00\x001\x00\x08\x01\x00\x0dconspec/
     \x07\x00\x01\x01\x00\x10java/lang/Object\
     \x07\x00\x03\x01\x00\x0dConstantValue\x01\x00\x01I\x01\x00\x01Z\
     \x00!\x00\x02\x00\x04\x00\x00\x00\x00\x00\x00\x00\x00";
-
-// ---- certificates
-
-/// Whether the certificate is of the form that is built so far.
-pub fn is_built_certificate(certificate: &Certificate) -> bool
-    ensures { result ≡ is_built_certificate certificate.now }
-{
-    is_release(certificate.mode)
-        && all_frames(certificate.typing.frames.as_slice())
-        && all_notes(certificate.notes.as_slice())
-}
-
-fn all_frames(classes: &[List<List<Option<FrameType>>>]) -> bool
-    ensures { result ≡ list_all (λ class. list_all (λ method. list_all is_built_frame method) class) classes.now }
-{
-    classes
-        .iter()
-        .all(|class| are_built_frames(class.as_slice()))
-}
-
-fn all_notes(classes: &[List<List<Note>>]) -> bool
-    ensures { result ≡ list_all (λ class. list_all (λ method. list_all is_built_note method) class) classes.now }
-{
-    classes
-        .iter()
-        .all(|class| are_built_notes(class.as_slice()))
-}
-
-fn is_release(mode: Mode) -> bool
-    ensures { result ≡ is_release mode }
-{
-    matches!(mode, Mode::Release)
-}
-
-fn are_built_frames(methods: &[List<Option<FrameType>>]) -> bool
-    ensures { result ≡ list_all (λ method. list_all is_built_frame method) methods.now }
-{
-    methods.iter().all(|method| are_frames(method.as_slice()))
-}
-
-fn are_frames(frames: &[Option<FrameType>]) -> bool
-    ensures { result ≡ list_all is_built_frame frames.now }
-{
-    frames.iter().all(|frame| is_built_frame(frame))
-}
-
-fn is_built_frame(frame: &Option<FrameType>) -> bool
-    ensures { result ≡ is_built_frame frame.now }
-{
-    match frame {
-        None => true,
-        Some(frame) => are_types(frame.locals.as_slice()) && are_types(frame.stack.as_slice()),
-    }
-}
-
-fn are_types(types: &[VType]) -> bool
-    ensures { result ≡ list_all is_built_type types.now }
-{
-    types.iter().all(|t| is_built_type(t))
-}
-
-fn is_built_type(t: &VType) -> bool
-    ensures { result ≡ is_built_type t.now }
-{
-    !matches!(t, VType::UninitThis | VType::Uninit(_))
-}
-
-fn are_built_notes(methods: &[List<Note>]) -> bool
-    ensures { result ≡ list_all (λ method. list_all is_built_note method) methods.now }
-{
-    methods.iter().all(|method| are_notes(method.as_slice()))
-}
-
-fn are_notes(notes: &[Note]) -> bool
-    ensures { result ≡ list_all is_built_note notes.now }
-{
-    notes.iter().all(|note| is_built_note(note))
-}
-
-fn is_built_note(note: &Note) -> bool
-    ensures { result ≡ is_built_note note.now }
-{
-    matches!(note, Note::Free | Note::Taking(_) | Note::Stop { .. })
-}
-
-// ---- programs
 
 /// Whether the program is of the form that is built so far.
 pub fn is_built(alloc: Global, program: &Program) -> Result<bool, NoMemory>

@@ -1,27 +1,24 @@
 //! The top call of conspecj: the words of a command, over a store and a sink.
 //!
-//! The words become names ([`words`]), the files of these names become inputs (`inputs`), inputs become an answer
-//! (`judging`), and the answer a status and a text (`lines`, `tool`). (docs/COMMANDS.md)
+//! The words become names (`command_words`), and the files of these names inputs (`input_files`). Each command is a module of
+//! its own, from its inputs to its answer. The answer becomes a status (`tool`) and a reply (`replies`), in which each fault
+//! has its number (`numbers`), and the reply a text (`answer_text`). (docs/COMMANDS.md)
 #![tactic(auto)]
 
 mod answer;
 mod built;
-mod fault;
-mod files;
-mod forms;
-mod inline_inputs;
-mod inline_words;
-mod inlining;
-mod inputs;
-mod judging;
-mod lines;
+mod check;
+mod classes;
+mod inline;
+mod numbers;
+mod policy;
 mod refusal;
+mod replies;
+mod show;
 mod tool;
 mod weaving;
-mod words;
 
 pub use answer::Answer;
-pub use fault::InputFault;
 pub use tool::{Status, run_tool};
 
 #[cfg(test)]

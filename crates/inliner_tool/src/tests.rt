@@ -3,8 +3,8 @@
 mod answers;
 mod files;
 mod inline;
-mod limits;
 mod notes;
+mod numbers;
 mod policy;
 mod reading;
 mod refusals;

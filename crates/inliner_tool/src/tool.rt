@@ -1,23 +1,23 @@
 //! The top call: the words of a command, the answer over a store, and the output that a sink takes.
 
 ghost use Rattle.std.specs.Prelude.{◌≡◌, ◌≤◌, ◌↔◌, IsTrue};
-ghost use Rattle.mon_store.specs.Store.{Rose};
+ghost use Rattle.command_words.specs.InlineWords.{IsInline, NamedInline};
+ghost use Rattle.command_words.specs.Words.{IsCheck, NamedCheck};
 ghost use Rattle.inliner_tool.specs.declared.answer.Answer.TheVariants as answers;
-ghost use Rattle.inliner_tool.specs.Forms.{since};
-ghost use Rattle.inliner_tool.specs.Inlining.{IsInlined, Leaves};
-ghost use Rattle.inliner_tool.specs.InlineWords.{IsInline, NamedInline};
-ghost use Rattle.inliner_tool.specs.Judging.{EndsWell, stopped};
+ghost use Rattle.inliner_tool.specs.Answers.{EndsWell};
+ghost use Rattle.inliner_tool.specs.Inline.{IsInlined, Leaves};
 ghost use Rattle.inliner_tool.specs.Status.{code_of};
-ghost use Rattle.inliner_tool.specs.Tool.{CarriesOut, Holds, IsAnswer, Replies, Says, judged_status, status_of};
-ghost use Rattle.inliner_tool.specs.Words.{Check, IsCheck, NamedCheck, Policy, Show, check_named, policy_named, show_named};
+ghost use Rattle.inliner_tool.specs.Tool.{Holds, Replies, Says, judged_status, status_of};
+ghost use Rattle.input_files.specs.Forms.{since};
+ghost use Rattle.mon_store.specs.Store.{Rose};
 
 use crate::answer::Answer;
-use crate::files::Stop;
-use crate::inlining::answer_inline;
-use crate::inputs::{read_check, read_policy, read_show};
-use crate::judging::{check_answer, policy_answer, show_answer};
-use crate::lines::text_of;
-use crate::words::{CheckWords, Command, PolicyWords, ShowWords, command_of};
+use crate::check::answer_check;
+use crate::inline::answer_inline;
+use crate::policy::answer_policy;
+use crate::replies::text_of;
+use crate::show::answer_show;
+use command_words::{Command, command_of};
 use conspec_automaton::Verdict;
 use mon_base::Bytes;
 use mon_store::{Sink, SinkFault, Store};
@@ -98,11 +98,12 @@ pub fn run_tool<S: Store, K: Sink>(
     if is_memory(&answer) {
         return Status::Memory;
     }
-    let Ok(text) = text_of(alloc, &answer) else {
+    let status = status_of(&answer);
+    let Ok(text) = text_of(alloc, answer) else {
         return Status::Memory;
     };
     match out.put(text.as_slice()) {
-        Ok(()) => status_of(&answer),
+        Ok(()) => status,
         Err(SinkFault::Failed) => Status::SinkFault,
         Err(SinkFault::Memory) => Status::Memory,
     }
@@ -132,58 +133,6 @@ fn answer_to<S: Store>(alloc: Global, words: &[Bytes], store: &mut S) -> Answer
         Some(Command::Policy(words)) => answer_policy(alloc, &words, store),
         Some(Command::Inline(words)) => answer_inline(alloc, &words, store),
         None => Answer::Usage,
-    }
-}
-
-/// The answer to `check`.
-fn answer_check<S: Store>(alloc: Global, words: &CheckWords, store: &mut S) -> Answer
-    ensures says { IsAnswer (λ answer. CarriesOut (S.files store.old) (S.files store.new)
-        (since (S.faults store.old) (S.faults store.new) (S.last store.new)) (Check (check_named words.now)) answer) result }
-    ensures holds { EndsWell result
-        → Holds (S.files store.old) (since (S.faults store.old) (S.faults store.new) (S.last store.new)) (check_named words.now) }
-    ensures files { S.files store.new ≡ S.files store.old }
-    ensures faults { S.faults store.old ≤ S.faults store.new }
-{
-    match read_check(alloc, store, words) {
-        Ok(inputs) => check_answer(alloc, inputs, words.main),
-        Err(stop) => stopped(stop),
-    }
-}
-
-/// The answer to `show`.
-fn answer_show<S: Store>(alloc: Global, words: &ShowWords, store: &mut S) -> Answer
-    ensures says { IsAnswer (λ answer. CarriesOut (S.files store.old) (S.files store.new)
-        (since (S.faults store.old) (S.faults store.new) (S.last store.new)) (Show (show_named words.now)) answer) result }
-    ensures files { S.files store.new ≡ S.files store.old }
-    ensures faults { S.faults store.old ≤ S.faults store.new }
-{
-    match read_show(alloc, store, words) {
-        Ok(inputs) => show_answer(alloc, &inputs),
-        Err(stop) => stopped(stop),
-    }
-}
-
-/// The answer to `policy`.
-fn answer_policy<S: Store>(alloc: Global, words: &PolicyWords, store: &mut S) -> Answer
-    ensures says { IsAnswer (λ answer. CarriesOut (S.files store.old) (S.files store.new)
-        (since (S.faults store.old) (S.faults store.new) (S.last store.new)) (Policy (policy_named words.now)) answer) result }
-    ensures files { S.files store.new ≡ S.files store.old }
-    ensures faults { S.faults store.old ≤ S.faults store.new }
-{
-    match read_policy(alloc, store, words) {
-        Ok(inputs) => policy_answer(alloc, &inputs),
-        Err(stop) => stopped(stop),
-    }
-}
-
-/// The answer where the reading of files stopped.
-pub fn stopped(stop: Stop) -> Answer
-    ensures { result ≡ stopped stop }
-{
-    match stop {
-        Stop::Input(name, fault) => Answer::Input(name, fault),
-        Stop::Unread(name) => Answer::Unread(name),
-        Stop::Memory => Answer::Memory,
     }
 }
 

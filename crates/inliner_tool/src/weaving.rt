@@ -8,9 +8,9 @@ ghost use Rattle.cert_checker.specs.Secure.{Secure};
 ghost use Rattle.class_codec.specs.Fits.{CanSpell};
 ghost use Rattle.conspec_automaton.specs.Building.{built};
 ghost use Rattle.conspec_automaton.specs.Denying.{DeniesOnly};
-ghost use Rattle.inliner_tool.specs.InlineInputs.{InlineSound};
-ghost use Rattle.inliner_tool.specs.InlineWords.{inline_named};
-ghost use Rattle.inliner_tool.specs.Inputs.{IsListed};
+ghost use Rattle.input_files.specs.InlineInputs.{InlineSound};
+ghost use Rattle.command_words.specs.InlineWords.{inline_named};
+ghost use Rattle.input_files.specs.Named.{IsListed};
 ghost use Rattle.inliner_tool.specs.Weaving.{
   Accepts,
   Equals,
@@ -43,10 +43,7 @@ ghost use Rattle.bytecode_model.specs.Order.{IsInOrder};
 ghost use Rattle.block_template.specs.Woven.{woven};
 
 use crate::built::is_built_class;
-use crate::inline_inputs::InlineInputs;
-use crate::inline_words::{InlineWords, Weaving};
-use crate::inputs::ReadClasses;
-use crate::judging::{TOTAL_LIMIT, label_of};
+use crate::classes::{TOTAL_LIMIT, label_of};
 use crate::refusal::Refusal;
 use api_listing::{ListedMethod, Listing};
 use block_template::Woven;
@@ -58,10 +55,12 @@ use class_codec::ClassFile;
 use class_linking::{
     LinkFault, link, linked_is_in_order, linked_operands_are_right, linked_programs_are_named,
 };
+use command_words::{InlineWords, Weaving};
 use conspec_automaton::{Policy, build, denies_only};
 use conspec_parse::kinds_are_told;
 use conspec_tree::PolicyTree;
 use inline_release::{inline, original_is_free, woven_files_link};
+use input_files::{InlineInputs, ReadClasses};
 use mon_base::{Bytes, List, NoMemory};
 use mon_store::Output;
 use offset_patch::SpliceFault;

@@ -1,5 +1,4 @@
 pub mod Opcodes
-pub mod Fault
 pub mod Spelling
 pub mod Fits
 pub mod Reading

@@ -1,7 +1,6 @@
 //! Why bytes are no code, and why a list of instructions cannot be written.
 
 ghost use Rattle.std.specs.Prelude.{◌≡◌};
-ghost use Rattle.insn_codec.specs.Fault.{number_of};
 ghost use Rattle.insn_codec.specs.declared.fault.CodeFault.TheVariants.{Memory};
 ghost use Rattle.insn_codec.specs.declared.fault.CodeOverflow.TheVariants as overflows;
 
@@ -36,23 +35,6 @@ pub enum CodeFault {
     /// Memory ran out.
     #[error("out of memory")]
     Memory,
-}
-
-impl CodeFault {
-    /// The number under which the fault is reported.
-    pub fn number(&self) -> u32
-        ensures { result ≡ number_of self.now }
-    {
-        match self {
-            CodeFault::Opcode { .. } => 121,
-            CodeFault::Cut { .. } => 122,
-            CodeFault::Target { .. } => 123,
-            CodeFault::LeftOut { .. } => 124,
-            CodeFault::Form { .. } => 125,
-            CodeFault::End { .. } => 126,
-            CodeFault::Memory => 0,
-        }
-    }
 }
 
 impl From<NoMemory> for CodeFault {

@@ -44,53 +44,57 @@ static CODES: [&str; 16] = [
     "a7000610aab1c800000000",
 ];
 
-/// Codes that are none, the number of the fault, and its place.
-static REFUSED: [(&str, u32, u64); 37] = [
-    ("00ca", 121, 1),
-    ("ba", 121, 0),
-    ("61ca", 124, 0),
-    ("ca61", 121, 0),
-    ("0060610000", 124, 2),
-    ("bc06", 124, 0),
-    ("bc0b", 124, 0),
-    ("bc03", 125, 0),
-    ("bc0c", 125, 0),
-    ("00bc", 122, 1),
-    ("10", 122, 0),
-    ("c4", 122, 0),
-    ("c41500", 122, 0),
-    ("c484000100", 122, 0),
-    ("c460b1", 125, 0),
-    ("c4160001b1", 125, 0),
-    ("c4170001b1", 125, 0),
-    ("c4c4c4c4", 125, 0),
-    ("b900010101", 125, 0),
-    ("00aa0000", 122, 1),
-    ("aa000000000000000000000100000000", 125, 0),
-    ("aa00000000000000800000007fffffff", 122, 0),
-    ("aa010000000000000000000000000000", 122, 0),
-    ("aa01000000000000000000000000000000000000", 125, 0),
-    ("ab00000000000000ffffffff", 125, 0),
-    ("ab000000000000007fffffff", 122, 0),
+/// Codes that are none, and what is wrong with them.
+static REFUSED: [(&str, CodeFault); 37] = [
+    ("00ca", CodeFault::Opcode { at: 1, op: 0xCA }),
+    ("ba", CodeFault::Opcode { at: 0, op: 0xBA }),
+    ("61ca", CodeFault::LeftOut { at: 0, op: 0x61 }),
+    ("ca61", CodeFault::Opcode { at: 0, op: 0xCA }),
+    ("0060610000", CodeFault::LeftOut { at: 2, op: 0x61 }),
+    ("bc06", CodeFault::LeftOut { at: 0, op: 0xBC }),
+    ("bc0b", CodeFault::LeftOut { at: 0, op: 0xBC }),
+    ("bc03", CodeFault::Form { at: 0 }),
+    ("bc0c", CodeFault::Form { at: 0 }),
+    ("00bc", CodeFault::Cut { at: 1 }),
+    ("10", CodeFault::Cut { at: 0 }),
+    ("c4", CodeFault::Cut { at: 0 }),
+    ("c41500", CodeFault::Cut { at: 0 }),
+    ("c484000100", CodeFault::Cut { at: 0 }),
+    ("c460b1", CodeFault::Form { at: 0 }),
+    ("c4160001b1", CodeFault::Form { at: 0 }),
+    ("c4170001b1", CodeFault::Form { at: 0 }),
+    ("c4c4c4c4", CodeFault::Form { at: 0 }),
+    ("b900010101", CodeFault::Form { at: 0 }),
+    ("00aa0000", CodeFault::Cut { at: 1 }),
+    (
+        "aa000000000000000000000100000000",
+        CodeFault::Form { at: 0 },
+    ),
+    ("aa00000000000000800000007fffffff", CodeFault::Cut { at: 0 }),
+    ("aa010000000000000000000000000000", CodeFault::Cut { at: 0 }),
+    (
+        "aa01000000000000000000000000000000000000",
+        CodeFault::Form { at: 0 },
+    ),
+    ("ab00000000000000ffffffff", CodeFault::Form { at: 0 }),
+    ("ab000000000000007fffffff", CodeFault::Cut { at: 0 }),
     (
         "ab0000000000000000000002000000070000000000000007000000",
-        122,
-        0,
+        CodeFault::Cut { at: 0 },
     ),
     (
         "ab000000000000000000000200000007000000000000000700000000",
-        125,
-        0,
+        CodeFault::Form { at: 0 },
     ),
-    ("a70001b1", 123, 0),
-    ("a7000100", 123, 0),
-    ("a7000110", 122, 3),
-    ("c800000006b1", 123, 0),
-    ("a70004b1", 123, 0),
-    ("00a7fffe00", 123, 1),
-    ("a7000161", 124, 3),
-    ("a7000310051000", 126, 5),
-    ("b100", 126, 1),
+    ("a70001b1", CodeFault::Target { at: 0 }),
+    ("a7000100", CodeFault::Target { at: 0 }),
+    ("a7000110", CodeFault::Cut { at: 3 }),
+    ("c800000006b1", CodeFault::Target { at: 0 }),
+    ("a70004b1", CodeFault::Target { at: 0 }),
+    ("00a7fffe00", CodeFault::Target { at: 1 }),
+    ("a7000161", CodeFault::LeftOut { at: 3, op: 0x61 }),
+    ("a7000310051000", CodeFault::End { at: 5 }),
+    ("b100", CodeFault::End { at: 1 }),
 ];
 
 /// Opcodes and their names.
@@ -159,19 +163,6 @@ fn starts_in(alloc: Global, bytes: &[u8]) -> Option<List<u32>> {
     match read_code(alloc, bytes) {
         Ok(insns) => starts(alloc, insns.as_slice()).ok(),
         Err(_) => None,
-    }
-}
-
-/// The place of a fault.
-fn place_of(fault: CodeFault) -> u64 {
-    match fault {
-        CodeFault::Opcode { at, .. } => at,
-        CodeFault::Cut { at } => at,
-        CodeFault::Target { at } => at,
-        CodeFault::LeftOut { at, .. } => at,
-        CodeFault::Form { at } => at,
-        CodeFault::End { at } => at,
-        CodeFault::Memory => 0,
     }
 }
 
@@ -283,10 +274,9 @@ fn every_instruction(rt: HostRuntime) -> Result<(), Fail> {
 #[test]
 fn the_first_fault(rt: HostRuntime) -> Result<(), Fail> {
     let alloc = rt.alloc();
-    for (line, number, at) in &REFUSED {
+    for (line, fault) in &REFUSED {
         let bytes = bytes_of(alloc, &[*line])?;
-        let fault = fault_of(alloc, &bytes).ok_or("the bytes are no code")?;
-        assert_eq!(rt; (fault.number(), place_of(fault)), (*number, *at));
+        assert_eq!(rt; fault_of(alloc, &bytes), Some(*fault), "{line}");
     }
     Ok(())
 }

@@ -1,4 +1,4 @@
--- The number under which the fault is reported, and how calls answer what weaving gives.
+-- How calls answer what weaving gives.
 use Rattle.std.specs.Prelude.{◌≡◌, ◌<◌, ◌^◌, ⊤, ℕ, pos, nat_le, List, Option, Some, None, Result, Ok, Err}
 use Rattle.mon_base.specs.Reading.{need}
 use Rattle.insn_codec.specs.declared.fault.CodeOverflow.{CodeOverflow}
@@ -7,10 +7,6 @@ use Rattle.offset_patch.specs.declared.fault.Size.{Size}
 use Rattle.offset_patch.specs.declared.fault.Size.TheVariants as sizes
 use Rattle.offset_patch.specs.declared.fault.SpliceFault.{SpliceFault}
 use Rattle.offset_patch.specs.declared.fault.SpliceFault.TheVariants as faults
-
-abbrev pub number_of : SpliceFault → ℕ
-number_of (faults.Overflow class method what value) = 223
-number_of faults.Memory = 0
 
 -- what weaving gives: a value, or the first size that does not fit
 abbrev pub Spliced : Type 0 → Type 0

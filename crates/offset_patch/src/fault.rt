@@ -2,7 +2,7 @@
 
 ghost use Rattle.std.specs.Prelude.{◌≡◌, OnErr};
 ghost use Rattle.mon_base.specs.Answer.{Answers};
-ghost use Rattle.offset_patch.specs.Fault.{number_of, fitted};
+ghost use Rattle.offset_patch.specs.Fault.{fitted};
 ghost use Rattle.offset_patch.specs.declared.fault.SpliceFault.TheVariants.{Memory};
 
 use mon_base::{Bytes, NoMemory};
@@ -40,18 +40,6 @@ pub enum SpliceFault {
     /// Memory ran out.
     #[error("out of memory")]
     Memory,
-}
-
-impl SpliceFault {
-    /// The number under which the fault is reported.
-    pub fn number(&self) -> u32
-        ensures { result ≡ number_of self.now }
-    {
-        match self {
-            SpliceFault::Overflow { .. } => 223,
-            SpliceFault::Memory => 0,
-        }
-    }
 }
 
 impl From<NoMemory> for SpliceFault {

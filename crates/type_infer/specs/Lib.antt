@@ -1,4 +1,3 @@
-pub mod Fault
 pub mod Fits
 pub mod Shape
 pub mod Untyped

@@ -1,7 +1,6 @@
 //! Why a program has no typing.
 
 ghost use Rattle.std.specs.Prelude.{◌≡◌};
-ghost use Rattle.type_infer.specs.Fault.{number_of};
 ghost use Rattle.type_infer.specs.declared.fault.InferFault.TheVariants as faults;
 
 use mon_base::NoMemory;
@@ -17,18 +16,6 @@ pub enum InferFault {
     /// Memory ran out.
     #[error("out of memory")]
     Memory,
-}
-
-impl InferFault {
-    /// The number under which the fault is reported.
-    pub fn number(&self) -> u32
-        ensures { result ≡ number_of self.now }
-    {
-        match self {
-            InferFault::Untyped { .. } => 201,
-            InferFault::Memory => 0,
-        }
-    }
 }
 
 impl From<NoMemory> for InferFault {

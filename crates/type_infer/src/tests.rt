@@ -233,17 +233,6 @@ fn reference(alloc: Global, name: &[u8]) -> Result<VType, NoMemory> {
 }
 
 #[test]
-fn numbers(rt: HostRuntime) {
-    let fault = crate::InferFault::Untyped {
-        class: 1,
-        method: 2,
-        at: 3,
-    };
-    assert!(rt; fault.number() == 201);
-    assert!(rt; crate::InferFault::Memory.number() == 0);
-}
-
-#[test]
 fn depth(rt: HostRuntime) -> Result<(), Fail> {
     let alloc = rt.alloc();
     let mut m = Draft::new(alloc, b"([Ljava/lang/String;)V", (0, 1));

@@ -42,7 +42,7 @@ fn of_no_form(rt: HostRuntime) {
     for (text, line) in OF_NO_FORM.iter() {
         assert_eq!(rt;
             fault_of(rt.alloc(), text.as_bytes()),
-            Some((161, *line)),
+            Some(ListFault::Line { line: *line }),
             "{text}"
         );
     }
@@ -72,7 +72,7 @@ fn standing_already(rt: HostRuntime) {
     for (text, line) in STANDING.iter() {
         assert_eq!(rt;
             fault_of(rt.alloc(), text.as_bytes()),
-            Some((162, *line)),
+            Some(ListFault::Twice { line: *line }),
             "{text}"
         );
     }
@@ -100,7 +100,7 @@ fn unknown_classes(rt: HostRuntime) {
     for (text, line) in UNKNOWN.iter() {
         assert_eq!(rt;
             fault_of(rt.alloc(), text.as_bytes()),
-            Some((163, *line)),
+            Some(ListFault::NoSuper { line: *line }),
             "{text}"
         );
     }
@@ -123,14 +123,14 @@ fn faultless(rt: HostRuntime) {
 
 #[test]
 fn counts_of_lines(rt: HostRuntime) -> Result<(), Fail> {
-    // How many remarks, what stands behind them, and the fault's number and place.
+    // How many remarks, what stands behind them, and the fault.
     let rows = [
         (20_000, "", None),
-        (20_001, "", Some((164, 20_001))),
-        (20_000, "#", Some((164, 20_001))),
-        (20_000, "x\n", Some((164, 20_001))),
-        (19_999, "x", Some((161, 20_000))),
-        (19_999, "x\n", Some((161, 20_000))),
+        (20_001, "", Some(ListFault::TooMany { count: 20_001 })),
+        (20_000, "#", Some(ListFault::TooMany { count: 20_001 })),
+        (20_000, "x\n", Some(ListFault::TooMany { count: 20_001 })),
+        (19_999, "x", Some(ListFault::Line { line: 20_000 })),
+        (19_999, "x\n", Some(ListFault::Line { line: 20_000 })),
     ];
     for (count, last, fault) in rows.iter() {
         let mut text = Bytes::new(rt.alloc());
@@ -147,20 +147,7 @@ fn counts_of_lines(rt: HostRuntime) -> Result<(), Fail> {
     Ok(())
 }
 
-/// The number of the fault, and its line or the count of lines; `None` where the text is a listing.
-fn fault_of(alloc: Global, text: &[u8]) -> Option<(u32, u64)> {
-    match read(alloc, text) {
-        Ok(_) => None,
-        Err(fault) => Some((fault.number(), place(fault))),
-    }
-}
-
-fn place(fault: ListFault) -> u64 {
-    match fault {
-        ListFault::Line { line } => line,
-        ListFault::Twice { line } => line,
-        ListFault::NoSuper { line } => line,
-        ListFault::TooMany { count } => count,
-        ListFault::Memory => 0,
-    }
+/// What is wrong with the text; `None` where it is a listing.
+fn fault_of(alloc: Global, text: &[u8]) -> Option<ListFault> {
+    read(alloc, text).err()
 }

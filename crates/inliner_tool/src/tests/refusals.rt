@@ -23,59 +23,12 @@ pub fn each_changed(
 }
 
 #[test]
-fn class_files(rt: HostRuntime) -> Result<(), Fail> {
-    let table: [(Edit, Status, &str); 7] = [
-        (
-            ("E.class", 0, 1, b"\xcb"),
-            Status::Input,
-            "input 101 E.class\n",
-        ),
-        (
-            ("E.class", 7, 1, b"\x32"),
-            Status::Input,
-            "input 102 E.class 50\n",
-        ),
-        (
-            ("E.class", 120, 1, b""),
-            Status::Input,
-            "input 103 E.class 119\n",
-        ),
-        (
-            ("E.class", 121, 0, b"\x00"),
-            Status::Input,
-            "input 104 E.class 121\n",
-        ),
+fn files_of_each_kind(rt: HostRuntime) -> Result<(), Fail> {
+    let table: [(Edit, Status, &str); 3] = [
         (
             ("E.class", 10, 1, b"\x02"),
             Status::Input,
             "input 105 E.class 10 2\n",
-        ),
-        (
-            ("E.class", 82, 2, b"\x00\x01"),
-            Status::Input,
-            "input 106 E.class 82\n",
-        ),
-        (
-            ("State.class", 0, 1, b"\xcb"),
-            Status::Input,
-            "input 101 State.class\n",
-        ),
-    ];
-    each_changed(&rt, rt.alloc(), &QUIET, &table)
-}
-
-#[test]
-fn listings_and_policies(rt: HostRuntime) -> Result<(), Fail> {
-    let table: [(Edit, Status, &str); 6] = [
-        (
-            ("LISTING", 0, 63, b"method a/Q m ()V\n"),
-            Status::Input,
-            "input 163 LISTING 1\n",
-        ),
-        (
-            ("LISTING", 0, 0, b"class api/Net extends java/lang/Object\n"),
-            Status::Input,
-            "input 162 LISTING 2\n",
         ),
         (
             ("LISTING", 0, 5, b"klass"),
@@ -87,32 +40,15 @@ fn listings_and_policies(rt: HostRuntime) -> Result<(), Fail> {
             Status::Input,
             "input 181 POLICY 15\n",
         ),
-        (
-            ("POLICY", 7, 1, b"2000000000"),
-            Status::Input,
-            "input 184 POLICY 7\n",
-        ),
-        (
-            ("POLICY", 58, 4, b"sent"),
-            Status::Input,
-            "input 185 POLICY 50\n",
-        ),
     ];
     each_changed(&rt, rt.alloc(), &QUIET, &table)
 }
 
 #[test]
 fn certificates(rt: HostRuntime) -> Result<(), Fail> {
-    let table: [(Edit, Status, &str); 5] = [
+    let table: [(Edit, Status, &str); 3] = [
         // The mode that holds the lock is not built yet.
         (("CERT", 6, 1, b"\x00"), Status::Input, "input 199 CERT\n"),
-        (("CERT", 52, 1, b""), Status::Input, "input 199 CERT\n"),
-        // A name is told that no type uses.
-        (
-            ("CERT", 34, 19, b"\x00\x00\x00\x00"),
-            Status::Input,
-            "input 199 CERT\n",
-        ),
         // The first local is a number.
         (
             (
@@ -141,7 +77,7 @@ fn certificates(rt: HostRuntime) -> Result<(), Fail> {
 
 #[test]
 fn shapes(rt: HostRuntime) -> Result<(), Fail> {
-    let table: [(Edit, Status, &str); 3] = [
+    let table: [(Edit, Status, &str); 2] = [
         // No class is told.
         (
             ("CERT", 7, 46, b"\x00\x00\x00\x00\x00\x00"),
@@ -153,12 +89,6 @@ fn shapes(rt: HostRuntime) -> Result<(), Fail> {
             ("CERT", 51, 2, b"\x00\x01\x00\x00\x00\x00"),
             Status::Denied,
             "denied 242 conspec/State 0\n",
-        ),
-        // A third class is told, and is not there.
-        (
-            ("CERT", 32, 2, b"\x00\x03"),
-            Status::Input,
-            "input 199 CERT\n",
         ),
     ];
     each_changed(&rt, rt.alloc(), &QUIET, &table)?;

@@ -1,8 +1,8 @@
 use Rattle.std.proofs.Common.{◌≡◌, subst}
-use Rattle.inliner_tool.specs.declared.words.Command.{Command}
-use Rattle.inliner_tool.specs.InlineWords.{IsInline, inline_named}
-use Rattle.inliner_tool.specs.Words.{Spells, named_by}
-use Rattle.inliner_tool.proofs.NamedOnce.{same_inline}
+use Rattle.command_words.specs.declared.words.Command.{Command}
+use Rattle.command_words.specs.InlineWords.{IsInline, inline_named}
+use Rattle.command_words.specs.Words.{Spells, named_by}
+use Rattle.command_words.proofs.NamedOnce.{same_inline}
 use Rattle.inliner_tool.proofs.tool.answer_to.Goals as goal
 
 pub returns-in-Some-Inline-clause-inlined : goal.returns-in-Some-Inline-clause-inlined

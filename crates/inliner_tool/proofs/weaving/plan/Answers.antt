@@ -3,7 +3,7 @@ use Rattle.std.proofs.lemmas.Result.{err_from_is_err_and}
 use Rattle.conspec_automaton.specs.declared.policy.Policy.{Policy}
 use Rattle.block_template.specs.Outcome.{IsWoven}
 use Rattle.block_template.specs.Woven.{woven}
-use Rattle.inliner_tool.specs.InlineWords.{NamedInline, inline_named}
+use Rattle.command_words.specs.InlineWords.{NamedInline, inline_named}
 use Rattle.inliner_tool.specs.Weaving.{Denying, Equals, Remakes, Typed, Types, Weaves, denying, original, weave_step}
 use Rattle.inliner_tool.proofs.Blocks.{inputs_link, planned}
 use Rattle.inliner_tool.proofs.Expected.{expected, one_file, remade}

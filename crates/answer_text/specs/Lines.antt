@@ -1,0 +1,30 @@
+-- How lines are spelled, and what is printed.
+use Rattle.std.specs.Prelude.{ℕ, List, [], ◌∷◌, ◌++◌, Option, Some, None, codes}
+use Rattle.answer_text.specs.declared.line.Line.{Line}
+use Rattle.answer_text.specs.declared.line.Line.TheVariants as lines
+use Rattle.answer_text.specs.declared.reply.Reply.{Reply}
+use Rattle.answer_text.specs.declared.reply.Reply.TheVariants as replies
+use Rattle.answer_text.specs.Fields.{all_spaced, count, word}
+
+-- the name of a file, or `-` where there is none
+abbrev pub file_name : Option (List ℕ) → List ℕ
+file_name (Some name) = name
+file_name None = codes "-"
+
+-- the line without its end
+abbrev pub line_text : Line → List ℕ
+line_text (lines.Accepted mode sites) = codes "accepted" ++ word mode ++ codes " sites" ++ count sites
+line_text (lines.Inlined mode sites classes) = codes "inlined" ++ word mode ++ codes " sites" ++ count sites ++ codes " classes" ++ count classes
+line_text lines.Obeyed = codes "accepted"
+line_text (lines.Stopped index) = codes "stopped" ++ count index
+line_text (lines.Denied report) = codes "denied" ++ count report.number ++ all_spaced report.fields
+line_text (lines.Input name report) = codes "input" ++ count report.number ++ word (file_name name) ++ all_spaced report.fields
+line_text (lines.Overflow sizes) = codes "overflow" ++ all_spaced sizes
+line_text (lines.Store name) = codes "store" ++ word name
+line_text lines.Usage = codes "usage: conspecj COMMAND WORD.."
+
+-- what is printed: a line with its end, a text as it is, or nothing
+abbrev pub text_of : Reply → List ℕ
+text_of (replies.Line line) = line_text line ++ 10 ∷ []
+text_of (replies.Text text) = text
+text_of replies.Nothing = []

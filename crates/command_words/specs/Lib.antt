@@ -1,0 +1,2 @@
+pub mod InlineWords
+pub mod Words

@@ -1,0 +1,80 @@
+-- The commands and their words.
+use Rattle.std.specs.Prelude.{◌≡◌, ◌≢◌, ℕ, List, [], ◌∷◌, codes}
+use Rattle.std.specs.List.{AllByRecursion}
+use Rattle.command_words.specs.declared.words.CheckWords.{CheckWords}
+use Rattle.command_words.specs.declared.words.Command.{Command}
+use Rattle.command_words.specs.declared.words.Command.TheVariants as commands
+use Rattle.command_words.specs.declared.words.PolicyWords.{PolicyWords}
+use Rattle.command_words.specs.declared.words.ShowWords.{ShowWords}
+use Rattle.command_words.specs.InlineWords.{IsInline, NamedInline, inline_named}
+
+-- the files of a check, and the name of its main class
+pub record NamedCheck : Type 0 where
+  pub policy : List ℕ
+  pub listing : List ℕ
+  pub certificate : List ℕ
+  pub main : List ℕ
+  pub classes : List (List ℕ)
+
+-- the files that are shown
+pub record NamedShow : Type 0 where
+  pub listing : List ℕ
+  pub classes : List (List ℕ)
+
+-- the files of a policy, and of a run that is judged by it
+pub record NamedPolicy : Type 0 where
+  pub policy : List ℕ
+  pub listing : List ℕ
+  pub recorded : List ℕ
+
+pub data NamedCommand : Type 0 where
+  Check : NamedCheck → NamedCommand
+  Show : NamedShow → NamedCommand
+  Policy : NamedPolicy → NamedCommand
+  Inline : NamedInline → NamedCommand
+
+abbrev pub check_named : CheckWords → NamedCheck
+check_named words = record {
+  policy = words.policy.now;
+  listing = words.listing.now;
+  certificate = words.certificate.now;
+  main = words.main.now;
+  classes = words.classes.now;
+}
+
+abbrev pub show_named : ShowWords → NamedShow
+show_named words = record { listing = words.listing.now; classes = words.classes.now }
+
+abbrev pub policy_named : PolicyWords → NamedPolicy
+policy_named words = record { policy = words.policy.now; listing = words.listing.now; recorded = words.recorded.now }
+
+abbrev pub named_by : Command → NamedCommand
+named_by (commands.Check words) = Check (check_named words)
+named_by (commands.Show words) = Show (show_named words)
+named_by (commands.Policy words) = Policy (policy_named words)
+named_by (commands.Inline words) = Inline (inline_named words)
+
+-- check POLICY LISTING CERT MAIN CLASS..
+pub record IsCheck (words : List (List ℕ)) (named : NamedCheck) : Type 0 where
+  pub spelled : words ≡ codes "check" ∷ named.policy ∷ named.listing ∷ named.certificate ∷ named.main ∷ named.classes
+  pub some : named.classes ≢ []
+
+-- show LISTING CLASS..
+pub record IsShow (words : List (List ℕ)) (named : NamedShow) : Type 0 where
+  pub spelled : words ≡ codes "show" ∷ named.listing ∷ named.classes
+  pub some : named.classes ≢ []
+
+-- policy POLICY LISTING RECORD
+pub record IsPolicyCommand (words : List (List ℕ)) (named : NamedPolicy) : Type 0 where
+  pub spelled : words ≡ codes "policy" ∷ named.policy ∷ named.listing ∷ named.recorded ∷ []
+
+abbrev pub Spells : List (List ℕ) → NamedCommand → Type 0
+Spells words (Check named) = IsCheck words named
+Spells words (Show named) = IsShow words named
+Spells words (Policy named) = IsPolicyCommand words named
+Spells words (Inline named) = IsInline words named
+
+-- The words are those of the command, and none of them is empty.
+pub record IsCommand (words : List (List ℕ)) (named : NamedCommand) : Type 0 where
+  pub spelled : Spells words named
+  pub full : AllByRecursion (λ word. word ≢ []) words

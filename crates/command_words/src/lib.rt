@@ -1,0 +1,14 @@
+//! The words of the command line: which command they are, and what each of them names.
+//!
+//! [`command_of`] finds the command, for any words that one has. What a word stands for is told by its place alone; no word
+//! is an option, and none is read as a file here. (docs/COMMANDS.md)
+#![tactic(auto)]
+
+mod inline_words;
+mod words;
+
+pub use inline_words::{InlineWords, Weaving};
+pub use words::{CheckWords, Command, PolicyWords, ShowWords, command_of};
+
+#[cfg(test)]
+mod tests;

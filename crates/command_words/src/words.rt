@@ -1,0 +1,156 @@
+//! The words of the command line.
+
+ghost use Rattle.std.specs.Prelude.{◌≡◌, ◌≢◌, ◌↔◌, ◌∷◌, [], ◌++◌, IfSome, IfNone, IsTrue};
+ghost use Rattle.std.specs.List.{AllByRecursion};
+ghost use Rattle.command_words.specs.Words.{
+  IsCheck,
+  IsCommand,
+  IsPolicyCommand,
+  IsShow,
+  NamedCheck,
+  NamedCommand,
+  NamedPolicy,
+  NamedShow,
+  check_named,
+  named_by,
+  policy_named,
+  show_named,
+};
+
+use crate::inline_words::{InlineWords, inline_words};
+use mon_base::Bytes;
+
+/// The words of the command `check`, each the name of a file but `main`.
+#[derive(Clone, Copy)]
+pub struct CheckWords<'a> {
+    pub policy: &'a Bytes,
+    pub listing: &'a Bytes,
+    pub certificate: &'a Bytes,
+    /// The name of the main class.
+    pub main: &'a Bytes,
+    pub classes: &'a [Bytes],
+}
+
+/// The words of the command `show`, each the name of a file.
+#[derive(Clone, Copy)]
+pub struct ShowWords<'a> {
+    pub listing: &'a Bytes,
+    pub classes: &'a [Bytes],
+}
+
+/// The words of the command `policy`, each the name of a file.
+#[derive(Clone, Copy)]
+pub struct PolicyWords<'a> {
+    pub policy: &'a Bytes,
+    pub listing: &'a Bytes,
+    /// The record of a run.
+    pub recorded: &'a Bytes,
+}
+
+/// A command and its words.
+#[derive(Clone, Copy)]
+pub enum Command<'a> {
+    Check(CheckWords<'a>),
+    Show(ShowWords<'a>),
+    Policy(PolicyWords<'a>),
+    Inline(InlineWords<'a>),
+}
+
+/// The command whose words these are. No word is empty, and where classes are named there is at least one.
+pub fn command_of(words: &[Bytes]) -> Option<Command<'_>>
+    ensures found { IfSome result (λ c. IsCommand words.now (named_by c)) }
+    ensures none { IfNone result ((named : NamedCommand) → IsCommand words.now named → ⊥) }
+{
+    if !are_full(words) {
+        return None;
+    }
+    if let Some(words) = check_words(words) {
+        return Some(Command::Check(words));
+    }
+    if let Some(words) = show_words(words) {
+        return Some(Command::Show(words));
+    }
+    if let Some(words) = policy_words(words) {
+        return Some(Command::Policy(words));
+    }
+    if let Some(words) = inline_words(words) {
+        return Some(Command::Inline(words));
+    }
+    None
+}
+
+fn check_words(words: &[Bytes]) -> Option<CheckWords<'_>>
+    ensures found { IfSome result (λ c. IsCheck words.now (check_named c)) }
+    ensures none { IfNone result ((named : NamedCheck) → IsCheck words.now named → ⊥) }
+{
+    let (command, words) = first_of(words)?;
+    let (policy, words) = first_of(words)?;
+    let (listing, words) = first_of(words)?;
+    let (certificate, words) = first_of(words)?;
+    let (main, classes) = first_of(words)?;
+    if command.as_slice() != b"check".as_slice() || classes.is_empty() {
+        return None;
+    }
+    Some(CheckWords {
+        policy,
+        listing,
+        certificate,
+        main,
+        classes,
+    })
+}
+
+fn show_words(words: &[Bytes]) -> Option<ShowWords<'_>>
+    ensures found { IfSome result (λ c. IsShow words.now (show_named c)) }
+    ensures none { IfNone result ((named : NamedShow) → IsShow words.now named → ⊥) }
+{
+    let (command, words) = first_of(words)?;
+    let (listing, classes) = first_of(words)?;
+    if command.as_slice() != b"show".as_slice() || classes.is_empty() {
+        return None;
+    }
+    Some(ShowWords { listing, classes })
+}
+
+fn policy_words(words: &[Bytes]) -> Option<PolicyWords<'_>>
+    ensures found { IfSome result (λ c. IsPolicyCommand words.now (policy_named c)) }
+    ensures none { IfNone result ((named : NamedPolicy) → IsPolicyCommand words.now named → ⊥) }
+{
+    let (command, words) = first_of(words)?;
+    let (policy, words) = first_of(words)?;
+    let (listing, words) = first_of(words)?;
+    let (recorded, words) = first_of(words)?;
+    if command.as_slice() != b"policy".as_slice() || !words.is_empty() {
+        return None;
+    }
+    Some(PolicyWords {
+        policy,
+        listing,
+        recorded,
+    })
+}
+
+/// Whether no word is empty.
+fn are_full(words: &[Bytes]) -> bool
+    ensures { IsTrue result ↔ AllByRecursion (λ word. word ≢ []) words.now }
+{
+    let mut rest = words;
+    while let [word, later @ ..] = rest {
+        if word.is_empty() {
+            return false;
+        }
+        rest = later;
+    }
+    true
+}
+
+/// The first word and the others.
+pub fn first_of(words: &[Bytes]) -> Option<(&Bytes, &[Bytes])>
+    ensures found { IfSome result (λ parts. words.now ≡ parts.0.now ∷ parts.1.now) }
+    ensures none { IfNone result (words.now ≡ []) }
+{
+    match words {
+        [] => None,
+        [first, others @ ..] => Some((first, others)),
+    }
+}

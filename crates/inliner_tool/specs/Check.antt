@@ -1,0 +1,68 @@
+-- What is answered to a check.
+use Rattle.std.specs.Prelude.{◌≡◌, ℕ, ◌&&◌, nat_lt, List, if◌then◌else◌, Result, Ok, Err}
+use Rattle.class_linking.specs.declared.fault.LinkFault.{LinkFault}
+use Rattle.class_linking.specs.declared.fault.LinkFault.TheVariants as links
+use Rattle.bytecode_model.specs.declared.program.Program.{Program}
+use Rattle.bytecode_model.specs.declared.program.Side.TheVariants.{Inlined}
+use Rattle.class_linking.specs.Fault.{Linked}
+use Rattle.class_linking.specs.Linking.{linked}
+use Rattle.cert_checker.specs.declared.checking.Accepted.{Accepted}
+use Rattle.cert_checker.specs.declared.fault.CheckFault.{CheckFault}
+use Rattle.cert_checker.specs.declared.fault.CheckFault.TheVariants.{Shape, Typing, Local}
+use Rattle.block_logic.specs.Accepted.{IsAccepted}
+use Rattle.cert_checker.specs.Acceptance.{verdict}
+use Rattle.cert_checker.specs.Secure.{Secure}
+use Rattle.cert_format.specs.declared.certificate.Certificate.{Certificate}
+use Rattle.conspec_automaton.specs.Building.{built}
+use Rattle.conspec_automaton.specs.Denying.{denies_only}
+use Rattle.conspec_tree.specs.declared.types.PolicyTree.{PolicyTree}
+use Rattle.inliner_tool.specs.declared.answer.Answer.{Answer}
+use Rattle.inliner_tool.specs.declared.answer.Answer.TheVariants as answers
+use Rattle.input_files.specs.declared.check_inputs.CheckInputs.{CheckInputs}
+use Rattle.inliner_tool.specs.Built.{is_built}
+use Rattle.inliner_tool.specs.Classes.{label_of}
+
+abbrev pub number_of_class : CheckFault → ℕ
+number_of_class (Shape class method) = class
+number_of_class (Typing class method at rule) = class
+number_of_class (Local class method at rule) = class
+
+abbrev pub denied_answer : Program → CheckFault → Answer
+denied_answer program fault = answers.Denied fault (label_of program (number_of_class fault))
+
+abbrev pub verdict_answer : Program → Result Accepted CheckFault → Answer
+verdict_answer program (Ok accepted) = answers.Accepted accepted
+verdict_answer program (Err fault) = denied_answer program fault
+
+-- a program and a policy of the built forms are checked
+abbrev pub program_answer : PolicyTree → Certificate → Program → Answer
+program_answer policy certificate program =
+    if is_built program && denies_only policy then verdict_answer program (verdict program (built policy) certificate) else answers.NotBuilt
+
+abbrev pub link_answer : LinkFault → Answer
+link_answer links.Memory = answers.Memory
+link_answer fault = answers.Link fault
+
+abbrev pub linked_answer : PolicyTree → Certificate → Linked Program → Answer
+linked_answer policy certificate (Ok program) = program_answer policy certificate program
+linked_answer policy certificate (Err fault) = link_answer fault
+
+abbrev pub link_inputs : List ℕ → CheckInputs → Linked Program
+link_inputs main inputs = linked inputs.classes.files inputs.listing main Inlined
+
+-- the class files have at most 16 MiB in all
+abbrev pub check_answer : List ℕ → CheckInputs → Answer
+check_answer main inputs =
+    if nat_lt 16777216 inputs.classes.total then answers.TotalLong inputs.classes.total
+    else linked_answer inputs.policy inputs.certificate (link_inputs main inputs)
+
+-- The program is accepted with the certificate, and obeys the policy for every list of guest steps, as its mode promises.
+pub record ProgramIsChecked (policy : PolicyTree) (certificate : Certificate) (program : Program) : Type 0 where
+  pub accepted : IsAccepted program (built policy) certificate
+  pub secure : Secure certificate.mode program (built policy)
+
+-- The inputs link to such a program.
+pub record IsChecked (main : List ℕ) (inputs : CheckInputs) : Type 0 where
+  pub program : Program
+  pub links : link_inputs main inputs ≡ Ok program
+  pub checked : ProgramIsChecked inputs.policy inputs.certificate program

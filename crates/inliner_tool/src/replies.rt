@@ -1,0 +1,117 @@
+//! What is printed for an answer.
+
+ghost use Rattle.std.specs.Prelude.{◌≡◌, None, Some, IfOk};
+ghost use Rattle.answer_text.specs.declared.line.Line.TheVariants as lines;
+ghost use Rattle.answer_text.specs.declared.reply.Reply.TheVariants as replies;
+ghost use Rattle.inliner_tool.specs.declared.answer.Answer.TheVariants as answers;
+ghost use Rattle.inliner_tool.specs.Replies.{input, mode_name, reply_of, text_of, verdict_reply};
+
+use crate::answer::Answer;
+use crate::numbers::{
+    check_report, event_report, input_report, length_report, link_report, size_report,
+    total_report, unbuilt_report, untyped_report,
+};
+use answer_text::{Line, Reply, Report};
+use cert_checker::Accepted;
+use cert_format::Mode;
+use conspec_automaton::Verdict;
+use mon_base::{Bytes, NoMemory};
+use std::alloc::Global;
+
+/// The whole output for an answer.
+pub fn text_of(alloc: Global, answer: Answer) -> Result<Bytes, NoMemory>
+    ensures { IfOk result (λ text. text ≡ text_of answer) }
+{
+    let reply = reply_of(alloc, answer)?;
+    answer_text::text_of(alloc, reply)
+}
+
+/// What is printed for an answer.
+fn reply_of(alloc: Global, answer: Answer) -> Result<Reply, NoMemory>
+    ensures { IfOk result (λ reply. reply ≡ reply_of answer) }
+{
+    match answer {
+        Answer::Accepted(accepted) => accepted_reply(alloc, accepted),
+        Answer::Denied(fault, label) => Ok(denied(check_report(alloc, fault, label)?)),
+        Answer::Shown(text) => Ok(Reply::Text(text)),
+        Answer::Judged(verdict) => verdict_reply(alloc, verdict),
+        Answer::Inlined { accepted, classes } => inlined_reply(alloc, accepted, classes),
+        Answer::Input(name, fault) => Ok(input(Some(name), input_report(alloc, fault)?)),
+        Answer::TotalLong { len } => Ok(input(None, total_report(alloc, len)?)),
+        Answer::Link(fault) => Ok(input(None, link_report(alloc, fault)?)),
+        Answer::Untyped { class, method, at } => {
+            Ok(input(None, untyped_report(alloc, class, method, at)?))
+        }
+        Answer::NotBuilt => Ok(input(None, unbuilt_report(alloc)?)),
+        Answer::Overflow {
+            class,
+            method,
+            what,
+            value,
+        } => Ok(overflow(size_report(alloc, class, method, what, value)?)),
+        Answer::LongCertificate { value } => Ok(overflow(length_report(alloc, value)?)),
+        Answer::Unread(name) => Ok(Reply::Line(Line::Store(name))),
+        Answer::Unwritten(name) => Ok(Reply::Line(Line::Store(name))),
+        Answer::Usage => Ok(Reply::Line(Line::Usage)),
+        Answer::Memory => Ok(Reply::Nothing),
+    }
+}
+
+fn accepted_reply(alloc: Global, accepted: Accepted) -> Result<Reply, NoMemory>
+    ensures { IfOk result (λ reply. reply ≡ reply_of (answers.Accepted accepted)) }
+{
+    Ok(Reply::Line(Line::Accepted {
+        mode: Bytes::from_slice(alloc, mode_name(accepted.mode))?,
+        sites: accepted.sites,
+    }))
+}
+
+fn inlined_reply(alloc: Global, accepted: Accepted, classes: u64) -> Result<Reply, NoMemory>
+    ensures { IfOk result (λ reply. reply ≡ reply_of (answers.Inlined accepted classes)) }
+{
+    Ok(Reply::Line(Line::Inlined {
+        mode: Bytes::from_slice(alloc, mode_name(accepted.mode))?,
+        sites: accepted.sites,
+        classes,
+    }))
+}
+
+fn mode_name(mode: Mode) -> &'static [u8]
+    ensures { result.now ≡ mode_name mode }
+{
+    match mode {
+        Mode::Hold => b"hold",
+        Mode::Release => b"release",
+    }
+}
+
+fn verdict_reply(alloc: Global, verdict: Verdict) -> Result<Reply, NoMemory>
+    ensures { IfOk result (λ reply. reply ≡ verdict_reply verdict) }
+{
+    match verdict {
+        Verdict::Accepted => Ok(Reply::Line(Line::Obeyed)),
+        Verdict::StoppedAt { index } => Ok(Reply::Line(Line::Stopped { index })),
+        Verdict::Refused { index } => Ok(denied(event_report(alloc, index)?)),
+    }
+}
+
+/// The answer no.
+fn denied(report: Report) -> Reply
+    ensures { result ≡ replies.Line (lines.Denied report) }
+{
+    Reply::Line(Line::Denied(report))
+}
+
+/// The file of this name is wrong, or none alone is.
+fn input(name: Option<Bytes>, report: Report) -> Reply
+    ensures { result ≡ input name report }
+{
+    Reply::Line(Line::Input { name, report })
+}
+
+/// A size that does not fit.
+fn overflow(report: Report) -> Reply
+    ensures { result ≡ replies.Line (lines.Overflow report.fields) }
+{
+    Reply::Line(Line::Overflow(report.fields))
+}

@@ -1,0 +1,3 @@
+pub mod ReadFiles
+pub mod ClassFiles
+pub mod Reading

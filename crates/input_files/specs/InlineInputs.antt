@@ -1,0 +1,32 @@
+-- What the files are of which a program is woven.
+use Rattle.std.specs.Prelude.{ℕ, ◌≤◌, List, length, Result}
+use Rattle.std.specs.List.{AllByRecursion}
+use Rattle.mon_store.specs.Store.{Files}
+use Rattle.api_listing.specs.declared.types.Listing.{Listing}
+use Rattle.api_listing.specs.Listing.{IsFew}
+use Rattle.class_codec.specs.Fits.{CanSpell}
+use Rattle.conspec_tree.specs.declared.types.PolicyTree.{PolicyTree}
+use Rattle.conspec_parse.specs.Meaning.{SpellsPolicy}
+use Rattle.conspec_tree.specs.Tree.{IsPolicyTree}
+use Rattle.input_files.specs.declared.files.Stop.{Stop}
+use Rattle.input_files.specs.declared.inline_inputs.InlineInputs.{InlineInputs}
+use Rattle.input_files.specs.Forms.{Count, ReadsForm, Then, Gives}
+use Rattle.command_words.specs.InlineWords.{NamedInline}
+use Rattle.input_files.specs.Named.{IsListed, ReadsClasses}
+use Rattle.input_files.specs.Kinds.{listing_form, policy_form}
+
+-- listing, policy, classes
+abbrev pub ReadsInline : Files → Count → NamedInline → Result InlineInputs Stop → Type 0
+ReadsInline files count named =
+    Then (ReadsForm files count named.listing listing_form) (λ listing.
+    Then (ReadsForm files count named.policy (policy_form listing)) (λ policy.
+    Then (ReadsClasses files count named.classes) (λ classes.
+    Gives (record { listing = listing; policy = policy; classes = classes }))))
+
+-- What is known of inputs that were read.
+pub record InlineSound (inputs : InlineInputs) : Type 0 where
+  pub listing : IsFew inputs.listing
+  pub listed : IsListed inputs.listing
+  pub policy : IsPolicyOf inputs.listing inputs.policy
+  pub vars : length inputs.policy.vars ≤ 16
+  pub classes : AllByRecursion CanSpell inputs.classes.files

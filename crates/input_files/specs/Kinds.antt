@@ -1,0 +1,76 @@
+-- The kinds of files: how long they may be, and what they are read as.
+use Rattle.std.specs.Prelude.{ℕ, length, Result, Ok, Err, if◌then◌else◌}
+use Rattle.api_listing.specs.declared.fault.ListFault.{ListFault}
+use Rattle.api_listing.specs.declared.types.Listing.{Listing}
+use Rattle.api_listing.specs.Listing.{reading}
+use Rattle.cert_format.specs.declared.certificate.Certificate.{Certificate}
+use Rattle.cert_format.specs.declared.fault.CertForm.{CertForm}
+use Rattle.cert_format.specs.declared.fault.CertForm.TheVariants as forms
+use Rattle.cert_format.specs.Reading.{certificate_of}
+use Rattle.class_codec.specs.declared.fault.ClassFault.{ClassFault}
+use Rattle.class_codec.specs.declared.tree.ClassFile.{ClassFile}
+use Rattle.class_codec.specs.Reading.{class_of}
+use Rattle.conspec_parse.specs.declared.fault.PolicyFault.{PolicyFault}
+use Rattle.conspec_tree.specs.declared.types.PolicyTree.{PolicyTree}
+use Rattle.conspec_parse.specs.Policy.{reading as policy_of}
+use Rattle.event_record.specs.declared.fault.RecordFault.{RecordFault}
+use Rattle.event_record.specs.declared.reading.Record.{Record}
+use Rattle.event_record.specs.Record.{reading as record_of}
+use Rattle.input_files.specs.declared.fault.InputFault.{InputFault}
+use Rattle.input_files.specs.declared.fault.InputFault.TheVariants as faults
+use Rattle.input_files.specs.declared.forms.ReadClass.{ReadClass}
+use Rattle.input_files.specs.BuiltCertificate.{is_built_certificate}
+use Rattle.input_files.specs.Fault.{class_told, listing_told, policy_told, record_told}
+use Rattle.input_files.specs.Forms.{Form}
+
+-- ---- listings, of at most 1 MiB
+
+abbrev pub listing_read : Result Listing ListFault → Result Listing InputFault
+listing_read (Ok listing) = Ok listing
+listing_read (Err fault) = Err (listing_told fault)
+
+abbrev pub listing_form : Form Listing
+listing_form = record { limit = 1048576; reads = λ text. listing_read (reading text) }
+
+-- ---- policies, of at most 64 KiB, over a listing
+
+abbrev pub policy_read : Result PolicyTree PolicyFault → Result PolicyTree InputFault
+policy_read (Ok tree) = Ok tree
+policy_read (Err fault) = Err (policy_told fault)
+
+abbrev pub policy_form : Listing → Form PolicyTree
+policy_form listing = record { limit = 65536; reads = λ text. policy_read (policy_of text listing) }
+
+-- ---- certificates, of at most 64 MiB, for a number of variables; those that are built so far
+
+abbrev pub built_only : Certificate → Result Certificate InputFault
+built_only certificate = if is_built_certificate certificate then Ok certificate else Err faults.NotBuilt
+
+abbrev pub certificate_told : CertForm → InputFault
+certificate_told (forms.Form at) = faults.NotBuilt
+certificate_told forms.Memory = faults.Memory
+
+abbrev pub certificate_read : Result Certificate CertForm → Result Certificate InputFault
+certificate_read (Ok certificate) = built_only certificate
+certificate_read (Err fault) = Err (certificate_told fault)
+
+abbrev pub certificate_form : ℕ → Form Certificate
+certificate_form vars = record { limit = 67108864; reads = λ text. certificate_read (certificate_of vars text) }
+
+-- ---- class files, of at most 1 MiB, with their lengths
+
+abbrev pub class_read : ℕ → Result ClassFile ClassFault → Result ReadClass InputFault
+class_read len (Ok file) = Ok (record { file = file; len = len })
+class_read len (Err fault) = Err (class_told fault)
+
+abbrev pub class_form : Form ReadClass
+class_form = record { limit = 1048576; reads = λ text. class_read (length text) (class_of text) }
+
+-- ---- records, of at most 256 MiB, over a listing
+
+abbrev pub record_read : Result Record RecordFault → Result Record InputFault
+record_read (Ok recorded) = Ok recorded
+record_read (Err fault) = Err (record_told fault)
+
+abbrev pub record_form : Listing → Form Record
+record_form listing = record { limit = 268435456; reads = λ text. record_read (record_of text listing) }

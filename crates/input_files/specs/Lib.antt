@@ -1,0 +1,9 @@
+pub mod Fault
+pub mod Forms
+pub mod BuiltCertificate
+pub mod Kinds
+pub mod Named
+pub mod CheckInputs
+pub mod ShowInputs
+pub mod PolicyInputs
+pub mod InlineInputs

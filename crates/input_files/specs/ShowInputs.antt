@@ -1,0 +1,16 @@
+-- What the files that are shown are.
+use Rattle.std.specs.Prelude.{ℕ, ◌≤◌, List, length, Result}
+use Rattle.mon_store.specs.Store.{Files}
+use Rattle.input_files.specs.declared.files.Stop.{Stop}
+use Rattle.input_files.specs.Forms.{Count, ReadsForm, Then, Gives}
+use Rattle.input_files.specs.Kinds.{listing_form}
+use Rattle.input_files.specs.Named.{ReadsClasses}
+use Rattle.input_files.specs.declared.show_inputs.ShowInputs.{ShowInputs}
+use Rattle.command_words.specs.Words.{NamedShow}
+
+-- listing, classes
+abbrev pub ReadsShow : Files → Count → NamedShow → Result ShowInputs Stop → Type 0
+ReadsShow files count named =
+    Then (ReadsForm files count named.listing listing_form) (λ listing.
+    Then (ReadsClasses files count named.classes) (λ classes.
+    Gives (record { listing = listing; classes = classes })))

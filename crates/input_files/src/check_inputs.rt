@@ -1,0 +1,50 @@
+//! The files of a check, read in their order: the first that is not what it is named for, or that the store does not give,
+//! ends the reading.
+
+ghost use Rattle.std.specs.Prelude.{◌≡◌, ◌≤◌, IfOk};
+ghost use Rattle.input_files.specs.Forms.{since};
+ghost use Rattle.input_files.specs.CheckInputs.{AreSound, ReadsCheck};
+ghost use Rattle.command_words.specs.Words.{check_named};
+
+use crate::files::Stop;
+use crate::named::{ReadClasses, certificate_of, classes_of, listing_of, policy_of};
+use api_listing::Listing;
+use cert_format::Certificate;
+use command_words::CheckWords;
+use conspec_tree::PolicyTree;
+use mon_store::Store;
+use std::alloc::Global;
+
+/// What the files of a check are.
+#[derive(Debug, Drop)]
+pub struct CheckInputs {
+    pub listing: Listing,
+    pub policy: PolicyTree,
+    pub certificate: Certificate,
+    pub classes: ReadClasses,
+}
+
+/// Reads the files of a check in their order: listing, policy, certificate, classes.
+pub fn read_check<S: Store>(
+    alloc: Global,
+    store: &mut S,
+    words: &CheckWords,
+) -> Result<CheckInputs, Stop>
+    ensures read { ReadsCheck (S.files store.old) (since (S.faults store.old) (S.faults store.new) (S.last store.new))
+        (check_named words.now) result }
+    ensures sound { IfOk result AreSound }
+    ensures files { S.files store.new ≡ S.files store.old }
+    ensures faults { S.faults store.old ≤ S.faults store.new }
+{
+    let listing = listing_of(alloc, store, words.listing)?;
+    let policy = policy_of(alloc, store, words.policy, &listing)?;
+    let vars = policy.vars.len() as u32;
+    let certificate = certificate_of(alloc, store, words.certificate, vars)?;
+    let classes = classes_of(alloc, store, words.classes)?;
+    Ok(CheckInputs {
+        listing,
+        policy,
+        certificate,
+        classes,
+    })
+}

@@ -1,0 +1,112 @@
+//! What the texts of files are read as.
+
+ghost use Rattle.std.specs.Prelude.{◌≡◌, ◌<◌, ◌≤◌, ◌^◌, length, IfOk};
+ghost use Rattle.std.specs.List.{AllByRecursion};
+ghost use Rattle.api_listing.specs.Listing.{IsFew, SpellsListing};
+ghost use Rattle.class_codec.specs.Fits.{CanSpell};
+ghost use Rattle.conspec_parse.specs.Meaning.{SpellsPolicy};
+ghost use Rattle.conspec_tree.specs.Tree.{IsPolicyTree};
+ghost use Rattle.input_files.specs.Kinds.{certificate_form, class_form, listing_form, policy_form, record_form};
+ghost use Rattle.mon_base.specs.Answer.{Answers};
+
+use crate::built_certificate::is_built_certificate;
+use crate::fault::{InputFault, class_told, listing_told, policy_told, record_told};
+use api_listing::{Listing, read};
+use cert_format::{CertForm, Certificate};
+use class_codec::ClassFile;
+use conspec_parse::parse;
+use conspec_tree::PolicyTree;
+use event_record::{Record, read_record};
+use std::alloc::Global;
+
+/// The greatest length of a listing, in bytes.
+pub const LISTING_LIMIT: u64 = 1_048_576;
+
+/// The greatest length of a policy, in bytes.
+pub const POLICY_LIMIT: u64 = 65_536;
+
+/// The greatest length of a certificate, in bytes.
+pub const CERTIFICATE_LIMIT: u64 = 67_108_864;
+
+/// The greatest length of a class file, in bytes.
+pub const CLASS_LIMIT: u64 = 1_048_576;
+
+/// The greatest length of a record, in bytes.
+pub const RECORD_LIMIT: u64 = 268_435_456;
+
+/// A class file, and the length of its text, in bytes.
+#[derive(Debug, Drop, PartialEq, Eq)]
+pub struct ReadClass {
+    pub file: ClassFile,
+    pub len: u64,
+}
+
+/// The listing that a text spells.
+pub fn listing_read(alloc: Global, text: &[u8]) -> Result<Listing, InputFault>
+    ensures read { Answers InputFault.Memory result (listing_form.reads text.now) }
+    ensures few { IfOk result IsFew }
+    ensures listed { IfOk result (λ listing. SpellsListing text.now listing) }
+{
+    match read(alloc, text) {
+        Ok(listing) => Ok(listing),
+        Err(fault) => Err(listing_told(fault)),
+    }
+}
+
+/// The policy that a text spells over the methods of a listing.
+pub fn policy_read(alloc: Global, text: &[u8], listing: &Listing) -> Result<PolicyTree, InputFault>
+    requires { IsFew listing.now }
+    ensures read { Answers InputFault.Memory result ((policy_form listing.now).reads text.now) }
+    ensures few { IfOk result (λ tree. length tree.vars ≤ 16) }
+    ensures sound { IfOk result (λ tree. IsPolicyTree listing.now tree) }
+    ensures spells { IfOk result (λ tree. SpellsPolicy text.now listing.now tree) }
+{
+    match parse(alloc, text, listing) {
+        Ok(tree) => Ok(tree),
+        Err(fault) => Err(policy_told(fault)),
+    }
+}
+
+/// The certificate that a text spells for a policy of so many variables, where it is of the form that is built so far.
+pub fn certificate_read(alloc: Global, text: &[u8], vars: u32) -> Result<Certificate, InputFault>
+    ensures read { Answers InputFault.Memory result ((certificate_form vars).reads text.now) }
+{
+    match cert_format::decode(alloc, text, vars) {
+        Ok(certificate) => {
+            if is_built_certificate(&certificate) {
+                Ok(certificate)
+            } else {
+                Err(InputFault::NotBuilt)
+            }
+        }
+        Err(CertForm::Form { .. }) => Err(InputFault::NotBuilt),
+        Err(CertForm::Memory) => Err(InputFault::Memory),
+    }
+}
+
+/// The class file that a text spells, with the text's length.
+pub fn class_read(alloc: Global, text: &[u8]) -> Result<ReadClass, InputFault>
+    ensures read { Answers InputFault.Memory result (class_form.reads text.now) }
+    ensures fits { IfOk result (λ class. CanSpell class.file) }
+{
+    match class_codec::decode(alloc, text) {
+        Ok(file) => {
+            Ok(ReadClass {
+                file,
+                len: text.len() as u64,
+            })
+        }
+        Err(fault) => Err(class_told(fault)),
+    }
+}
+
+/// The record that a text spells over the classes and methods of a listing.
+pub fn record_read(alloc: Global, text: &[u8], listing: &Listing) -> Result<Record, InputFault>
+    requires { IsFew listing.now }
+    ensures { Answers InputFault.Memory result ((record_form listing.now).reads text.now) }
+{
+    match read_record(alloc, text, listing) {
+        Ok(recorded) => Ok(recorded),
+        Err(fault) => Err(record_told(fault)),
+    }
+}

@@ -1,0 +1,44 @@
+//! The files of which a program is woven, read in their order.
+
+ghost use Rattle.std.specs.Prelude.{◌≡◌, ◌≤◌, length, IfOk};
+ghost use Rattle.input_files.specs.Forms.{since};
+ghost use Rattle.input_files.specs.InlineInputs.{InlineSound, ReadsInline};
+ghost use Rattle.command_words.specs.InlineWords.{inline_named};
+
+use crate::files::Stop;
+use crate::named::{ReadClasses, classes_of, listing_of, policy_of};
+use api_listing::Listing;
+use command_words::InlineWords;
+use conspec_tree::PolicyTree;
+use mon_store::Store;
+use std::alloc::Global;
+
+/// What the files of which a program is woven are.
+#[derive(Debug, Drop)]
+pub struct InlineInputs {
+    pub listing: Listing,
+    pub policy: PolicyTree,
+    pub classes: ReadClasses,
+}
+
+/// Reads the files in their order: listing, policy, classes.
+pub fn read_inline<S: Store>(
+    alloc: Global,
+    store: &mut S,
+    words: &InlineWords,
+) -> Result<InlineInputs, Stop>
+    ensures read { ReadsInline (S.files store.old) (since (S.faults store.old) (S.faults store.new) (S.last store.new))
+        (inline_named words.now) result }
+    ensures sound { IfOk result InlineSound }
+    ensures files { S.files store.new ≡ S.files store.old }
+    ensures faults { S.faults store.old ≤ S.faults store.new }
+{
+    let listing = listing_of(alloc, store, words.listing)?;
+    let policy = policy_of(alloc, store, words.policy, &listing)?;
+    let classes = classes_of(alloc, store, words.classes)?;
+    Ok(InlineInputs {
+        listing,
+        policy,
+        classes,
+    })
+}

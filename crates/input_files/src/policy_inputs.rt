@@ -1,0 +1,39 @@
+//! The files of a policy and of a run, read in their order.
+
+ghost use Rattle.std.specs.Prelude.{◌≡◌, ◌≤◌, IfOk};
+ghost use Rattle.input_files.specs.Forms.{since};
+ghost use Rattle.input_files.specs.PolicyInputs.{IsOfListing, ReadsPolicy};
+ghost use Rattle.command_words.specs.Words.{policy_named};
+
+use crate::files::Stop;
+use crate::named::{listing_of, policy_of, record_of};
+use command_words::PolicyWords;
+use conspec_tree::PolicyTree;
+use event_record::Record;
+use mon_store::Store;
+use std::alloc::Global;
+
+/// What the files of a policy and of a run are.
+#[derive(Debug, Drop)]
+pub struct PolicyInputs {
+    pub policy: PolicyTree,
+    pub recorded: Record,
+}
+
+/// Reads the files of a policy and of a run in their order: listing, policy, record.
+pub fn read_policy<S: Store>(
+    alloc: Global,
+    store: &mut S,
+    words: &PolicyWords,
+) -> Result<PolicyInputs, Stop>
+    ensures read { ReadsPolicy (S.files store.old) (since (S.faults store.old) (S.faults store.new) (S.last store.new))
+        (policy_named words.now) result }
+    ensures sound { IfOk result (λ inputs. IsOfListing inputs.policy) }
+    ensures files { S.files store.new ≡ S.files store.old }
+    ensures faults { S.faults store.old ≤ S.faults store.new }
+{
+    let listing = listing_of(alloc, store, words.listing)?;
+    let policy = policy_of(alloc, store, words.policy, &listing)?;
+    let recorded = record_of(alloc, store, words.recorded, &listing)?;
+    Ok(PolicyInputs { policy, recorded })
+}
