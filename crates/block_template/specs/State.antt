@@ -34,20 +34,20 @@ values_from index [] = []
 values_from index (var ∷ vars) = Utf8 (variable_name index) ∷ Integer var.first ∷ values_from (index + 1) vars
 
 -- the place of a variable's name in the pool, behind which its value stands
-abbrev pub name_at : ℕ → ℕ
-name_at index = 8 + 2 * index
+abbrev pub variable_text : ℕ → ℕ
+variable_text index = 8 + 2 * index
 
 -- the type of the field: int or boolean
-abbrev pub type_at : Bool → ℕ
-type_at is_bool = if is_bool then 7 else 6
+abbrev pub kind_text : Bool → ℕ
+kind_text is_bool = if is_bool then 7 else 6
 
 -- a public static field with a ConstantValue
 abbrev pub field : ℕ → Var → Member
 field index var = record {
   flags = 0x0009;
-  name = name_at index;
-  desc = type_at var.is_bool;
-  attrs = attributes.Other (record { name = 5; bytes = big_bytes 2 (name_at index + 1) }) ∷ [];
+  name = variable_text index;
+  desc = kind_text var.is_bool;
+  attrs = attributes.Other (record { name = 5; bytes = big_bytes 2 (variable_text index + 1) }) ∷ [];
 }
 
 abbrev pub fields_from : ℕ → List Var → List Member

@@ -5,8 +5,8 @@ ghost use Rattle.byteorder.specs.Endian.{big_bytes};
 ghost use Rattle.class_codec.specs.Fits.{CanSpell};
 ghost use Rattle.class_codec.specs.declared.tree.Const.TheVariants.{Utf8};
 ghost use Rattle.conspec_automaton.specs.Denying.{DeniesOnly};
-ghost use Rattle.block_template.specs.State.{variable_name, head, values_from, name_at};
-ghost use Rattle.block_template.specs.State.{type_at, field, fields_from, state_file, state_class};
+ghost use Rattle.block_template.specs.State.{variable_name, head, values_from, variable_text};
+ghost use Rattle.block_template.specs.State.{kind_text, field, fields_from, state_file, state_class};
 
 use byteorder::{BigEndian, ByteOrder};
 use class_codec::{Attr, ClassFile, Const, Member, Other};

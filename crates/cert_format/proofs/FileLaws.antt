@@ -12,14 +12,14 @@ use Rattle.cert_format.specs.declared.note.Note.{Note}
 use Rattle.cert_format.specs.declared.certificate.Mode.{Mode}
 use Rattle.cert_format.specs.declared.certificate.Mode.TheVariants as modes
 use Rattle.cert_format.specs.declared.certificate.Certificate.{Certificate}
-use Rattle.cert_format.specs.Names.{Name, place_of, StandOnce, class_names, typing_names, names_of}
+use Rattle.cert_format.specs.Names.{Name, name_index, StandOnce, class_names, typing_names, names_of}
 use Rattle.cert_format.specs.Index.{stands}
 use Rattle.cert_format.specs.Spelling.{u1, u2, u4, spell_name, spell_names, spell_mode, spell_head, spell_classes, spell_certificate}
 use Rattle.mon_base.specs.Widths.{IsU2, IsU4}
 use Rattle.cert_format.specs.Fits.{FitNames, FitClasses, CanSpell, SpellsCertificate}
 use Rattle.mon_base.specs.Answer.{Answers}
 use Rattle.cert_format.specs.declared.fault.CertForm.TheVariants.{Form, Memory}
-use Rattle.cert_format.specs.Reading.{Read, u1_at, u2_at, u4_at, taken_at, mode_of, head_at, name_at, more_names_at, names_at, classes_at, body_at, certificate_at, certificate_of}
+use Rattle.cert_format.specs.Reading.{Decoded, u1_at, u2_at, u4_at, taken_at, mode_of, head_at, told_name, more_names_at, names_at, classes_at, body_at, certificate_at, certificate_of}
 use Rattle.cert_format.proofs.Places.{place-append}
 use Rattle.cert_format.proofs.Order.{InOrder, once-push, once-all, once-none, makes_order, table_of}
 use Rattle.cert_format.proofs.Readers.{u2_is, u4_is, IsCode, coded, chosen}
@@ -28,7 +28,7 @@ use Rattle.cert_format.proofs.TypeLaws.{classes_is}
 -- ---- the head
 
 -- a number that is always the same, whose fault is at its own place, and then the others
-then_known : {A : Type 0} {reader : Place → Read ℕ} {spell_x : ℕ → List ℕ} {Fits_x : ℕ → Type 0} {others : Place → Read A} {spell : A → List ℕ} {Fits : A → Type 0}
+then_known : {A : Type 0} {reader : Place → Decoded ℕ} {spell_x : ℕ → List ℕ} {Fits_x : ℕ → Type 0} {others : Place → Decoded A} {spell : A → List ℕ} {Fits : A → Type 0}
     → IsReader reader spell_x Fits_x → (same : ℕ) → Fits_x same → IsReader others spell Fits
     → IsReader (λ place. reader place >>= λ x. need (x.0 == same) (Form place.at) >>= λ _. others x.1) (λ a. spell_x same ++ spell a) Fits
 then_known {reader = reader} {spell_x = spell_x} {others = others} {spell = spell} first same fits_same is = record {
@@ -93,8 +93,8 @@ taken_is n = bytes_is n (λ p. Form p.at)
 abbrev FitsName : Name → Type 0
 FitsName name = IsU2 (length name)
 
-name_is : (before : List Name) → IsReader (name_at before) spell_name (λ name. FitsName name × (stands before name ≡ false))
-unfolding name_at
+name_is : (before : List Name) → IsReader (told_name before) spell_name (λ name. FitsName name × (stands before name ≡ false))
+unfolding told_name
 name_is before = record {
   takes = λ place name next fits e.
       let l = bind_ok (u2_at place) (λ len. taken_at len.0 len.1 >>= λ name. need (not (stands before name.0)) (Form len.1.at) >>= λ _. Ok name) (name, next) e in
@@ -139,7 +139,7 @@ more_takes zero before place all next fits once e =
       count = refl;
     })
 more_takes (suc n) before place all next fits once e =
-    let b = bind_ok (name_at before place) (λ name. more_names_at n (before ++ name.0 ∷ []) name.1) (all, next) e in
+    let b = bind_ok (told_name before place) (λ name. more_names_at n (before ++ name.0 ∷ []) name.1) (all, next) e in
     let x = b.0.0 in
     let t = (name_is before).takes place x b.0.1 fits b.1 in
     let later = more_takes n (before ++ x ∷ []) b.0.1 all next t.0.fits (once-push before x (ltb-false _ _ t.1.1) once) b.2 in
@@ -162,10 +162,10 @@ is_new before x others once = by (stands before x) refl where
   by : (b : Bool) → stands before x ≡ b → stands before x ≡ false
   by false e = e
   by true e =
-      let lt : place_of before x < length before = ltb-true _ _ e in
+      let lt : name_index before x < length before = ltb-true _ _ e in
       let here = place-append before (x ∷ others) x lt in
-      let own : place_of (before ++ x ∷ others) (get_or (before ++ x ∷ others) (length before) []) ≡ length before = once (length before) (omega (arith, length-append before (x ∷ others))) in
-      let same : place_of (before ++ x ∷ others) x ≡ length before = ap (place_of (before ++ x ∷ others)) (sym (at_length before x others)) ∙ own in
+      let own : name_index (before ++ x ∷ others) (get_or (before ++ x ∷ others) (length before) []) ≡ length before = once (length before) (omega (arith, length-append before (x ∷ others))) in
+      let same : name_index (before ++ x ∷ others) x ≡ length before = ap (name_index (before ++ x ∷ others)) (sym (at_length before x others)) ∙ own in
       absurd (omega (arith, here, same, lt))
 
 more_again : (names before : List Name) (place : Place) (rest : List ℕ) → AllByRecursion FitsName names → StandOnce (before ++ names)

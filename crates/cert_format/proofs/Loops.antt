@@ -12,24 +12,24 @@ use Rattle.cert_format.specs.declared.fault.CertForm.TheVariants.{Memory}
 use Rattle.cert_format.specs.Names.{Name}
 use Rattle.mon_base.specs.Answer.{Fails}
 use Rattle.mon_base.proofs.Answering.{failed, along}
-use Rattle.cert_format.specs.Reading.{Read, several_at, name_at, more_names_at}
+use Rattle.cert_format.specs.Reading.{Decoded, several_at, told_name, more_names_at}
 
 -- ---- items that use names
 
 -- what was read before, and what is still read
-abbrev pub with_front : {X : Type 0} → List X → Read (List X × ℕ) → Read (List X × ℕ)
+abbrev pub with_front : {X : Type 0} → List X → Decoded (List X × ℕ) → Decoded (List X × ℕ)
 with_front front read = read >>= λ x. Ok ((front ++ x.0.0, x.0.1), x.1)
 
 abbrev answer : {A : Type 0} → A → Result A CertForm
 answer x = Ok x
 
-regroup : {X : Type 0} (front : List X) (first : X) (read : Read (List X × ℕ))
+regroup : {X : Type 0} (front : List X) (first : X) (read : Decoded (List X × ℕ))
     → with_front front (read >>= λ x. Ok ((first ∷ x.0.0, x.0.1), x.1)) ≡ with_front (front ++ first ∷ []) read
 regroup {X = X} front first (Ok x) = ap (λ (xs : List X). answer ((xs, x.0.1), x.1)) (sym (append_assoc front (first ∷ []) x.0.0))
 regroup front first (Err e) = refl
 
-pub goes_on : {X : Type 0} (item : ℕ → Place → Read (X × ℕ)) (front : List X) (count i used : ℕ) (place : Place) (x : X) (after : ℕ) (next : Place)
-    (total : Read (List X × ℕ)) → i < count → item used place ≡ Ok ((x, after), next)
+pub goes_on : {X : Type 0} (item : ℕ → Place → Decoded (X × ℕ)) (front : List X) (count i used : ℕ) (place : Place) (x : X) (after : ℕ) (next : Place)
+    (total : Decoded (List X × ℕ)) → i < count → item used place ≡ Ok ((x, after), next)
     → with_front front (several_at item (count - i) used place) ≡ total
     → with_front (front ++ x ∷ []) (several_at item (count - (i + 1)) after next) ≡ total
 unfolding several_at
@@ -38,8 +38,8 @@ goes_on item front count i used place x after next total lt h so_far =
     let one : with_front front (several_at item (count - i) used place) ≡ with_front (front ++ x ∷ []) (several_at item (count - (i + 1)) after next) = rw (k, h) (regroup front x (several_at item (count - (i + 1)) after next)) in
     sym one ∙ so_far
 
-pub ends : {X : Type 0} (item : ℕ → Place → Read (X × ℕ)) (e : CertForm) (front : List X) (count i used : ℕ) (place : Place)
-    (total : Read (List X × ℕ)) → i < count → Fails Memory e (item used place)
+pub ends : {X : Type 0} (item : ℕ → Place → Decoded (X × ℕ)) (e : CertForm) (front : List X) (count i used : ℕ) (place : Place)
+    (total : Decoded (List X × ℕ)) → i < count → Fails Memory e (item used place)
     → with_front front (several_at item (count - i) used place) ≡ total → Fails Memory e total
 unfolding several_at
 ends item e front count i used place total lt h so_far =
@@ -47,7 +47,7 @@ ends item e front count i used place total lt h so_far =
     let one = failed Memory e (several_at item (suc (count - (i + 1))) used place) (λ x. Ok ((front ++ x.0.0, x.0.1), x.1)) (failed Memory e (item used place) (λ first. several_at item (count - (i + 1)) first.0.1 first.1 >>= λ others. Ok ((first.0.0 ∷ others.0.0, others.0.1), others.1)) h) in
     along Memory e (with_front front (several_at item (suc (count - (i + 1))) used place)) total (subst (λ (n : ℕ). with_front front (several_at item n used place) ≡ total) k so_far) one
 
-pub is_done : {X : Type 0} (item : ℕ → Place → Read (X × ℕ)) (front : List X) (count i used : ℕ) (place : Place) (total : Read (List X × ℕ))
+pub is_done : {X : Type 0} (item : ℕ → Place → Decoded (X × ℕ)) (front : List X) (count i used : ℕ) (place : Place) (total : Decoded (List X × ℕ))
     → count ≤ i → with_front front (several_at item (count - i) used place) ≡ total → total ≡ Ok ((front, used), place)
 unfolding several_at
 is_done {X = X} item front count i used place total le so_far =
@@ -57,14 +57,14 @@ is_done {X = X} item front count i used place total le so_far =
 
 -- ---- items that use none
 
-pub counted_ends : {X : Type 0} (item : Place → Read X) (e : CertForm) (front : List X) (count i : ℕ) (place : Place) (total : Read (List X))
+pub counted_ends : {X : Type 0} (item : Place → Decoded X) (e : CertForm) (front : List X) (count i : ℕ) (place : Place) (total : Decoded (List X))
     → i < count → Fails Memory e (item place) → base.with_front front (counted item (count - i) place) ≡ total → Fails Memory e total
 counted_ends item e front count i place total lt h so_far is_told = stops item front count i place e total lt (h is_told) so_far
 
 -- ---- names
 
-pub names_go_on : (names : List Name) (count i : ℕ) (place : Place) (name : Name) (next : Place) (total : Read (List Name)) → i < count
-    → name_at names place ≡ Ok (name, next)
+pub names_go_on : (names : List Name) (count i : ℕ) (place : Place) (name : Name) (next : Place) (total : Decoded (List Name)) → i < count
+    → told_name names place ≡ Ok (name, next)
     → more_names_at (count - i) names place ≡ total → more_names_at (count - (i + 1)) (names ++ name ∷ []) next ≡ total
 unfolding more_names_at
 names_go_on names count i place name next total lt h so_far =
@@ -72,15 +72,15 @@ names_go_on names count i place name next total lt h so_far =
     let one : more_names_at (count - i) names place ≡ more_names_at (count - (i + 1)) (names ++ name ∷ []) next = rw (k, h) refl in
     sym one ∙ so_far
 
-pub names_end : (e : CertForm) (names : List Name) (count i : ℕ) (place : Place) (total : Read (List Name)) → i < count
-    → Fails Memory e (name_at names place) → more_names_at (count - i) names place ≡ total → Fails Memory e total
+pub names_end : (e : CertForm) (names : List Name) (count i : ℕ) (place : Place) (total : Decoded (List Name)) → i < count
+    → Fails Memory e (told_name names place) → more_names_at (count - i) names place ≡ total → Fails Memory e total
 unfolding more_names_at
 names_end e names count i place total lt h so_far =
     let k : count - i ≡ suc (count - (i + 1)) = omega arith in
-    let one = failed Memory e (name_at names place) (λ name. more_names_at (count - (i + 1)) (names ++ name.0 ∷ []) name.1) h in
+    let one = failed Memory e (told_name names place) (λ name. more_names_at (count - (i + 1)) (names ++ name.0 ∷ []) name.1) h in
     along Memory e (more_names_at (suc (count - (i + 1))) names place) total (subst (λ (n : ℕ). more_names_at n names place ≡ total) k so_far) one
 
-pub names_done : (names : List Name) (count i : ℕ) (place : Place) (total : Read (List Name)) → count ≤ i
+pub names_done : (names : List Name) (count i : ℕ) (place : Place) (total : Decoded (List Name)) → count ≤ i
     → more_names_at (count - i) names place ≡ total → total ≡ Ok (names, place)
 unfolding more_names_at
 names_done names count i place total le so_far =

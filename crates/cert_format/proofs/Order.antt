@@ -3,24 +3,24 @@ use Rattle.std.proofs.Common.{◌≡◌, ℕ, ◌+◌, ◌<◌, ◌≤◌, Bool,
 use Rattle.std.proofs.lemmas.Bool.{cases_lt, le-ltb, lt-ltb, eq-eqb, eqb-true}
 use Rattle.std.proofs.lemmas.List.{append-nil, length-append, length-take, take-append-drop, take_more, take_all}
 use Rattle.std.proofs.lemmas.Grind.{common_steps}
-use Rattle.cert_format.specs.Names.{Name, place_of, with_name, with_names, StandOnce}
+use Rattle.cert_format.specs.Names.{Name, name_index, with_name, with_names, StandOnce}
 use Rattle.cert_format.specs.Reading.{used_with}
 use Rattle.cert_format.proofs.Places.{place-le, get_or-place, place-append, place-past, place-own, with-old, with-new}
 
 -- where the first names of the table were used, one of these or the next is used
 pub record IsTurn (names : List Name) (used : ℕ) (name : Name) : Type 0 where
-  pub known : place_of names name < length names
-  pub turn : place_of names name ≤ used
+  pub known : name_index names name < length names
+  pub turn : name_index names name ≤ used
 
 -- so many names of the table were used before these, each in its turn, and so many after
 abbrev pub InOrder : List Name → ℕ → List Name → ℕ → Type 0
 InOrder names used [] after = used ≡ after
-InOrder names used (name ∷ more) after = IsTurn names used name × InOrder names (used_with used (place_of names name)) more after
+InOrder names used (name ∷ more) after = IsTurn names used name × InOrder names (used_with used (name_index names name)) more after
 
 pub join : (names a b : List Name) (used between after : ℕ) → InOrder names used a between → InOrder names between b after
     → InOrder names used (a ++ b) after
 join names [] b used between after h k = subst (λ (n : ℕ). InOrder names n b after) (sym h) k
-join names (x ∷ a) b used between after h k = (h.0, join names a b (used_with used (place_of names x)) between after h.1 k)
+join names (x ∷ a) b used between after h k = (h.0, join names a b (used_with used (name_index names x)) between after h.1 k)
 
 -- where the names of the first part are used in order, and then those of the second
 pub record Split (names : List Name) (used : ℕ) (a b : List Name) (after : ℕ) : Type 0 where
@@ -31,25 +31,25 @@ pub record Split (names : List Name) (used : ℕ) (a b : List Name) (after : ℕ
 pub split : (names a b : List Name) (used after : ℕ) → InOrder names used (a ++ b) after → Split names used a b after
 split names [] b used after h = record { between = used; first = refl; second = h }
 split names (x ∷ a) b used after h =
-    let s = split names a b (used_with used (place_of names x)) after h.1 in
+    let s = split names a b (used_with used (name_index names x)) after h.1 in
     record { between = s.between; first = (h.0, s.first); second = s.second }
 
 -- ---- names in order of first use
 
-lt-stands : (names : List Name) (name : Name) → place_of names name < length names → ltb (place_of names name) (length names) ≡ true
+lt-stands : (names : List Name) (name : Name) → name_index names name < length names → ltb (name_index names name) (length names) ≡ true
 lt-stands names name lt = lt-ltb _ _ lt
 
-old : (names : List Name) (name : Name) → place_of names name < length names → with_name names name ≡ names
+old : (names : List Name) (name : Name) → name_index names name < length names → with_name names name ≡ names
 old names name lt = with-old names name (lt-ltb _ _ lt)
 
-new : (names : List Name) (name : Name) → length names ≤ place_of names name → with_name names name ≡ names ++ name ∷ []
+new : (names : List Name) (name : Name) → length names ≤ name_index names name → with_name names name ≡ names ++ name ∷ []
 new names name le = with-new names name (le-ltb _ _ le)
 
 -- more names only make the list longer
 grows : (more : List Name) (names : List Name) → (rest : List Name) × (with_names names more ≡ names ++ rest)
 grows [] names = ([], sym (append-nil names))
 grows (x ∷ more) names =
-    elim (cases_lt (place_of names x) (length names)) [
+    elim (cases_lt (name_index names x) (length names)) [
       | inl lt ↦
           let g = grows more names in
           (g.0, ap (λ (ns : List Name). with_names ns more) (old names x lt) ∙ g.1)
@@ -58,7 +58,7 @@ grows (x ∷ more) names =
           (x ∷ g.0, ap (λ (ns : List Name). with_names ns more) (new names x le) ∙ g.1 ∙ append_assoc names (x ∷ []) g.0)
     ]
 
-once-more : (names : List Name) (name : Name) → length names ≤ place_of names name → StandOnce names → StandOnce (names ++ name ∷ [])
+once-more : (names : List Name) (name : Name) → length names ≤ name_index names name → StandOnce names → StandOnce (names ++ name ∷ [])
 once-more names name le once i lt =
     elim (cases_lt i (length names)) [
       | inl below ↦
@@ -74,12 +74,12 @@ once-more names name le once i lt =
     ]
 
 -- a name more that is new, and none stands twice
-pub once-push : (names : List Name) (name : Name) → length names ≤ place_of names name → StandOnce names → StandOnce (names ++ name ∷ [])
+pub once-push : (names : List Name) (name : Name) → length names ≤ name_index names name → StandOnce names → StandOnce (names ++ name ∷ [])
 once-push names name le once = once-more names name le once
 
 once-with : (names : List Name) (name : Name) → StandOnce names → StandOnce (with_name names name)
 once-with names name once =
-    elim (cases_lt (place_of names name) (length names)) [
+    elim (cases_lt (name_index names name) (length names)) [
       | inl lt ↦ rw (old names name lt) once
       | inr le ↦ rw (new names name le) (once-more names name le once)
     ]
@@ -92,9 +92,9 @@ once-all (x ∷ more) names once = once-all more (with_name names x) (once-with 
 pub once-none : StandOnce []
 once-none i lt = absurd (omega arith)
 
-in-with : (names : List Name) (name : Name) → place_of (with_name names name) name < length (with_name names name)
+in-with : (names : List Name) (name : Name) → name_index (with_name names name) name < length (with_name names name)
 in-with names name =
-    elim (cases_lt (place_of names name) (length names)) [
+    elim (cases_lt (name_index names name) (length names)) [
       | inl lt ↦ rw (old names name lt) lt
       | inr le ↦
           let past = place-past names (name ∷ []) name le in
@@ -122,27 +122,27 @@ reads_next a x b k len = rw (append_assoc a (x ∷ []) b, ← len) (read_at a) w
   read_at (y ∷ a) = read_at a
 
 module _ (names : List Name) where
-  old-place : (k : ℕ) (name : Name) → k ≤ length names → place_of names name < k → place_of (take k names) name < length (take k names)
+  old-place : (k : ℕ) (name : Name) → k ≤ length names → name_index names name < k → name_index (take k names) name < length (take k names)
   old-place k name le lt =
-      elim (cases_lt (place_of (take k names) name) (length (take k names))) [
+      elim (cases_lt (name_index (take k names) name) (length (take k names))) [
         | inl below ↦ below
         | inr above ↦
             let past = place-past (take k names) (drop k names) name above in
-            let whole : place_of (take k names ++ drop k names) name ≡ place_of names name = ap (λ (ns : List Name). place_of ns name) (take-append-drop k names) in
+            let whole : name_index (take k names ++ drop k names) name ≡ name_index names name = ap (λ (ns : List Name). name_index ns name) (take-append-drop k names) in
             absurd (omega (arith, past, whole, lt, length-take k names))
       ]
 
-  new-place : (k : ℕ) (name : Name) → k ≤ length names → k ≤ place_of names name → length (take k names) ≤ place_of (take k names) name
+  new-place : (k : ℕ) (name : Name) → k ≤ length names → k ≤ name_index names name → length (take k names) ≤ name_index (take k names) name
   new-place k name le above =
-      elim (cases_lt (place_of (take k names) name) (length (take k names))) [
+      elim (cases_lt (name_index (take k names) name) (length (take k names))) [
         | inr past ↦ past
         | inl below ↦
             let at = place-append (take k names) (drop k names) name below in
-            let whole : place_of (take k names ++ drop k names) name ≡ place_of names name = ap (λ (ns : List Name). place_of ns name) (take-append-drop k names) in
+            let whole : name_index (take k names ++ drop k names) name ≡ name_index names name = ap (λ (ns : List Name). name_index ns name) (take-append-drop k names) in
             absurd (omega (arith, at, whole, below, above, length-take k names))
       ]
 
-  with-next : (k : ℕ) (name : Name) → place_of names name ≡ k → k < length names → with_name (take k names) name ≡ take (k + 1) names
+  with-next : (k : ℕ) (name : Name) → name_index names name ≡ k → k < length names → with_name (take k names) name ≡ take (k + 1) names
   with-next k name at lt =
       let own : get_or names k [] ≡ name = ap (λ (i : ℕ). get_or names i []) (sym at) ∙ get_or-place names name (omega arith) in
       new (take k names) name (new-place k name (omega arith) (omega arith)) ∙ ap (λ (x : Name). take k names ++ x ∷ []) (sym own) ∙ sym (take_more names k [] lt)
@@ -151,7 +151,7 @@ module _ (names : List Name) where
   pub in_order : (ns : List Name) (k m : ℕ) → k ≤ length names → InOrder names k ns m → with_names (take k names) ns ≡ take m names
   in_order [] k m le h = ap (λ (i : ℕ). take i names) h
   in_order (x ∷ ns) k m le h =
-      let i = place_of names x in
+      let i = name_index names x in
       elim (cases_lt i k) [
         | inl early ↦
             let same = count-old k i early in
@@ -170,13 +170,13 @@ module _ (names : List Name) where
       let len : length (take k names) ≡ length names = ap length is in
       omega (arith, len, length-take k names)
   makes_order (x ∷ ns) k le is =
-      let i = place_of names x in
+      let i = name_index names x in
       let first = with_name (take k names) x in
       let g = grows ns first in
       let whole : names ≡ first ++ g.0 = sym is ∙ g.1 in
       let within = in-with (take k names) x in
       let at = place-append first g.0 x within in
-      let same : place_of (first ++ g.0) x ≡ i = ap (λ (t : List Name). place_of t x) (sym whole) in
+      let same : name_index (first ++ g.0) x ≡ i = ap (λ (t : List Name). name_index t x) (sym whole) in
       let long : length (first ++ g.0) ≡ length names = ap length (sym whole) in
       let known : i < length names = omega (arith, same, at, within, long, length-append first g.0) in
       elim (cases_lt i k) [
@@ -188,7 +188,7 @@ module _ (names : List Name) where
             let lt : k < length names = omega (arith, known) in
             let there : get_or names k [] ≡ x = ap (λ (t : List Name). get_or t k []) (whole ∙ ap (λ (t : List Name). t ++ g.0) added) ∙ reads_next (take k names) x g.0 k (omega (arith, length-take k names)) in
             let no_later = place-le names k lt in
-            let own : place_of names (get_or names k []) ≡ i = ap (place_of names) there in
+            let own : name_index names (get_or names k []) ≡ i = ap (name_index names) there in
             let equal : i ≡ k = omega (arith, no_later, own) in
             let later = makes_order ns (k + 1) (omega arith) (ap (λ (t : List Name). with_names t ns) (sym (with-next k x equal lt)) ∙ is) in
             (record { known = known; turn = omega (arith, equal) }, subst (λ (n : ℕ). InOrder names n ns (length names)) (sym (count-next k i equal)) later)

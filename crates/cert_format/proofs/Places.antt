@@ -10,70 +10,70 @@ use Rattle.std.specs.List.{flat_map}
 use Rattle.std.proofs.lemmas.Bool.{cases_lt, le-ltb, lt-ltb, ltb-true, ltb-false, false≢true}
 use Rattle.std.proofs.lemmas.List.{length-append, take_all}
 use Rattle.std.proofs.lemmas.Slice.Eq.{bytes_eq-Decides}
-use Rattle.cert_format.specs.Names.{Name, place_of, with_name}
+use Rattle.cert_format.specs.Names.{Name, name_index, with_name}
 use Rattle.cert_format.specs.Index.{found, stands, HasNames, HasPlaces}
 use Rattle.cert_format.specs.Spelling.{u4, spell_name, spell_names}
 
 -- where the name stands it is found no later
-pub place-le : (names : List Name) (i : ℕ) → i < length names → place_of names (get_or names i []) ≤ i
+pub place-le : (names : List Name) (i : ℕ) → i < length names → name_index names (get_or names i []) ≤ i
 place-le [] i lt = absurd (omega arith)
 place-le (first ∷ names) zero lt = rw ((bytes_eq-Decides first first).1 refl) (omega arith)
 place-le (first ∷ names) (suc i) lt =
     let h = place-le names i (omega arith) in
     by (bytes_eq first (get_or names i [])) h where
-      by : (b : Bool) → place_of names (get_or names i []) ≤ i → cond b 0 (suc (place_of names (get_or names i []))) ≤ suc i
+      by : (b : Bool) → name_index names (get_or names i []) ≤ i → cond b 0 (suc (name_index names (get_or names i []))) ≤ suc i
       by true h = omega arith
       by false h = omega arith
 
 -- what is found is the name
-pub get_or-place : (names : List Name) (name : Name) → place_of names name < length names → get_or names (place_of names name) [] ≡ name
+pub get_or-place : (names : List Name) (name : Name) → name_index names name < length names → get_or names (name_index names name) [] ≡ name
 get_or-place [] name lt = absurd (omega arith)
 get_or-place (first ∷ names) name lt = by (bytes_eq first name) refl lt (get_or-place names name) where
-  by : (b : Bool) → bytes_eq first name ≡ b → cond b 0 (suc (place_of names name)) < suc (length names)
-      → (place_of names name < length names → get_or names (place_of names name) [] ≡ name)
-      → get_or (first ∷ names) (cond b 0 (suc (place_of names name))) [] ≡ name
+  by : (b : Bool) → bytes_eq first name ≡ b → cond b 0 (suc (name_index names name)) < suc (length names)
+      → (name_index names name < length names → get_or names (name_index names name) [] ≡ name)
+      → get_or (first ∷ names) (cond b 0 (suc (name_index names name))) [] ≡ name
   by true e lt later = (bytes_eq-Decides first name).0 e
   by false e lt later = later (omega arith)
 
-pub place-within : (names : List Name) (name : Name) → place_of names name ≤ length names
+pub place-within : (names : List Name) (name : Name) → name_index names name ≤ length names
 place-within [] name = omega arith
 place-within (x ∷ names) name = by (bytes_eq x name) (place-within names name) where
-  by : (b : Bool) → place_of names name ≤ length names → cond b 0 (suc (place_of names name)) ≤ suc (length names)
+  by : (b : Bool) → name_index names name ≤ length names → cond b 0 (suc (name_index names name)) ≤ suc (length names)
   by true h = omega arith
   by false h = omega arith
 
 -- what stands in the first names stands there in all
-pub place-append : (a b : List Name) (name : Name) → place_of a name < length a → place_of (a ++ b) name ≡ place_of a name
+pub place-append : (a b : List Name) (name : Name) → name_index a name < length a → name_index (a ++ b) name ≡ name_index a name
 place-append [] b name lt = absurd (omega arith)
 place-append (x ∷ a) b name lt = by (bytes_eq x name) (place-append a b name) lt where
-  by : (t : Bool) → (place_of a name < length a → place_of (a ++ b) name ≡ place_of a name)
-      → cond t 0 (suc (place_of a name)) < suc (length a)
-      → cond t 0 (suc (place_of (a ++ b) name)) ≡ cond t 0 (suc (place_of a name))
+  by : (t : Bool) → (name_index a name < length a → name_index (a ++ b) name ≡ name_index a name)
+      → cond t 0 (suc (name_index a name)) < suc (length a)
+      → cond t 0 (suc (name_index (a ++ b) name)) ≡ cond t 0 (suc (name_index a name))
   by true h lt = refl
   by false h lt = ap suc (h (omega arith))
 
 -- and what does not stand there stands among the others
-pub place-past : (a b : List Name) (name : Name) → length a ≤ place_of a name → place_of (a ++ b) name ≡ length a + place_of b name
+pub place-past : (a b : List Name) (name : Name) → length a ≤ name_index a name → name_index (a ++ b) name ≡ length a + name_index b name
 place-past [] b name le = omega arith
 place-past (x ∷ a) b name le = by (bytes_eq x name) (place-past a b name) le where
-  by : (t : Bool) → (length a ≤ place_of a name → place_of (a ++ b) name ≡ length a + place_of b name)
-      → suc (length a) ≤ cond t 0 (suc (place_of a name))
-      → cond t 0 (suc (place_of (a ++ b) name)) ≡ suc (length a) + place_of b name
+  by : (t : Bool) → (length a ≤ name_index a name → name_index (a ++ b) name ≡ length a + name_index b name)
+      → suc (length a) ≤ cond t 0 (suc (name_index a name))
+      → cond t 0 (suc (name_index (a ++ b) name)) ≡ suc (length a) + name_index b name
   by true h le = absurd (omega arith)
   by false h le = let e = h (omega arith) in omega (arith, e)
 
-pub place-own : (name : Name) (names : List Name) → place_of (name ∷ names) name ≡ 0
+pub place-own : (name : Name) (names : List Name) → name_index (name ∷ names) name ≡ 0
 place-own name names = rw ((bytes_eq-Decides name name).1 refl) refl
 
 -- ---- one name more
 
-place-one : (x name : Name) → place_of (x ∷ []) name ≡ cond (bytes_eq x name) 0 1
+place-one : (x name : Name) → name_index (x ∷ []) name ≡ cond (bytes_eq x name) 0 1
 place-one x name = refl
 
 pub place-more : (names : List Name) (x name : Name)
-    → place_of (names ++ x ∷ []) name ≡ cond (stands names name) (place_of names name) (cond (bytes_eq x name) (length names) (suc (length names)))
+    → name_index (names ++ x ∷ []) name ≡ cond (stands names name) (name_index names name) (cond (bytes_eq x name) (length names) (suc (length names)))
 place-more names x name =
-    elim (cases_lt (place_of names name) (length names)) [
+    elim (cases_lt (name_index names name) (length names)) [
       | inl lt ↦ rw (lt-ltb _ _ lt) (place-append names (x ∷ []) name lt)
       | inr le ↦ rw (le-ltb _ _ le) (place-past names (x ∷ []) name le ∙ by (bytes_eq x name))
     ] where
@@ -88,9 +88,9 @@ stands-more names x name =
       len = length-append names (x ∷ []) ∙ omega arith
 
       by : (s b : Bool) → stands names name ≡ s
-          → ltb (cond s (place_of names name) (cond b (length names) (suc (length names)))) (length (names ++ x ∷ [])) ≡ cond b true s
-      by true true e = lt-ltb _ _ (let lt : place_of names name < length names = ltb-true _ _ e in omega (arith, lt, len))
-      by true false e = lt-ltb _ _ (let lt : place_of names name < length names = ltb-true _ _ e in omega (arith, lt, len))
+          → ltb (cond s (name_index names name) (cond b (length names) (suc (length names)))) (length (names ++ x ∷ [])) ≡ cond b true s
+      by true true e = lt-ltb _ _ (let lt : name_index names name < length names = ltb-true _ _ e in omega (arith, lt, len))
+      by true false e = lt-ltb _ _ (let lt : name_index names name < length names = ltb-true _ _ e in omega (arith, lt, len))
       by false true e = lt-ltb _ _ (omega (arith, len))
       by false false e = le-ltb _ _ (omega (arith, len))
 
@@ -100,7 +100,7 @@ pub found-more : (names : List Name) (x name : Name) → stands names x ≡ fals
 found-more names x name new =
     by (bytes_eq x name) (stands names name) refl refl where
       by : (b s : Bool) → bytes_eq x name ≡ b → stands names name ≡ s
-          → cond (stands (names ++ x ∷ []) name) (Some (place_of (names ++ x ∷ []) name)) None ≡ cond b (Some (length names)) (cond s (Some (place_of names name)) None)
+          → cond (stands (names ++ x ∷ []) name) (Some (name_index (names ++ x ∷ []) name)) None ≡ cond b (Some (length names)) (cond s (Some (name_index names name)) None)
       by true true e t = absurd (false≢true (sym new ∙ ap (stands names) ((bytes_eq-Decides x name).0 e) ∙ t))
       by true false e t = rw (stands-more names x name, place-more names x name, e, t) refl
       by false true e t = rw (stands-more names x name, place-more names x name, e, t) refl
@@ -126,18 +126,18 @@ some_is : {A : Type 0} (x y : A) → Some x ≡ Some y → x ≡ y
 some_is x y e = cc
 
 -- what the map of places answers
-pub is_new : (names : List Name) (name : Name) → found names name ≡ None → place_of names name ≡ length names
+pub is_new : (names : List Name) (name : Name) → found names name ≡ None → name_index names name ≡ length names
 is_new names name e = by (stands names name) refl e where
-  by : (s : Bool) → stands names name ≡ s → cond s (Some (place_of names name)) None ≡ None → place_of names name ≡ length names
+  by : (s : Bool) → stands names name ≡ s → cond s (Some (name_index names name)) None ≡ None → name_index names name ≡ length names
   by true t e = absurd cc
   by false t e =
-      let le : length names ≤ place_of names name = ltb-false _ _ t in
+      let le : length names ≤ name_index names name = ltb-false _ _ t in
       let no_more = place-within names name in
       omega (arith, le, no_more)
 
 pub not_there : (names : List Name) (name : Name) → found names name ≡ None → stands names name ≡ false
 not_there names name e = by (stands names name) e where
-  by : (s : Bool) → cond s (Some (place_of names name)) None ≡ None → s ≡ false
+  by : (s : Bool) → cond s (Some (name_index names name)) None ≡ None → s ≡ false
   by true e = absurd cc
   by false e = refl
 

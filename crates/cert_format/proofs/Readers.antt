@@ -12,7 +12,7 @@ use Rattle.cert_format.specs.declared.fault.CertForm.TheVariants.{Form}
 use Rattle.cert_format.specs.Names.{Name}
 use Rattle.cert_format.specs.Spelling.{u1, u2, u4, i4}
 use Rattle.mon_base.specs.Widths.{IsU1, IsU2, IsU4}
-use Rattle.cert_format.specs.Reading.{Read, u1_at, u2_at, u4_at, i4_at, pair_at, several_at, short_list_at, long_list_at}
+use Rattle.cert_format.specs.Reading.{Decoded, u1_at, u2_at, u4_at, i4_at, pair_at, several_at, short_list_at, long_list_at}
 use Rattle.cert_format.proofs.Order.{InOrder, join, split}
 
 -- ---- numbers
@@ -50,7 +50,7 @@ i4_is = record {
 
 -- ---- one after the other
 
-pub pair_is : {A B : Type 0} {first : Place → Read A} {second : Place → Read B} {spell_a : A → List ℕ} {spell_b : B → List ℕ} {Fits_a : A → Type 0} {Fits_b : B → Type 0}
+pub pair_is : {A B : Type 0} {first : Place → Decoded A} {second : Place → Decoded B} {spell_a : A → List ℕ} {spell_b : B → List ℕ} {Fits_a : A → Type 0} {Fits_b : B → Type 0}
     → IsReader first spell_a Fits_a → IsReader second spell_b Fits_b
     → IsReader (pair_at first second) (λ x. spell_a x.0 ++ spell_b x.1) (λ x. Fits_a x.0 × Fits_b x.1)
 unfolding pair_at
@@ -100,11 +100,11 @@ chosen false x y other P e same later = later e
 -- ---- what stands after a kind
 
 -- Texts that the reader takes follow these bytes in a spelling.
-pub record Takes {A : Type 0} (reader : Place → Read A) (before : List ℕ) (spell : A → List ℕ) (Fits : A → Type 0) : Type 0 where
+pub record Takes {A : Type 0} (reader : Place → Decoded A) (before : List ℕ) (spell : A → List ℕ) (Fits : A → Type 0) : Type 0 where
   pub takes : (place : Place) (a : A) (next : Place) → IsBytes place.rest → reader place ≡ Ok (a, next)
       → (text : List ℕ) × Took place text next × (spell a ≡ before ++ text) × Fits a
 
-pub form : {A X : Type 0} {reader : Place → Read X} {spell_x : X → List ℕ} {Fits_x : X → Type 0} {before : List ℕ} {spell : A → List ℕ} {Fits : A → Type 0}
+pub form : {A X : Type 0} {reader : Place → Decoded X} {spell_x : X → List ℕ} {Fits_x : X → Type 0} {before : List ℕ} {spell : A → List ℕ} {Fits : A → Type 0}
     (wrap : X → A) → IsReader reader spell_x Fits_x → ((x : X) → Fits_x x → (spell (wrap x) ≡ before ++ spell_x x) × Fits (wrap x))
     → Takes (λ p. reader p >>= λ x. Ok (wrap x.0, x.1)) before spell Fits
 form {A = A} {X = X} {reader = reader} {spell_x = spell_x} {before = before} {spell = spell} {Fits = Fits} wrap is made = record {
@@ -128,7 +128,7 @@ pub never : {A : Type 0} {before : List ℕ} {spell : A → List ℕ} {Fits : A 
 never at = record { takes = λ place a next fits e. absurd cc }
 
 -- this kind, or another
-pub kind_or : {A : Type 0} {this that : Place → Read A} {spell : A → List ℕ} {Fits : A → Type 0} (kind n : ℕ)
+pub kind_or : {A : Type 0} {this that : Place → Decoded A} {spell : A → List ℕ} {Fits : A → Type 0} (kind n : ℕ)
     → Takes this (u1 n) spell Fits → Takes that (u1 kind) spell Fits → Takes (λ p. cond (eqb kind n) (this p) (that p)) (u1 kind) spell Fits
 kind_or {A = A} {this = this} {that = that} {spell = spell} {Fits = Fits} kind n first others = by (eqb kind n) refl where
   by : (test : Bool) → eqb kind n ≡ test → Takes (λ p. cond test (this p) (that p)) (u1 kind) spell Fits
@@ -137,7 +137,7 @@ kind_or {A = A} {this = this} {that = that} {spell = spell} {Fits = Fits} kind n
 
 -- ---- a kind, and what follows it
 
-pub tagged : {A : Type 0} {others : ℕ → ℕ → Place → Read A} {spell : A → List ℕ} {Fits : A → Type 0}
+pub tagged : {A : Type 0} {others : ℕ → ℕ → Place → Decoded A} {spell : A → List ℕ} {Fits : A → Type 0}
     → ((at kind : ℕ) → Takes (others at kind) (u1 kind) spell Fits)
     → ((place : Place) (a : A) (rest : List ℕ) → Fits a → place.rest ≡ spell a ++ rest → (u1_at place >>= λ kind. others place.at kind.0 kind.1) ≡ Ok (a, after place (spell a) rest))
     → IsReader (λ p. u1_at p >>= λ kind. others p.at kind.0 kind.1) spell Fits
@@ -150,7 +150,7 @@ tagged {A = A} {others = others} {spell = spell} {Fits = Fits} takes_rest again_
   again = λ place a rest fits h e. again_rest place a rest fits e;
 }
 
-pub kind_again : {A X : Type 0} (others : ℕ → ℕ → Place → Read A) {reader : Place → Read X} {spell_x : X → List ℕ} {Fits_x : X → Type 0}
+pub kind_again : {A X : Type 0} (others : ℕ → ℕ → Place → Decoded A) {reader : Place → Decoded X} {spell_x : X → List ℕ} {Fits_x : X → Type 0}
     (n : ℕ) → n < 256 → (wrap : X → A) → IsReader reader spell_x Fits_x
     → ((at : ℕ) (p : Place) → others at n p ≡ (reader p >>= λ x. Ok (wrap x.0, x.1)))
     → (place : Place) (x : X) (rest : List ℕ) → Fits_x x → place.rest ≡ (u1 n ++ spell_x x) ++ rest
@@ -162,7 +162,7 @@ kind_again others {spell_x = spell_x} n small wrap is same place x rest fits e =
     let far : place.at + length (u1 n) + length (spell_x x) ≡ place.at + length (u1 n ++ spell_x x) = omega (arith, length-append (u1 n) (spell_x x)) in
     rw (first, same place.at mid, second, far) refl
 
-pub plain_again : {A : Type 0} (others : ℕ → ℕ → Place → Read A) (n : ℕ) → n < 256 → (a : A) → ((at : ℕ) (p : Place) → others at n p ≡ Ok (a, p))
+pub plain_again : {A : Type 0} (others : ℕ → ℕ → Place → Decoded A) (n : ℕ) → n < 256 → (a : A) → ((at : ℕ) (p : Place) → others at n p ≡ Ok (a, p))
     → (place : Place) (rest : List ℕ) → place.rest ≡ u1 n ++ rest → (u1_at place >>= λ kind. others place.at kind.0 kind.1) ≡ Ok (a, after place (u1 n) rest)
 plain_again others n small a same place rest e =
     rw (u1_is.again place n rest small tt e, same place.at (after place (u1 n) rest)) refl
@@ -171,10 +171,10 @@ plain_again others n small a same place rest e =
 
 module _ (names : List Name) where
   -- The reader reads exactly what is spelled so, and the names are used in their order.
-  pub record IsItem {X : Type 0} (item : ℕ → Place → Read (X × ℕ)) (spell : X → List ℕ) (Fits : X → Type 0) (names_in : X → List Name) : Type 0 where
+  pub record IsItem {X : Type 0} (item : ℕ → Place → Decoded (X × ℕ)) (spell : X → List ℕ) (Fits : X → Type 0) (names_in : X → List Name) : Type 0 where
     pub reads : (used : ℕ) → IsReader (item used) (λ (a : X × ℕ). spell a.0) (λ (a : X × ℕ). Fits a.0 × InOrder names used (names_in a.0) a.1)
 
-  several_takes : {X : Type 0} (item : ℕ → Place → Read (X × ℕ)) (spell : X → List ℕ) (Fits : X → Type 0) (names_in : X → List Name) (is : IsItem item spell Fits names_in)
+  several_takes : {X : Type 0} (item : ℕ → Place → Decoded (X × ℕ)) (spell : X → List ℕ) (Fits : X → Type 0) (names_in : X → List Name) (is : IsItem item spell Fits names_in)
       (n used : ℕ) (place : Place) (a : List X × ℕ) (next : Place) → IsBytes place.rest → several_at item n used place ≡ Ok (a, next)
       → Took place (flat_map spell a.0) next × (AllByRecursion Fits a.0 × InOrder names used (flat_map names_in a.0) a.1) × (length a.0 ≡ n)
   unfolding several_at
@@ -191,7 +191,7 @@ module _ (names : List Name) where
       let made : (List X × ℕ) × Place = ((f.0.0.0 ∷ o.0.0.0, o.0.0.1), o.0.1) in
       subst (λ (y : (List X × ℕ) × Place). Took place (flat_map spell y.0.0) y.1 × (AllByRecursion Fits y.0.0 × InOrder names used (flat_map names_in y.0.0) y.0.1) × (length y.0.0 ≡ suc n)) (ok_is CertForm made (a, next) o.2) (both, ((first.1.0, second.1.0), order), ap suc second.2)
 
-  several_again : {X : Type 0} (item : ℕ → Place → Read (X × ℕ)) (spell : X → List ℕ) (Fits : X → Type 0) (names_in : X → List Name) (is : IsItem item spell Fits names_in)
+  several_again : {X : Type 0} (item : ℕ → Place → Decoded (X × ℕ)) (spell : X → List ℕ) (Fits : X → Type 0) (names_in : X → List Name) (is : IsItem item spell Fits names_in)
       (xs : List X) (used last : ℕ) (place : Place) (rest : List ℕ) → AllByRecursion Fits xs → InOrder names used (flat_map names_in xs) last
       → place.rest ≡ flat_map spell xs ++ rest → several_at item (length xs) used place ≡ Ok ((xs, last), after place (flat_map spell xs) rest)
   unfolding several_at
@@ -206,7 +206,7 @@ module _ (names : List Name) where
       let far : place.at + length (spell x) + length (flat_map spell xs) ≡ place.at + length (spell x ++ flat_map spell xs) = omega (arith, length-append (spell x) (flat_map spell xs)) in
       rw (first, second, far) refl
 
-  several_is : {X : Type 0} {item : ℕ → Place → Read (X × ℕ)} {spell : X → List ℕ} {Fits : X → Type 0} {names_in : X → List Name} → IsItem item spell Fits names_in
+  several_is : {X : Type 0} {item : ℕ → Place → Decoded (X × ℕ)} {spell : X → List ℕ} {Fits : X → Type 0} {names_in : X → List Name} → IsItem item spell Fits names_in
       → (n used : ℕ)
       → IsTail (several_at item n used) (λ (a : List X × ℕ). flat_map spell a.0) (λ (a : List X × ℕ). AllByRecursion Fits a.0 × InOrder names used (flat_map names_in a.0) a.1) (λ (a : List X × ℕ). Unit {0} × (length a.0 ≡ n))
   several_is {X = X} {item = item} {spell = spell} {Fits = Fits} {names_in = names_in} is n used = record {
@@ -217,7 +217,7 @@ module _ (names : List Name) where
         subst (λ (k : ℕ). several_at item k used place ≡ Ok (a, after place (flat_map spell a.0) rest)) h.1 (several_again item spell Fits names_in is a.0 used a.1 place rest fits.0 fits.1 e);
   }
 
-  pub short_list_is : {X : Type 0} {item : ℕ → Place → Read (X × ℕ)} {spell : X → List ℕ} {Fits : X → Type 0} {names_in : X → List Name} → IsItem item spell Fits names_in
+  pub short_list_is : {X : Type 0} {item : ℕ → Place → Decoded (X × ℕ)} {spell : X → List ℕ} {Fits : X → Type 0} {names_in : X → List Name} → IsItem item spell Fits names_in
       → IsItem (short_list_at item) (λ xs. u2 (length xs) ++ flat_map spell xs) (λ xs. IsU2 (length xs) × AllByRecursion Fits xs) (flat_map names_in)
   unfolding short_list_at
   short_list_is {X = X} is = record {
@@ -226,7 +226,7 @@ module _ (names : List Name) where
         (λ a f k. (((f.0, f.1.0), f.1.1), tt)) (λ a f k. ((f.0.0, (f.0.1, f.1)), tt));
   }
 
-  pub long_list_is : {X : Type 0} {item : ℕ → Place → Read (X × ℕ)} {spell : X → List ℕ} {Fits : X → Type 0} {names_in : X → List Name} → IsItem item spell Fits names_in
+  pub long_list_is : {X : Type 0} {item : ℕ → Place → Decoded (X × ℕ)} {spell : X → List ℕ} {Fits : X → Type 0} {names_in : X → List Name} → IsItem item spell Fits names_in
       → IsItem (long_list_at item) (λ xs. u4 (length xs) ++ flat_map spell xs) (λ xs. IsU4 (length xs) × AllByRecursion Fits xs) (flat_map names_in)
   unfolding long_list_at
   long_list_is {X = X} is = record {

@@ -13,11 +13,11 @@ use Rattle.cert_format.specs.declared.typing.VType.{VType}
 use Rattle.cert_format.specs.declared.typing.VType.TheVariants as types
 use Rattle.cert_format.specs.declared.typing.FrameType.{FrameType}
 use Rattle.cert_format.specs.declared.note.Note.{Note}
-use Rattle.cert_format.specs.Names.{Name, place_of, StandOnce, type_names, frame_names, method_names, class_names}
+use Rattle.cert_format.specs.Names.{Name, name_index, StandOnce, type_names, frame_names, method_names, class_names}
 use Rattle.cert_format.specs.Spelling.{u1, u2, u4, flag, spell_type, spell_types, spell_note, spell_instruction, spell_method, spell_class, spell_classes}
 use Rattle.mon_base.specs.Widths.{IsU2, IsU4}
 use Rattle.cert_format.specs.Fits.{FitsType, FitTypes, ends_with_top, FitsFrame, FitsInstruction, FitsMethod, FitsClass, FitClasses}
-use Rattle.cert_format.specs.Reading.{Read, u1_at, u4_at, flag_at, used_with, reference_at, type_of_kind, type_at, types_at, locals_at, frame_at, note_at, not_reached_at, reached_at, instruction_at, unzipped, method_at, class_at, classes_at}
+use Rattle.cert_format.specs.Reading.{Decoded, u1_at, u4_at, flag_at, used_with, reference_at, type_of_kind, told_type, types_at, locals_at, frame_at, note_at, not_reached_at, reached_at, instruction_at, unzipped, told_method, told_class, classes_at}
 use Rattle.cert_format.proofs.Places.{get_or-place}
 use Rattle.cert_format.proofs.Order.{IsTurn, InOrder, join, split}
 use Rattle.cert_format.proofs.Readers.{u1_is, u4_is, Takes, form, plain, never, kind_or, tagged, kind_again, plain_again, IsItem, short_list_is, long_list_is}
@@ -52,7 +52,7 @@ names-firsts g [] = refl
 names-firsts g (p ∷ pairs) = ap (λ (t : List Name). g p.0 ++ t) (names-firsts g pairs)
 
 -- a list of pairs that is read, as two lists
-pub paired_is : {F N : Type 0} (names : List Name) {lists : ℕ → Place → Read (List (F × N) × ℕ)} (count : ℕ → List ℕ) (FitsCount : ℕ → Type 0) (spell : F × N → List ℕ) (Fits : F × N → Type 0) (g : F → List Name)
+pub paired_is : {F N : Type 0} (names : List Name) {lists : ℕ → Place → Decoded (List (F × N) × ℕ)} (count : ℕ → List ℕ) (FitsCount : ℕ → Type 0) (spell : F × N → List ℕ) (Fits : F × N → Type 0) (g : F → List Name)
     → IsItem names lists (λ xs. count (length xs) ++ flat_map spell xs) (λ xs. FitsCount (length xs) × AllByRecursion Fits xs) (flat_map (λ (p : F × N). g p.0))
     → IsItem names (λ used p. lists used p >>= λ pairs. Ok ((unzipped pairs.0.0, pairs.0.1), pairs.1)) (λ (l : List F × List N). count (length l.0) ++ flat_map spell (zip l.0 l.1))
     (λ (l : List F × List N). FitsCount (length l.0) × ((length l.1 ≡ length l.0) × AllByRecursion Fits (zip l.0 l.1))) (λ (l : List F × List N). flat_map g l.0)
@@ -101,7 +101,7 @@ module _ (names : List Name) (once : StandOnce names) (small : length names < 2 
         let i = b.0.0 in
         let g = need_ok (nat_le i used && nat_lt i (length names)) (Form at) (λ _. Ok ((types.Ref (get_or names i []), used_with used i), b.0.1)) (t, next) b.2 in
         let turn = in_turn i used (length names) g.0 in
-        let own : place_of names (get_or names i []) ≡ i = once i turn.1 in
+        let own : name_index names (get_or names i []) ≡ i = once i turn.1 in
         let u = u4_is.takes place i b.0.1 fits b.1 in
         let made : (VType × ℕ) × Place = ((types.Ref (get_or names i []), used_with used i), b.0.1) in
         subst (λ (y : (VType × ℕ) × Place). (text : List ℕ) × Took place text y.1 × (spell_type names y.0.0 ≡ u1 3 ++ text) × FitsUsed used y.0) (ok_is CertForm made (t, next) g.1)
@@ -119,17 +119,17 @@ module _ (names : List Name) (once : StandOnce names) (small : length names < 2 
       (kind_or kind 5 (form (λ index. (types.Uninit index, used)) u4_is (λ index f. (refl, (f, refl))))
       (never at))))))
 
-  abbrev others : ℕ → ℕ → ℕ → Place → Read (VType × ℕ)
+  abbrev others : ℕ → ℕ → ℕ → Place → Decoded (VType × ℕ)
   others used at kind p = type_of_kind names at used kind p
 
-  abbrev after_kind : ℕ → Place → Read (VType × ℕ)
+  abbrev after_kind : ℕ → Place → Decoded (VType × ℕ)
   after_kind used place = u1_at place >>= λ kind. type_of_kind names place.at used kind.0 kind.1
 
-  reference_again : (used : ℕ) (place : Place) (name : Name) (rest : List ℕ) → IsTurn names used name → place.rest ≡ (u1 3 ++ u4 (place_of names name)) ++ rest
-      → after_kind used place ≡ Ok ((types.Ref name, used_with used (place_of names name)), after place (u1 3 ++ u4 (place_of names name)) rest)
+  reference_again : (used : ℕ) (place : Place) (name : Name) (rest : List ℕ) → IsTurn names used name → place.rest ≡ (u1 3 ++ u4 (name_index names name)) ++ rest
+      → after_kind used place ≡ Ok ((types.Ref name, used_with used (name_index names name)), after place (u1 3 ++ u4 (name_index names name)) rest)
   unfolding type_of_kind reference_at
   reference_again used place name rest turn e =
-      let i = place_of names name in
+      let i = name_index names name in
       let mid = after place (u1 3) (u4 i ++ rest) in
       let first = u1_is.again place 3 (u4 i ++ rest) (omega arith) tt (e ∙ append_assoc (u1 3) (u4 i) rest) in
       let second = u4_is.again mid i rest (omega (arith, turn.known, small)) tt refl in
@@ -149,13 +149,13 @@ module _ (names : List Name) (once : StandOnce names) (small : length names < 2 
   type_again used place types.Int last rest f e = told used last types.Int place (after place (u1 1) rest) f.1 (plain_again (others used) 1 (omega arith) (types.Int, used) (λ at p. refl) place rest e)
   type_again used place types.Null last rest f e = told used last types.Null place (after place (u1 2) rest) f.1 (plain_again (others used) 2 (omega arith) (types.Null, used) (λ at p. refl) place rest e)
   type_again used place (types.Ref name) last rest f e =
-      subst (λ (n : ℕ). after_kind used place ≡ Ok ((types.Ref name, n), after place (u1 3 ++ u4 (place_of names name)) rest)) f.1.1 (reference_again used place name rest f.1.0 e)
+      subst (λ (n : ℕ). after_kind used place ≡ Ok ((types.Ref name, n), after place (u1 3 ++ u4 (name_index names name)) rest)) f.1.1 (reference_again used place name rest f.1.0 e)
   type_again used place types.UninitThis last rest f e = told used last types.UninitThis place (after place (u1 4) rest) f.1 (plain_again (others used) 4 (omega arith) (types.UninitThis, used) (λ at p. refl) place rest e)
   type_again used place (types.Uninit index) last rest f e =
       told used last (types.Uninit index) place (after place (u1 5 ++ u4 index) rest) f.1 (kind_again (others used) 5 (omega arith) (λ i. (types.Uninit i, used)) u4_is (λ at p. refl) place index rest f.0 e)
 
-  type_is : IsItem names (type_at names) (spell_type names) FitsType type_names
-  unfolding type_at
+  type_is : IsItem names (told_type names) (spell_type names) FitsType type_names
+  unfolding told_type
   type_is = record { reads = λ used. tagged (type_takes used) (λ place t rest f e. type_again used place t.0 t.1 rest f e) }
 
   types_is : IsItem names (types_at names) (spell_types names) FitTypes (flat_map type_names)
@@ -227,7 +227,7 @@ module _ (names : List Name) (once : StandOnce names) (small : length names < 2 
     abbrev FitsInstructionUsed : ℕ → Instruction × ℕ → Type 0
     FitsInstructionUsed used i = FitsInstruction vars i.0 × InOrder names used (frame_names i.0.0) i.1
 
-    abbrev rest_at : ℕ → Bool → Place → Read (Instruction × ℕ)
+    abbrev rest_at : ℕ → Bool → Place → Decoded (Instruction × ℕ)
     rest_at used reached p = cond reached (reached_at vars names used p) (not_reached_at used p)
 
     reached_takes : (used : ℕ) → Takes (reached_at vars names used) (u1 1) spell_used (FitsInstructionUsed used)
@@ -297,12 +297,12 @@ module _ (names : List Name) (once : StandOnce names) (small : length names < 2 
 
     -- ---- methods and classes
 
-    method_is : IsItem names (method_at vars names) (spell_method names) (FitsMethod vars) (λ (m : List (Option FrameType) × List Note). method_names m.0)
-    unfolding method_at
+    method_is : IsItem names (told_method vars names) (spell_method names) (FitsMethod vars) (λ (m : List (Option FrameType) × List Note). method_names m.0)
+    unfolding told_method
     method_is = paired_is names u4 IsU4 (spell_instruction names) (FitsInstruction vars) frame_names (long_list_is names instruction_is)
 
-    class_is : IsItem names (class_at vars names) (spell_class names) (FitsClass vars) (λ (c : List (List (Option FrameType)) × List (List Note)). class_names c.0)
-    unfolding class_at
+    class_is : IsItem names (told_class vars names) (spell_class names) (FitsClass vars) (λ (c : List (List (Option FrameType)) × List (List Note)). class_names c.0)
+    unfolding told_class
     class_is = paired_is names u2 IsU2 (spell_method names) (FitsMethod vars) method_names (short_list_is names method_is)
 
     pub classes_is : IsItem names (classes_at vars names) (spell_classes names) (FitClasses vars) (λ (c : List (List (List (Option FrameType))) × List (List (List Note))). flat_map class_names c.0)

@@ -5,11 +5,11 @@ use Rattle.std.specs.BTreeMap.{BTreeMap, get_by}
 use Rattle.std.specs.BTreeSet.{BTreeSet, contains_by}
 use Rattle.std.specs.Ordering.{nat_cmp}
 use Rattle.std.specs.Cmp.Lexicographic.{slice_cmp}
-use Rattle.cert_format.specs.Names.{Name, place_of}
+use Rattle.cert_format.specs.Names.{Name, name_index}
 
 -- the place of the name, if it is one of the names
 abbrev pub found : List Name → Name → Option ℕ
-found names name = if nat_lt (place_of names name) (length names) then Some (place_of names name) else None
+found names name = if nat_lt (name_index names name) (length names) then Some (name_index names name) else None
 
 -- The map has the place of each of the names, and nothing else.
 abbrev pub HasPlaces : List Name → BTreeMap (Bor Name) ℕ → Type 0
@@ -17,7 +17,7 @@ HasPlaces names places = (name : Name) → get_by (λ key. slice_cmp nat_cmp nam
 
 -- whether it is one of the names
 abbrev pub stands : List Name → Name → Bool
-stands names name = nat_lt (place_of names name) (length names)
+stands names name = nat_lt (name_index names name) (length names)
 
 -- The set has each of the names, and nothing else.
 abbrev pub HasNames : List Name → BTreeSet (Bor Name) → Type 0

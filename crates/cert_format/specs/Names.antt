@@ -10,17 +10,17 @@ abbrev pub Name : Type 0
 Name = List ℕ
 
 -- the first place at which the name stands, or the length where it stands nowhere
-abbrev pub place_of : List Name → Name → ℕ
-place_of [] name = 0
-place_of (first ∷ names) name = if bytes_eq first name then 0 else suc (place_of names name)
+abbrev pub name_index : List Name → Name → ℕ
+name_index [] name = 0
+name_index (first ∷ names) name = if bytes_eq first name then 0 else suc (name_index names name)
 
 -- no name stands twice
 abbrev pub StandOnce : List Name → Type 0
-StandOnce names = (i : ℕ) → i < length names → place_of names (get_or names i []) ≡ i
+StandOnce names = (i : ℕ) → i < length names → name_index names (get_or names i []) ≡ i
 
 -- the names, and then this one if it is new
 abbrev pub with_name : List Name → Name → List Name
-with_name names name = if nat_lt (place_of names name) (length names) then names else names ++ name ∷ []
+with_name names name = if nat_lt (name_index names name) (length names) then names else names ++ name ∷ []
 
 -- the names, and then those of more that are new
 abbrev pub with_names : List Name → List Name → List Name

@@ -22,42 +22,42 @@ use Rattle.cert_format.specs.declared.certificate.Mode.{Mode}
 use Rattle.cert_format.specs.declared.certificate.Mode.TheVariants as modes
 use Rattle.cert_format.specs.declared.certificate.Certificate.{Certificate}
 use Rattle.mon_base.specs.Answer.{Fails}
-use Rattle.cert_format.specs.Names.{Name, place_of}
+use Rattle.cert_format.specs.Names.{Name, name_index}
 use Rattle.cert_format.specs.Fits.{ends_with_top}
 
 -- What the reader of X answers: the value and the place after it, or the fault.
-abbrev pub Read : Type 0 → Type 0
-Read X = Result (X × Place) CertForm
+abbrev pub Decoded : Type 0 → Type 0
+Decoded X = Result (X × Place) CertForm
 
 -- What a call answered, how many names are used after it, and the place where it left, are what reading gives; unless memory ran out.
-abbrev pub Uses : {X : Type 0} → Result X CertForm → Read (X × ℕ) → ℕ → Place → Type 0
+abbrev pub Uses : {X : Type 0} → Result X CertForm → Decoded (X × ℕ) → ℕ → Place → Type 0
 Uses (Ok x) read used new = read ≡ Ok ((x, used), new)
 Uses (Err e) read used new = Fails Memory e read
 
 -- ---- numbers and bytes
 
-unfoldable pub u1_at : Place → Read ℕ
+unfoldable pub u1_at : Place → Decoded ℕ
 u1_at p = ok_or (number_at 1 p) (Form p.at)
 
-unfoldable pub u2_at : Place → Read ℕ
+unfoldable pub u2_at : Place → Decoded ℕ
 u2_at p = ok_or (number_at 2 p) (Form p.at)
 
-unfoldable pub u4_at : Place → Read ℕ
+unfoldable pub u4_at : Place → Decoded ℕ
 u4_at p = ok_or (number_at 4 p) (Form p.at)
 
-unfoldable pub i4_at : Place → Read ℤ
+unfoldable pub i4_at : Place → Decoded ℤ
 i4_at p = do
   n ← u4_at p
   Ok (cast_signed w32 n.0, n.1)
 
-unfoldable pub taken_at : ℕ → Place → Read (List ℕ)
+unfoldable pub taken_at : ℕ → Place → Decoded (List ℕ)
 taken_at n p = ok_or (bytes_at n p) (Form p.at)
 
 -- the flag that the number is, which stands at `at`
 abbrev pub flag_of : ℕ → ℕ → Result Bool CertForm
 flag_of at n = if n == 0 then Ok false else if n == 1 then Ok true else Err (Form at)
 
-unfoldable pub flag_at : Place → Read Bool
+unfoldable pub flag_at : Place → Decoded Bool
 flag_at p = do
   number ← u1_at p
   is ← flag_of p.at number.0
@@ -68,7 +68,7 @@ flag_at p = do
 unfoldable pub mode_of : ℕ → ℕ → Result Mode CertForm
 mode_of at n = if n == 0 then Ok modes.Hold else if n == 1 then Ok modes.Release else Err (Form at)
 
-unfoldable pub head_at : Place → Read Mode
+unfoldable pub head_at : Place → Decoded Mode
 head_at p = do
   magic ← u4_at p
   known ← need (magic.0 == 0x43535043) (Form p.at)
@@ -79,28 +79,28 @@ head_at p = do
   Ok (mode, number.1)
 
 -- a name that is none of these
-unfoldable pub name_at : List Name → Place → Read Name
-name_at before p = do
+unfoldable pub told_name : List Name → Place → Decoded Name
+told_name before p = do
   len ← u2_at p
   name ← taken_at len.0 len.1
-  new ← need (not (nat_lt (place_of before name.0) (length before))) (Form len.1.at)
+  new ← need (not (nat_lt (name_index before name.0) (length before))) (Form len.1.at)
   Ok name
 
 -- these, and so many more
-unfoldable pub more_names_at : ℕ → List Name → Place → Read (List Name)
+unfoldable pub more_names_at : ℕ → List Name → Place → Decoded (List Name)
 more_names_at zero before p = Ok (before, p)
 more_names_at (suc n) before p = do
-  name ← name_at before p
+  name ← told_name before p
   more_names_at n (before ++ name.0 ∷ []) name.1
 
-unfoldable pub names_at : Place → Read (List Name)
+unfoldable pub names_at : Place → Decoded (List Name)
 names_at p = do
   count ← u4_at p
   more_names_at count.0 [] count.1
 
 -- ---- items that use names, one after another
 
-unfoldable pub several_at : {X : Type 0} → (ℕ → Place → Read (X × ℕ)) → ℕ → ℕ → Place → Read (List X × ℕ)
+unfoldable pub several_at : {X : Type 0} → (ℕ → Place → Decoded (X × ℕ)) → ℕ → ℕ → Place → Decoded (List X × ℕ)
 several_at item zero used p = Ok (([], used), p)
 several_at item (suc n) used p = do
   first ← item used p
@@ -108,12 +108,12 @@ several_at item (suc n) used p = do
   Ok ((first.0.0 ∷ others.0.0, others.0.1), others.1)
 
 -- two bytes of count, and the items; or four
-unfoldable pub short_list_at : {X : Type 0} → (ℕ → Place → Read (X × ℕ)) → ℕ → Place → Read (List X × ℕ)
+unfoldable pub short_list_at : {X : Type 0} → (ℕ → Place → Decoded (X × ℕ)) → ℕ → Place → Decoded (List X × ℕ)
 short_list_at item used p = do
   count ← u2_at p
   several_at item count.0 used count.1
 
-unfoldable pub long_list_at : {X : Type 0} → (ℕ → Place → Read (X × ℕ)) → ℕ → Place → Read (List X × ℕ)
+unfoldable pub long_list_at : {X : Type 0} → (ℕ → Place → Decoded (X × ℕ)) → ℕ → Place → Decoded (List X × ℕ)
 long_list_at item used p = do
   count ← u4_at p
   several_at item count.0 used count.1
@@ -129,14 +129,14 @@ abbrev pub used_with : ℕ → ℕ → ℕ
 used_with used place = if place == used then used + 1 else used
 
 -- the reference of a type that begins at `at`
-unfoldable pub reference_at : List Name → ℕ → ℕ → Place → Read (VType × ℕ)
+unfoldable pub reference_at : List Name → ℕ → ℕ → Place → Decoded (VType × ℕ)
 reference_at names at used p = do
   place ← u4_at p
   known ← need (nat_le place.0 used && nat_lt place.0 (length names)) (Form at)
   Ok ((types.Ref (get_or names place.0 []), used_with used place.0), place.1)
 
 -- a type that begins at `at`, after its kind
-unfoldable pub type_of_kind : List Name → ℕ → ℕ → ℕ → Place → Read (VType × ℕ)
+unfoldable pub type_of_kind : List Name → ℕ → ℕ → ℕ → Place → Decoded (VType × ℕ)
 type_of_kind names at used kind p =
     if kind == 0 then Ok ((types.Top, used), p)
     else if kind == 1 then Ok ((types.Int, used), p)
@@ -146,22 +146,22 @@ type_of_kind names at used kind p =
     else if kind == 5 then (u4_at p >>= λ index. Ok ((types.Uninit index.0, used), index.1))
     else Err (Form at)
 
-unfoldable pub type_at : List Name → ℕ → Place → Read (VType × ℕ)
-type_at names used p = do
+unfoldable pub told_type : List Name → ℕ → Place → Decoded (VType × ℕ)
+told_type names used p = do
   kind ← u1_at p
   type_of_kind names p.at used kind.0 kind.1
 
-unfoldable pub types_at : List Name → ℕ → Place → Read (List VType × ℕ)
-types_at names used p = short_list_at (type_at names) used p
+unfoldable pub types_at : List Name → ℕ → Place → Decoded (List VType × ℕ)
+types_at names used p = short_list_at (told_type names) used p
 
 -- A last local that is Top is the last byte before the place.
-unfoldable pub locals_at : List Name → ℕ → Place → Read (List VType × ℕ)
+unfoldable pub locals_at : List Name → ℕ → Place → Decoded (List VType × ℕ)
 locals_at names used p = do
   locals ← types_at names used p
   shortest ← need (not (ends_with_top locals.0.0)) (Form (locals.1.at - 1))
   Ok locals
 
-unfoldable pub frame_at : List Name → ℕ → Place → Read (FrameType × ℕ)
+unfoldable pub frame_at : List Name → ℕ → Place → Decoded (FrameType × ℕ)
 frame_at names used p = do
   locals ← locals_at names used p
   stack ← types_at names locals.0.1 locals.1
@@ -169,14 +169,14 @@ frame_at names used p = do
 
 -- ---- notes
 
-unfoldable pub pair_at : {A B : Type 0} → (Place → Read A) → (Place → Read B) → Place → Read (A × B)
+unfoldable pub pair_at : {A B : Type 0} → (Place → Decoded A) → (Place → Decoded B) → Place → Decoded (A × B)
 pair_at first second p = do
   a ← first p
   b ← second a.1
   Ok ((a.0, b.0), b.1)
 
 -- a term that begins at `at`, after its kind
-unfoldable pub term_of_kind : ℕ → ℕ → Place → Read Term
+unfoldable pub term_of_kind : ℕ → ℕ → Place → Decoded Term
 term_of_kind at kind p =
     if kind == 0 then (i4_at p >>= λ n. Ok (terms.Const n.0, n.1))
     else if kind == 1 then (u1_at p >>= λ v. Ok (terms.Var v.0, v.1))
@@ -186,13 +186,13 @@ term_of_kind at kind p =
     else if kind == 5 then Ok (terms.Lock, p)
     else Err (Form at)
 
-unfoldable pub term_at : Place → Read Term
+unfoldable pub term_at : Place → Decoded Term
 term_at p = do
   kind ← u1_at p
   term_of_kind p.at kind.0 kind.1
 
 -- one byte of count, and the terms
-unfoldable pub terms_at : Place → Read (List Term)
+unfoldable pub terms_at : Place → Decoded (List Term)
 terms_at p = do
   count ← u1_at p
   counted term_at count.0 count.1
@@ -204,39 +204,39 @@ phase_of at n =
     else if n == 2 then Ok phases.Exceptional
     else Err (Form at)
 
-unfoldable pub phase_at : Place → Read Phase8
+unfoldable pub phase_at : Place → Decoded Phase8
 phase_at p = do
   number ← u1_at p
   phase ← phase_of p.at number.0
   Ok (phase, number.1)
 
-unfoldable pub site_at : Place → Read Site
+unfoldable pub site_at : Place → Decoded Site
 site_at p = do
   x ← pair_at u2_at (pair_at phase_at u2_at) p
   Ok (record { method = x.0.0; phase = x.0.1.0; base = x.0.1.1 }, x.1)
 
-unfoldable pub held_at : ℕ → Place → Read Note
+unfoldable pub held_at : ℕ → Place → Decoded Note
 held_at vars p = do
   x ← pair_at site_at (pair_at u1_at (pair_at u1_at (pair_at terms_at (counted term_at vars)))) p
   Ok (notes.Held x.0.0 x.0.1.0 x.0.1.1.0 x.0.1.1.1.0 x.0.1.1.1.1, x.1)
 
-unfoldable pub granted_at : Place → Read Note
+unfoldable pub granted_at : Place → Decoded Note
 granted_at p = do
   x ← pair_at site_at (pair_at flag_at (pair_at u1_at flag_at)) p
   Ok (notes.Granted x.0.0 x.0.1.0 x.0.1.1.0 x.0.1.1.1, x.1)
 
-unfoldable pub owed_at : Place → Read Note
+unfoldable pub owed_at : Place → Decoded Note
 owed_at p = do
   x ← pair_at site_at (pair_at u1_at (pair_at flag_at flag_at)) p
   Ok (notes.Owed x.0.0 x.0.1.0 x.0.1.1.0 x.0.1.1.1, x.1)
 
-unfoldable pub stop_at : Place → Read Note
+unfoldable pub stop_at : Place → Decoded Note
 stop_at p = do
   x ← pair_at site_at u1_at p
   Ok (notes.Stop x.0.0 x.0.1, x.1)
 
 -- a note that begins at `at`, after its kind
-unfoldable pub note_of_kind : ℕ → ℕ → ℕ → Place → Read Note
+unfoldable pub note_of_kind : ℕ → ℕ → ℕ → Place → Decoded Note
 note_of_kind vars at kind p =
     if kind == 0 then Ok (notes.Free, p)
     else if kind == 1 then (site_at p >>= λ site. Ok (notes.Taking site.0, site.1))
@@ -246,13 +246,13 @@ note_of_kind vars at kind p =
     else if kind == 5 then stop_at p
     else Err (Form at)
 
-unfoldable pub note_at : ℕ → Place → Read Note
+unfoldable pub note_at : ℕ → Place → Decoded Note
 note_at vars p = do
   kind ← u1_at p
   note_of_kind vars p.at kind.0 kind.1
 
 -- the note of an instruction that is not reached
-unfoldable pub free_at : Place → Read Note
+unfoldable pub free_at : Place → Decoded Note
 free_at p = do
   kind ← u1_at p
   free ← need (kind.0 == 0) (Form p.at)
@@ -260,47 +260,47 @@ free_at p = do
 
 -- ---- instructions
 
-unfoldable pub not_reached_at : ℕ → Place → Read ((Option FrameType × Note) × ℕ)
+unfoldable pub not_reached_at : ℕ → Place → Decoded ((Option FrameType × Note) × ℕ)
 not_reached_at used p = do
   note ← free_at p
   Ok (((None, note.0), used), note.1)
 
-unfoldable pub reached_at : ℕ → List Name → ℕ → Place → Read ((Option FrameType × Note) × ℕ)
+unfoldable pub reached_at : ℕ → List Name → ℕ → Place → Decoded ((Option FrameType × Note) × ℕ)
 reached_at vars names used p = do
   frame ← frame_at names used p
   note ← note_at vars frame.1
   Ok (((Some frame.0.0, note.0), frame.0.1), note.1)
 
-unfoldable pub instruction_at : ℕ → List Name → ℕ → Place → Read ((Option FrameType × Note) × ℕ)
+unfoldable pub instruction_at : ℕ → List Name → ℕ → Place → Decoded ((Option FrameType × Note) × ℕ)
 instruction_at vars names used p = do
   reached ← flag_at p
   if reached.0 then reached_at vars names used reached.1 else not_reached_at used reached.1
 
-unfoldable pub method_at : ℕ → List Name → ℕ → Place → Read ((List (Option FrameType) × List Note) × ℕ)
-method_at vars names used p = do
+unfoldable pub told_method : ℕ → List Name → ℕ → Place → Decoded ((List (Option FrameType) × List Note) × ℕ)
+told_method vars names used p = do
   pairs ← long_list_at (instruction_at vars names) used p
   Ok ((unzipped pairs.0.0, pairs.0.1), pairs.1)
 
-unfoldable pub class_at : ℕ → List Name → ℕ → Place → Read ((List (List (Option FrameType)) × List (List Note)) × ℕ)
-class_at vars names used p = do
-  pairs ← short_list_at (method_at vars names) used p
+unfoldable pub told_class : ℕ → List Name → ℕ → Place → Decoded ((List (List (Option FrameType)) × List (List Note)) × ℕ)
+told_class vars names used p = do
+  pairs ← short_list_at (told_method vars names) used p
   Ok ((unzipped pairs.0.0, pairs.0.1), pairs.1)
 
-unfoldable pub classes_at : ℕ → List Name → ℕ → Place → Read ((List (List (List (Option FrameType))) × List (List (List Note))) × ℕ)
+unfoldable pub classes_at : ℕ → List Name → ℕ → Place → Decoded ((List (List (List (Option FrameType))) × List (List (List Note))) × ℕ)
 classes_at vars names used p = do
-  pairs ← short_list_at (class_at vars names) used p
+  pairs ← short_list_at (told_class vars names) used p
   Ok ((unzipped pairs.0.0, pairs.0.1), pairs.1)
 
 -- ---- the whole
 
 -- the classes, whose types use each of the names
-unfoldable pub body_at : ℕ → Mode → List Name → Place → Read Certificate
+unfoldable pub body_at : ℕ → Mode → List Name → Place → Decoded Certificate
 body_at vars mode names p = do
   classes ← classes_at vars names 0 p
   all ← need (classes.0.1 == length names) (Form classes.1.at)
   Ok (record { mode = mode; typing = record { frames = classes.0.0.0 }; notes = classes.0.0.1 }, classes.1)
 
-unfoldable pub certificate_at : ℕ → Place → Read Certificate
+unfoldable pub certificate_at : ℕ → Place → Decoded Certificate
 certificate_at vars p = do
   mode ← head_at p
   names ← names_at mode.1

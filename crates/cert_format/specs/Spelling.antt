@@ -16,7 +16,7 @@ use Rattle.cert_format.specs.declared.note.Note.TheVariants as notes
 use Rattle.cert_format.specs.declared.certificate.Mode.{Mode}
 use Rattle.cert_format.specs.declared.certificate.Mode.TheVariants as modes
 use Rattle.cert_format.specs.declared.certificate.Certificate.{Certificate}
-use Rattle.cert_format.specs.Names.{Name, place_of, names_of}
+use Rattle.cert_format.specs.Names.{Name, name_index, names_of}
 
 -- numbers of one, two and four bytes, the highest byte first
 abbrev pub u1 : ℕ → List ℕ
@@ -41,7 +41,7 @@ abbrev pub spell_type : List Name → VType → List ℕ
 spell_type names types.Top = u1 0
 spell_type names types.Int = u1 1
 spell_type names types.Null = u1 2
-spell_type names (types.Ref name) = u1 3 ++ u4 (place_of names name)
+spell_type names (types.Ref name) = u1 3 ++ u4 (name_index names name)
 spell_type names types.UninitThis = u1 4
 spell_type names (types.Uninit at) = u1 5 ++ u4 at
 

@@ -5,8 +5,8 @@ ghost use Rattle.cert_format.specs.declared.certificate.Certificate.{Certificate
 ghost use Rattle.cert_format.specs.Fits as fits;
 ghost use Rattle.cert_format.specs.Fits.{SpellsCertificate};
 ghost use Rattle.mon_base.specs.Answer.{Reads, Answers};
-ghost use Rattle.cert_format.specs.Reading.{Uses, reference_at, type_of_kind, type_at, types_at, locals_at};
-ghost use Rattle.cert_format.specs.Reading.{frame_at, not_reached_at, reached_at, instruction_at, method_at, class_at};
+ghost use Rattle.cert_format.specs.Reading.{Uses, reference_at, type_of_kind, told_type, types_at, locals_at};
+ghost use Rattle.cert_format.specs.Reading.{frame_at, not_reached_at, reached_at, instruction_at, told_method, told_class};
 ghost use Rattle.cert_format.specs.Reading.{classes_at, head_at, body_at, certificate_at, certificate_of};
 
 use crate::certificate::{Certificate, Mode};
@@ -73,9 +73,9 @@ fn type_of_kind(
 }
 
 impl Item for VType {
-    ghost item_at = { λ vars names used p. type_at names used p };
+    ghost item_at = { λ vars names used p. told_type names used p };
 
-    #[tactic(auto, unfolding(crate::specs::Reading::type_at))]
+    #[tactic(auto, unfolding(crate::specs::Reading::told_type))]
     fn read(
         alloc: Global,
         table: &Table,
@@ -176,9 +176,9 @@ impl Item for (Option<FrameType>, Note) {
 }
 
 impl Item for (List<Option<FrameType>>, List<Note>) {
-    ghost item_at = { method_at };
+    ghost item_at = { told_method };
 
-    #[tactic(auto, unfolding(crate::specs::Reading::method_at))]
+    #[tactic(auto, unfolding(crate::specs::Reading::told_method))]
     fn read(
         alloc: Global,
         table: &Table,
@@ -191,9 +191,9 @@ impl Item for (List<Option<FrameType>>, List<Note>) {
 }
 
 impl Item for (List<List<Option<FrameType>>>, List<List<Note>>) {
-    ghost item_at = { class_at };
+    ghost item_at = { told_class };
 
-    #[tactic(auto, unfolding(crate::specs::Reading::class_at))]
+    #[tactic(auto, unfolding(crate::specs::Reading::told_class))]
     fn read(
         alloc: Global,
         table: &Table,

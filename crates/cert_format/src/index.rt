@@ -1,7 +1,7 @@
 //! The names of a certificate that is written, and their places.
 
 ghost use Rattle.std.specs.Prelude.{◌≡◌, [], ◌++◌, map, OnOk};
-ghost use Rattle.cert_format.specs.Names.{place_of, with_name};
+ghost use Rattle.cert_format.specs.Names.{name_index, with_name};
 ghost use Rattle.cert_format.specs.Spelling.{spell_names};
 
 use crate::writing::{put_u2, put_u4};
@@ -60,7 +60,7 @@ impl<'a> Index<'a> {
 
     /// The place of the name, or the number of names where it is none of them.
     pub fn place(&self, name: &[u8]) -> usize
-        ensures { result ≡ place_of self.now name.now }
+        ensures { result ≡ name_index self.now name.now }
     {
         match self.places.get(name) {
             Some(place) => *place,

@@ -18,10 +18,10 @@ pub struct Table<'a> {
 pub trait Item: Drop {
     ghost use Rattle.std.specs.Prelude.{ℕ, List as Items};
     ghost use Rattle.mon_base.specs.Reading.{Place};
-    ghost use Rattle.cert_format.specs.Reading.{Read};
+    ghost use Rattle.cert_format.specs.Reading.{Decoded};
 
     /// What reading it gives, with the number of variables, the names, and how many of these were used before.
-    ghost item_at: { ℕ → Items (Items ℕ) → ℕ → Place → Read (Self × ℕ) };
+    ghost item_at: { ℕ → Items (Items ℕ) → ℕ → Place → Decoded (Self × ℕ) };
 
     /// The next item. `used` is how many of the names were used so far.
     fn read(

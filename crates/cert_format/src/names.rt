@@ -4,7 +4,7 @@ ghost use Rattle.std.specs.Prelude.{List as Items, [], ◌∷◌, ◌++◌, IfOk
 ghost use Rattle.cert_format.specs.Names.{Name};
 ghost use Rattle.cert_format.specs.Index.{HasNames};
 ghost use Rattle.mon_base.specs.Answer.{Reads, ReadsAs};
-ghost use Rattle.cert_format.specs.Reading.{name_at, more_names_at, names_at};
+ghost use Rattle.cert_format.specs.Reading.{told_name, more_names_at, names_at};
 
 use crate::fault::CertForm;
 use crate::place::{taken, u2, u4};
@@ -35,10 +35,10 @@ fn several_names(alloc: Global, count: u32, from: &mut Cursor) -> Result<List<By
 }
 
 /// The next name, which is none of those that were seen. It is one of them then.
-#[tactic(auto, unfolding(crate::specs::Reading::name_at))]
+#[tactic(auto, unfolding(crate::specs::Reading::told_name))]
 fn next_name<'a>(seen: &mut BTreeSet<&'a [u8]>, from: &mut Cursor<'a>) -> Result<&'a [u8], CertForm>
     ensures reads { (before : Items Name) → HasNames before seen.old
-        → ReadsAs CertForm.Memory (λ b. b.now) result (name_at before from.old) from.new }
+        → ReadsAs CertForm.Memory (λ b. b.now) result (told_name before from.old) from.new }
     ensures seen { (before : Items Name) → HasNames before seen.old → IfOk result (λ name. HasNames (before ++ name.now ∷ []) seen.new) }
 {
     let len = u2(from)?;

@@ -15,7 +15,7 @@ use Rattle.class_codec.specs.Pool.{names}
 use Rattle.class_codec.specs.Spelling as spelling
 use Rattle.mon_base.specs.Widths.{IsU2}
 use Rattle.class_codec.specs.Fits.{IsIndex, FitCounted, FitsAttr, FitsMember, CanSpell, SpellsClass}
-use Rattle.class_codec.specs.Reading.{u2_at, head_at, body_at, class_at, class_of}
+use Rattle.class_codec.specs.Reading.{u2_at, head_at, body_at, file_at, class_of}
 use Rattle.class_codec.proofs.Readers.{wrapped, then_equal}
 use Rattle.class_codec.proofs.Numbers.{u2_is, u4_is, index_is, counted_is}
 use Rattle.class_codec.proofs.PoolLaws.{IsPool, pool_is, whole_pool, pool_whole}
@@ -93,8 +93,8 @@ fits_class f h = record {
   attrs = h.attrs;
 }
 
-class_is : IsReader class_at spelling.spelling CanSpell
-unfolding class_at
+class_is : IsReader file_at spelling.spelling CanSpell
+unfolding file_at
 class_is = said (then {known = λ _. Unit {0}} _ head_is (λ f. f.minor) (λ f k. tt)
     (λ minor k. then _ pool_is (λ f. f.pool) (λ f k. tt)
     (λ pool k. said {Fits' = λ f. FitsBody f.pool f} (body_is minor pool)
@@ -106,7 +106,7 @@ class_is = said (then {known = λ _. Unit {0}} _ head_is (λ f. f.minor) (λ f k
 class_takes : (bytes : List ℕ) (f : ClassFile) → IsBytes bytes → class_of bytes ≡ Ok f → SpellsClass bytes f
 unfolding class_of
 class_takes bytes f fits e =
-    let b = need_ok (nat_le (length bytes) 1048576) (TooLong (length bytes)) (λ _. whole class_at (λ p. Tail p.at) bytes) f e in
+    let b = need_ok (nat_le (length bytes) 1048576) (TooLong (length bytes)) (λ _. whole file_at (λ p. Tail p.at) bytes) f e in
     let t = whole_takes class_is (λ p. Tail p.at) bytes f fits b.1 in
     record { is = t.0; fits = t.1 }
 
@@ -131,7 +131,7 @@ same_tree bytes f g spells_f spells_g =
     let one = whole_again class_is (λ p. Tail p.at) f spells_f.fits in
     let two = whole_again class_is (λ p. Tail p.at) g spells_g.fits in
     let same : spelling.spelling f ≡ spelling.spelling g = sym spells_f.is ∙ spells_g.is in
-    ok_is ClassFault f g (sym one ∙ ap (λ (b : List ℕ). whole class_at (λ p. Tail p.at) b) same ∙ two)
+    ok_is ClassFault f g (sym one ∙ ap (λ (b : List ℕ). whole file_at (λ p. Tail p.at) b) same ∙ two)
 
 pub is_long : (bytes : List ℕ) (r : Result ClassFile ClassFault) → Answers Memory r (class_of bytes) → 1048576 < length bytes
     → Answers Memory r (Err (TooLong (length bytes)))

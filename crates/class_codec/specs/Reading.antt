@@ -263,8 +263,8 @@ body_at minor pool p = do
     attrs.1,
   )
 
-unfoldable pub class_at : Place → Read ClassFile
-class_at p = do
+unfoldable pub file_at : Place → Read ClassFile
+file_at p = do
   minor ← head_at p
   pool ← pool_at minor.1
   body_at minor.0 pool.0 pool.1
@@ -273,4 +273,4 @@ class_at p = do
 unfoldable pub class_of : List ℕ → Result ClassFile ClassFault
 class_of bytes = do
   short ← need (nat_le (length bytes) 1048576) (TooLong (length bytes))
-  whole class_at (λ p. Tail p.at) bytes
+  whole file_at (λ p. Tail p.at) bytes

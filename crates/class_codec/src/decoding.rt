@@ -4,7 +4,7 @@ ghost use Rattle.std.specs.Prelude.{◌≡◌, ◌<◌, ◌≤◌, length, Ok, E
 ghost use Rattle.class_codec.specs.declared.fault.ClassFault.TheVariants.{TooLong};
 ghost use Rattle.class_codec.specs.Fits.{SpellsClass};
 ghost use Rattle.mon_base.specs.Answer.{Reads, Answers};
-ghost use Rattle.class_codec.specs.Reading.{head_at, body_at, class_at, class_of};
+ghost use Rattle.class_codec.specs.Reading.{head_at, body_at, file_at, class_of};
 
 use crate::constants::pool;
 use crate::fault::ClassFault;
@@ -65,9 +65,9 @@ fn body(
 }
 
 /// A class file.
-#[tactic(auto, unfolding(crate::specs::Reading::class_at))]
+#[tactic(auto, unfolding(crate::specs::Reading::file_at))]
 fn class_file(alloc: Global, from: &mut Cursor) -> Result<ClassFile, ClassFault>
-    ensures { Reads ClassFault.Memory result (class_at from.old) from.new }
+    ensures { Reads ClassFault.Memory result (file_at from.old) from.new }
 {
     let minor = head(from)?;
     let pool = pool(alloc, from)?;

@@ -12,7 +12,7 @@ use Rattle.conspec_tokens.specs.declared.token.Token.{Token}
 use Rattle.conspec_parse.specs.declared.fault.PolicyFault.{PolicyFault}
 use Rattle.conspec_parse.specs.declared.fault.PolicyFault.TheVariants as faults
 use Rattle.conspec_parse.specs.Fault.{Judged}
-use Rattle.conspec_parse.specs.Forms.{Read, behind, name_at, number_at, taken, repeated, each}
+use Rattle.conspec_parse.specs.Forms.{Parsed, behind, name_at, number_at, taken, repeated, each}
 use Rattle.conspec_tokens.specs.Front.{front_at, quotes, is_next, names, next_name, counts, next_number}
 use Rattle.conspec_parse.specs.Deciding.{is_open}
 
@@ -109,7 +109,7 @@ Stands false p f n = IsNear p f n ⊎ IsInMethod p f n
 -- ---- readings
 
 -- Both readings, behind c tokens, go on behind more; the other does if the tokens are agreed that far.
-pub record GoesOn {X : Type 0} (p : Pair) (quiet : Bool) (c least : ℕ) (a b : Read X) : Type 0 where
+pub record GoesOn {X : Type 0} (p : Pair) (quiet : Bool) (c least : ℕ) (a b : Parsed X) : Type 0 where
   pub value : X
   pub behind : ℕ
   pub left : List Token
@@ -131,7 +131,7 @@ pub record Stops {X : Type 0} (p : Pair) (quiet : Bool) (c : ℕ) (a b : Judged 
   pub is : a ≡ Err fault
   pub same : decided ≤ p.agreed → b ≡ Err fault
 
-abbrev pub Alike : {X : Type 0} → Pair → Bool → ℕ → ℕ → Read X → Read X → Type 0
+abbrev pub Alike : {X : Type 0} → Pair → Bool → ℕ → ℕ → Parsed X → Parsed X → Type 0
 Alike p quiet c least a b = GoesOn p quiet c least a b ⊎ Stops p quiet c a b
 
 near : (quiet : Bool) (p : Pair) (f : PolicyFault) (n : ℕ) → IsNear p f n → Stands quiet p f n
@@ -203,7 +203,7 @@ next_goes_on text (x ∷ t) e = quotes_word text x.lexeme e
 -- ---- the forms
 
 -- Nothing is said of the other where too few tokens are agreed.
-pub unsaid : {X : Type 0} {p : Pair} {quiet : Bool} {c least : ℕ} {a b : Read X} (other : Read X) → p.agreed ≤ c → Alike p quiet c least a b → Alike p quiet c least a other
+pub unsaid : {X : Type 0} {p : Pair} {quiet : Bool} {c least : ℕ} {a b : Parsed X} (other : Parsed X) → p.agreed ≤ c → Alike p quiet c least a b → Alike p quiet c least a other
 unsaid other low (inl on) =
     let further = on.further in
     inl (record {
@@ -231,17 +231,17 @@ unsaid other low (inr stop) =
     })
 
 -- Less is said of it.
-pub loosened : {X : Type 0} {p : Pair} {quiet : Bool} {c least : ℕ} {a b : Read X} → Alike p quiet c least a b → Alike p quiet c c a b
+pub loosened : {X : Type 0} {p : Pair} {quiet : Bool} {c least : ℕ} {a b : Parsed X} → Alike p quiet c least a b → Alike p quiet c c a b
 loosened (inl on) = inl (record { value = on.value; behind = on.behind; left = on.left; rest = on.rest; here = on.here; further = on.further; enough = on.further; no_close = on.no_close; is = on.is; same = on.same })
 loosened (inr stop) = inr stop
 
-pub lessened : {X : Type 0} {p : Pair} {quiet : Bool} {c least more : ℕ} {a b : Read X} → least ≤ more → Alike p quiet c more a b → Alike p quiet c least a b
+pub lessened : {X : Type 0} {p : Pair} {quiet : Bool} {c least more : ℕ} {a b : Parsed X} → least ≤ more → Alike p quiet c more a b → Alike p quiet c least a b
 lessened le (inl on) =
     let enough = on.enough in
     inl (record { value = on.value; behind = on.behind; left = on.left; rest = on.rest; here = on.here; further = on.further; enough = omega arith; no_close = on.no_close; is = on.is; same = on.same })
 lessened le (inr stop) = inr stop
 
-pub noisy : {X : Type 0} {p : Pair} {quiet : Bool} {c least : ℕ} {a b : Read X} → Alike p quiet c least a b → Alike p false c least a b
+pub noisy : {X : Type 0} {p : Pair} {quiet : Bool} {c least : ℕ} {a b : Parsed X} → Alike p quiet c least a b → Alike p false c least a b
 noisy (inl on) = inl (record { value = on.value; behind = on.behind; left = on.left; rest = on.rest; here = on.here; further = on.further; enough = on.enough; no_close = tt; is = on.is; same = on.same })
 noisy {p = p} {quiet = quiet} (inr stop) = inr (record {
   fault = stop.fault;
@@ -254,7 +254,7 @@ noisy {p = p} {quiet = quiet} (inr stop) = inr (record {
 })
 
 -- from fewer tokens on
-pub onward : {X : Type 0} {p : Pair} {quiet : Bool} {c d least : ℕ} {a b : Read X} → c ≤ d → Quiet quiet p c d → Alike p quiet d least a b → Alike p quiet c least a b
+pub onward : {X : Type 0} {p : Pair} {quiet : Bool} {c d least : ℕ} {a b : Parsed X} → c ≤ d → Quiet quiet p c d → Alike p quiet d least a b → Alike p quiet c least a b
 onward {p = p} {quiet = quiet} {c = c} {d = d} le no_close (inl on) =
     let further = on.further in
     inl (record {
@@ -304,7 +304,7 @@ bind_joined (Ok x) f g = refl
 bind_joined (Err e) f g = refl
 
 -- parts of a part
-pub joined : {A B Y : Type 0} {p : Pair} {quiet : Bool} {c least : ℕ} (a b : Judged A) (f g : A → Judged B) (h k : B → Read Y)
+pub joined : {A B Y : Type 0} {p : Pair} {quiet : Bool} {c least : ℕ} (a b : Judged A) (f g : A → Judged B) (h k : B → Parsed Y)
     → Alike p quiet c least (a >>= (λ x. f x >>= h)) (b >>= (λ x. g x >>= k)) → Alike p quiet c least ((a >>= f) >>= h) ((b >>= g) >>= k)
 joined a b f g h k alike = rw (bind_joined a f h, bind_joined b g k) alike
 
@@ -343,7 +343,7 @@ stopped f g stop = record {
   same = λ le. rw (stop.same le) refl;
 }
 
-gone_on : {X Y : Type 0} {p : Pair} {quiet : Bool} {c least : ℕ} {a b : Read X} (f g : X × List Token → Read Y) (on : GoesOn p quiet c least a b)
+gone_on : {X Y : Type 0} {p : Pair} {quiet : Bool} {c least : ℕ} {a b : Parsed X} (f g : X × List Token → Parsed Y) (on : GoesOn p quiet c least a b)
     → Alike p quiet on.behind on.behind (f (on.value, on.left)) (g (on.value, on.rest)) → Alike p quiet c least (a >>= f) (b >>= g)
 gone_on {p = p} {quiet = quiet} {c = c} {b = b} f g on (inl more) =
     let first = on.further in
@@ -376,14 +376,14 @@ gone_on {p = p} {quiet = quiet} {c = c} {b = b} f g on (inr stop) =
     })
 
 -- a part of some tokens, and then the others
-pub then_some : {X Y : Type 0} {p : Pair} {quiet : Bool} {c least : ℕ} {a b : Read X} (f g : X × List Token → Read Y) → Alike p quiet c least a b
+pub then_some : {X Y : Type 0} {p : Pair} {quiet : Bool} {c least : ℕ} {a b : Parsed X} (f g : X × List Token → Parsed Y) → Alike p quiet c least a b
     → ((x : X) (d : ℕ) (t u : List Token) → least ≤ d → Here p d t u → Alike p quiet d d (f (x, t)) (g (x, u)))
     → Alike p quiet c least (a >>= f) (b >>= g)
 then_some f g (inr stop) rest = inr (stopped f g stop)
 then_some f g (inl on) rest = gone_on f g on (rest on.value on.behind on.left on.rest on.enough on.here)
 
 -- a part in which no `)` stands, and then others in which one may
-pub then_open : {X Y : Type 0} {p : Pair} {c least : ℕ} {a b : Read X} (f g : X × List Token → Read Y) → Alike p true c least a b
+pub then_open : {X Y : Type 0} {p : Pair} {c least : ℕ} {a b : Parsed X} (f g : X × List Token → Parsed Y) → Alike p true c least a b
     → ((x : X) (d : ℕ) (t u : List Token) → c ≤ d → least ≤ d → NoClose p c d → Here p d t u → Alike p false d d (f (x, t)) (g (x, u)))
     → Alike p false c least (a >>= f) (b >>= g)
 then_open f g (inr stop) rest = noisy (inr (stopped f g stop))
@@ -392,34 +392,34 @@ then_open f g (inl on) rest =
     (rest on.value on.behind on.left on.rest on.further on.enough on.no_close on.here)
 
 -- a part, and then the others
-pub then : {X Y : Type 0} {p : Pair} {quiet : Bool} {c least : ℕ} {a b : Read X} (f g : X × List Token → Read Y) → Alike p quiet c least a b
+pub then : {X Y : Type 0} {p : Pair} {quiet : Bool} {c least : ℕ} {a b : Parsed X} (f g : X × List Token → Parsed Y) → Alike p quiet c least a b
     → ((x : X) (d : ℕ) (t u : List Token) → least ≤ d → Here p d t u → Alike p quiet d d (f (x, t)) (g (x, u)))
     → Alike p quiet c c (a >>= f) (b >>= g)
 then f g part rest = loosened (then_some f g part rest)
 
 -- a test that both pass or fail, and then the others
-pub tested : {Y : Type 0} {p : Pair} {quiet : Bool} {c least : ℕ} (test : Bool) (a b : PolicyFault) (f g : Unit {0} → Read Y)
+pub tested : {Y : Type 0} {p : Pair} {quiet : Bool} {c least : ℕ} (test : Bool) (a b : PolicyFault) (f g : Unit {0} → Parsed Y)
     → Alike {X = Y} p quiet c least (Err a) (Err b) → (test ≡ true → Alike p quiet c least (f tt) (g tt))
     → Alike p quiet c least (need test a >>= f) (need test b >>= g)
 tested true a b f g fails rest = rest refl
 tested false a b f g fails rest = fails
 
 -- what is found by both, and then the others
-pub given : {V Y : Type 0} {p : Pair} {quiet : Bool} {c least : ℕ} (found : Option V) (a b : PolicyFault) (f g : V → Read Y)
+pub given : {V Y : Type 0} {p : Pair} {quiet : Bool} {c least : ℕ} (found : Option V) (a b : PolicyFault) (f g : V → Parsed Y)
     → Alike {X = Y} p quiet c least (Err a) (Err b) → ((v : V) → found ≡ Some v → Alike p quiet c least (f v) (g v))
     → Alike p quiet c least (ok_or found a >>= f) (ok_or found b >>= g)
 given (Some v) a b f g fails rest = rest v refl
 given None a b f g fails rest = fails
 
 -- what both do by what they see of the next token
-pub peeked : {V Y : Type 0} {p : Pair} {quiet : Bool} {c least : ℕ} {t u : List Token} (see : List Token → V) (f g : V → Read Y) → IsOfFirst see → Here p c t u
+pub peeked : {V Y : Type 0} {p : Pair} {quiet : Bool} {c least : ℕ} {t u : List Token} (see : List Token → V) (f g : V → Parsed Y) → IsOfFirst see → Here p c t u
     → ((v : V) → see t ≡ v → Alike p quiet c least (f v) (g v)) → Alike p quiet c least (f (see t)) (g (see u))
 peeked {V = V} {Y = Y} {p = p} {quiet = quiet} {c = c} {least = least} {t = t} {u = u} see f g first here alike = ⊎_elim
     (λ lt. subst (λ (v : V). Alike p quiet c least (f (see t)) (g v)) (seen_same see first here lt) (alike (see t) refl))
     (λ low. unsaid (g (see u)) low (alike (see t) refl))
     (within c p.agreed)
 
-pub either : {Y : Type 0} {p : Pair} {quiet : Bool} {c least : ℕ} {t u : List Token} (see : List Token → Bool) (a x b y : Read Y) → IsOfFirst see → Here p c t u
+pub either : {Y : Type 0} {p : Pair} {quiet : Bool} {c least : ℕ} {t u : List Token} (see : List Token → Bool) (a x b y : Parsed Y) → IsOfFirst see → Here p c t u
     → (see t ≡ true → Alike p quiet c least a b) → (see t ≡ false → Alike p quiet c least x y) → Alike p quiet c least (cond (see t) a x) (cond (see u) b y)
 either {Y = Y} {p = p} {quiet = quiet} {c = c} {least = least} {t = t} see a x b y first here on_true on_false =
     peeked see (λ v. cond v a x) (λ v. cond v b y) first here by where
@@ -427,7 +427,7 @@ either {Y = Y} {p = p} {quiet = quiet} {c = c} {least = least} {t = t} see a x b
       by true e = on_true e
       by false e = on_false e
 
-pub either_then : {X Y : Type 0} {p : Pair} {quiet : Bool} {c least : ℕ} {t u : List Token} (see : List Token → Bool) (a x b y : Read X) (f g : X × List Token → Read Y)
+pub either_then : {X Y : Type 0} {p : Pair} {quiet : Bool} {c least : ℕ} {t u : List Token} (see : List Token → Bool) (a x b y : Parsed X) (f g : X × List Token → Parsed Y)
     → IsOfFirst see → Here p c t u → (see t ≡ true → Alike p quiet c least (a >>= f) (b >>= g)) → (see t ≡ false → Alike p quiet c least (x >>= f) (y >>= g))
     → Alike p quiet c least (cond (see t) a x >>= f) (cond (see u) b y >>= g)
 either_then {X = X} {Y = Y} {p = p} {quiet = quiet} {c = c} {least = least} {t = t} see a x b y f g first here on_true on_false =
@@ -482,7 +482,7 @@ apart_quiet {t = t} true text apart here e = one_quiet here (no_close_next text 
 apart_quiet false text apart here e = tt
 
 -- a keyword or a sign, and then the others
-pub after : {Y : Type 0} {p : Pair} {quiet : Bool} {c least : ℕ} {t u : List Token} (text : List ℕ) (f g : List Token → Read Y) → IsApart quiet text → Here p c t u
+pub after : {Y : Type 0} {p : Pair} {quiet : Bool} {c least : ℕ} {t u : List Token} (text : List ℕ) (f g : List Token → Parsed Y) → IsApart quiet text → Here p c t u
     → (Here p (c + 1) (drop 1 t) (drop 1 u) → Alike p quiet (c + 1) least (f (drop 1 t)) (g (drop 1 u)))
     → Alike p quiet c least (behind text t >>= f) (behind text u >>= g)
 after {Y = Y} {p = p} {quiet = quiet} {c = c} {least = least} {t = t} {u = u} text f g apart here rest =
@@ -494,7 +494,7 @@ after {Y = Y} {p = p} {quiet = quiet} {c = c} {least = least} {t = t} {u = u} te
       by false e = told faults.Syntax syntax here (omega arith) (none quiet p c (c + 0) (omega arith))
 
 -- what the next token is, and then the others
-pub taking : {V Y : Type 0} {p : Pair} {quiet : Bool} {c least : ℕ} {t u : List Token} (see : List Token → Option V) (f g : V × List Token → Read Y) → IsOfFirst see
+pub taking : {V Y : Type 0} {p : Pair} {quiet : Bool} {c least : ℕ} {t u : List Token} (see : List Token → Option V) (f g : V × List Token → Parsed Y) → IsOfFirst see
     → ((v : V) → see t ≡ Some v → goes_on t ≡ true) → Here p c t u
     → ((v : V) → see t ≡ Some v → Here p (c + 1) (drop 1 t) (drop 1 u) → Alike p quiet c least (f (v, drop 1 t)) (g (v, drop 1 u)))
     → Alike p quiet c least (taken (see t) t >>= f) (taken (see u) u >>= g)
@@ -542,27 +542,27 @@ number_goes_on [] n e = absurd cc
 number_goes_on (x ∷ t) n e = counts_word x.lexeme n e
 
 -- a name that may yet be judged at its own place
-pub naming : {Y : Type 0} {p : Pair} {quiet : Bool} {c least : ℕ} {t u : List Token} (f g : List ℕ × List Token → Read Y) → Here p c t u
+pub naming : {Y : Type 0} {p : Pair} {quiet : Bool} {c least : ℕ} {t u : List Token} (f g : List ℕ × List Token → Parsed Y) → Here p c t u
     → ((name : List ℕ) → Here p (c + 1) (drop 1 t) (drop 1 u) → Alike p quiet c least (f (name, drop 1 t)) (g (name, drop 1 u)))
     → Alike p quiet c least (name_at t >>= f) (name_at u >>= g)
 naming {t = t} f g here rest = taking next_name f g (λ x t u. refl) (name_goes_on t) here (λ name e more. rest name more)
 
 -- a name, and then the others
-pub named : {Y : Type 0} {p : Pair} {quiet : Bool} {c least : ℕ} {t u : List Token} (f g : List ℕ × List Token → Read Y) → Here p c t u
+pub named : {Y : Type 0} {p : Pair} {quiet : Bool} {c least : ℕ} {t u : List Token} (f g : List ℕ × List Token → Parsed Y) → Here p c t u
     → ((name : List ℕ) → Here p (c + 1) (drop 1 t) (drop 1 u) → Alike p quiet (c + 1) least (f (name, drop 1 t)) (g (name, drop 1 u)))
     → Alike p quiet c least (name_at t >>= f) (name_at u >>= g)
 named {quiet = quiet} {t = t} f g here rest = taking next_name f g (λ x t u. refl) (name_goes_on t) here
     (λ name e more. onward (omega arith) (name_quiet quiet name here e) (rest name more))
 
 -- a number, and then the others
-pub numbered : {Y : Type 0} {p : Pair} {c least : ℕ} {t u : List Token} (f g : ℕ × List Token → Read Y) → Here p c t u
+pub numbered : {Y : Type 0} {p : Pair} {c least : ℕ} {t u : List Token} (f g : ℕ × List Token → Parsed Y) → Here p c t u
     → ((n : ℕ) → Here p (c + 1) (drop 1 t) (drop 1 u) → Alike p false (c + 1) least (f (n, drop 1 t)) (g (n, drop 1 u)))
     → Alike p false c least (number_at t >>= f) (number_at u >>= g)
 numbered {t = t} f g here rest = taking next_number f g (λ x t u. refl) (number_goes_on t) here
     (λ n e more. onward (omega arith) tt (rest n more))
 
 -- a name that is known to stand in both
-pub knowing : {Y : Type 0} {p : Pair} {quiet : Bool} {c d least : ℕ} {t u : List Token} (name : List ℕ) (f g : List ℕ × List Token → Read Y) → Here p c t u
+pub knowing : {Y : Type 0} {p : Pair} {quiet : Bool} {c d least : ℕ} {t u : List Token} (name : List ℕ) (f g : List ℕ × List Token → Parsed Y) → Here p c t u
     → next_name t ≡ Some name → c < p.agreed → (Here p (c + 1) (drop 1 t) (drop 1 u) → Alike p quiet d least (f (name, drop 1 t)) (g (name, drop 1 u)))
     → Alike p quiet d least (name_at t >>= f) (name_at u >>= g)
 knowing {t = t} {u = u} name f g here is lt rest =
@@ -570,7 +570,7 @@ knowing {t = t} {u = u} name f g here is lt rest =
     rw (is, other) (rest (next here (name_goes_on t name is)))
 
 -- a number that may yet be judged with what stands before it
-pub numbering : {Y : Type 0} {p : Pair} {quiet : Bool} {c least : ℕ} {t u : List Token} (f g : ℕ × List Token → Read Y) → Here p c t u
+pub numbering : {Y : Type 0} {p : Pair} {quiet : Bool} {c least : ℕ} {t u : List Token} (f g : ℕ × List Token → Parsed Y) → Here p c t u
     → ((n : ℕ) → Here p (c + 1) (drop 1 t) (drop 1 u) → Alike p quiet c least (f (n, drop 1 t)) (g (n, drop 1 u)))
     → Alike p quiet c least (number_at t >>= f) (number_at u >>= g)
 numbering {t = t} f g here rest = taking next_number f g (λ x t u. refl) (number_goes_on t) here (λ n e more. rest n more)
@@ -595,7 +595,7 @@ some_left {p = p} {c = c} {t = t} here =
     let inside = here.inside in
     omega arith
 
-module _ {S : Type 0} {p : Pair} {quiet : Bool} (more : List Token → Bool) (part : S → List Token → Read S) (first : IsOfFirst more)
+module _ {S : Type 0} {p : Pair} {quiet : Bool} (more : List Token → Bool) (part : S → List Token → Parsed S) (first : IsOfFirst more)
     (step : (s : S) (c : ℕ) (t u : List Token) → Here p c t u → more t ≡ true → Alike p quiet c (c + 1) (part s t) (part s u)) where
   abbrev Later : ℕ → Type 0
   Later n = (m : ℕ) (next : S) (d : ℕ) (x y : List Token) → Here p d x y → length x ≤ n → length y ≤ m

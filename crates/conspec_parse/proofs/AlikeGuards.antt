@@ -12,7 +12,7 @@ use Rattle.conspec_tree.specs.declared.types.Update.{Update}
 use Rattle.conspec_tree.specs.declared.types.Update.TheVariants.{Set, Add}
 use Rattle.conspec_tree.specs.declared.types.Var.{Var}
 use Rattle.conspec_parse.specs.declared.fault.PolicyFault.TheVariants.{Syntax, Name, Kind, Range, Twice, Limit}
-use Rattle.conspec_parse.specs.Forms.{Read, number_at}
+use Rattle.conspec_parse.specs.Forms.{Parsed, number_at}
 use Rattle.conspec_tokens.specs.Front.{front_at, is_next, is_name}
 use Rattle.conspec_parse.specs.Head.{header_at, truth_at, count_at, first_at}
 use Rattle.conspec_tree.specs.Variables.{variable_from}
@@ -28,14 +28,14 @@ use Rattle.conspec_parse.proofs.Alike.{Pair, Here, Alike, is_word, goes_on, next
 
 -- ---- constants
 
-truth_alike : {Y : Type 0} {p : Pair} {c least : ℕ} {t u : List Token} (value : ℕ) (truth : Bool) (f g : ℤ × List Token → Read Y) → Here p c t u → goes_on t ≡ true
+truth_alike : {Y : Type 0} {p : Pair} {c least : ℕ} {t u : List Token} (value : ℕ) (truth : Bool) (f g : ℤ × List Token → Parsed Y) → Here p c t u → goes_on t ≡ true
     → ((value : ℤ) (d : ℕ) (x y : List Token) → c + 1 ≤ d → Here p d x y → Alike p false (c + 1) least (f (value, x)) (g (value, y)))
     → Alike p false c least (truth_value value truth t >>= f) (truth_value value truth u >>= g)
 unfolding truth_value
 truth_alike {c = c} value true f g here goes rest = onward (omega arith) tt (rest (pos value) (c + 1) _ _ (omega arith) (next here goes))
 truth_alike value false f g here goes rest = told Kind of_kind here (omega arith) tt
 
-negative_alike : {Y : Type 0} {p : Pair} {c least : ℕ} {t u : List Token} (truth : Bool) (f g : ℤ × List Token → Read Y) → Here p c t u → goes_on t ≡ true
+negative_alike : {Y : Type 0} {p : Pair} {c least : ℕ} {t u : List Token} (truth : Bool) (f g : ℤ × List Token → Parsed Y) → Here p c t u → goes_on t ≡ true
     → ((value : ℤ) (d : ℕ) (x y : List Token) → c + 1 ≤ d → Here p d x y → Alike p false (c + 1) least (f (value, x)) (g (value, y)))
     → Alike p false c least (negative_at truth t >>= f) (negative_at truth u >>= g)
 unfolding negative_at
@@ -48,7 +48,7 @@ negative_alike {c = c} {t = t} {u = u} false f g here goes rest =
     tested (nat_le n 2147483648) _ _ _ _ (told Range of_range here (omega arith) tt) λ ranged.
     rest (neg_ℤ (pos n)) (c + 1 + 1) _ _ (omega arith) more)))
 
-positive_alike : {Y : Type 0} {p : Pair} {c least : ℕ} {t u : List Token} (truth : Bool) (f g : ℤ × List Token → Read Y) → Here p c t u
+positive_alike : {Y : Type 0} {p : Pair} {c least : ℕ} {t u : List Token} (truth : Bool) (f g : ℤ × List Token → Parsed Y) → Here p c t u
     → ((value : ℤ) (d : ℕ) (x y : List Token) → c + 1 ≤ d → Here p d x y → Alike p false (c + 1) least (f (value, x)) (g (value, y)))
     → Alike p false c least (positive_at truth t >>= f) (positive_at truth u >>= g)
 unfolding positive_at
@@ -62,7 +62,7 @@ positive_alike {c = c} {t = t} {u = u} truth f g here rest =
     rest (pos n) (c + 1) _ _ (omega arith) more)))
 
 -- a constant, and then the others, which may yet judge it at its first token
-constant_alike : {Y : Type 0} {p : Pair} {c least : ℕ} {t u : List Token} (truth : Bool) (f g : ℤ × List Token → Read Y) → Here p c t u
+constant_alike : {Y : Type 0} {p : Pair} {c least : ℕ} {t u : List Token} (truth : Bool) (f g : ℤ × List Token → Parsed Y) → Here p c t u
     → ((value : ℤ) (d : ℕ) (x y : List Token) → c + 1 ≤ d → Here p d x y → Alike p false (c + 1) least (f (value, x)) (g (value, y)))
     → Alike p false c least (constant_at truth t >>= f) (constant_at truth u >>= g)
 constant_alike {t = t} truth f g here rest =

@@ -15,7 +15,7 @@ use Rattle.conspec_parse.specs.declared.signature.Signature.{Signature}
 use Rattle.conspec_parse.specs.declared.fault.PolicyFault.{PolicyFault}
 use Rattle.conspec_parse.specs.declared.fault.PolicyFault.TheVariants as faults
 use Rattle.conspec_parse.specs.Fault.{Judged}
-use Rattle.conspec_parse.specs.Forms.{Read, behind}
+use Rattle.conspec_parse.specs.Forms.{Parsed, behind}
 use Rattle.conspec_tokens.specs.Front.{front_at, is_next}
 use Rattle.conspec_parse.specs.Types.{judged_name}
 use Rattle.conspec_parse.specs.Methods.{next_step, path_at, parameters_at, signature_at, desc_of, index_at, method_at}
@@ -30,18 +30,18 @@ use Rattle.conspec_parse.proofs.Loose.{Loosens, is_of_name, signature_loose}
 abbrev Headed : Type 0
 Headed = Path × List Param
 
-abbrev until_close : Bool → List Var → List Token → Read Headed
+abbrev until_close : Bool → List Var → List Token → Parsed Headed
 until_close judged vars tokens =
     path_at judged tokens >>= λ path. behind (codes "(") path.1 >>= λ opened. parameters_at judged vars opened >>= λ params. Ok ((path.0, params.0), params.1)
 
 -- the `)`, and the method
-abbrev closing : Headed × List Token → Read Signature
+abbrev closing : Headed × List Token → Parsed Signature
 closing read = behind (codes ")") read.1 >>= λ closed. Ok (record { path = read.0.0; params = read.0.1 }, closed)
 
 signature_is : (judged : Bool) (vars : List Var) (tokens : List Token) → signature_at judged vars tokens ≡ until_close judged vars tokens >>= closing
 unfolding signature_at
 signature_is judged vars tokens = by_path (path_at judged tokens) where
-  by_params : (path : Path) (read : Read (List Param))
+  by_params : (path : Path) (read : Parsed (List Param))
       → (read >>= λ params. behind (codes ")") params.1 >>= λ closed. Ok (record { path = path; params = params.0 }, closed))
       ≡ ((read >>= λ params. Ok ((path, params.0), params.1)) >>= closing)
   by_params path (Ok read) = refl
@@ -53,7 +53,7 @@ signature_is judged vars tokens = by_path (path_at judged tokens) where
   by_open path (Ok opened) = by_params path (parameters_at judged vars opened)
   by_open path (Err e) = refl
 
-  by_path : (read : Read Path)
+  by_path : (read : Parsed Path)
       → (read >>= λ path. behind (codes "(") path.1 >>= λ opened. parameters_at judged vars opened >>= λ params. behind (codes ")") params.1 >>= λ closed. Ok (record { path = path.0; params = params.0 }, closed))
       ≡ ((read >>= λ path. behind (codes "(") path.1 >>= λ opened. parameters_at judged vars opened >>= λ params. Ok ((path.0, params.0), params.1)) >>= closing)
   by_path (Ok path) = by_open path.0 (behind (codes "(") path.1)
@@ -80,7 +80,7 @@ until_alike judged vars heads =
     ended (path, params) after_it)
 
 -- Both read a method, whose `)` stands behind so many tokens.
-record Closes (p : Pair) (b : ℕ) (one other : Read Signature) : Type 0 where
+record Closes (p : Pair) (b : ℕ) (one other : Parsed Signature) : Type 0 where
   signature : Signature
   close : ℕ
   left : List Token
@@ -92,7 +92,7 @@ record Closes (p : Pair) (b : ℕ) (one other : Read Signature) : Type 0 where
   is : one ≡ Ok (signature, drop 1 left)
   same : close < p.agreed → other ≡ Ok (signature, drop 1 rest)
 
-closes : {p : Pair} {b : ℕ} {one other : Read Headed} → Alike p true b b one other → Closes p b (one >>= closing) (other >>= closing) ⊎ Stops p true b (one >>= closing) (other >>= closing)
+closes : {p : Pair} {b : ℕ} {one other : Parsed Headed} → Alike p true b b one other → Closes p b (one >>= closing) (other >>= closing) ⊎ Stops p true b (one >>= closing) (other >>= closing)
 closes (inr stop) = inr (record {
   fault = stop.fault;
   decided = stop.decided;

@@ -13,7 +13,7 @@ use Rattle.conspec_tree.specs.declared.types.TreeClause.{TreeClause}
 use Rattle.conspec_tree.specs.declared.types.Var.{Var}
 use Rattle.conspec_parse.specs.declared.type_name.TypeName.{TypeName}
 use Rattle.conspec_parse.specs.declared.fault.PolicyFault.TheVariants as faults
-use Rattle.conspec_parse.specs.Forms.{Read, is_short, behind, name_at, each}
+use Rattle.conspec_parse.specs.Forms.{Parsed, is_short, behind, name_at, each}
 use Rattle.conspec_tokens.specs.Front.{front_at, quotes, is_next, next_name, is_name}
 use Rattle.conspec_parse.specs.Head.{begins_variable, first_at, variable_at, variables_at}
 use Rattle.conspec_tree.specs.Variables.{is_variable}
@@ -30,7 +30,7 @@ use Rattle.conspec_parse.proofs.AlikeMethods.{Heads, Unended, method_alike}
 -- ---- variables
 
 -- the variable, whether it is a bool or not
-abbrev rest_of_variable : ℤ → List Var → List Token → Bool → Read (List Var)
+abbrev rest_of_variable : ℤ → List Var → List Token → Bool → Parsed (List Var)
 rest_of_variable maxint vars tokens is_bool = do
   few ← need (nat_lt (length vars) 16) (faults.Limit (front_at tokens))
   name ← name_at (drop 1 tokens)
@@ -159,7 +159,7 @@ known_name {p = p} {c = c} name here is lt judged =
 
 module _ (methods : List ListedMethod) (vars : List Var) (maxint : ℤ) (clauses : List TreeClause) (phase : Phase) (type : TypeName) where
   -- the clause behind the name of the result
-  abbrev from_method : Option (List ℕ) × List Token → Read (List TreeClause)
+  abbrev from_method : Option (List ℕ) × List Token → Parsed (List TreeClause)
   from_method result = do
     method ← method_at methods vars clauses phase type.desc result.1
     performs ← behind (codes "PERFORM") method.1
@@ -167,7 +167,7 @@ module _ (methods : List ListedMethod) (vars : List Var) (maxint : ℤ) (clauses
     Ok (clauses ++ clause_of method.0.0 phase method.0.1 type.kind guards.0 ∷ [], guards.1)
 
   -- what is read behind the type, where the result has a name or not
-  abbrev behind_type : List Token → Bool → Read (List TreeClause)
+  abbrev behind_type : List Token → Bool → Parsed (List TreeClause)
   behind_type tokens has_name = cond has_name (some_result_at vars type.kind tokens) (Ok (None, tokens)) >>= from_method
 
   abbrev is_given : List Token → Bool
@@ -242,7 +242,7 @@ pub phase_goes_on : (t : List Token) (phase : Phase) → next_phase t ≡ Some p
 phase_goes_on [] phase e = absurd cc
 phase_goes_on (x ∷ t) phase e = phase_word x t phase e
 
-abbrev behind_phase : List ListedMethod → List Var → ℤ → List TreeClause → List Token → Option Phase → Read (List TreeClause)
+abbrev behind_phase : List ListedMethod → List Var → ℤ → List TreeClause → List Token → Option Phase → Parsed (List TreeClause)
 behind_phase methods vars maxint clauses tokens found = do
   phase ← ok_or found (faults.Syntax (front_at tokens))
   type ← type_at true (drop 1 tokens)

@@ -13,7 +13,7 @@ use Rattle.conspec_parse.specs.declared.type_name.TypeName.{TypeName}
 use Rattle.conspec_parse.specs.declared.signature.Param.{Param}
 use Rattle.conspec_parse.specs.declared.signature.Parts.{Parts}
 use Rattle.conspec_parse.specs.declared.fault.PolicyFault.TheVariants.{Syntax, Twice, Limit}
-use Rattle.conspec_parse.specs.Forms.{Read, is_short}
+use Rattle.conspec_parse.specs.Forms.{Parsed, is_short}
 use Rattle.conspec_tokens.specs.Front.{is_next, is_name}
 use Rattle.conspec_parse.specs.Types.{judged_name, type_named, plain_type, next_part, class_at, class_type_at, element_of, element_at, dimension_at, array_of, type_at}
 use Rattle.conspec_tree.specs.Kinds.{kind_or_object}
@@ -149,7 +149,7 @@ part_alike {t = t} judged here =
     (λ is. onward (omega arith) (apart_quiet true init refl here is) (ended init (next here (next_goes_on init t is))))
     (λ other. judged_alike judged here)
 
-abbrev part_below : Bool → Parts → List Token → Bool → Read Parts
+abbrev part_below : Bool → Parts → List Token → Bool → Parsed Parts
 part_below judged parts dot last =
     part_at judged dot >>= λ part. Ok (record { class = Some (class_under parts.class parts.name); name = part.0; is_last = last }, part.1)
 

@@ -12,7 +12,7 @@ use Rattle.conspec_parse.specs.declared.type_name.TypeName.{TypeName}
 use Rattle.conspec_parse.specs.declared.fault.PolicyFault.{PolicyFault}
 use Rattle.conspec_parse.specs.declared.fault.PolicyFault.TheVariants as faults
 use Rattle.conspec_parse.specs.Fault.{Judged}
-use Rattle.conspec_parse.specs.Forms.{Read, behind, name_at, number_at, taken, is_short, repeated, each}
+use Rattle.conspec_parse.specs.Forms.{Parsed, behind, name_at, number_at, taken, is_short, repeated, each}
 use Rattle.conspec_tokens.specs.Front.{front_at, is_next, next_name, next_number}
 use Rattle.conspec_parse.specs.Types.{judged_name, plain_type, next_part, class_at, class_type_at, element_of, element_at, dimension_at, type_at}
 use Rattle.conspec_parse.specs.Written.{Element, WrittenType, Written, one_name, element_spelled, brackets_spelled, type_spelled, policy_spelled}
@@ -92,7 +92,7 @@ either false read other on_true on_false = on_false refl
 pub said : {X : Type 0} {s : Source} {read : Judged X} {Part Is : X → Type 0} → Leads s read Part → ((x : X) → Part x → Is x) → Leads s read Is
 said part to = record { of = λ x e. to x (part.of x e); begins = part.begins }
 
-repeated_leads : {S : Type 0} {s : Source} (more : List Token → Bool) (part : S → List Token → Read S) (Is : S → List Token → Type 0)
+repeated_leads : {S : Type 0} {s : Source} (more : List Token → Bool) (part : S → List Token → Parsed S) (Is : S → List Token → Type 0)
     → ((x : S) (tokens : List Token) → more tokens ≡ true → Is x tokens → Leads s (part x tokens) (λ r. Is r.0 r.1))
     → (n : ℕ) (x : S) (tokens : List Token) → Is x tokens → Leads s (repeated more part n x tokens) (λ r. Is r.0 r.1)
 unfolding repeated
@@ -102,7 +102,7 @@ repeated_leads more part Is step (suc n) x tokens is =
     (λ goes. then (λ r. repeated more part n r.0 r.1) (step x tokens goes is) λ r kept. repeated_leads more part Is step n r.0 r.1 kept)
     (λ stops. done (x, tokens) is)
 
-pub each_leads : {S : Type 0} {s : Source} (more : List Token → Bool) (part : S → List Token → Read S) (Is : S → List Token → Type 0)
+pub each_leads : {S : Type 0} {s : Source} (more : List Token → Bool) (part : S → List Token → Parsed S) (Is : S → List Token → Type 0)
     → ((x : S) (tokens : List Token) → more tokens ≡ true → Is x tokens → Leads s (part x tokens) (λ r. Is r.0 r.1))
     → (x : S) (tokens : List Token) → Is x tokens → Leads s (each more part x tokens) (λ r. Is r.0 r.1)
 each_leads more part Is step x tokens is = repeated_leads more part Is step (length tokens) x tokens is

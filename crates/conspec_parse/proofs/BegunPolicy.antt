@@ -20,11 +20,11 @@ use Rattle.conspec_parse.specs.declared.signature.Parts.{Parts}
 use Rattle.conspec_parse.specs.declared.signature.Signature.{Signature}
 use Rattle.conspec_parse.specs.declared.fault.PolicyFault.{PolicyFault}
 use Rattle.conspec_parse.specs.declared.fault.PolicyFault.TheVariants as faults
-use Rattle.conspec_parse.specs.Forms.{Read, is_short}
+use Rattle.conspec_parse.specs.Forms.{Parsed, is_short}
 use Rattle.conspec_tokens.specs.Front.{front_at, is_next, is_name, is_end}
 use Rattle.conspec_parse.specs.Head.{header_at, truth_at, count_at, first_at, begins_variable, variable_at}
 use Rattle.conspec_tree.specs.Variables.{is_variable}
-use Rattle.conspec_parse.specs.Methods.{is_free, given_name_at, parameter_name_at, parameter_at, next_parameter, some_parameters, parameters_at, init, part_at, class_under, next_step, path_at, signature_at, desc_of, index_at, method_of, method_at}
+use Rattle.conspec_parse.specs.Methods.{is_free, given_name_at, parameter_name_at, parameter_at, next_parameter, some_parameters, parameters_at, init, part_at, class_under, next_step, path_at, signature_at, desc_of, index_at, listed_method, method_at}
 use Rattle.conspec_tree.specs.Clauses.{has_clause}
 use Rattle.conspec_parse.specs.Clauses.{next_phase, begins_clause, is_assigned, given_result_at, result_name_at, scope_of, clause_of, clause_at}
 use Rattle.conspec_tree.specs.Clauses.{is_after}
@@ -241,7 +241,7 @@ module _ (s : Source) (Next : List Lexeme → Type 0) (tail : List Lexeme) (vars
     known : Leads s (signature_at true vars t) (λ r. IsSignatureAt s Next r.1 × (signature_at true vars t ≡ Ok r))
     known = let leads = signature_leads at in record { of = λ r e. (leads.of r e, e); begins = leads.begins }
 
-    by : (loose : Read Signature) → signature_at false vars t ≡ loose → Leads s (method_of methods vars clauses phase result t loose) (λ r. IsSignatureAt s Next r.1)
+    by : (loose : Parsed Signature) → signature_at false vars t ≡ loose → Leads s (listed_method methods vars clauses phase result t loose) (λ r. IsSignatureAt s Next r.1)
     by (Ok read) e =
         then _ (index_leads methods clauses phase (front_at t) read.0 (desc_of read.0.params result)) λ method any.
         then _ known λ judged is.

@@ -17,7 +17,7 @@ use Rattle.conspec_tree.specs.declared.types.Var.{Var}
 use Rattle.conspec_parse.specs.declared.fault.PolicyFault.{PolicyFault}
 use Rattle.conspec_parse.specs.declared.fault.PolicyFault.TheVariants as faults
 use Rattle.conspec_parse.specs.Fault.{Judged}
-use Rattle.conspec_parse.specs.Forms.{Read, each}
+use Rattle.conspec_parse.specs.Forms.{Parsed, each}
 use Rattle.conspec_tokens.specs.Front.{front_at, is_end}
 use Rattle.conspec_parse.specs.Head.{header_at, variables_at}
 use Rattle.conspec_parse.specs.Clauses.{begins_clause, clause_at}
@@ -98,7 +98,7 @@ further {tokens = tokens} are i j lt inside =
 abbrev Whole : Type 0
 Whole = (ℤ × List Var) × List TreeClause
 
-abbrev until_end : List ListedMethod → List Token → Read Whole
+abbrev until_end : List ListedMethod → List Token → Parsed Whole
 until_end methods tokens =
     header_at tokens >>= λ maxint. variables_at maxint.0 maxint.1 >>= λ vars. each begins_clause (clause_at methods vars.0 maxint.0) [] vars.1
     >>= λ clauses. Ok (((maxint.0, vars.0), clauses.0), clauses.1)
@@ -109,20 +109,20 @@ at_end read = need (is_end read.1) (faults.Syntax (front_at read.1)) >>= λ ende
 policy_is : (methods : List ListedMethod) (tokens : List Token) → policy_at methods tokens ≡ until_end methods tokens >>= at_end
 unfolding policy_at
 policy_is methods tokens = by_head (header_at tokens) where
-  by_clauses : (maxint : ℤ) (vars : List Var) (read : Read (List TreeClause))
+  by_clauses : (maxint : ℤ) (vars : List Var) (read : Parsed (List TreeClause))
       → (read >>= λ clauses. need (is_end clauses.1) (faults.Syntax (front_at clauses.1)) >>= λ ended. Ok (record { maxint = maxint; vars = vars; clauses = clauses.0 }))
       ≡ ((read >>= λ clauses. Ok (((maxint, vars), clauses.0), clauses.1)) >>= at_end)
   by_clauses maxint vars (Ok read) = refl
   by_clauses maxint vars (Err e) = refl
 
-  by_vars : (maxint : ℤ) (read : Read (List Var))
+  by_vars : (maxint : ℤ) (read : Parsed (List Var))
       → (read >>= λ vars. each begins_clause (clause_at methods vars.0 maxint) [] vars.1
       >>= λ clauses. need (is_end clauses.1) (faults.Syntax (front_at clauses.1)) >>= λ ended. Ok (record { maxint = maxint; vars = vars.0; clauses = clauses.0 }))
       ≡ ((read >>= λ vars. each begins_clause (clause_at methods vars.0 maxint) [] vars.1 >>= λ clauses. Ok (((maxint, vars.0), clauses.0), clauses.1)) >>= at_end)
   by_vars maxint (Ok read) = by_clauses maxint read.0 (each begins_clause (clause_at methods read.0 maxint) [] read.1)
   by_vars maxint (Err e) = refl
 
-  by_head : (read : Read ℤ)
+  by_head : (read : Parsed ℤ)
       → (read >>= λ maxint. variables_at maxint.0 maxint.1 >>= λ vars. each begins_clause (clause_at methods vars.0 maxint.0) [] vars.1
       >>= λ clauses. need (is_end clauses.1) (faults.Syntax (front_at clauses.1)) >>= λ ended. Ok (record { maxint = maxint.0; vars = vars.0; clauses = clauses.0 }))
       ≡ ((read >>= λ maxint. variables_at maxint.0 maxint.1 >>= λ vars. each begins_clause (clause_at methods vars.0 maxint.0) [] vars.1
@@ -146,7 +146,7 @@ record IsDecided (p : Pair) (fault : PolicyFault) (other : Judged PolicyTree) : 
 read_is_none : (tree : PolicyTree) (fault : PolicyFault) → Ok tree ≡ Err fault → ⊥
 read_is_none tree fault e = cc
 
-end_decided : {p : Pair} {c : ℕ} {one other : Read Whole} (fault : PolicyFault) → Alike p false c c one other → one >>= at_end ≡ Err fault → IsDecided p fault (other >>= at_end)
+end_decided : {p : Pair} {c : ℕ} {one other : Parsed Whole} (fault : PolicyFault) → Alike p false c c one other → one >>= at_end ≡ Err fault → IsDecided p fault (other >>= at_end)
 end_decided {p = p} {one = one} {other = other} fault (inr stop) fails =
     let here : one >>= at_end ≡ Err stop.fault = rw stop.is refl in
     let both : Err stop.fault ≡ Err fault = sym here ∙ fails in

@@ -21,9 +21,9 @@ use Rattle.conspec_parse.specs.declared.signature.Path.{Path}
 use Rattle.conspec_parse.specs.declared.signature.Parts.{Parts}
 use Rattle.conspec_parse.specs.declared.signature.Signature.{Signature}
 use Rattle.conspec_parse.specs.declared.fault.PolicyFault.TheVariants.{Syntax, NoMethod, Twice, Builtin}
-use Rattle.conspec_parse.specs.Forms.{Read, is_short}
+use Rattle.conspec_parse.specs.Forms.{Parsed, is_short}
 use Rattle.conspec_tokens.specs.Front.{front_at, is_next}
-use Rattle.conspec_parse.specs.Methods.{init, part_at, class_under, next_step, path_at, signature_at, desc_of, index_at, method_of, method_at}
+use Rattle.conspec_parse.specs.Methods.{init, part_at, class_under, next_step, path_at, signature_at, desc_of, index_at, listed_method, method_at}
 use Rattle.conspec_tree.specs.Clauses.{has_clause}
 use Rattle.conspec_parse.specs.Written.{WrittenParam, MethodName, dotted, method_spelled, path_spelled, signature_spelled}
 use Rattle.conspec_parse.specs.Written.MethodName.{Constructor, Plain}
@@ -205,7 +205,7 @@ index_found methods clauses phase at signature desc =
     tested (not (has_clause clauses phase method)) (Twice at) _ λ once.
     done method (record { listed = found; client = is_not _ client; narrow = leb-true _ _ narrow; once = is_not _ once })
 
-ok_same : {X : Type 0} (x y : X) (read : Read X) (a b : List Token) → read ≡ Ok (x, a) → read ≡ Ok (y, b) → x ≡ y
+ok_same : {X : Type 0} (x y : X) (read : Parsed X) (a b : List Token) → read ≡ Ok (x, a) → read ≡ Ok (y, b) → x ≡ y
 ok_same {X = X} x y read a b p q = ap (λ (r : X × List Token). r.0) (ok_is PolicyFault (x, a) (y, b) (sym p ∙ q))
 
 listed_from : (methods : List ListedMethod) (vars : List Var) (clauses : List TreeClause) (phase : Phase) (result : List ℕ) (written : WrittenSignature) (signature : Signature) (method : ℕ)
@@ -234,8 +234,8 @@ listed_from methods vars clauses phase result written signature method s i =
 pub method_found : (methods : List ListedMethod) (vars : List Var) (clauses : List TreeClause) (phase : Phase) (result : List ℕ) (tokens : List Token)
     → Makes (method_at methods vars clauses phase result tokens) (Found spelled (IsListed methods vars clauses phase result) tokens)
 method_found methods vars clauses phase result tokens = by (signature_at false vars tokens) refl where
-  by : (loose : Read Signature) → signature_at false vars tokens ≡ loose
-      → Makes (method_of methods vars clauses phase result tokens loose) (Found spelled (IsListed methods vars clauses phase result) tokens)
+  by : (loose : Parsed Signature) → signature_at false vars tokens ≡ loose
+      → Makes (listed_method methods vars clauses phase result tokens loose) (Found spelled (IsListed methods vars clauses phase result) tokens)
   by (Ok read) e =
       then _ (index_found methods clauses phase (front_at tokens) read.0 (desc_of read.0.params result)) λ method is.
       then _ (both_found vars tokens) λ judged two.

@@ -10,14 +10,14 @@ use Rattle.conspec_tokens.specs.declared.token.Lexeme.TheVariants.{Quoted, Name,
 use Rattle.conspec_tokens.specs.declared.token.Token.{Token}
 use Rattle.conspec_parse.specs.declared.fault.PolicyFault.{PolicyFault}
 use Rattle.conspec_parse.specs.Fault.{Judged}
-use Rattle.conspec_parse.specs.Forms.{Read, behind, taken, name_at, number_at, repeated, each}
+use Rattle.conspec_parse.specs.Forms.{Parsed, behind, taken, name_at, number_at, repeated, each}
 use Rattle.conspec_tokens.specs.Front.{quotes, is_next, names, next_name, is_name, counts, next_number}
 use Rattle.conspec_parse.specs.Meaning.{lexemes}
 
 -- ---- readings
 
 -- The reading gives x, and tokens of these words are left.
-pub record Got {X : Type 0} (read : Read X) (x : X) (words : List Lexeme) : Type 0 where
+pub record Got {X : Type 0} (read : Parsed X) (x : X) (words : List Lexeme) : Type 0 where
   pub rest : List Token
   pub is : read ≡ Ok (x, rest)
   pub left : lexemes rest ≡ words
@@ -34,32 +34,32 @@ ended x rest left = record { rest = rest; is = refl; left = left }
 pub ended_as : {X : Type 0} {words : List Lexeme} (x y : X) (rest : List Token) → x ≡ y → lexemes rest ≡ words → Got (Ok (x, rest)) y words
 ended_as x y rest same left = record { rest = rest; is = ap (λ z. Ok (z, rest)) same; left = left }
 
-pub gets : {X Y : Type 0} {read : Read X} {x : X} {words more : List Lexeme} {y : Y} (others : X × List Token → Read Y)
+pub gets : {X Y : Type 0} {read : Parsed X} {x : X} {words more : List Lexeme} {y : Y} (others : X × List Token → Parsed Y)
     → Got read x words → ((rest : List Token) → lexemes rest ≡ words → Got (others (x, rest)) y more) → Got (read >>= others) y more
 gets others first next =
     let n = next first.rest first.left in
     let is = first.is in
     record { rest = n.rest; is = rw is n.is; left = n.left }
 
-pub passes : {Y : Type 0} {read : Judged (List Token)} {words more : List Lexeme} {y : Y} (others : List Token → Read Y)
+pub passes : {Y : Type 0} {read : Judged (List Token)} {words more : List Lexeme} {y : Y} (others : List Token → Parsed Y)
     → Left read words → ((rest : List Token) → lexemes rest ≡ words → Got (others rest) y more) → Got (read >>= others) y more
 passes others first next =
     let n = next first.rest first.left in
     let is = first.is in
     record { rest = n.rest; is = rw is n.is; left = n.left }
 
-pub holds : {Y : Type 0} {more : List Lexeme} {y : Y} (test : Bool) (fault : PolicyFault) (others : Unit {0} → Read Y)
+pub holds : {Y : Type 0} {more : List Lexeme} {y : Y} (test : Bool) (fault : PolicyFault) (others : Unit {0} → Parsed Y)
     → test ≡ true → Got (others tt) y more → Got (need test fault >>= others) y more
 holds test fault others is next = record { rest = next.rest; is = rw is next.is; left = next.left }
 
-pub there : {X Y : Type 0} {more : List Lexeme} {y : Y} (found : Option X) (x : X) (fault : PolicyFault) (others : X → Read Y)
+pub there : {X Y : Type 0} {more : List Lexeme} {y : Y} (found : Option X) (x : X) (fault : PolicyFault) (others : X → Parsed Y)
     → found ≡ Some x → Got (others x) y more → Got (ok_or found fault >>= others) y more
 there found x fault others is next = record { rest = next.rest; is = rw is next.is; left = next.left }
 
-pub on_true : {Y : Type 0} {more : List Lexeme} {y : Y} (test : Bool) (read other : Read Y) → test ≡ true → Got read y more → Got (cond test read other) y more
+pub on_true : {Y : Type 0} {more : List Lexeme} {y : Y} (test : Bool) (read other : Parsed Y) → test ≡ true → Got read y more → Got (cond test read other) y more
 on_true test read other is got = record { rest = got.rest; is = rw is got.is; left = got.left }
 
-pub on_false : {Y : Type 0} {more : List Lexeme} {y : Y} (test : Bool) (read other : Read Y) → test ≡ false → Got other y more → Got (cond test read other) y more
+pub on_false : {Y : Type 0} {more : List Lexeme} {y : Y} (test : Bool) (read other : Parsed Y) → test ≡ false → Got other y more → Got (cond test read other) y more
 on_false test read other is got = record { rest = got.rest; is = rw is got.is; left = got.left }
 
 -- ---- words
@@ -134,7 +134,7 @@ abbrev pub Stops : (List Token → Bool) → List Lexeme → Type 0
 Stops more words = (tokens : List Token) → lexemes tokens ≡ words → more tokens ≡ false
 
 -- the laws of a part that is repeated
-pub record Parts {S W : Type 0} (more : List Token → Bool) (part : S → List Token → Read S) (spell : W → List Lexeme) (Follows : List Lexeme → Type 0) (Goes : S → W → S → Type 0) : Type 0 where
+pub record Parts {S W : Type 0} (more : List Token → Bool) (part : S → List Token → Parsed S) (spell : W → List Lexeme) (Follows : List Lexeme → Type 0) (Goes : S → W → S → Type 0) : Type 0 where
   pub begins : (w : W) (words : List Lexeme) (tokens : List Token) → lexemes tokens ≡ spell w ++ words → more tokens ≡ true
   pub leads : (w : W) (words : List Lexeme) → Follows (spell w ++ words)
   pub long : (w : W) → 1 ≤ length (spell w)
@@ -145,7 +145,7 @@ follows : {W : Type 0} (spell : W → List Lexeme) (Follows : List Lexeme → Ty
 follows spell Follows leads [] words last = last
 follows spell Follows leads (w ∷ ws) words last = subst Follows (sym (append_assoc (spell w) (flat_map spell ws) words)) (leads w (flat_map spell ws ++ words))
 
-repeated_again : {S W : Type 0} (more : List Token → Bool) (part : S → List Token → Read S) (spell : W → List Lexeme) (Follows : List Lexeme → Type 0) (Goes : S → W → S → Type 0)
+repeated_again : {S W : Type 0} (more : List Token → Bool) (part : S → List Token → Parsed S) (spell : W → List Lexeme) (Follows : List Lexeme → Type 0) (Goes : S → W → S → Type 0)
     → Parts more part spell Follows Goes → (ws : List W) (n : ℕ) (s end : S) (tokens : List Token) (words : List Lexeme) → length ws ≤ n → Path Goes s ws end
     → lexemes tokens ≡ flat_map spell ws ++ words → Follows words → Stops more words → Got (repeated more part n s tokens) end words
 unfolding repeated
@@ -168,7 +168,7 @@ many spell long (w ∷ ws) =
     let both = length-append (spell w) (flat_map spell ws) in
     omega arith
 
-pub each_again : {S W : Type 0} (more : List Token → Bool) (part : S → List Token → Read S) (spell : W → List Lexeme) (Follows : List Lexeme → Type 0) (Goes : S → W → S → Type 0)
+pub each_again : {S W : Type 0} (more : List Token → Bool) (part : S → List Token → Parsed S) (spell : W → List Lexeme) (Follows : List Lexeme → Type 0) (Goes : S → W → S → Type 0)
     → Parts more part spell Follows Goes → (ws : List W) (s end : S) (tokens : List Token) (words : List Lexeme) → Path Goes s ws end
     → lexemes tokens ≡ flat_map spell ws ++ words → Follows words → Stops more words → Got (each more part s tokens) end words
 each_again more part spell Follows Goes laws ws s end tokens words path e last stops =

@@ -10,7 +10,7 @@ use Rattle.conspec_parse.specs.declared.signature.Parts.{Parts}
 use Rattle.conspec_parse.specs.declared.fault.PolicyFault.{PolicyFault}
 use Rattle.conspec_parse.specs.declared.fault.PolicyFault.TheVariants.{Syntax, Twice, Limit}
 use Rattle.conspec_parse.specs.Fault.{Judged}
-use Rattle.conspec_parse.specs.Forms.{Read, behind, name_at, is_short, repeated, each}
+use Rattle.conspec_parse.specs.Forms.{Parsed, behind, name_at, is_short, repeated, each}
 use Rattle.conspec_tokens.specs.Front.{front_at, is_next, is_name}
 use Rattle.conspec_parse.specs.Types.{judged_name, plain_type, next_part, class_at, class_type_at, element_of, element_at, dimension_at, type_at}
 use Rattle.conspec_parse.specs.Methods.{is_free, given_name_at, parameter_name_at, parameter_at, next_parameter, some_parameters, parameters_at, init, part_at, next_step, path_at, signature_at}
@@ -58,7 +58,7 @@ either : {Y : Type 0} (test : Bool) (a x b y : Judged Y) → Loosens a b → Loo
 either true a x b y on_true on_false = on_true
 either false a x b y on_true on_false = on_false
 
-repeated_loose : {S : Type 0} (more : List Token → Bool) (strict loose : S → List Token → Read S) → ((s : S) (tokens : List Token) → Loosens (strict s tokens) (loose s tokens))
+repeated_loose : {S : Type 0} (more : List Token → Bool) (strict loose : S → List Token → Parsed S) → ((s : S) (tokens : List Token) → Loosens (strict s tokens) (loose s tokens))
     → (n : ℕ) (s : S) (tokens : List Token) → Loosens (repeated more strict n s tokens) (repeated more loose n s tokens)
 unfolding repeated
 repeated_loose more strict loose step zero s tokens = same _

@@ -8,7 +8,7 @@ use Rattle.conspec_parse.specs.declared.fault.PolicyFault.{PolicyFault}
 use Rattle.mon_base.specs.Answer.{Answers}
 use Rattle.conspec_parse.specs.declared.fault.PolicyFault.TheVariants as faults
 use Rattle.conspec_parse.specs.Fault.{Judged}
-use Rattle.conspec_parse.specs.Forms.{Read, repeated, each, taken}
+use Rattle.conspec_parse.specs.Forms.{Parsed, repeated, each, taken}
 
 -- What is read, if anything, is so.
 pub record Makes {X : Type 0} (read : Judged X) (Is : X → Type 0) : Type 0 where
@@ -60,7 +60,7 @@ pub said : {X : Type 0} {read : Judged X} {Part Is : X → Type 0} → Makes rea
 said part to = record { of = λ x e. to x (part.of x e) }
 
 -- What each part keeps is so of all of them.
-pub repeated_makes : {S : Type 0} (more : List Token → Bool) (part : S → List Token → Read S) (Is : S → List Token → Type 0)
+pub repeated_makes : {S : Type 0} (more : List Token → Bool) (part : S → List Token → Parsed S) (Is : S → List Token → Type 0)
     → ((s : S) (tokens : List Token) → more tokens ≡ true → Is s tokens → Makes (part s tokens) (λ r. Is r.0 r.1))
     → (n : ℕ) (s : S) (tokens : List Token) → Is s tokens → Makes (repeated more part n s tokens) (λ r. Is r.0 r.1)
 unfolding repeated
@@ -70,7 +70,7 @@ repeated_makes more part Is step (suc n) s tokens is =
     (λ goes. then (λ r. repeated more part n r.0 r.1) (step s tokens goes is) λ r kept. repeated_makes more part Is step n r.0 r.1 kept)
     (λ stops. done (s, tokens) is)
 
-pub each_makes : {S : Type 0} (more : List Token → Bool) (part : S → List Token → Read S) (Is : S → List Token → Type 0)
+pub each_makes : {S : Type 0} (more : List Token → Bool) (part : S → List Token → Parsed S) (Is : S → List Token → Type 0)
     → ((s : S) (tokens : List Token) → more tokens ≡ true → Is s tokens → Makes (part s tokens) (λ r. Is r.0 r.1))
     → (s : S) (tokens : List Token) → Is s tokens → Makes (each more part s tokens) (λ r. Is r.0 r.1)
 each_makes more part Is step s tokens is = repeated_makes more part Is step (length tokens) s tokens is

@@ -19,7 +19,7 @@ use Rattle.conspec_tree.specs.declared.types.Var.{Var}
 use Rattle.conspec_parse.specs.declared.signature.Param.{Param}
 use Rattle.conspec_parse.specs.declared.signature.Signature.{Signature}
 use Rattle.conspec_parse.specs.declared.fault.PolicyFault.TheVariants.{Syntax, Kind as WrongKind, NoMethod, Twice, Limit, Builtin}
-use Rattle.conspec_parse.specs.Forms.{Read, is_short, name_at, behind}
+use Rattle.conspec_parse.specs.Forms.{Parsed, is_short, name_at, behind}
 use Rattle.conspec_tokens.specs.Front.{front_at, is_next, is_end}
 use Rattle.conspec_tree.specs.Variables.{is_variable}
 use Rattle.conspec_parse.specs.Types.{type_at}
@@ -29,7 +29,7 @@ use Rattle.conspec_parse.specs.Scope.{Scope}
 use Rattle.conspec_tree.specs.Updates.{all_range_atoms}
 use Rattle.conspec_tree.specs.Kinds.{kind_or_object}
 use Rattle.conspec_tree.specs.Clauses.{phase_number, has_clause}
-use Rattle.conspec_parse.specs.Methods.{desc_of, index_at, method_of, method_at, signature_at}
+use Rattle.conspec_parse.specs.Methods.{desc_of, index_at, listed_method, method_at, signature_at}
 use Rattle.conspec_tree.specs.Guards.{branches, longest_from, longest}
 use Rattle.conspec_parse.specs.Clauses.{begins_guard, guard_at, last_guard, body_at, next_phase, begins_clause, is_assigned, given_result_at, result_name_at, scope_of, clause_of, clause_at}
 use Rattle.conspec_tree.specs.Clauses.{is_after}
@@ -142,7 +142,7 @@ index_sound methods clauses phase at signature desc =
 method_sound : (methods : List ListedMethod) (vars : List Var) (clauses : List TreeClause) (phase : Phase) (result : List ℕ) (tokens : List Token)
     → Makes (method_at methods vars clauses phase result tokens) (λ r. IsMethodOf methods clauses phase r.0.0 r.0.1)
 method_sound methods vars clauses phase result tokens = by (signature_at false vars tokens) where
-  by : (read : Read Signature) → Makes (method_of methods vars clauses phase result tokens read) (λ r. IsMethodOf methods clauses phase r.0.0 r.0.1)
+  by : (read : Parsed Signature) → Makes (listed_method methods vars clauses phase result tokens read) (λ r. IsMethodOf methods clauses phase r.0.0 r.0.1)
   by (Ok read) =
       then _ (index_sound methods clauses phase (front_at tokens) read.0 (desc_of read.0.params result)) λ method is.
       then _ (any (signature_at true vars tokens)) λ judged a.

@@ -11,7 +11,7 @@ use Rattle.conspec_tree.specs.declared.types.Guard.{Guard}
 use Rattle.conspec_tree.specs.declared.types.TreeClause.{TreeClause}
 use Rattle.conspec_parse.specs.declared.signature.Param.{Param}
 use Rattle.conspec_parse.specs.declared.fault.PolicyFault.TheVariants.{Syntax, Kind as WrongKind, Twice, Limit}
-use Rattle.conspec_parse.specs.Forms.{Read, behind, name_at, is_short, each}
+use Rattle.conspec_parse.specs.Forms.{Parsed, behind, name_at, is_short, each}
 use Rattle.conspec_tokens.specs.Front.{front_at, is_next, is_name}
 use Rattle.conspec_tree.specs.Clauses.{is_after}
 use Rattle.conspec_tree.specs.Guards.{branches, longest}
@@ -29,7 +29,7 @@ abbrev pub begins_guard : List Token → Bool
 begins_guard tokens = is_next (codes "true") tokens || is_name tokens
 
 -- a guard more
-unfoldable pub guard_at : Scope → ℤ → List Guard → List Token → Read (List Guard)
+unfoldable pub guard_at : Scope → ℤ → List Guard → List Token → Parsed (List Guard)
 guard_at scope maxint guards tokens = do
   conjs ← conjs_at scope (branches guards) tokens
   arrow ← behind (codes "->") conjs.1
@@ -37,17 +37,17 @@ guard_at scope maxint guards tokens = do
   Ok (guards ++ (record { conjs = conjs.0; updates = updates.0 }) ∷ [], updates.1)
 
 -- the guard that always holds, as the last
-unfoldable pub last_guard : Scope → ℤ → List Guard → List Token → Read (List Guard)
+unfoldable pub last_guard : Scope → ℤ → List Guard → List Token → Parsed (List Guard)
 last_guard scope maxint guards tokens = do
   few ← need (nat_lt (branches guards) 64) (Limit (front_at tokens))
   arrow ← behind (codes "->") (drop 1 tokens)
   updates ← block_at scope.vars maxint 0 arrow
   Ok (guards ++ (record { conjs = [] ∷ []; updates = updates.0 }) ∷ [], updates.1)
 
-abbrev pub with_else : Scope → ℤ → List Guard → List Token → Read (List Guard)
+abbrev pub with_else : Scope → ℤ → List Guard → List Token → Parsed (List Guard)
 with_else scope maxint guards tokens = if is_next (codes "ELSE") tokens then last_guard scope maxint guards tokens else Ok (guards, tokens)
 
-unfoldable pub body_at : Scope → ℤ → List Token → Read (List Guard)
+unfoldable pub body_at : Scope → ℤ → List Token → Parsed (List Guard)
 body_at scope maxint tokens = do
   guards ← each begins_guard (guard_at scope maxint) [] tokens
   with_else scope maxint guards.0 guards.1
@@ -69,7 +69,7 @@ abbrev pub is_assigned : List Token → Bool
 is_assigned tokens = is_name tokens && is_next (codes "=") (drop 1 tokens)
 
 -- the name of a result of this kind
-unfoldable pub given_result_at : List Var → Option Kind → List Token → Read (List ℕ)
+unfoldable pub given_result_at : List Var → Option Kind → List Token → Parsed (List ℕ)
 given_result_at vars kind tokens = do
   name ← name_at tokens
   valued ← need (is_some kind) (WrongKind (front_at tokens))
@@ -78,11 +78,11 @@ given_result_at vars kind tokens = do
   equals ← behind (codes "=") name.1
   Ok (name.0, equals)
 
-abbrev pub some_result_at : List Var → Option Kind → List Token → Read (Option (List ℕ))
+abbrev pub some_result_at : List Var → Option Kind → List Token → Parsed (Option (List ℕ))
 some_result_at vars kind tokens = given_result_at vars kind tokens >>= λ name. Ok (Some name.0, name.1)
 
 -- the result's name, where it has one
-abbrev pub result_name_at : List Var → Phase → Option Kind → List Token → Read (Option (List ℕ))
+abbrev pub result_name_at : List Var → Phase → Option Kind → List Token → Parsed (Option (List ℕ))
 result_name_at vars phase kind tokens =
     if is_after phase && is_assigned tokens then some_result_at vars kind tokens else Ok (None, tokens)
 
@@ -104,7 +104,7 @@ clause_of method phase params kind guards = record {
 }
 
 -- another of at most 64 clauses
-unfoldable pub clause_at : List ListedMethod → List Var → ℤ → List TreeClause → List Token → Read (List TreeClause)
+unfoldable pub clause_at : List ListedMethod → List Var → ℤ → List TreeClause → List Token → Parsed (List TreeClause)
 clause_at methods vars maxint clauses tokens = do
   few ← need (nat_lt (length clauses) 64) (Limit (front_at tokens))
   phase ← ok_or (next_phase tokens) (Syntax (front_at tokens))

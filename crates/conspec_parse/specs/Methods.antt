@@ -15,7 +15,7 @@ use Rattle.conspec_parse.specs.declared.signature.Parts.{Parts}
 use Rattle.conspec_parse.specs.declared.signature.Signature.{Signature}
 use Rattle.conspec_parse.specs.declared.fault.PolicyFault.TheVariants.{Syntax, NoMethod, Twice, Limit, Builtin}
 use Rattle.conspec_parse.specs.Fault.{Judged}
-use Rattle.conspec_parse.specs.Forms.{Read, behind, name_at, is_short, each}
+use Rattle.conspec_parse.specs.Forms.{Parsed, behind, name_at, is_short, each}
 use Rattle.conspec_tokens.specs.Front.{front_at, is_next, is_name}
 use Rattle.conspec_tree.specs.Clauses.{has_clause}
 use Rattle.conspec_tree.specs.Kinds.{kind_or_object}
@@ -36,39 +36,39 @@ is_parameter (p ∷ params) name = is_named p.name name || is_parameter params n
 abbrev pub is_free : List Var → List Param → List ℕ → Bool
 is_free vars params name = not (is_variable vars name || is_parameter params name)
 
-unfoldable pub given_name_at : Bool → List Var → List Param → List Token → Read (List ℕ)
+unfoldable pub given_name_at : Bool → List Var → List Param → List Token → Parsed (List ℕ)
 given_name_at judged vars params tokens = do
   name ← name_at tokens
   once ← need (not judged || is_free vars params name.0) (Twice (front_at tokens))
   short ← need (not judged || is_short name.0) (Limit (front_at tokens))
   Ok name
 
-abbrev pub given_parameter_at : Bool → List Var → List Param → List Token → Read (Option (List ℕ))
+abbrev pub given_parameter_at : Bool → List Var → List Param → List Token → Parsed (Option (List ℕ))
 given_parameter_at judged vars params tokens = given_name_at judged vars params tokens >>= λ name. Ok (Some name.0, name.1)
 
 -- a parameter's name, where it has one
-abbrev pub parameter_name_at : Bool → List Var → List Param → List Token → Read (Option (List ℕ))
+abbrev pub parameter_name_at : Bool → List Var → List Param → List Token → Parsed (Option (List ℕ))
 parameter_name_at judged vars params tokens =
     if is_name tokens then given_parameter_at judged vars params tokens else Ok (None, tokens)
 
 -- a parameter more
-unfoldable pub parameter_at : Bool → List Var → List Param → List Token → Read (List Param)
+unfoldable pub parameter_at : Bool → List Var → List Param → List Token → Parsed (List Param)
 parameter_at judged vars params tokens = do
   type ← type_at judged tokens
   name ← parameter_name_at judged vars params type.1
   Ok (params ++ (record { name = name.0; desc = type.0.desc; kind = kind_or_object type.0.kind }) ∷ [], name.1)
 
-unfoldable pub next_parameter : Bool → List Var → List Param → List Token → Read (List Param)
+unfoldable pub next_parameter : Bool → List Var → List Param → List Token → Parsed (List Param)
 next_parameter judged vars params tokens = do
   comma ← behind (codes ",") tokens
   parameter_at judged vars params comma
 
-unfoldable pub some_parameters : Bool → List Var → List Token → Read (List Param)
+unfoldable pub some_parameters : Bool → List Var → List Token → Parsed (List Param)
 some_parameters judged vars tokens = do
   first ← parameter_at judged vars [] tokens
   each (is_next (codes ",")) (next_parameter judged vars) first.0 first.1
 
-abbrev pub parameters_at : Bool → List Var → List Token → Read (List Param)
+abbrev pub parameters_at : Bool → List Var → List Token → Parsed (List Param)
 parameters_at judged vars tokens = if is_next (codes ")") tokens then Ok ([], tokens) else some_parameters judged vars tokens
 
 -- ---- the class and the name
@@ -77,7 +77,7 @@ abbrev pub init : List ℕ
 init = codes "<init>"
 
 -- the name of a class's part or of a method
-abbrev pub part_at : Bool → List Token → Read (List ℕ)
+abbrev pub part_at : Bool → List Token → Parsed (List ℕ)
 part_at judged tokens = if is_next init tokens then Ok (init, drop 1 tokens) else judged_name judged tokens
 
 -- the class with one part more
@@ -86,7 +86,7 @@ class_under None name = name
 class_under (Some class) name = class ++ 47 ∷ name
 
 -- a dot and a further part. Nothing stands below a constructor.
-unfoldable pub next_step : Bool → Parts → List Token → Read Parts
+unfoldable pub next_step : Bool → Parts → List Token → Parsed Parts
 next_step judged parts tokens = do
   below ← need (not parts.is_last) (Syntax (front_at tokens))
   dot ← behind (codes ".") tokens
@@ -94,14 +94,14 @@ next_step judged parts tokens = do
   Ok (record { class = Some (class_under parts.class parts.name); name = part.0; is_last = is_next init dot }, part.1)
 
 -- a class, a dot and a method's name
-unfoldable pub path_at : Bool → List Token → Read Path
+unfoldable pub path_at : Bool → List Token → Parsed Path
 path_at judged tokens = do
   first ← judged_name judged tokens
   parts ← each (is_next (codes ".")) (next_step judged) (record { class = None; name = first.0; is_last = false }) first.1
   class ← ok_or parts.0.class (Syntax (front_at parts.1))
   Ok (record { class = class; name = parts.0.name }, parts.1)
 
-unfoldable pub signature_at : Bool → List Var → List Token → Read Signature
+unfoldable pub signature_at : Bool → List Var → List Token → Parsed Signature
 signature_at judged vars tokens = do
   path ← path_at judged tokens
   opened ← behind (codes "(") path.1
@@ -126,13 +126,13 @@ index_at methods clauses phase at signature desc = do
   Ok method
 
 -- What is wrong with the whole method stands at its first token, before what is wrong with a name in it.
-abbrev pub method_of : List ListedMethod → List Var → List TreeClause → Phase → List ℕ → List Token → Read Signature → Read (ℕ × List Param)
-method_of methods vars clauses phase result tokens (Ok read) =
+abbrev pub listed_method : List ListedMethod → List Var → List TreeClause → Phase → List ℕ → List Token → Parsed Signature → Parsed (ℕ × List Param)
+listed_method methods vars clauses phase result tokens (Ok read) =
     index_at methods clauses phase (front_at tokens) read.0 (desc_of read.0.params result)
     >>= λ method. signature_at true vars tokens >>= λ judged. Ok ((method, read.0.params), judged.1)
-method_of methods vars clauses phase result tokens (Err fault) = signature_at true vars tokens >>= λ read. Err fault
+listed_method methods vars clauses phase result tokens (Err fault) = signature_at true vars tokens >>= λ read. Err fault
 
 -- a method and its parameters
-abbrev pub method_at : List ListedMethod → List Var → List TreeClause → Phase → List ℕ → List Token → Read (ℕ × List Param)
+abbrev pub method_at : List ListedMethod → List Var → List TreeClause → Phase → List ℕ → List Token → Parsed (ℕ × List Param)
 method_at methods vars clauses phase result tokens =
-    method_of methods vars clauses phase result tokens (signature_at false vars tokens)
+    listed_method methods vars clauses phase result tokens (signature_at false vars tokens)

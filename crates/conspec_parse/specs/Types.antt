@@ -7,11 +7,11 @@ use Rattle.conspec_tree.specs.declared.types.Kind.{Kind}
 use Rattle.conspec_tree.specs.declared.types.Kind.TheVariants as kinds
 use Rattle.conspec_parse.specs.declared.type_name.TypeName.{TypeName}
 use Rattle.conspec_parse.specs.declared.fault.PolicyFault.TheVariants.{Limit}
-use Rattle.conspec_parse.specs.Forms.{Read, behind, name_at, is_short, each}
+use Rattle.conspec_parse.specs.Forms.{Parsed, behind, name_at, is_short, each}
 use Rattle.conspec_tokens.specs.Front.{front_at, is_next}
 
 -- a name that is not too long, where names are judged
-unfoldable pub judged_name : Bool → List Token → Read (List ℕ)
+unfoldable pub judged_name : Bool → List Token → Parsed (List ℕ)
 judged_name judged tokens = do
   name ← name_at tokens
   short ← need (not judged || is_short name.0) (Limit (front_at tokens))
@@ -32,33 +32,33 @@ plain_type tokens =
     else None
 
 -- a dot and a name, onto the names before
-unfoldable pub next_part : Bool → List ℕ → List Token → Read (List ℕ)
+unfoldable pub next_part : Bool → List ℕ → List Token → Parsed (List ℕ)
 next_part judged class tokens = do
   dot ← behind (codes ".") tokens
   name ← judged_name judged dot
   Ok (class ++ 47 ∷ name.0, name.1)
 
 -- a class: names with dots between, as a descriptor has them with `/`
-unfoldable pub class_at : Bool → List Token → Read (List ℕ)
+unfoldable pub class_at : Bool → List Token → Parsed (List ℕ)
 class_at judged tokens = do
   first ← judged_name judged tokens
   each (is_next (codes ".")) (next_part judged) first.0 first.1
 
-unfoldable pub class_type_at : Bool → List Token → Read TypeName
+unfoldable pub class_type_at : Bool → List Token → Parsed TypeName
 class_type_at judged tokens = do
   class ← class_at judged tokens
   Ok (type_named (class_spelled class.0) (Some kinds.Object), class.1)
 
-abbrev pub element_of : Option TypeName → Bool → List Token → Read TypeName
+abbrev pub element_of : Option TypeName → Bool → List Token → Parsed TypeName
 element_of (Some plain) judged tokens = Ok (plain, drop 1 tokens)
 element_of None judged tokens = class_type_at judged tokens
 
 -- a type that is no array
-abbrev pub element_at : Bool → List Token → Read TypeName
+abbrev pub element_at : Bool → List Token → Parsed TypeName
 element_at judged tokens = element_of (plain_type tokens) judged tokens
 
 -- `[]`: one dimension more
-unfoldable pub dimension_at : List ℕ → List Token → Read (List ℕ)
+unfoldable pub dimension_at : List ℕ → List Token → Parsed (List ℕ)
 dimension_at brackets tokens = do
   opened ← behind (codes "[") tokens
   closed ← behind (codes "]") opened
@@ -69,7 +69,7 @@ abbrev pub array_of : List ℕ → TypeName → TypeName
 array_of [] element = element
 array_of (b ∷ brackets) element = type_named ((b ∷ brackets) ++ element.desc) (Some kinds.Object)
 
-unfoldable pub type_at : Bool → List Token → Read TypeName
+unfoldable pub type_at : Bool → List Token → Parsed TypeName
 type_at judged tokens = do
   element ← element_at judged tokens
   brackets ← each (is_next (codes "[")) dimension_at [] element.1

@@ -6,14 +6,14 @@ use Rattle.conspec_tree.specs.declared.types.Update.{Update}
 use Rattle.conspec_tree.specs.declared.types.Update.TheVariants.{Set, Add}
 use Rattle.conspec_tree.specs.declared.types.Var.{Var}
 use Rattle.conspec_parse.specs.declared.fault.PolicyFault.TheVariants.{Name, Kind, Range, Twice, Limit}
-use Rattle.conspec_parse.specs.Forms.{Read, behind, name_at, number_at, taken, each}
+use Rattle.conspec_parse.specs.Forms.{Parsed, behind, name_at, number_at, taken, each}
 use Rattle.conspec_tokens.specs.Front.{front_at, is_next, is_name}
 use Rattle.conspec_tree.specs.Updates.{is_updated, all_range_atoms}
 use Rattle.conspec_tree.specs.Variables.{variable_from}
 use Rattle.conspec_parse.specs.Guards.{constant_at}
 
 -- a constant of the variable's range
-unfoldable pub set_at : ℤ → ℕ → Bool → List Token → Read Update
+unfoldable pub set_at : ℤ → ℕ → Bool → List Token → Parsed Update
 set_at maxint var truth tokens = do
   value ← constant_at truth tokens
   ranged ← need (int_le (pos 0) value.0 && int_le value.0 maxint) (Range (front_at tokens))
@@ -31,7 +31,7 @@ signed false n = pos n
 signed true n = neg_ℤ (pos n)
 
 -- The variable itself, a sign and an addend, where there is room for a range atom or none is asked for.
-unfoldable pub sum_at : Bool → List ℕ → ℕ → Bool → List Token → Read Update
+unfoldable pub sum_at : Bool → List ℕ → ℕ → Bool → List Token → Parsed Update
 sum_at room name var truth tokens = do
   same ← name_at tokens
   own ← need (bytes_eq same.0 name) (Name (front_at tokens))
@@ -42,13 +42,13 @@ sum_at room name var truth tokens = do
   few ← need (addend.0 == 0 || room) (Limit (front_at sign.1))
   Ok (Add var (signed sign.0 addend.0), addend.1)
 
-abbrev pub right_at : ℤ → Bool → List ℕ → ℕ × Bool → List Token → Read Update
+abbrev pub right_at : ℤ → Bool → List ℕ → ℕ × Bool → List Token → Parsed Update
 right_at maxint room name var tokens =
     if is_name tokens then sum_at room name var.0 var.1 tokens else set_at maxint var.0 var.1 tokens
 
 -- An update more, of a variable that is not updated yet. The longest branch has so many atoms of its own, and at most 16 with the
 -- range atoms of the updates.
-unfoldable pub update_at : List Var → ℤ → ℕ → List Update → List Token → Read (List Update)
+unfoldable pub update_at : List Var → ℤ → ℕ → List Update → List Token → Parsed (List Update)
 update_at vars maxint atoms updates tokens = do
   name ← name_at tokens
   var ← ok_or (variable_from 0 vars name.0) (Name (front_at tokens))
@@ -59,7 +59,7 @@ update_at vars maxint atoms updates tokens = do
   Ok (updates ++ update.0 ∷ [], ended)
 
 -- the updates between braces
-unfoldable pub block_at : List Var → ℤ → ℕ → List Token → Read (List Update)
+unfoldable pub block_at : List Var → ℤ → ℕ → List Token → Parsed (List Update)
 block_at vars maxint atoms tokens = do
   opened ← behind (codes "{") tokens
   updates ← each is_name (update_at vars maxint atoms) [] opened

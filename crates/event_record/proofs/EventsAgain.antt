@@ -15,7 +15,7 @@ use Rattle.event_record.specs.declared.entry.Entry.TheVariants.{Seen}
 use Rattle.event_record.specs.Again.{IsPrinted}
 use Rattle.event_record.specs.Entry.{call_event, entry_of, event_line, event_of, except_event, line_of, method_event, result_of, return_event, values_from}
 use Rattle.event_record.specs.Library.{Library}
-use Rattle.event_record.specs.Printing.{HasNoBreak, IsEventOf, IsInWords, IsValue, behind, event_text, event_words, method_of, result_behind, result_words, value_behind}
+use Rattle.event_record.specs.Printing.{HasNoBreak, IsEventOf, IsInWords, IsValue, behind, event_text, event_words, method_listed, result_behind, result_words, value_behind}
 use Rattle.event_record.specs.Value.{value_word}
 use Rattle.event_record.proofs.Again.{index_again, value_again}
 use Rattle.event_record.proofs.Unbroken.{decimal_word, in_line, no_space, value_is_word, values_are_words, written}
@@ -107,7 +107,7 @@ module _ (methods : List ListedMethod) (m : ListedMethod) where
   abbrev with_head : List ℕ → ℕ → List ℕ → List ℕ
   with_head verb thread rest = verb ++ (behind (decimal thread) ++ (behind m.id.class ++ (behind m.id.name ++ (behind m.id.desc ++ rest))))
 
-  text_is : (event : Event) → slice_get methods (method_of event) ≡ Some m → event_text methods event ≡ verb_of event ++ flat_map behind (others_of m.id event)
+  text_is : (event : Event) → slice_get methods (method_listed event) ≡ Some m → event_text methods event ≡ verb_of event ++ flat_map behind (others_of m.id event)
   text_is (Call thread method args) there =
       rw there (head_is (codes "call") (decimal thread) m.id.class m.id.name m.id.desc (flat_map value_behind args) ∙ ap (with_head (codes "call") thread) (values_are args))
   text_is (Return thread method value) there =
@@ -115,7 +115,7 @@ module _ (methods : List ListedMethod) (m : ListedMethod) where
   text_is (Except thread method) there =
       rw there (sym (append_none (codes "except" ++ behind (decimal thread) ++ (behind m.id.class ++ behind m.id.name ++ behind m.id.desc))) ∙ head_is (codes "except") (decimal thread) m.id.class m.id.name m.id.desc [])
 
-  module _ (library : Library) (event : Event) (there : slice_get methods (method_of event) ≡ Some m) (is : IsEventOf library m.id event) (whole : IsInWords m.id) where
+  module _ (library : Library) (event : Event) (there : slice_get methods (method_listed event) ≡ Some m) (is : IsEventOf library m.id event) (whole : IsInWords m.id) where
     text_spaced : event_text methods event ≡ spaced (verb_of event) (others_of m.id event)
     text_spaced = text_is event there ∙ spaced_is (verb_of event) (others_of m.id event)
 

@@ -18,7 +18,7 @@ use Rattle.api_listing.specs.declared.events.Event.TheVariants.{Call, Return, Ex
 use Rattle.api_listing.specs.declared.fault.FormFault.TheVariants.{NoForm}
 use Rattle.event_record.specs.declared.entry.Entry.{Entry}
 use Rattle.event_record.specs.declared.entry.Entry.TheVariants.{Go, Answer, Seen, End}
-use Rattle.event_record.specs.Entry.{answer_line, answer_of, answer_with, arg_answer, bare_answer, call_event, end_line, ends, entry_of, event_line, event_of, except_event, fresh_answer, gives_nothing, go_line, id_of, index_at, int_answer, is, is_count, is_end, is_int, line_of, method_event, result_of, return_event, text_answer, throws_answer, values_from}
+use Rattle.event_record.specs.Entry.{answer_line, answer_of, answer_with, arg_answer, bare_answer, call_event, end_line, ends, entry_of, event_line, event_of, except_event, fresh_answer, gives_nothing, go_line, id_of, listed_index, int_answer, is, is_count, is_end, is_int, line_of, method_event, result_of, return_event, text_answer, throws_answer, values_from}
 use Rattle.event_record.specs.Library.{Library}
 use Rattle.event_record.specs.Number.{as_count, index_of, int_of, number_of}
 use Rattle.event_record.specs.Printing.{HasNoBreak, IsGiven, IsValue, result_words}
@@ -31,14 +31,14 @@ use Rattle.event_record.proofs.Numbers.{number_again, number_found}
 
 -- ---- found: steps
 
-index_read : (word : List ℕ) (n : ℕ) → index_at word ≡ Ok n → (word ≡ decimal n) × (n < 2 ^ 32)
+index_read : (word : List ℕ) (n : ℕ) → listed_index word ≡ Ok n → (word ≡ decimal n) × (n < 2 ^ 32)
 index_read word n h = index_found word n (some_ok (index_of word) NoForm n h)
 
 go_found : (library : Library) (thread count : List ℕ) (rest : List (List ℕ)) (entry : Entry) → go_line thread count rest ≡ Ok entry → SpellsEntry library (codes "go" ∷ thread ∷ count ∷ rest) entry
 unfolding go_line
 go_found library thread count rest entry h =
-    let t = then_ok (index_at thread) (λ t. index_at count >>= λ n. need (nat_lt 0 n && length rest == 0) NoForm >>= λ ended. Ok (Go t n)) entry h in
-    let n = then_ok (index_at count) (λ n. need (nat_lt 0 n && length rest == 0) NoForm >>= λ ended. Ok (Go t.0 n)) entry t.2 in
+    let t = then_ok (listed_index thread) (λ t. listed_index count >>= λ n. need (nat_lt 0 n && length rest == 0) NoForm >>= λ ended. Ok (Go t n)) entry h in
+    let n = then_ok (listed_index count) (λ n. need (nat_lt 0 n && length rest == 0) NoForm >>= λ ended. Ok (Go t.0 n)) entry t.2 in
     let e = then_ok (need (nat_lt 0 n.0 && length rest == 0) NoForm) (λ ended. Ok (Go t.0 n.0)) entry n.2 in
     let tests = and_parts (nat_lt 0 n.0) (length rest == 0) (need_ok (nat_lt 0 n.0 && length rest == 0) NoForm e.0 e.1) in
     let none : rest ≡ [] = nil_from_length rest (eqb-true (length rest) 0 tests.1) in
@@ -105,7 +105,7 @@ module _ (library : Library) (kind word : List ℕ) (answer : ApiAnswer) where
   arg_kind : is kind (codes "arg") ≡ true → arg_answer word ≡ Ok answer → Goal
   unfolding arg_answer
   arg_kind t h =
-      let read = then_ok (index_at word) (λ i. Ok (answers.Arg i)) answer h in
+      let read = then_ok (listed_index word) (λ i. Ok (answers.Arg i)) answer h in
       let found = index_read word read.0 read.1 in
       as_kind (codes "arg") (answers.Arg read.0) t (ok_is read.2) (ap (λ (w : List ℕ). codes "arg" ∷ w ∷ []) found.0) found.1
 
@@ -140,7 +140,7 @@ answer_found library kind (word ∷ other ∷ rest) answer h = absurd cc
 answer_line_found : (library : Library) (thread kind : List ℕ) (rest : List (List ℕ)) (entry : Entry) → answer_line library thread kind rest ≡ Ok entry → SpellsEntry library (codes "answer" ∷ thread ∷ kind ∷ rest) entry
 unfolding answer_line
 answer_line_found library thread kind rest entry h =
-    let t = then_ok (index_at thread) (λ t. answer_of library kind rest >>= λ a. Ok (Answer t a)) entry h in
+    let t = then_ok (listed_index thread) (λ t. answer_of library kind rest >>= λ a. Ok (Answer t a)) entry h in
     let a = then_ok (answer_of library kind rest) (λ a. Ok (Answer t.0 a)) entry t.2 in
     let number = index_read thread t.0 t.1 in
     let found = answer_found library kind rest a.0 a.1 in
@@ -241,7 +241,7 @@ event_line_found library verb thread class [] entry clear h = absurd cc
 event_line_found library verb thread class (name ∷ []) entry clear h = absurd cc
 event_line_found library verb thread class (name ∷ desc ∷ values) entry clear h =
     let id = id_of class name desc in
-    let t = then_ok (index_at thread) (λ t. ok_or (library.finds id) NoForm >>= λ m. event_of verb t m (gives_nothing desc) values) entry h in
+    let t = then_ok (listed_index thread) (λ t. ok_or (library.finds id) NoForm >>= λ m. event_of verb t m (gives_nothing desc) values) entry h in
     let m = then_ok (ok_or (library.finds id) NoForm) (λ m. event_of verb t.0 m (gives_nothing desc) values) entry t.2 in
     let number = index_read thread t.0 t.1 in
     let event = event_found library id t.0 m.0 number.1 (some_ok (library.finds id) NoForm m.0 m.1) verb values entry clear.1.1 m.2 in

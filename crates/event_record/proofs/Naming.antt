@@ -23,7 +23,7 @@ use Rattle.api_listing.specs.Seen.{id_cmp}
 use Rattle.std.proofs.Math.Path.{fun_ext}
 use Rattle.api_listing.specs.declared.types.Listing.{Listing}
 use Rattle.event_record.specs.declared.names.Names.{Names}
-use Rattle.event_record.specs.Library.{AddsFirst, AreNames, Library, library_in, library_of, place_of}
+use Rattle.event_record.specs.Library.{AddsFirst, AreNames, Library, library_in, library_of, place_listed}
 
 -- ---- lists
 
@@ -92,40 +92,40 @@ or_none None = refl
 or_none (Some x) = refl
 
 -- a new name
-pub adds : (old new : BTreeMap MethodId ℕ) (id : MethodId) (index : ℕ) → is_some (place_of old id) ≡ false
-    → ((q : MethodId) → place_of new q ≡ cond (is_eq (id_cmp id q)) (Some index) (place_of old q)) → AddsFirst old new id index
+pub adds : (old new : BTreeMap MethodId ℕ) (id : MethodId) (index : ℕ) → is_some (place_listed old id) ≡ false
+    → ((q : MethodId) → place_listed new q ≡ cond (is_eq (id_cmp id q)) (Some index) (place_listed old q)) → AddsFirst old new id index
 adds old new id index absent puts = λ q.
-    puts q ∙ ap (λ b. cond b (Some index) (place_of old q)) (id_cmp-is id q)
-    ∙ test_cases (is_method q.class q.name q.desc id) (λ b. cond b (Some index) (place_of old q) ≡ option_or (place_of old q) (cond b (Some index) None))
-    (λ e. none_or (place_of old q) (Some index) (subst (λ (i : MethodId). is_some (place_of old i) ≡ false) (same_id id q e) absent))
-    (λ e. sym (or_none (place_of old q)))
+    puts q ∙ ap (λ b. cond b (Some index) (place_listed old q)) (id_cmp-is id q)
+    ∙ test_cases (is_method q.class q.name q.desc id) (λ b. cond b (Some index) (place_listed old q) ≡ option_or (place_listed old q) (cond b (Some index) None))
+    (λ e. none_or (place_listed old q) (Some index) (subst (λ (i : MethodId). is_some (place_listed old i) ≡ false) (same_id id q e) absent))
+    (λ e. sym (or_none (place_listed old q)))
 
-pub adds_copy : (old new : BTreeMap MethodId ℕ) (id copy : MethodId) (index : ℕ) → copy ≡ id → is_some (place_of old id) ≡ false
-    → ((q : MethodId) → place_of new q ≡ cond (is_eq (id_cmp copy q)) (Some index) (place_of old q)) → AddsFirst old new id index
-adds_copy old new id copy index same absent puts = subst (λ (i : MethodId). AddsFirst old new i index) same (adds old new copy index (subst (λ (i : MethodId). is_some (place_of old i) ≡ false) (sym same) absent) puts)
+pub adds_copy : (old new : BTreeMap MethodId ℕ) (id copy : MethodId) (index : ℕ) → copy ≡ id → is_some (place_listed old id) ≡ false
+    → ((q : MethodId) → place_listed new q ≡ cond (is_eq (id_cmp copy q)) (Some index) (place_listed old q)) → AddsFirst old new id index
+adds_copy old new id copy index same absent puts = subst (λ (i : MethodId). AddsFirst old new i index) same (adds old new copy index (subst (λ (i : MethodId). is_some (place_listed old i) ≡ false) (sym same) absent) puts)
 
 abbrev pub index_from : ℕ → List ListedMethod → MethodId → Option ℕ
 index_from index methods q = position_from (λ (m : ListedMethod). is_method q.class q.name q.desc m.id) index methods
 
 -- one method more
 pub goes_on : (old new : BTreeMap MethodId ℕ) (m : ListedMethod) (rest left : List ListedMethod) (index : ℕ) (q : MethodId) (total : Option ℕ) → left ≡ m ∷ rest → AddsFirst old new m.id index
-    → option_or (place_of old q) (index_from index left q) ≡ total → option_or (place_of new q) (index_from (index + 1) rest q) ≡ total
+    → option_or (place_listed old q) (index_from index left q) ≡ total → option_or (place_listed new q) (index_from (index + 1) rest q) ≡ total
 goes_on old new m rest left index q total split added before =
     ap (λ o. option_or o (index_from (index + 1) rest q)) (added q)
-    ∙ by (is_method q.class q.name q.desc m.id) (place_of old q)
-    ∙ ap (λ (ms : List ListedMethod). option_or (place_of old q) (index_from index ms q)) (sym split) ∙ before where
+    ∙ by (is_method q.class q.name q.desc m.id) (place_listed old q)
+    ∙ ap (λ (ms : List ListedMethod). option_or (place_listed old q) (index_from index ms q)) (sym split) ∙ before where
       by : (b : Bool) (o : Option ℕ) → option_or (option_or o (cond b (Some index) None)) (index_from (index + 1) rest q) ≡ option_or o (cond b (Some index) (index_from (index + 1) rest q))
       by true None = refl
       by true (Some x) = refl
       by false None = refl
       by false (Some x) = refl
 
-pub is_done : (places : BTreeMap MethodId ℕ) (left : List ListedMethod) (index : ℕ) (q : MethodId) (total : Option ℕ) → left ≡ [] → option_or (place_of places q) (index_from index left q) ≡ total → place_of places q ≡ total
+pub is_done : (places : BTreeMap MethodId ℕ) (left : List ListedMethod) (index : ℕ) (q : MethodId) (total : Option ℕ) → left ≡ [] → option_or (place_listed places q) (index_from index left q) ≡ total → place_listed places q ≡ total
 is_done places left index q total none e =
-    sym (or_none (place_of places q)) ∙ ap (λ (ms : List ListedMethod). option_or (place_of places q) (index_from index ms q)) (sym none) ∙ e
+    sym (or_none (place_listed places q)) ∙ ap (λ (ms : List ListedMethod). option_or (place_listed places q) (index_from index ms q)) (sym none) ∙ e
 
 -- what is found in the set and the map is what the listing has
 pub same_library : (listing : Listing) (names : Names) → AreNames listing names → library_in names ≡ library_of listing
 same_library listing names are =
     let made : (List ℕ → Bool) → (MethodId → Option ℕ) → Library = λ knows finds. record { knows = knows; finds = finds } in
-    ap (λ knows. made knows (place_of names.methods)) (fun_ext are.classes) ∙ ap (λ finds. made (is_known listing.classes) finds) (fun_ext are.methods)
+    ap (λ knows. made knows (place_listed names.methods)) (fun_ext are.classes) ∙ ap (λ finds. made (is_known listing.classes) finds) (fun_ext are.methods)

@@ -8,14 +8,14 @@ use Rattle.api_listing.specs.declared.types.Listing.{Listing}
 use Rattle.event_record.specs.declared.entry.Entry.TheVariants.{Seen}
 use Rattle.event_record.specs.Entry.{entry_of}
 use Rattle.event_record.specs.Library.{Library, library_of}
-use Rattle.event_record.specs.Printing.{IsEventOf, IsInWords, event_line, event_text, method_of}
+use Rattle.event_record.specs.Printing.{IsEventOf, IsInWords, event_line, event_text, method_listed}
 use Rattle.event_record.specs.Record.{reading}
 use Rattle.event_record.specs.Spelling.{Ending, IsEnding, ending_words}
 
 -- The event is of a method that the methods have under its index and the library finds there, and that is named in words.
 pub record IsPrinted (library : Library) (methods : List ListedMethod) (event : Event) : Type 0 where
   pub method : ListedMethod
-  pub there : slice_get methods (method_of event) ≡ Some method
+  pub there : slice_get methods (method_listed event) ≡ Some method
   pub is : IsEventOf library method.id event
   pub words : IsInWords method.id
 

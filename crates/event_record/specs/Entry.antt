@@ -18,16 +18,16 @@ use Rattle.event_record.specs.Value.{value_at, hex_at}
 abbrev pub is : List ℕ → List ℕ → Bool
 is word text = bytes_eq word text
 
-abbrev pub index_at : List ℕ → Read ℕ
-index_at word = ok_or (index_of word) NoForm
+abbrev pub listed_index : List ℕ → Read ℕ
+listed_index word = ok_or (index_of word) NoForm
 
 -- ---- steps
 
 -- plain steps of a thread, at least one
 unfoldable pub go_line : List ℕ → List ℕ → List (List ℕ) → Read Entry
 go_line thread count rest = do
-  t ← index_at thread
-  n ← index_at count
+  t ← listed_index thread
+  n ← listed_index count
   ended ← need (nat_lt 0 n && length rest == 0) NoForm
   Ok (Go t n)
 
@@ -53,7 +53,7 @@ unfoldable pub throws_answer : Library → List ℕ → Read ApiAnswer
 throws_answer library word = need (library.knows word) NoForm >>= λ known. Ok (answers.Throws word)
 
 unfoldable pub arg_answer : List ℕ → Read ApiAnswer
-arg_answer word = index_at word >>= λ i. Ok (answers.Arg i)
+arg_answer word = listed_index word >>= λ i. Ok (answers.Arg i)
 
 unfoldable pub answer_with : Library → List ℕ → List ℕ → Read ApiAnswer
 answer_with library kind word =
@@ -71,7 +71,7 @@ answer_of library kind (word ∷ other ∷ rest) = Err NoForm
 
 unfoldable pub answer_line : Library → List ℕ → List ℕ → List (List ℕ) → Read Entry
 answer_line library thread kind rest = do
-  t ← index_at thread
+  t ← listed_index thread
   a ← answer_of library kind rest
   Ok (Answer t a)
 
@@ -113,7 +113,7 @@ id_of class name desc = record { class = class; name = name; desc = desc }
 -- an event of a method of the library
 unfoldable pub method_event : Library → List ℕ → List ℕ → MethodId → List (List ℕ) → Read Entry
 method_event library verb thread id values = do
-  t ← index_at thread
+  t ← listed_index thread
   m ← ok_or (library.finds id) NoForm
   event_of verb t m (gives_nothing id.desc) values
 

@@ -25,16 +25,16 @@ library_of listing = record { knows = is_known listing.classes; finds = index_in
 
 -- ---- the same, in an ordered set and an ordered map
 
-abbrev pub place_of : BTreeMap MethodId ℕ → MethodId → Option ℕ
-place_of methods id = get id_cmp methods id
+abbrev pub place_listed : BTreeMap MethodId ℕ → MethodId → Option ℕ
+place_listed methods id = get id_cmp methods id
 
 abbrev pub library_in : Names → Library
-library_in names = record { knows = has_name names.classes; finds = place_of names.methods }
+library_in names = record { knows = has_name names.classes; finds = place_listed names.methods }
 
 -- They have what the listing has.
 pub record AreNames (listing : Listing) (names : Names) : Type 0 where
   pub classes : (q : List ℕ) → has_name names.classes q ≡ is_known listing.classes q
-  pub methods : (q : MethodId) → place_of names.methods q ≡ index_in listing.methods q
+  pub methods : (q : MethodId) → place_listed names.methods q ≡ index_in listing.methods q
 
 -- the index that one method gives
 abbrev pub index_of_one : MethodId → ℕ → MethodId → Option ℕ
@@ -42,4 +42,4 @@ index_of_one id index q = if is_method q.class q.name q.desc id then Some index 
 
 -- A method more, with its index, counts where its name is new.
 abbrev pub AddsFirst : BTreeMap MethodId ℕ → BTreeMap MethodId ℕ → MethodId → ℕ → Type 0
-AddsFirst old new id index = (q : MethodId) → place_of new q ≡ option_or (place_of old q) (index_of_one id index q)
+AddsFirst old new id index = (q : MethodId) → place_listed new q ≡ option_or (place_listed old q) (index_of_one id index q)

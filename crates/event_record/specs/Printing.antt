@@ -67,10 +67,10 @@ event_words id (Call thread method args) = codes "call" ∷ decimal thread ∷ i
 event_words id (Return thread method value) = codes "return" ∷ decimal thread ∷ id.class ∷ id.name ∷ id.desc ∷ result_words value
 event_words id (Except thread method) = codes "except" ∷ decimal thread ∷ id.class ∷ id.name ∷ id.desc ∷ []
 
-abbrev pub method_of : Event → ℕ
-method_of (Call thread method args) = method
-method_of (Return thread method value) = method
-method_of (Except thread method) = method
+abbrev pub method_listed : Event → ℕ
+method_listed (Call thread method args) = method
+method_listed (Return thread method value) = method
+method_listed (Except thread method) = method
 
 abbrev pub thread_of : Event → ℕ
 thread_of (Call thread method args) = thread
@@ -86,7 +86,7 @@ IsGiven desc (Except thread method) = Unit {0}
 
 -- The event is one of the method, which the library has under its index.
 pub record IsEventOf (library : Library) (id : MethodId) (event : Event) : Type 0 where
-  pub there : library.finds id ≡ Some (method_of event)
+  pub there : library.finds id ≡ Some (method_listed event)
   pub numbered : thread_of event < 2 ^ 32
   pub given : IsGiven id.desc event
 

@@ -20,7 +20,7 @@ ghost use Rattle.event_record.specs.Entry.{
   gives_nothing,
   go_line,
   id_of,
-  index_at,
+  listed_index,
   int_answer,
   is_count,
   is_end,
@@ -94,8 +94,8 @@ fn line_of(
     }
 }
 
-fn index_at(word: &[u8]) -> Result<u32, FormFault>
-    ensures { Answers FormFault.Memory result (index_at word.now) }
+fn listed_index(word: &[u8]) -> Result<u32, FormFault>
+    ensures { Answers FormFault.Memory result (listed_index word.now) }
 {
     match index_of(word) {
         Some(index) => Ok(index),
@@ -109,8 +109,8 @@ fn index_at(word: &[u8]) -> Result<u32, FormFault>
 fn go_line(thread: &[u8], count: &[u8], rest: &[Bytes]) -> Result<Entry, FormFault>
     ensures { Answers FormFault.Memory result (go_line thread.now count.now rest.now) }
 {
-    let thread = index_at(thread)?;
-    let count = index_at(count)?;
+    let thread = listed_index(thread)?;
+    let count = listed_index(count)?;
     if count == 0 || !rest.is_empty() {
         return Err(FormFault::NoForm);
     }
@@ -127,7 +127,7 @@ fn answer_line(
 ) -> Result<Entry, FormFault>
     ensures { Answers FormFault.Memory result (answer_line (library_in names.now) thread.now kind.now rest.now) }
 {
-    let thread = index_at(thread)?;
+    let thread = listed_index(thread)?;
     let answer = answer_of(alloc, names, kind, rest)?;
     Ok(Entry::Answer { thread, answer })
 }
@@ -230,7 +230,7 @@ fn throws_answer(alloc: Global, names: &Names, word: &Bytes) -> Result<ApiAnswer
 fn arg_answer(word: &[u8]) -> Result<ApiAnswer, FormFault>
     ensures { Answers FormFault.Memory result (arg_answer word.now) }
 {
-    Ok(ApiAnswer::Arg(index_at(word)?))
+    Ok(ApiAnswer::Arg(listed_index(word)?))
 }
 
 // ---- events
@@ -276,7 +276,7 @@ fn method_event(
 ) -> Result<Entry, FormFault>
     ensures { Answers FormFault.Memory result (method_event (library_in names.now) verb.now thread.now id.now values.now) }
 {
-    let thread = index_at(thread)?;
+    let thread = listed_index(thread)?;
     match names.methods.get(id) {
         Some(method) => {
             let void = gives_nothing(id.desc.as_slice());

@@ -5,7 +5,7 @@ ghost use Rattle.api_listing.specs.Listing.{is_known};
 ghost use Rattle.api_listing.specs.Seen.{has_name};
 ghost use Rattle.api_listing.specs.declared.types.ListedMethod.{ListedMethod};
 ghost use Rattle.mon_base.specs.declared.method.MethodId.{MethodId};
-ghost use Rattle.event_record.specs.Library.{AddsFirst, AreNames, index_in, place_of};
+ghost use Rattle.event_record.specs.Library.{AddsFirst, AreNames, index_in, place_listed};
 ghost use Rattle.event_record.specs.Spelling.{IsFirst};
 
 use api_listing::{ListedClass, ListedMethod, Listing};
@@ -59,7 +59,7 @@ fn add_name(alloc: Global, names: &mut BTreeSet<Bytes>, name: &Bytes) -> Result<
 /// The index of the first method of each name.
 fn methods_of(alloc: Global, methods: &[ListedMethod]) -> Result<BTreeMap<MethodId, u32>, NoMemory>
     requires { length methods.now < 2 ^ 32 }
-    ensures { IfOk result (λ places. (q : MethodId) → place_of places q ≡ index_in methods.now q) }
+    ensures { IfOk result (λ places. (q : MethodId) → place_listed places q ≡ index_in methods.now q) }
 {
     let mut places = BTreeMap::new(alloc);
     let mut index: u32 = 0;

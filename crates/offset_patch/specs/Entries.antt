@@ -34,11 +34,11 @@ entry constant pool = placed pool constant (place_of constant pool)
 abbrev pub text : List ℕ → List Const → Placed
 text bytes pool = entry (constants.Utf8 bytes) pool
 
-abbrev pub class_of : Placed → Placed
-class_of name = entry (constants.Class name.1) name.0
+abbrev pub class_entry : Placed → Placed
+class_entry name = entry (constants.Class name.1) name.0
 
 abbrev pub class : List ℕ → List Const → Placed
-class name pool = class_of (text name pool)
+class name pool = class_entry (text name pool)
 
 abbrev pub name_and_type_of : Placed → List ℕ → Placed
 name_and_type_of name desc = entry (constants.NameAndType name.1 (text desc name.0).1) (text desc name.0).0
@@ -46,11 +46,11 @@ name_and_type_of name desc = entry (constants.NameAndType name.1 (text desc name
 abbrev pub name_and_type : List ℕ → List ℕ → List Const → Placed
 name_and_type name desc pool = name_and_type_of (text name pool) desc
 
-abbrev pub method_of : Placed → List ℕ → List ℕ → Placed
-method_of owner name desc = entry (constants.Method owner.1 (name_and_type name desc owner.0).1) (name_and_type name desc owner.0).0
+abbrev pub method_entry : Placed → List ℕ → List ℕ → Placed
+method_entry owner name desc = entry (constants.Method owner.1 (name_and_type name desc owner.0).1) (name_and_type name desc owner.0).0
 
 abbrev pub method : List ℕ → List ℕ → List ℕ → List Const → Placed
-method owner name desc pool = method_of (class owner pool) name desc
+method owner name desc pool = method_entry (class owner pool) name desc
 
 -- the class whose monitor is the lock
 abbrev pub state_name : List ℕ
