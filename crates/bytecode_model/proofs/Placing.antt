@@ -31,13 +31,6 @@ pub none_or : {X : Type 0} (o p : Option X) → is_some o ≡ false → p ≡ op
 none_or None p e = refl
 none_or (Some x) p e = absurd (false≢true (sym e))
 
--- a name that is there already
-pub keeps_place : {X : Type 0} (places : BTreeMap (List ℕ) X) (name : List ℕ) (place : X) → is_some (place_in places name) ≡ true → (q : List ℕ) → place_in places q ≡ option_or (place_in places q) (cond (bytes_eq name q) (Some place) None)
-keeps_place places name place there q =
-    test_cases (bytes_eq name q) (λ b. place_in places q ≡ option_or (place_in places q) (cond b (Some place) None))
-    (λ e. is_some_or (place_in places q) (Some place) (subst (λ (n : List ℕ). is_some (place_in places n) ≡ true) (same_name name q e) there))
-    (λ e. sym (or_none (place_in places q)))
-
 -- a new name
 pub adds_place : {X : Type 0} (old new : BTreeMap (List ℕ) X) (name : List ℕ) (place : X) → is_some (place_in old name) ≡ false
     → ((q : List ℕ) → place_in new q ≡ cond (is_eq (slice_cmp nat_cmp name q)) (Some place) (place_in old q)) → (q : List ℕ) → place_in new q ≡ option_or (place_in old q) (cond (bytes_eq name q) (Some place) None)

@@ -10,9 +10,3 @@ stays_some n i heads name c total lt some so_far =
     let k : n - i ≡ suc (n - (i + 1)) = omega arith in
     let step : stays_within (n - i) heads name ≡ stays_within (n - (i + 1)) heads c.parent = rw (k, some) refl in
     sym step ∙ so_far
-
-pub stays_none : (n i : ℕ) (heads : List ListedClass) (name : List ℕ) (total : Bool) → i < n → class_named heads name ≡ None → stays_within (n - i) heads name ≡ total → false ≡ total
-stays_none n i heads name total lt none so_far =
-    let k : n - i ≡ suc (n - (i + 1)) = omega arith in
-    let step : stays_within (n - i) heads name ≡ false = rw (k, none) refl in
-    sym step ∙ so_far

@@ -36,9 +36,6 @@ split names (x ∷ a) b used after h =
 
 -- ---- names in order of first use
 
-lt-stands : (names : List Name) (name : Name) → name_index names name < length names → ltb (name_index names name) (length names) ≡ true
-lt-stands names name lt = lt-ltb _ _ lt
-
 old : (names : List Name) (name : Name) → name_index names name < length names → with_name names name ≡ names
 old names name lt = with-old names name (lt-ltb _ _ lt)
 

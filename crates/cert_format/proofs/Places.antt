@@ -67,9 +67,6 @@ place-own name names = rw ((bytes_eq-Decides name name).1 refl) refl
 
 -- ---- one name more
 
-place-one : (x name : Name) → name_index (x ∷ []) name ≡ cond (bytes_eq x name) 0 1
-place-one x name = refl
-
 pub place-more : (names : List Name) (x name : Name)
     → name_index (names ++ x ∷ []) name ≡ cond (stands names name) (name_index names name) (cond (bytes_eq x name) (length names) (suc (length names)))
 place-more names x name =

@@ -125,11 +125,6 @@ module _ (program : Program) where
       let h = and_parts (to_described program d t) (all_met (map (to_described program) descs) ts) met in
       (argument_held kind d t are.0 h.0, all_held args descs ts are.1 h.1)
 
-  pub held_count : (args : List Kind) (ts : List VType) → AreHeld args ts → length ts ≡ length args
-  held_count [] ts h = ap length h
-  held_count (kind ∷ args) [] h = absurd h
-  held_count (kind ∷ args) (t ∷ ts) h = ap suc (held_count args ts h.1)
-
   -- the argument of an index, and its kind
   pub record HeldAt (args : List Kind) (ts : List VType) (i : ℕ) : Type 0 where
     pub kind : Kind

@@ -50,12 +50,6 @@ each_back Belong (x ∷ xs) (z ∷ ys) zero y e f =
     (x, refl, subst (Belong x) same e.0)
 each_back Belong (x ∷ xs) (z ∷ ys) (suc i) y e f = each_back Belong xs ys i y e.1 f
 
-each_length : {X Y : Type 0} (Belong : X → Y → Type 0) (xs : List X) (ys : List Y) → Each Belong xs ys → length ys ≡ length xs
-each_length Belong [] [] e = refl
-each_length Belong [] (y ∷ ys) e = absurd e
-each_length Belong (x ∷ xs) [] e = absurd e
-each_length Belong (x ∷ xs) (y ∷ ys) e = ap suc (each_length Belong xs ys e.1)
-
 -- ---- the class and the method
 
 -- what a class of the woven program is: one of the old ones, or conspec/State

@@ -166,9 +166,6 @@ module _ (moved : ℕ → ℕ) (p q : Place) (kept : IsKept moved p q) where
   object_same o [] = refl
   object_same o (t ∷ list) = rw (same_object moved p q kept o t, object_same o list) refl
 
-  is_there_same : (o : Option (List ℕ)) (r : Option (List ℕ)) → r ≡ o → option_map_or (λ (c : List ℕ). true) r false ≡ option_map_or (λ (c : List ℕ). true) o false
-  is_there_same o r e = ap (λ (x : Option (List ℕ)). option_map_or (λ (c : List ℕ). true) x false) e
-
   receiver_same : (how : How) (f : FrameType) → makes_receiver q how (again f) ≡ makes_receiver p how f
   receiver_same how f =
       let receiver : type_at (taken q (again f)) 0 ≡ new (type_at (taken p f) 0) = ap (λ (ts : List VType). type_at ts 0) (taken_renamed f) ∙ type_renamed moved (taken p f) 0 in

@@ -14,14 +14,6 @@ use Rattle.bytecode_model.proofs.Names.{id_cmp-is, same_id}
 use Rattle.bytecode_model.proofs.Placing.{test_cases, is_some_or, none_or}
 use Rattle.class_text.specs.Library.{method_in}
 
--- a name that is there already
-pub keeps_method : (places : BTreeMap MethodId ℕ) (id : MethodId) (place : ℕ) → is_some (method_in places id) ≡ true → (q : MethodId)
-    → method_in places q ≡ option_or (method_in places q) (cond (is_method q.class q.name q.desc id) (Some place) None)
-keeps_method places id place there q =
-    test_cases (is_method q.class q.name q.desc id) (λ b. method_in places q ≡ option_or (method_in places q) (cond b (Some place) None))
-    (λ e. is_some_or (method_in places q) (Some place) (subst (λ (i : MethodId). is_some (method_in places i) ≡ true) (same_id id q e) there))
-    (λ e. sym (or_none (method_in places q)))
-
 -- a new name
 pub adds_method : (old new : BTreeMap MethodId ℕ) (id : MethodId) (place : ℕ) → is_some (method_in old id) ≡ false
     → ((q : MethodId) → method_in new q ≡ cond (is_eq (id_cmp id q)) (Some place) (method_in old q)) → (q : MethodId)

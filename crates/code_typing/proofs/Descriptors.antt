@@ -34,13 +34,6 @@ apart b other none is = by (eqb_tells b other) where
   by (inl p) = absurd (false≢true (sym none ∙ ap is_path_byte (sym p.1) ∙ is))
   by (inr p) = p.0
 
-pub path_of_name : (name : List ℕ) → list_all is_name_byte name ≡ true → is_path name ≡ true
-path_of_name [] e = refl
-path_of_name (b ∷ name) e =
-    let p = both (is_name_byte b) (list_all is_name_byte name) e in
-    let first = path_byte b p.0 in
-    rw (first, path_of_name name p.1) refl
-
 abbrev all_pieces : List (List ℕ) → Bool
 all_pieces parts = list_all (list_all is_name_byte) parts
 
@@ -109,9 +102,6 @@ short_text = record { long = λ rest. refl; begins = λ rest. refl; passed = λ 
 
 pub int_text : IsTypeText (73 ∷ [])
 int_text = record { long = λ rest. refl; begins = λ rest. refl; passed = λ rest. refl }
-
-pub void_text : IsTypeText (86 ∷ [])
-void_text = record { long = λ rest. refl; begins = λ rest. refl; passed = λ rest. refl }
 
 pub class_text : (name : List ℕ) → is_path name ≡ true → IsTypeText (class_spelled name)
 class_text name e =

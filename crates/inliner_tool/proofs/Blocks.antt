@@ -79,13 +79,6 @@ module _ (named : NamedInline) (inputs : InlineInputs) (client : Program) (made 
 
 -- ---- what is woven again
 
--- Files that are expected to link do: a refusal of linking them is want of memory.
-pub link_memory : (r : Linked Program) (program : Program) (e : Refusal) → r ≡ Ok program → UnlessMemory (Equals (link_step r)) (Err e) → e ≡ refusals.Memory
-link_memory r program e links (inl told) =
-    let no : ◌≡◌ {A = Step Program} (Err e) (Ok program) = told ∙ ap link_step links in
-    absurd cc
-link_memory r program e links (inr memory) = memory
-
 -- A program that can be typed is: a refusal of its types is want of memory.
 pub types_memory : (program : Program) (e : Refusal) → ((class method at : ℕ) → IsUntypedAt program class method at → ⊥) → UnlessMemory (Types program) (Err e) → e ≡ refusals.Memory
 types_memory program (refusals.Untyped label method at) typable (inl told) = absurd (typable told.0 method at told.2)

@@ -20,13 +20,6 @@ module _ {A B : Type 0} (First : Step A → Type 0) (Second : A → Step B → T
   later a first (Ok b) told = (a, first, told)
   later a first (Err e) told = ⊎_elim (λ h. inl (inr (a, first, h))) (λ h. inr h) told
 
-pub outputs_fit : (folder : List ℕ) (program : Program) (certificate : Certificate) (bytes : List ℕ) (outputs : List Output) → bytes ≡ spell_certificate certificate → length bytes ≤ 67108864
-    → outputs ≡ outputs_of folder program certificate → Ok outputs ≡ outputs_step folder program certificate
-outputs_fit folder program certificate bytes outputs is few made =
-    let short : length (spell_certificate certificate) ≤ 67108864 = subst (λ (bs : List ℕ). length bs ≤ 67108864) is few in
-    let test : nat_lt 67108864 (length (spell_certificate certificate)) ≡ false = le-ltb 67108864 (length (spell_certificate certificate)) short in
-    rw test (ap Ok made)
-
 -- one item more of what is made of the items of a list
 pub map_push : {A B : Type 0} (f : A → B) (xs : List A) (i : ℕ) (x : A) (ys : List B) (y : B) → i < length xs → x ≡ get_or xs i x → ys ≡ map f (take i xs) → y ≡ f x → ys ++ y ∷ [] ≡ map f (take (i + 1) xs)
 map_push f [] i x ys y below is made one = absurd (omega (arith, below))

@@ -17,9 +17,6 @@ pub record HaveRead (files : Files) (names : List (List ℕ)) (classes : List Cl
   pub whole : names ≡ before ++ left
   pub read : AreClasses files before classes total
 
-pub nothing_read : (files : Files) (names : List (List ℕ)) → HaveRead files names [] 0 names
-nothing_read files names = record { before = []; whole = refl; read = refl }
-
 push : (files : Files) (names : List (List ℕ)) (classes : List ClassFile) (total : ℕ) (name : List ℕ) (class : ClassFile) (len : ℕ) → AreClasses files names classes total
     → IsRead files name class_form (Ok (record { file = class; len = len })) → AreClasses files (names ++ name ∷ []) (classes ++ class ∷ []) (total + len)
 push files [] [] total name class len read one = (len, 0, omega (arith, read), one, refl)

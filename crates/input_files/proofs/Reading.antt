@@ -37,10 +37,6 @@ module _ (files : Files) (named : NamedCheck) (first begun now : ℕ) (last : Li
       → ReadsCheck files (counted first now last) named (Ok (record { listing = listing; policy = policy; certificate = certificate; classes = classes }))
   all_read policy has certificate certified classes read = (listing, listed, (policy, has, (certificate, certified, (classes, read, refl))))
 
-pub show_stops : (files : Files) (named : NamedShow) (first begun now : ℕ) (last : List ℕ) → first ≤ begun → (listing : Listing) → IsRead files named.listing listing_form (Ok listing) → (stop : Stop)
-    → ReadsClasses files (counted begun now last) named.classes (Err stop) → ReadsShow files (counted first now last) named (Err stop)
-show_stops files named first begun now last le listing listed stop reads = inr (listing, listed, inl (among_since files named.classes first begun now last stop le reads))
-
 module _ (files : Files) (named : NamedPolicy) (first begun now : ℕ) (last : List ℕ) (le : first ≤ begun) (listing : Listing) (listed : IsRead files named.listing listing_form (Ok listing)) where
   pub run_policy_stops : (stop : Stop) → ReadsForm files (counted begun now last) named.policy (policy_form listing) (Err stop) → ReadsPolicy files (counted first now last) named (Err stop)
   run_policy_stops stop form = inr (listing, listed, inl (stops_since files (policy_form listing) named.policy first begun now last stop le form))

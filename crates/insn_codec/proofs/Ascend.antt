@@ -17,10 +17,6 @@ others_are (x ∷ xs) d some =
     let same : take (length (x ∷ xs) - 1) xs ≡ xs = rw n (take_all (length xs) xs (omega arith)) in
     rw same refl
 
-pub nothing_left : {X : Type 0} (left : List X) → length left < 1 → left ≡ []
-nothing_left [] none = refl
-nothing_left (x ∷ xs) none = absurd (omega arith)
-
 widened : (k : ℤ) → FitsSigned w32 k → to_z w64 (of_z w64 (to_z w32 (of_z w32 k))) ≡ k
 widened k f = omega (arith, ints)
 

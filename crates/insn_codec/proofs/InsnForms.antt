@@ -306,23 +306,6 @@ is_pool (NewArray kind) e = absurd cc
 is_pool (Table other low targets) e = absurd cc
 is_pool (Lookup other keys targets) e = absurd cc
 
-pub is_iface : (a : Insn) → form_of a ≡ ops.Iface → (x : ℕ × ℕ) × (Iface x.0 x.1 ≡ a)
-is_iface (Plain op) e = absurd cc
-is_iface (Byte n) e = absurd cc
-is_iface (Short n) e = absurd cc
-is_iface (Ldc index) e = absurd cc
-is_iface (Pool op index) e = absurd cc
-is_iface (Iface index count) e = ((index, count), refl)
-is_iface (Local op slot false) e = absurd cc
-is_iface (Local op slot true) e = absurd cc
-is_iface (Inc slot by false) e = absurd cc
-is_iface (Inc slot by true) e = absurd cc
-is_iface (Branch op to) e = absurd cc
-is_iface (GotoW to) e = absurd cc
-is_iface (NewArray kind) e = absurd cc
-is_iface (Table other low targets) e = absurd cc
-is_iface (Lookup other keys targets) e = absurd cc
-
 pub is_local : (a : Insn) → form_of a ≡ ops.Local → (n : ℕ) × (Local (first_byte a) n false ≡ a)
 is_local (Plain op) e = absurd cc
 is_local (Byte n) e = absurd cc
@@ -339,23 +322,6 @@ is_local (GotoW to) e = absurd cc
 is_local (NewArray kind) e = absurd cc
 is_local (Table other low targets) e = absurd cc
 is_local (Lookup other keys targets) e = absurd cc
-
-pub is_inc : (a : Insn) → form_of a ≡ ops.Inc → (x : ℕ × ℤ) × (Inc x.0 x.1 false ≡ a)
-is_inc (Plain op) e = absurd cc
-is_inc (Byte n) e = absurd cc
-is_inc (Short n) e = absurd cc
-is_inc (Ldc index) e = absurd cc
-is_inc (Pool op index) e = absurd cc
-is_inc (Iface index count) e = absurd cc
-is_inc (Local op slot false) e = absurd cc
-is_inc (Local op slot true) e = absurd cc
-is_inc (Inc slot by false) e = ((slot, by), refl)
-is_inc (Inc slot by true) e = absurd cc
-is_inc (Branch op to) e = absurd cc
-is_inc (GotoW to) e = absurd cc
-is_inc (NewArray kind) e = absurd cc
-is_inc (Table other low targets) e = absurd cc
-is_inc (Lookup other keys targets) e = absurd cc
 
 pub is_branch : (a : Insn) → form_of a ≡ ops.Branch → (n : ℕ) × (Branch (first_byte a) n ≡ a)
 is_branch (Plain op) e = absurd cc

@@ -370,14 +370,6 @@ number_is {E = E} {n = n} size fault = record {
 
 -- ---- lists and texts with their length before them
 
--- items, after a number of n bytes that says how many
-pub list_is : {X E : Type 0} {item : Place → Result (X × Place) E} {spell : X → List ℕ} {Fits : X → Type 0} {n : ℕ}
-    → IsReader item spell Fits → IsSize n → (fault : Place → E)
-    → IsReader (λ place. ok_or (number_at n place) (fault place) >>= λ count. counted item count.0 count.1) (λ xs. big_bytes n (length xs) ++ flat_map spell xs) (λ xs. (length xs < 256 ^ n) × AllByRecursion Fits xs)
-list_is is size fault =
-    then _ (number_is size fault) length (λ xs k. tt) λ count k.
-    said (items is count) (λ xs fits h. (fits, (tt, h))) (λ xs fits h. (fits, h.1))
-
 -- bytes, after a number of n bytes that says how many
 pub text_is : {E : Type 0} {n : ℕ} → IsSize n → (fault : Place → E) (fault_in : Place → E)
     → IsReader (λ place. ok_or (number_at n place) (fault place) >>= λ count. ok_or (bytes_at count.0 count.1) (fault_in count.1)) (λ bytes. big_bytes n (length bytes) ++ bytes) (λ bytes. length bytes < 256 ^ n)

@@ -20,14 +20,6 @@ pub piece : {X Y : Type 0} (make : List X → List Y) (out part later total : Li
 piece make out part later total left x rest split first so_far =
     append_assoc out part later ∙ ap (λ ys. out ++ ys) (sym first ∙ sym (ap make split)) ∙ so_far
 
-pub last_piece : {X Y : Type 0} (make : List X → List Y) (out part total : List Y) (left : List X)
-    → left ≡ [] → make [] ≡ part → out ++ make left ≡ total → out ++ part ≡ total
-last_piece make out part total left none last so_far = ap (λ ys. out ++ ys) (sym last ∙ sym (ap make none)) ∙ so_far
-
-pub no_piece : {X Y : Type 0} (make : List X → List Y) (out total : List Y) (left : List X)
-    → left ≡ [] → make [] ≡ [] → out ++ make left ≡ total → out ≡ total
-no_piece make out total left none last so_far = sym (append-nil out) ∙ last_piece make out [] total left none last so_far
-
 -- what is said of each is said of the first and of the others
 pub each_fits : {X : Type 0} (P : X → Type 0) (xs : List X) (x : X) (rest : List X) → xs ≡ x ∷ rest → AllByRecursion P xs → P x × AllByRecursion P rest
 each_fits {X = X} P xs x rest is all = let Q : List X → Type 0 = AllByRecursion P in subst Q is all
@@ -39,6 +31,3 @@ all_append P (x ∷ xs) ys a b = (a.0, all_append P xs ys a.1 b)
 -- one more, of which it holds, behind those of which it holds
 pub all_push : {X : Type 0} (P : X → Type 0) (xs new : List X) (x : X) → new ≡ xs ++ x ∷ [] → AllByRecursion P xs → P x → AllByRecursion P new
 all_push {X = X} P xs new x is all one = let Q : List X → Type 0 = AllByRecursion P in subst Q (sym is) (all_append P xs (x ∷ []) all (one, tt))
-
-pub all_appended : {X : Type 0} (P : X → Type 0) (xs ys new : List X) → new ≡ xs ++ ys → AllByRecursion P xs → AllByRecursion P ys → AllByRecursion P new
-all_appended {X = X} P xs ys new is a b = let Q : List X → Type 0 = AllByRecursion P in subst Q (sym is) (all_append P xs ys a b)

@@ -40,10 +40,6 @@ StaysIn (Some block) = AllByRecursion (JumpsWithin (length block.insns)) block.i
 
 -- ---- where instructions begin
 
-starts_cons : (at : ℕ) (x : Insn) (xs : List Insn) → starts_from at (x ∷ xs) ≡ at ∷ starts_from (at + size at x) xs
-unfolding starts_from
-starts_cons at x xs = refl
-
 starts_first : (at : ℕ) (xs : List Insn) → slice_index (starts_from at xs) 0 ≡ at
 unfolding starts_from
 starts_first at [] = refl

@@ -222,18 +222,8 @@ place_after c pool added o none is =
     behind ∙ ap (λ (k : ℕ). position_from (same c) k (map const_of added)) n ∙ place_further (same c) (length pool) 0 (map const_of added)
     ∙ ap (option_map (λ (i : ℕ). length pool + i)) (place_map const_of (same c) 0 added ∙ sym is)
 
-pub added_one : (pool : List Const) (added : List Added) (one : Added) → with_added pool (added ++ one ∷ []) ≡ with_added pool added ++ const_of one ∷ []
-added_one pool added one = ap (λ (xs : List Const). pool ++ xs) (map-append const_of added (one ∷ [])) ∙ sym (append_assoc pool (map const_of added) (const_of one ∷ []))
-
 pub entry_there : (c : Const) (pool : List Const) (i : ℕ) → Some i ≡ place_of c pool → entry c pool ≡ (pool, i)
 entry_there c pool i e = entry_at c pool i (sym e)
-
-pub entry_pushed : (c : Const) (pool : List Const) (added new : List Added) (one : Added) (at : ℕ) → None ≡ place_of c (with_added pool added) → c ≡ const_of one
-    → new ≡ added ++ one ∷ [] → at ≡ length pool + length added → entry c (with_added pool added) ≡ (with_added pool new, at)
-entry_pushed c pool added new one at none is pushed place =
-    let longer : with_added pool new ≡ with_added pool added ++ c ∷ [] = ap (with_added pool) pushed ∙ added_one pool added one ∙ ap (λ (x : Const). with_added pool added ++ x ∷ []) (sym is) in
-    let count : at ≡ length (with_added pool added) = place ∙ sym (length-append pool (map const_of added) ∙ ap (λ (n : ℕ). length pool + n) (length-map added const_of)) in
-    entry_new c (with_added pool added) (sym none) ∙ ap (λ (p : List Const). (p, length (with_added pool added))) (sym longer) ∙ ap (λ (n : ℕ). (with_added pool new, n)) (sym count)
 
 -- both of what is kept, once the entry v was added
 pub kept_after : (w v u : PoolWant) (kept taken : Option ℕ) (items slice : List Const) (old new : List Added) (at : ℕ) → w ≡ v → slice ≡ items

@@ -55,23 +55,10 @@ is_marked-set_same marks i b h = ap (λ (x : Option Bool). option_map_or (λ (ma
 pub is_marked-set_other : (marks : List Bool) (i j : ℕ) (b : Bool) → (j ≡ i → ⊥) → is_marked (set marks i b) j ≡ is_marked marks j
 is_marked-set_other marks i j b h = ap (λ (x : Option Bool). option_map_or (λ (marked : Bool). marked) x false) (slice_get-set_other marks i j b h)
 
-pub is_marked-past : (marks : List Bool) (i : ℕ) → length marks ≤ i → is_marked marks i ≡ false
-is_marked-past [] i h = refl
-is_marked-past (b ∷ marks) zero h = absurd (omega arith)
-is_marked-past (b ∷ marks) (suc i) h = is_marked-past marks i (omega arith)
-
-pub is_marked-replicate : (n i : ℕ) → is_marked (replicate n false) i ≡ false
-is_marked-replicate zero i = refl
-is_marked-replicate (suc n) zero = refl
-is_marked-replicate (suc n) (suc i) = is_marked-replicate n i
-
 pub frame_of-replicate : (n i : ℕ) → frame_of (replicate n None) i ≡ None
 frame_of-replicate zero i = refl
 frame_of-replicate (suc n) zero = refl
 frame_of-replicate (suc n) (suc i) = frame_of-replicate n i
-
-pub slice_get-is_marked : (marks : List Bool) (i : ℕ) (b : Bool) → slice_get marks i ≡ Some b → is_marked marks i ≡ b
-slice_get-is_marked marks i b e = ap (λ (x : Option Bool). option_map_or (λ (marked : Bool). marked) x false) e
 
 -- ---- types in their places
 
@@ -84,12 +71,6 @@ pub type_at-past : (xs : List VType) (j : ℕ) → length xs ≤ j → type_at x
 type_at-past [] j h = refl
 type_at-past (x ∷ xs) zero h = absurd (omega arith)
 type_at-past (x ∷ xs) (suc j) h = type_at-past xs j (omega arith)
-
-pub type_at-take : (xs : List VType) (n j : ℕ) → ((k : ℕ) → n ≤ k → type_at xs k ≡ types.Top) → type_at (take n xs) j ≡ type_at xs j
-type_at-take xs zero j h = type_at-past [] j (omega arith) ∙ sym (h j (omega arith))
-type_at-take [] (suc n) j h = refl
-type_at-take (x ∷ xs) (suc n) zero h = refl
-type_at-take (x ∷ xs) (suc n) (suc j) h = type_at-take xs n j (λ k below. h (suc k) (omega arith))
 
 pub slice_get-type_at : (xs : List VType) (j : ℕ) (t : VType) → slice_get xs j ≡ Some t → type_at xs j ≡ t
 slice_get-type_at xs j t e = ap (λ (x : Option VType). option_map_or (λ (u : VType). u) x types.Top) e

@@ -171,12 +171,3 @@ module _ (place : Place) (now : FrameType) (x y : ℕ → VType) where
       (λ maker. free_from types.UninitThis now.locals (λ j. ap (is_same_object types.UninitThis) (l j) ∙ unless_maker (x j) maker))
       (λ maker. free_from types.UninitThis now.stack (λ j. ap (is_same_object types.UninitThis) (s j) ∙ unless_maker (y j) maker))
   are_settled other l s = refl
-
-pub operand_top : (place : Place) (shape : Shape) → operand_settled place shape types.Top ≡ types.Top
-operand_top place (shapes.Heap heap.New) = refl
-operand_top place (shapes.Heap (heap.Return None)) =
-    elim (cases_Bool (is_maker place.method)) [
-      | inl maker ↦ rw maker refl
-      | inr other ↦ rw other refl
-    ]
-operand_top place other = refl

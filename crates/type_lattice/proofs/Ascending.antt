@@ -43,11 +43,6 @@ front_taken xs ys zs e = subst (λ (l : List ℕ). xs ≡ take (length xs) l) e 
   by [] = refl
   by (w ∷ ws) = ap (λ (l : List ℕ). w ∷ l) (by ws)
 
-pub none_past : (xs : List ℕ) (k : ℕ) → length xs ≤ k → slice_get xs k ≡ None
-none_past [] k le = refl
-none_past (x ∷ xs) zero le = absurd (omega arith)
-none_past (x ∷ xs) (suc k) le = none_past xs k (omega arith)
-
 pub there_within : {X : Type 0} (xs : List X) (k : ℕ) (x : X) → slice_get xs k ≡ Some x → k < length xs
 there_within [] k x e = absurd cc
 there_within (y ∷ xs) zero x e = omega arith
@@ -310,8 +305,6 @@ there_is (w ∷ ways) (suc at) d less = there_is ways at d (omega arith)
 
 -- a way that is put together from one above it
 module _ (ways : List Way) (parents : AreParents (parents_of ways)) (at p : ℕ) (some : parent_of (parents_of ways) at ≡ Some p) (above : Way) (is : IsWay (parents_of ways) p above) where
-  pub p_within : p < length ways
-  p_within = let less = parents.within at p some in let n = parents-length ways in omega arith
 
   pub jump_within : above.jump < length ways
   jump_within =

@@ -17,13 +17,3 @@ pub merged_within : (program : Program) (otherwise a b x y : List ℕ) → both_
 merged_within program otherwise [] b x y e = absurd cc
 merged_within program otherwise (c ∷ a) [] x y e = absurd cc
 merged_within program otherwise (c ∷ a) (d ∷ b) x y e = within_some ((c == 91) && (d == 91)) a b x y _ (arrays_merged program (described object)) e
-
-within_none : (b : Bool) (x y : List ℕ) (P Q : List ℕ) → ◌≡◌ {A = Option (List ℕ × List ℕ)} (cond b (Some (x, y)) None) None → cond b Q P ≡ P
-within_none true x y P Q e = absurd cc
-within_none false x y P Q e = refl
-
--- they are not
-pub merged_apart : (program : Program) (otherwise a b : List ℕ) → both_within a b ≡ None → arrays_merged program otherwise a b ≡ items_merged program otherwise a b
-merged_apart program otherwise [] b e = refl
-merged_apart program otherwise (c ∷ a) [] e = refl
-merged_apart program otherwise (c ∷ a) (d ∷ b) e = within_none ((c == 91) && (d == 91)) a b _ _ e
