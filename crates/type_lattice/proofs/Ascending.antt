@@ -305,7 +305,6 @@ there_is (w ∷ ways) (suc at) d less = there_is ways at d (omega arith)
 
 -- a way that is put together from one above it
 module _ (ways : List Way) (parents : AreParents (parents_of ways)) (at p : ℕ) (some : parent_of (parents_of ways) at ≡ Some p) (above : Way) (is : IsWay (parents_of ways) p above) where
-
   pub jump_within : above.jump < length ways
   jump_within =
       let less = stays_in (parents_of ways) parents above.steps p above.jump (parents.within at p some) is.jump in

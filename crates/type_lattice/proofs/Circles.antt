@@ -1,9 +1,9 @@
 -- Ways up of which none runs in a circle: each ends.
-use Rattle.std.proofs.Common.{◌≡◌, ℕ, suc, Bool, true, false, not, List, length, Option, Some, None, refl, sym, subst, ◌∙◌}
+use Rattle.std.proofs.Common.{◌≡◌, ◌≤◌, ◌↔◌, ℕ, zero, suc, Bool, true, false, not, List, [], ◌∷◌, length, Option, Some, None, refl, sym, ap, subst, ◌∙◌, arith}
 use Rattle.std.specs.Prelude.{IsTrue}
 use Rattle.std.specs.List.{list_all}
 use Rattle.api_listing.specs.declared.types.ListedClass.{ListedClass}
-use Rattle.api_listing.specs.Nearest.{class_named}
+use Rattle.api_listing.specs.Nearest.{class_named, upwards}
 use Rattle.bytecode_model.specs.Conditions.{stays_within, runs_in_circle}
 use Rattle.bytecode_model.specs.Order.{EachWayEnds}
 use Rattle.bytecode_model.proofs.Ending.{ended}
@@ -26,5 +26,35 @@ each_ends classes all name = ended classes (length classes) name (by (class_name
       let out : runs_in_circle classes c.name ≡ false = not_true _ (named_passes (leaves classes) classes name c all e) in
       subst (λ (n : List ℕ). stays_within (suc (length classes)) classes n ≡ false) (named_so classes name c e) out
 
-pub tested : (classes : List ListedClass) (b : Bool) → b ≡ list_all (leaves classes) classes → IsTrue b → EachWayEnds classes
-tested classes b e t = each_ends classes (sym e ∙ t)
+-- a way up that stays among the classes has a class for each step
+length_within : (n : ℕ) (classes : List ListedClass) (name : List ℕ) → stays_within n classes name ≡ true → length (upwards n classes name) ≡ n
+length_within zero classes name e = refl
+length_within (suc n) classes name e = by (class_named classes name) refl where
+  by : (o : Option ListedClass) → class_named classes name ≡ o → length (upwards (suc n) classes name) ≡ suc n
+  by None f = absurd (let g : false ≡ true = rw (← f) e in cc)
+  by (Some c) f = rw f (ap suc (length_within n classes c.parent (let g : stays_within n classes c.parent ≡ true = rw (← f) e in g)))
+
+at_most : (n : ℕ) (classes : List ListedClass) (name : List ℕ) → length (upwards n classes name) ≤ n
+at_most zero classes name = omega arith
+at_most (suc n) classes name = by (class_named classes name) refl where
+  by : (o : Option ListedClass) → class_named classes name ≡ o → length (upwards (suc n) classes name) ≤ suc n
+  by None f = rw f (omega arith)
+  by (Some c) f = rw f (let less = at_most n classes c.parent in omega arith)
+
+-- a way up that ends leaves the classes
+leaves_them : (classes : List ListedClass) → EachWayEnds classes → (name : List ℕ) → runs_in_circle classes name ≡ false
+leaves_them classes ends name = by (runs_in_circle classes name) refl where
+  by : (b : Bool) → runs_in_circle classes name ≡ b → b ≡ false
+  by false e = refl
+  by true e =
+      let long = length_within (suc (length classes)) classes name e in
+      let same = ap (λ (l : List ListedClass). length l) (ends name) in
+      let short = at_most (length classes) classes name in
+      absurd (omega arith)
+
+all_leave : (classes some : List ListedClass) → EachWayEnds classes → list_all (leaves classes) some ≡ true
+all_leave classes [] ends = refl
+all_leave classes (c ∷ some) ends = rw (leaves_them classes ends c.name) (all_leave classes some ends)
+
+pub tested : (classes : List ListedClass) (b : Bool) → b ≡ list_all (leaves classes) classes → IsTrue b ↔ EachWayEnds classes
+tested classes b e = (λ t. each_ends classes (sym e ∙ t), λ ends. e ∙ all_leave classes classes ends)

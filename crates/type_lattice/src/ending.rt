@@ -1,6 +1,6 @@
 //! Whether the ways up of classes end, by a plain walk.
 
-ghost use Rattle.std.specs.Prelude.{◌≡◌, IsTrue, not};
+ghost use Rattle.std.specs.Prelude.{◌≡◌, ◌↔◌, IsTrue, not};
 ghost use Rattle.std.specs.List.{list_all};
 ghost use Rattle.api_listing.specs.declared.types.ListedClass.{ListedClass};
 ghost use Rattle.bytecode_model.specs.Conditions.{runs_in_circle};
@@ -10,7 +10,7 @@ use api_listing::{ListedClass, find_class};
 
 /// Whether the way up from each class ends.
 pub fn each_way_ends(classes: &[ListedClass]) -> bool
-    ensures { IsTrue result → EachWayEnds classes.now }
+    ensures { IsTrue result ↔ EachWayEnds classes.now }
 {
     none_in_circle(classes)
 }

@@ -1,6 +1,6 @@
 //! A program with an index of its classes, and what is asked of these. None of the answers takes memory.
 
-ghost use Rattle.std.specs.Prelude.{◌≡◌, option_map, option_copied, find, length, IfOk, IfSome};
+ghost use Rattle.std.specs.Prelude.{◌≡◌, option_map, option_copied, find, length, IfOk, MatchOption};
 ghost use Rattle.api_listing.specs.declared.types.ListedClass.{ListedClass};
 ghost use Rattle.api_listing.specs.Nearest.{upwards};
 ghost use Rattle.bytecode_model.specs.Classes.{classes_of, is_below, is_interface};
@@ -46,7 +46,8 @@ impl Indexed {
 
     /// The same, where it is not known whether each way up ends: none where one does not.
     pub fn tested(alloc: Global, program: Program) -> Result<Option<Indexed>, NoMemory>
-        ensures { IfOk result (λ found. IfSome found (λ indexed. indexed ≡ program)) }
+        ensures { IfOk result (λ found. MatchOption found (EachWayEnds (classes_of program) → ⊥)
+            (λ indexed. (indexed ≡ program) × EachWayEnds (classes_of program))) }
     {
         let classes = classes_of(alloc, &program)?;
         if !each_way_ends(classes.as_slice()) {

@@ -9,6 +9,7 @@ use cert_format::VType;
 use class_codec::{ClassFile, Const};
 use mon_base::{Bytes, List, NoMemory};
 use std::alloc::Global;
+use std::process::Abort;
 use std::test::Fail;
 
 /// A class of this name and superclass, without members.
@@ -79,82 +80,94 @@ fn refs_fit(alloc: Global, program: &Indexed, from: &[u8], to: &[u8]) -> Result<
 
 #[test]
 fn types_that_are_no_references(rt: HostRuntime) -> Result<(), Fail> {
-    let alloc = rt.alloc();
-    let program = program_of(alloc)?;
+    let program = program_of(rt.alloc())?;
+    fit_without_references(&rt, rt.alloc(), &program)
+}
+
+fn fit_without_references(rt: &impl Abort, alloc: Global, program: &Indexed) -> Result<(), Fail> {
     let class = VType::Ref(Bytes::from_slice(alloc, b"a/A")?);
-    assert!(rt; assignable(&program, &VType::Null, &class));
-    assert!(rt; assignable(&program, &VType::Null, &VType::Null));
-    assert!(rt; !assignable(&program, &class, &VType::Null));
-    assert!(rt; assignable(&program, &VType::Int, &VType::Int));
-    assert!(rt; assignable(&program, &VType::Int, &VType::Top));
-    assert!(rt; assignable(&program, &class, &VType::Top));
-    assert!(rt; !assignable(&program, &VType::Top, &VType::Int));
-    assert!(rt; !assignable(&program, &VType::Int, &class));
-    assert!(rt; !assignable(&program, &VType::Null, &VType::Int));
-    assert!(rt; assignable(&program, &VType::Uninit(3), &VType::Uninit(3)));
-    assert!(rt; !assignable(&program, &VType::Uninit(3), &VType::Uninit(4)));
-    assert!(rt; !assignable(&program, &VType::Uninit(3), &class));
-    assert!(rt; assignable(&program, &VType::UninitThis, &VType::UninitThis));
-    assert!(rt; !assignable(&program, &VType::UninitThis, &class));
-    assert!(rt; assignable(&program, &VType::UninitThis, &VType::Top));
+    assert!(rt; assignable(program, &VType::Null, &class));
+    assert!(rt; assignable(program, &VType::Null, &VType::Null));
+    assert!(rt; !assignable(program, &class, &VType::Null));
+    assert!(rt; assignable(program, &VType::Int, &VType::Int));
+    assert!(rt; assignable(program, &VType::Int, &VType::Top));
+    assert!(rt; assignable(program, &class, &VType::Top));
+    assert!(rt; !assignable(program, &VType::Top, &VType::Int));
+    assert!(rt; !assignable(program, &VType::Int, &class));
+    assert!(rt; !assignable(program, &VType::Null, &VType::Int));
+    assert!(rt; assignable(program, &VType::Uninit(3), &VType::Uninit(3)));
+    assert!(rt; !assignable(program, &VType::Uninit(3), &VType::Uninit(4)));
+    assert!(rt; !assignable(program, &VType::Uninit(3), &class));
+    assert!(rt; assignable(program, &VType::UninitThis, &VType::UninitThis));
+    assert!(rt; !assignable(program, &VType::UninitThis, &class));
+    assert!(rt; assignable(program, &VType::UninitThis, &VType::Top));
     Ok(())
 }
 
 #[test]
 fn classes(rt: HostRuntime) -> Result<(), Fail> {
-    let alloc = rt.alloc();
-    let program = program_of(alloc)?;
-    assert!(rt; refs_fit(alloc, &program, b"a/B", b"a/B")?);
-    assert!(rt; refs_fit(alloc, &program, b"a/B", b"a/A")?);
-    assert!(rt; !refs_fit(alloc, &program, b"a/A", b"a/B")?);
-    assert!(rt; refs_fit(alloc, &program, b"a/B", b"java/lang/Object")?);
-    assert!(rt; refs_fit(alloc, &program, b"a/C", b"java/lang/Thread")?);
-    assert!(rt; !refs_fit(alloc, &program, b"a/C", b"a/A")?);
-    assert!(rt; refs_fit(alloc, &program, b"a/A", b"java/lang/Runnable")?);
-    assert!(rt; refs_fit(alloc, &program, b"a/A", b"a/I")?);
-    assert!(rt; !refs_fit(alloc, &program, b"java/lang/Object", b"a/A")?);
-    assert!(rt; refs_fit(alloc, &program, b"x/Unknown", b"x/Unknown")?);
-    assert!(rt; !refs_fit(alloc, &program, b"x/Unknown", b"a/A")?);
+    let program = program_of(rt.alloc())?;
+    fit_by_class(&rt, rt.alloc(), &program)
+}
+
+fn fit_by_class(rt: &impl Abort, alloc: Global, program: &Indexed) -> Result<(), Fail> {
+    assert!(rt; refs_fit(alloc, program, b"a/B", b"a/B")?);
+    assert!(rt; refs_fit(alloc, program, b"a/B", b"a/A")?);
+    assert!(rt; !refs_fit(alloc, program, b"a/A", b"a/B")?);
+    assert!(rt; refs_fit(alloc, program, b"a/B", b"java/lang/Object")?);
+    assert!(rt; refs_fit(alloc, program, b"a/C", b"java/lang/Thread")?);
+    assert!(rt; !refs_fit(alloc, program, b"a/C", b"a/A")?);
+    assert!(rt; refs_fit(alloc, program, b"a/A", b"java/lang/Runnable")?);
+    assert!(rt; refs_fit(alloc, program, b"a/A", b"a/I")?);
+    assert!(rt; !refs_fit(alloc, program, b"java/lang/Object", b"a/A")?);
+    assert!(rt; refs_fit(alloc, program, b"x/Unknown", b"x/Unknown")?);
+    assert!(rt; !refs_fit(alloc, program, b"x/Unknown", b"a/A")?);
     Ok(())
 }
 
 #[test]
 fn arrays(rt: HostRuntime) -> Result<(), Fail> {
-    let alloc = rt.alloc();
-    let program = program_of(alloc)?;
-    assert!(rt; refs_fit(alloc, &program, b"[I", b"[I")?);
-    assert!(rt; !refs_fit(alloc, &program, b"[I", b"[B")?);
-    assert!(rt; !refs_fit(alloc, &program, b"[I", b"[Ljava/lang/Object;")?);
-    assert!(rt; refs_fit(alloc, &program, b"[[I", b"[Ljava/lang/Object;")?);
-    assert!(rt; refs_fit(alloc, &program, b"[I", b"java/lang/Object")?);
-    assert!(rt; refs_fit(alloc, &program, b"[I", b"java/lang/Runnable")?);
-    assert!(rt; refs_fit(alloc, &program, b"[La/B;", b"[La/A;")?);
-    assert!(rt; !refs_fit(alloc, &program, b"[La/A;", b"[La/B;")?);
-    assert!(rt; refs_fit(alloc, &program, b"[[La/B;", b"[[La/A;")?);
-    assert!(rt; refs_fit(alloc, &program, b"[[La/B;", b"[Ljava/lang/Object;")?);
-    assert!(rt; !refs_fit(alloc, &program, b"[La/B;", b"[[La/B;")?);
-    assert!(rt; !refs_fit(alloc, &program, b"a/A", b"[La/A;")?);
-    assert!(rt; !refs_fit(alloc, &program, b"[La/A;", b"a/A")?);
-    assert!(rt; refs_fit(alloc, &program, b"[L[La/B;;", b"[L[La/B;;")?);
-    assert!(rt; !refs_fit(alloc, &program, b"[L[La/B;;", b"[L[La/A;;")?);
-    assert!(rt; !refs_fit(alloc, &program, b"[L[La/B;;", b"[Ljava/lang/Object;")?);
+    let program = program_of(rt.alloc())?;
+    fit_as_arrays(&rt, rt.alloc(), &program)
+}
+
+fn fit_as_arrays(rt: &impl Abort, alloc: Global, program: &Indexed) -> Result<(), Fail> {
+    assert!(rt; refs_fit(alloc, program, b"[I", b"[I")?);
+    assert!(rt; !refs_fit(alloc, program, b"[I", b"[B")?);
+    assert!(rt; !refs_fit(alloc, program, b"[I", b"[Ljava/lang/Object;")?);
+    assert!(rt; refs_fit(alloc, program, b"[[I", b"[Ljava/lang/Object;")?);
+    assert!(rt; refs_fit(alloc, program, b"[I", b"java/lang/Object")?);
+    assert!(rt; refs_fit(alloc, program, b"[I", b"java/lang/Runnable")?);
+    assert!(rt; refs_fit(alloc, program, b"[La/B;", b"[La/A;")?);
+    assert!(rt; !refs_fit(alloc, program, b"[La/A;", b"[La/B;")?);
+    assert!(rt; refs_fit(alloc, program, b"[[La/B;", b"[[La/A;")?);
+    assert!(rt; refs_fit(alloc, program, b"[[La/B;", b"[Ljava/lang/Object;")?);
+    assert!(rt; !refs_fit(alloc, program, b"[La/B;", b"[[La/B;")?);
+    assert!(rt; !refs_fit(alloc, program, b"a/A", b"[La/A;")?);
+    assert!(rt; !refs_fit(alloc, program, b"[La/A;", b"a/A")?);
+    assert!(rt; refs_fit(alloc, program, b"[L[La/B;;", b"[L[La/B;;")?);
+    assert!(rt; !refs_fit(alloc, program, b"[L[La/B;;", b"[L[La/A;;")?);
+    assert!(rt; !refs_fit(alloc, program, b"[L[La/B;;", b"[Ljava/lang/Object;")?);
     Ok(())
 }
 
 #[test]
 fn arrays_of_items(rt: HostRuntime) -> Result<(), Fail> {
-    let alloc = rt.alloc();
-    let program = program_of(alloc)?;
+    let program = program_of(rt.alloc())?;
+    fit_as_items(&rt, rt.alloc(), &program)
+}
+
+fn fit_as_items(rt: &impl Abort, alloc: Global, program: &Indexed) -> Result<(), Fail> {
     let of_classes = VType::Ref(Bytes::from_slice(alloc, b"[La/A;")?);
     let of_arrays = VType::Ref(Bytes::from_slice(alloc, b"[[I")?);
     let object = VType::Ref(Bytes::from_slice(alloc, b"java/lang/Object")?);
-    assert!(rt; lent_fits(&program, TypeRef::ArrayOf(b"a/B"), &of_classes));
-    assert!(rt; lent_fits(&program, TypeRef::ArrayOf(b"a/A"), &of_classes));
-    assert!(rt; !lent_fits(&program, TypeRef::ArrayOf(b"a/C"), &of_classes));
-    assert!(rt; lent_fits(&program, TypeRef::ArrayOf(b"[I"), &of_arrays));
-    assert!(rt; !lent_fits(&program, TypeRef::ArrayOf(b"[B"), &of_arrays));
-    assert!(rt; !lent_fits(&program, TypeRef::ArrayOf(b"a/A"), &of_arrays));
-    assert!(rt; lent_fits(&program, TypeRef::ArrayOf(b"a/A"), &object));
+    assert!(rt; lent_fits(program, TypeRef::ArrayOf(b"a/B"), &of_classes));
+    assert!(rt; lent_fits(program, TypeRef::ArrayOf(b"a/A"), &of_classes));
+    assert!(rt; !lent_fits(program, TypeRef::ArrayOf(b"a/C"), &of_classes));
+    assert!(rt; lent_fits(program, TypeRef::ArrayOf(b"[I"), &of_arrays));
+    assert!(rt; !lent_fits(program, TypeRef::ArrayOf(b"[B"), &of_arrays));
+    assert!(rt; !lent_fits(program, TypeRef::ArrayOf(b"a/A"), &of_arrays));
+    assert!(rt; lent_fits(program, TypeRef::ArrayOf(b"a/A"), &object));
     Ok(())
 }
 
@@ -174,41 +187,47 @@ fn refs_merge(
 
 #[test]
 fn merges_of_references(rt: HostRuntime) -> Result<(), Fail> {
-    let alloc = rt.alloc();
-    let program = program_of(alloc)?;
+    let program = program_of(rt.alloc())?;
+    merge_references(&rt, rt.alloc(), &program)
+}
+
+fn merge_references(rt: &impl Abort, alloc: Global, program: &Indexed) -> Result<(), Fail> {
     let object = b"java/lang/Object".as_slice();
     let null = b"java/lang/NullPointerException".as_slice();
     let sum = b"java/lang/ArithmeticException".as_slice();
-    assert!(rt; refs_merge(alloc, &program, null, sum, b"java/lang/RuntimeException")?);
-    assert!(rt; refs_merge(alloc, &program, b"a/B", b"a/A", b"a/A")?);
-    assert!(rt; refs_merge(alloc, &program, b"a/B", b"a/C", object)?);
-    assert!(rt; refs_merge(alloc, &program, b"a/B", b"a/I", object)?);
-    assert!(rt; refs_merge(alloc, &program, b"x/U", b"x/U", b"x/U")?);
-    assert!(rt; refs_merge(alloc, &program, b"x/U", b"a/A", object)?);
-    assert!(rt; refs_merge(alloc, &program, b"[La/B;", b"[La/A;", b"[La/A;")?);
-    assert!(rt; refs_merge(alloc, &program, b"[[La/B;", b"[[La/A;", b"[[La/A;")?);
-    assert!(rt; refs_merge(alloc, &program, b"[I", b"[B", object)?);
-    assert!(rt; refs_merge(alloc, &program, b"[I", b"[La/A;", object)?);
-    assert!(rt; refs_merge(alloc, &program, b"[[I", b"[[B", b"[Ljava/lang/Object;")?);
-    assert!(rt; refs_merge(alloc, &program, b"[[I", b"[La/A;", b"[Ljava/lang/Object;")?);
-    assert!(rt; refs_merge(alloc, &program, b"[La/A;", b"a/A", object)?);
-    assert!(rt; refs_merge(alloc, &program, b"[L[I;", b"[L[I;", b"[L[I;")?);
-    assert!(rt; refs_merge(alloc, &program, b"[L[I;", b"[La/A;", object)?);
+    assert!(rt; refs_merge(alloc, program, null, sum, b"java/lang/RuntimeException")?);
+    assert!(rt; refs_merge(alloc, program, b"a/B", b"a/A", b"a/A")?);
+    assert!(rt; refs_merge(alloc, program, b"a/B", b"a/C", object)?);
+    assert!(rt; refs_merge(alloc, program, b"a/B", b"a/I", object)?);
+    assert!(rt; refs_merge(alloc, program, b"x/U", b"x/U", b"x/U")?);
+    assert!(rt; refs_merge(alloc, program, b"x/U", b"a/A", object)?);
+    assert!(rt; refs_merge(alloc, program, b"[La/B;", b"[La/A;", b"[La/A;")?);
+    assert!(rt; refs_merge(alloc, program, b"[[La/B;", b"[[La/A;", b"[[La/A;")?);
+    assert!(rt; refs_merge(alloc, program, b"[I", b"[B", object)?);
+    assert!(rt; refs_merge(alloc, program, b"[I", b"[La/A;", object)?);
+    assert!(rt; refs_merge(alloc, program, b"[[I", b"[[B", b"[Ljava/lang/Object;")?);
+    assert!(rt; refs_merge(alloc, program, b"[[I", b"[La/A;", b"[Ljava/lang/Object;")?);
+    assert!(rt; refs_merge(alloc, program, b"[La/A;", b"a/A", object)?);
+    assert!(rt; refs_merge(alloc, program, b"[L[I;", b"[L[I;", b"[L[I;")?);
+    assert!(rt; refs_merge(alloc, program, b"[L[I;", b"[La/A;", object)?);
     Ok(())
 }
 
 #[test]
 fn merges_of_others(rt: HostRuntime) -> Result<(), Fail> {
-    let alloc = rt.alloc();
-    let program = program_of(alloc)?;
+    let program = program_of(rt.alloc())?;
+    merge_others(&rt, rt.alloc(), &program)
+}
+
+fn merge_others(rt: &impl Abort, alloc: Global, program: &Indexed) -> Result<(), Fail> {
     let class = VType::Ref(Bytes::from_slice(alloc, b"a/A")?);
-    assert!(rt; merge(alloc, &program, &VType::Null, &class)? == class);
-    assert!(rt; merge(alloc, &program, &class, &VType::Null)? == class);
-    assert!(rt; merge(alloc, &program, &VType::Int, &VType::Int)? == VType::Int);
-    assert!(rt; merge(alloc, &program, &VType::Int, &class)? == VType::Top);
-    assert!(rt; merge(alloc, &program, &VType::Uninit(1), &VType::Uninit(1))? == VType::Uninit(1));
-    assert!(rt; merge(alloc, &program, &VType::Uninit(1), &VType::Uninit(2))? == VType::Top);
-    assert!(rt; merge(alloc, &program, &VType::UninitThis, &class)? == VType::Top);
+    assert!(rt; merge(alloc, program, &VType::Null, &class)? == class);
+    assert!(rt; merge(alloc, program, &class, &VType::Null)? == class);
+    assert!(rt; merge(alloc, program, &VType::Int, &VType::Int)? == VType::Int);
+    assert!(rt; merge(alloc, program, &VType::Int, &class)? == VType::Top);
+    assert!(rt; merge(alloc, program, &VType::Uninit(1), &VType::Uninit(1))? == VType::Uninit(1));
+    assert!(rt; merge(alloc, program, &VType::Uninit(1), &VType::Uninit(2))? == VType::Top);
+    assert!(rt; merge(alloc, program, &VType::UninitThis, &class)? == VType::Top);
     Ok(())
 }
 
