@@ -6,7 +6,6 @@ use Rattle.api_listing.specs.declared.fault.ListFault.TheVariants as listings
 use Rattle.class_codec.specs.Fault.{number_of as class_number}
 use Rattle.class_codec.specs.declared.fault.ClassFault.{ClassFault}
 use Rattle.class_codec.specs.declared.fault.ClassFault.TheVariants as classes
-use Rattle.conspec_parse.specs.Fault.{number_of as policy_number}
 use Rattle.conspec_parse.specs.declared.fault.PolicyFault.{PolicyFault}
 use Rattle.conspec_parse.specs.declared.fault.PolicyFault.TheVariants as policies
 use Rattle.event_record.specs.Fault.{number_of as record_number}
@@ -14,6 +13,17 @@ use Rattle.event_record.specs.declared.fault.RecordFault.{RecordFault}
 use Rattle.event_record.specs.declared.fault.RecordFault.TheVariants as records
 use Rattle.inliner_tool.specs.declared.fault.InputFault.{InputFault}
 use Rattle.inliner_tool.specs.declared.fault.InputFault.TheVariants as faults
+
+abbrev pub policy_number : PolicyFault → ℕ
+policy_number (policies.Syntax at) = 181
+policy_number (policies.Name at) = 182
+policy_number (policies.Kind at) = 183
+policy_number (policies.Range at) = 184
+policy_number (policies.NoMethod at) = 185
+policy_number (policies.Twice at) = 186
+policy_number (policies.Limit at) = 187
+policy_number (policies.Builtin at) = 188
+policy_number policies.Memory = 0
 
 abbrev pub number_of : InputFault → ℕ
 number_of (faults.TooLong len) = 107

@@ -1,7 +1,7 @@
 //! Why a file is not read as what it is named for.
 
 ghost use Rattle.std.specs.Prelude.{◌≡◌};
-ghost use Rattle.inliner_tool.specs.Fault.{class_told, listing_told, number_of, policy_told, record_told};
+ghost use Rattle.inliner_tool.specs.Fault.{class_told, listing_told, number_of, policy_number, policy_told, record_told};
 
 use api_listing::ListFault;
 use class_codec::ClassFault;
@@ -31,12 +31,29 @@ impl InputFault {
         match self {
             InputFault::TooLong { .. } => 107,
             InputFault::Listing(fault) => fault.number(),
-            InputFault::Policy(fault) => fault.number(),
+            InputFault::Policy(fault) => policy_number(*fault),
             InputFault::Class(fault) => fault.number(),
             InputFault::Record(fault) => fault.number(),
             InputFault::NotBuilt => 199,
             InputFault::Memory => 0,
         }
+    }
+}
+
+/// The number under which the fault of a policy is reported, or 0 for want of memory.
+fn policy_number(fault: PolicyFault) -> u32
+    ensures { result ≡ policy_number fault }
+{
+    match fault {
+        PolicyFault::Syntax { .. } => 181,
+        PolicyFault::Name { .. } => 182,
+        PolicyFault::Kind { .. } => 183,
+        PolicyFault::Range { .. } => 184,
+        PolicyFault::NoMethod { .. } => 185,
+        PolicyFault::Twice { .. } => 186,
+        PolicyFault::Limit { .. } => 187,
+        PolicyFault::Builtin { .. } => 188,
+        PolicyFault::Memory => 0,
     }
 }
 
