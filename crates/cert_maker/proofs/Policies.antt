@@ -18,7 +18,6 @@ use Rattle.api_listing.specs.Listing.{AreSaid, SpellsListing, method_declared}
 use Rattle.bytecode_model.specs.Described.{Descriptor, arguments}
 use Rattle.bytecode_model.proofs.Lists.{some_is, all_get}
 use Rattle.conspec_tree.specs.declared.types.Kind.{Kind}
-use Rattle.conspec_tree.specs.declared.types.PolicyTree.{PolicyTree}
 use Rattle.conspec_tree.specs.declared.types.TreeClause.{TreeClause}
 use Rattle.conspec_tree.specs.Kinds.{array_kind, kind_of}
 use Rattle.conspec_tree.specs.Telling.{ClauseTellsKinds}

@@ -15,7 +15,7 @@ use Rattle.api_listing.specs.declared.types.ListedMethod.{ListedMethod}
 use Rattle.api_listing.specs.declared.types.Listing.{Listing}
 use Rattle.api_listing.specs.BuiltIn.{is_method}
 use Rattle.api_listing.specs.Descriptor as listed
-use Rattle.api_listing.specs.Descriptor.{class_spelled, is_element, is_type, named_only, until, SpellsDescriptor}
+use Rattle.api_listing.specs.Descriptor.{class_spelled, is_element, is_type, named_only, until}
 use Rattle.api_listing.specs.Nearest.{declared_in}
 use Rattle.api_listing.specs.Words.{is_name_start, is_name_byte, is_class_name}
 use Rattle.api_listing.proofs.DescriptorLaws.{both, name_again}

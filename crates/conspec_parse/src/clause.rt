@@ -5,7 +5,20 @@ ghost use Rattle.mon_base.specs.Answer.{AnswersAs};
 ghost use Rattle.conspec_parse.specs.Forms.{each};
 ghost use Rattle.conspec_parse.specs.Scope.{HasFewNames};
 ghost use Rattle.conspec_tree.specs.Guards.{branches};
-ghost use Rattle.conspec_parse.specs.Clauses.{begins_guard, guard_at, last_guard, with_else, body_at, next_phase, begins_clause, is_assigned, given_result_at, result_name_at, asked_params, clause_at};
+ghost use Rattle.conspec_parse.specs.Clauses.{
+  begins_guard,
+  guard_at,
+  last_guard,
+  with_else,
+  body_at,
+  next_phase,
+  begins_clause,
+  is_assigned,
+  given_result_at,
+  result_name_at,
+  asked_params,
+  clause_at,
+};
 
 use crate::fault::PolicyFault;
 use crate::forms::{behind, is_short, name_at};

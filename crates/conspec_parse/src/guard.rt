@@ -5,7 +5,20 @@ ghost use Rattle.mon_base.specs.Answer.{AnswersAs};
 ghost use Rattle.conspec_tokens.specs.Front.{is_next};
 ghost use Rattle.conspec_parse.specs.Forms.{taken, each};
 ghost use Rattle.conspec_parse.specs.Scope.{HasFewNames};
-ghost use Rattle.conspec_parse.specs.Guards.{next_rel, truth_value, negative_at, positive_at, constant_at, atom_at, next_atom, no_atoms, atoms_at, conj_at, next_conj, conjs_at};
+ghost use Rattle.conspec_parse.specs.Guards.{
+  next_rel,
+  truth_value,
+  negative_at,
+  positive_at,
+  constant_at,
+  atom_at,
+  next_atom,
+  no_atoms,
+  atoms_at,
+  conj_at,
+  next_conj,
+  conjs_at,
+};
 
 use crate::fault::PolicyFault;
 use crate::forms::{behind, name_at, number_at};

@@ -2,7 +2,15 @@
 
 ghost use Rattle.std.specs.Prelude.{◌≡◌, ◌≤◌, length, IfOk};
 ghost use Rattle.mon_base.specs.Answer.{AnswersAs};
-ghost use Rattle.conspec_parse.specs.Head.{header_at, truth_at, count_at, first_at, begins_variable, variable_at, variables_at};
+ghost use Rattle.conspec_parse.specs.Head.{
+  header_at,
+  truth_at,
+  count_at,
+  first_at,
+  begins_variable,
+  variable_at,
+  variables_at,
+};
 
 use crate::fault::PolicyFault;
 use crate::forms::{behind, is_short, name_at, number_at};

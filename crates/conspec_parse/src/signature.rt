@@ -4,7 +4,22 @@ ghost use Rattle.std.specs.Prelude.{◌≡◌, codes, IfOk};
 ghost use Rattle.mon_base.specs.Answer.{AnswersAs};
 ghost use Rattle.conspec_tokens.specs.Front.{is_next};
 ghost use Rattle.conspec_parse.specs.Forms.{each};
-ghost use Rattle.conspec_parse.specs.Methods.{is_named, is_parameter, is_free, given_name_at, parameter_name_at, parameter_at, next_parameter, some_parameters, parameters_at, part_at, class_under, next_step, path_at, signature_at};
+ghost use Rattle.conspec_parse.specs.Methods.{
+  is_named,
+  is_parameter,
+  is_free,
+  given_name_at,
+  parameter_name_at,
+  parameter_at,
+  next_parameter,
+  some_parameters,
+  parameters_at,
+  part_at,
+  class_under,
+  next_step,
+  path_at,
+  signature_at,
+};
 
 use crate::fault::PolicyFault;
 use crate::forms::{behind, is_short, name_at};

@@ -2,7 +2,18 @@
 
 ghost use Rattle.std.specs.Prelude.{◌≡◌, codes, IfOk};
 ghost use Rattle.mon_base.specs.Answer.{AnswersAs};
-ghost use Rattle.conspec_parse.specs.Types.{judged_name, type_named, plain_type, next_part, class_at, class_type_at, element_at, dimension_at, array_of, type_at};
+ghost use Rattle.conspec_parse.specs.Types.{
+  judged_name,
+  type_named,
+  plain_type,
+  next_part,
+  class_at,
+  class_type_at,
+  element_at,
+  dimension_at,
+  array_of,
+  type_at,
+};
 ghost use Rattle.conspec_tokens.specs.Front.{is_next};
 ghost use Rattle.conspec_parse.specs.Forms.{each};
 

@@ -4,7 +4,15 @@ ghost use Rattle.std.specs.Prelude.{◌≡◌, ◌≤◌, [], length};
 ghost use Rattle.mon_base.specs.Answer.{AnswersAs};
 ghost use Rattle.conspec_tokens.specs.Front.{is_name};
 ghost use Rattle.conspec_parse.specs.Forms.{taken, each};
-ghost use Rattle.conspec_parse.specs.Updates.{set_at, next_sign, signed, sum_at, right_at, update_at, block_at};
+ghost use Rattle.conspec_parse.specs.Updates.{
+  set_at,
+  next_sign,
+  signed,
+  sum_at,
+  right_at,
+  update_at,
+  block_at,
+};
 
 use crate::fault::PolicyFault;
 use crate::forms::{behind, name_at, number_at};

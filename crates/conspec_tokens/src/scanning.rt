@@ -8,7 +8,25 @@ ghost use Rattle.std.specs.List.{list_any, prefix_len, starts_with};
 ghost use Rattle.std.specs.Char.{is_ascii_digit};
 ghost use Rattle.api_listing.specs.Words.{is_name_start, is_name_byte};
 ghost use Rattle.conspec_tokens.specs.Words.{is_keyword, signs};
-ghost use Rattle.conspec_tokens.specs.Tokens.{most, number_from, number_of, word_of, first_sign, sign_of, word_at, digits_at, sign_at, token_at, is_blank, in_gap, seen, begun, is_wrong, next_spot, tokens_of};
+ghost use Rattle.conspec_tokens.specs.Tokens.{
+  most,
+  number_from,
+  number_of,
+  word_of,
+  first_sign,
+  sign_of,
+  word_at,
+  digits_at,
+  sign_at,
+  token_at,
+  is_blank,
+  in_gap,
+  seen,
+  begun,
+  is_wrong,
+  next_spot,
+  tokens_of,
+};
 
 use crate::token::{Lexeme, Token};
 use mon_base::{Bytes, List, NoMemory};
