@@ -2,3 +2,4 @@ pub mod Declaring
 pub mod Leaving
 pub mod Owning
 pub mod Reaching
+pub mod Sharing

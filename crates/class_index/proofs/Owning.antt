@@ -11,7 +11,7 @@ use Rattle.api_listing.specs.BuiltIn.{MethodRow, method_rows, is_method, is_row,
 use Rattle.api_listing.specs.Listing.{has_method}
 use Rattle.api_listing.specs.Seen.{has_name}
 use Rattle.bytecode_model.specs.Conditions.{is_run, is_of_library}
-use Rattle.class_index.specs.Index.{is_owner, java_lang, may_own, OverridesAs}
+use Rattle.class_index.specs.Library.{is_owner, java_lang, may_own, OverridesAs}
 use Rattle.bytecode_model.specs.Members.{in_class}
 use Rattle.bytecode_model.proofs.Placing.{same_name}
 

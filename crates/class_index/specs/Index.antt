@@ -1,22 +1,21 @@
 -- Ordered maps made once, from which each look-up gives what a plain scan gives.
-use Rattle.std.specs.Prelude.{◌≡◌, ℕ, ◌+◌, ◌||◌, Bool, List, length, bytes_eq, nat_eq, codes, Option, Some}
-use Rattle.std.specs.List.{list_any, starts_with}
+use Rattle.std.specs.Prelude.{◌≡◌, ℕ, ◌+◌, List, length, Option, Some}
 use Rattle.std.specs.BTreeMap.{BTreeMap, get}
 use Rattle.std.specs.BTreeSet.{BTreeSet}
 use Rattle.mon_base.specs.declared.method.MethodId.{MethodId}
 use Rattle.class_codec.specs.declared.tree.ClassFile.{ClassFile}
 use Rattle.api_listing.specs.declared.types.ListedClass.{ListedClass}
 use Rattle.api_listing.specs.declared.types.Listing.{Listing}
-use Rattle.api_listing.specs.declared.types.ListedMethod.{ListedMethod}
 use Rattle.api_listing.specs.Nearest.{interfaces_of, names_of, upwards}
 use Rattle.api_listing.specs.Seen.{id_cmp, has_id, has_name}
 use Rattle.api_listing.specs.Listing.{has_method}
 use Rattle.bytecode_model.specs.declared.members.Found.{Found}
+use Rattle.class_index.specs.declared.library.Shared.{Shared}
 use Rattle.class_index.specs.declared.near.Near.{Near}
-use Rattle.bytecode_model.specs.Conditions.{overrides_in}
 use Rattle.bytecode_model.specs.Heads.{all_classes}
 use Rattle.bytecode_model.specs.Members.{methods_declared, fields_declared, first_of, first_found}
 use Rattle.bytecode_model.specs.Operands.{literals_of}
+use Rattle.class_index.specs.Library.{is_owner, AreShared}
 use Rattle.bytecode_model.specs.SearchOrder.{is_one_of}
 use Rattle.bytecode_model.specs.Places.{ClassesPlaced}
 
@@ -47,24 +46,6 @@ FoundAbove declared classes id near = first_found (found_in declared) id (names_
 abbrev pub AreNear : BTreeMap MethodId Near → BTreeMap MethodId Found → List ListedClass → Type 0
 AreNear near declared classes = (q : MethodId) (n : Near) → near_in near q ≡ Some n → FoundAbove declared classes q n
 
--- ---- the library
-
--- whether one of the methods is of the class
-abbrev pub is_owner : List ListedMethod → List ℕ → Bool
-is_owner methods class = list_any (λ (m : ListedMethod). bytes_eq m.id.class class) methods
-
--- the names with which the classes of Java's own library begin
-abbrev pub java_lang : List ℕ
-java_lang = codes "java/lang/"
-
--- The class is one of the owners, or one of Java's own library.
-abbrev pub may_own : BTreeSet (List ℕ) → List ℕ → Bool
-may_own owners class = has_name owners class || starts_with nat_eq class java_lang
-
--- A method of the library is found among some classes exactly where it is found among all.
-abbrev pub OverridesAs : Listing → List (List ℕ) → List (List ℕ) → Type 0
-OverridesAs listing some all = (id : MethodId) → overrides_in listing id some ≡ overrides_in listing id all
-
 -- ---- the index of files and a listing
 
 -- what an index is made of
@@ -72,7 +53,7 @@ pub record Given : Type 0 where
   pub files : List ClassFile
   pub listing : Listing
 
-pub record IsIndex (files : List ClassFile) (listing : Listing) (classes : List ListedClass) (methods fields : BTreeMap MethodId Found) (near_methods near_fields : BTreeMap MethodId Near) (library : BTreeSet MethodId) (owners : BTreeSet (List ℕ)) (literals : List (List ℕ)) : Type 0 where
+pub record IsIndex (files : List ClassFile) (listing : Listing) (classes : List ListedClass) (methods fields : BTreeMap MethodId Found) (near_methods near_fields : BTreeMap MethodId Near) (library : BTreeSet MethodId) (owners : BTreeSet (List ℕ)) (shared : Shared) (literals : List (List ℕ)) : Type 0 where
   pub all : classes ≡ all_classes listing files
   pub methods_found : (q : MethodId) → found_in methods q ≡ first_of (methods_declared files listing) q
   pub fields_found : (q : MethodId) → found_in fields q ≡ first_of (fields_declared files listing) q
@@ -80,4 +61,5 @@ pub record IsIndex (files : List ClassFile) (listing : Listing) (classes : List 
   pub fields_near : AreNear near_fields fields classes
   pub listed : (q : MethodId) → has_id library q ≡ has_method listing.methods q
   pub owned : (q : List ℕ) → has_name owners q ≡ is_owner listing.methods q
+  pub lists : AreShared owners classes shared
   pub texts : literals ≡ literals_of files

@@ -1,2 +1,3 @@
 pub mod Heights
+pub mod Library
 pub mod Index

@@ -10,14 +10,14 @@ ghost use Rattle.bytecode_model.specs.Members.{method_of, field_of};
 ghost use Rattle.bytecode_model.specs.Conditions.{is_of_library, is_run};
 ghost use Rattle.api_listing.specs.BuiltIn.{is_built_in};
 ghost use Rattle.bytecode_model.specs.Operands.{known_in, literals_of, place_of};
-ghost use Rattle.class_index.specs.Index.{may_own, OverridesAs};
+ghost use Rattle.class_index.specs.Library.{OverridesAs};
 
 use crate::classes::Classes;
 use crate::declared::{fields_of, listed_methods, methods_of, owners_of};
 use crate::heads::copy_both;
+use crate::library::{Shared, owners_above, shared_of};
 use crate::literals::Literals;
 use crate::near::{Near, member_of, near_of};
-use crate::search::search_order;
 use api_listing::{ListedClass, Listing, is_built_in};
 use bytecode_model::{Found, MemberKind, is_text};
 use class_codec::ClassFile;
@@ -39,6 +39,7 @@ pub struct Index<'a> {
     near_fields: BTreeMap<MethodId, Near>,
     library: BTreeSet<MethodId>,
     owners: BTreeSet<Bytes>,
+    shared: Shared,
     literals: Literals,
 }
 
@@ -50,7 +51,7 @@ impl<'a> Model for Index<'a> {
     ghost view = { λ i. record { files = i.files.now; listing = i.listing.now } };
 
     ghost invariant = { λ i. IsIndex i.files.now i.listing.now i.classes i.methods i.fields
-        i.near_methods i.near_fields i.library i.owners i.literals };
+        i.near_methods i.near_fields i.library i.owners i.shared i.literals };
 }
 
 impl<'a> Index<'a> {
@@ -75,6 +76,7 @@ impl<'a> Index<'a> {
         let near_fields = near_of(alloc, &classes, &fields, MemberKind::Field, files)?;
         let library = listed_methods(alloc, listing.methods.as_slice())?;
         let owners = owners_of(alloc, listing.methods.as_slice())?;
+        let shared = shared_of(alloc, &classes, &owners, heads)?;
         let literals = Literals::new(alloc, files)?;
         Ok(Index {
             files,
@@ -86,6 +88,7 @@ impl<'a> Index<'a> {
             near_fields,
             library,
             owners,
+            shared,
             literals,
         })
     }
@@ -102,8 +105,7 @@ impl<'a> Index<'a> {
         ensures { IfOk result (λ above.
             OverridesAs self.now.listing above (search_order (all_classes self.now.listing self.now.files) name.now)) }
     {
-        let order = search_order(alloc, &self.classes, name)?;
-        let above = owners_among(alloc, &self.owners, order.as_slice())?;
+        let above = owners_above(alloc, &self.classes, &self.owners, &self.shared, name)?;
         Ok(above)
     }
 
@@ -155,6 +157,7 @@ impl<'a> Index<'a> {
             near_fields,
             library,
             owners,
+            shared,
             literals,
         } = self;
         literals.into_list()
@@ -171,41 +174,4 @@ fn is_run(id: &MethodId) -> bool
     ensures { result ≡ is_run id.now.name id.now.desc }
 {
     is_text(id.name.as_slice(), "run") && is_text(id.desc.as_slice(), "()V")
-}
-
-/// Those of the classes that may have methods of the library.
-fn owners_among(
-    alloc: Global,
-    owners: &BTreeSet<Bytes>,
-    order: &[Bytes],
-) -> Result<List<Bytes>, NoMemory>
-    ensures { IfOk result (λ some. some ≡ filter (may_own owners.now) order.now) }
-{
-    let mut some = List::new(alloc);
-    let mut left = order;
-    while let [name, rest @ ..] = left {
-        add_owner(alloc, owners, &mut some, name)?;
-        left = rest;
-    }
-    Ok(some)
-}
-
-fn add_owner(
-    alloc: Global,
-    owners: &BTreeSet<Bytes>,
-    some: &mut List<Bytes>,
-    name: &Bytes,
-) -> Result<(), NoMemory>
-    ensures { OnOk result (some.new ≡ some.old ++ filter (may_own owners.now) (name.now ∷ [])) }
-{
-    if may_own(owners, name) {
-        some.push(name.copy(alloc)?)?;
-    }
-    Ok(())
-}
-
-fn may_own(owners: &BTreeSet<Bytes>, name: &Bytes) -> bool
-    ensures { result ≡ may_own owners.now name.now }
-{
-    owners.contains(name) || name.as_slice().starts_with(b"java/lang/".as_slice())
 }

@@ -9,6 +9,7 @@ mod declared;
 mod heads;
 mod heights;
 mod index;
+mod library;
 mod literals;
 mod near;
 mod places;

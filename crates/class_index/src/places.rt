@@ -9,12 +9,12 @@ use mon_base::{Bytes, NoMemory};
 use std::alloc::Global;
 use std::collections::{BTreeMap, BTreeSet};
 
-/// Notes the place of the name, if the name is new.
-pub fn add_place(
+/// Notes the place of the name, or what else is told of it, if the name is new.
+pub fn add_place<T: Drop>(
     alloc: Global,
-    places: &mut BTreeMap<Bytes, usize>,
+    places: &mut BTreeMap<Bytes, T>,
     name: &Bytes,
-    place: usize,
+    place: T,
 ) -> Result<(), NoMemory>
     ensures { OnOk result ((q : List ℕ) → place_in places.new q
         ≡ option_or (place_in places.old q) (if bytes_eq name.now q then Some place else None)) }

@@ -50,7 +50,8 @@ fn climb(
     Ok(())
 }
 
-fn add_names(alloc: Global, names: &mut List<Bytes>, others: &[Bytes]) -> Result<(), NoMemory>
+/// Adds the others behind the names.
+pub fn add_names(alloc: Global, names: &mut List<Bytes>, others: &[Bytes]) -> Result<(), NoMemory>
     ensures { OnOk result (names.new ≡ names.old ++ others.now) }
 {
     for name in others {

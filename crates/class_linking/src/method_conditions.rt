@@ -4,7 +4,7 @@ ghost use Rattle.std.specs.Prelude.{◌≡◌, ◌&&◌, ◌≤◌, length, IfOk
 ghost use Rattle.mon_base.specs.Answer.{Answers};
 ghost use Rattle.bytecode_model.specs.Heads.{all_classes};
 ghost use Rattle.bytecode_model.specs.SearchOrder.{search_order};
-ghost use Rattle.class_index.specs.Index.{OverridesAs};
+ghost use Rattle.class_index.specs.Library.{OverridesAs};
 ghost use Rattle.bytecode_model.specs.Conditions.{code_in, has_good_flags, is_good_initialiser, is_begun_unlocked, describes_method, has_its_code, is_allowed, overrides_in, overrides, id_of};
 
 use api_listing::{FormFault, parse_descriptor};

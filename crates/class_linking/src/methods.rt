@@ -9,7 +9,7 @@ ghost use Rattle.insn_codec.specs.Spelling.{len_from};
 ghost use Rattle.mon_base.specs.Answer.{Answers, Tells};
 ghost use Rattle.bytecode_model.specs.Heads.{all_classes, head_of};
 ghost use Rattle.bytecode_model.specs.SearchOrder.{search_order};
-ghost use Rattle.class_index.specs.Index.{OverridesAs};
+ghost use Rattle.class_index.specs.Library.{OverridesAs};
 ghost use Rattle.bytecode_model.specs.Sound.{IsSoundMethod};
 ghost use Rattle.class_linking.specs.Linking.{bare, with_code, code_told, read_of, code_linked, method_linked, methods_linked};
 

@@ -1,8 +1,7 @@
-use Rattle.std.proofs.Common.{◌≡◌, ◌∙◌, ap, sym}
-use Rattle.std.specs.List.{filter}
+use Rattle.std.proofs.Common.{◌∙◌, ap, sym}
 use Rattle.bytecode_model.specs.Conditions.{overrides_in}
 use Rattle.bytecode_model.specs.Heads.{all_classes}
-use Rattle.class_index.specs.Index.{Given, may_own}
+use Rattle.class_index.specs.Index.{Given}
 use Rattle.bytecode_model.specs.SearchOrder.{search_order}
 use Rattle.class_index.proofs.Owning.{owners_suffice}
 use Rattle.class_index.proofs.index.Index.library_above.Goals as goal
@@ -13,8 +12,7 @@ returns c id =
     let name = c.args.name.now in
     let above = c.in_ok-above.above in
     let names = search_order given.classes name in
-    let kept : above ≡ filter (may_own given.owners) names = c.in_ok-above.ensures ∙ ap (filter (may_own given.owners)) (c.as_slice.ensures ∙ c.in_ok-order.ensures) in
-    ap (λ (g : Given). overrides_in g.listing id above) (sym c.self.view_is) ∙ ap (overrides_in given.listing.now id) kept
+    ap (λ (g : Given). overrides_in g.listing id above) (sym c.self.view_is) ∙ ap (overrides_in given.listing.now id) c.in_ok-above.ensures
     ∙ owners_suffice given.owners given.listing.now names c.self.invariant.owned id
     ∙ ap (λ cs. overrides_in given.listing.now id (search_order cs name)) c.self.invariant.all
     ∙ ap (λ (g : Given). overrides_in g.listing id (search_order (all_classes g.listing g.files) name)) c.self.view_is

@@ -1,7 +1,7 @@
 use Rattle.std.proofs.Common.{◌≡◌, ◌++◌, length}
 use Rattle.std.specs.List.{filter}
-use Rattle.class_index.specs.Index.{may_own}
-use Rattle.class_index.proofs.index.owners_among.Given as goal
+use Rattle.class_index.specs.Library.{may_own}
+use Rattle.class_index.proofs.library.owners_among.Given as goal
 
 abbrev pub invariant-loop-left : goal.invariant-loop-left
 invariant-loop-left l = l.some ++ filter (may_own l.owners) l.left ≡ filter (may_own l.owners) l.order
