@@ -1,5 +1,5 @@
--- The forms of certificates and programs that are built so far.
-use Rattle.std.specs.Prelude.{ℕ, ◌==◌, ◌&&◌, ◌||◌, nat_le, Bool, true, false, bytes_eq, codes, if◌then◌else◌, List, [], ◌∷◌, ◌++◌, Option, Some, None, slice_get}
+-- The form of programs that is built so far.
+use Rattle.std.specs.Prelude.{ℕ, ◌==◌, ◌&&◌, ◌||◌, nat_le, Bool, true, false, bytes_eq, codes, if◌then◌else◌, List, [], ◌∷◌, ◌++◌, slice_get}
 use Rattle.std.specs.List.{list_all}
 use Rattle.std.specs.Option.{option_map_or}
 use Rattle.api_listing.specs.declared.types.ListedMethod.{ListedMethod}
@@ -9,14 +9,6 @@ use Rattle.bytecode_model.specs.declared.program.Program.{Program}
 use Rattle.bytecode_model.specs.declared.program.Target.{Target}
 use Rattle.bytecode_model.specs.declared.program.Target.TheVariants as target
 use Rattle.block_logic.specs.Operands.{is_way_out}
-use Rattle.cert_format.specs.declared.certificate.Certificate.{Certificate}
-use Rattle.cert_format.specs.declared.certificate.Mode.{Mode}
-use Rattle.cert_format.specs.declared.certificate.Mode.TheVariants as modes
-use Rattle.cert_format.specs.declared.note.Note.{Note}
-use Rattle.cert_format.specs.declared.note.Note.TheVariants as notes
-use Rattle.cert_format.specs.declared.typing.FrameType.{FrameType}
-use Rattle.cert_format.specs.declared.typing.VType.{VType}
-use Rattle.cert_format.specs.declared.typing.VType.TheVariants as types
 use Rattle.class_codec.specs.declared.tree.Attr.{Attr}
 use Rattle.class_codec.specs.declared.tree.Attr.TheVariants as attributes
 use Rattle.class_codec.specs.declared.tree.ClassFile.{ClassFile}

@@ -1,6 +1,5 @@
 -- The numbers under which faults are printed, and the fields behind them: a row for each fault.
 use Rattle.std.specs.Prelude.{ℕ, ℤ, List, [], ◌∷◌, codes}
-use Rattle.answer_text.specs.declared.field.Field.{Field}
 use Rattle.answer_text.specs.declared.field.Field.TheVariants.{Count, Number, Name}
 use Rattle.answer_text.specs.declared.field.Report.{Report}
 use Rattle.answer_text.specs.Fields.{report, within}

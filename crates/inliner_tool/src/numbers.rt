@@ -1,7 +1,9 @@
 //! The numbers under which faults are printed, and the fields behind them: a row for each fault.
 
-ghost use Rattle.std.specs.Prelude.{◌≡◌, IfOk};
+ghost use Rattle.std.specs.Prelude.{◌≡◌, ◌∷◌, [], IfOk};
 ghost use Rattle.class_linking.specs.declared.fault.LinkFault.TheVariants as links;
+ghost use Rattle.answer_text.specs.declared.field.Field.TheVariants.{Count, Name};
+ghost use Rattle.answer_text.specs.Fields.{report};
 ghost use Rattle.inliner_tool.specs.Numbers.{
   check_report,
   class_report,
@@ -39,7 +41,7 @@ use std::alloc::Global;
 
 /// What is wrong with a class file.
 pub fn class_report(alloc: Global, fault: ClassFault) -> Result<Report, NoMemory>
-    ensures { IfOk result (λ report. report ≡ class_report fault) }
+    ensures { IfOk result (λ r. r ≡ class_report fault) }
 {
     match fault {
         ClassFault::Magic => Report::new(alloc, 101, []),
@@ -57,7 +59,7 @@ pub fn class_report(alloc: Global, fault: ClassFault) -> Result<Report, NoMemory
 
 /// What is wrong with a listing.
 pub fn listing_report(alloc: Global, fault: ListFault) -> Result<Report, NoMemory>
-    ensures { IfOk result (λ report. report ≡ listing_report fault) }
+    ensures { IfOk result (λ r. r ≡ listing_report fault) }
 {
     match fault {
         ListFault::Line { line } => Report::new(alloc, 161, [Field::Count(line)]),
@@ -70,7 +72,7 @@ pub fn listing_report(alloc: Global, fault: ListFault) -> Result<Report, NoMemor
 
 /// What is wrong with a policy.
 pub fn policy_report(alloc: Global, fault: PolicyFault) -> Result<Report, NoMemory>
-    ensures { IfOk result (λ report. report ≡ policy_report fault) }
+    ensures { IfOk result (λ r. r ≡ policy_report fault) }
 {
     match fault {
         PolicyFault::Syntax { at } => Report::new(alloc, 181, [Field::Count(at)]),
@@ -87,7 +89,7 @@ pub fn policy_report(alloc: Global, fault: PolicyFault) -> Result<Report, NoMemo
 
 /// Why bytes are no certificate.
 pub fn form_report(alloc: Global, fault: CertForm) -> Result<Report, NoMemory>
-    ensures { IfOk result (λ report. report ≡ form_report fault) }
+    ensures { IfOk result (λ r. r ≡ form_report fault) }
 {
     match fault {
         CertForm::Form { at } => Report::new(alloc, 241, [Field::Count(at)]),
@@ -97,7 +99,7 @@ pub fn form_report(alloc: Global, fault: CertForm) -> Result<Report, NoMemory>
 
 /// What is wrong with a record.
 pub fn record_report(alloc: Global, fault: RecordFault) -> Result<Report, NoMemory>
-    ensures { IfOk result (λ report. report ≡ record_report fault) }
+    ensures { IfOk result (λ r. r ≡ record_report fault) }
 {
     match fault {
         RecordFault::Line { line } => Report::new(alloc, 261, [Field::Count(line)]),
@@ -107,14 +109,14 @@ pub fn record_report(alloc: Global, fault: RecordFault) -> Result<Report, NoMemo
 
 /// What is not of the form that is built so far.
 pub fn unbuilt_report(alloc: Global) -> Result<Report, NoMemory>
-    ensures { IfOk result (λ report. report ≡ unbuilt_report) }
+    ensures { IfOk result (λ r. r ≡ unbuilt_report) }
 {
     Report::new(alloc, 199, [])
 }
 
 /// Why a file is not read as what it is named for.
 pub fn input_report(alloc: Global, fault: InputFault) -> Result<Report, NoMemory>
-    ensures { IfOk result (λ report. report ≡ input_report fault) }
+    ensures { IfOk result (λ r. r ≡ input_report fault) }
 {
     match fault {
         InputFault::TooLong { len } => Report::new(alloc, 107, [Field::Count(len)]),
@@ -131,7 +133,7 @@ pub fn input_report(alloc: Global, fault: InputFault) -> Result<Report, NoMemory
 
 /// What is wrong with the code of a method.
 pub fn code_report(alloc: Global, fault: CodeFault) -> Result<Report, NoMemory>
-    ensures { IfOk result (λ report. report ≡ code_report fault) }
+    ensures { IfOk result (λ r. r ≡ code_report fault) }
 {
     match fault {
         CodeFault::Opcode { at, op } => {
@@ -150,7 +152,7 @@ pub fn code_report(alloc: Global, fault: CodeFault) -> Result<Report, NoMemory>
 
 /// The first condition of linking that fails.
 pub fn link_report(alloc: Global, fault: LinkFault) -> Result<Report, NoMemory>
-    ensures { IfOk result (λ report. report ≡ link_report fault) }
+    ensures { IfOk result (λ r. r ≡ link_report fault) }
 {
     match fault {
         LinkFault::NoMain => Report::new(alloc, 141, []),
@@ -198,14 +200,14 @@ fn place_report(
 
 /// The bytes that the class files have in all, which are too many.
 pub fn total_report(alloc: Global, len: u64) -> Result<Report, NoMemory>
-    ensures { IfOk result (λ report. report ≡ total_report len) }
+    ensures { IfOk result (λ r. r ≡ total_report len) }
 {
     Report::new(alloc, 152, [Field::Count(len)])
 }
 
 /// An instruction at which no types fit.
 pub fn untyped_report(alloc: Global, class: Bytes, method: u32, at: u32) -> Result<Report, NoMemory>
-    ensures { IfOk result (λ report. report ≡ untyped_report class method at) }
+    ensures { IfOk result (λ r. r ≡ untyped_report class method at) }
 {
     place_report(alloc, 201, class, method, at)
 }
@@ -214,7 +216,7 @@ pub fn untyped_report(alloc: Global, class: Bytes, method: u32, at: u32) -> Resu
 
 /// The first test of a certificate that fails, in the class of this name.
 pub fn check_report(alloc: Global, fault: CheckFault, name: Bytes) -> Result<Report, NoMemory>
-    ensures { IfOk result (λ report. report ≡ check_report fault name) }
+    ensures { IfOk result (λ r. r ≡ check_report fault name) }
 {
     match fault {
         CheckFault::Typing {
@@ -258,7 +260,7 @@ fn rule_report(
 
 /// The first event of a run that is refused.
 pub fn event_report(alloc: Global, index: u64) -> Result<Report, NoMemory>
-    ensures { IfOk result (λ report. report ≡ event_report index) }
+    ensures { IfOk result (λ r. r ≡ event_report index) }
 {
     Report::new(alloc, 191, [Field::Count(index)])
 }
@@ -273,7 +275,7 @@ pub fn size_report(
     what: Size,
     value: i64,
 ) -> Result<Report, NoMemory>
-    ensures { IfOk result (λ report. report ≡ size_report class method what value) }
+    ensures { IfOk result (λ r. r ≡ size_report class method what value) }
 {
     let method = Field::Count(u64::from(method));
     let what = Field::Name(Bytes::from_slice(alloc, size_name(what))?);
@@ -296,7 +298,7 @@ fn size_name(what: Size) -> &'static [u8]
 
 /// The bytes of a certificate, which are too many.
 pub fn length_report(alloc: Global, value: u64) -> Result<Report, NoMemory>
-    ensures { IfOk result (λ report. report ≡ length_report value) }
+    ensures { IfOk result (λ r. r ≡ length_report value) }
 {
     let class = Field::Name(Bytes::from_slice(alloc, b"-")?);
     let what = Field::Name(Bytes::from_slice(alloc, b"certificate")?);

@@ -1,5 +1,5 @@
 -- What the files of a check are.
-use Rattle.std.specs.Prelude.{ℕ, ◌≤◌, List, length, Result}
+use Rattle.std.specs.Prelude.{length, Result}
 use Rattle.std.specs.List.{AllByRecursion}
 use Rattle.mon_store.specs.Store.{Files}
 use Rattle.api_listing.specs.Listing.{IsFew}

@@ -1,13 +1,9 @@
 -- What the files are of which a program is woven.
-use Rattle.std.specs.Prelude.{ℕ, ◌≤◌, List, length, Result}
+use Rattle.std.specs.Prelude.{◌≤◌, length, Result}
 use Rattle.std.specs.List.{AllByRecursion}
 use Rattle.mon_store.specs.Store.{Files}
-use Rattle.api_listing.specs.declared.types.Listing.{Listing}
 use Rattle.api_listing.specs.Listing.{IsFew}
 use Rattle.class_codec.specs.Fits.{CanSpell}
-use Rattle.conspec_tree.specs.declared.types.PolicyTree.{PolicyTree}
-use Rattle.conspec_parse.specs.Meaning.{SpellsPolicy}
-use Rattle.conspec_tree.specs.Tree.{IsPolicyTree}
 use Rattle.input_files.specs.declared.files.Stop.{Stop}
 use Rattle.input_files.specs.declared.inline_inputs.InlineInputs.{InlineInputs}
 use Rattle.input_files.specs.Forms.{Count, ReadsForm, Then, Gives}

@@ -1,5 +1,5 @@
 -- What the files of a policy and of a run are.
-use Rattle.std.specs.Prelude.{ℕ, ◌≤◌, List, length, Result}
+use Rattle.std.specs.Prelude.{Result}
 use Rattle.mon_store.specs.Store.{Files}
 use Rattle.api_listing.specs.declared.types.Listing.{Listing}
 use Rattle.conspec_tree.specs.declared.types.PolicyTree.{PolicyTree}

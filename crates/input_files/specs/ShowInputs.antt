@@ -1,5 +1,5 @@
 -- What the files that are shown are.
-use Rattle.std.specs.Prelude.{ℕ, ◌≤◌, List, length, Result}
+use Rattle.std.specs.Prelude.{Result}
 use Rattle.mon_store.specs.Store.{Files}
 use Rattle.input_files.specs.declared.files.Stop.{Stop}
 use Rattle.input_files.specs.Forms.{Count, ReadsForm, Then, Gives}
