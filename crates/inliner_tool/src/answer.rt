@@ -3,8 +3,8 @@
 ghost use Rattle.std.specs.Prelude.{◌≡◌};
 ghost use Rattle.inliner_tool.specs.Answers.{stopped};
 
-use class_linking::LinkFault;
 use cert_checker::{Accepted, CheckFault};
+use class_linking::LinkFault;
 use conspec_automaton::Verdict;
 use input_files::{InputFault, Stop};
 use mon_base::Bytes;

@@ -1,7 +1,6 @@
 //! The numbers under which faults are printed, and the fields behind them: a row for each fault.
 
 ghost use Rattle.std.specs.Prelude.{◌≡◌, ◌∷◌, [], IfOk};
-ghost use Rattle.class_linking.specs.declared.fault.LinkFault.TheVariants as links;
 ghost use Rattle.answer_text.specs.declared.field.Field.TheVariants.{Count, Name};
 ghost use Rattle.answer_text.specs.Fields.{report};
 ghost use Rattle.inliner_tool.specs.Numbers.{
@@ -25,10 +24,10 @@ ghost use Rattle.inliner_tool.specs.Numbers.{
 
 use answer_text::{Field, Report};
 use api_listing::ListFault;
-use class_linking::LinkFault;
 use cert_checker::CheckFault;
 use cert_format::CertForm;
 use class_codec::ClassFault;
+use class_linking::LinkFault;
 use conspec_parse::PolicyFault;
 use event_record::RecordFault;
 use input_files::InputFault;

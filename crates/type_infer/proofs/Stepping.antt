@@ -86,7 +86,6 @@ is_told None = inl refl
 is_told (Some x) = inr (x, refl)
 
 module _ (program : Program) (itself : (frame : FrameType) → IsFrameBelow program frame frame) (over : (a b c : FrameType) → IsFrameBelow program a b → IsFrameBelow program b c → IsFrameBelow program a c) where
-
   pub grows_over : (a b c : State) → Grows program a b → Grows program b c → Grows program a c
   grows_over a b c g h = record {
     raised = λ at low e.

@@ -7,10 +7,10 @@ use crate::numbers::{
 };
 use answer_text::{Line, Reply, Report, text_of};
 use api_listing::ListFault;
-use class_linking::LinkFault;
 use cert_checker::CheckFault;
 use cert_format::CertForm;
 use class_codec::ClassFault;
+use class_linking::LinkFault;
 use conspec_parse::PolicyFault;
 use event_record::RecordFault;
 use input_files::InputFault;
