@@ -6,3 +6,7 @@ pub mod Obeys
 pub mod Turning
 pub mod Verdict
 pub mod Denying
+pub mod Events
+pub mod Racing
+pub mod Points
+pub mod Trying

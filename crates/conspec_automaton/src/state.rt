@@ -23,7 +23,7 @@ impl Model for State {
 
 impl State {
     /// The state without variables.
-    pub(crate) fn empty() -> State
+    pub fn empty() -> State
         ensures { result ≡ [] }
     {
         State {
@@ -57,7 +57,7 @@ impl State {
     }
 
     /// Adds a variable with its value.
-    pub(crate) fn push(&mut self, value: i32)
+    pub fn push(&mut self, value: i32)
         requires { length self.old < 16 }
         ensures { self.new ≡ self.old ++ value ∷ [] }
     {

@@ -1,0 +1,172 @@
+-- The states and events at which it is tried whether the events of one or two clauses race. What a clause does changes only
+-- at its constants, so of all numbers a few are enough: those at a constant and beside it, as far as updates can shift them.
+use Rattle.std.specs.Prelude.{ℕ, ◌+◌, ◌*◌, ◌-◌, ◌^◌, ℤ, pos, ◌+ℤ◌, ◌-ℤ◌, ◌==◌, ◌||◌, Bool, true, false, int_lt, if◌then◌else◌, List, [], ◌∷◌, ◌++◌, length, map, filter, Option, Some, None}
+use Rattle.std.specs.Ordering.{int_eq}
+use Rattle.std.specs.List.{enumerate_from, filter_map, flat_map, fold, list_any}
+use Rattle.api_listing.specs.declared.events.ApiValue.{ApiValue}
+use Rattle.api_listing.specs.declared.events.ApiValue.TheVariants as api
+use Rattle.api_listing.specs.declared.events.Event.{Event}
+use Rattle.api_listing.specs.declared.events.Event.TheVariants as events
+use Rattle.conspec_tree.specs.declared.types.Atom.{Atom}
+use Rattle.conspec_tree.specs.declared.types.Base.{Base}
+use Rattle.conspec_tree.specs.declared.types.Base.TheVariants as bases
+use Rattle.conspec_tree.specs.declared.types.Kind.{Kind}
+use Rattle.conspec_tree.specs.declared.types.Kind.TheVariants as kinds
+use Rattle.conspec_tree.specs.declared.types.Phase.{Phase}
+use Rattle.conspec_tree.specs.declared.types.Phase.TheVariants.{Before, After, Exceptional}
+use Rattle.conspec_tree.specs.declared.types.Update.{Update}
+use Rattle.conspec_tree.specs.declared.types.Update.TheVariants.{Set, Add}
+use Rattle.conspec_tree.specs.declared.types.Var.{Var}
+use Rattle.conspec_tree.specs.Updates.{target}
+use Rattle.conspec_automaton.specs.declared.policy.Branch.{Branch}
+use Rattle.conspec_automaton.specs.declared.policy.Clause.{Clause}
+use Rattle.conspec_automaton.specs.declared.policy.Policy.{Policy}
+use Rattle.conspec_automaton.specs.Events.{least_of, greatest_of}
+use Rattle.conspec_automaton.specs.Next.{Values}
+use Rattle.conspec_automaton.specs.Range.{is_between}
+
+-- ---- what clauses name
+
+abbrev pub atoms_in : List Clause → List Atom
+atoms_in clauses = flat_map (λ (c : Clause). flat_map (λ (b : Branch). b.atoms) c.branches) clauses
+
+abbrev pub updates_in : List Clause → List Update
+updates_in clauses = flat_map (λ (c : Clause). flat_map (λ (b : Branch). b.updates) c.branches) clauses
+
+abbrev pub is_same : Base → Base → Bool
+is_same (bases.Var i) (bases.Var j) = i == j
+is_same (bases.Arg i) (bases.Arg j) = i == j
+is_same bases.Result bases.Result = true
+is_same base other = false
+
+-- the number that the atom compares the base with
+abbrev pub compared_with : Base → Atom → Option ℤ
+compared_with base atom = if is_same base atom.base then Some atom.value else None
+
+-- the numbers that atoms compare the base with
+abbrev pub constants_of : Base → List Clause → List ℤ
+constants_of base clauses = filter_map (compared_with base) (atoms_in clauses)
+
+abbrev pub assigned_to : ℕ → Update → Option ℤ
+assigned_to var (Set i value) = if i == var then Some value else None
+assigned_to var (Add i by) = None
+
+abbrev pub added_to : ℕ → Update → Option ℤ
+added_to var (Set i value) = None
+added_to var (Add i by) = if i == var then Some by else None
+
+-- An atom or an update names the variable.
+abbrev pub is_named : ℕ → List Clause → Bool
+is_named var clauses =
+    list_any (λ (a : Atom). is_same (bases.Var var) a.base) (atoms_in clauses) || list_any (λ u. target u == var) (updates_in clauses)
+
+-- ---- lists of numbers that ascend
+
+abbrev pub placed : ℤ → List ℤ → List ℤ
+placed n [] = n ∷ []
+placed n (m ∷ ms) = if int_lt n m then n ∷ m ∷ ms else if int_eq n m then m ∷ ms else m ∷ placed n ms
+
+-- the numbers, each once, in order
+abbrev pub ascending : List ℤ → List ℤ
+ascending [] = []
+ascending (n ∷ ns) = placed n (ascending ns)
+
+-- the number, one less and one more
+abbrev pub around : ℤ → List ℤ
+around n = (n -ℤ pos 1) ∷ n ∷ (n +ℤ pos 1) ∷ []
+
+-- those at the numbers and beside them that lie between two others
+abbrev pub near : ℤ → ℤ → List ℤ → List ℤ
+near low high numbers = filter (is_between low high) (flat_map around numbers)
+
+-- ---- the points of a variable
+
+-- the numbers at which something changes for the variable: its ends, and what it is compared with or set to
+abbrev pub marks : ℤ → ℕ → List Clause → List ℤ
+marks maxint var clauses = pos 0 ∷ maxint ∷ constants_of (bases.Var var) clauses ++ filter_map (assigned_to var) (updates_in clauses)
+
+-- nothing, each number, and the sum of each two
+abbrev pub sums : List ℤ → List ℤ
+sums addends = pos 0 ∷ addends ++ flat_map (λ a. map (λ b. a +ℤ b) addends) addends
+
+-- by how much two events can shift the variable
+abbrev pub shifts : ℕ → List Clause → List ℤ
+shifts var clauses = sums (filter_map (added_to var) (updates_in clauses))
+
+-- each number less each of the others
+abbrev pub differences : List ℤ → List ℤ → List ℤ
+differences numbers others = flat_map (λ c. map (λ k. c -ℤ k) others) numbers
+
+-- the numbers from which a shift leads to a mark
+abbrev pub thresholds : ℤ → ℕ → List Clause → List ℤ
+thresholds maxint var clauses = differences (marks maxint var clauses) (shifts var clauses)
+
+abbrev pub named_points : ℤ → ℕ → Bool → List Clause → List ℤ
+named_points maxint var true clauses = pos 0 ∷ pos 1 ∷ []
+named_points maxint var false clauses = ascending (near (pos 0) maxint (thresholds maxint var clauses))
+
+-- A variable that no clause names has its first value.
+abbrev pub points_of : ℤ → List Clause → ℕ → Var → List ℤ
+points_of maxint clauses i var = if is_named i clauses then named_points maxint i var.is_bool clauses else var.first ∷ []
+
+-- ---- the points of what is passed or given
+
+-- the ends of the range, and the constants with those beside them; 0 where there are none
+abbrev pub points_between : ℤ → ℤ → List ℤ → List ℤ
+points_between low high [] = pos 0 ∷ []
+points_between low high (c ∷ constants) = ascending (low ∷ high ∷ near low high (c ∷ constants))
+
+-- what an argument may be, of a number's type
+abbrev pub arguments_at : Clause → ℕ → Kind → List ApiValue
+arguments_at clause i kinds.Object = api.Null ∷ []
+arguments_at clause i kind = map api.Int (points_between (least_of kinds.Int) (greatest_of kinds.Int) (constants_of (bases.Arg i) (clause ∷ [])))
+
+abbrev pub results_of : Clause → Option Kind → List (Option ApiValue)
+results_of clause None = None ∷ []
+results_of clause (Some kinds.Object) = Some api.Null ∷ []
+results_of clause (Some kind) = map (λ n. Some (api.Int n)) (points_between (least_of kind) (greatest_of kind) (constants_of bases.Result (clause ∷ [])))
+
+-- ---- all choices
+
+-- a choice of one of each list, the last changing first
+abbrev pub each_choice : {X : Type 0} → List (List X) → List (List X)
+each_choice [] = [] ∷ []
+each_choice (xs ∷ others) = flat_map (λ x. map (λ ys. x ∷ ys) (each_choice others)) xs
+
+abbrev pub choices_of : Policy → List Clause → List (List ℤ)
+choices_of policy clauses = map (λ (v : ℕ × Var). points_of policy.maxint clauses v.0 v.1) (enumerate_from 0 policy.vars)
+
+-- the states that are tried for the clauses
+abbrev pub states_of : Policy → List Clause → List Values
+states_of policy clauses = each_choice (choices_of policy clauses)
+
+abbrev pub arguments_of : Clause → List (List ApiValue)
+arguments_of clause = map (λ (a : ℕ × Kind). arguments_at clause a.0 a.1) (enumerate_from 0 clause.args)
+
+-- the events that are tried for a clause of the phase
+abbrev pub events_in : Clause → Phase → List Event
+events_in clause Before = map (λ arguments. events.Call 0 clause.method arguments) (each_choice (arguments_of clause))
+events_in clause After = map (λ value. events.Return 0 clause.method value) (results_of clause clause.result)
+events_in clause Exceptional = events.Except 0 clause.method ∷ []
+
+abbrev pub events_of : Clause → List Event
+events_of clause = events_in clause clause.phase
+
+-- ---- how many there are
+
+abbrev pub product : List ℕ → ℕ
+product [] = 1
+product (n ∷ ns) = n * product ns
+
+abbrev pub size_of : {X : Type 0} → List (List X) → ℕ
+size_of lists = product (map length lists)
+
+-- how many states are tried
+abbrev pub states_count : Policy → List Clause → ℕ
+states_count policy clauses = size_of (choices_of policy clauses)
+
+-- how many events are tried
+abbrev pub events_count : Clause → Phase → ℕ
+events_count clause Before = size_of (arguments_of clause)
+events_count clause After = length (results_of clause clause.result)
+events_count clause Exceptional = 1

@@ -1,0 +1,16 @@
+pub mod Members
+pub mod Thresholds
+pub mod Moves
+pub mod Nearest
+pub mod Updating
+pub mod Sides
+pub mod Choosing
+pub mod EachChoice
+pub mod Picking
+pub mod Passing
+pub mod Likening
+pub mod Fitting
+pub mod Comparing
+pub mod Trials
+pub mod Enough
+pub mod Broken

@@ -1,0 +1,21 @@
+-- That the points are enough, and that what breaks a condition at a point breaks it.
+use Rattle.std.specs.Prelude.{◌≡◌, ℕ, true, List, Some, None, slice_get}
+use Rattle.conspec_automaton.specs.declared.policy.Policy.{Policy}
+use Rattle.conspec_automaton.specs.Racing.{IsRaceFree}
+use Rattle.conspec_automaton.specs.Sound.{IsPolicy}
+use Rattle.conspec_automaton.specs.Trying.{Point, Trial, breaks, points, trials}
+use Rattle.race_free_check.specs.Deciding.{broken_in}
+
+-- A policy whose conditions no point breaks is race-free.
+abbrev pub PointsAreEnough : Type 0
+PointsAreEnough =
+    (policy : Policy) → IsPolicy policy
+    → ((i : ℕ) (trial : Trial) → slice_get (trials policy) i ≡ Some trial → broken_in policy trial ≡ None)
+    → IsRaceFree policy
+
+-- A policy of which a point breaks a condition is not race-free.
+abbrev pub BrokenPointsRace : Type 0
+BrokenPointsRace =
+    (policy : Policy) → IsPolicy policy
+    → (i j : ℕ) (trial : Trial) (point : Point) → slice_get (trials policy) i ≡ Some trial → slice_get (points policy trial) j ≡ Some point
+    → breaks policy point ≡ true → IsRaceFree policy → ⊥
