@@ -18,7 +18,7 @@ use Rattle.bytecode_model.proofs.Upwards.{one_named}
 use Rattle.bytecode_model.proofs.Upwards.{either_of, named_so, is_up, up_from}
 use Rattle.type_lattice.proofs.Orders.{Fit, equal, top, interface, under, seen, array_first, array_second}
 use Rattle.bytecode_model.proofs.Upwards.{same_of, of_same}
-use Rattle.bytecode_model.proofs.Ending.{one_of_both}
+use Rattle.bytecode_model.proofs.Ending.{one_of_both, unnamed_up}
 
 module _ (program : Program) (order : IsInOrder program) (class : List ℕ) (thrown : is_below program class throwable ≡ true) where
   abbrev fuel : ℕ
