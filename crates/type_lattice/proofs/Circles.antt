@@ -2,6 +2,7 @@
 use Rattle.std.proofs.Common.{◌≡◌, ◌≤◌, ◌↔◌, ℕ, zero, suc, Bool, true, false, not, List, [], ◌∷◌, length, Option, Some, None, refl, sym, ap, subst, ◌∙◌, arith}
 use Rattle.std.specs.Prelude.{IsTrue}
 use Rattle.std.specs.List.{list_all}
+use Rattle.std.specs.Option.{option_map_or}
 use Rattle.api_listing.specs.declared.types.ListedClass.{ListedClass}
 use Rattle.api_listing.specs.Nearest.{class_named, upwards}
 use Rattle.bytecode_model.specs.Conditions.{stays_within, runs_in_circle}
@@ -26,20 +27,26 @@ each_ends classes all name = ended classes (length classes) name (by (class_name
       let out : runs_in_circle classes c.name ≡ false = not_true _ (named_passes (leaves classes) classes name c all e) in
       subst (λ (n : List ℕ). stays_within (suc (length classes)) classes n ≡ false) (named_so classes name c e) out
 
+-- whether a way stays among the classes is told by the class that it begins with
+opened : (n : ℕ) (classes : List ListedClass) (name : List ℕ) (o : Option ListedClass) → class_named classes name ≡ o
+    → stays_within (suc n) classes name ≡ option_map_or (λ (c : ListedClass). stays_within n classes c.parent) o false
+opened n classes name o f = ap (λ (x : Option ListedClass). option_map_or (λ (c : ListedClass). stays_within n classes c.parent) x false) f
+
 -- a way up that stays among the classes has a class for each step
 length_within : (n : ℕ) (classes : List ListedClass) (name : List ℕ) → stays_within n classes name ≡ true → length (upwards n classes name) ≡ n
 length_within zero classes name e = refl
-length_within (suc n) classes name e = by (class_named classes name) refl where
-  by : (o : Option ListedClass) → class_named classes name ≡ o → length (upwards (suc n) classes name) ≡ suc n
-  by None f = absurd (let g : false ≡ true = rw (← f) e in cc)
-  by (Some c) f = rw f (ap suc (length_within n classes c.parent (let g : stays_within n classes c.parent ≡ true = rw (← f) e in g)))
+length_within (suc n) classes name e = by (class_named classes name) refl (λ parent. length_within n classes parent) where
+  by : (o : Option ListedClass) → class_named classes name ≡ o → ((parent : List ℕ) → stays_within n classes parent ≡ true → length (upwards n classes parent) ≡ n)
+      → length (upwards (suc n) classes name) ≡ suc n
+  by None f again = absurd (let g : false ≡ true = sym (opened n classes name None f) ∙ e in cc)
+  by (Some c) f again = rw f (ap suc (again c.parent (sym (opened n classes name (Some c) f) ∙ e)))
 
 at_most : (n : ℕ) (classes : List ListedClass) (name : List ℕ) → length (upwards n classes name) ≤ n
 at_most zero classes name = omega arith
-at_most (suc n) classes name = by (class_named classes name) refl where
-  by : (o : Option ListedClass) → class_named classes name ≡ o → length (upwards (suc n) classes name) ≤ suc n
-  by None f = rw f (omega arith)
-  by (Some c) f = rw f (let less = at_most n classes c.parent in omega arith)
+at_most (suc n) classes name = by (class_named classes name) refl (λ parent. at_most n classes parent) where
+  by : (o : Option ListedClass) → class_named classes name ≡ o → ((parent : List ℕ) → length (upwards n classes parent) ≤ n) → length (upwards (suc n) classes name) ≤ suc n
+  by None f again = rw f (omega arith)
+  by (Some c) f again = rw f (let less = again c.parent in omega arith)
 
 -- a way up that ends leaves the classes
 leaves_them : (classes : List ListedClass) → EachWayEnds classes → (name : List ℕ) → runs_in_circle classes name ≡ false
