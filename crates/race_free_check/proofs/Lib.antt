@@ -1,3 +1,16 @@
+pub mod Rising
+pub mod HavingSame
+pub mod Bounded
+pub mod Sizes
+pub mod Numbered
+pub mod Making
+pub mod Found
+pub mod Ranges
+pub mod Judging
+pub mod Named
+pub mod Grown
+pub mod Pointed
+pub mod Reaching
 pub mod Members
 pub mod Thresholds
 pub mod Moves

@@ -1,2 +1,5 @@
+pub mod Choosing
 pub mod Deciding
 pub mod Laws
+pub mod Searching
+pub mod Small

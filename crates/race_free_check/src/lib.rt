@@ -1,13 +1,24 @@
 //! Whether the events of a policy race: whether a monitor may let go of its lock while the library runs.
 //!
-//! What a clause does changes only at its constants. So the conditions of race-freeness, which are about all states in range
-//! and all events, hold where they hold at a few points: that these are enough is proved here.
+//! [`decide`] tries the conditions of race-freeness at few states and events, and finds that none breaks one, or the first
+//! that does. It takes memory for the points of one pair of clauses, and none for each point. (docs/RACES.md)
 #![tactic(auto)]
 
+mod choices;
+mod deciding;
+mod events;
 mod fault;
 mod laws;
+mod naming;
+mod numbers;
+mod points;
+mod searching;
+mod states;
+mod trial;
+mod trying;
 mod verdict;
 
+pub use deciding::{MAX_POINTS, decide};
 pub use fault::RaceFault;
 pub use laws::{broken_points_race, points_are_enough};
 pub use verdict::RaceVerdict;

@@ -1,0 +1,136 @@
+-- Choices by their numbers: each choice of a number below the count of choices is one of them, and there are so many.
+use Rattle.std.proofs.Common.{◌≡◌, ℕ, zero, suc, ◌+◌, ◌*◌, ◌-◌, ◌/◌, ◌%◌, ◌<◌, ◌≤◌, ℤ, pos, List, [], ◌∷◌, ◌++◌, length, drop, get_or, map, Option, Some, None, refl, sym, ap, subst, ◌∙◌, arith, add-one}
+use Rattle.std.specs.Prelude.{flat_map, option_map, slice_get}
+use Rattle.std.specs.List.{AllByRecursion}
+use Rattle.std.proofs.lemmas.List.{length-append, length-map}
+use Rattle.std.proofs.lemmas.Nat.{div-add-mod', div_below}
+use Rattle.std.proofs.Math.Nat.{mod-lt, mul-div_cancel_left, mul-zero, suc-mul, zero-mul}
+use Rattle.conspec_automaton.specs.Points.{each_choice, size_of}
+use Rattle.race_free_check.specs.Choosing.{chosen, number_at}
+
+-- ---- items by their places
+
+got_left : {X : Type 0} (xs ys : List X) (i : ℕ) → i < length xs → slice_get (xs ++ ys) i ≡ slice_get xs i
+got_left [] ys i below = absurd (omega arith)
+got_left (x ∷ xs) ys zero below = refl
+got_left (x ∷ xs) ys (suc i) below = got_left xs ys i (omega arith)
+
+got_right : {X : Type 0} (xs ys : List X) (i j : ℕ) → i ≡ length xs + j → slice_get (xs ++ ys) i ≡ slice_get ys j
+got_right [] ys i j e = ap (slice_get ys) (omega arith)
+got_right (x ∷ xs) ys zero j e = absurd (omega arith)
+got_right (x ∷ xs) ys (suc i) j e = got_right xs ys i j (omega arith)
+
+pub got_mapped : {X Y : Type 0} (f : X → Y) (xs : List X) (i : ℕ) → slice_get (map f xs) i ≡ option_map f (slice_get xs i)
+got_mapped f [] i = refl
+got_mapped f (x ∷ xs) zero = refl
+got_mapped f (x ∷ xs) (suc i) = got_mapped f xs i
+
+-- Where each item gives a list of one size, place q * size + r is place r in the list of item q.
+got_flat : {X Y : Type 0} (f : X → List Y) (size : ℕ) → ((x : X) → length (f x) ≡ size) → (xs : List X) (x : X) (i q r : ℕ) → i ≡ q * size + r → r < size → slice_get xs q ≡ Some x → slice_get (flat_map f xs) i ≡ slice_get (f x) r
+got_flat f size sized [] x i q r e below there = absurd cc
+got_flat f size sized (y ∷ ys) x i zero r e below there =
+    let same : y ≡ x = cc in
+    let long = sized y in
+    let at : i ≡ r = omega arith in
+    got_left (f y) (flat_map f ys) i (omega arith) ∙ ap (λ (z : _). slice_get (f z) i) same ∙ ap (slice_get (f x)) at
+got_flat f size sized (y ∷ ys) x i (suc q) r e below there =
+    let long = sized y in
+    let more = suc-mul q size in
+    got_right (f y) (flat_map f ys) i (q * size + r) (omega arith) ∙ got_flat f size sized ys x (q * size + r) q r refl below there
+
+length_flat : {X Y : Type 0} (f : X → List Y) (size : ℕ) → ((x : X) → length (f x) ≡ size) → (xs : List X) → length (flat_map f xs) ≡ length xs * size
+length_flat f size sized [] = omega arith
+length_flat f size sized (x ∷ xs) =
+    let here = sized x in
+    let rest = length_flat f size sized xs in
+    let more = suc-mul (length xs) size in
+    length-append (f x) (flat_map f xs) ∙ omega arith
+
+-- what is left from a place on begins with the item there
+pub left_from : {X : Type 0} (xs : List X) (n : ℕ) (x : X) → slice_get xs n ≡ Some x → drop n xs ≡ x ∷ drop (n + 1) xs
+left_from xs n x there = by xs n there ∙ ap (λ (k : ℕ). x ∷ drop k xs) (sym (add-one n)) where
+  by : (ys : List _) (k : ℕ) → slice_get ys k ≡ Some x → drop k ys ≡ x ∷ drop (suc k) ys
+  by [] k e = absurd cc
+  by (y ∷ ys) zero e = let same : y ≡ x = cc in ap (λ (z : _). z ∷ ys) same
+  by (y ∷ ys) (suc k) e = by ys k e
+
+-- ---- choices
+
+number_there : (ns : List ℤ) (i : ℕ) → i < length ns → slice_get ns i ≡ Some (number_at ns i)
+number_there [] i below = absurd (omega arith)
+number_there (n ∷ ns) zero below = refl
+number_there (n ∷ ns) (suc i) below = number_there ns i (omega arith)
+
+pub length_choices : {X : Type 0} (lists : List (List X)) → length (each_choice lists) ≡ size_of lists
+length_choices [] = refl
+length_choices (xs ∷ others) =
+    length_flat (λ x. map (λ ys. x ∷ ys) (each_choice others)) (size_of others) (λ x. length-map (each_choice others) (λ ys. x ∷ ys) ∙ length_choices others) xs
+
+positive_factor : (a b n : ℕ) → n < a * b → 0 < b
+positive_factor a zero n below = let none = mul-zero a in absurd (omega arith)
+positive_factor a (suc b) n below = omega arith
+
+-- the parts of a choice's number
+pub record IsSplit (number first rest : ℕ) : Type 0 where
+  pub some : 0 < rest
+  pub at : number / rest < first
+  pub left : number % rest < rest
+
+pub split : (number first rest : ℕ) → number < first * rest → IsSplit number first rest
+split number first rest below =
+    let some = positive_factor first rest number below in
+    record { some = some; at = div_below number rest first some below; left = mod-lt number some }
+
+pub chosen_there : (lists : List (List ℤ)) (n : ℕ) → n < size_of lists → slice_get (each_choice lists) n ≡ Some (chosen lists n)
+chosen_there [] zero below = refl
+chosen_there [] (suc n) below = absurd (omega arith)
+chosen_there (xs ∷ others) n below =
+    let s = split n (length xs) (size_of others) below in
+    let x = number_at xs (n / size_of others) in
+    let r = n % size_of others in
+    got_flat (λ y. map (λ ys. y ∷ ys) (each_choice others)) (size_of others) (λ y. length-map (each_choice others) (λ ys. y ∷ ys) ∙ length_choices others)
+    xs x n (n / size_of others) r (sym (div-add-mod' n (size_of others))) s.left (number_there xs (n / size_of others) s.at)
+    ∙ got_mapped (λ ys. x ∷ ys) (each_choice others) r
+    ∙ ap (option_map (λ (ys : List ℤ). x ∷ ys)) (chosen_there others r s.left)
+
+pub chosen_length : (lists : List (List ℤ)) (n : ℕ) → length (chosen lists n) ≡ length lists
+chosen_length [] n = refl
+chosen_length (xs ∷ others) n = let rest = chosen_length others (n % size_of others) in omega arith
+
+got_number : (ns : List ℤ) (i : ℕ) → get_or ns i (pos 0) ≡ number_at ns i
+got_number [] i = refl
+got_number (n ∷ ns) zero = refl
+got_number (n ∷ ns) (suc i) = got_number ns i
+
+-- ---- the first number of a choice, and those behind it
+
+module _ (lists rest : List (List ℤ)) (list : List ℤ) (number count size : ℕ) (front : lists ≡ list ∷ rest) (counted : count ≡ size_of lists) (there : number < count) (sized : size ≡ length list) where
+  parts : IsSplit number (length list) (size_of rest)
+  parts = split number (length list) (size_of rest) (subst (λ (n : ℕ). number < n) (counted ∙ ap size_of front) there)
+
+  -- the count of the choices of the lists behind
+  pub count_left : count / size ≡ size_of rest
+  count_left =
+      let product = counted ∙ ap size_of front in
+      ap (λ (n : ℕ). n / size) product ∙ ap (λ (n : ℕ). length list * size_of rest / n) sized ∙ mul-div_cancel_left (size_of rest) (some_first (length list) (size_of rest) number (subst (λ (n : ℕ). number < n) product there)) where
+        some_first : (a b n : ℕ) → n < a * b → 0 < a
+        some_first zero b n below = let none = zero-mul b in absurd (omega arith)
+        some_first (suc a) b n below = omega arith
+
+  pub number_left : number % (count / size) < count / size
+  number_left = subst (λ (n : ℕ). number % n < n) (sym count_left) parts.left
+
+  pub inside : number / (count / size) < length list
+  inside = subst (λ (n : ℕ). number / n < length list) (sym count_left) parts.at
+
+  pub told : chosen lists number ≡ get_or list (number / (count / size)) (pos 0) ∷ chosen rest (number % (count / size))
+  told =
+      ap (λ (ls : List (List ℤ)). chosen ls number) front
+      ∙ ap (λ (n : ℤ). n ∷ chosen rest (number % size_of rest)) (sym (got_number list (number / size_of rest)))
+      ∙ ap (λ (n : ℕ). get_or list (number / n) (pos 0) ∷ chosen rest (number % n)) (sym count_left)
+
+-- the number that is chosen of a list is one of it
+pub number_all : (P : ℤ → Type 0) (ns : List ℤ) (i : ℕ) → AllByRecursion P ns → i < length ns → P (number_at ns i)
+number_all P [] i all below = absurd (omega arith)
+number_all P (n ∷ ns) zero all below = all.0
+number_all P (n ∷ ns) (suc i) all below = number_all P ns i all.1 (omega arith)

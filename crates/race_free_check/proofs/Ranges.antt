@@ -1,0 +1,149 @@
+-- The states that are tried are in range, and of each variable, argument and result there are points.
+use Rattle.std.proofs.Common.{◌≡◌, ℕ, ◌+◌, ◌*◌, ◌/◌, ◌%◌, ◌<◌, ◌≤◌, ◌^◌, ℤ, pos, Bool, true, false, List, [], ◌∷◌, length, map, Option, Some, None, refl, sym, ap, subst, ◌∙◌, arith}
+use Rattle.std.specs.Prelude.{◌≤ℤ◌, ◌&&◌, int_le, nat_le, if◌then◌else◌}
+use Rattle.std.specs.List.{AllByRecursion, enumerate_from}
+use Rattle.std.specs.Option.{option_map_or}
+use Rattle.std.proofs.Math.Nat.{mul-le-mul_left, mul_comm}
+use Rattle.std.proofs.lemmas.Bool.{leb-true, and_from}
+use Rattle.std.proofs.lemmas.Int.{ints}
+use Rattle.conspec_tree.specs.declared.types.Base.TheVariants as bases
+use Rattle.conspec_tree.specs.declared.types.Kind.{Kind}
+use Rattle.conspec_tree.specs.declared.types.Kind.TheVariants as kinds
+use Rattle.conspec_tree.specs.declared.types.Phase.{Phase}
+use Rattle.conspec_tree.specs.declared.types.Phase.TheVariants.{Before, After, Exceptional}
+use Rattle.conspec_tree.specs.declared.types.Var.{Var}
+use Rattle.conspec_tree.specs.Tree.{IsInRange, greatest}
+use Rattle.conspec_automaton.specs.declared.policy.Clause.{Clause}
+use Rattle.conspec_automaton.specs.declared.policy.Policy.{Policy}
+use Rattle.conspec_automaton.specs.Events.{greatest_of, least_of}
+use Rattle.conspec_automaton.specs.Points.{ascending, choices_of, constants_of, events_count, is_named, named_points, near, points_of, size_of, states_count, thresholds}
+use Rattle.conspec_automaton.specs.Range.{are_in_range, in_range, is_between, is_in_range}
+use Rattle.conspec_automaton.specs.Sound.{IsPolicy}
+use Rattle.conspec_automaton.specs.Trying.{Placed, Trial, capped, clauses_of, is_small, most}
+use Rattle.race_free_check.specs.Choosing.{argument_numbers, chosen, number_at, numbers_in, numbers_of, result_numbers}
+use Rattle.race_free_check.proofs.Rising.{ascending_all}
+use Rattle.race_free_check.proofs.Bounded.{filtered_all, near_between}
+use Rattle.race_free_check.proofs.Making.{events_counted}
+use Rattle.race_free_check.proofs.Numbered.{number_all, split}
+use Rattle.race_free_check.proofs.Sizes.{capped_few, some_between, some_points}
+
+-- ---- states in range
+
+is_le : (n m : ℤ) → n ≤ℤ m → int_le n m ≡ true
+is_le n m h = grind (arith, ints)
+
+some_product : (a b : ℕ) → 0 < a → 0 < b → 0 < a * b
+some_product a b first second = let le = mul-le-mul_left {m = 1} {n = b} a (omega arith) in omega arith
+
+module _ (maxint : ℤ) (cs : List Clause) where
+  named_within : (i : ℕ) (is_bool : Bool) → AllByRecursion (λ n. is_between (pos 0) (greatest maxint is_bool) n ≡ true) (named_points maxint i is_bool cs)
+  named_within i true = (refl, (refl, tt))
+  named_within i false =
+      ascending_all (λ n. is_between (pos 0) maxint n ≡ true) (near (pos 0) maxint (thresholds maxint i cs)) (near_between (pos 0) maxint (thresholds maxint i cs))
+
+  points_within : (i : ℕ) (v : Var) → IsInRange maxint v.is_bool v.first → AllByRecursion (λ n. is_in_range maxint v n ≡ true) (points_of maxint cs i v)
+  points_within i v first = by (is_named i cs) where
+    by : (b : Bool) → AllByRecursion (λ n. is_in_range maxint v n ≡ true) (if b then named_points maxint i v.is_bool cs else v.first ∷ [])
+    by true = named_within i v.is_bool
+    by false = (and_from (int_le (pos 0) v.first) (int_le v.first (greatest maxint v.is_bool)) (is_le (pos 0) v.first first.low) (is_le v.first (greatest maxint v.is_bool) first.high), tt)
+
+  abbrev points_from : ℕ → List Var → List (List ℤ)
+  points_from i vars = map (λ (v : ℕ × Var). points_of maxint cs v.0 v.1) (enumerate_from i vars)
+
+  chosen_within : (vars : List Var) (i n : ℕ) → AllByRecursion (λ v. IsInRange maxint v.is_bool v.first) vars → n < size_of (points_from i vars) → are_in_range maxint vars (chosen (points_from i vars) n) ≡ true
+  chosen_within [] i n all below = refl
+  chosen_within (v ∷ vars) i n all below =
+      let s = split n (length (points_of maxint cs i v)) (size_of (points_from (i + 1) vars)) below in
+      let q = n / size_of (points_from (i + 1) vars) in
+      let r = n % size_of (points_from (i + 1) vars) in
+      and_from (is_in_range maxint v (number_at (points_of maxint cs i v) q)) (are_in_range maxint vars (chosen (points_from (i + 1) vars) r))
+      (number_all (λ m. is_in_range maxint v m ≡ true) (points_of maxint cs i v) q (points_within i v all.0) s.at)
+      (chosen_within vars (i + 1) r all.1 s.left)
+
+  -- ---- points of all variables
+
+  length_points : (vars : List Var) (i : ℕ) → length (points_from i vars) ≡ length vars
+  length_points [] i = refl
+  length_points (v ∷ vars) i = let rest = length_points vars (i + 1) in omega arith
+
+  some_states : pos 1 ≤ℤ maxint → (vars : List Var) (i : ℕ) → 0 < size_of (points_from i vars)
+  some_states positive [] i = omega arith
+  some_states positive (v ∷ vars) i = some_product (length (points_of maxint cs i v)) (size_of (points_from (i + 1) vars)) (some_points maxint cs positive i v) (some_states positive vars (i + 1))
+
+pub state_in_range : (policy : Policy) (cs : List Clause) (n : ℕ) → IsPolicy policy → n < size_of (choices_of policy cs) → in_range policy (chosen (choices_of policy cs) n) ≡ true
+state_in_range policy cs n sound below = chosen_within policy.maxint cs policy.vars 0 n sound.vars below
+
+pub few_choices : (policy : Policy) (cs : List Clause) → IsPolicy policy → length (choices_of policy cs) ≤ 16
+few_choices policy cs sound = let e = length_points policy.maxint cs policy.vars 0 in let few = sound.few_vars in omega arith
+
+-- ---- counts
+
+module _ (c : Clause) where
+  some_argument : (i : ℕ) (kind : Kind) → 0 < length (argument_numbers c i kind)
+  some_argument i kinds.Int = some_between (least_of kinds.Int) (greatest_of kinds.Int) (constants_of (bases.Arg i) (c ∷ []))
+  some_argument i kinds.Bool = some_between (least_of kinds.Int) (greatest_of kinds.Int) (constants_of (bases.Arg i) (c ∷ []))
+  some_argument i kinds.Byte = some_between (least_of kinds.Int) (greatest_of kinds.Int) (constants_of (bases.Arg i) (c ∷ []))
+  some_argument i kinds.Short = some_between (least_of kinds.Int) (greatest_of kinds.Int) (constants_of (bases.Arg i) (c ∷ []))
+  some_argument i kinds.Char = some_between (least_of kinds.Int) (greatest_of kinds.Int) (constants_of (bases.Arg i) (c ∷ []))
+  some_argument i kinds.Object = omega arith
+
+  some_result : (kind : Kind) → 0 < length (result_numbers c kind)
+  some_result kinds.Int = some_between (least_of kinds.Int) (greatest_of kinds.Int) (constants_of bases.Result (c ∷ []))
+  some_result kinds.Bool = some_between (least_of kinds.Bool) (greatest_of kinds.Bool) (constants_of bases.Result (c ∷ []))
+  some_result kinds.Byte = some_between (least_of kinds.Byte) (greatest_of kinds.Byte) (constants_of bases.Result (c ∷ []))
+  some_result kinds.Short = some_between (least_of kinds.Short) (greatest_of kinds.Short) (constants_of bases.Result (c ∷ []))
+  some_result kinds.Char = some_between (least_of kinds.Char) (greatest_of kinds.Char) (constants_of bases.Result (c ∷ []))
+  some_result kinds.Object = omega arith
+
+  some_arguments : (args : List Kind) (i : ℕ) → 0 < size_of (map (λ (a : ℕ × Kind). argument_numbers c a.0 a.1) (enumerate_from i args))
+  some_arguments [] i = omega arith
+  some_arguments (kind ∷ args) i =
+      some_product (length (argument_numbers c i kind)) (size_of (map (λ (a : ℕ × Kind). argument_numbers c a.0 a.1) (enumerate_from (i + 1) args))) (some_argument i kind) (some_arguments args (i + 1))
+
+  some_results : (result : Option Kind) → 0 < size_of (option_map_or (λ kind. result_numbers c kind ∷ []) result [])
+  some_results None = omega arith
+  some_results (Some kind) = some_product (length (result_numbers c kind)) 1 (some_result kind) (omega arith)
+
+  some_events_in : (phase : Phase) → 0 < size_of (numbers_in c phase)
+  some_events_in Before = some_arguments c.args 0
+  some_events_in After = some_results c.result
+  some_events_in Exceptional = omega arith
+
+few_of : (a b n : ℕ) → 0 < b → a * b ≤ n → a ≤ n
+few_of a b n some few = let le = mul-le-mul_left {m = 1} {n = b} a (omega arith) in omega arith
+
+few_counted : (n : ℕ) → nat_le (capped n) 1000000 ≡ true → n ≤ 1000000
+few_counted n e = let few = leb-true (capped n) 1000000 e in by (nat_le n most) refl few where
+  by : (b : Bool) → nat_le n most ≡ b → (if b then n else most) ≤ 1000000 → n ≤ 1000000
+  by true f few = few
+  by false f few = absurd (omega arith)
+
+few_all : (s f g : ℕ) → 0 < s → 0 < f → 0 < g → nat_le (capped (s * (f * g))) 1000000 ≡ true → (s ≤ 1000000) × ((f ≤ 1000000) × (g ≤ 1000000))
+few_all s f g some_s some_f some_g small =
+    let all = few_counted (s * (f * g)) small in
+    let inner = few_of (f * g) s 1000000 some_s (subst (λ (n : ℕ). n ≤ 1000000) (mul_comm s (f * g)) all) in
+    (few_of s (f * g) 1000000 (some_product f g some_f some_g) all, (few_of f g 1000000 some_g inner, few_of g f 1000000 some_f (subst (λ (n : ℕ). n ≤ 1000000) (mul_comm f g) inner)))
+
+-- Where a trial has few points, there are few states, and few events of each clause.
+pub record AreFew (policy : Policy) (trial : Trial) : Type 0 where
+  pub states : size_of (choices_of policy (clauses_of trial)) ≤ 1000000
+  pub firsts : size_of (numbers_of trial.first.1) ≤ 1000000
+  pub seconds : (second : Placed) → trial.second ≡ Some second → size_of (numbers_of second.1) ≤ 1000000
+
+some_events : (c : Clause) → 0 < events_count c c.phase
+some_events c = subst (λ (n : ℕ). 0 < n) (events_counted c c.phase) (some_events_in c c.phase)
+
+some_seconds : (second : Option Placed) → 0 < option_map_or (λ (c : Placed). events_count c.1 c.1.phase) second 1
+some_seconds None = omega arith
+some_seconds (Some second) = some_events second.1
+
+pub are_few : (policy : Policy) (trial : Trial) → IsPolicy policy → is_small policy trial ≡ true → AreFew policy trial
+are_few policy trial sound small =
+    let parts = few_all (states_count policy (clauses_of trial)) (events_count trial.first.1 trial.first.1.phase) (option_map_or (λ (c : Placed). events_count c.1 c.1.phase) trial.second 1)
+    (some_states policy.maxint (clauses_of trial) sound.maxint_low policy.vars 0) (some_events trial.first.1) (some_seconds trial.second) small in
+    record {
+      states = parts.0;
+      firsts = rw (events_counted trial.first.1 trial.first.1.phase) parts.1.0;
+      seconds = λ second e. rw (events_counted second.1 second.1.phase)
+          (subst (λ (o : Option Placed). option_map_or (λ (c : Placed). events_count c.1 c.1.phase) o 1 ≤ 1000000) e parts.1.1);
+    }

@@ -1,0 +1,17 @@
+use Rattle.std.proofs.Common.{◌++◌, ◌∷◌, ℤ, pos, ◌+ℤ◌, List, map, ap, ◌∙◌, arith}
+use Rattle.std.specs.Prelude.{flat_map}
+use Rattle.std.proofs.lemmas.Int.{ints}
+use Rattle.std.proofs.lemmas.List.{take_all}
+use Rattle.race_free_check.proofs.Grown.{listed_more}
+use Rattle.race_free_check.proofs.numbers.sums.Goals as goal
+
+pub loop-by-preserved : goal.loop-by-preserved
+loop-by-preserved c = record {
+  is = listed_more (λ a. map (λ b. a +ℤ b) c.args.addends.now) c.args.addends.now c.loop-by.by-index (pos 0) (pos 0 ∷ c.args.addends.now) c.loop-by.found.items c.add_shifted.new.found.items _ c.loop-by-test.true c.loop-by.invariant.is c.in_ok-add_shifted.ensures.adds
+      (ap (λ (a : ℤ). map (λ b. a +ℤ b) c.args.addends.now) (omega (arith, ints)));
+  small = c.in_ok-add_shifted.ensures.small;
+}
+
+pub returns-clause-is : goal.returns-clause-is
+returns-clause-is c =
+    c.loop-by.invariant.is ∙ ap (λ (ns : List ℤ). (pos 0 ∷ c.args.addends.now) ++ flat_map (λ a. map (λ b. a +ℤ b) c.args.addends.now) ns) (take_all c.loop-by.by-index c.args.addends.now c.loop-by-test.false)

@@ -1,0 +1,117 @@
+//! The decision: counts first, then points.
+
+ghost use Rattle.std.specs.Prelude.{◌≡◌, ◌≢◌, true, Ok, IfOk, IsOk};
+ghost use Rattle.std.specs.List.{AllByRecursion};
+ghost use Rattle.mon_base.specs.Answer.{Answers};
+ghost use Rattle.conspec_automaton.specs.Racing.{IsRaceFree};
+ghost use Rattle.conspec_automaton.specs.Sound.{IsPolicy};
+ghost use Rattle.conspec_automaton.specs.Trying.{is_small, point_count};
+ghost use Rattle.race_free_check.specs.Deciding.{AreClausesOf, counted, decided, judged, second_place, small_or_told};
+
+use crate::events::events_count;
+use crate::fault::RaceFault;
+use crate::laws::{broken_points_race, points_are_enough};
+use crate::searching::broken_in;
+use crate::states::states_count;
+use crate::trial::{TrialRef, trials};
+use crate::verdict::RaceVerdict;
+use conspec_automaton::Policy;
+use mon_base::NoMemory;
+use std::alloc::Global;
+
+/// The greatest number of points of a trial.
+pub const MAX_POINTS: u64 = 1_000_000;
+
+/// Whether the policy is race-free, or the first condition and point that break it.
+///
+/// It is not decided where a trial has more than 1,000,000 points, or where memory ran out.
+pub fn decide(alloc: Global, policy: &Policy) -> Result<RaceVerdict, RaceFault>
+    requires { IsPolicy policy.now }
+    ensures exact { Answers RaceFault.Memory result (decided policy.now) }
+    ensures free { IfOk result (λ verdict. verdict ≡ RaceVerdict.Free → IsRaceFree policy.now) }
+    ensures racy { IfOk result (λ verdict. verdict ≢ RaceVerdict.Free → IsRaceFree policy.now → ⊥) }
+{
+    points_are_enough();
+    broken_points_race();
+    let trials = trials(alloc, policy)?;
+    all_small(alloc, policy, trials.as_slice())?;
+    judged(alloc, policy, trials.as_slice())
+}
+
+/// Tells the first trial that has too many points.
+fn all_small(alloc: Global, policy: &Policy, trials: &[TrialRef]) -> Result<(), RaceFault>
+    requires policy { IsPolicy policy.now }
+    requires clauses { AllByRecursion (AreClausesOf policy.now) trials.now }
+    ensures exact { Answers RaceFault.Memory result (counted policy.now trials.now) }
+    ensures small { IsOk result → AllByRecursion (λ trial. is_small policy.now trial ≡ true) trials.now }
+{
+    let mut left = trials;
+    while let [trial, rest @ ..] = left {
+        is_small(alloc, policy, trial)?;
+        left = rest;
+    }
+    Ok(())
+}
+
+fn is_small(alloc: Global, policy: &Policy, trial: &TrialRef) -> Result<(), RaceFault>
+    requires policy { IsPolicy policy.now }
+    requires clauses { AreClausesOf policy.now trial.now }
+    ensures { Answers RaceFault.Memory result (small_or_told policy.now trial.now) }
+{
+    let count = point_count(alloc, policy, trial)?;
+    if count > MAX_POINTS {
+        return Err(RaceFault::CellLimit {
+            first: trial.first.place,
+            second: second_place(trial),
+            count,
+        });
+    }
+    Ok(())
+}
+
+/// The place of the second clause, or of the one that is tried alone.
+fn second_place(trial: &TrialRef) -> u32
+    ensures { result ≡ second_place trial.now }
+{
+    match &trial.second {
+        Some(second) => second.place,
+        None => trial.first.place,
+    }
+}
+
+/// How many points the trial has.
+fn point_count(alloc: Global, policy: &Policy, trial: &TrialRef) -> Result<u64, NoMemory>
+    requires policy { IsPolicy policy.now }
+    requires clauses { AreClausesOf policy.now trial.now }
+    ensures { IfOk result (λ count. count ≡ point_count policy.now trial.now) }
+{
+    let states = states_count(alloc, policy, trial)?;
+    let firsts = events_count(alloc, trial.first.clause)?;
+    let seconds = match &trial.second {
+        Some(second) => events_count(alloc, second.clause)?,
+        None => 1,
+    };
+    Ok(states.saturating_mul(firsts.saturating_mul(seconds)))
+}
+
+/// The first trial with a point that breaks its condition, or that there is none.
+fn judged(alloc: Global, policy: &Policy, trials: &[TrialRef]) -> Result<RaceVerdict, RaceFault>
+    requires policy { IsPolicy policy.now }
+    requires clauses { AllByRecursion (AreClausesOf policy.now) trials.now }
+    requires small { AllByRecursion (λ trial. is_small policy.now trial ≡ true) trials.now }
+    ensures { Answers RaceFault.Memory result (Ok (judged policy.now trials.now)) }
+{
+    let mut left = trials;
+    while let [trial, rest @ ..] = left {
+        if let Some(point) = broken_in(alloc, policy, trial)? {
+            return Ok(RaceVerdict::Racy {
+                condition: trial.condition,
+                state: point.state,
+                first: point.first,
+                second: point.second,
+            });
+        }
+        left = rest;
+    }
+    Ok(RaceVerdict::Free)
+}

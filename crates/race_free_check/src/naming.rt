@@ -1,0 +1,253 @@
+//! What the clauses of a trial name: constants, values, addends.
+
+ghost use Rattle.std.specs.Prelude.{◌≡◌, ◌==◌, ◌^◌, ◌++◌, ◌∷◌, [], OnOk};
+ghost use Rattle.std.specs.List.{cons_option, filter_map, list_any};
+ghost use Rattle.conspec_tree.specs.declared.types.Atom.{Atom};
+ghost use Rattle.conspec_tree.specs.declared.types.Base.TheVariants as bases;
+ghost use Rattle.conspec_tree.specs.declared.types.Update.{Update};
+ghost use Rattle.conspec_tree.specs.Updates.{target};
+ghost use Rattle.conspec_automaton.specs.Points.{
+  added_to,
+  assigned_to,
+  atoms_in,
+  compared_with,
+  constants_of,
+  is_named,
+  is_same,
+  updates_in,
+};
+ghost use Rattle.conspec_automaton.specs.Trying.{clauses_of};
+ghost use Rattle.race_free_check.specs.Small.{AreSmall};
+
+use crate::trial::TrialRef;
+use conspec_automaton::Clause;
+use conspec_tree::{Atom, Base, Update};
+use mon_base::NoMemory;
+
+/// Whether an atom or an update of the clauses names the variable.
+pub fn is_named(trial: &TrialRef, var: u32) -> bool
+    ensures { result ≡ is_named var (clauses_of trial.now) }
+{
+    let first = trial.first.clause;
+    match &trial.second {
+        None => is_asked(first, var) || is_changed(first, var),
+        Some(second) => {
+            is_asked(first, var)
+                || is_asked(second.clause, var)
+                || is_changed(first, var)
+                || is_changed(second.clause, var)
+        }
+    }
+}
+
+/// Whether an atom of the clause asks for the variable.
+fn is_asked(clause: &Clause, var: u32) -> bool
+    ensures { result ≡ list_any (λ (a : Atom). is_same (bases.Var var) a.base) (atoms_in (clause.now ∷ [])) }
+{
+    let mut left = clause.branches.as_slice();
+    while let [branch, rest @ ..] = left {
+        if any_asks(branch.atoms.as_slice(), var) {
+            return true;
+        }
+        left = rest;
+    }
+    false
+}
+
+fn any_asks(atoms: &[Atom], var: u32) -> bool
+    ensures { result ≡ list_any (λ (a : Atom). is_same (bases.Var var) a.base) atoms.now }
+{
+    atoms.iter().any(|atom| is_same(Base::Var(var), atom.base))
+}
+
+/// Whether an update of the clause is of the variable.
+fn is_changed(clause: &Clause, var: u32) -> bool
+    ensures { result ≡ list_any (λ (u : Update). target u == var) (updates_in (clause.now ∷ [])) }
+{
+    let mut left = clause.branches.as_slice();
+    while let [branch, rest @ ..] = left {
+        if any_changes(branch.updates.as_slice(), var) {
+            return true;
+        }
+        left = rest;
+    }
+    false
+}
+
+fn any_changes(updates: &[Update], var: u32) -> bool
+    ensures { result ≡ list_any (λ (u : Update). target u == var) updates.now }
+{
+    updates.iter().any(|update| target(*update) == var)
+}
+
+fn is_same(base: Base, other: Base) -> bool
+    ensures { result ≡ is_same base other }
+{
+    match (base, other) {
+        (Base::Var(i), Base::Var(j)) => i == j,
+        (Base::Arg(i), Base::Arg(j)) => i == j,
+        (Base::Result, Base::Result) => true,
+        _ => false,
+    }
+}
+
+fn target(update: Update) -> u32
+    ensures { result ≡ target update }
+{
+    match update {
+        Update::Set { var, .. } => var,
+        Update::Add { var, .. } => var,
+    }
+}
+
+/// Adds the numbers that atoms of the clauses compare the base with.
+pub fn add_all_constants(
+    numbers: &mut Vec<i64>,
+    trial: &TrialRef,
+    base: Base,
+) -> Result<(), NoMemory>
+    requires { AreSmall (2 ^ 31) numbers.old.items }
+    ensures adds { OnOk result (numbers.new.items ≡ numbers.old.items ++ constants_of base (clauses_of trial.now)) }
+    ensures small { OnOk result (AreSmall (2 ^ 31) numbers.new.items) }
+{
+    add_constants(numbers, trial.first.clause, base)?;
+    match &trial.second {
+        Some(second) => add_constants(numbers, second.clause, base),
+        None => Ok(()),
+    }
+}
+
+/// Adds the numbers that atoms of the clause compare the base with.
+pub fn add_constants(numbers: &mut Vec<i64>, clause: &Clause, base: Base) -> Result<(), NoMemory>
+    requires { AreSmall (2 ^ 31) numbers.old.items }
+    ensures adds { OnOk result (numbers.new.items ≡ numbers.old.items ++ constants_of base (clause.now ∷ [])) }
+    ensures small { OnOk result (AreSmall (2 ^ 31) numbers.new.items) }
+{
+    for branch in clause.branches.as_slice() {
+        add_compared(numbers, branch.atoms.as_slice(), base)?;
+    }
+    Ok(())
+}
+
+fn add_compared(numbers: &mut Vec<i64>, atoms: &[Atom], base: Base) -> Result<(), NoMemory>
+    requires { AreSmall (2 ^ 31) numbers.old.items }
+    ensures adds { OnOk result (numbers.new.items ≡ numbers.old.items ++ filter_map (compared_with base) atoms.now) }
+    ensures small { OnOk result (AreSmall (2 ^ 31) numbers.new.items) }
+{
+    for atom in atoms {
+        add_some(numbers, compared_with(base, *atom))?;
+    }
+    Ok(())
+}
+
+/// Adds the number, if there is one.
+fn add_some(numbers: &mut Vec<i64>, number: Option<i32>) -> Result<(), NoMemory>
+    requires { AreSmall (2 ^ 31) numbers.old.items }
+    ensures adds { OnOk result (numbers.new.items ≡ numbers.old.items ++ cons_option number []) }
+    ensures small { OnOk result (AreSmall (2 ^ 31) numbers.new.items) }
+{
+    if let Some(n) = number {
+        numbers.push(i64::from(n))?;
+    }
+    Ok(())
+}
+
+fn compared_with(base: Base, atom: Atom) -> Option<i32>
+    ensures { result ≡ compared_with base atom }
+{
+    if is_same(base, atom.base) {
+        Some(atom.value)
+    } else {
+        None
+    }
+}
+
+/// Adds the numbers that the clauses set the variable to.
+pub fn add_all_assigned(numbers: &mut Vec<i64>, trial: &TrialRef, var: u32) -> Result<(), NoMemory>
+    requires { AreSmall (2 ^ 31) numbers.old.items }
+    ensures adds { OnOk result (numbers.new.items ≡ numbers.old.items ++ filter_map (assigned_to var) (updates_in (clauses_of trial.now))) }
+    ensures small { OnOk result (AreSmall (2 ^ 31) numbers.new.items) }
+{
+    add_assigned(numbers, trial.first.clause, var)?;
+    match &trial.second {
+        Some(second) => add_assigned(numbers, second.clause, var),
+        None => Ok(()),
+    }
+}
+
+/// Adds the numbers that the clause sets the variable to.
+fn add_assigned(numbers: &mut Vec<i64>, clause: &Clause, var: u32) -> Result<(), NoMemory>
+    requires { AreSmall (2 ^ 31) numbers.old.items }
+    ensures adds { OnOk result (numbers.new.items ≡ numbers.old.items ++ filter_map (assigned_to var) (updates_in (clause.now ∷ []))) }
+    ensures small { OnOk result (AreSmall (2 ^ 31) numbers.new.items) }
+{
+    for branch in clause.branches.as_slice() {
+        add_each_assigned(numbers, branch.updates.as_slice(), var)?;
+    }
+    Ok(())
+}
+
+fn add_each_assigned(numbers: &mut Vec<i64>, updates: &[Update], var: u32) -> Result<(), NoMemory>
+    requires { AreSmall (2 ^ 31) numbers.old.items }
+    ensures adds { OnOk result (numbers.new.items ≡ numbers.old.items ++ filter_map (assigned_to var) updates.now) }
+    ensures small { OnOk result (AreSmall (2 ^ 31) numbers.new.items) }
+{
+    for update in updates {
+        add_some(numbers, assigned_to(var, *update))?;
+    }
+    Ok(())
+}
+
+fn assigned_to(var: u32, update: Update) -> Option<i32>
+    ensures { result ≡ assigned_to var update }
+{
+    match update {
+        Update::Set { var: i, value } => { if i == var { Some(value) } else { None } }
+        Update::Add { .. } => None,
+    }
+}
+
+/// Adds the numbers that the clauses add to the variable.
+pub fn add_all_addends(numbers: &mut Vec<i64>, trial: &TrialRef, var: u32) -> Result<(), NoMemory>
+    requires { AreSmall (2 ^ 31) numbers.old.items }
+    ensures adds { OnOk result (numbers.new.items ≡ numbers.old.items ++ filter_map (added_to var) (updates_in (clauses_of trial.now))) }
+    ensures small { OnOk result (AreSmall (2 ^ 31) numbers.new.items) }
+{
+    add_addends(numbers, trial.first.clause, var)?;
+    match &trial.second {
+        Some(second) => add_addends(numbers, second.clause, var),
+        None => Ok(()),
+    }
+}
+
+/// Adds the numbers that the clause adds to the variable.
+fn add_addends(numbers: &mut Vec<i64>, clause: &Clause, var: u32) -> Result<(), NoMemory>
+    requires { AreSmall (2 ^ 31) numbers.old.items }
+    ensures adds { OnOk result (numbers.new.items ≡ numbers.old.items ++ filter_map (added_to var) (updates_in (clause.now ∷ []))) }
+    ensures small { OnOk result (AreSmall (2 ^ 31) numbers.new.items) }
+{
+    for branch in clause.branches.as_slice() {
+        add_each_addend(numbers, branch.updates.as_slice(), var)?;
+    }
+    Ok(())
+}
+
+fn add_each_addend(numbers: &mut Vec<i64>, updates: &[Update], var: u32) -> Result<(), NoMemory>
+    requires { AreSmall (2 ^ 31) numbers.old.items }
+    ensures adds { OnOk result (numbers.new.items ≡ numbers.old.items ++ filter_map (added_to var) updates.now) }
+    ensures small { OnOk result (AreSmall (2 ^ 31) numbers.new.items) }
+{
+    for update in updates {
+        add_some(numbers, added_to(var, *update))?;
+    }
+    Ok(())
+}
+
+fn added_to(var: u32, update: Update) -> Option<i32>
+    ensures { result ≡ added_to var update }
+{
+    match update {
+        Update::Set { .. } => None,
+        Update::Add { var: i, by } => { if i == var { Some(by) } else { None } }
+    }
+}

@@ -1,0 +1,179 @@
+//! What is tried of a policy: each condition for each clause or pair of clauses that it is about, in order.
+
+ghost use Rattle.std.specs.Prelude.{◌≡◌, ◌≤◌, ◌++◌, length, map, filter, IfOk, OnOk};
+ghost use Rattle.std.specs.List.{enumerate_from};
+ghost use Rattle.conspec_automaton.specs.Trying.{Placed, alone, both, is_of_calls, pairs, trials};
+ghost use Rattle.race_free_check.specs.Deciding.{is_wanted};
+
+use conspec_automaton::{Clause, Policy};
+use conspec_tree::Phase;
+use mon_base::NoMemory;
+use std::alloc::Global;
+use std::marker::Model;
+
+/// A clause with its place in the policy.
+#[derive(Debug, Drop)]
+pub struct PlacedClause<'a> {
+    pub place: u32,
+    pub clause: &'a Clause,
+}
+
+impl<'a> Model for PlacedClause<'a> {
+    ghost use Rattle.conspec_automaton.specs.Trying.{Placed};
+
+    ghost Value = { Placed };
+
+    ghost view = { λ c. (c.place, c.clause.now) };
+}
+
+impl<'a> PlacedClause<'a> {
+    /// The same once more.
+    pub fn again(&self) -> PlacedClause<'a>
+        ensures { result ≡ self.now }
+    {
+        PlacedClause {
+            place: self.place,
+            clause: self.clause,
+        }
+    }
+}
+
+/// A condition, by its number, that is tried of one clause or of two in this order.
+#[derive(Debug, Drop)]
+pub struct TrialRef<'a> {
+    pub condition: u8,
+    pub first: PlacedClause<'a>,
+    pub second: Option<PlacedClause<'a>>,
+}
+
+impl<'a> Model for TrialRef<'a> {
+    ghost use Rattle.conspec_automaton.specs.Trying.{Trial};
+
+    ghost Value = { Trial };
+
+    ghost view = { λ t. record { condition = t.condition; first = t.first; second = t.second } };
+}
+
+impl<'a> TrialRef<'a> {
+    /// The same once more.
+    pub fn again(&self) -> TrialRef<'a>
+        ensures { result ≡ self.now }
+    {
+        let second = match &self.second {
+            Some(second) => Some(second.again()),
+            None => None,
+        };
+        TrialRef {
+            condition: self.condition,
+            first: self.first.again(),
+            second,
+        }
+    }
+}
+
+/// What is tried of the policy: that ends of calls are taken, that calls turn, that ends turn, and that ends may come first.
+pub fn trials<'a>(alloc: Global, policy: &'a Policy) -> Result<Vec<TrialRef<'a>>, NoMemory>
+    requires { length policy.now.clauses ≤ 64 }
+    ensures { IfOk result (λ found. found.items ≡ trials policy.now) }
+{
+    let calls = clauses_where(alloc, policy, true)?;
+    let ends = clauses_where(alloc, policy, false)?;
+    let mut trials = Vec::new(alloc);
+    add_alone(&mut trials, 0, ends.as_slice())?;
+    add_pairs(&mut trials, 1, calls.as_slice(), calls.as_slice())?;
+    add_pairs(&mut trials, 2, ends.as_slice(), ends.as_slice())?;
+    add_pairs(&mut trials, 3, calls.as_slice(), ends.as_slice())?;
+    Ok(trials)
+}
+
+/// The clauses for calls, or those for ends of calls.
+fn clauses_where<'a>(
+    alloc: Global,
+    policy: &'a Policy,
+    of_calls: bool,
+) -> Result<Vec<PlacedClause<'a>>, NoMemory>
+    requires { length policy.now.clauses ≤ 64 }
+    ensures { IfOk result (λ found. found.items ≡ filter (λ (c : Placed). is_wanted of_calls c.1.phase) (enumerate_from 0 policy.now.clauses)) }
+{
+    let mut found = Vec::new(alloc);
+    let mut place: u32 = 0;
+    let mut left = policy.clauses.as_slice();
+    while let [clause, rest @ ..] = left {
+        if is_wanted(of_calls, clause.phase) {
+            found.push(PlacedClause { place, clause })?;
+        }
+        place += 1;
+        left = rest;
+    }
+    Ok(found)
+}
+
+/// Whether the phase is that of calls, or whether it is not.
+fn is_wanted(of_calls: bool, phase: Phase) -> bool
+    ensures { result ≡ is_wanted of_calls phase }
+{
+    if of_calls {
+        is_of_calls(phase)
+    } else {
+        !is_of_calls(phase)
+    }
+}
+
+fn is_of_calls(phase: Phase) -> bool
+    ensures { result ≡ is_of_calls phase }
+{
+    match phase {
+        Phase::Before => true,
+        Phase::After => false,
+        Phase::Exceptional => false,
+    }
+}
+
+fn add_alone<'a>(
+    trials: &mut Vec<TrialRef<'a>>,
+    condition: u8,
+    firsts: &[PlacedClause<'a>],
+) -> Result<(), NoMemory>
+    ensures { OnOk result (trials.new.items ≡ trials.old.items ++ map (alone condition) firsts.now) }
+{
+    for first in firsts {
+        trials.push(TrialRef {
+            condition,
+            first: first.again(),
+            second: None,
+        })?;
+    }
+    Ok(())
+}
+
+fn add_pairs<'a>(
+    trials: &mut Vec<TrialRef<'a>>,
+    condition: u8,
+    firsts: &[PlacedClause<'a>],
+    seconds: &[PlacedClause<'a>],
+) -> Result<(), NoMemory>
+    ensures { OnOk result (trials.new.items ≡ trials.old.items ++ pairs condition firsts.now seconds.now) }
+{
+    for first in firsts {
+        add_pairs_with(trials, condition, first, seconds)?;
+    }
+    Ok(())
+}
+
+fn add_pairs_with<'a>(
+    trials: &mut Vec<TrialRef<'a>>,
+    condition: u8,
+    first: &PlacedClause<'a>,
+    seconds: &[PlacedClause<'a>],
+) -> Result<(), NoMemory>
+    ensures { OnOk result (trials.new.items ≡ trials.old.items ++ map (both condition first.now) seconds.now) }
+{
+    for second in seconds {
+        trials.push(TrialRef {
+            condition,
+            first: first.again(),
+            second: Some(second.again()),
+        })?;
+    }
+    Ok(())
+}
