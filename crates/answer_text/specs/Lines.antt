@@ -17,6 +17,7 @@ line_text (lines.Accepted mode sites) = codes "accepted" ++ word mode ++ codes "
 line_text (lines.Inlined mode sites classes) = codes "inlined" ++ word mode ++ codes " sites" ++ count sites ++ codes " classes" ++ count classes
 line_text lines.Obeyed = codes "accepted"
 line_text (lines.Stopped index) = codes "stopped" ++ count index
+line_text lines.Free = codes "free"
 line_text (lines.Denied report) = codes "denied" ++ count report.number ++ all_spaced report.fields
 line_text (lines.Input name report) = codes "input" ++ count report.number ++ word (file_name name) ++ all_spaced report.fields
 line_text (lines.Overflow sizes) = codes "overflow" ++ all_spaced sizes

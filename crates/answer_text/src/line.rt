@@ -27,6 +27,8 @@ pub enum Line {
     Stopped {
         index: u64,
     },
+    /// `free`: the events of a policy do not race.
+    Free,
     /// `denied NUMBER FIELD..`: the answer is no.
     Denied(Report),
     /// `input NUMBER NAME FIELD..`: the file of this name is wrong; NAME is `-` where it is no single file.
@@ -58,6 +60,7 @@ pub(crate) fn push_line(text: &mut Bytes, line: &Line) -> Result<(), NoMemory>
             text.extend(b"stopped")?;
             push_counted(text, *index)
         }
+        Line::Free => text.extend(b"free"),
         Line::Denied(report) => {
             text.extend(b"denied")?;
             push_counted(text, u64::from(report.number))?;

@@ -49,6 +49,7 @@ fn lines_of_runs(rt: HostRuntime) -> Result<(), Fail> {
     prints(&rt, alloc, Reply::Line(Line::Obeyed), "accepted\n")?;
     let stopped = Line::Stopped { index: 3 };
     prints(&rt, alloc, Reply::Line(stopped), "stopped 3\n")?;
+    prints(&rt, alloc, Reply::Line(Line::Free), "free\n")?;
     let denied = Line::Denied(Report::new(alloc, 191, [Field::Count(3)])?);
     prints(&rt, alloc, Reply::Line(denied), "denied 191 3\n")
 }

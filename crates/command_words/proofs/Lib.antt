@@ -1,1 +1,2 @@
 pub mod NamedOnce
+mod NoneThere

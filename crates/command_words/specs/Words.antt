@@ -5,6 +5,7 @@ use Rattle.command_words.specs.declared.words.CheckWords.{CheckWords}
 use Rattle.command_words.specs.declared.words.Command.{Command}
 use Rattle.command_words.specs.declared.words.Command.TheVariants as commands
 use Rattle.command_words.specs.declared.words.PolicyWords.{PolicyWords}
+use Rattle.command_words.specs.declared.words.RaceWords.{RaceWords}
 use Rattle.command_words.specs.declared.words.ShowWords.{ShowWords}
 use Rattle.command_words.specs.InlineWords.{IsInline, NamedInline, inline_named}
 
@@ -27,10 +28,16 @@ pub record NamedPolicy : Type 0 where
   pub listing : List ℕ
   pub recorded : List ℕ
 
+-- the files of a policy of which it is asked whether its events race
+pub record NamedRace : Type 0 where
+  pub policy : List ℕ
+  pub listing : List ℕ
+
 pub data NamedCommand : Type 0 where
   Check : NamedCheck → NamedCommand
   Show : NamedShow → NamedCommand
   Policy : NamedPolicy → NamedCommand
+  Race : NamedRace → NamedCommand
   Inline : NamedInline → NamedCommand
 
 abbrev pub check_named : CheckWords → NamedCheck
@@ -48,10 +55,14 @@ show_named words = record { listing = words.listing.now; classes = words.classes
 abbrev pub policy_named : PolicyWords → NamedPolicy
 policy_named words = record { policy = words.policy.now; listing = words.listing.now; recorded = words.recorded.now }
 
+abbrev pub race_named : RaceWords → NamedRace
+race_named words = record { policy = words.policy.now; listing = words.listing.now }
+
 abbrev pub named_by : Command → NamedCommand
 named_by (commands.Check words) = Check (check_named words)
 named_by (commands.Show words) = Show (show_named words)
 named_by (commands.Policy words) = Policy (policy_named words)
+named_by (commands.Race words) = Race (race_named words)
 named_by (commands.Inline words) = Inline (inline_named words)
 
 -- check POLICY LISTING CERT MAIN CLASS..
@@ -68,10 +79,15 @@ pub record IsShow (words : List (List ℕ)) (named : NamedShow) : Type 0 where
 pub record IsPolicyCommand (words : List (List ℕ)) (named : NamedPolicy) : Type 0 where
   pub spelled : words ≡ codes "policy" ∷ named.policy ∷ named.listing ∷ named.recorded ∷ []
 
+-- race POLICY LISTING
+pub record IsRace (words : List (List ℕ)) (named : NamedRace) : Type 0 where
+  pub spelled : words ≡ codes "race" ∷ named.policy ∷ named.listing ∷ []
+
 abbrev pub Spells : List (List ℕ) → NamedCommand → Type 0
 Spells words (Check named) = IsCheck words named
 Spells words (Show named) = IsShow words named
 Spells words (Policy named) = IsPolicyCommand words named
+Spells words (Race named) = IsRace words named
 Spells words (Inline named) = IsInline words named
 
 -- The words are those of the command, and none of them is empty.

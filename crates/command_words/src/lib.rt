@@ -8,7 +8,7 @@ mod inline_words;
 mod words;
 
 pub use inline_words::{InlineWords, Weaving};
-pub use words::{CheckWords, Command, PolicyWords, ShowWords, command_of};
+pub use words::{CheckWords, Command, PolicyWords, RaceWords, ShowWords, command_of};
 
 #[cfg(test)]
 mod tests;

@@ -14,13 +14,14 @@ fn words_of(alloc: Global, words: &[&str]) -> Result<List<Bytes>, NoMemory> {
 }
 
 /// Words of commands.
-const COMMANDS: [&[&str]; 5] = [
+const COMMANDS: [&[&str]; 6] = [
     &["check", "POLICY", "LISTING", "CERT", "a/E", "E.class"],
     &[
         "check", "check", "check", "check", "check", "check", "check",
     ],
     &["show", "LISTING", "E.class", "F.class"],
     &["policy", "POLICY", "LISTING", "RECORD"],
+    &["race", "POLICY", "LISTING"],
     &[
         "inline", "POLICY", "LISTING", "a/E", "out", "hold", "E.class",
     ],
@@ -36,7 +37,7 @@ fn commands(rt: HostRuntime) -> Result<(), Fail> {
 }
 
 /// Words of no command: one too few or too many, one that is empty, or another first word or mode.
-const OTHERS: [&[&str]; 14] = [
+const OTHERS: [&[&str]; 17] = [
     &[],
     &[""],
     &["check"],
@@ -48,6 +49,9 @@ const OTHERS: [&[&str]; 14] = [
     &["show", "LISTING", ""],
     &["policy", "POLICY", "LISTING"],
     &["policy", "POLICY", "LISTING", "RECORD", "RECORD"],
+    &["race", "POLICY"],
+    &["race", "POLICY", "LISTING", "RECORD"],
+    &["races", "POLICY", "LISTING"],
     &["inline", "POLICY", "LISTING", "a/E", "out", "auto"],
     &[
         "inline", "POLICY", "LISTING", "a/E", "out", "other", "E.class",

@@ -6,14 +6,17 @@ ghost use Rattle.command_words.specs.Words.{
   IsCheck,
   IsCommand,
   IsPolicyCommand,
+  IsRace,
   IsShow,
   NamedCheck,
   NamedCommand,
   NamedPolicy,
+  NamedRace,
   NamedShow,
   check_named,
   named_by,
   policy_named,
+  race_named,
   show_named,
 };
 
@@ -47,12 +50,20 @@ pub struct PolicyWords<'a> {
     pub recorded: &'a Bytes,
 }
 
+/// The words of the command `race`, each the name of a file.
+#[derive(Clone, Copy)]
+pub struct RaceWords<'a> {
+    pub policy: &'a Bytes,
+    pub listing: &'a Bytes,
+}
+
 /// A command and its words.
 #[derive(Clone, Copy)]
 pub enum Command<'a> {
     Check(CheckWords<'a>),
     Show(ShowWords<'a>),
     Policy(PolicyWords<'a>),
+    Race(RaceWords<'a>),
     Inline(InlineWords<'a>),
 }
 
@@ -72,6 +83,9 @@ pub fn command_of(words: &[Bytes]) -> Option<Command<'_>>
     }
     if let Some(words) = policy_words(words) {
         return Some(Command::Policy(words));
+    }
+    if let Some(words) = race_words(words) {
+        return Some(Command::Race(words));
     }
     if let Some(words) = inline_words(words) {
         return Some(Command::Inline(words));
@@ -128,6 +142,19 @@ fn policy_words(words: &[Bytes]) -> Option<PolicyWords<'_>>
         listing,
         recorded,
     })
+}
+
+fn race_words(words: &[Bytes]) -> Option<RaceWords<'_>>
+    ensures found { IfSome result (λ c. IsRace words.now (race_named c)) }
+    ensures none { IfNone result ((named : NamedRace) → IsRace words.now named → ⊥) }
+{
+    let (command, words) = first_of(words)?;
+    let (policy, words) = first_of(words)?;
+    let (listing, words) = first_of(words)?;
+    if command.as_slice() != b"race".as_slice() || !words.is_empty() {
+        return None;
+    }
+    Some(RaceWords { policy, listing })
 }
 
 /// Whether no word is empty.

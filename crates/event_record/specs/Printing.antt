@@ -39,6 +39,12 @@ event_text methods (Call thread method args) = head_text (codes "call") thread m
 event_text methods (Return thread method value) = head_text (codes "return") thread methods method ++ result_behind value
 event_text methods (Except thread method) = head_text (codes "except") thread methods method
 
+-- the event without its thread
+abbrev pub threadless_text : List ListedMethod → Event → List ℕ
+threadless_text methods (Call thread method args) = codes "call" ++ named_behind methods method ++ flat_map value_behind args
+threadless_text methods (Return thread method value) = codes "return" ++ named_behind methods method ++ result_behind value
+threadless_text methods (Except thread method) = codes "except" ++ named_behind methods method
+
 -- the line of an event
 abbrev pub event_line : List ListedMethod → Event → List ℕ
 event_line methods event = event_text methods event ++ 10 ∷ []

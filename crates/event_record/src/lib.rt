@@ -1,7 +1,7 @@
 //! Records: a run as text, with the steps of the threads, the answers of the library, and what was seen of its calls.
 //!
 //! [`read_record`] reads the steps and the events of a record, or answers its first line that is wrong. [`push_value`] and
-//! [`push_event`] print values and events as a record has them. (docs/RECORDS.md)
+//! [`push_event`] print values and events as a record has them, and [`push_threadless`] an event of no thread. (docs/RECORDS.md)
 #![tactic(auto)]
 
 mod entry;
@@ -17,7 +17,9 @@ mod words;
 pub use fault::RecordFault;
 pub use laws::faults_stay;
 pub use names::methods_are_found;
-pub use printing::{events_are_read_again, push_event, push_value, values_are_read_again};
+pub use printing::{
+    events_are_read_again, push_event, push_threadless, push_value, values_are_read_again,
+};
 pub use reading::{Record, read_record};
 
 #[cfg(test)]

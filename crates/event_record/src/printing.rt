@@ -14,6 +14,7 @@ ghost use Rattle.event_record.specs.Printing.{
   method_behind,
   named_behind,
   result_behind,
+  threadless_text,
   value_behind,
 };
 ghost use Rattle.event_record.specs.Value.{hex, hex_byte, hex_digit, value_at, value_word};
@@ -121,6 +122,29 @@ fn push_text(out: &mut Bytes, methods: &[ListedMethod], event: &Event) -> Result
             push_result(out, value)
         }
         Event::Except { thread, method } => push_head(out, b"except", *thread, methods, *method),
+    }
+}
+
+/// Appends an event of a method of the listing as its line has it, but without its thread.
+pub fn push_threadless(out: &mut Bytes, listing: &Listing, event: &Event) -> Result<(), NoMemory>
+    ensures { OnOk result (out.new ≡ out.old ++ threadless_text listing.now.methods event.now) }
+{
+    let methods = listing.methods.as_slice();
+    match event {
+        Event::Call { method, args, .. } => {
+            out.extend(b"call")?;
+            push_named(out, methods, *method)?;
+            push_values(out, args.as_slice())
+        }
+        Event::Return { method, value, .. } => {
+            out.extend(b"return")?;
+            push_named(out, methods, *method)?;
+            push_result(out, value)
+        }
+        Event::Except { method, .. } => {
+            out.extend(b"except")?;
+            push_named(out, methods, *method)
+        }
     }
 }
 

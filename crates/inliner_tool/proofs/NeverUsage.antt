@@ -19,7 +19,14 @@ use Rattle.input_files.specs.declared.check_inputs.CheckInputs.{CheckInputs}
 use Rattle.inliner_tool.specs.Built.{is_built}
 use Rattle.inliner_tool.specs.Answers.{Is}
 use Rattle.inliner_tool.specs.Check.{check_answer, linked_answer, link_answer, link_inputs, verdict_answer}
+use Rattle.inliner_tool.specs.Race.{decided_answer, fault_answer, race_answer, verdict_answer as race_verdict_answer}
 use Rattle.inliner_tool.specs.Tool.{IsAnswer}
+use Rattle.input_files.specs.declared.race_inputs.RaceInputs.{RaceInputs}
+use Rattle.race_free_check.specs.declared.fault.RaceFault.{RaceFault}
+use Rattle.race_free_check.specs.declared.fault.RaceFault.TheVariants as faults
+use Rattle.race_free_check.specs.declared.verdict.RaceVerdict.{RaceVerdict}
+use Rattle.race_free_check.specs.declared.verdict.RaceVerdict.TheVariants as verdicts
+use Rattle.race_free_check.specs.Deciding.{decided}
 
 no_verdict : (program : Program) (verdict : Result Accepted CheckFault) → verdict_answer program verdict ≡ answers.Usage → ⊥
 no_verdict program (Ok accepted) e = absurd cc
@@ -56,21 +63,51 @@ no_usage : (main : List ℕ) (inputs : CheckInputs) → check_answer main inputs
 no_usage main inputs e =
     no_total (nat_lt 16777216 inputs.classes.total) inputs.classes.total (linked_answer inputs.policy inputs.certificate (link_inputs main inputs)) (no_linked inputs.policy inputs.certificate (link_inputs main inputs)) e
 
+-- ---- policies by themselves
+
+no_race_verdict : (inputs : RaceInputs) (verdict : RaceVerdict) → race_verdict_answer inputs verdict ≡ answers.Usage → ⊥
+no_race_verdict inputs verdicts.Free e = absurd cc
+no_race_verdict inputs (verdicts.Racy condition state first second) e = absurd cc
+
+no_race_fault : (fault : RaceFault) → fault_answer fault ≡ answers.Usage → ⊥
+no_race_fault (faults.CellLimit first second count) e = absurd cc
+no_race_fault faults.Memory e = absurd cc
+
+no_decision : (inputs : RaceInputs) (decision : Result RaceVerdict RaceFault) → decided_answer inputs decision ≡ answers.Usage → ⊥
+no_decision inputs (Ok verdict) e = no_race_verdict inputs verdict e
+no_decision inputs (Err fault) e = no_race_fault fault e
+
+no_race_usage : (inputs : RaceInputs) → race_answer inputs ≡ answers.Usage → ⊥
+no_race_usage inputs e = no_decision inputs (decided (built inputs.policy)) e
+
+-- ---- answers
+
+-- An answer that is this one, which is not that the words are no command's, is one of its case.
+says : (wanted answer : Answer) (P : Answer → Type 0) → (wanted ≡ answers.Usage → ⊥) → Is answer wanted → (answer ≡ wanted → P answer) → IsAnswer P answer
+says wanted (answers.Accepted accepted) P none is so = so is
+says wanted (answers.Denied fault label) P none is so = so is
+says wanted (answers.Shown text) P none is so = so is
+says wanted (answers.Judged verdict) P none is so = so is
+says wanted answers.RaceFree P none is so = so is
+says wanted (answers.Racy condition example) P none is so = so is
+says wanted (answers.CellLimit first second count) P none is so = so is
+says wanted (answers.Inlined accepted classes) P none is so = so is
+says wanted (answers.Input name fault) P none is so = so is
+says wanted (answers.TotalLong len) P none is so = so is
+says wanted (answers.Link fault) P none is so = so is
+says wanted (answers.Untyped class method at) P none is so = so is
+says wanted answers.NotBuilt P none is so = so is
+says wanted (answers.Overflow class method what value) P none is so = so is
+says wanted (answers.LongCertificate value) P none is so = so is
+says wanted (answers.Unread name) P none is so = so is
+says wanted (answers.Unwritten name) P none is so = so is
+says wanted answers.Usage P none is so = none (sym is)
+says wanted answers.Memory P none is so = tt
+
 -- An answer to a check is one of its case.
 pub check_says : (main : List ℕ) (inputs : CheckInputs) (answer : Answer) (P : Answer → Type 0) → Is answer (check_answer main inputs) → (answer ≡ check_answer main inputs → P answer) → IsAnswer P answer
-check_says main inputs (answers.Accepted accepted) P is so = so is
-check_says main inputs (answers.Denied fault label) P is so = so is
-check_says main inputs (answers.Shown text) P is so = so is
-check_says main inputs (answers.Judged verdict) P is so = so is
-check_says main inputs (answers.Inlined accepted classes) P is so = so is
-check_says main inputs (answers.Input name fault) P is so = so is
-check_says main inputs (answers.TotalLong len) P is so = so is
-check_says main inputs (answers.Link fault) P is so = so is
-check_says main inputs (answers.Untyped class method at) P is so = so is
-check_says main inputs answers.NotBuilt P is so = so is
-check_says main inputs (answers.Overflow class method what value) P is so = so is
-check_says main inputs (answers.LongCertificate value) P is so = so is
-check_says main inputs (answers.Unread name) P is so = so is
-check_says main inputs (answers.Unwritten name) P is so = so is
-check_says main inputs answers.Usage P is so = no_usage main inputs (sym is)
-check_says main inputs answers.Memory P is so = tt
+check_says main inputs answer P is so = says (check_answer main inputs) answer P (no_usage main inputs) is so
+
+-- So is what is decided of a policy.
+pub race_says : (inputs : RaceInputs) (answer : Answer) (P : Answer → Type 0) → Is answer (race_answer inputs) → (answer ≡ race_answer inputs → P answer) → IsAnswer P answer
+race_says inputs answer P is so = says (race_answer inputs) answer P (no_race_usage inputs) is so

@@ -11,6 +11,9 @@ pub ends_well : (answer : Answer) → status_of answer ≡ statuses.Done → End
 ends_well (answers.Accepted accepted) is = tt
 ends_well (answers.Denied fault label) is = absurd cc
 ends_well (answers.Shown text) is = tt
+ends_well answers.RaceFree is = tt
+ends_well (answers.Racy condition example) is = absurd cc
+ends_well (answers.CellLimit first second count) is = absurd cc
 ends_well (answers.Inlined accepted classes) is = tt
 ends_well (answers.Judged verdicts.Accepted) is = refl
 ends_well (answers.Judged (verdicts.StoppedAt index)) is = refl

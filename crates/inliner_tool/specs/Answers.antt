@@ -22,5 +22,6 @@ abbrev pub EndsWell : Answer → Type 0
 EndsWell (answers.Accepted accepted) = Unit {0}
 EndsWell (answers.Shown text) = Unit {0}
 EndsWell (answers.Judged verdict) = is_refused verdict ≡ false
+EndsWell answers.RaceFree = Unit {0}
 EndsWell (answers.Inlined accepted classes) = Unit {0}
 EndsWell other = ⊥

@@ -4,6 +4,7 @@ pub mod Classes
 pub mod Check
 pub mod Show
 pub mod Policy
+pub mod Race
 pub mod Numbers
 pub mod Replies
 pub mod Status

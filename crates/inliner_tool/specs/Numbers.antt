@@ -1,5 +1,5 @@
 -- The numbers under which faults are printed, and the fields behind them: a row for each fault.
-use Rattle.std.specs.Prelude.{ℕ, ℤ, List, [], ◌∷◌, codes}
+use Rattle.std.specs.Prelude.{ℕ, ℤ, List, [], ◌∷◌, ◌++◌, codes, decimal}
 use Rattle.answer_text.specs.declared.field.Field.TheVariants.{Count, Number, Name}
 use Rattle.answer_text.specs.declared.field.Report.{Report}
 use Rattle.answer_text.specs.Fields.{report, within}
@@ -123,6 +123,18 @@ check_report (checks.Local class method at rule) name = report 243 (Name name �
 -- the first event of a run that is refused
 abbrev pub event_report : ℕ → Report
 event_report index = report 191 (Count index ∷ [])
+
+-- M0, M1, M2 or M3
+abbrev pub condition_name : ℕ → List ℕ
+condition_name condition = codes "M" ++ decimal condition
+
+-- a condition of race-freeness that is broken, with a state and events that break it
+abbrev pub race_report : ℕ → List ℕ → Report
+race_report condition example = report 245 (Name (condition_name condition) ∷ Name example ∷ [])
+
+-- too many points of two clauses, by their places in the policy
+abbrev pub cells_report : ℕ → ℕ → ℕ → Report
+cells_report first second count = report 222 (Count first ∷ Count second ∷ Count count ∷ [])
 
 -- ---- sizes
 

@@ -13,14 +13,16 @@ use Rattle.inliner_tool.specs.declared.tool.Status.TheVariants as statuses
 use Rattle.input_files.specs.Forms.{Count}
 use Rattle.input_files.specs.CheckInputs.{ReadsCheck}
 use Rattle.input_files.specs.PolicyInputs.{ReadsPolicy}
+use Rattle.input_files.specs.RaceInputs.{ReadsRace}
 use Rattle.input_files.specs.ShowInputs.{ReadsShow}
 use Rattle.inliner_tool.specs.Inline.{Inlines}
 use Rattle.inliner_tool.specs.Check.{IsChecked, check_answer}
 use Rattle.inliner_tool.specs.Policy.{policy_answer}
+use Rattle.inliner_tool.specs.Race.{race_answer}
 use Rattle.inliner_tool.specs.Show.{show_answer}
 use Rattle.inliner_tool.specs.Answers.{stopped}
 use Rattle.inliner_tool.specs.Replies.{text_of}
-use Rattle.command_words.specs.Words.{NamedCheck, NamedCommand, Check, Show, Policy, Inline, IsCommand}
+use Rattle.command_words.specs.Words.{NamedCheck, NamedCommand, Check, Show, Policy, Race, Inline, IsCommand}
 
 -- ---- the headline
 
@@ -43,6 +45,7 @@ abbrev pub CarriesOut : Files → Files → Count → NamedCommand → Answer �
 CarriesOut old new count (Check named) answer = Ends (ReadsCheck old count named) (check_answer named.main) answer × (new ≡ old)
 CarriesOut old new count (Show named) answer = Ends (ReadsShow old count named) show_answer answer × (new ≡ old)
 CarriesOut old new count (Policy named) answer = Ends (ReadsPolicy old count named) policy_answer answer × (new ≡ old)
+CarriesOut old new count (Race named) answer = Ends (ReadsRace old count named) race_answer answer × (new ≡ old)
 CarriesOut old new count (Inline named) answer = Inlines old new count named answer
 
 -- It is such an answer, or memory ran out.
@@ -69,6 +72,9 @@ status_of (answers.Accepted accepted) = statuses.Done
 status_of (answers.Denied fault label) = statuses.Denied
 status_of (answers.Shown text) = statuses.Done
 status_of (answers.Judged verdict) = judged_status verdict
+status_of answers.RaceFree = statuses.Done
+status_of (answers.Racy condition example) = statuses.Denied
+status_of (answers.CellLimit first second count) = statuses.Denied
 status_of (answers.Inlined accepted classes) = statuses.Done
 status_of (answers.Input name fault) = statuses.Input
 status_of (answers.TotalLong len) = statuses.Input

@@ -21,6 +21,20 @@ pub enum Answer {
     Shown(Bytes),
     /// What a policy says of the events of a run.
     Judged(Verdict),
+    /// The events of a policy do not race.
+    RaceFree,
+    /// They do: the first condition that is broken, by its number, and a state and events that break it, as they are printed.
+    Racy {
+        condition: u8,
+        example: Bytes,
+    },
+    /// So many points would have to be tried for two clauses, by their places in the policy, or for one, which is told
+    /// twice. That is too many.
+    CellLimit {
+        first: u32,
+        second: u32,
+        count: u64,
+    },
     /// The program was woven, checked and written, in so many class files.
     Inlined {
         accepted: Accepted,

@@ -4,9 +4,11 @@ ghost use Rattle.std.specs.Prelude.{◌≡◌, ◌∷◌, [], IfOk};
 ghost use Rattle.answer_text.specs.declared.field.Field.TheVariants.{Count, Name};
 ghost use Rattle.answer_text.specs.Fields.{report};
 ghost use Rattle.inliner_tool.specs.Numbers.{
+  cells_report,
   check_report,
   class_report,
   code_report,
+  condition_name,
   event_report,
   form_report,
   input_report,
@@ -14,6 +16,7 @@ ghost use Rattle.inliner_tool.specs.Numbers.{
   link_report,
   listing_report,
   policy_report,
+  race_report,
   record_report,
   size_name,
   size_report,
@@ -32,7 +35,7 @@ use conspec_parse::PolicyFault;
 use event_record::RecordFault;
 use input_files::InputFault;
 use insn_codec::CodeFault;
-use mon_base::{Bytes, NoMemory};
+use mon_base::{Bytes, NoMemory, push_count};
 use offset_patch::Size;
 use std::alloc::Global;
 
@@ -262,6 +265,32 @@ pub fn event_report(alloc: Global, index: u64) -> Result<Report, NoMemory>
     ensures { IfOk result (λ r. r ≡ event_report index) }
 {
     Report::new(alloc, 191, [Field::Count(index)])
+}
+
+/// A condition of race-freeness that is broken, with a state and events that break it.
+pub fn race_report(alloc: Global, condition: u8, example: Bytes) -> Result<Report, NoMemory>
+    ensures { IfOk result (λ r. r ≡ race_report condition example) }
+{
+    let condition = Field::Name(condition_name(alloc, condition)?);
+    Report::new(alloc, 245, [condition, Field::Name(example)])
+}
+
+/// The name of the condition of this number.
+fn condition_name(alloc: Global, condition: u8) -> Result<Bytes, NoMemory>
+    ensures { IfOk result (λ name. name ≡ condition_name condition) }
+{
+    let mut name = Bytes::from_slice(alloc, b"M")?;
+    push_count(&mut name, u64::from(condition))?;
+    Ok(name)
+}
+
+/// The points that would have to be tried for two clauses, which are too many.
+pub fn cells_report(alloc: Global, first: u32, second: u32, count: u64) -> Result<Report, NoMemory>
+    ensures { IfOk result (λ r. r ≡ cells_report first second count) }
+{
+    let first = Field::Count(u64::from(first));
+    let second = Field::Count(u64::from(second));
+    Report::new(alloc, 222, [first, second, Field::Count(count)])
 }
 
 // ---- sizes

@@ -8,8 +8,8 @@ ghost use Rattle.inliner_tool.specs.Replies.{input, mode_name, reply_of, text_of
 
 use crate::answer::Answer;
 use crate::numbers::{
-    check_report, event_report, input_report, length_report, link_report, size_report,
-    total_report, unbuilt_report, untyped_report,
+    cells_report, check_report, event_report, input_report, length_report, link_report,
+    race_report, size_report, total_report, unbuilt_report, untyped_report,
 };
 use answer_text::{Line, Reply, Report};
 use cert_checker::Accepted;
@@ -35,6 +35,13 @@ fn reply_of(alloc: Global, answer: Answer) -> Result<Reply, NoMemory>
         Answer::Denied(fault, label) => Ok(denied(check_report(alloc, fault, label)?)),
         Answer::Shown(text) => Ok(Reply::Text(text)),
         Answer::Judged(verdict) => verdict_reply(alloc, verdict),
+        Answer::RaceFree => Ok(Reply::Line(Line::Free)),
+        Answer::Racy { condition, example } => Ok(denied(race_report(alloc, condition, example)?)),
+        Answer::CellLimit {
+            first,
+            second,
+            count,
+        } => Ok(denied(cells_report(alloc, first, second, count)?)),
         Answer::Inlined { accepted, classes } => inlined_reply(alloc, accepted, classes),
         Answer::Input(name, fault) => Ok(input(Some(name), input_report(alloc, fault)?)),
         Answer::TotalLong { len } => Ok(input(None, total_report(alloc, len)?)),

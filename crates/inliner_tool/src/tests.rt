@@ -6,6 +6,7 @@ mod inline;
 mod notes;
 mod numbers;
 mod policy;
+mod race;
 mod reading;
 mod refusals;
 mod show;

@@ -15,6 +15,7 @@ use crate::answer::Answer;
 use crate::check::answer_check;
 use crate::inline::answer_inline;
 use crate::policy::answer_policy;
+use crate::race::answer_race;
 use crate::replies::text_of;
 use crate::show::answer_show;
 use command_words::{Command, command_of};
@@ -64,7 +65,7 @@ impl Status {
 
 /// A command: `check POLICY LISTING CERT MAIN CLASS..` links the classes and checks the program with its certificate;
 /// `show LISTING CLASS..` gives the text of class files; `policy POLICY LISTING RECORD` says of the events of a run whether
-/// they obey the policy; `inline POLICY LISTING MAIN OUTDIR MODE CLASS..` weaves blocks into the classes, checks the program
+/// they obey the policy; `race POLICY LISTING` says of a policy whether its events race; `inline POLICY LISTING MAIN OUTDIR MODE CLASS..` weaves blocks into the classes, checks the program
 /// that they make with its certificate, and writes all of it.
 ///
 /// Other commands change no file. One output is put into the sink, which says the answer.
@@ -131,6 +132,7 @@ fn answer_to<S: Store>(alloc: Global, words: &[Bytes], store: &mut S) -> Answer
         Some(Command::Check(words)) => answer_check(alloc, &words, store),
         Some(Command::Show(words)) => answer_show(alloc, &words, store),
         Some(Command::Policy(words)) => answer_policy(alloc, &words, store),
+        Some(Command::Race(words)) => answer_race(alloc, &words, store),
         Some(Command::Inline(words)) => answer_inline(alloc, &words, store),
         None => Answer::Usage,
     }
@@ -145,6 +147,9 @@ fn status_of(answer: &Answer) -> Status
         Answer::Denied(_, _) => Status::Denied,
         Answer::Shown(_) => Status::Done,
         Answer::Judged(verdict) => judged_status(*verdict),
+        Answer::RaceFree => Status::Done,
+        Answer::Racy { .. } => Status::Denied,
+        Answer::CellLimit { .. } => Status::Denied,
         Answer::Inlined { .. } => Status::Done,
         Answer::Input(_, _) => Status::Input,
         Answer::TotalLong { .. } => Status::Input,

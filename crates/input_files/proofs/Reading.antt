@@ -12,9 +12,10 @@ use Rattle.command_words.specs.InlineWords.{NamedInline}
 use Rattle.input_files.specs.CheckInputs.{ReadsCheck}
 use Rattle.input_files.specs.Named.{ReadsClasses, AreClasses}
 use Rattle.input_files.specs.PolicyInputs.{ReadsPolicy}
+use Rattle.input_files.specs.RaceInputs.{ReadsRace}
 use Rattle.input_files.specs.ShowInputs.{ReadsShow}
 use Rattle.input_files.specs.Kinds.{certificate_form, listing_form, policy_form, record_form}
-use Rattle.command_words.specs.Words.{NamedCheck, NamedPolicy, NamedShow}
+use Rattle.command_words.specs.Words.{NamedCheck, NamedPolicy, NamedRace, NamedShow}
 use Rattle.input_files.proofs.ReadFiles.{counted, stops_since}
 use Rattle.input_files.proofs.ClassFiles.{among_since}
 
@@ -44,6 +45,11 @@ module _ (files : Files) (named : NamedPolicy) (first begun now : ℕ) (last : L
   pub record_stops : (policy : PolicyTree) → IsRead files named.policy (policy_form listing) (Ok policy) → (stop : Stop)
       → ReadsForm files (counted begun now last) named.recorded (record_form listing) (Err stop) → ReadsPolicy files (counted first now last) named (Err stop)
   record_stops policy has stop form = inr (listing, listed, inr (policy, has, inl (stops_since files (record_form listing) named.recorded first begun now last stop le form)))
+
+pub race_policy_stops : (files : Files) (named : NamedRace) (first begun now : ℕ) (last : List ℕ) → first ≤ begun → (listing : Listing) → IsRead files named.listing listing_form (Ok listing)
+    → (stop : Stop) → ReadsForm files (counted begun now last) named.policy (policy_form listing) (Err stop) → ReadsRace files (counted first now last) named (Err stop)
+race_policy_stops files named first begun now last le listing listed stop form =
+    inr (listing, listed, inl (stops_since files (policy_form listing) named.policy first begun now last stop le form))
 
 pub inline_stops : (files : Files) (named : NamedInline) (first begun now : ℕ) (last : List ℕ) → first ≤ begun → (listing : Listing) → IsRead files named.listing listing_form (Ok listing)
     → (policy : PolicyTree) → IsRead files named.policy (policy_form listing) (Ok policy) → (stop : Stop)

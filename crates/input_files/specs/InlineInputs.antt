@@ -8,7 +8,7 @@ use Rattle.input_files.specs.declared.files.Stop.{Stop}
 use Rattle.input_files.specs.declared.inline_inputs.InlineInputs.{InlineInputs}
 use Rattle.input_files.specs.Forms.{Count, ReadsForm, Then, Gives}
 use Rattle.command_words.specs.InlineWords.{NamedInline}
-use Rattle.input_files.specs.Named.{IsListed, ReadsClasses}
+use Rattle.input_files.specs.Named.{IsListed, IsPolicyOf, ReadsClasses}
 use Rattle.input_files.specs.Kinds.{listing_form, policy_form}
 
 -- listing, policy, classes

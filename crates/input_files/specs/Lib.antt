@@ -6,4 +6,5 @@ pub mod Named
 pub mod CheckInputs
 pub mod ShowInputs
 pub mod PolicyInputs
+pub mod RaceInputs
 pub mod InlineInputs

@@ -13,6 +13,7 @@ mod forms;
 mod inline_inputs;
 mod named;
 mod policy_inputs;
+mod race_inputs;
 mod show_inputs;
 
 pub use check_inputs::{CheckInputs, read_check};
@@ -21,6 +22,7 @@ pub use files::Stop;
 pub use inline_inputs::{InlineInputs, read_inline};
 pub use named::ReadClasses;
 pub use policy_inputs::{PolicyInputs, read_policy};
+pub use race_inputs::{RaceInputs, read_race};
 pub use show_inputs::{ShowInputs, read_show};
 
 #[cfg(test)]

@@ -1,7 +1,7 @@
 //! The files of the other commands.
 
 use super::files::{files_with, store_of, words_of};
-use crate::{InputFault, Stop, read_inline, read_policy, read_show};
+use crate::{InputFault, Stop, read_inline, read_policy, read_race, read_show};
 use command_words::{Command, command_of};
 use event_record::RecordFault;
 use mon_base::Bytes;
@@ -63,5 +63,28 @@ fn files_of_a_run(rt: HostRuntime) -> Result<(), Fail> {
         return Err("files that are read".into());
     };
     assert_eq!(rt; inputs.recorded.events.len(), 1);
+    Ok(())
+}
+
+/// The listing is read before the policy.
+#[test]
+fn files_of_a_policy(rt: HostRuntime) -> Result<(), Fail> {
+    let alloc = rt.alloc();
+    let mut store = store_of(files_with(alloc, &[])?, &[], alloc)?;
+    let words = words_of(alloc, &["race", "POLICY", "LISTING"])?;
+    let Some(Command::Race(words)) = command_of(words.as_slice()) else {
+        return Err("the words of the command".into());
+    };
+    let Ok(inputs) = read_race(alloc, &mut store, &words) else {
+        return Err("files that are read".into());
+    };
+    assert_eq!(rt; inputs.policy.clauses.len(), 1);
+    let words = words_of(alloc, &["race", "POLICY", "none"])?;
+    let Some(Command::Race(words)) = command_of(words.as_slice()) else {
+        return Err("the words of the command".into());
+    };
+    let read = read_race(alloc, &mut store, &words);
+    let name = Bytes::from_slice(alloc, b"none")?;
+    assert_eq!(rt; read.err(), Some(Stop::Unread(name)));
     Ok(())
 }

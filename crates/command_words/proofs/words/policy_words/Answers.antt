@@ -1,11 +1,7 @@
-use Rattle.std.proofs.Common.{rules, refl, ◌≡◌, ℕ, List, [], ◌∷◌, Bool, true, length, eqb, ap, sym, ◌∙◌, arith}
-use Rattle.std.proofs.lemmas.Bool.{eqb-true}
+use Rattle.std.proofs.Common.{rules, ◌≡◌, ℕ, List, [], ◌∷◌, ap, ◌∙◌}
 use Rattle.std.specs.Prelude.{codes}
+use Rattle.command_words.proofs.NoneThere.{none_there}
 use Rattle.command_words.proofs.words.policy_words.Goals as goal
-
-none_there : {X : Type 0} (xs : List X) (b : Bool) → b ≡ true → b ≡ eqb (length xs) 0 → xs ≡ []
-none_there [] b empty is = refl
-none_there (x ∷ xs) b empty is = absurd (omega (arith, eqb-true (length (x ∷ xs)) 0 (sym is ∙ empty)))
 
 pub returns-clause-found : goal.returns-clause-found
 returns-clause-found c =

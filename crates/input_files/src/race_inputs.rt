@@ -1,0 +1,39 @@
+//! The files of a policy by itself, read in their order.
+
+ghost use Rattle.std.specs.Prelude.{◌≡◌, ◌≤◌, IfOk};
+ghost use Rattle.conspec_tree.specs.Tree.{IsPolicyTree};
+ghost use Rattle.input_files.specs.Forms.{since};
+ghost use Rattle.input_files.specs.RaceInputs.{ReadsRace};
+ghost use Rattle.command_words.specs.Words.{race_named};
+
+use crate::files::Stop;
+use crate::named::{listing_of, policy_of};
+use api_listing::Listing;
+use command_words::RaceWords;
+use conspec_tree::PolicyTree;
+use mon_store::Store;
+use std::alloc::Global;
+
+/// What the files of a policy by itself are.
+#[derive(Debug, Drop)]
+pub struct RaceInputs {
+    pub listing: Listing,
+    pub policy: PolicyTree,
+}
+
+/// Reads the files of a policy by itself in their order: listing, policy.
+pub fn read_race<S: Store>(
+    alloc: Global,
+    store: &mut S,
+    words: &RaceWords,
+) -> Result<RaceInputs, Stop>
+    ensures read { ReadsRace (S.files store.old) (since (S.faults store.old) (S.faults store.new) (S.last store.new))
+        (race_named words.now) result }
+    ensures sound { IfOk result (λ inputs. IsPolicyTree inputs.listing inputs.policy) }
+    ensures files { S.files store.new ≡ S.files store.old }
+    ensures faults { S.faults store.old ≤ S.faults store.new }
+{
+    let listing = listing_of(alloc, store, words.listing)?;
+    let policy = policy_of(alloc, store, words.policy, &listing)?;
+    Ok(RaceInputs { listing, policy })
+}
