@@ -1,5 +1,6 @@
 //! Automata of policies that are read.
 
+mod races;
 mod running;
 
 ghost use Rattle.std.specs.Prelude.{IfOk};
@@ -15,7 +16,8 @@ use std::test::Fail;
 
 const LISTING: &[u8] =
     b"class api/Net extends java/lang/Object\nstatic api/Net send ()V\nstatic api/Net read ()I\n\
-    static api/Net ask ()Z\nstatic api/Net put (BLjava/lang/String;)V\nstatic api/Net find (I)Ljava/lang/String;\n";
+    static api/Net ask ()Z\nstatic api/Net put (BLjava/lang/String;)V\nstatic api/Net find (I)Ljava/lang/String;\n\
+    static api/Net five (IIIII)V\n";
 
 fn tree(alloc: Global, text: &str) -> Result<PolicyTree, Fail>
     ensures { IfOk result (λ tree. IsOfListing tree) }
