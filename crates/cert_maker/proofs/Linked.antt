@@ -40,7 +40,7 @@ module _ (pool : List Const) (member : Member) (m : Method) (stands : StandsFor 
   codes_tell [] false are flag count = absurd (omega (arith, eqb-true 0 1 count))
   codes_tell (code ∷ []) true are flag count = absurd (omega (arith, eqb-true 1 0 count))
   codes_tell (code ∷ []) false are flag count =
-      (allowed.code ∙ ap (λ (f : ℕ). not (is_abstract f)) stands.flags ∙ ap not flag, sym (stands.coded code are).max_locals)
+      (allowed.code ∙ ap (λ (f : ℕ). not (is_abstract f)) stands.flags ∙ ap not flag, (stands.coded code are).max_locals)
   codes_tell (code ∷ other ∷ codes) true are flag count = absurd (omega (arith, eqb-true (length (code ∷ other ∷ codes)) 0 count))
   codes_tell (code ∷ other ∷ codes) false are flag count = absurd (omega (arith, eqb-true (length (code ∷ other ∷ codes)) 1 count))
 
