@@ -80,7 +80,8 @@ fn copy_insns(alloc: Global, insns: &[Insn]) -> Result<List<Insn>, NoMemory>
     Ok(copy)
 }
 
-fn copy_insn(alloc: Global, insn: &Insn) -> Result<Insn, NoMemory>
+/// The instruction again.
+pub fn copy_insn(alloc: Global, insn: &Insn) -> Result<Insn, NoMemory>
     ensures { IfOk result (λ copy. copy ≡ insn.now) }
 {
     match insn {

@@ -86,7 +86,8 @@ fn end_of<'a>(
     places: &BTreeMap<Bytes, Above>,
     name: &'a Bytes,
 ) -> Option<(&'a Bytes, usize)>
-    ensures { IfSome result (λ end. (n : ℕ) → owners_up owners.now classes.now (n + end.1) name.now ≡ owners_up owners.now classes.now n end.0.now) }
+    ensures { IfSome result (λ end. (n : ℕ) → owners_up owners.now classes.now (n + end.1) name.now
+        ≡ owners_up owners.now classes.now n end.0.now) }
 {
     let mut at = name;
     for steps in 0..classes.len() {
@@ -103,7 +104,8 @@ fn end_of<'a>(
 
 /// The superclass, where the class may have no method of the library and names no interfaces.
 fn step_from<'a>(classes: &'a Classes, owners: &BTreeSet<Bytes>, name: &Bytes) -> Option<&'a Bytes>
-    ensures { IfSome result (λ parent. (n : ℕ) → owners_up owners.now classes.now (n + 1) name.now ≡ owners_up owners.now classes.now n parent.now) }
+    ensures { IfSome result (λ parent. (n : ℕ) → owners_up owners.now classes.now (n + 1) name.now
+        ≡ owners_up owners.now classes.now n parent.now) }
 {
     let class = classes.named(name)?;
     if class.interfaces.is_empty() && !may_own(owners, &class.name) {

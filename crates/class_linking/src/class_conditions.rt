@@ -10,7 +10,17 @@ ghost use Rattle.api_listing.specs.BuiltIn.{throwables};
 ghost use Rattle.bytecode_model.specs.SearchOrder.{is_one_of};
 ghost use Rattle.mon_base.specs.Answer.{Answers};
 ghost use Rattle.bytecode_model.specs.Heads.{is_static};
-ghost use Rattle.bytecode_model.specs.Conditions.{holds, names_own_class, is_free, may_be_extended, is_super, is_above, stands_below, is_good_interface, has_supers};
+ghost use Rattle.bytecode_model.specs.Conditions.{
+  holds,
+  names_own_class,
+  is_free,
+  may_be_extended,
+  is_super,
+  is_above,
+  stands_below,
+  is_good_interface,
+  has_supers,
+};
 ghost use Rattle.class_linking.specs.ClassConditions.{class_linked, classes_linked};
 
 use crate::fault::LinkFault;

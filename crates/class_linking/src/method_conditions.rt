@@ -5,7 +5,18 @@ ghost use Rattle.mon_base.specs.Answer.{Answers};
 ghost use Rattle.bytecode_model.specs.Heads.{all_classes};
 ghost use Rattle.bytecode_model.specs.SearchOrder.{search_order};
 ghost use Rattle.class_index.specs.Library.{OverridesAs};
-ghost use Rattle.bytecode_model.specs.Conditions.{code_in, has_good_flags, is_good_initialiser, is_begun_unlocked, describes_method, has_its_code, is_allowed, overrides_in, overrides, id_of};
+ghost use Rattle.bytecode_model.specs.Conditions.{
+  code_in,
+  has_good_flags,
+  is_good_initialiser,
+  is_begun_unlocked,
+  describes_method,
+  has_its_code,
+  is_allowed,
+  overrides_in,
+  overrides,
+  id_of,
+};
 
 use api_listing::{FormFault, parse_descriptor};
 use bytecode_model::{copy_text, has_flag, has_its_code, is_text, text_at};

@@ -114,27 +114,51 @@ fn a_call_links(rt: HostRuntime) -> Result<(), Fail> {
     Ok(())
 }
 
+/// The condition that one class file does not meet, by its name, or `none` where it links.
+fn refused(
+    alloc: Global,
+    listing: &str,
+    bytes: &[u8],
+    main: &str,
+    side: Side,
+) -> Result<&'static str, Fail> {
+    match outcome(alloc, listing, bytes, main, side)? {
+        Ok(_) => Ok("none"),
+        Err(fault) => Ok(name_of(&fault)),
+    }
+}
+
+fn name_of(fault: &LinkFault) -> &'static str {
+    match fault {
+        LinkFault::NoMain => "no main",
+        LinkFault::Twice { .. } => "twice",
+        LinkFault::Unresolved { .. } => "unresolved",
+        LinkFault::SuperLeftOut { .. } => "superclass left out",
+        LinkFault::NameTaken { .. } => "name taken",
+        LinkFault::Method { .. } => "method",
+        LinkFault::TooMany { .. } => "too many",
+        LinkFault::Code { .. } => "code",
+        LinkFault::Overrides { .. } => "overrides",
+        LinkFault::Name { .. } => "name",
+        LinkFault::Operand { .. } => "operand",
+        LinkFault::Memory => "memory",
+    }
+}
+
 #[test]
 fn refusals(rt: HostRuntime) -> Result<(), Fail> {
     let alloc = rt.alloc();
     let original = Side::Original;
-    let quiet = outcome(alloc, "", QUIET, "a/E", original)?;
-    assert!(rt; quiet.is_ok());
-    let other = outcome(alloc, "", QUIET, "a/F", original)?;
-    assert!(rt; matches!(other, Err(LinkFault::NoMain)));
+    assert_eq!(rt; refused(alloc, "", QUIET, "a/E", original)?, "none");
+    assert_eq!(rt; refused(alloc, "", QUIET, "a/F", original)?, "no main");
     let listed = "class a/E extends java/lang/Object\n";
-    let twice = outcome(alloc, listed, QUIET, "a/E", original)?;
-    assert!(rt; matches!(twice, Err(LinkFault::Twice { .. })));
+    assert_eq!(rt; refused(alloc, listed, QUIET, "a/E", original)?, "twice");
     let unlisted = "class api/Net extends java/lang/Object\n";
-    let unresolved = outcome(alloc, unlisted, SENDS, "a/S", original)?;
-    assert!(rt; matches!(unresolved, Err(LinkFault::Unresolved { .. })));
+    assert_eq!(rt; refused(alloc, unlisted, SENDS, "a/S", original)?, "unresolved");
     let above = with(alloc, QUIET, 22, b"k")?;
-    let left_out = outcome(alloc, "", &above, "a/E", original)?;
-    assert!(rt; matches!(left_out, Err(LinkFault::SuperLeftOut { .. })));
-    let taken = outcome(alloc, "", STATE, "a/E", original)?;
-    assert!(rt; matches!(taken, Err(LinkFault::NameTaken { .. })));
-    let own = outcome(alloc, "", STATE, "a/E", Side::Inlined)?;
-    assert!(rt; matches!(own, Err(LinkFault::NoMain)));
+    assert_eq!(rt; refused(alloc, "", &above, "a/E", original)?, "superclass left out");
+    assert_eq!(rt; refused(alloc, "", STATE, "a/E", original)?, "name taken");
+    assert_eq!(rt; refused(alloc, "", STATE, "a/E", Side::Inlined)?, "no main");
     Ok(())
 }
 
@@ -143,20 +167,15 @@ fn refusals_of_methods(rt: HostRuntime) -> Result<(), Fail> {
     let alloc = rt.alloc();
     let original = Side::Original;
     let flags = with(alloc, QUIET, 92, b"\x01")?;
-    let native = outcome(alloc, "", &flags, "a/E", original)?;
-    assert!(rt; matches!(native, Err(LinkFault::Method { .. })));
+    assert_eq!(rt; refused(alloc, "", &flags, "a/E", original)?, "method");
     let code = with(alloc, QUIET, 114, b"\xff")?;
-    let refused = outcome(alloc, "", &code, "a/E", original)?;
-    assert!(rt; matches!(refused, Err(LinkFault::Code { .. })));
+    assert_eq!(rt; refused(alloc, "", &code, "a/E", original)?, "code");
     let listed = "method java/lang/Object main ([Ljava/lang/String;)V\n";
     let instance = with(alloc, QUIET, 93, b"\x01")?;
-    let overrides = outcome(alloc, listed, &instance, "a/E", original)?;
-    assert!(rt; matches!(overrides, Err(LinkFault::Overrides { .. })));
+    assert_eq!(rt; refused(alloc, listed, &instance, "a/E", original)?, "overrides");
     let name = with(alloc, QUIET, 13, b"-")?;
-    let none = outcome(alloc, "", &name, "a/E", original)?;
-    assert!(rt; matches!(none, Err(LinkFault::Name { .. })));
+    assert_eq!(rt; refused(alloc, "", &name, "a/E", original)?, "name");
     let operand = with(alloc, SENDS, 151, b"\x00\x07")?;
-    let wrong = outcome(alloc, NET, &operand, "a/S", original)?;
-    assert!(rt; matches!(wrong, Err(LinkFault::Operand { .. })));
+    assert_eq!(rt; refused(alloc, NET, &operand, "a/S", original)?, "operand");
     Ok(())
 }

@@ -6,7 +6,7 @@ ghost use Rattle.offset_patch.specs.Fits.{IsSite};
 ghost use Rattle.offset_patch.specs.Splicing.{part_of, has_block, fronts_of, count_of, aimed, origin_of, part_origins, origins_of};
 
 use crate::block::{Block, BlockInsn};
-use bytecode_model::Origin;
+use bytecode_model::{Origin, copy_insn};
 use insn_codec::Insn;
 use mon_base::{List, NoMemory};
 use std::alloc::Global;
@@ -80,29 +80,6 @@ pub fn aimed(alloc: Global, fronts: &[u32], insn: &Insn) -> Result<Insn, NoMemor
     ensures { IfOk result (λ other. other ≡ aimed fronts.now insn.now) }
 {
     match insn {
-        Insn::Plain(op) => Ok(Insn::Plain(*op)),
-        Insn::Byte(n) => Ok(Insn::Byte(*n)),
-        Insn::Short(n) => Ok(Insn::Short(*n)),
-        Insn::Ldc(index) => Ok(Insn::Ldc(*index)),
-        Insn::Pool { op, index } => Ok(Insn::Pool {
-            op: *op,
-            index: *index,
-        }),
-        Insn::Iface { index, count } => Ok(Insn::Iface {
-            index: *index,
-            count: *count,
-        }),
-        Insn::Local { op, slot, wide } => Ok(Insn::Local {
-            op: *op,
-            slot: *slot,
-            wide: *wide,
-        }),
-        Insn::Inc { slot, by, wide } => Ok(Insn::Inc {
-            slot: *slot,
-            by: *by,
-            wide: *wide,
-        }),
-        Insn::NewArray(kind) => Ok(Insn::NewArray(*kind)),
         Insn::Branch { op, to } => Ok(Insn::Branch {
             op: *op,
             to: front(fronts, *to),
@@ -128,6 +105,7 @@ pub fn aimed(alloc: Global, fronts: &[u32], insn: &Insn) -> Result<Insn, NoMemor
             keys: copy_keys(alloc, keys)?,
             targets: all_fronts(alloc, fronts, targets.as_slice())?,
         }),
+        _ => copy_insn(alloc, insn),
     }
 }
 
