@@ -138,7 +138,8 @@ fn copy_targets(alloc: Global, targets: &List<u32>) -> Result<List<u32>, NoMemor
     Ok(List::from_vec(items))
 }
 
-fn copy_keys(alloc: Global, keys: &List<i32>) -> Result<List<i32>, NoMemory>
+/// The keys of a `lookupswitch` again.
+pub fn copy_keys(alloc: Global, keys: &List<i32>) -> Result<List<i32>, NoMemory>
     ensures { IfOk result (λ copy. copy ≡ keys.now) }
 {
     let items = Vec::from_slice(alloc, keys.as_slice())?;

@@ -19,7 +19,7 @@ mod program;
 mod text;
 
 pub use arrays::is_array;
-pub use copying::copy_insn;
+pub use copying::{copy_insn, copy_keys};
 pub use exception_table::{Handlers, NearHandlers, next_place};
 pub use files::unlink;
 pub use laws::uses_are_shaped;

@@ -6,7 +6,7 @@ ghost use Rattle.offset_patch.specs.Fits.{IsSite};
 ghost use Rattle.offset_patch.specs.Splicing.{part_of, has_block, fronts_of, count_of, aimed, origin_of, part_origins, origins_of};
 
 use crate::block::{Block, BlockInsn};
-use bytecode_model::{Origin, copy_insn};
+use bytecode_model::{Origin, copy_insn, copy_keys};
 use insn_codec::Insn;
 use mon_base::{List, NoMemory};
 use std::alloc::Global;
@@ -66,13 +66,6 @@ fn all_fronts(alloc: Global, fronts: &[u32], targets: &[u32]) -> Result<List<u32
         all.push(front(fronts, *to))?;
     }
     Ok(all)
-}
-
-fn copy_keys(alloc: Global, keys: &List<i32>) -> Result<List<i32>, NoMemory>
-    ensures { IfOk result (λ copy. copy ≡ keys.now) }
-{
-    let items = Vec::from_slice(alloc, keys.as_slice())?;
-    Ok(List::from_vec(items))
 }
 
 /// The instruction, with each target at its front.
