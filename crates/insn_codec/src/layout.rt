@@ -13,7 +13,7 @@ use std::alloc::Global;
 
 /// How many bytes an instruction at `at` has.
 pub fn size(at: u64, insn: &Insn) -> u64
-    requires { size at insn.now < 2 ^ 32 }
+    requires { size at insn.now < 2 ^ 63 }
     ensures { result ≡ size at insn.now }
 {
     let padding = 3 - at % 4;

@@ -26,7 +26,7 @@ mod writing;
 pub use fault::{CodeFault, CodeOverflow};
 pub use forms::{StackForm, depth_of};
 pub use insn::{Case, Insn};
-pub use layout::starts;
+pub use layout::{size, starts};
 pub use name::name_of;
 pub use opcode::{Operands, goes_on, is_frame_only, operands_of};
 pub use reading::read_code;

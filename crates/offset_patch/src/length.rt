@@ -9,7 +9,7 @@ ghost use Rattle.offset_patch.specs.Length.{length_of, part_end, size_in};
 
 use crate::block::{Block, BlockInsn};
 use crate::fronts::part_of;
-use insn_codec::Insn;
+use insn_codec::{Insn, size};
 
 /// The length of the code.
 pub fn length_of(insns: &[Insn], sites: &[Option<Block>]) -> u64
@@ -62,23 +62,5 @@ fn size_in(own: &Insn, at: u64, insn: BlockInsn) -> u64
         BlockInsn::Short(_) | BlockInsn::Want { .. } | BlockInsn::Jump { .. } => 3,
         BlockInsn::Local { wide, .. } => { if wide { 4 } else { 2 } }
         BlockInsn::Call => size(at, own),
-    }
-}
-
-/// How many bytes an instruction has that begins at the byte `at`.
-fn size(at: u64, insn: &Insn) -> u64
-    requires { IsInsn insn.now }
-    ensures { result ≡ size at insn.now }
-{
-    let padding = 3 - at % 4;
-    match insn {
-        Insn::Plain(_) => 1,
-        Insn::Byte(_) | Insn::Ldc(_) | Insn::NewArray(_) => 2,
-        Insn::Short(_) | Insn::Pool { .. } | Insn::Branch { .. } => 3,
-        Insn::Iface { .. } | Insn::GotoW { .. } => 5,
-        Insn::Local { wide, .. } => { if *wide { 4 } else { 2 } }
-        Insn::Inc { wide, .. } => { if *wide { 6 } else { 3 } }
-        Insn::Table { targets, .. } => 13 + padding + 4 * targets.len() as u64,
-        Insn::Lookup { targets, .. } => 9 + padding + 8 * targets.len() as u64,
     }
 }
