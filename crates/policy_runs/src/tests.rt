@@ -5,12 +5,9 @@ mod running;
 
 ghost use Rattle.std.specs.Prelude.{IfOk};
 ghost use Rattle.conspec_automaton.specs.Sound.{IsPolicy};
-ghost use Rattle.policy_runs.specs.Listed.{IsOfListing};
 
-use api_listing::read;
-use conspec_automaton::{Policy, build};
-use conspec_parse::parse;
-use conspec_tree::PolicyTree;
+use crate::automaton_of;
+use conspec_automaton::Policy;
 use std::alloc::Global;
 use std::test::Fail;
 
@@ -19,25 +16,12 @@ const LISTING: &[u8] =
     static api/Net ask ()Z\nstatic api/Net put (BLjava/lang/String;)V\nstatic api/Net find (I)Ljava/lang/String;\n\
     static api/Net five (IIIII)V\n";
 
-fn tree(alloc: Global, text: &str) -> Result<PolicyTree, Fail>
-    ensures { IfOk result (λ tree. IsOfListing tree) }
-{
-    let Ok(listing) = read(alloc, LISTING) else {
-        return Err("the listing".into());
-    };
-    match parse(alloc, text.as_bytes(), &listing) {
-        Ok(tree) => Ok(tree),
-        Err(_) => Err("the policy".into()),
-    }
-}
-
 /// The automaton of a policy over the listing.
 fn automaton(alloc: Global, text: &str) -> Result<Policy, Fail>
-    ensures { IfOk result (λ policy. IsPolicy policy) }
+    ensures { IfOk result IsPolicy }
 {
-    let tree = tree(alloc, text)?;
-    match build(alloc, &tree) {
+    match automaton_of(alloc, LISTING, text.as_bytes()) {
         Ok(policy) => Ok(policy),
-        Err(_) => Err("memory".into()),
+        Err(_) => Err("the texts are a listing and a policy".into()),
     }
 }
