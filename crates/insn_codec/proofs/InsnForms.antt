@@ -10,7 +10,7 @@ use Rattle.insn_codec.specs.declared.insn.Insn.TheVariants.{Plain, Byte, Short, 
 use Rattle.insn_codec.specs.Opcodes.{Opcode, opcode_at, operands_of}
 use Rattle.insn_codec.specs.Spelling.{u1, u2, i1, i2, i4, offset, padding}
 use Rattle.insn_codec.specs.Fits.{IsInsn, AimsWithin, Reaches}
-use Rattle.insn_codec.proofs.Opcodes.{no_opcode}
+use Rattle.insn_codec.proofs.OpcodeTable.{no_opcode}
 use Rattle.insn_codec.proofs.SwitchLaws.{is_table, is_lookup, after_padding, after_zeros}
 
 -- ---- opcodes
