@@ -19,20 +19,34 @@ use Rattle.bytecode_model.specs.declared.program.Target.{Target}
 use Rattle.bytecode_model.specs.declared.program.Target.TheVariants as target
 use Rattle.bytecode_model.specs.Heads.{all_classes, class_at}
 use Rattle.bytecode_model.specs.SearchOrder.{Name, with_name}
+use Rattle.insn_codec.specs.declared.opcodes.TheConstants.{
+  LDC_W,
+  GETSTATIC,
+  PUTSTATIC,
+  GETFIELD,
+  PUTFIELD,
+  INVOKEVIRTUAL,
+  INVOKESPECIAL,
+  INVOKESTATIC,
+  NEW,
+  ANEWARRAY,
+  CHECKCAST,
+  INSTANCEOF,
+}
 
 -- ---- how instructions use constants
 
 abbrev pub use_of_opcode : ℕ → Use
 use_of_opcode op =
-    if op == 19 then uses.Load
-    else if op == 178 then uses.Field true false
-    else if op == 179 then uses.Field true true
-    else if op == 180 then uses.Field false false
-    else if op == 181 then uses.Field false true
-    else if (op == 182) || (op == 183) then uses.Call false false
-    else if op == 184 then uses.Call true false
-    else if op == 187 then uses.New
-    else if (op == 189) || ((op == 192) || (op == 193)) then uses.Type
+    if op == LDC_W then uses.Load
+    else if op == GETSTATIC then uses.Field true false
+    else if op == PUTSTATIC then uses.Field true true
+    else if op == GETFIELD then uses.Field false false
+    else if op == PUTFIELD then uses.Field false true
+    else if (op == INVOKEVIRTUAL) || (op == INVOKESPECIAL) then uses.Call false false
+    else if op == INVOKESTATIC then uses.Call true false
+    else if op == NEW then uses.New
+    else if (op == ANEWARRAY) || ((op == CHECKCAST) || (op == INSTANCEOF)) then uses.Type
     else uses.Nothing
 
 abbrev pub use_of : Insn → Use

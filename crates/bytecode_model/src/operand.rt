@@ -4,6 +4,10 @@ ghost use Rattle.std.specs.Prelude.{◌≡◌};
 ghost use Rattle.bytecode_model.specs.Operands.{index_of, use_of, use_of_opcode};
 
 use insn_codec::Insn;
+use insn_codec::opcodes::{
+    ANEWARRAY, CHECKCAST, GETFIELD, GETSTATIC, INSTANCEOF, INVOKESPECIAL, INVOKESTATIC,
+    INVOKEVIRTUAL, LDC_W, NEW, PUTFIELD, PUTSTATIC,
+};
 
 /// How an instruction uses a constant.
 #[derive(Clone, Copy, Debug, PartialEq, Eq)]
@@ -53,33 +57,33 @@ fn use_of_opcode(op: u8) -> Use
     ensures { result ≡ use_of_opcode op }
 {
     match op {
-        0x13 => Use::Load,
-        0xB2 => Use::Field {
+        LDC_W => Use::Load,
+        GETSTATIC => Use::Field {
             is_static: true,
             writes: false,
         },
-        0xB3 => Use::Field {
+        PUTSTATIC => Use::Field {
             is_static: true,
             writes: true,
         },
-        0xB4 => Use::Field {
+        GETFIELD => Use::Field {
             is_static: false,
             writes: false,
         },
-        0xB5 => Use::Field {
+        PUTFIELD => Use::Field {
             is_static: false,
             writes: true,
         },
-        0xB6 | 0xB7 => Use::Call {
+        INVOKEVIRTUAL | INVOKESPECIAL => Use::Call {
             is_static: false,
             of_interface: false,
         },
-        0xB8 => Use::Call {
+        INVOKESTATIC => Use::Call {
             is_static: true,
             of_interface: false,
         },
-        0xBB => Use::New,
-        0xBD | 0xC0 | 0xC1 => Use::Type,
+        NEW => Use::New,
+        ANEWARRAY | CHECKCAST | INSTANCEOF => Use::Type,
         _ => Use::Nothing,
     }
 }

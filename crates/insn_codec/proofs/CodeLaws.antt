@@ -21,6 +21,7 @@ use Rattle.insn_codec.proofs.InsnLaws.{insn_is}
 use Rattle.insn_codec.proofs.Finding.{leads, Alike, same_finder, insn_any}
 use Rattle.insn_codec.proofs.Sequence.{first_of, none_left, none_asked, all_read, code_read}
 use Rattle.insn_codec.proofs.Standing.{size-some, nothing, ended_on}
+use Rattle.insn_codec.specs.declared.opcodes.TheConstants.{TABLESWITCH, LOOKUPSWITCH}
 
 -- ---- sizes
 
@@ -64,14 +65,14 @@ size_is starts at (Table other low targets) f =
     let many = four_each (λ to. i4 (offset starts at to)) (λ to. refl) targets in
     let zeros = length-replicate {A = ℕ} (padding at) 0 in
     let rest : length (range starts at low targets) ≡ 8 + length (flat_map (λ to. i4 (offset starts at to)) targets) = omega arith in
-    switch_len 0xAA (replicate (padding at) 0) (i4 (offset starts at other)) (range starts at low targets) refl
+    switch_len TABLESWITCH (replicate (padding at) 0) (i4 (offset starts at other)) (range starts at low targets) refl
     ∙ sum_of 8 4 (length targets) (length (replicate (padding at) 0)) (padding at) (length (range starts at low targets)) zeros (omega (arith, rest, many))
 size_is starts at (Lookup other keys targets) f =
     let many = eight_each (case starts at) (λ one. refl) (cases keys targets) in
     let len = len_cases keys targets f.same in
     let zeros = length-replicate {A = ℕ} (padding at) 0 in
     let rest : length (keyed starts at keys targets) ≡ 4 + length (flat_map (case starts at) (cases keys targets)) = omega arith in
-    switch_len 0xAB (replicate (padding at) 0) (i4 (offset starts at other)) (keyed starts at keys targets) refl
+    switch_len LOOKUPSWITCH (replicate (padding at) 0) (i4 (offset starts at other)) (keyed starts at keys targets) refl
     ∙ sum_of 4 8 (length targets) (length (replicate (padding at) 0)) (padding at) (length (keyed starts at keys targets)) zeros (omega (arith, rest, many, len))
 
 -- ---- one after another

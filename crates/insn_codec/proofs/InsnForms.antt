@@ -10,8 +10,20 @@ use Rattle.insn_codec.specs.declared.insn.Insn.TheVariants.{Plain, Byte, Short, 
 use Rattle.insn_codec.specs.Opcodes.{Opcode, opcode_at, operands_of}
 use Rattle.insn_codec.specs.Spelling.{u1, u2, i1, i2, i4, offset, padding}
 use Rattle.insn_codec.specs.Fits.{IsInsn, AimsWithin, Reaches}
-use Rattle.insn_codec.proofs.Opcodes.{no_opcode}
+use Rattle.insn_codec.proofs.OpcodeTable.{no_opcode}
 use Rattle.insn_codec.proofs.SwitchLaws.{is_table, is_lookup, after_padding, after_zeros}
+use Rattle.insn_codec.specs.declared.opcodes.TheConstants.{
+  BIPUSH,
+  SIPUSH,
+  LDC,
+  IINC,
+  TABLESWITCH,
+  LOOKUPSWITCH,
+  INVOKEINTERFACE,
+  NEWARRAY,
+  WIDE,
+  GOTO_W,
+}
 
 -- ---- opcodes
 
@@ -78,83 +90,83 @@ only_one o only known table op is =
     let same : (number (operands_of op) == number o) ≡ true = ap (λ (x : Operands). number x == number o) is ∙ number_itself (number o) in
     equal_numbers op only (passed (number (operands_of op) == number o) (op == only) test same)
 
-pub only_byte : (op : ℕ) → operands_of op ≡ ops.Byte → op ≡ 0x10
+pub only_byte : (op : ℕ) → operands_of op ≡ ops.Byte → op ≡ BIPUSH
 unfolding opcode_at
-only_byte op is = only_one ops.Byte 0x10 refl refl op is
+only_byte op is = only_one ops.Byte BIPUSH refl refl op is
 
-pub byte_code : operands_of 0x10 ≡ ops.Byte
+pub byte_code : operands_of BIPUSH ≡ ops.Byte
 unfolding opcode_at
 byte_code = refl
 
-pub only_short : (op : ℕ) → operands_of op ≡ ops.Short → op ≡ 0x11
+pub only_short : (op : ℕ) → operands_of op ≡ ops.Short → op ≡ SIPUSH
 unfolding opcode_at
-only_short op is = only_one ops.Short 0x11 refl refl op is
+only_short op is = only_one ops.Short SIPUSH refl refl op is
 
-pub short_code : operands_of 0x11 ≡ ops.Short
+pub short_code : operands_of SIPUSH ≡ ops.Short
 unfolding opcode_at
 short_code = refl
 
-pub only_ldc : (op : ℕ) → operands_of op ≡ ops.Ldc → op ≡ 0x12
+pub only_ldc : (op : ℕ) → operands_of op ≡ ops.Ldc → op ≡ LDC
 unfolding opcode_at
-only_ldc op is = only_one ops.Ldc 0x12 refl refl op is
+only_ldc op is = only_one ops.Ldc LDC refl refl op is
 
-pub ldc_code : operands_of 0x12 ≡ ops.Ldc
+pub ldc_code : operands_of LDC ≡ ops.Ldc
 unfolding opcode_at
 ldc_code = refl
 
-pub only_inc : (op : ℕ) → operands_of op ≡ ops.Inc → op ≡ 0x84
+pub only_inc : (op : ℕ) → operands_of op ≡ ops.Inc → op ≡ IINC
 unfolding opcode_at
-only_inc op is = only_one ops.Inc 0x84 refl refl op is
+only_inc op is = only_one ops.Inc IINC refl refl op is
 
-pub inc_code : operands_of 0x84 ≡ ops.Inc
+pub inc_code : operands_of IINC ≡ ops.Inc
 unfolding opcode_at
 inc_code = refl
 
-pub only_gotow : (op : ℕ) → operands_of op ≡ ops.GotoW → op ≡ 0xC8
+pub only_gotow : (op : ℕ) → operands_of op ≡ ops.GotoW → op ≡ GOTO_W
 unfolding opcode_at
-only_gotow op is = only_one ops.GotoW 0xC8 refl refl op is
+only_gotow op is = only_one ops.GotoW GOTO_W refl refl op is
 
-pub gotow_code : operands_of 0xC8 ≡ ops.GotoW
+pub gotow_code : operands_of GOTO_W ≡ ops.GotoW
 unfolding opcode_at
 gotow_code = refl
 
-pub only_table : (op : ℕ) → operands_of op ≡ ops.Table → op ≡ 0xAA
+pub only_table : (op : ℕ) → operands_of op ≡ ops.Table → op ≡ TABLESWITCH
 unfolding opcode_at
-only_table op is = only_one ops.Table 0xAA refl refl op is
+only_table op is = only_one ops.Table TABLESWITCH refl refl op is
 
-pub table_code : operands_of 0xAA ≡ ops.Table
+pub table_code : operands_of TABLESWITCH ≡ ops.Table
 unfolding opcode_at
 table_code = refl
 
-pub only_lookup : (op : ℕ) → operands_of op ≡ ops.Lookup → op ≡ 0xAB
+pub only_lookup : (op : ℕ) → operands_of op ≡ ops.Lookup → op ≡ LOOKUPSWITCH
 unfolding opcode_at
-only_lookup op is = only_one ops.Lookup 0xAB refl refl op is
+only_lookup op is = only_one ops.Lookup LOOKUPSWITCH refl refl op is
 
-pub lookup_code : operands_of 0xAB ≡ ops.Lookup
+pub lookup_code : operands_of LOOKUPSWITCH ≡ ops.Lookup
 unfolding opcode_at
 lookup_code = refl
 
-pub only_iface : (op : ℕ) → operands_of op ≡ ops.Iface → op ≡ 0xB9
+pub only_iface : (op : ℕ) → operands_of op ≡ ops.Iface → op ≡ INVOKEINTERFACE
 unfolding opcode_at
-only_iface op is = only_one ops.Iface 0xB9 refl refl op is
+only_iface op is = only_one ops.Iface INVOKEINTERFACE refl refl op is
 
-pub iface_code : operands_of 0xB9 ≡ ops.Iface
+pub iface_code : operands_of INVOKEINTERFACE ≡ ops.Iface
 unfolding opcode_at
 iface_code = refl
 
-pub only_newarray : (op : ℕ) → operands_of op ≡ ops.NewArray → op ≡ 0xBC
+pub only_newarray : (op : ℕ) → operands_of op ≡ ops.NewArray → op ≡ NEWARRAY
 unfolding opcode_at
-only_newarray op is = only_one ops.NewArray 0xBC refl refl op is
+only_newarray op is = only_one ops.NewArray NEWARRAY refl refl op is
 
-pub newarray_code : operands_of 0xBC ≡ ops.NewArray
+pub newarray_code : operands_of NEWARRAY ≡ ops.NewArray
 unfolding opcode_at
 newarray_code = refl
 
-pub only_wide : (op : ℕ) → operands_of op ≡ ops.Wide → op ≡ 0xC4
+pub only_wide : (op : ℕ) → operands_of op ≡ ops.Wide → op ≡ WIDE
 unfolding opcode_at
-only_wide op is = only_one ops.Wide 0xC4 refl refl op is
+only_wide op is = only_one ops.Wide WIDE refl refl op is
 
-pub wide_code : operands_of 0xC4 ≡ ops.Wide
+pub wide_code : operands_of WIDE ≡ ops.Wide
 unfolding opcode_at
 wide_code = refl
 
@@ -180,20 +192,20 @@ form_of (Lookup other keys targets) = ops.Lookup
 
 abbrev pub first_byte : Insn → ℕ
 first_byte (Plain op) = op
-first_byte (Byte n) = 0x10
-first_byte (Short n) = 0x11
-first_byte (Ldc index) = 0x12
+first_byte (Byte n) = BIPUSH
+first_byte (Short n) = SIPUSH
+first_byte (Ldc index) = LDC
 first_byte (Pool op index) = op
-first_byte (Iface index count) = 0xB9
+first_byte (Iface index count) = INVOKEINTERFACE
 first_byte (Local op slot false) = op
-first_byte (Local op slot true) = 0xC4
-first_byte (Inc slot by false) = 0x84
-first_byte (Inc slot by true) = 0xC4
+first_byte (Local op slot true) = WIDE
+first_byte (Inc slot by false) = IINC
+first_byte (Inc slot by true) = WIDE
 first_byte (Branch op to) = op
-first_byte (GotoW to) = 0xC8
-first_byte (NewArray kind) = 0xBC
-first_byte (Table other low targets) = 0xAA
-first_byte (Lookup other keys targets) = 0xAB
+first_byte (GotoW to) = GOTO_W
+first_byte (NewArray kind) = NEWARRAY
+first_byte (Table other low targets) = TABLESWITCH
+first_byte (Lookup other keys targets) = LOOKUPSWITCH
 
 -- what follows the first byte
 abbrev pub after_first : List ℕ → ℕ → Insn → List ℕ
@@ -206,7 +218,7 @@ after_first starts at (Iface index count) = u2 index ++ (u1 count ++ u1 0)
 after_first starts at (Local op slot false) = u1 slot
 after_first starts at (Local op slot true) = u1 op ++ u2 slot
 after_first starts at (Inc slot by false) = u1 slot ++ i1 by
-after_first starts at (Inc slot by true) = u1 0x84 ++ (u2 slot ++ i2 by)
+after_first starts at (Inc slot by true) = u1 IINC ++ (u2 slot ++ i2 by)
 after_first starts at (Branch op to) = i2 (offset starts at to)
 after_first starts at (GotoW to) = i4 (offset starts at to)
 after_first starts at (NewArray kind) = u1 kind
@@ -464,7 +476,7 @@ count_of a = 0
 -- the opcode after wide
 abbrev pub inner_of : Insn → ℕ
 inner_of (Local op slot wide) = op
-inner_of (Inc slot by wide) = 0x84
+inner_of (Inc slot by wide) = IINC
 inner_of a = 0
 
 -- what follows it

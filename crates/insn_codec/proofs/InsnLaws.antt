@@ -21,6 +21,7 @@ use Rattle.insn_codec.specs.Reading.{Finder, u1_at, iface_at, new_array_at, inc_
 use Rattle.insn_codec.proofs.Laws.{tested, wrapped, Leads, FitsFar, u1_is, u2_is, i1_is, i2_is, near_is, far_is}
 use Rattle.insn_codec.proofs.SwitchLaws.{is_table, is_lookup, FitsRanged, FitsKeyed, after_padding, after_zeros, table_is, lookup_is}
 use Rattle.insn_codec.proofs.InsnForms.{number, known_opcode, equal_numbers, only_byte, byte_code, only_short, short_code, only_ldc, ldc_code, only_inc, inc_code, only_gotow, gotow_code, only_table, table_code, only_lookup, lookup_code, only_iface, iface_code, only_newarray, newarray_code, only_wide, wide_code, form_of, first_byte, after_first, FitsInsn, Known, is_plain, is_byte, is_short, is_ldc, is_pool, is_local, is_branch, is_goto_w, is_new_array, table_form, lookup_form, none_left_out, none_unknown, slot_of, by_of, index_of, count_of, inner_of, after_inner, inc_made, iface_made}
+use Rattle.insn_codec.specs.declared.opcodes.TheConstants.{IINC, TABLESWITCH, LOOKUPSWITCH, NEWARRAY, WIDE}
 
 -- ---- each form
 
@@ -120,9 +121,9 @@ new_array_form : (find : Finder) (starts : List ℕ) (n at op : ℕ) → operand
 unfolding new_array_at
 new_array_form find starts n at op is = record {
   takes = λ place a next fits e.
-      let b = bind_ok (u1_at at place) (λ kind. need (nat_le 4 kind.0 && nat_le kind.0 11) (faults.Form at) >>= λ _. need (is_item_type kind.0) (faults.LeftOut at 0xBC) >>= λ _. Ok (NewArray kind.0, kind.1)) (a, next) e in
-      let g = need_ok (nat_le 4 b.0.0 && nat_le b.0.0 11) (faults.Form at) (λ _. need (is_item_type b.0.0) (faults.LeftOut at 0xBC) >>= λ _. Ok (NewArray b.0.0, b.0.1)) (a, next) b.2 in
-      let d = need_ok (is_item_type b.0.0) (faults.LeftOut at 0xBC) (λ _. Ok (NewArray b.0.0, b.0.1)) (a, next) g.1 in
+      let b = bind_ok (u1_at at place) (λ kind. need (nat_le 4 kind.0 && nat_le kind.0 11) (faults.Form at) >>= λ _. need (is_item_type kind.0) (faults.LeftOut at NEWARRAY) >>= λ _. Ok (NewArray kind.0, kind.1)) (a, next) e in
+      let g = need_ok (nat_le 4 b.0.0 && nat_le b.0.0 11) (faults.Form at) (λ _. need (is_item_type b.0.0) (faults.LeftOut at NEWARRAY) >>= λ _. Ok (NewArray b.0.0, b.0.1)) (a, next) b.2 in
+      let d = need_ok (is_item_type b.0.0) (faults.LeftOut at NEWARRAY) (λ _. Ok (NewArray b.0.0, b.0.1)) (a, next) g.1 in
       let t = (u1_is at).takes place b.0.0 b.0.1 fits b.1 in
       let made : Insn × Place = (NewArray b.0.0, b.0.1) in
       subst (λ (x : Insn × Place). Took place (after_first starts at x.0) x.1 × FitsInsn starts n at x.0 × Known ops.NewArray op x.0) (ok_is _ made (a, next) d.1) (t.0, (d.0, (tt, tt)), (sym (only_newarray op is), refl));
@@ -217,7 +218,7 @@ wide_local (Iface index count) e f = absurd cc
 wide_local (Local op slot false) e f = absurd cc
 wide_local (Local op slot true) e f = refl
 wide_local (Inc slot by false) e f = absurd cc
-wide_local (Inc slot by true) e f = absurd (not_both (operands_of 0x84) f inc_code)
+wide_local (Inc slot by true) e f = absurd (not_both (operands_of IINC) f inc_code)
 wide_local (Branch op to) e f = absurd cc
 wide_local (GotoW to) e f = absurd cc
 wide_local (NewArray kind) e f = absurd cc
@@ -255,7 +256,7 @@ KnownWide first op a = Known ops.Wide first a × (inner_of a ≡ op)
 abbrev IsWidened : ℕ → ℕ → Operands → ℕ → Type 0
 IsWidened at first o op = IsTail (widened_at o at op) after_inner IsInsn (KnownWide first op)
 
-widened_local : (at first op : ℕ) → first ≡ 0xC4 → operands_of op ≡ ops.Local → IsWidened at first ops.Local op
+widened_local : (at first op : ℕ) → first ≡ WIDE → operands_of op ≡ ops.Local → IsWidened at first ops.Local op
 widened_local at first op here is = wrapped {A = Insn} (λ slot. Local op slot true) (u2_is at)
     (λ slot f k. (refl, (small ops.Local refl op is, is, f), ((sym here, refl), refl)))
     (λ a f k. let made : Local op (slot_of a) true ≡ a = ap (λ (m : ℕ). Local m (slot_of a) true) (sym k.1) ∙ wide_local a k.0.1 (ap operands_of k.1 ∙ is) in
@@ -265,7 +266,7 @@ widened_local at first op here is = wrapped {A = Insn} (λ slot. Local op slot t
 abbrev KnownInc : ℕ → ℕ → Insn → Type 0
 KnownInc first op a = KnownWide first op a × (Inc (slot_of a) (by_of a) true ≡ a)
 
-widened_inc : (at first op : ℕ) → first ≡ 0xC4 → operands_of op ≡ ops.Inc → IsWidened at first ops.Inc op
+widened_inc : (at first op : ℕ) → first ≡ WIDE → operands_of op ≡ ops.Inc → IsWidened at first ops.Inc op
 unfolding wide_inc_at
 widened_inc at first op here is = said (spelled (then {Fits = λ a. FitsSigned w16 (by_of a)} {known = KnownInc first op} _ (u2_is at) slot_of (λ a k. tt)
     (λ slot k. wrapped {A = Insn} (λ by. Inc slot by true) (i2_is at)
@@ -276,7 +277,7 @@ widened_inc at first op here is = said (spelled (then {Fits = λ a. FitsSigned w
     (λ a f k. let made = wide_inc a k.0.1 f (ap operands_of k.1 ∙ is) in
     let h : IsInsn (Inc (slot_of a) (by_of a) true) = subst IsInsn (sym made) f in (h, (k, made)))
 
-widened_is : (at first : ℕ) → first ≡ 0xC4 → (o : Operands) (op : ℕ) → operands_of op ≡ o → IsWidened at first o op
+widened_is : (at first : ℕ) → first ≡ WIDE → (o : Operands) (op : ℕ) → operands_of op ≡ o → IsWidened at first o op
 widened_is at first here ops.Local op is = widened_local at first op here is
 widened_is at first here ops.Inc op is = widened_inc at first op here is
 widened_is at first here o op is = refuse (λ p. faults.Form at) (λ a f k. never_wide o refl refl a k.0.1 f (ap operands_of k.1 ∙ is))
@@ -304,7 +305,7 @@ all_far : (starts : List ℕ) (n at : ℕ) (ts : List ℕ) → AllByRecursion (�
 all_far starts n at [] a b = tt
 all_far starts n at (t ∷ ts) a b = ((a.0, b.0), all_far starts n at ts a.1 b.1)
 
-table_known : (a : Insn) → is_table a ≡ true → (first_byte a ≡ 0xAA) × (form_of a ≡ ops.Table)
+table_known : (a : Insn) → is_table a ≡ true → (first_byte a ≡ TABLESWITCH) × (form_of a ≡ ops.Table)
 table_known (Table other low targets) h = (refl, refl)
 table_known a h = absurd (false≢true h)
 
@@ -325,7 +326,7 @@ table_op find starts n at op leads is = said (spelled (table_is find starts n at
     (λ a f k. let h = table_known a k in (table_to starts n at a k f.1, (h.0 ∙ sym (only_table op is), h.1)))
     (λ a f k. let h = table_form a k.1 in ((tt, table_from starts n at a h f), h))
 
-lookup_known : (a : Insn) → is_lookup a ≡ true → (first_byte a ≡ 0xAB) × (form_of a ≡ ops.Lookup)
+lookup_known : (a : Insn) → is_lookup a ≡ true → (first_byte a ≡ LOOKUPSWITCH) × (form_of a ≡ ops.Lookup)
 lookup_known (Lookup other keys targets) h = (refl, refl)
 lookup_known a h = absurd (false≢true h)
 

@@ -7,7 +7,7 @@ pub mod Instruction
 pub mod Laws
 pub mod Loop
 pub mod Marks
-pub mod Opcodes
+pub mod OpcodeTable
 pub mod Putting
 pub mod Sequence
 pub mod Standing

@@ -18,6 +18,25 @@ use Rattle.insn_codec.specs.Control.{View, next_of, goes_to, in_range, by_key, j
 use Rattle.insn_codec.specs.Shapes.{shape_of, plain_shape, pool_shape, local_shape, branch_shape, test_shape, comparing_shape}
 use Rattle.insn_codec.specs.Table.{is_heap, ends, MarkedAlike, GoesOnAlike, NopAlone, GoesToSuccessor}
 use Rattle.insn_codec.proofs.OpcodeTests.{Agreement, is_nothing, is_switch, jumps_of, jumps_nowhere, plain_agrees, plain_stays, pool_agrees, pool_is_heap, local_agrees, local_stays, branch_agrees}
+use Rattle.insn_codec.specs.declared.opcodes.TheConstants.{
+  IFEQ,
+  IFNE,
+  IFLT,
+  IFGE,
+  IFGT,
+  IFLE,
+  IF_ICMPEQ,
+  IF_ICMPNE,
+  IF_ICMPLT,
+  IF_ICMPGE,
+  IF_ICMPGT,
+  IF_ICMPLE,
+  IF_ACMPEQ,
+  IF_ACMPNE,
+  GOTO,
+  IFNULL,
+  IFNONNULL,
+}
 
 pub marked_alike : MarkedAlike
 unfolding opcode_at
@@ -99,29 +118,29 @@ jump e f = record { target = inr e; plain = f }
 
 tests_only : (op to : ℕ) → Only to (test_shape op to)
 tests_only op to =
-    (either to (op == 153) (shapes.Test relations.Equal to) _ (jump refl refl)
-    (either to (op == 154) (shapes.Test relations.NotEqual to) _ (jump refl refl)
-    (either to (op == 155) (shapes.Test relations.Less to) _ (jump refl refl)
-    (either to (op == 156) (shapes.Test relations.GreaterOrEqual to) _ (jump refl refl)
-    (either to (op == 157) (shapes.Test relations.Greater to) _ (jump refl refl)
-    (either to (op == 158) (shapes.Test relations.LessOrEqual to) _ (jump refl refl) none))))))
+    (either to (op == IFEQ) (shapes.Test relations.Equal to) _ (jump refl refl)
+    (either to (op == IFNE) (shapes.Test relations.NotEqual to) _ (jump refl refl)
+    (either to (op == IFLT) (shapes.Test relations.Less to) _ (jump refl refl)
+    (either to (op == IFGE) (shapes.Test relations.GreaterOrEqual to) _ (jump refl refl)
+    (either to (op == IFGT) (shapes.Test relations.Greater to) _ (jump refl refl)
+    (either to (op == IFLE) (shapes.Test relations.LessOrEqual to) _ (jump refl refl) none))))))
 
 compares_only : (op to : ℕ) → Only to (comparing_shape op to)
 compares_only op to =
-    (either to (op == 159) (shapes.Compare relations.Equal to) _ (jump refl refl)
-    (either to (op == 160) (shapes.Compare relations.NotEqual to) _ (jump refl refl)
-    (either to (op == 161) (shapes.Compare relations.Less to) _ (jump refl refl)
-    (either to (op == 162) (shapes.Compare relations.GreaterOrEqual to) _ (jump refl refl)
-    (either to (op == 163) (shapes.Compare relations.Greater to) _ (jump refl refl)
-    (either to (op == 164) (shapes.Compare relations.LessOrEqual to) _ (jump refl refl)
-    (either to (op == 165) (shapes.CompareReferences true to) _ (jump refl refl)
-    (either to (op == 166) (shapes.CompareReferences false to) _ (jump refl refl)
-    (either to (op == 167) (shapes.Goto to) _ (jump refl refl)
-    (either to (op == 198) (shapes.TestNull true to) _ (jump refl refl)
-    (either to (op == 199) (shapes.TestNull false to) _ (jump refl refl) none)))))))))))
+    (either to (op == IF_ICMPEQ) (shapes.Compare relations.Equal to) _ (jump refl refl)
+    (either to (op == IF_ICMPNE) (shapes.Compare relations.NotEqual to) _ (jump refl refl)
+    (either to (op == IF_ICMPLT) (shapes.Compare relations.Less to) _ (jump refl refl)
+    (either to (op == IF_ICMPGE) (shapes.Compare relations.GreaterOrEqual to) _ (jump refl refl)
+    (either to (op == IF_ICMPGT) (shapes.Compare relations.Greater to) _ (jump refl refl)
+    (either to (op == IF_ICMPLE) (shapes.Compare relations.LessOrEqual to) _ (jump refl refl)
+    (either to (op == IF_ACMPEQ) (shapes.CompareReferences true to) _ (jump refl refl)
+    (either to (op == IF_ACMPNE) (shapes.CompareReferences false to) _ (jump refl refl)
+    (either to (op == GOTO) (shapes.Goto to) _ (jump refl refl)
+    (either to (op == IFNULL) (shapes.TestNull true to) _ (jump refl refl)
+    (either to (op == IFNONNULL) (shapes.TestNull false to) _ (jump refl refl) none)))))))))))
 
 branches_only : (op to : ℕ) → Only to (branch_shape op to)
-branches_only op to = either to (nat_lt op 159) (test_shape op to) (comparing_shape op to) (tests_only op to) (compares_only op to)
+branches_only op to = either to (nat_lt op IF_ICMPEQ) (test_shape op to) (comparing_shape op to) (tests_only op to) (compares_only op to)
 
 first_of : (x : ℕ) (xs : List ℕ) → Contains (x ∷ xs) x
 first_of x xs = (0, omega arith, refl)

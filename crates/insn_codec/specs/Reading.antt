@@ -13,6 +13,7 @@ use Rattle.insn_codec.specs.declared.insn.Case.{Case}
 use Rattle.insn_codec.specs.Opcodes.{operands_of, goes_on}
 use Rattle.insn_codec.specs.Spelling.{opcode_of, padding, size}
 use Rattle.insn_codec.specs.Fits.{is_item_type}
+use Rattle.insn_codec.specs.declared.opcodes.TheConstants.{NEWARRAY}
 
 -- What the reader of X answers: the value and the place after it, or the fault.
 abbrev pub Read : Type 0 → Type 0
@@ -169,7 +170,7 @@ unfoldable pub new_array_at : ℕ → Place → Read Insn
 new_array_at at p = do
   kind ← u1_at at p
   known ← need (nat_le 4 kind.0 && nat_le kind.0 11) (Form at)
-  taken ← need (is_item_type kind.0) (LeftOut at 0xBC)
+  taken ← need (is_item_type kind.0) (LeftOut at NEWARRAY)
   Ok (insns.NewArray kind.0, kind.1)
 
 unfoldable pub inc_at : ℕ → Place → Read Insn

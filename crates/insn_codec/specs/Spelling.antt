@@ -6,6 +6,18 @@ use Rattle.byteorder.specs.Endian.{big_bytes}
 use Rattle.insn_codec.specs.declared.insn.Case.{Case}
 use Rattle.insn_codec.specs.declared.insn.Insn.{Insn}
 use Rattle.insn_codec.specs.declared.insn.Insn.TheVariants.{Plain, Byte, Short, Ldc, Pool, Iface, Local, Inc, Branch, GotoW, NewArray, Table, Lookup}
+use Rattle.insn_codec.specs.declared.opcodes.TheConstants.{
+  BIPUSH,
+  SIPUSH,
+  LDC,
+  IINC,
+  TABLESWITCH,
+  LOOKUPSWITCH,
+  INVOKEINTERFACE,
+  NEWARRAY,
+  WIDE,
+  GOTO_W,
+}
 
 -- numbers of one, two and four bytes, the highest byte first
 abbrev pub u1 : ℕ → List ℕ
@@ -31,18 +43,18 @@ i4 n = u4 (cast_unsigned w32 n)
 
 abbrev pub opcode_of : Insn → ℕ
 opcode_of (Plain op) = op
-opcode_of (Byte n) = 0x10
-opcode_of (Short n) = 0x11
-opcode_of (Ldc index) = 0x12
+opcode_of (Byte n) = BIPUSH
+opcode_of (Short n) = SIPUSH
+opcode_of (Ldc index) = LDC
 opcode_of (Pool op index) = op
-opcode_of (Iface index count) = 0xB9
+opcode_of (Iface index count) = INVOKEINTERFACE
 opcode_of (Local op slot wide) = op
-opcode_of (Inc slot by wide) = 0x84
+opcode_of (Inc slot by wide) = IINC
 opcode_of (Branch op to) = op
-opcode_of (GotoW to) = 0xC8
-opcode_of (NewArray kind) = 0xBC
-opcode_of (Table other low targets) = 0xAA
-opcode_of (Lookup other keys targets) = 0xAB
+opcode_of (GotoW to) = GOTO_W
+opcode_of (NewArray kind) = NEWARRAY
+opcode_of (Table other low targets) = TABLESWITCH
+opcode_of (Lookup other keys targets) = LOOKUPSWITCH
 
 -- how many zeros a switch at `at` has after its opcode, so that four bytes of the code divide what stands before the rest
 abbrev pub padding : ℕ → ℕ
@@ -107,22 +119,22 @@ keyed starts at keys targets = u4 (length targets) ++ flat_map (case starts at) 
 -- the bytes of an instruction at `at`
 abbrev pub bytes_of : List ℕ → ℕ → Insn → List ℕ
 bytes_of starts at (Plain op) = u1 op
-bytes_of starts at (Byte n) = u1 0x10 ++ i1 n
-bytes_of starts at (Short n) = u1 0x11 ++ i2 n
-bytes_of starts at (Ldc index) = u1 0x12 ++ u1 index
+bytes_of starts at (Byte n) = u1 BIPUSH ++ i1 n
+bytes_of starts at (Short n) = u1 SIPUSH ++ i2 n
+bytes_of starts at (Ldc index) = u1 LDC ++ u1 index
 bytes_of starts at (Pool op index) = u1 op ++ u2 index
-bytes_of starts at (Iface index count) = u1 0xB9 ++ (u2 index ++ (u1 count ++ u1 0))
+bytes_of starts at (Iface index count) = u1 INVOKEINTERFACE ++ (u2 index ++ (u1 count ++ u1 0))
 bytes_of starts at (Local op slot false) = u1 op ++ u1 slot
-bytes_of starts at (Local op slot true) = u1 0xC4 ++ (u1 op ++ u2 slot)
-bytes_of starts at (Inc slot by false) = u1 0x84 ++ (u1 slot ++ i1 by)
-bytes_of starts at (Inc slot by true) = u1 0xC4 ++ (u1 0x84 ++ (u2 slot ++ i2 by))
+bytes_of starts at (Local op slot true) = u1 WIDE ++ (u1 op ++ u2 slot)
+bytes_of starts at (Inc slot by false) = u1 IINC ++ (u1 slot ++ i1 by)
+bytes_of starts at (Inc slot by true) = u1 WIDE ++ (u1 IINC ++ (u2 slot ++ i2 by))
 bytes_of starts at (Branch op to) = u1 op ++ i2 (offset starts at to)
-bytes_of starts at (GotoW to) = u1 0xC8 ++ i4 (offset starts at to)
-bytes_of starts at (NewArray kind) = u1 0xBC ++ u1 kind
+bytes_of starts at (GotoW to) = u1 GOTO_W ++ i4 (offset starts at to)
+bytes_of starts at (NewArray kind) = u1 NEWARRAY ++ u1 kind
 bytes_of starts at (Table other low targets) =
-    (u1 0xAA ++ (replicate (padding at) 0 ++ i4 (offset starts at other))) ++ range starts at low targets
+    (u1 TABLESWITCH ++ (replicate (padding at) 0 ++ i4 (offset starts at other))) ++ range starts at low targets
 bytes_of starts at (Lookup other keys targets) =
-    (u1 0xAB ++ (replicate (padding at) 0 ++ i4 (offset starts at other))) ++ keyed starts at keys targets
+    (u1 LOOKUPSWITCH ++ (replicate (padding at) 0 ++ i4 (offset starts at other))) ++ keyed starts at keys targets
 
 -- the bytes of the instructions from `at` on
 unfoldable pub bytes_from : List ℕ → ℕ → List Insn → List ℕ

@@ -10,6 +10,7 @@ use Rattle.insn_codec.specs.declared.shape.Shape.{Shape}
 use Rattle.insn_codec.specs.declared.shape.Shape.TheVariants as shapes
 use Rattle.insn_codec.specs.Control.{View, next_of, successors}
 use Rattle.insn_codec.specs.Shapes.{shape_of}
+use Rattle.insn_codec.specs.declared.opcodes.TheConstants.{NOP}
 
 abbrev pub is_heap : Shape → Bool
 is_heap (shapes.Heap what) = true
@@ -33,7 +34,7 @@ GoesOnAlike = (insn : Insn) → IsInsn insn → goes_on (opcode_of insn) ≡ not
 
 -- Only nop does nothing.
 abbrev pub NopAlone : Type 0
-NopAlone = (insn : Insn) → IsInsn insn → shape_of insn ≡ shapes.Nothing → insn ≡ insns.Plain 0
+NopAlone = (insn : Insn) → IsInsn insn → shape_of insn ≡ shapes.Nothing → insn ≡ insns.Plain NOP
 
 -- Control goes to one of an instruction's successors.
 abbrev pub GoesToSuccessor : {V : Type 0} → View V → Type 0

@@ -3,6 +3,9 @@
 ghost use Rattle.std.specs.Prelude.{◌≡◌};
 ghost use Rattle.insn_codec.specs.Spelling.{opcode_of};
 
+use crate::opcodes::{
+    BIPUSH, GOTO_W, IINC, INVOKEINTERFACE, LDC, LOOKUPSWITCH, NEWARRAY, SIPUSH, TABLESWITCH,
+};
 use mon_base::List;
 
 /// An instruction. Targets are indices into the code's list of instructions.
@@ -73,18 +76,18 @@ impl Insn {
     {
         match self {
             Insn::Plain(op) => *op,
-            Insn::Byte(_) => 0x10,
-            Insn::Short(_) => 0x11,
-            Insn::Ldc(_) => 0x12,
+            Insn::Byte(_) => BIPUSH,
+            Insn::Short(_) => SIPUSH,
+            Insn::Ldc(_) => LDC,
             Insn::Pool { op, .. } => *op,
-            Insn::Iface { .. } => 0xB9,
+            Insn::Iface { .. } => INVOKEINTERFACE,
             Insn::Local { op, .. } => *op,
-            Insn::Inc { .. } => 0x84,
+            Insn::Inc { .. } => IINC,
             Insn::Branch { op, .. } => *op,
-            Insn::GotoW { .. } => 0xC8,
-            Insn::NewArray(_) => 0xBC,
-            Insn::Table { .. } => 0xAA,
-            Insn::Lookup { .. } => 0xAB,
+            Insn::GotoW { .. } => GOTO_W,
+            Insn::NewArray(_) => NEWARRAY,
+            Insn::Table { .. } => TABLESWITCH,
+            Insn::Lookup { .. } => LOOKUPSWITCH,
         }
     }
 }

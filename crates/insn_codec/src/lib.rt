@@ -15,6 +15,7 @@ mod insn;
 mod layout;
 mod name;
 mod opcode;
+pub mod opcodes;
 mod place;
 mod reading;
 mod shape;

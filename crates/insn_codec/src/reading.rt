@@ -16,6 +16,7 @@ use crate::fault::CodeFault;
 use crate::insn::Insn;
 use crate::layout::{check_end, marks};
 use crate::opcode::{Operands, operands_of};
+use crate::opcodes::NEWARRAY;
 use crate::place::{i1, i2, u1, u2};
 use crate::switches::{lookup, table};
 use crate::targets::Targets;
@@ -49,7 +50,7 @@ fn new_array(at: u64, from: &mut Cursor) -> Result<Insn, CodeFault>
         return Err(CodeFault::Form { at });
     }
     if kind == 6 || kind == 7 || kind == 11 {
-        return Err(CodeFault::LeftOut { at, op: 0xBC });
+        return Err(CodeFault::LeftOut { at, op: NEWARRAY });
     }
     Ok(Insn::NewArray(kind))
 }

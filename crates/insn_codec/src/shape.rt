@@ -6,6 +6,7 @@ ghost use Rattle.insn_codec.specs.Shapes.{pool_shape, local_shape, branch_shape,
 
 use crate::Insn;
 use crate::forms::StackForm;
+use crate::opcodes::*;
 
 /// What a local or an operand holds.
 #[derive(Clone, Copy, Debug, PartialEq, Eq)]
@@ -159,13 +160,13 @@ pub fn shape_of(insn: &Insn) -> Shape
 fn plain_shape(op: u8) -> Shape
     ensures { result ≡ plain_shape op }
 {
-    if op < 0x2E {
+    if op < IALOAD {
         pushing_shape(op)
-    } else if op < 0x57 {
+    } else if op < POP {
         storing_shape(op)
-    } else if op < 0x60 {
+    } else if op < IADD {
         moving_shape(op)
-    } else if op < 0x99 {
+    } else if op < IFEQ {
         number_shape(op)
     } else {
         leaving_shape(op)
@@ -177,15 +178,15 @@ fn pushing_shape(op: u8) -> Shape
     ensures { result ≡ pushing_shape op }
 {
     match op {
-        0x01 => Shape::PushNull,
-        0x02..=0x08 => Shape::Push(i32::from(op) - 3),
-        0x1A..=0x1D => Shape::Load {
+        ACONST_NULL => Shape::PushNull,
+        ICONST_M1..=ICONST_5 => Shape::Push(i32::from(op) - i32::from(ICONST_0)),
+        ILOAD_0..=ILOAD_3 => Shape::Load {
             kind: Kind::Int,
-            slot: u16::from(op - 0x1A),
+            slot: u16::from(op - ILOAD_0),
         },
-        0x2A..=0x2D => Shape::Load {
+        ALOAD_0..=ALOAD_3 => Shape::Load {
             kind: Kind::Reference,
-            slot: u16::from(op - 0x2A),
+            slot: u16::from(op - ALOAD_0),
         },
         _ => Shape::Nothing,
     }
@@ -196,24 +197,24 @@ fn storing_shape(op: u8) -> Shape
     ensures { result ≡ storing_shape op }
 {
     match op {
-        0x2E => Shape::Heap(Heap::ReadItem(Item::Int)),
-        0x32 => Shape::Heap(Heap::ReadItem(Item::Reference)),
-        0x33 => Shape::Heap(Heap::ReadItem(Item::Byte)),
-        0x34 => Shape::Heap(Heap::ReadItem(Item::Char)),
-        0x35 => Shape::Heap(Heap::ReadItem(Item::Short)),
-        0x3B..=0x3E => Shape::Store {
+        IALOAD => Shape::Heap(Heap::ReadItem(Item::Int)),
+        AALOAD => Shape::Heap(Heap::ReadItem(Item::Reference)),
+        BALOAD => Shape::Heap(Heap::ReadItem(Item::Byte)),
+        CALOAD => Shape::Heap(Heap::ReadItem(Item::Char)),
+        SALOAD => Shape::Heap(Heap::ReadItem(Item::Short)),
+        ISTORE_0..=ISTORE_3 => Shape::Store {
             kind: Kind::Int,
-            slot: u16::from(op - 0x3B),
+            slot: u16::from(op - ISTORE_0),
         },
-        0x4B..=0x4E => Shape::Store {
+        ASTORE_0..=ASTORE_3 => Shape::Store {
             kind: Kind::Reference,
-            slot: u16::from(op - 0x4B),
+            slot: u16::from(op - ASTORE_0),
         },
-        0x4F => Shape::Heap(Heap::WriteItem(Item::Int)),
-        0x53 => Shape::Heap(Heap::WriteItem(Item::Reference)),
-        0x54 => Shape::Heap(Heap::WriteItem(Item::Byte)),
-        0x55 => Shape::Heap(Heap::WriteItem(Item::Char)),
-        0x56 => Shape::Heap(Heap::WriteItem(Item::Short)),
+        IASTORE => Shape::Heap(Heap::WriteItem(Item::Int)),
+        AASTORE => Shape::Heap(Heap::WriteItem(Item::Reference)),
+        BASTORE => Shape::Heap(Heap::WriteItem(Item::Byte)),
+        CASTORE => Shape::Heap(Heap::WriteItem(Item::Char)),
+        SASTORE => Shape::Heap(Heap::WriteItem(Item::Short)),
         _ => Shape::Nothing,
     }
 }
@@ -223,15 +224,15 @@ fn moving_shape(op: u8) -> Shape
     ensures { result ≡ moving_shape op }
 {
     match op {
-        0x57 => Shape::Move(StackForm::Pop),
-        0x58 => Shape::Move(StackForm::Pop2),
-        0x59 => Shape::Move(StackForm::Dup),
-        0x5A => Shape::Move(StackForm::DupX1),
-        0x5B => Shape::Move(StackForm::DupX2),
-        0x5C => Shape::Move(StackForm::Dup2),
-        0x5D => Shape::Move(StackForm::Dup2X1),
-        0x5E => Shape::Move(StackForm::Dup2X2),
-        0x5F => Shape::Move(StackForm::Swap),
+        POP => Shape::Move(StackForm::Pop),
+        POP2 => Shape::Move(StackForm::Pop2),
+        DUP => Shape::Move(StackForm::Dup),
+        DUP_X1 => Shape::Move(StackForm::DupX1),
+        DUP_X2 => Shape::Move(StackForm::DupX2),
+        DUP2 => Shape::Move(StackForm::Dup2),
+        DUP2_X1 => Shape::Move(StackForm::Dup2X1),
+        DUP2_X2 => Shape::Move(StackForm::Dup2X2),
+        SWAP => Shape::Move(StackForm::Swap),
         _ => Shape::Nothing,
     }
 }
@@ -241,21 +242,21 @@ fn number_shape(op: u8) -> Shape
     ensures { result ≡ number_shape op }
 {
     match op {
-        0x60 => Shape::Two(Two::Add),
-        0x64 => Shape::Two(Two::Subtract),
-        0x68 => Shape::Two(Two::Multiply),
-        0x6C => Shape::Heap(Heap::Divide { remainder: false }),
-        0x70 => Shape::Heap(Heap::Divide { remainder: true }),
-        0x74 => Shape::One(One::Negate),
-        0x78 => Shape::Two(Two::ShiftLeft),
-        0x7A => Shape::Two(Two::ShiftRight),
-        0x7C => Shape::Two(Two::ShiftRightUnsigned),
-        0x7E => Shape::Two(Two::And),
-        0x80 => Shape::Two(Two::Or),
-        0x82 => Shape::Two(Two::Xor),
-        0x91 => Shape::One(One::ToByte),
-        0x92 => Shape::One(One::ToChar),
-        0x93 => Shape::One(One::ToShort),
+        IADD => Shape::Two(Two::Add),
+        ISUB => Shape::Two(Two::Subtract),
+        IMUL => Shape::Two(Two::Multiply),
+        IDIV => Shape::Heap(Heap::Divide { remainder: false }),
+        IREM => Shape::Heap(Heap::Divide { remainder: true }),
+        INEG => Shape::One(One::Negate),
+        ISHL => Shape::Two(Two::ShiftLeft),
+        ISHR => Shape::Two(Two::ShiftRight),
+        IUSHR => Shape::Two(Two::ShiftRightUnsigned),
+        IAND => Shape::Two(Two::And),
+        IOR => Shape::Two(Two::Or),
+        IXOR => Shape::Two(Two::Xor),
+        I2B => Shape::One(One::ToByte),
+        I2C => Shape::One(One::ToChar),
+        I2S => Shape::One(One::ToShort),
         _ => Shape::Nothing,
     }
 }
@@ -265,13 +266,13 @@ fn leaving_shape(op: u8) -> Shape
     ensures { result ≡ leaving_shape op }
 {
     match op {
-        0xAC => Shape::Heap(Heap::Return(Some(Kind::Int))),
-        0xB0 => Shape::Heap(Heap::Return(Some(Kind::Reference))),
-        0xB1 => Shape::Heap(Heap::Return(None)),
-        0xBE => Shape::Heap(Heap::Length),
-        0xBF => Shape::Heap(Heap::Throw),
-        0xC2 => Shape::Heap(Heap::Enter),
-        0xC3 => Shape::Heap(Heap::Exit),
+        IRETURN => Shape::Heap(Heap::Return(Some(Kind::Int))),
+        ARETURN => Shape::Heap(Heap::Return(Some(Kind::Reference))),
+        RETURN => Shape::Heap(Heap::Return(None)),
+        ARRAYLENGTH => Shape::Heap(Heap::Length),
+        ATHROW => Shape::Heap(Heap::Throw),
+        MONITORENTER => Shape::Heap(Heap::Enter),
+        MONITOREXIT => Shape::Heap(Heap::Exit),
         _ => Shape::Nothing,
     }
 }
@@ -281,18 +282,18 @@ fn pool_shape(op: u8) -> Shape
     ensures { result ≡ pool_shape op }
 {
     match op {
-        0x13 => Shape::Heap(Heap::Constant),
-        0xB2 => Shape::Heap(Heap::ReadStatic),
-        0xB3 => Shape::Heap(Heap::WriteStatic),
-        0xB4 => Shape::Heap(Heap::ReadField),
-        0xB5 => Shape::Heap(Heap::WriteField),
-        0xB6 => Shape::Heap(Heap::Call(How::Virtual)),
-        0xB7 => Shape::Heap(Heap::Call(How::Special)),
-        0xB8 => Shape::Heap(Heap::Call(How::Static)),
-        0xBB => Shape::Heap(Heap::New),
-        0xBD => Shape::Heap(Heap::NewArrayOf),
-        0xC0 => Shape::Heap(Heap::Cast),
-        0xC1 => Shape::Heap(Heap::IsInstance),
+        LDC_W => Shape::Heap(Heap::Constant),
+        GETSTATIC => Shape::Heap(Heap::ReadStatic),
+        PUTSTATIC => Shape::Heap(Heap::WriteStatic),
+        GETFIELD => Shape::Heap(Heap::ReadField),
+        PUTFIELD => Shape::Heap(Heap::WriteField),
+        INVOKEVIRTUAL => Shape::Heap(Heap::Call(How::Virtual)),
+        INVOKESPECIAL => Shape::Heap(Heap::Call(How::Special)),
+        INVOKESTATIC => Shape::Heap(Heap::Call(How::Static)),
+        NEW => Shape::Heap(Heap::New),
+        ANEWARRAY => Shape::Heap(Heap::NewArrayOf),
+        CHECKCAST => Shape::Heap(Heap::Cast),
+        INSTANCEOF => Shape::Heap(Heap::IsInstance),
         _ => Shape::Nothing,
     }
 }
@@ -302,19 +303,19 @@ fn local_shape(op: u8, slot: u16) -> Shape
     ensures { result ≡ local_shape op slot }
 {
     match op {
-        0x15 => Shape::Load {
+        ILOAD => Shape::Load {
             kind: Kind::Int,
             slot,
         },
-        0x19 => Shape::Load {
+        ALOAD => Shape::Load {
             kind: Kind::Reference,
             slot,
         },
-        0x36 => Shape::Store {
+        ISTORE => Shape::Store {
             kind: Kind::Int,
             slot,
         },
-        0x3A => Shape::Store {
+        ASTORE => Shape::Store {
             kind: Kind::Reference,
             slot,
         },
@@ -326,7 +327,7 @@ fn local_shape(op: u8, slot: u16) -> Shape
 fn branch_shape(op: u8, to: u32) -> Shape
     ensures { result ≡ branch_shape op to }
 {
-    if op < 0x9F {
+    if op < IF_ICMPEQ {
         test_shape(op, to)
     } else {
         comparing_shape(op, to)
@@ -338,27 +339,27 @@ fn test_shape(op: u8, to: u32) -> Shape
     ensures { result ≡ test_shape op to }
 {
     match op {
-        0x99 => Shape::Test {
+        IFEQ => Shape::Test {
             relation: Relation::Equal,
             to,
         },
-        0x9A => Shape::Test {
+        IFNE => Shape::Test {
             relation: Relation::NotEqual,
             to,
         },
-        0x9B => Shape::Test {
+        IFLT => Shape::Test {
             relation: Relation::Less,
             to,
         },
-        0x9C => Shape::Test {
+        IFGE => Shape::Test {
             relation: Relation::GreaterOrEqual,
             to,
         },
-        0x9D => Shape::Test {
+        IFGT => Shape::Test {
             relation: Relation::Greater,
             to,
         },
-        0x9E => Shape::Test {
+        IFLE => Shape::Test {
             relation: Relation::LessOrEqual,
             to,
         },
@@ -371,35 +372,35 @@ fn comparing_shape(op: u8, to: u32) -> Shape
     ensures { result ≡ comparing_shape op to }
 {
     match op {
-        0x9F => Shape::Compare {
+        IF_ICMPEQ => Shape::Compare {
             relation: Relation::Equal,
             to,
         },
-        0xA0 => Shape::Compare {
+        IF_ICMPNE => Shape::Compare {
             relation: Relation::NotEqual,
             to,
         },
-        0xA1 => Shape::Compare {
+        IF_ICMPLT => Shape::Compare {
             relation: Relation::Less,
             to,
         },
-        0xA2 => Shape::Compare {
+        IF_ICMPGE => Shape::Compare {
             relation: Relation::GreaterOrEqual,
             to,
         },
-        0xA3 => Shape::Compare {
+        IF_ICMPGT => Shape::Compare {
             relation: Relation::Greater,
             to,
         },
-        0xA4 => Shape::Compare {
+        IF_ICMPLE => Shape::Compare {
             relation: Relation::LessOrEqual,
             to,
         },
-        0xA5 => Shape::CompareReferences { same: true, to },
-        0xA6 => Shape::CompareReferences { same: false, to },
-        0xA7 => Shape::Goto { to },
-        0xC6 => Shape::TestNull { null: true, to },
-        0xC7 => Shape::TestNull { null: false, to },
+        IF_ACMPEQ => Shape::CompareReferences { same: true, to },
+        IF_ACMPNE => Shape::CompareReferences { same: false, to },
+        GOTO => Shape::Goto { to },
+        IFNULL => Shape::TestNull { null: true, to },
+        IFNONNULL => Shape::TestNull { null: false, to },
         _ => Shape::Nothing,
     }
 }

@@ -5,6 +5,7 @@ ghost use Rattle.std.specs.List.{AllByRecursion};
 ghost use Rattle.insn_codec.specs.Fits.{IsInsn};
 ghost use Rattle.insn_codec.specs.Spelling.{size, len_from};
 
+use super::opcodes::*;
 use super::*;
 use mon_base::{Bytes, List};
 use std::alloc::{AllocError, Global};
@@ -109,6 +110,132 @@ static NAMES: [(u8, &str); 8] = [
     (0xFF, ""),
 ];
 
+/// The opcodes that have a constant of their own.
+static NAMED: [u8; 109] = [
+    NOP,
+    ACONST_NULL,
+    ICONST_M1,
+    ICONST_0,
+    ICONST_1,
+    ICONST_2,
+    ICONST_3,
+    ICONST_4,
+    ICONST_5,
+    BIPUSH,
+    SIPUSH,
+    LDC,
+    LDC_W,
+    ILOAD,
+    ALOAD,
+    ILOAD_0,
+    ILOAD_1,
+    ILOAD_2,
+    ILOAD_3,
+    ALOAD_0,
+    ALOAD_1,
+    ALOAD_2,
+    ALOAD_3,
+    IALOAD,
+    AALOAD,
+    BALOAD,
+    CALOAD,
+    SALOAD,
+    ISTORE,
+    ASTORE,
+    ISTORE_0,
+    ISTORE_1,
+    ISTORE_2,
+    ISTORE_3,
+    ASTORE_0,
+    ASTORE_1,
+    ASTORE_2,
+    ASTORE_3,
+    IASTORE,
+    AASTORE,
+    BASTORE,
+    CASTORE,
+    SASTORE,
+    POP,
+    POP2,
+    DUP,
+    DUP_X1,
+    DUP_X2,
+    DUP2,
+    DUP2_X1,
+    DUP2_X2,
+    SWAP,
+    IADD,
+    ISUB,
+    IMUL,
+    IDIV,
+    IREM,
+    INEG,
+    ISHL,
+    ISHR,
+    IUSHR,
+    IAND,
+    IOR,
+    IXOR,
+    IINC,
+    I2B,
+    I2C,
+    I2S,
+    IFEQ,
+    IFNE,
+    IFLT,
+    IFGE,
+    IFGT,
+    IFLE,
+    IF_ICMPEQ,
+    IF_ICMPNE,
+    IF_ICMPLT,
+    IF_ICMPGE,
+    IF_ICMPGT,
+    IF_ICMPLE,
+    IF_ACMPEQ,
+    IF_ACMPNE,
+    GOTO,
+    TABLESWITCH,
+    LOOKUPSWITCH,
+    IRETURN,
+    ARETURN,
+    RETURN,
+    GETSTATIC,
+    PUTSTATIC,
+    GETFIELD,
+    PUTFIELD,
+    INVOKEVIRTUAL,
+    INVOKESPECIAL,
+    INVOKESTATIC,
+    INVOKEINTERFACE,
+    NEW,
+    NEWARRAY,
+    ANEWARRAY,
+    ARRAYLENGTH,
+    ATHROW,
+    CHECKCAST,
+    INSTANCEOF,
+    MONITORENTER,
+    MONITOREXIT,
+    WIDE,
+    IFNULL,
+    IFNONNULL,
+    GOTO_W,
+];
+
+/// Their names.
+const WORDS: &str =
+    "nop aconst_null iconst_m1 iconst_0 iconst_1 iconst_2 iconst_3 iconst_4 iconst_5 bipush \
+    sipush ldc ldc_w iload aload iload_0 iload_1 iload_2 iload_3 aload_0 aload_1 aload_2 \
+    aload_3 iaload aaload baload caload saload istore astore istore_0 istore_1 istore_2 \
+    istore_3 astore_0 astore_1 astore_2 astore_3 iastore aastore bastore castore sastore \
+    pop pop2 dup dup_x1 dup_x2 dup2 dup2_x1 dup2_x2 swap iadd isub imul idiv irem ineg ishl \
+    ishr iushr iand ior ixor iinc i2b i2c i2s ifeq ifne iflt ifge ifgt ifle if_icmpeq \
+    if_icmpne if_icmplt if_icmpge if_icmpgt if_icmple if_acmpeq if_acmpne goto tableswitch \
+    lookupswitch ireturn areturn return getstatic putstatic getfield putfield invokevirtual \
+    invokespecial invokestatic invokeinterface new newarray anewarray arraylength athrow \
+    checkcast instanceof monitorenter monitorexit wide ifnull ifnonnull goto_w ";
+
 fn digit(character: u8) -> u8
     ensures { result < 16 }
 {
@@ -194,7 +321,7 @@ fn add_nops(insns: &mut Vec<Insn>, count: u32) -> Result<(), AllocError>
     ensures len { OnOk result (len_from 0 insns.new.items ≡ len_from 0 insns.old.items + count) }
 {
     for _ in 0..count {
-        add(insns, Insn::Plain(0))?;
+        add(insns, Insn::Plain(NOP))?;
     }
     Ok(())
 }
@@ -206,7 +333,7 @@ fn write_nops(alloc: Global, count: u32) -> Result<Result<Bytes, CodeOverflow>, 
 {
     let mut insns = Vec::new(alloc);
     add_nops(&mut insns, count)?;
-    add(&mut insns, Insn::Plain(0xB1))?;
+    add(&mut insns, Insn::Plain(RETURN))?;
     Ok(write_code(alloc, &insns))
 }
 
@@ -216,23 +343,23 @@ fn write_ahead(alloc: Global, count: u32) -> Result<Result<Bytes, CodeOverflow>,
     requires { count < 2 ^ 17 }
 {
     let mut insns = Vec::new(alloc);
-    add(&mut insns, Insn::Plain(0x1A))?;
+    add(&mut insns, Insn::Plain(ILOAD_0))?;
     add(
         &mut insns,
         Insn::Branch {
-            op: 0x99,
+            op: IFEQ,
             to: count + 3,
         },
     )?;
     add(
         &mut insns,
         Insn::Branch {
-            op: 0xA7,
+            op: GOTO,
             to: count + 3,
         },
     )?;
     add_nops(&mut insns, count)?;
-    add(&mut insns, Insn::Plain(0xB1))?;
+    add(&mut insns, Insn::Plain(RETURN))?;
     Ok(write_code(alloc, &insns))
 }
 
@@ -243,7 +370,7 @@ fn write_back(alloc: Global, count: u32) -> Result<Result<Bytes, CodeOverflow>, 
 {
     let mut insns = Vec::new(alloc);
     add_nops(&mut insns, count)?;
-    add(&mut insns, Insn::Branch { op: 0xA7, to: 0 })?;
+    add(&mut insns, Insn::Branch { op: GOTO, to: 0 })?;
     Ok(write_code(alloc, &insns))
 }
 
@@ -373,5 +500,16 @@ fn names(rt: HostRuntime) -> Result<(), Fail> {
     for (op, name) in &NAMES {
         assert_eq!(rt; name_of(*op), name.as_bytes());
     }
+    Ok(())
+}
+
+#[test]
+fn constants_are_the_opcodes_of_their_names(rt: HostRuntime) -> Result<(), Fail> {
+    let mut words = Vec::new(rt.alloc());
+    for op in &NAMED {
+        words.extend_from_slice(name_of(*op))?;
+        words.push(b' ')?;
+    }
+    assert_eq!(rt; words.as_slice(), WORDS.as_bytes());
     Ok(())
 }

@@ -10,10 +10,14 @@ ghost use Rattle.insn_codec.specs.declared.insn.Insn.TheVariants.{Local, Inc};
 ghost use Rattle.mon_base.specs.Answer.{Answers};
 ghost use Rattle.insn_codec.specs.Writing.{near, far, all_far, reach, reach_from, written, Puts};
 ghost use Rattle.insn_codec.specs.declared.fault.CodeOverflow.TheVariants.{Length};
+ghost use Rattle.insn_codec.specs.declared.opcodes.TheConstants.{INVOKEINTERFACE};
 
 use crate::fault::CodeOverflow;
 use crate::insn::Insn;
 use crate::layout::{size, starts};
+use crate::opcodes::{
+    BIPUSH, GOTO_W, IINC, INVOKEINTERFACE, LDC, LOOKUPSWITCH, NEWARRAY, SIPUSH, TABLESWITCH, WIDE,
+};
 use byteorder::{BigEndian, ByteOrder};
 use mon_base::{Bytes, NoMemory};
 use std::alloc::Global;
@@ -210,7 +214,7 @@ fn put_local(out: &mut Bytes, op: u8, slot: u16, wide: bool) -> Result<(), NoMem
     ensures { OnOk result (out.new ≡ out.old ++ bytes_of [] 0 (Local op slot wide)) }
 {
     if wide {
-        out.push(0xC4)?;
+        out.push(WIDE)?;
         out.push(op)?;
         return put_u2(out, slot);
     }
@@ -225,12 +229,12 @@ fn put_inc(out: &mut Bytes, slot: u16, by: i16, wide: bool) -> Result<(), NoMemo
     ensures { OnOk result (out.new ≡ out.old ++ bytes_of [] 0 (Inc slot by wide)) }
 {
     if wide {
-        out.push(0xC4)?;
-        out.push(0x84)?;
+        out.push(WIDE)?;
+        out.push(IINC)?;
         put_u2(out, slot)?;
         return put_i2(out, by);
     }
-    out.push(0x84)?;
+    out.push(IINC)?;
     out.push(slot as u8)?;
     put_i1(out, by as i8)
 }
@@ -245,9 +249,9 @@ fn put_pool(out: &mut Bytes, op: u8, index: u16) -> Result<(), NoMemory>
 
 /// Appends an `invokeinterface`.
 fn put_iface(out: &mut Bytes, index: u16, count: u8) -> Result<(), NoMemory>
-    ensures { OnOk result (out.new ≡ out.old ++ (u1 0xB9 ++ (u2 index ++ (u1 count ++ u1 0)))) }
+    ensures { OnOk result (out.new ≡ out.old ++ (u1 INVOKEINTERFACE ++ (u2 index ++ (u1 count ++ u1 0)))) }
 {
-    put_pool(out, 0xB9, index)?;
+    put_pool(out, INVOKEINTERFACE, index)?;
     out.push(count)?;
     out.push(0)
 }
@@ -268,9 +272,9 @@ fn put_insn(out: &mut Bytes, starts: &[u32], at: u64, insn: &Insn) -> Result<(),
 {
     match insn {
         Insn::Plain(op) => out.push(*op)?,
-        Insn::Byte(n) => put_pair(out, 0x10, n.cast_unsigned())?,
-        Insn::Short(n) => put_pool(out, 0x11, n.cast_unsigned())?,
-        Insn::Ldc(index) => put_pair(out, 0x12, *index)?,
+        Insn::Byte(n) => put_pair(out, BIPUSH, n.cast_unsigned())?,
+        Insn::Short(n) => put_pool(out, SIPUSH, n.cast_unsigned())?,
+        Insn::Ldc(index) => put_pair(out, LDC, *index)?,
         Insn::Pool { op, index } => put_pool(out, *op, *index)?,
         Insn::Iface { index, count } => put_iface(out, *index, *count)?,
         Insn::Local { op, slot, wide } => put_local(out, *op, *slot, *wide)?,
@@ -280,16 +284,16 @@ fn put_insn(out: &mut Bytes, starts: &[u32], at: u64, insn: &Insn) -> Result<(),
             put_near(out, starts, at, *to)?
         }
         Insn::GotoW { to } => {
-            out.push(0xC8)?;
+            out.push(GOTO_W)?;
             put_far(out, starts, at, *to)?
         }
-        Insn::NewArray(kind) => put_pair(out, 0xBC, *kind)?,
+        Insn::NewArray(kind) => put_pair(out, NEWARRAY, *kind)?,
         Insn::Table {
             other,
             low,
             targets,
         } => {
-            put_switch(out, starts, 0xAA, at, *other)?;
+            put_switch(out, starts, TABLESWITCH, at, *other)?;
             put_range(out, starts, at, *low, targets.as_slice())?
         }
         Insn::Lookup {
@@ -297,7 +301,7 @@ fn put_insn(out: &mut Bytes, starts: &[u32], at: u64, insn: &Insn) -> Result<(),
             keys,
             targets,
         } => {
-            put_switch(out, starts, 0xAB, at, *other)?;
+            put_switch(out, starts, LOOKUPSWITCH, at, *other)?;
             put_keyed(out, starts, at, keys.as_slice(), targets.as_slice())?
         }
     }

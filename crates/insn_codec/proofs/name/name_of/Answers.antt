@@ -1,6 +1,6 @@
 use Rattle.std.proofs.Common.{sym, ap}
 use Rattle.insn_codec.specs.Opcodes.{Opcode}
-use Rattle.insn_codec.proofs.Opcodes.{no_opcode}
+use Rattle.insn_codec.proofs.OpcodeTable.{no_opcode}
 use Rattle.insn_codec.proofs.name.name_of.Goals as goal
 
 pub returns-then-op-ge202 : goal.returns-then-op-ge202

@@ -1,5 +1,5 @@
 use Rattle.std.proofs.Common.{ℕ, List, [], ap}
-use Rattle.insn_codec.proofs.Opcodes.{name_at, name_is_short}
+use Rattle.insn_codec.proofs.OpcodeTable.{name_at, name_is_short}
 use Rattle.insn_codec.proofs.name.padded_name.Goals as goal
 
 pub returns-clause-len : goal.returns-clause-len

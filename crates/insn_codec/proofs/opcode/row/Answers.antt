@@ -1,7 +1,7 @@
 use Rattle.std.proofs.Common.{Bool, false, ap}
 use Rattle.insn_codec.specs.declared.opcode.Operands.{Operands}
 use Rattle.insn_codec.specs.declared.opcode.Operands.TheVariants.{Plain}
-use Rattle.insn_codec.proofs.Opcodes.{columns_of}
+use Rattle.insn_codec.proofs.OpcodeTable.{columns_of}
 use Rattle.insn_codec.proofs.opcode.row.Goals as goal
 
 pub returns-clause-operands : goal.returns-clause-operands
