@@ -25,7 +25,8 @@ use Rattle.inliner_tool.specs.declared.refusal.Refusal.TheVariants as refusals
 use Rattle.inliner_tool.specs.declared.weaving.Ready.{Ready}
 use Rattle.command_words.specs.InlineWords.{NamedInline}
 use Rattle.input_files.specs.Forms.{Then, Gives}
-use Rattle.inliner_tool.specs.Weaving.{Accepts, Equals, IsPlanned, IsRewoven, Remakes, Step, Types, UnlessMemory, link_step, original, outputs_of, outputs_step}
+use Rattle.inliner_tool.specs.Weaving.{Accepts, Equals, IsPlanned, IsRewoven, Remakes, Step, Types, UnlessMemory, link_step, original, outputs_step}
+use Rattle.output_files.specs.Outputs.{outputs_of}
 use Rattle.type_infer.specs.Untyped.{IsUntypedAt}
 
 -- A step that gives a program comes from files that link to it.

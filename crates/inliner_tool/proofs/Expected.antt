@@ -43,7 +43,8 @@ use Rattle.command_words.specs.declared.inline_words.Weaving.{Weaving}
 use Rattle.inliner_tool.specs.declared.refusal.Refusal.TheVariants as refusals
 use Rattle.inliner_tool.specs.Expected.{IsExpected}
 use Rattle.input_files.specs.InlineInputs.{InlineSound}
-use Rattle.inliner_tool.specs.Weaving.{are_one_class, is_built_client, lets_go, denying}
+use Rattle.built_form.specs.Built.{are_one_class, is_built_client}
+use Rattle.inliner_tool.specs.Weaving.{lets_go, denying}
 
 some_is : {A : Type 0} (x y : A) → ◌≡◌ {A = Option A} (Some x) (Some y) → x ≡ y
 some_is x y e = cc

@@ -16,7 +16,7 @@ use Rattle.conspec_tree.specs.declared.types.PolicyTree.{PolicyTree}
 use Rattle.inliner_tool.specs.declared.answer.Answer.{Answer}
 use Rattle.inliner_tool.specs.declared.answer.Answer.TheVariants as answers
 use Rattle.input_files.specs.declared.check_inputs.CheckInputs.{CheckInputs}
-use Rattle.inliner_tool.specs.Built.{is_built}
+use Rattle.built_form.specs.Built.{is_built}
 use Rattle.inliner_tool.specs.Answers.{Is}
 use Rattle.inliner_tool.specs.Check.{check_answer, linked_answer, link_answer, link_inputs, verdict_answer}
 use Rattle.inliner_tool.specs.Race.{decided_answer, fault_answer, race_answer, verdict_answer as race_verdict_answer}

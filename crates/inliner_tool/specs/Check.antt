@@ -19,7 +19,7 @@ use Rattle.conspec_tree.specs.declared.types.PolicyTree.{PolicyTree}
 use Rattle.inliner_tool.specs.declared.answer.Answer.{Answer}
 use Rattle.inliner_tool.specs.declared.answer.Answer.TheVariants as answers
 use Rattle.input_files.specs.declared.check_inputs.CheckInputs.{CheckInputs}
-use Rattle.inliner_tool.specs.Built.{is_built}
+use Rattle.built_form.specs.Built.{is_built}
 use Rattle.inliner_tool.specs.Classes.{label_of}
 
 abbrev pub number_of_class : CheckFault → ℕ

@@ -1,5 +1,4 @@
 pub mod Answers
-pub mod Built
 pub mod Classes
 pub mod Check
 pub mod Show

@@ -1,10 +1,9 @@
 -- What is woven of inputs, judged, and then written; or the first thing for which nothing is written.
-use Rattle.std.specs.Prelude.{◌≡◌, ◌⊎◌, ℕ, ◌&&◌, nat_lt, Bool, true, false, List, [], ◌∷◌, ◌++◌, codes, length, map, if◌then◌else◌, Result, Ok, Err}
+use Rattle.std.specs.Prelude.{◌≡◌, ◌⊎◌, ℕ, ◌&&◌, nat_lt, Bool, true, false, List, length, if◌then◌else◌, Result, Ok, Err}
 use Rattle.mon_store.specs.declared.outputs.Output.{Output}
 use Rattle.api_listing.specs.declared.types.Listing.{Listing}
 use Rattle.class_linking.specs.declared.fault.LinkFault.{LinkFault}
 use Rattle.class_linking.specs.declared.fault.LinkFault.TheVariants as links
-use Rattle.bytecode_model.specs.declared.program.LinkedClass.{LinkedClass}
 use Rattle.bytecode_model.specs.declared.program.Program.{Program}
 use Rattle.bytecode_model.specs.declared.program.Side.TheVariants.{Inlined, Original}
 use Rattle.class_linking.specs.Fault.{Linked}
@@ -19,7 +18,6 @@ use Rattle.cert_format.specs.declared.typing.Typing.{Typing}
 use Rattle.cert_format.specs.Spelling.{spell_certificate}
 use Rattle.cert_maker.specs.Noting.{certificate_of}
 use Rattle.class_codec.specs.declared.tree.ClassFile.{ClassFile}
-use Rattle.class_codec.specs.Spelling.{spelling}
 use Rattle.bytecode_model.specs.Typed.{IsTyped}
 use Rattle.conspec_automaton.specs.declared.policy.Policy.{Policy}
 use Rattle.conspec_automaton.specs.Building.{built}
@@ -37,10 +35,11 @@ use Rattle.input_files.specs.declared.named.ReadClasses.{ReadClasses as Classes}
 use Rattle.inliner_tool.specs.declared.refusal.Refusal.{Refusal}
 use Rattle.inliner_tool.specs.declared.refusal.Refusal.TheVariants as refusals
 use Rattle.inliner_tool.specs.declared.weaving.Ready.{Ready}
-use Rattle.inliner_tool.specs.Built.{is_built_class}
+use Rattle.built_form.specs.Built.{is_built_client}
 use Rattle.input_files.specs.Forms.{Gives, Then}
 use Rattle.command_words.specs.InlineWords.{NamedInline}
 use Rattle.inliner_tool.specs.Classes.{label_of}
+use Rattle.output_files.specs.Outputs.{outputs_of}
 use Rattle.type_infer.specs.Untyped.{IsUntypedAt}
 
 -- ---- the steps
@@ -68,14 +67,6 @@ Types program (Ok typing) = IsTyped program typing
 Types program (Err (refusals.Untyped label method at)) = (class : ℕ) × (label ≡ label_of program class) × IsUntypedAt program class method at
 Types program (Err other) = ⊥
 
--- one class, and no other
-abbrev pub are_one_class : Listing → List LinkedClass → Bool
-are_one_class listing (client ∷ []) = is_built_class listing.methods client
-are_one_class listing other = false
-
-abbrev pub is_built_client : Program → Bool
-is_built_client program = are_one_class program.listing program.classes
-
 -- the blocks let the lock go before the call
 abbrev pub lets_go : Weaving → Bool
 lets_go weavings.Hold = false
@@ -92,17 +83,6 @@ weave_step (Err (splices.Overflow class method what value)) = Err (refusals.Over
 weave_step (Err splices.Memory) = Err refusals.Memory
 
 -- ---- the outputs
-
--- FOLDER/NAME.class
-abbrev pub class_output : List ℕ → LinkedClass → Output
-class_output folder class = record { name = folder ++ 47 ∷ class.name ++ codes ".class"; bytes = spelling class.file }
-
-abbrev pub certificate_output : List ℕ → List ℕ → Output
-certificate_output folder bytes = record { name = folder ++ codes "/certificate"; bytes = bytes }
-
--- the classes in their order, and last the certificate
-abbrev pub outputs_of : List ℕ → Program → Certificate → List Output
-outputs_of folder program certificate = map (class_output folder) program.classes ++ certificate_output folder (spell_certificate certificate) ∷ []
 
 -- A certificate has at most 64 MiB.
 abbrev pub outputs_step : List ℕ → Program → Certificate → Step (List Output)

@@ -20,8 +20,8 @@ ghost use Rattle.input_files.specs.Forms.{since};
 ghost use Rattle.bytecode_model.specs.Order.{EachWayEnds};
 
 use crate::answer::{Answer, stopped};
-use crate::built::is_built;
 use crate::classes::{TOTAL_LIMIT, label_of};
+use built_form::is_built;
 use bytecode_model::{Program, Side};
 use cert_checker::{CheckFault, check};
 use cert_format::Certificate;

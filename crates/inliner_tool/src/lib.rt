@@ -6,10 +6,8 @@
 #![tactic(auto)]
 
 mod answer;
-mod built;
 mod check;
 mod classes;
-mod example;
 mod inline;
 mod numbers;
 mod policy;

@@ -9,12 +9,12 @@ ghost use Rattle.inliner_tool.specs.Tool.{CarriesOut, IsAnswer};
 ghost use Rattle.input_files.specs.Forms.{since};
 
 use crate::answer::{Answer, stopped};
-use crate::example::example_text;
 use command_words::RaceWords;
 use conspec_automaton::build;
 use input_files::{RaceInputs, read_race};
 use mon_base::NoMemory;
 use mon_store::Store;
+use race_example::example_text;
 use race_free_check::{RaceFault, RaceVerdict, decide};
 use std::alloc::Global;
 
@@ -56,7 +56,7 @@ fn verdict_answer(alloc: Global, inputs: &RaceInputs, verdict: &RaceVerdict) -> 
             state,
             first,
             second,
-        } => match example_text(alloc, inputs, state, first, second) {
+        } => match example_text(alloc, &inputs.policy, &inputs.listing, state, first, second) {
             Ok(example) => Answer::Racy {
                 condition: *condition,
                 example,

@@ -65,8 +65,9 @@ impl Status {
 
 /// A command: `check POLICY LISTING CERT MAIN CLASS..` links the classes and checks the program with its certificate;
 /// `show LISTING CLASS..` gives the text of class files; `policy POLICY LISTING RECORD` says of the events of a run whether
-/// they obey the policy; `race POLICY LISTING` says of a policy whether its events race; `inline POLICY LISTING MAIN OUTDIR MODE CLASS..` weaves blocks into the classes, checks the program
-/// that they make with its certificate, and writes all of it.
+/// they obey the policy; `race POLICY LISTING` says of a policy whether its events race;
+/// `inline POLICY LISTING MAIN OUTDIR MODE CLASS..` weaves blocks into the classes, checks the program that they make with
+/// its certificate, and writes all of it.
 ///
 /// Other commands change no file. One output is put into the sink, which says the answer.
 pub fn run_tool<S: Store, K: Sink>(

@@ -1,8 +1,9 @@
 //! What is woven of inputs, and judged before anything is written.
 
-ghost use Rattle.std.specs.Prelude.{◌≡◌, map, IfOk, OnOk, Ok};
+ghost use Rattle.std.specs.Prelude.{◌≡◌, IfOk, OnOk, Ok};
 ghost use Rattle.std.specs.List.{AllByRecursion};
 ghost use Rattle.api_listing.specs.Listing.{IsFew};
+ghost use Rattle.built_form.specs.Built.{is_built_client};
 ghost use Rattle.bytecode_model.specs.Sound.{IsSound};
 ghost use Rattle.cert_checker.specs.Secure.{Secure};
 ghost use Rattle.class_codec.specs.Fits.{CanSpell};
@@ -20,16 +21,11 @@ ghost use Rattle.inliner_tool.specs.Weaving.{
   Remakes,
   Types,
   UnlessMemory,
-  are_one_class,
-  class_output,
-  certificate_output,
   denying,
-  is_built_client,
   lets_go,
   link_refusal,
   link_step,
   original,
-  outputs_of,
   outputs_step,
   weave_step,
 };
@@ -38,16 +34,17 @@ ghost use Rattle.bytecode_model.specs.Files.{unlinked};
 ghost use Rattle.block_logic.specs.Accepted.{IsAccepted};
 ghost use Rattle.bytecode_model.specs.Shape.{IsShaped};
 ghost use Rattle.inliner_tool.specs.Expected.{IsExpected};
+ghost use Rattle.output_files.specs.Outputs.{outputs_of};
 ghost use Rattle.type_infer.specs.Untyped.{IsLeast};
 ghost use Rattle.bytecode_model.specs.Order.{IsInOrder};
 ghost use Rattle.block_template.specs.Woven.{woven};
 
-use crate::built::is_built_class;
 use crate::classes::{TOTAL_LIMIT, label_of};
 use crate::refusal::Refusal;
-use api_listing::{ListedMethod, Listing};
+use api_listing::Listing;
 use block_template::Woven;
-use bytecode_model::{LinkedClass, Program, Side};
+use built_form::is_built_client;
+use bytecode_model::{Program, Side};
 use cert_checker::{Accepted, check};
 use cert_format::{CertLong, Certificate, Typing};
 use cert_maker::{make, policy_tells_arguments, woven_is_accepted, woven_is_typed};
@@ -61,7 +58,7 @@ use conspec_parse::kinds_are_told;
 use conspec_tree::PolicyTree;
 use inline_release::{inline, original_is_free, woven_files_link};
 use input_files::{InlineInputs, ReadClasses};
-use mon_base::{Bytes, List, NoMemory};
+use mon_base::{Bytes, List};
 use mon_store::Output;
 use offset_patch::SpliceFault;
 use std::alloc::Global;
@@ -210,16 +207,6 @@ fn lets_go(weaving: Weaving) -> bool
     !matches!(weaving, Weaving::Hold)
 }
 
-/// Whether the program is one class of the form that is built so far.
-fn is_built_client(program: &Program) -> bool
-    ensures { result ≡ is_built_client program.now }
-{
-    match program.classes.as_slice() {
-        [client] => is_built_class(program.listing.methods.as_slice(), client),
-        _ => false,
-    }
-}
-
 /// The woven files.
 fn woven(alloc: Global, client: &Indexed, policy: &Policy) -> Result<Woven, Refusal>
     requires sound { IsSound client.now }
@@ -317,46 +304,9 @@ fn outputs_of(
     ensures is { UnlessMemory (Equals (outputs_step folder.now program.now certificate.now)) result }
     ensures outputs { IfOk result (λ outputs. outputs ≡ outputs_of folder.now program.now certificate.now) }
 {
-    let mut outputs = class_outputs(alloc, folder, program.classes.as_slice())?;
-    match cert_format::encode(alloc, certificate) {
-        Ok(bytes) => {
-            outputs.push(certificate_output(alloc, folder, bytes)?)?;
-            Ok(outputs)
-        }
+    match output_files::outputs_of(alloc, folder, program, certificate) {
+        Ok(outputs) => Ok(outputs),
         Err(CertLong::Certificate { value }) => Err(Refusal::LongCertificate { value }),
         Err(CertLong::Memory) => Err(Refusal::Memory),
     }
-}
-
-fn class_outputs(
-    alloc: Global,
-    folder: &Bytes,
-    classes: &[LinkedClass],
-) -> Result<List<Output>, NoMemory>
-    ensures { IfOk result (λ outputs. outputs ≡ map (class_output folder.now) classes.now) }
-{
-    let mut outputs = List::new(alloc);
-    for class in classes {
-        outputs.push(class_output(alloc, folder, class)?)?;
-    }
-    Ok(outputs)
-}
-
-fn class_output(alloc: Global, folder: &Bytes, class: &LinkedClass) -> Result<Output, NoMemory>
-    ensures { IfOk result (λ output. output ≡ class_output folder.now class.now) }
-{
-    let mut name = folder.copy(alloc)?;
-    name.push(b'/')?;
-    name.extend(class.name.as_slice())?;
-    name.extend(b".class")?;
-    let bytes = class_codec::encode(alloc, &class.file)?;
-    Ok(Output { name, bytes })
-}
-
-fn certificate_output(alloc: Global, folder: &Bytes, bytes: Bytes) -> Result<Output, NoMemory>
-    ensures { IfOk result (λ output. output ≡ certificate_output folder.now bytes) }
-{
-    let mut name = folder.copy(alloc)?;
-    name.extend(b"/certificate")?;
-    Ok(Output { name, bytes })
 }

@@ -3,6 +3,7 @@ use Rattle.std.specs.Prelude.{ℕ, ◌==◌, ◌&&◌, ◌||◌, nat_le, Bool, t
 use Rattle.std.specs.List.{list_all}
 use Rattle.std.specs.Option.{option_map_or}
 use Rattle.api_listing.specs.declared.types.ListedMethod.{ListedMethod}
+use Rattle.api_listing.specs.declared.types.Listing.{Listing}
 use Rattle.bytecode_model.specs.declared.program.LinkedClass.{LinkedClass}
 use Rattle.bytecode_model.specs.declared.program.Method.{Method}
 use Rattle.bytecode_model.specs.declared.program.Program.{Program}
@@ -124,3 +125,13 @@ are_built_classes methods other = false
 
 abbrev pub is_built : Program → Bool
 is_built program = are_built_classes program.listing.methods program.classes
+
+-- ---- what is woven
+
+-- one class, and no other
+abbrev pub are_one_class : Listing → List LinkedClass → Bool
+are_one_class listing (client ∷ []) = is_built_class listing.methods client
+are_one_class listing other = false
+
+abbrev pub is_built_client : Program → Bool
+is_built_client program = are_one_class program.listing program.classes

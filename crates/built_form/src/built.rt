@@ -5,12 +5,14 @@ ghost use Rattle.std.specs.List.{AllByRecursion, list_all};
 ghost use Rattle.bytecode_model.specs.Sound.{IsSound};
 ghost use Rattle.class_codec.specs.Fits.{CanSpell};
 ghost use Rattle.block_logic.specs.Operands.{is_way_out};
-ghost use Rattle.inliner_tool.specs.Built.{
+ghost use Rattle.built_form.specs.Built.{
+  are_one_class,
   are_built,
   are_built_classes,
   is_built,
   is_built_call,
   is_built_class,
+  is_built_client,
   is_built_code,
   is_built_const,
   is_built_desc,
@@ -58,6 +60,16 @@ pub fn is_built(alloc: Global, program: &Program) -> Result<bool, NoMemory>
     }
 }
 
+/// Whether the program is one class of the form that is built so far.
+pub fn is_built_client(program: &Program) -> bool
+    ensures { result ≡ is_built_client program.now }
+{
+    match program.classes.as_slice() {
+        [client] => is_built_class(program.listing.methods.as_slice(), client),
+        _ => false,
+    }
+}
+
 /// Whether the class file is that of `conspec/State` for a policy without variables.
 fn is_state(alloc: Global, file: &ClassFile) -> Result<bool, NoMemory>
     requires { CanSpell file.now }
@@ -68,7 +80,7 @@ fn is_state(alloc: Global, file: &ClassFile) -> Result<bool, NoMemory>
 }
 
 /// Whether the class is of the form that is built so far.
-pub fn is_built_class(methods: &[ListedMethod], class: &LinkedClass) -> bool
+fn is_built_class(methods: &[ListedMethod], class: &LinkedClass) -> bool
     ensures { result ≡ is_built_class methods.now class.now }
 {
     class.parent.as_slice() == b"java/lang/Object".as_slice()

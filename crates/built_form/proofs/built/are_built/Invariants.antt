@@ -1,6 +1,6 @@
 use Rattle.std.proofs.Common.{◌≡◌, length}
-use Rattle.inliner_tool.specs.Built.{are_built}
-use Rattle.inliner_tool.proofs.built.are_built.Given as goal
+use Rattle.built_form.specs.Built.{are_built}
+use Rattle.built_form.proofs.built.are_built.Given as goal
 
 abbrev pub invariant-loop-insns : goal.invariant-loop-insns
 invariant-loop-insns l = are_built l.methods l.insns l.targets ≡ are_built l.methods l.fn.insns l.fn.targets

@@ -1,6 +1,6 @@
-use Rattle.inliner_tool.specs.Weaving.{class_output}
-use Rattle.inliner_tool.proofs.Planning.{map_push}
-use Rattle.inliner_tool.proofs.weaving.class_outputs.Goals as goal
+use Rattle.output_files.specs.Outputs.{class_output}
+use Rattle.output_files.proofs.Mapping.{map_push}
+use Rattle.output_files.proofs.outputs.class_outputs.Goals as goal
 
 pub loop-class-preserved : goal.loop-class-preserved
 loop-class-preserved c =

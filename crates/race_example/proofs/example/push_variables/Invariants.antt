@@ -1,7 +1,7 @@
 use Rattle.std.proofs.Common.{◌≡◌, ◌++◌, length}
 use Rattle.std.specs.List.{flat_map, zip}
-use Rattle.inliner_tool.specs.Race.{variable_behind}
-use Rattle.inliner_tool.proofs.example.push_variables.Given as goal
+use Rattle.race_example.specs.Example.{variable_behind}
+use Rattle.race_example.proofs.example.push_variables.Given as goal
 
 abbrev pub invariant-loop-vars_left : goal.invariant-loop-vars_left
 invariant-loop-vars_left l =

@@ -1,6 +1,6 @@
 use Rattle.std.proofs.Common.{◌≡◌, length}
-use Rattle.inliner_tool.specs.Built.{takes_ints}
-use Rattle.inliner_tool.proofs.built.takes_ints.Given as goal
+use Rattle.built_form.specs.Built.{takes_ints}
+use Rattle.built_form.proofs.built.takes_ints.Given as goal
 
 abbrev pub invariant-loop-left : goal.invariant-loop-left
 invariant-loop-left l = takes_ints l.left ≡ takes_ints l.text

@@ -2,7 +2,7 @@
 
 ghost use Rattle.std.specs.Prelude.{◌≡◌, ◌++◌, IfOk, OnOk};
 ghost use Rattle.std.specs.List.{flat_map, zip};
-ghost use Rattle.inliner_tool.specs.Race.{
+ghost use Rattle.race_example.specs.Example.{
   event_behind,
   example_text,
   second_behind,
@@ -15,26 +15,26 @@ ghost use Rattle.inliner_tool.specs.Race.{
 
 use api_listing::{Event, Listing};
 use conspec_automaton::State;
-use conspec_tree::Var;
+use conspec_tree::{PolicyTree, Var};
 use event_record::push_threadless;
-use input_files::RaceInputs;
 use mon_base::{Bytes, NoMemory, push_number};
 use std::alloc::Global;
 
-/// The state, and behind it the event or two, in their order.
+/// The state of the policy, and behind it the event or two, in their order.
 pub fn example_text(
     alloc: Global,
-    inputs: &RaceInputs,
+    policy: &PolicyTree,
+    listing: &Listing,
     state: &State,
     first: &Event,
     second: &Option<Event>,
 ) -> Result<Bytes, NoMemory>
-    ensures { IfOk result (λ text. text ≡ example_text inputs.now state.now first.now second.now) }
+    ensures { IfOk result (λ text. text ≡ example_text policy.now listing.now state.now first.now second.now) }
 {
     let mut text = Bytes::new(alloc);
-    push_state(&mut text, inputs.policy.vars.as_slice(), state.values())?;
-    push_event(&mut text, &inputs.listing, first)?;
-    push_second(&mut text, &inputs.listing, second)?;
+    push_state(&mut text, policy.vars.as_slice(), state.values())?;
+    push_event(&mut text, listing, first)?;
+    push_second(&mut text, listing, second)?;
     Ok(text)
 }
 
