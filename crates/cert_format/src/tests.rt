@@ -1,11 +1,10 @@
 //! Known certificates both ways, and where bytes that are none differ.
 
-ghost use Rattle.std.specs.Prelude.{◌<◌};
-
 use super::*;
 use mon_base::Bytes;
 use std::alloc::{AllocError, Global};
 use std::test::*;
+use test_bytes::bytes_of;
 
 /// A program of two classes, the first with one method of one instruction, before which the one local is an array of
 /// strings. The second has no method with code.
@@ -42,31 +41,6 @@ const STARTS: [usize; 97] = [
     119, 120, 121, 122, 124, 126, 127, 129, 130, 132, 133, 134, 136, 138, 139, 141, 142, 144, 145,
     146, 147, 148, 149, 150, 154, 155, 157, 159,
 ];
-
-fn digit(character: u8) -> u8
-    ensures { result < 16 }
-{
-    match character {
-        b'0'..=b'9' => character - b'0',
-        b'a'..=b'f' => character - b'a' + 10,
-        _ => 0,
-    }
-}
-
-fn push_line(bytes: &mut Vec<u8>, line: &[u8]) -> Result<(), AllocError> {
-    for i in 0..line.len() / 2 {
-        bytes.push(digit(line[2 * i]) * 16 + digit(line[2 * i + 1]))?;
-    }
-    Ok(())
-}
-
-fn bytes_of(alloc: Global, lines: &[&str]) -> Result<Vec<u8>, AllocError> {
-    let mut bytes = Vec::new(alloc);
-    for line in lines {
-        push_line(&mut bytes, line.as_bytes())?;
-    }
-    Ok(bytes)
-}
 
 /// Where the fault of the bytes is with one of them changed.
 fn fault_of(

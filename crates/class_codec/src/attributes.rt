@@ -2,7 +2,7 @@
 
 ghost use Rattle.std.specs.Prelude.{◌≡◌};
 ghost use Rattle.mon_base.specs.Answer.{Reads, ReadsAs};
-ghost use Rattle.class_codec.specs.Reading.{index_at, other_at, caught_at, table_entry_at, code_len_at};
+ghost use Rattle.class_codec.specs.Reading.{index_at, other_at, caught_at, table_entry_at};
 ghost use Rattle.class_codec.specs.Reading.{instructions_at, contents_at, code_at, named_at, attribute_at, member_at};
 ghost use Rattle.class_codec.specs.declared.pool.Kind.TheVariants as kinds;
 
@@ -160,26 +160,17 @@ fn contents(alloc: Global, pool: &[Const], name: u16, from: &mut Cursor) -> Resu
     })
 }
 
-/// The bytes of a method's code: their length, and that many bytes.
-#[tactic(auto, unfolding(crate::specs::Reading::instructions_at))]
+/// The bytes of a method's code: their length, which is 1 to 65,535, and that many bytes.
+#[tactic(auto, unfolding(crate::specs::Reading::code_len_at, crate::specs::Reading::instructions_at))]
 fn instructions<'a>(from: &mut Cursor<'a>) -> Result<&'a [u8], ClassFault>
     ensures { ReadsAs ClassFault.Memory (λ b. b.now) result (instructions_at from.old) from.new }
-{
-    let len = code_len(from)?;
-    taken(len as usize, from)
-}
-
-/// The length of a method's code, which is 1 to 65,535.
-#[tactic(auto, unfolding(crate::specs::Reading::code_len_at))]
-fn code_len(from: &mut Cursor) -> Result<u32, ClassFault>
-    ensures { Reads ClassFault.Memory result (code_len_at from.old) from.new }
 {
     let at = from.position();
     let len = u4(from)?;
     if len < 1 || 65535 < len {
         return Err(ClassFault::Index { at });
     }
-    Ok(len)
+    taken(len as usize, from)
 }
 
 /// The index of the class that is caught, or 0 for any.

@@ -172,7 +172,11 @@ fn contents_of(alloc: Global, code: &Code) -> Result<Bytes, NoMemory>
     ensures { IfOk result (λ bytes. bytes ≡ contents code.now) }
 {
     let mut out = Bytes::new(alloc);
-    put_contents(alloc, &mut out, code)?;
+    put_u2(&mut out, code.max_stack as usize)?;
+    put_u2(&mut out, code.max_locals as usize)?;
+    put_block(&mut out, code.code.as_slice())?;
+    put_counted(alloc, &mut out, code.table.as_slice())?;
+    put_counted(alloc, &mut out, code.attrs.as_slice())?;
     Ok(out)
 }
 
@@ -182,17 +186,6 @@ fn put_named(out: &mut Bytes, name: u16, bytes: &[u8]) -> Result<(), NoMemory>
 {
     put_u2(out, name as usize)?;
     put_block(out, bytes)
-}
-
-/// Appends what stands in a Code attribute.
-fn put_contents(alloc: Global, out: &mut Bytes, code: &Code) -> Result<(), NoMemory>
-    ensures { OnOk result (out.new ≡ out.old ++ contents code.now) }
-{
-    put_u2(out, code.max_stack as usize)?;
-    put_u2(out, code.max_locals as usize)?;
-    put_block(out, code.code.as_slice())?;
-    put_counted(alloc, out, code.table.as_slice())?;
-    put_counted(alloc, out, code.attrs.as_slice())
 }
 
 impl Spelled for Attr {

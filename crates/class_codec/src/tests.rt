@@ -2,12 +2,11 @@
 
 mod compiled;
 
-ghost use Rattle.std.specs.Prelude.{◌<◌};
-
 use super::*;
 use mon_base::Bytes;
 use std::alloc::{AllocError, Global};
 use std::test::*;
+use test_bytes::bytes_of;
 
 /// A class `a/E` with an empty `main`.
 const SMALL: [&str; 9] = [
@@ -39,31 +38,6 @@ const WIDE: [&str; 8] = [
     "0800010c00010003090002000b0a0002000b0b0002000b",
     "002100020002000100020001000000010003000000000000",
 ];
-
-fn digit(character: u8) -> u8
-    ensures { result < 16 }
-{
-    match character {
-        b'0'..=b'9' => character - b'0',
-        b'a'..=b'f' => character - b'a' + 10,
-        _ => 0,
-    }
-}
-
-fn push_line(bytes: &mut Vec<u8>, line: &[u8]) -> Result<(), AllocError> {
-    for i in 0..line.len() / 2 {
-        bytes.push(digit(line[2 * i]) * 16 + digit(line[2 * i + 1]))?;
-    }
-    Ok(())
-}
-
-fn bytes_of(alloc: Global, lines: &[&str]) -> Result<Vec<u8>, AllocError> {
-    let mut bytes = Vec::new(alloc);
-    for line in lines {
-        push_line(&mut bytes, line.as_bytes())?;
-    }
-    Ok(bytes)
-}
 
 /// The fault of the bytes with one of them changed.
 fn fault_of(

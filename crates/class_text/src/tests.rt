@@ -2,7 +2,7 @@
 
 mod classes;
 
-ghost use Rattle.std.specs.Prelude.{◌<◌, IfOk};
+ghost use Rattle.std.specs.Prelude.{IfOk};
 ghost use Rattle.class_codec.specs.Fits.{CanSpell};
 
 use super::*;
@@ -10,8 +10,9 @@ use api_listing::{Listing, read};
 use class_codec::{ClassFile, decode};
 use insn_codec::CodeFault;
 use mon_base::Bytes;
-use std::alloc::{AllocError, Global};
+use std::alloc::Global;
 use std::test::*;
+use test_bytes::bytes_of;
 
 const NET: &str = "class api/Net extends java/lang/Object\nstatic api/Net send ()V\n";
 
@@ -27,31 +28,6 @@ const SENDS_TEXT: &str = "class a/S extends java/lang/Object\n\
     method main ([Ljava/lang/String;)V stack 0 locals 1\n\
     0 0 invokestatic #13 api api/Net send ()V\n\
     1 3 return\n";
-
-fn digit(character: u8) -> u8
-    ensures { result < 16 }
-{
-    match character {
-        b'0'..=b'9' => character - b'0',
-        b'a'..=b'f' => character - b'a' + 10,
-        _ => 0,
-    }
-}
-
-fn push_line(bytes: &mut Vec<u8>, line: &[u8]) -> Result<(), AllocError> {
-    for i in 0..line.len() / 2 {
-        bytes.push(digit(line[2 * i]) * 16 + digit(line[2 * i + 1]))?;
-    }
-    Ok(())
-}
-
-fn bytes_of(alloc: Global, lines: &[&str]) -> Result<Vec<u8>, AllocError> {
-    let mut bytes = Vec::new(alloc);
-    for line in lines {
-        push_line(&mut bytes, line.as_bytes())?;
-    }
-    Ok(bytes)
-}
 
 /// The class file of the bytes.
 fn decoded(alloc: Global, bytes: &[u8]) -> Result<ClassFile, &'static str>

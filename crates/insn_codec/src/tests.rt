@@ -10,6 +10,7 @@ use super::*;
 use mon_base::{Bytes, List};
 use std::alloc::{AllocError, Global};
 use std::test::*;
+use test_bytes::bytes_of;
 
 /// Each instruction once, two more after `wide`, and a `return`.
 const EVERY: [&str; 5] = [
@@ -235,31 +236,6 @@ const WORDS: &str =
     lookupswitch ireturn areturn return getstatic putstatic getfield putfield invokevirtual \
     invokespecial invokestatic invokeinterface new newarray anewarray arraylength athrow \
     checkcast instanceof monitorenter monitorexit wide ifnull ifnonnull goto_w ";
-
-fn digit(character: u8) -> u8
-    ensures { result < 16 }
-{
-    match character {
-        b'0'..=b'9' => character - b'0',
-        b'a'..=b'f' => character - b'a' + 10,
-        _ => 0,
-    }
-}
-
-fn push_line(bytes: &mut Vec<u8>, line: &[u8]) -> Result<(), AllocError> {
-    for i in 0..line.len() / 2 {
-        bytes.push(digit(line[2 * i]) * 16 + digit(line[2 * i + 1]))?;
-    }
-    Ok(())
-}
-
-fn bytes_of(alloc: Global, lines: &[&str]) -> Result<Vec<u8>, AllocError> {
-    let mut bytes = Vec::new(alloc);
-    for line in lines {
-        push_line(&mut bytes, line.as_bytes())?;
-    }
-    Ok(bytes)
-}
 
 /// The bytes of the lines, 32,719 instructions that do nothing, and a `return`.
 fn long_code(alloc: Global, lines: &[&str]) -> Result<Vec<u8>, AllocError> {

@@ -1,0 +1,14 @@
+-- Bytes spelled in hexadecimal digits.
+use Rattle.std.specs.Prelude.{ℕ, ◌+◌, ◌-◌, ◌*◌, ◌&&◌, nat_le, List, [], ◌∷◌, if◌then◌else◌}
+
+-- the value of a digit; that of another character is 0
+abbrev pub digit : ℕ → ℕ
+digit c =
+    if nat_le 48 c && nat_le c 57 then c - 48
+    else if nat_le 97 c && nat_le c 102 then c - 97 + 10
+    else 0
+
+-- the bytes that pairs of digits spell
+abbrev pub spelled : List ℕ → List ℕ
+spelled (high ∷ low ∷ rest) = (16 * digit high + digit low) ∷ spelled rest
+spelled other = []
