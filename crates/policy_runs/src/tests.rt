@@ -7,10 +7,10 @@ ghost use Rattle.std.specs.Prelude.{IfOk};
 ghost use Rattle.conspec_automaton.specs.Sound.{IsPolicy};
 ghost use Rattle.policy_runs.specs.Listed.{IsOfListing};
 
-use api_listing::read;
 use conspec_automaton::{Policy, build};
 use conspec_parse::parse;
 use conspec_tree::PolicyTree;
+use listing_text::read;
 use std::alloc::Global;
 use std::test::Fail;
 
