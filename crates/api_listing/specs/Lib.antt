@@ -1,7 +1,6 @@
 pub mod BuiltIn
 pub mod Descriptor
 pub mod Fault
-pub mod FirstFault
 pub mod Lines
 pub mod Listing
 pub mod Nearest

@@ -1,35 +1,8 @@
-//! The pieces of a text, and the names of classes.
+//! The letters of names, and the names of classes.
 
-ghost use Rattle.std.specs.Prelude.{◌≡◌, ◌↔◌, IfOk, IsTrue, bytes_eq, map};
-ghost use Rattle.api_listing.specs.Words.{pieces, is_name_start, is_name_byte, is_segment, IsClassName};
+ghost use Rattle.std.specs.Prelude.{◌≡◌, ◌↔◌, IsTrue, bytes_eq};
+ghost use Rattle.api_listing.specs.Words.{is_name_start, is_name_byte, is_segment, IsClassName};
 ghost use Rattle.std.specs.List.{list_all};
-
-use mon_base::{Bytes, List, NoMemory};
-use std::alloc::{AllocError, Global};
-
-/// The pieces of the text before, between and behind the places of the byte.
-pub fn pieces(alloc: Global, text: &[u8], byte: u8) -> Result<List<Bytes>, NoMemory>
-    ensures { IfOk result (λ ps. ps ≡ pieces byte text.now) }
-{
-    let parts = parts_of(alloc, text, byte)?;
-    copies_of(alloc, parts.as_slice())
-}
-
-fn parts_of(alloc: Global, text: &[u8], byte: u8) -> Result<Vec<&[u8]>, AllocError>
-    ensures { IfOk result (λ v. map (λ p. p.now) v.items ≡ pieces byte text.now) }
-{
-    text.split(|b| *b == byte).collect(alloc)
-}
-
-fn copies_of(alloc: Global, parts: &[&[u8]]) -> Result<List<Bytes>, NoMemory>
-    ensures { IfOk result (λ ps. ps ≡ map (λ p. p.now) parts.now) }
-{
-    let mut copies = List::new(alloc);
-    for part in parts {
-        copies.push(Bytes::from_slice(alloc, part)?)?;
-    }
-    Ok(copies)
-}
 
 /// Whether a name may begin with the byte: a letter, `_` or `$`.
 pub fn starts_name(b: u8) -> bool

@@ -7,10 +7,11 @@ ghost use Rattle.std.specs.List.{AllByRecursion};
 ghost use Rattle.class_codec.specs.Fits.{CanSpell};
 ghost use Rattle.api_listing.specs.Listing.{IsFew};
 
-use api_listing::{Listing, read};
+use api_listing::Listing;
 use bytecode_model::Side;
 use class_codec::{ClassFile, decode};
 use class_linking::link;
+use listing_text::read;
 use mon_base::{Bytes, List, NoMemory, read_number};
 use std::alloc::Global;
 use std::env;

@@ -7,8 +7,8 @@ use Rattle.api_listing.specs.declared.descriptor.Element.{Element}
 use Rattle.api_listing.specs.declared.descriptor.Element.TheVariants as elements
 use Rattle.api_listing.specs.declared.descriptor.FieldType.{FieldType}
 use Rattle.api_listing.specs.declared.descriptor.MethodType.{MethodType}
-use Rattle.api_listing.specs.declared.lines.Declaration.{Declaration}
-use Rattle.api_listing.specs.declared.lines.Declaration.TheVariants as declared
+use Rattle.api_listing.specs.declared.declaration.Declaration.{Declaration}
+use Rattle.api_listing.specs.declared.declaration.Declaration.TheVariants as declared
 use Rattle.api_listing.specs.declared.types.ListedMethod.{ListedMethod}
 use Rattle.api_listing.specs.declared.types.Listing.{Listing}
 use Rattle.api_listing.specs.Descriptor as listed

@@ -7,8 +7,8 @@ use Rattle.std.proofs.lemmas.List.{length-append}
 use Rattle.std.proofs.lemmas.List.Elements.{filter_map-append}
 use Rattle.api_listing.specs.declared.types.ListedClass.{ListedClass}
 use Rattle.api_listing.specs.declared.types.Listing.{Listing}
-use Rattle.api_listing.specs.declared.lines.Declaration.{Declaration}
-use Rattle.api_listing.specs.declared.lines.Declaration.TheVariants.{Class, Method, Field}
+use Rattle.api_listing.specs.declared.declaration.Declaration.{Declaration}
+use Rattle.api_listing.specs.declared.declaration.Declaration.TheVariants.{Class, Method, Field}
 use Rattle.api_listing.specs.BuiltIn.{object, class_rows, built_in_classes}
 use Rattle.api_listing.specs.Lines.{SpellsKind, SpellsClassLine}
 use Rattle.api_listing.specs.Listing.{is_known, names_known, class_declared, listing_of, AreSaid, SpellsListing}

@@ -5,9 +5,10 @@ ghost use Rattle.class_codec.specs.Fits.{CanSpell};
 ghost use Rattle.api_listing.specs.Listing.{IsFew};
 
 use super::*;
-use api_listing::{Listing, read};
+use api_listing::Listing;
 use bytecode_model::{Program, Side, Target, unlink};
 use class_codec::{ClassFile, decode};
+use listing_text::read;
 use mon_base::{Bytes, List};
 use std::alloc::{AllocError, Global};
 use std::test::Fail;

@@ -6,9 +6,10 @@ ghost use Rattle.std.specs.Prelude.{IfOk};
 ghost use Rattle.class_codec.specs.Fits.{CanSpell};
 
 use super::*;
-use api_listing::{Listing, read};
+use api_listing::Listing;
 use class_codec::{ClassFile, decode};
 use insn_codec::CodeFault;
+use listing_text::read;
 use mon_base::Bytes;
 use std::alloc::Global;
 use std::test::*;

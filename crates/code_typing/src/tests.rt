@@ -6,11 +6,11 @@ mod objects;
 mod opcodes;
 
 use super::*;
-use api_listing::read;
 use bytecode_model::{Handler, Handlers, LinkedClass, Method, Program, Target};
 use cert_format::{FrameType, Typing, VType};
 use class_codec::{ClassFile, Const};
 use insn_codec::Insn;
+use listing_text::read;
 use mon_base::{Bytes, List, NoMemory};
 use std::alloc::Global;
 use std::process::Abort;

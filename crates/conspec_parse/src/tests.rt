@@ -3,7 +3,8 @@
 ghost use Rattle.std.specs.Prelude.{◌<◌, ◌^◌, length};
 
 use super::*;
-use api_listing::{Listing, read};
+use api_listing::Listing;
+use listing_text::read;
 use std::alloc::Global;
 use std::test::Fail;
 

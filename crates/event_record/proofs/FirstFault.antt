@@ -3,9 +3,8 @@ use Rattle.std.proofs.Common.{◌≡◌, ℕ, ◌+◌, ◌<◌, ◌≤◌, Bool,
 use Rattle.std.specs.Prelude.{◌&&◌, nat_lt, replicate}
 use Rattle.std.specs.List.{flat_map}
 use Rattle.mon_base.specs.Reading.{◌>>=◌}
-use Rattle.api_listing.specs.FirstFault.{IsLines}
+use Rattle.api_listing.specs.Words.{IsLines, pieces}
 use Rattle.api_listing.specs.Fault.{Read}
-use Rattle.api_listing.specs.Words.{pieces}
 use Rattle.api_listing.specs.declared.types.Listing.{Listing}
 use Rattle.api_listing.proofs.Pieces.{HasPiece, pieces_of_lines, some_piece}
 use Rattle.guest_model.specs.declared.machine.Step.{Step}

@@ -1,7 +1,6 @@
 -- Which texts have the same fault: those that agree up to its line.
 use Rattle.std.specs.Prelude.{◌≡◌, ℕ, ◌+◌, ◌≤◌, List, [], ◌∷◌, ◌++◌, length, Err}
-use Rattle.api_listing.specs.FirstFault.{IsLines}
-use Rattle.api_listing.specs.Words.{pieces}
+use Rattle.api_listing.specs.Words.{IsLines, pieces}
 use Rattle.api_listing.specs.declared.types.Listing.{Listing}
 use Rattle.event_record.specs.declared.entry.Entry.{Entry}
 use Rattle.event_record.specs.declared.fault.RecordFault.TheVariants.{Line}

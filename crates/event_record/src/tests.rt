@@ -4,7 +4,7 @@ mod faults;
 mod lines;
 
 use crate::{Record, RecordFault, read_record};
-use api_listing::read;
+use listing_text::read;
 use mon_base::Bytes;
 use std::alloc::Global;
 use std::test::Fail;

@@ -6,8 +6,8 @@ use Rattle.std.proofs.lemmas.Bool.{false≢true}
 use Rattle.std.proofs.lemmas.List.Elements.{filter_map-append}
 use Rattle.std.proofs.lemmas.List.Folds.{list_any-append}
 use Rattle.mon_base.specs.declared.method.MethodId.{MethodId}
-use Rattle.api_listing.specs.declared.lines.Declaration.{Declaration}
-use Rattle.api_listing.specs.declared.lines.Declaration.TheVariants.{Class, Method, Field}
+use Rattle.api_listing.specs.declared.declaration.Declaration.{Declaration}
+use Rattle.api_listing.specs.declared.declaration.Declaration.TheVariants.{Class, Method, Field}
 use Rattle.api_listing.specs.declared.types.ListedClass.{ListedClass}
 use Rattle.api_listing.specs.declared.types.Listing.{Listing}
 use Rattle.api_listing.specs.BuiltIn.{class_rows, built_in_classes, method_rows, is_method, is_built_in}

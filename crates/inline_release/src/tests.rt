@@ -1,13 +1,13 @@
 //! Small programs that are woven, against bytes that were worked out by hand.
 
 use crate::inline;
-use api_listing::read;
 use block_template::Woven;
 use bytecode_model::{Origin, Side};
 use class_codec::{Attr, ClassFile, Code, Const, Member, decode, encode};
 use class_linking::link;
 use conspec_automaton::{build, denies_only};
 use conspec_tree::{Kind, Phase, PolicyTree, TreeClause};
+use listing_text::read;
 use mon_base::{Bytes, List};
 use offset_patch::{Size, SpliceFault};
 use std::alloc::Global;

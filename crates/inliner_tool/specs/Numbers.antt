@@ -3,8 +3,8 @@ use Rattle.std.specs.Prelude.{ℕ, ℤ, List, [], ◌∷◌, ◌++◌, codes, de
 use Rattle.answer_text.specs.declared.field.Field.TheVariants.{Count, Number, Name}
 use Rattle.answer_text.specs.declared.field.Report.{Report}
 use Rattle.answer_text.specs.Fields.{report, within}
-use Rattle.api_listing.specs.declared.fault.ListFault.{ListFault}
-use Rattle.api_listing.specs.declared.fault.ListFault.TheVariants as listings
+use Rattle.listing_text.specs.declared.fault.ListFault.{ListFault}
+use Rattle.listing_text.specs.declared.fault.ListFault.TheVariants as listings
 use Rattle.class_linking.specs.declared.fault.LinkFault.{LinkFault}
 use Rattle.class_linking.specs.declared.fault.LinkFault.TheVariants as links
 use Rattle.cert_checker.specs.declared.fault.CheckFault.{CheckFault}

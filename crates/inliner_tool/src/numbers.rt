@@ -26,7 +26,6 @@ ghost use Rattle.inliner_tool.specs.Numbers.{
 };
 
 use answer_text::{Field, Report};
-use api_listing::ListFault;
 use cert_checker::CheckFault;
 use cert_format::CertForm;
 use class_codec::ClassFault;
@@ -35,6 +34,7 @@ use conspec_parse::PolicyFault;
 use event_record::RecordFault;
 use input_files::InputFault;
 use insn_codec::CodeFault;
+use listing_text::ListFault;
 use mon_base::{Bytes, NoMemory, push_count};
 use offset_patch::Size;
 use std::alloc::Global;

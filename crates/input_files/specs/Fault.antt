@@ -1,6 +1,6 @@
 -- How the faults of texts are those of files.
-use Rattle.api_listing.specs.declared.fault.ListFault.{ListFault}
-use Rattle.api_listing.specs.declared.fault.ListFault.TheVariants as listings
+use Rattle.listing_text.specs.declared.fault.ListFault.{ListFault}
+use Rattle.listing_text.specs.declared.fault.ListFault.TheVariants as listings
 use Rattle.class_codec.specs.declared.fault.ClassFault.{ClassFault}
 use Rattle.class_codec.specs.declared.fault.ClassFault.TheVariants as classes
 use Rattle.conspec_parse.specs.declared.fault.PolicyFault.{PolicyFault}

@@ -1,8 +1,8 @@
 -- The kinds of files: how long they may be, and what they are read as.
 use Rattle.std.specs.Prelude.{ℕ, length, Result, Ok, Err, if◌then◌else◌}
-use Rattle.api_listing.specs.declared.fault.ListFault.{ListFault}
+use Rattle.listing_text.specs.declared.fault.ListFault.{ListFault}
 use Rattle.api_listing.specs.declared.types.Listing.{Listing}
-use Rattle.api_listing.specs.Listing.{reading}
+use Rattle.listing_text.specs.Reading.{reading}
 use Rattle.cert_format.specs.declared.certificate.Certificate.{Certificate}
 use Rattle.cert_format.specs.declared.fault.CertForm.{CertForm}
 use Rattle.cert_format.specs.declared.fault.CertForm.TheVariants as forms

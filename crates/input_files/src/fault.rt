@@ -3,10 +3,10 @@
 ghost use Rattle.std.specs.Prelude.{◌≡◌};
 ghost use Rattle.input_files.specs.Fault.{class_told, listing_told, policy_told, record_told};
 
-use api_listing::ListFault;
 use class_codec::ClassFault;
 use conspec_parse::PolicyFault;
 use event_record::RecordFault;
+use listing_text::ListFault;
 
 /// Why a file is not read as what it is named for.
 #[derive(Clone, Copy, Debug, PartialEq, Eq)]

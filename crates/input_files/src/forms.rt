@@ -11,12 +11,13 @@ ghost use Rattle.mon_base.specs.Answer.{Answers};
 
 use crate::built_certificate::is_built_certificate;
 use crate::fault::{InputFault, class_told, listing_told, policy_told, record_told};
-use api_listing::{Listing, read};
+use api_listing::Listing;
 use cert_format::{CertForm, Certificate};
 use class_codec::ClassFile;
 use conspec_parse::parse;
 use conspec_tree::PolicyTree;
 use event_record::{Record, read_record};
+use listing_text::read;
 use std::alloc::Global;
 
 /// The greatest length of a listing, in bytes.

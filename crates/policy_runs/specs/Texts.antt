@@ -1,10 +1,11 @@
 -- What two texts are: a listing, and a policy over its methods.
 use Rattle.std.specs.Prelude.{◌≡◌, ℕ, List}
 use Rattle.mon_base.specs.Answer.{Fails}
-use Rattle.api_listing.specs.declared.fault.ListFault.{ListFault}
-use Rattle.api_listing.specs.declared.fault.ListFault.TheVariants as list_faults
+use Rattle.listing_text.specs.declared.fault.ListFault.{ListFault}
+use Rattle.listing_text.specs.declared.fault.ListFault.TheVariants as list_faults
 use Rattle.api_listing.specs.declared.types.Listing.{Listing}
-use Rattle.api_listing.specs.Listing.{SpellsListing, reading as listing_read}
+use Rattle.api_listing.specs.Listing.{SpellsListing}
+use Rattle.listing_text.specs.Reading.{reading as listing_read}
 use Rattle.conspec_parse.specs.declared.fault.PolicyFault.{PolicyFault}
 use Rattle.conspec_parse.specs.declared.fault.PolicyFault.TheVariants as policy_faults
 use Rattle.conspec_parse.specs.Meaning.{SpellsPolicy}

@@ -3,9 +3,9 @@
 ghost use Rattle.std.specs.Prelude.{◌≡◌, IfOk, IsErrOf};
 ghost use Rattle.policy_runs.specs.Texts.{IsOfTexts, IsNoListing, IsNoPolicy};
 
-use api_listing::{ListFault, read};
 use conspec_automaton::{Policy, build};
 use conspec_parse::{PolicyFault, parse};
+use listing_text::{ListFault, read};
 use std::alloc::Global;
 
 /// The text that is refused, with its fault; or memory ran out behind the reading.

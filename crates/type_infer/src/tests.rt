@@ -3,11 +3,11 @@
 use crate::body::Body;
 use crate::failing::{first_failing, rows_met};
 use crate::solving::solve;
-use api_listing::read;
 use bytecode_model::{Handler, Handlers, LinkedClass, Method, Program, Target};
 use cert_format::{FrameType, VType};
 use class_codec::{ClassFile, Const};
 use insn_codec::Insn;
+use listing_text::read;
 use mon_base::{Bytes, List, NoMemory};
 use std::alloc::Global;
 use std::test::Fail;

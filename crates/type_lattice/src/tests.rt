@@ -3,10 +3,11 @@
 ghost use Rattle.std.specs.Prelude.{◌≡◌, [], false, IfOk};
 
 use super::*;
-use api_listing::{ListedClass, read};
+use api_listing::ListedClass;
 use bytecode_model::{LinkedClass, Program};
 use cert_format::VType;
 use class_codec::{ClassFile, Const};
+use listing_text::read;
 use mon_base::{Bytes, List, NoMemory};
 use std::alloc::Global;
 use std::process::Abort;

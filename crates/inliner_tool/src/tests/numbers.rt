@@ -6,7 +6,6 @@ use crate::numbers::{
     total_report, unbuilt_report, untyped_report,
 };
 use answer_text::{Line, Reply, Report, text_of};
-use api_listing::ListFault;
 use cert_checker::CheckFault;
 use cert_format::CertForm;
 use class_codec::ClassFault;
@@ -15,6 +14,7 @@ use conspec_parse::PolicyFault;
 use event_record::RecordFault;
 use input_files::InputFault;
 use insn_codec::CodeFault;
+use listing_text::ListFault;
 use mon_base::{Bytes, NoMemory};
 use offset_patch::Size;
 use std::alloc::Global;

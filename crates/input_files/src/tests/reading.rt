@@ -2,7 +2,7 @@
 
 use super::files::{Edit, WORDS, files_with, is_unread, is_wrong, read};
 use crate::InputFault;
-use api_listing::ListFault;
+use listing_text::ListFault;
 use std::test::Fail;
 
 /// The files of a check in the order in which they are read, each with its place among the words.

@@ -2,9 +2,9 @@
 
 use super::files::{Edit, WORDS, files_with, is_wrong, read};
 use crate::InputFault;
-use api_listing::ListFault;
 use class_codec::ClassFault;
 use conspec_parse::PolicyFault;
+use listing_text::ListFault;
 use std::alloc::Global;
 use std::process::Abort;
 use std::test::Fail;

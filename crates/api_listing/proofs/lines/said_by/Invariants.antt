@@ -1,6 +1,0 @@
-use Rattle.std.proofs.Common.{◌≡◌, take, map}
-use Rattle.api_listing.specs.Lines.{said}
-use Rattle.api_listing.proofs.lines.said_by.Given as goal
-
-abbrev pub invariant-loop-line : goal.invariant-loop-line
-invariant-loop-line l = l.found ≡ map said (take l.line-index l.lines)

@@ -1,7 +1,0 @@
-use Rattle.std.proofs.Common.{◌≡◌, ℕ, List, take}
-use Rattle.api_listing.specs.Listing.{is_known, classes_in}
-use Rattle.api_listing.specs.Seen.{has_name}
-use Rattle.api_listing.proofs.reading.names_in.Given as goal
-
-abbrev pub invariant-loop-line : goal.invariant-loop-line
-invariant-loop-line l = (q : List ℕ) → has_name l.names q ≡ is_known (classes_in (take l.line-index l.lines)) q

@@ -1,0 +1,5 @@
+mod FirstFault
+mod Growing
+pub mod LineLaws
+mod Lists
+pub mod TextLaws

@@ -1,0 +1,4 @@
+pub mod FirstFault
+pub mod Growing
+pub mod Reading
+pub mod Saying
