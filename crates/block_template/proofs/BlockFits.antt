@@ -21,6 +21,16 @@ use Rattle.bytecode_model.specs.declared.program.Target.TheVariants as target
 use Rattle.conspec_automaton.specs.declared.policy.Clause.{Clause}
 use Rattle.conspec_automaton.specs.declared.policy.Policy.{Policy}
 use Rattle.block_template.specs.Blocks.{local, store, load, save, loads, lock, stop, unlock, denial, block, clause_of, locals_used, site, site_locals}
+use Rattle.insn_codec.specs.declared.opcodes.TheConstants.{
+  ILOAD,
+  ALOAD,
+  ILOAD_0,
+  ALOAD_0,
+  ISTORE,
+  ASTORE,
+  ISTORE_0,
+  ASTORE_0,
+}
 
 four : (P : ℕ → Type 0) → P 0 → P 1 → P 2 → P 3 → (k : ℕ) → k < 4 → P k
 four P a b c d zero h = a
@@ -43,25 +53,25 @@ local_fits short op slot shorts small is few = by (nat_lt slot 4) refl
     by true e = shorts slot (grind (arith, nat_tests))
     by false e = (small, is, slot_fits slot few)
 
-store_number : (slot : ℕ) → slot < 2 ^ 16 → IsBlockInsn (local 0x3B 0x36 slot)
+store_number : (slot : ℕ) → slot < 2 ^ 16 → IsBlockInsn (local ISTORE_0 ISTORE slot)
 unfolding opcode_at
 store_number slot few =
-    local_fits 0x3B 0x36 slot (four (λ k. IsBlockInsn (Plain (0x3B + k))) (omega arith, refl) (omega arith, refl) (omega arith, refl) (omega arith, refl)) (omega arith) refl few
+    local_fits ISTORE_0 ISTORE slot (four (λ k. IsBlockInsn (Plain (ISTORE_0 + k))) (omega arith, refl) (omega arith, refl) (omega arith, refl) (omega arith, refl)) (omega arith) refl few
 
-store_object : (slot : ℕ) → slot < 2 ^ 16 → IsBlockInsn (local 0x4B 0x3A slot)
+store_object : (slot : ℕ) → slot < 2 ^ 16 → IsBlockInsn (local ASTORE_0 ASTORE slot)
 unfolding opcode_at
 store_object slot few =
-    local_fits 0x4B 0x3A slot (four (λ k. IsBlockInsn (Plain (0x4B + k))) (omega arith, refl) (omega arith, refl) (omega arith, refl) (omega arith, refl)) (omega arith) refl few
+    local_fits ASTORE_0 ASTORE slot (four (λ k. IsBlockInsn (Plain (ASTORE_0 + k))) (omega arith, refl) (omega arith, refl) (omega arith, refl) (omega arith, refl)) (omega arith) refl few
 
-load_number : (slot : ℕ) → slot < 2 ^ 16 → IsBlockInsn (local 0x1A 0x15 slot)
+load_number : (slot : ℕ) → slot < 2 ^ 16 → IsBlockInsn (local ILOAD_0 ILOAD slot)
 unfolding opcode_at
 load_number slot few =
-    local_fits 0x1A 0x15 slot (four (λ k. IsBlockInsn (Plain (0x1A + k))) (omega arith, refl) (omega arith, refl) (omega arith, refl) (omega arith, refl)) (omega arith) refl few
+    local_fits ILOAD_0 ILOAD slot (four (λ k. IsBlockInsn (Plain (ILOAD_0 + k))) (omega arith, refl) (omega arith, refl) (omega arith, refl) (omega arith, refl)) (omega arith) refl few
 
-load_object : (slot : ℕ) → slot < 2 ^ 16 → IsBlockInsn (local 0x2A 0x19 slot)
+load_object : (slot : ℕ) → slot < 2 ^ 16 → IsBlockInsn (local ALOAD_0 ALOAD slot)
 unfolding opcode_at
 load_object slot few =
-    local_fits 0x2A 0x19 slot (four (λ k. IsBlockInsn (Plain (0x2A + k))) (omega arith, refl) (omega arith, refl) (omega arith, refl) (omega arith, refl)) (omega arith) refl few
+    local_fits ALOAD_0 ALOAD slot (four (λ k. IsBlockInsn (Plain (ALOAD_0 + k))) (omega arith, refl) (omega arith, refl) (omega arith, refl) (omega arith, refl)) (omega arith) refl few
 
 store_fits : (kind : Kind) (slot : ℕ) → slot < 2 ^ 16 → IsBlockInsn (store kind slot)
 store_fits kinds.Object slot few = store_object slot few
@@ -121,12 +131,12 @@ local_own short op slot = by (nat_lt slot 4)
     by false = record { once = λ insns. refl; stays = λ count. tt }
 
 store_own : (kind : Kind) (slot : ℕ) → IsOwn (store kind slot)
-store_own kinds.Object slot = local_own 0x4B 0x3A slot
-store_own kind slot = local_own 0x3B 0x36 slot
+store_own kinds.Object slot = local_own ASTORE_0 ASTORE slot
+store_own kind slot = local_own ISTORE_0 ISTORE slot
 
 load_own : (kind : Kind) (slot : ℕ) → IsOwn (load kind slot)
-load_own kinds.Object slot = local_own 0x2A 0x19 slot
-load_own kind slot = local_own 0x1A 0x15 slot
+load_own kinds.Object slot = local_own ALOAD_0 ALOAD slot
+load_own kind slot = local_own ILOAD_0 ILOAD slot
 
 save_own : (base : ℕ) (kinds : List Kind) → AllByRecursion IsOwn (save base kinds)
 save_own base [] = tt

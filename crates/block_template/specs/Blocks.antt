@@ -13,6 +13,22 @@ use Rattle.offset_patch.specs.declared.block.Block.{Block}
 use Rattle.offset_patch.specs.declared.block.BlockInsn.{BlockInsn}
 use Rattle.offset_patch.specs.declared.block.BlockInsn.TheVariants.{Plain, Byte, Local, Want, Call}
 use Rattle.offset_patch.specs.declared.block.PoolWant.TheVariants.{StateClass, Exit}
+use Rattle.insn_codec.specs.declared.opcodes.TheConstants.{
+  ACONST_NULL,
+  LDC_W,
+  ILOAD,
+  ALOAD,
+  ILOAD_0,
+  ALOAD_0,
+  ISTORE,
+  ASTORE,
+  ISTORE_0,
+  ASTORE_0,
+  INVOKESTATIC,
+  ATHROW,
+  MONITORENTER,
+  MONITOREXIT,
+}
 
 -- ---- locals
 
@@ -22,13 +38,13 @@ local short op slot = if nat_lt slot 4 then Plain (short + slot) else Local op s
 
 -- istore, and astore for a class or an array
 abbrev pub store : Kind → ℕ → BlockInsn
-store kinds.Object slot = local 0x4B 0x3A slot
-store number slot = local 0x3B 0x36 slot
+store kinds.Object slot = local ASTORE_0 ASTORE slot
+store number slot = local ISTORE_0 ISTORE slot
 
 -- iload, and aload
 abbrev pub load : Kind → ℕ → BlockInsn
-load kinds.Object slot = local 0x2A 0x19 slot
-load number slot = local 0x1A 0x15 slot
+load kinds.Object slot = local ALOAD_0 ALOAD slot
+load number slot = local ILOAD_0 ILOAD slot
 
 -- Each argument has a local of its own, from `base` on. The last one, which is on top, is stored first.
 abbrev pub save : ℕ → List Kind → List BlockInsn
@@ -43,15 +59,15 @@ loads base (kind ∷ others) = load kind base ∷ loads (base + 1) others
 
 -- ldc_w conspec/State; monitorenter
 abbrev pub lock : List BlockInsn
-lock = Want 0x13 StateClass ∷ Plain 0xC2 ∷ []
+lock = Want LDC_W StateClass ∷ Plain MONITORENTER ∷ []
 
 -- bipush 77; invokestatic java/lang/System.exit (I)V; aconst_null; athrow
 abbrev pub stop : List BlockInsn
-stop = Byte (pos 77) ∷ Want 0xB8 Exit ∷ Plain 0x01 ∷ Plain 0xBF ∷ []
+stop = Byte (pos 77) ∷ Want INVOKESTATIC Exit ∷ Plain ACONST_NULL ∷ Plain ATHROW ∷ []
 
 -- ldc_w conspec/State; monitorexit
 abbrev pub unlock : List BlockInsn
-unlock = Want 0x13 StateClass ∷ Plain 0xC3 ∷ []
+unlock = Want LDC_W StateClass ∷ Plain MONITOREXIT ∷ []
 
 -- the block of a denied call with such arguments, in a method whose locals end at `base`
 abbrev pub denial : ℕ → List Kind → Block

@@ -6,6 +6,10 @@ ghost use Rattle.offset_patch.specs.Fits.{IsBlock, IsBlockInsn};
 ghost use Rattle.block_template.specs.Blocks.{local, store, load, loads, save, lock, stop, unlock, denial};
 
 use conspec_tree::Kind;
+use insn_codec::opcodes::{
+    ACONST_NULL, ALOAD, ALOAD_0, ASTORE, ASTORE_0, ATHROW, ILOAD, ILOAD_0, INVOKESTATIC, ISTORE,
+    ISTORE_0, LDC_W, MONITORENTER, MONITOREXIT,
+};
 use mon_base::{List, NoMemory};
 use offset_patch::{Block, BlockInsn, PoolWant};
 use std::alloc::Global;
@@ -16,30 +20,30 @@ const EXIT_VALUE: i8 = 77;
 /// `ldc_w conspec/State; monitorenter`.
 const LOCK: [BlockInsn; 2] = [
     BlockInsn::Want {
-        op: 0x13,
+        op: LDC_W,
         want: PoolWant::StateClass,
     },
-    BlockInsn::Plain(0xC2),
+    BlockInsn::Plain(MONITORENTER),
 ];
 
 /// `ldc_w conspec/State; monitorexit`.
 const UNLOCK: [BlockInsn; 2] = [
     BlockInsn::Want {
-        op: 0x13,
+        op: LDC_W,
         want: PoolWant::StateClass,
     },
-    BlockInsn::Plain(0xC3),
+    BlockInsn::Plain(MONITOREXIT),
 ];
 
 /// `bipush 77; invokestatic java/lang/System.exit (I)V; aconst_null; athrow`.
 const STOP: [BlockInsn; 4] = [
     BlockInsn::Byte(EXIT_VALUE),
     BlockInsn::Want {
-        op: 0xB8,
+        op: INVOKESTATIC,
         want: PoolWant::Exit,
     },
-    BlockInsn::Plain(0x01),
-    BlockInsn::Plain(0xBF),
+    BlockInsn::Plain(ACONST_NULL),
+    BlockInsn::Plain(ATHROW),
 ];
 
 /// The block of a denied call with such arguments, in a method whose locals end at `base`.
@@ -101,8 +105,8 @@ fn store(kind: Kind, slot: u16) -> BlockInsn
     ensures { result ≡ store kind slot }
 {
     match kind {
-        Kind::Object => local(0x4B, 0x3A, slot),
-        _ => local(0x3B, 0x36, slot),
+        Kind::Object => local(ASTORE_0, ASTORE, slot),
+        _ => local(ISTORE_0, ISTORE, slot),
     }
 }
 
@@ -110,8 +114,8 @@ fn load(kind: Kind, slot: u16) -> BlockInsn
     ensures { result ≡ load kind slot }
 {
     match kind {
-        Kind::Object => local(0x2A, 0x19, slot),
-        _ => local(0x1A, 0x15, slot),
+        Kind::Object => local(ALOAD_0, ALOAD, slot),
+        _ => local(ILOAD_0, ILOAD, slot),
     }
 }
 

@@ -19,14 +19,37 @@ use Rattle.class_codec.specs.declared.tree.Member.{Member}
 use Rattle.class_codec.specs.Spelling.{spelling}
 use Rattle.insn_codec.specs.declared.insn.Insn.{Insn}
 use Rattle.insn_codec.specs.declared.insn.Insn.TheVariants as insns
+use Rattle.insn_codec.specs.declared.opcodes.TheConstants.{
+  ICONST_5,
+  LDC_W,
+  ILOAD,
+  ILOAD_0,
+  ILOAD_3,
+  ISTORE,
+  ISTORE_0,
+  ISTORE_3,
+  POP,
+  IADD,
+  ISUB,
+  IFEQ,
+  IFNE,
+  GOTO,
+  RETURN,
+  INVOKESTATIC,
+  ATHROW,
+  MONITORENTER,
+  MONITOREXIT,
+}
 
 -- ---- instructions
 
 -- nop, aconst_null, iconst_m1 to 5, iload_0 to 3, istore_0 to 3, pop, iadd, isub, return, athrow, monitorenter and -exit
 abbrev pub is_built_opcode : ℕ → Bool
 is_built_opcode op =
-    nat_le op 8 || ((nat_le 26 op && nat_le op 29) || ((nat_le 59 op && nat_le op 62)
-    || ((op == 87) || ((op == 96) || ((op == 100) || ((op == 177) || ((op == 191) || ((op == 194) || (op == 195)))))))))
+    nat_le op ICONST_5
+    || ((nat_le ILOAD_0 op && nat_le op ILOAD_3) || ((nat_le ISTORE_0 op && nat_le op ISTORE_3)
+    || ((op == POP) || ((op == IADD) || ((op == ISUB)
+    || ((op == RETURN) || ((op == ATHROW) || ((op == MONITORENTER) || (op == MONITOREXIT)))))))))
 
 -- `I` and `V` are the results that are built
 abbrev pub is_built_result : List ℕ → Bool
@@ -53,15 +76,15 @@ names_class other = false
 
 -- ldc_w of a class, and invokestatic
 abbrev pub is_built_use : List ListedMethod → ℕ → Target → Bool
-is_built_use methods op ref = ((op == 19) && names_class ref) || ((op == 184) && is_built_call methods ref)
+is_built_use methods op ref = ((op == LDC_W) && names_class ref) || ((op == INVOKESTATIC) && is_built_call methods ref)
 
 abbrev pub is_built_insn : List ListedMethod → Insn → Target → Bool
 is_built_insn methods (insns.Plain op) ref = is_built_opcode op
 is_built_insn methods (insns.Byte n) ref = true
 is_built_insn methods (insns.Short n) ref = true
 is_built_insn methods (insns.Pool op index) ref = is_built_use methods op ref
-is_built_insn methods (insns.Local op slot wide) ref = (op == 21) || (op == 54)
-is_built_insn methods (insns.Branch op to) ref = (op == 153) || ((op == 154) || (op == 167))
+is_built_insn methods (insns.Local op slot wide) ref = (op == ILOAD) || (op == ISTORE)
+is_built_insn methods (insns.Branch op to) ref = (op == IFEQ) || ((op == IFNE) || (op == GOTO))
 is_built_insn methods other ref = false
 
 abbrev pub are_built : List ListedMethod → List Insn → List Target → Bool

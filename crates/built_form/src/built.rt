@@ -33,6 +33,10 @@ use block_logic::is_way_out;
 use bytecode_model::{LinkedClass, Method, Program, Target};
 use class_codec::{Attr, ClassFile, Const, Member, encode};
 use insn_codec::Insn;
+use insn_codec::opcodes::{
+    ATHROW, GOTO, IADD, ICONST_5, IFEQ, IFNE, ILOAD, ILOAD_0, ILOAD_3, INVOKESTATIC, ISTORE,
+    ISTORE_0, ISTORE_3, ISUB, LDC_W, MONITORENTER, MONITOREXIT, POP, RETURN,
+};
 use mon_base::{List, NoMemory};
 use std::alloc::Global;
 
@@ -178,8 +182,8 @@ fn is_built_insn(methods: &[ListedMethod], insn: &Insn, target: &Target) -> bool
         Insn::Byte(_) => true,
         Insn::Short(_) => true,
         Insn::Pool { op, .. } => is_built_use(methods, *op, target),
-        Insn::Local { op, .. } => *op == 21 || *op == 54,
-        Insn::Branch { op, .. } => *op == 153 || *op == 154 || *op == 167,
+        Insn::Local { op, .. } => *op == ILOAD || *op == ISTORE,
+        Insn::Branch { op, .. } => *op == IFEQ || *op == IFNE || *op == GOTO,
         _ => false,
     }
 }
@@ -187,22 +191,22 @@ fn is_built_insn(methods: &[ListedMethod], insn: &Insn, target: &Target) -> bool
 fn is_built_opcode(op: u8) -> bool
     ensures { result ≡ is_built_opcode op }
 {
-    op <= 8
-        || (26 <= op && op <= 29)
-        || (59 <= op && op <= 62)
-        || op == 87
-        || op == 96
-        || op == 100
-        || op == 177
-        || op == 191
-        || op == 194
-        || op == 195
+    op <= ICONST_5
+        || (ILOAD_0 <= op && op <= ILOAD_3)
+        || (ISTORE_0 <= op && op <= ISTORE_3)
+        || op == POP
+        || op == IADD
+        || op == ISUB
+        || op == RETURN
+        || op == ATHROW
+        || op == MONITORENTER
+        || op == MONITOREXIT
 }
 
 fn is_built_use(methods: &[ListedMethod], op: u8, target: &Target) -> bool
     ensures { result ≡ is_built_use methods.now op target.now }
 {
-    (op == 19 && names_class(target)) || (op == 184 && is_built_call(methods, target))
+    (op == LDC_W && names_class(target)) || (op == INVOKESTATIC && is_built_call(methods, target))
 }
 
 fn names_class(target: &Target) -> bool

@@ -21,6 +21,7 @@ use Rattle.guest_model.specs.First.{BeginsWithCall, goes_on, is_done, SeesFirstC
 use Rattle.guest_model.specs.Places.{method_at, insn_in, insn_at, moved_to}
 use Rattle.guest_model.specs.Runs.{first_heap, start_of, stepped_or_same, seen, trace_from}
 use Rattle.guest_model.specs.Stepping.{running, begun, begun_with, main_argument, stepped}
+use Rattle.insn_codec.specs.declared.opcodes.TheConstants.{INVOKESTATIC}
 
 -- the machine with this one thread
 abbrev alone : Program → Thread → Machine
@@ -35,7 +36,7 @@ alone program thread = record {
 abbrev waiting : Frame → ℕ → Thread
 waiting frame listed = record { frames = moved_to frame frame.at frame.locals [] ∷ []; to_begin = []; doing = doings.InCall listed None [] }
 
-called : (program : Program) (frame : Frame) (index listed : ℕ) (m : ListedMethod) → insn_at program frame ≡ Some (insns.Pool 184 index, target.ApiMethod listed) → slice_get program.listing.methods listed ≡ Some m
+called : (program : Program) (frame : Frame) (index listed : ℕ) (m : ListedMethod) → insn_at program frame ≡ Some (insns.Pool INVOKESTATIC index, target.ApiMethod listed) → slice_get program.listing.methods listed ≡ Some m
     → m.is_static ≡ true → arity m.id.desc ≡ 0 → frame.stack.items ≡ []
     → stepped program (alone program (running (frame ∷ []) [])) goes_on ≡ Some (alone program (waiting frame listed), Some (events.Call 0 listed []))
 called program frame index listed m at named static takes empty = rw (at, named, static, takes, empty) refl
@@ -53,7 +54,7 @@ sees_first_call program index listed b =
     let arguments : List Value = if arity b.main.desc == 0 then [] else main_argument program ∷ [] in
     let frame : Frame = begun_with program program.main_class program.main_method b.main arguments in
     let begins : start_of program ≡ alone program (running (frame ∷ []) []) = rw b.there refl in
-    let at : insn_at program frame ≡ Some (insns.Pool 184 index, target.ApiMethod listed) = ap (option_and_then (λ (method : Method). insn_in method 0)) b.there ∙ b.first in
+    let at : insn_at program frame ≡ Some (insns.Pool INVOKESTATIC index, target.ApiMethod listed) = ap (option_and_then (λ (method : Method). insn_in method 0)) b.there ∙ b.first in
     let seen_two = two_seen program (alone program (running (frame ∷ []) [])) (alone program (waiting frame listed)) _ (events.Call 0 listed []) (events.Return 0 listed None)
     (called program frame index listed b.method at b.named b.static (ap length b.takes) refl) (returned program frame listed b.method b.named b.gives) in
     subst (λ (m : Machine). trace_from program m (goes_on ∷ is_done ∷ []) ≡ events.Call 0 listed [] ∷ events.Return 0 listed None ∷ []) (sym begins) seen_two

@@ -12,13 +12,14 @@ use Rattle.guest_model.specs.declared.machine.Step.{Step}
 use Rattle.guest_model.specs.Calls.{types_of}
 use Rattle.guest_model.specs.Places.{method_at, insn_in}
 use Rattle.guest_model.specs.Runs.{trace}
+use Rattle.insn_codec.specs.declared.opcodes.TheConstants.{INVOKESTATIC}
 
 -- The first instruction of main calls a static method of the library that takes and gives nothing.
 pub record BeginsWithCall (program : Program) (index listed : ℕ) : Type 0 where
   pub main : Method
   pub method : ListedMethod
   pub there : method_at program program.main_class program.main_method ≡ Some main
-  pub first : insn_in main 0 ≡ Some (insns.Pool 184 index, target.ApiMethod listed)
+  pub first : insn_in main 0 ≡ Some (insns.Pool INVOKESTATIC index, target.ApiMethod listed)
   pub named : slice_get program.listing.methods listed ≡ Some method
   pub static : method.is_static ≡ true
   pub takes : (types_of method.id.desc).arguments ≡ []
