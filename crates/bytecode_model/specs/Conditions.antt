@@ -79,8 +79,8 @@ code_in (attributes.Other other) = None
 abbrev pub codes_of : Member → List Code
 codes_of member = filter_map code_in member.attrs
 
-abbrev pub is_named : Name → Name → List Const → Member → Bool
-is_named name desc pool member = bytes_eq (name_of pool member) name && bytes_eq (desc_of pool member) desc
+abbrev pub has_signature : Name → Name → List Const → Member → Bool
+has_signature name desc pool member = bytes_eq (name_of pool member) name && bytes_eq (desc_of pool member) desc
 
 -- neither native, nor abstract and static, nor an abstract maker
 abbrev pub has_good_flags : List Const → Member → Bool
@@ -97,7 +97,7 @@ is_good_initialiser pool member =
 abbrev pub is_begun_unlocked : List Const → Member → Bool
 is_begun_unlocked pool member =
     not (is_synchronized member.flags
-    && (is_named main_name main_desc pool member || (bytes_eq (name_of pool member) initialiser || is_named run_name takes_nothing pool member)))
+    && (has_signature main_name main_desc pool member || (bytes_eq (name_of pool member) initialiser || has_signature run_name takes_nothing pool member)))
 
 -- whether the text is the descriptor of a method
 abbrev pub describes_method : List ℕ → Bool

@@ -1,6 +1,7 @@
 pub mod Heads
 pub mod Classes
 pub mod Arrays
+pub mod Lending
 pub mod Assigning
 pub mod Described
 pub mod SearchOrder

@@ -1,7 +1,9 @@
 //! Arrays, which are named by their descriptors.
 
-ghost use Rattle.std.specs.Prelude.{◌≡◌};
-ghost use Rattle.bytecode_model.specs.Arrays.{is_array};
+ghost use Rattle.std.specs.Prelude.{◌≡◌, ◌++◌, OnOk};
+ghost use Rattle.bytecode_model.specs.Arrays.{described, is_array};
+
+use mon_base::{Bytes, NoMemory};
 
 /// Whether a name is the descriptor of an array.
 pub fn is_array(name: &[u8]) -> bool
@@ -11,4 +13,16 @@ pub fn is_array(name: &[u8]) -> bool
         [] => false,
         [first, ..] => *first == b'[',
     }
+}
+
+/// Appends the descriptor of a class or an array.
+pub fn push_described(out: &mut Bytes, name: &[u8]) -> Result<(), NoMemory>
+    ensures { OnOk result (out.new ≡ out.old ++ described name.now) }
+{
+    if is_array(name) {
+        return out.extend(name);
+    }
+    out.push(b'L')?;
+    out.extend(name)?;
+    out.push(b';')
 }

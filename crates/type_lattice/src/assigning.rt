@@ -5,12 +5,12 @@ ghost use Rattle.bytecode_model.specs.Arrays.{is_array};
 ghost use Rattle.bytecode_model.specs.Assigning.{class_name, named, reference_of, class_fits, leaf_fits};
 ghost use Rattle.bytecode_model.specs.Assigning.{component_fits, array_fits, name_fits, assignable};
 ghost use Rattle.bytecode_model.specs.Arrays.{array_of, described};
-ghost use Rattle.type_lattice.specs.Lending.{type_lent};
-ghost use Rattle.type_lattice.specs.declared.lending.TypeRef.{TypeRef};
+ghost use Rattle.bytecode_model.specs.Lending.{type_lent};
+ghost use Rattle.bytecode_model.specs.declared.lending.TypeRef.{TypeRef};
 ghost use Rattle.cert_format.specs.declared.typing.VType.TheVariants.{Ref};
 
 use crate::indexed::{Indexed, is_below, is_interface};
-use crate::lending::{TypeRef, lend};
+use bytecode_model::{TypeRef, is_array, lend};
 use cert_format::VType;
 
 /// The class that each other is below, and each array.
@@ -160,16 +160,6 @@ pub fn reference_of<'a>(component: &'a [u8]) -> Option<&'a [u8]>
         Some(component)
     } else {
         named(component)
-    }
-}
-
-/// Whether the name is that of an array.
-pub fn is_array(text: &[u8]) -> bool
-    ensures { result ≡ is_array text.now }
-{
-    match text {
-        [] => false,
-        [first, ..] => *first == b'[',
     }
 }
 

@@ -12,7 +12,6 @@ mod ending;
 mod hierarchy;
 mod indexed;
 mod laws;
-mod lending;
 mod merging;
 mod ways;
 
@@ -20,7 +19,6 @@ pub use assigning::{assignable, fits_class, lent_fits};
 pub use hierarchy::Hierarchy;
 pub use indexed::{Indexed, is_below, is_interface};
 pub use laws::{assignable_is_an_order, merge_is_the_least};
-pub use lending::{TypeRef, lend, own};
 pub use merging::merge;
 
 #[cfg(test)]

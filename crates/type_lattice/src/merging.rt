@@ -7,8 +7,9 @@ ghost use Rattle.bytecode_model.specs.Arrays.{described};
 ghost use Rattle.type_lattice.specs.Merging.{class_above, class_merged, leaf_merged, items_merged};
 ghost use Rattle.type_lattice.specs.Merging.{both_within, arrays_merged, names_merged, merged};
 
-use crate::assigning::{OBJECT, is_array, reference_of};
+use crate::assigning::{OBJECT, reference_of};
 use crate::indexed::{Indexed, first_above, is_interface};
+use bytecode_model::{is_array, push_described};
 use cert_format::VType;
 use mon_base::{Bytes, NoMemory};
 use std::alloc::Global;
@@ -40,18 +41,6 @@ fn leaf_merged<'a>(program: &'a Indexed, a: &'a [u8], b: &[u8]) -> &'a [u8]
     } else {
         class_merged(program, a, b)
     }
-}
-
-/// Appends the descriptor of a class or an array.
-pub fn push_described(out: &mut Bytes, name: &[u8]) -> Result<(), NoMemory>
-    ensures { OnOk result (out.new ≡ out.old ++ described name.now) }
-{
-    if is_array(name) {
-        return out.extend(name);
-    }
-    out.push(b'L')?;
-    out.extend(name)?;
-    out.push(b';')
 }
 
 /// Appends the array of these two items' merge, or else what is told.

@@ -1,8 +1,8 @@
 -- Types that are lent, and the type that each is.
 use Rattle.cert_format.specs.declared.typing.VType.{VType}
 use Rattle.cert_format.specs.declared.typing.VType.TheVariants as types
-use Rattle.type_lattice.specs.declared.lending.TypeRef.{TypeRef}
-use Rattle.type_lattice.specs.declared.lending.TypeRef.TheVariants as lent
+use Rattle.bytecode_model.specs.declared.lending.TypeRef.{TypeRef}
+use Rattle.bytecode_model.specs.declared.lending.TypeRef.TheVariants as lent
 use Rattle.bytecode_model.specs.Arrays.{array_of}
 
 abbrev pub type_lent : TypeRef → VType

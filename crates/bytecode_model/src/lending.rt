@@ -1,9 +1,9 @@
 //! Types that stand nowhere as a whole.
 
 ghost use Rattle.std.specs.Prelude.{◌≡◌, IfOk};
-ghost use Rattle.type_lattice.specs.Lending.{type_lent};
+ghost use Rattle.bytecode_model.specs.Lending.{type_lent};
 
-use crate::merging::push_described;
+use crate::arrays::push_described;
 use cert_format::VType;
 use mon_base::{Bytes, NoMemory};
 use std::alloc::Global;
