@@ -1,33 +1,15 @@
 -- The arguments that a descriptor tells, one after the other.
-use Rattle.std.proofs.Common.{◌≡◌, ℕ, zero, suc, ◌+◌, ◌-◌, ◌<◌, ◌≤◌, Bool, true, false, cond, List, [], ◌∷◌, map, Some, None, refl, ap, ◌∙◌, arith}
+use Rattle.std.proofs.Common.{◌≡◌, ℕ, Bool, true, false, cond, List, [], ◌∷◌, map, Some, None, refl, ap, ◌∙◌}
 use Rattle.cert_format.specs.declared.typing.VType.{VType}
 use Rattle.bytecode_model.specs.declared.program.Program.{Program}
 use Rattle.bytecode_model.specs.Assigning.{assignable}
-use Rattle.bytecode_model.specs.Described.{Descriptor, next_type, types_at}
+use Rattle.bytecode_model.specs.Described.{Descriptor}
 use Rattle.bytecode_model.specs.Makes.{type_at}
 use Rattle.bytecode_model.specs.Rules.{locals_fit}
 use Rattle.code_typing.specs.Steps.{behind_met, behind_fit}
 use Rattle.bytecode_model.specs.Wants.{all_met, to_described}
 use Rattle.code_typing.proofs.Choices.{some_is}
 use Rattle.code_typing.proofs.Fitting.{locals_fit-behind}
-
--- with i of n types behind, one more
-pub types_some : (n i : ℕ) (text : List ℕ) (r : Descriptor × List ℕ) → i < n → next_type text ≡ Some r → types_at (n - i) text ≡ r.0 ∷ types_at (n - (i + 1)) r.1
-unfolding types_at
-types_some n i text r less e =
-    let k : n - i ≡ suc (n - (i + 1)) = omega arith in
-    rw (k, e) refl
-
-pub types_end : (n : ℕ) (text : List ℕ) → next_type text ≡ None → types_at n text ≡ []
-unfolding types_at
-types_end zero text e = refl
-types_end (suc n) text e = rw e refl
-
-pub types_over : (n i : ℕ) (text : List ℕ) → n ≤ i → types_at (n - i) text ≡ []
-unfolding types_at
-types_over n i text less =
-    let none : n - i ≡ 0 = omega arith in
-    rw none refl
 
 -- ---- operands
 

@@ -1,31 +1,27 @@
-//! The frame after an instruction that is reached, and the one that a handler or a method begins with.
+//! The frame after an instruction that is reached, and the one that a method begins with.
 
-ghost use Rattle.std.specs.Prelude.{◌≡◌, ◌∷◌, [], ◌++◌, ◌≤◌, ℕ, false, true, List, length, map, option_map, IfOk, IsTrue, OnOk};
+ghost use Rattle.std.specs.Prelude.{◌≡◌, ◌++◌, ◌≤◌, ℕ, length, option_map, IfOk, IsTrue, OnOk};
 ghost use Rattle.std.specs.Option.{option_to_list};
-ghost use Rattle.bytecode_model.specs.declared.program.Method.{Method};
-ghost use Rattle.cert_format.specs.declared.typing.VType.{VType};
-ghost use Rattle.cert_format.specs.declared.typing.VType.TheVariants.{Ref};
-ghost use Rattle.type_lattice.specs.Lending.{type_lent};
-ghost use Rattle.bytecode_model.specs.Described.{types_at, type_described};
-ghost use Rattle.bytecode_model.specs.Makes.{form_yields, heap_yields, yields, stores, stack_after, local_after, type_at};
-ghost use Rattle.bytecode_model.specs.Rules.{arguments_typed, entry_locals, class_caught, when_thrown, taken, uses_local, Local};
+ghost use Rattle.bytecode_model.specs.Lending.{type_lent};
+ghost use Rattle.bytecode_model.specs.Described.{type_described};
+ghost use Rattle.bytecode_model.specs.Makes.{form_yields, heap_yields, yields, stack_after, local_after, type_at};
+ghost use Rattle.bytecode_model.specs.Rules.{arguments_typed, entry_locals, taken, Local};
 ghost use Rattle.bytecode_model.specs.Wants.{takes};
 
 use crate::change::{change_of, change_told};
-use crate::depth::split_top;
-use crate::described::{arguments_text, next_type, result_type, type_described};
-use crate::entry::{is_static, this_type};
-use crate::handlers::{class_caught, when_thrown};
+use crate::entry::this_type;
 use crate::locals::local_told;
 use crate::operands::count_taken;
-use crate::place::{PlaceRef, class_of, desc_referred};
-use crate::yielded::{array_named, constant_type, moved_from, put_back, read_type, type_at};
-use bytecode_model::{Handler, Method};
+use crate::place::{PlaceRef, desc_referred};
+use bytecode_model::{Method, TypeRef, own};
 use cert_format::{FrameType, VType};
+use frame_types::{
+    arguments_text, array_named, class_of, constant_type, count_after, is_static, moved_from,
+    next_type, put_back, read_type, result_type, split_top, type_at, type_described,
+};
 use insn_codec::{Heap, Shape, StackForm, depth_of, shape_of};
-use mon_base::{Bytes, List, NoMemory};
+use mon_base::{List, NoMemory};
 use std::alloc::Global;
-use type_lattice::{TypeRef, own};
 
 // ---- what is pushed
 
@@ -114,19 +110,6 @@ pub fn stack_after(
     Ok(stack)
 }
 
-/// How many locals there may be after an instruction that finds so many.
-fn count_after(shape: Shape, count: usize) -> usize
-    ensures stored { (j : ℕ) → result ≤ j → stores shape j ≡ false }
-    ensures found { count ≤ result }
-    ensures within { (method : Method) (locals : List VType) → count ≤ method.max_locals → uses_local method locals shape ≡ true
-        → result ≤ method.max_locals }
-{
-    match shape {
-        Shape::Store { slot, .. } => count.max(usize::from(slot) + 1),
-        _ => count,
-    }
-}
-
 /// The locals after it; one that is absent is Top.
 pub fn locals_after(
     alloc: Global,
@@ -149,27 +132,7 @@ pub fn locals_after(
     Ok(locals)
 }
 
-// ---- the frames that handlers and methods begin with
-
-/// The locals that a handler finds where one of these is left.
-pub fn locals_thrown(alloc: Global, locals: &[VType]) -> Result<List<VType>, NoMemory>
-    ensures { IfOk result (λ found. found ≡ map when_thrown locals.now) }
-{
-    let mut found = List::new(alloc);
-    for t in locals {
-        found.push(own(alloc, when_thrown(t))?)?;
-    }
-    Ok(found)
-}
-
-/// The operands that a handler finds.
-pub fn stack_thrown(alloc: Global, handler: &Handler) -> Result<List<VType>, NoMemory>
-    ensures { IfOk result (λ stack. stack ≡ Ref (class_caught handler.now) ∷ []) }
-{
-    let mut stack = List::new(alloc);
-    stack.push(VType::Ref(Bytes::from_slice(alloc, class_caught(handler))?))?;
-    Ok(stack)
-}
+// ---- the frame that a method begins with
 
 /// Appends the types of a method's arguments.
 fn push_arguments(alloc: Global, out: &mut List<VType>, method: &Method) -> Result<(), NoMemory>

@@ -1,20 +1,18 @@
 //! What becomes of the types that stay: an object that is made, and one that is forgotten.
 //! (The Java Virtual Machine Specification, section 4.10.2.4.)
 
-ghost use Rattle.std.specs.Prelude.{◌≡◌, option_map, option_copied};
+ghost use Rattle.std.specs.Prelude.{◌≡◌, option_copied};
 ghost use Rattle.cert_format.specs.declared.typing.VType.{VType};
-ghost use Rattle.cert_format.specs.declared.typing.VType.TheVariants.{Uninit};
 ghost use Rattle.insn_codec.specs.Shapes.{shape_of};
-ghost use Rattle.type_lattice.specs.Lending.{type_lent};
+ghost use Rattle.bytecode_model.specs.Lending.{type_lent};
 ghost use Rattle.code_typing.specs.Changing.{change_told};
-ghost use Rattle.bytecode_model.specs.Makes.{made_by, new_at, class_made, is_same_object, changed, changed_by, when_called};
-ghost use Rattle.bytecode_model.specs.Place.{target_or_none};
+ghost use Rattle.bytecode_model.specs.Makes.{class_made, is_same_object, changed, changed_by, when_called};
 
-use crate::place::{PlaceRef, calls_maker, class_of, class_referred};
-use bytecode_model::{Method, Target};
+use crate::place::{PlaceRef, calls_maker, class_referred};
+use bytecode_model::{TypeRef, lend};
 use cert_format::VType;
+use frame_types::{is_made_at, is_same_object, new_at};
 use insn_codec::{Heap, Shape, shape_of};
-use type_lattice::{TypeRef, lend};
 
 /// What becomes of the types that stay.
 #[derive(Clone, Copy)]
@@ -24,30 +22,6 @@ pub enum Change<'a> {
     Forget(u32),
     /// This receiver is a made object of the class.
     Make(&'a VType, &'a [u8]),
-}
-
-fn made_by<'a>(shape: Shape, target: Option<&'a Target>) -> &'a [u8]
-    ensures { result.now ≡ made_by shape (target_or_none (option_copied target.entry)) }
-{
-    match shape {
-        Shape::Heap(Heap::New) => class_of(target),
-        _ => b"".as_slice(),
-    }
-}
-
-/// The class of the `new` of this index, or none.
-fn new_at<'a>(method: &'a Method, i: u32) -> &'a [u8]
-    ensures { result.now ≡ new_at method.now i }
-{
-    match method.insns.as_slice().get(i as usize) {
-        None => b"".as_slice(),
-        Some(insn) => {
-            match method.refs.as_slice().get(i as usize) {
-                None => b"".as_slice(),
-                Some(target) => made_by(shape_of(insn), Some(target)),
-            }
-        }
-    }
 }
 
 /// The class of what a constructor that is called makes of this receiver, if it may.
@@ -72,27 +46,6 @@ pub fn class_made<'a>(place: &PlaceRef<'a>, receiver: &VType) -> Option<&'a [u8]
             }
         }
         _ => None,
-    }
-}
-
-/// Whether the types are of one object that is not made yet.
-pub fn is_same_object(object: &VType, t: &VType) -> bool
-    ensures { result ≡ is_same_object object.now t.now }
-{
-    match object {
-        VType::UninitThis => matches!(t, VType::UninitThis),
-        VType::Uninit(i) => is_made_at(*i, t),
-        _ => false,
-    }
-}
-
-/// Whether the type is that of an object of the `new` of this index.
-pub fn is_made_at(at: u32, t: &VType) -> bool
-    ensures { result ≡ is_same_object (Uninit at) t.now }
-{
-    match t {
-        VType::Uninit(other) => at == *other,
-        _ => false,
     }
 }
 

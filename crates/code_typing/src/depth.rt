@@ -1,21 +1,12 @@
 //! Rule 2: the operands are there, and there is room for what is pushed.
 
-ghost use Rattle.std.specs.Prelude.{◌≡◌, length};
-ghost use Rattle.bytecode_model.specs.Makes.{topmost, below};
+ghost use Rattle.std.specs.Prelude.{◌≡◌};
 ghost use Rattle.bytecode_model.specs.Rules.{Depth};
 
 use crate::operands::count_taken;
 use crate::place::PlaceRef;
 use crate::yielded::count_yielded;
-use cert_format::{FrameType, VType};
-
-/// The operands below the n topmost, and these.
-pub fn split_top(stack: &[VType], n: usize) -> (&[VType], &[VType])
-    ensures below { result.0.now ≡ below n stack.now }
-    ensures topmost { result.1.now ≡ topmost n stack.now }
-{
-    stack.split_at(stack.len().saturating_sub(n))
-}
+use cert_format::FrameType;
 
 /// Rule 2.
 pub fn is_deep(place: &PlaceRef, frame: &FrameType) -> bool

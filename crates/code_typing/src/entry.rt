@@ -5,13 +5,13 @@ ghost use Rattle.code_typing.specs.Steps.{behind_fit};
 ghost use Rattle.bytecode_model.specs.Described.{types_at, type_described};
 ghost use Rattle.bytecode_model.specs.Makes.{type_at};
 ghost use Rattle.bytecode_model.specs.Rules.{Entry, entry_locals, locals_fit, this_type};
-ghost use Rattle.type_lattice.specs.Lending.{type_lent};
-ghost use Rattle.bytecode_model.specs.Heads.{is_static};
+ghost use Rattle.bytecode_model.specs.Lending.{type_lent};
 
-use crate::described::{arguments_text, arity, next_type, type_described};
-use crate::place::{PlaceRef, is_maker};
+use crate::place::PlaceRef;
+use bytecode_model::TypeRef;
 use cert_format::{FrameType, VType};
-use type_lattice::{Indexed, TypeRef, lent_fits};
+use frame_types::{arguments_text, arity, is_maker, is_static, next_type, type_described};
+use type_lattice::{Indexed, lent_fits};
 
 /// Whether locals that hold nothing are assignable to these.
 fn are_top(program: &Indexed, to: &[VType]) -> bool
@@ -62,13 +62,6 @@ fn arguments_fit(program: &Indexed, text: &[u8], to: &[VType]) -> bool
         text = behind;
     }
     are_top(program, to)
-}
-
-/// Whether a method with these flags has no object.
-pub fn is_static(flags: u16) -> bool
-    ensures { result ≡ is_static flags }
-{
-    flags & 8 != 0
 }
 
 /// What an instance method finds in local 0.

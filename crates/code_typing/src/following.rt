@@ -9,12 +9,12 @@ ghost use Rattle.bytecode_model.specs.Makes.{yields};
 ghost use Rattle.bytecode_model.specs.Rules.{Successor, frame_of, goes_well, stack_fits};
 
 use crate::change::{Change, change_of, change_told};
-use crate::depth::split_top;
 use crate::locals::locals_take;
 use crate::operands::count_taken;
 use crate::place::PlaceRef;
 use crate::yielded::yields_fit;
 use cert_format::{FrameType, VType};
+use frame_types::split_top;
 use insn_codec::{Insn, goes_on, shape_of};
 use type_lattice::{Indexed, lent_fits};
 

@@ -2,47 +2,23 @@
 
 ghost use Rattle.std.specs.Prelude.{◌≡◌};
 ghost use Rattle.std.specs.List.{list_all};
-ghost use Rattle.type_lattice.specs.Lending.{type_lent};
-ghost use Rattle.bytecode_model.specs.Rules.{Caught, is_handled, covers, class_caught, when_thrown, local_caught, is_reference_to, is_alone, catches_well, locals_fit};
+ghost use Rattle.bytecode_model.specs.Rules.{
+  Caught,
+  is_handled,
+  covers,
+  class_caught,
+  local_caught,
+  is_alone,
+  catches_well,
+  locals_fit,
+};
 
 use crate::following::frame_of;
 use crate::place::PlaceRef;
 use bytecode_model::Handler;
 use cert_format::{FrameType, VType};
-use type_lattice::{Indexed, TypeRef, is_below, lend, lent_fits};
-
-/// The class that each other is below that is caught.
-const THROWABLE: &[u8] = b"java/lang/Throwable";
-
-/// The class of what is caught.
-pub fn class_caught(handler: &Handler) -> &[u8]
-    ensures { result.now ≡ class_caught handler.now }
-{
-    match &handler.class {
-        Some(class) => class.as_slice(),
-        None => THROWABLE,
-    }
-}
-
-/// A local as a handler finds it.
-pub fn when_thrown(t: &VType) -> TypeRef<'_>
-    ensures { type_lent result ≡ when_thrown t.now }
-{
-    match t {
-        VType::UninitThis => TypeRef::Top,
-        VType::Uninit(_) => TypeRef::Top,
-        _ => lend(t),
-    }
-}
-
-fn local_caught(locals: &[VType], j: usize) -> TypeRef<'_>
-    ensures { type_lent result ≡ local_caught locals.now j }
-{
-    match locals.get(j) {
-        Some(t) => when_thrown(t),
-        None => TypeRef::Top,
-    }
-}
+use frame_types::{THROWABLE, class_caught, is_alone, local_caught};
+use type_lattice::{Indexed, is_below, lent_fits};
 
 /// Whether the locals that a handler finds are assignable to these.
 fn locals_caught(program: &Indexed, locals: &[VType], to: &[VType]) -> bool
@@ -58,29 +34,6 @@ fn locals_caught(program: &Indexed, locals: &[VType], to: &[VType]) -> bool
         left = rest;
     }
     true
-}
-
-fn is_reference_to(class: &[u8], t: &VType) -> bool
-    ensures { result ≡ is_reference_to class.now t.now }
-{
-    match t {
-        VType::Ref(name) => name.as_slice() == class,
-        _ => false,
-    }
-}
-
-fn is_alone(class: &[u8], stack: &[VType]) -> bool
-    ensures { result ≡ is_alone class.now stack.now }
-{
-    match stack {
-        [] => false,
-        [first, rest @ ..] => {
-            match rest {
-                [] => is_reference_to(class, first),
-                [_, ..] => false,
-            }
-        }
-    }
 }
 
 /// Whether the handler's frame takes what is caught and the locals.

@@ -8,7 +8,6 @@
 mod after;
 mod change;
 mod depth;
-mod described;
 mod entry;
 mod fault;
 mod following;
@@ -23,13 +22,12 @@ mod typing;
 mod wanted;
 mod yielded;
 
-pub use after::{entry_locals, locals_after, locals_thrown, stack_after, stack_thrown};
-pub use change::is_same_object;
+pub use after::{entry_locals, locals_after, stack_after};
 pub use fault::TypeFault;
 pub use following::goes_well;
 pub use handlers::catches_well;
 pub use laws::{descriptors_agree, rows_follow_the_order, typed_effect, typed_is_closed};
-pub use place::{PlaceRef, is_maker};
+pub use place::PlaceRef;
 pub use row::is_alone_met;
 pub use typing::{check_row, check_typing, row_in};
 

@@ -2,43 +2,18 @@
 
 ghost use Rattle.std.specs.Prelude.{◌≡◌};
 ghost use Rattle.insn_codec.specs.Shapes.{shape_of};
-ghost use Rattle.type_lattice.specs.Lending.{type_lent};
+ghost use Rattle.bytecode_model.specs.Lending.{type_lent};
 ghost use Rattle.code_typing.specs.Changing.{local_told};
 ghost use Rattle.bytecode_model.specs.Makes.{stores, type_at};
-ghost use Rattle.bytecode_model.specs.Wants.{of_kind};
 ghost use Rattle.bytecode_model.specs.Rules.{Local, uses_local, locals_fit};
 
 use crate::change::{Change, change_told};
 use crate::place::PlaceRef;
-use crate::wanted::{is_number, of_kind};
-use crate::yielded::type_at;
-use bytecode_model::Method;
+use bytecode_model::TypeRef;
 use cert_format::{FrameType, VType};
-use insn_codec::{Kind, Shape, shape_of};
-use type_lattice::{Indexed, TypeRef, lent_fits};
-
-/// Whether the local in the place is of the kind.
-fn holds_kind(kind: Kind, locals: &[VType], slot: u16) -> bool
-    ensures { result ≡ of_kind kind (type_at locals.now slot) }
-{
-    match locals.get(usize::from(slot)) {
-        Some(t) => of_kind(kind, t),
-        None => false,
-    }
-}
-
-fn uses_local(method: &Method, locals: &[VType], shape: Shape) -> bool
-    ensures { result ≡ uses_local method.now locals.now shape }
-{
-    match shape {
-        Shape::Load { kind, slot } => slot < method.max_locals && holds_kind(kind, locals, slot),
-        Shape::Store { slot, .. } => slot < method.max_locals,
-        Shape::Increment { slot, .. } => {
-            slot < method.max_locals && holds_kind(Kind::Int, locals, slot)
-        }
-        _ => true,
-    }
-}
+use frame_types::{stores, type_at, uses_local};
+use insn_codec::{Shape, shape_of};
+use type_lattice::{Indexed, lent_fits};
 
 /// Rule 4.
 pub fn has_locals(place: &PlaceRef, frame: &FrameType) -> bool
@@ -46,15 +21,6 @@ pub fn has_locals(place: &PlaceRef, frame: &FrameType) -> bool
 {
     frame.locals.len() <= usize::from(place.method.max_locals)
         && uses_local(place.method, frame.locals.as_slice(), shape_of(place.insn))
-}
-
-fn stores(shape: Shape, j: usize) -> bool
-    ensures { result ≡ stores shape j }
-{
-    match shape {
-        Shape::Store { slot, .. } => j == usize::from(slot),
-        _ => false,
-    }
 }
 
 /// The type of a local afterwards.

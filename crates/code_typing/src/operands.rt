@@ -4,20 +4,36 @@ ghost use Rattle.std.specs.Prelude.{◌≡◌, ◌∷◌, ◌&&◌, [], length, 
 ghost use Rattle.code_typing.specs.Steps.{behind_met};
 ghost use Rattle.insn_codec.specs.Shapes.{shape_of};
 ghost use Rattle.bytecode_model.specs.Described.{types_at};
-ghost use Rattle.bytecode_model.specs.Wants.{all_met, anything, takes, takes_of, heap_takes, call_takes, to_written, to_own, to_receiver, to_result, to_arguments, to_described, returns_well, is_result_of};
+ghost use Rattle.bytecode_model.specs.Wants.{
+  all_met,
+  anything,
+  takes,
+  takes_of,
+  heap_takes,
+  call_takes,
+  to_written,
+  to_own,
+  to_receiver,
+  to_result,
+  to_arguments,
+  to_described,
+  returns_well,
+  is_result_of,
+};
 ghost use Rattle.bytecode_model.specs.Described.{result_type};
 ghost use Rattle.bytecode_model.specs.Place.{desc_referred};
 ghost use Rattle.insn_codec.specs.declared.shape.Heap.TheVariants as heap;
-ghost use Rattle.type_lattice.specs.Lending.{type_lent};
+ghost use Rattle.bytecode_model.specs.Lending.{type_lent};
 
-use crate::described::{arguments_text, arity, next_type, result_text, result_type};
-use crate::place::{
-    PlaceRef, calls_maker, class_referred, desc_referred, has_receiver, is_own_field,
-};
-use crate::wanted::{Wanted, is_this, one_is, three_are, to_class, to_described, two_are};
+use crate::place::{PlaceRef, calls_maker, class_referred, desc_referred, is_own_field};
+use crate::wanted::{Wanted, one_is, three_are, to_class, to_described, two_are};
+use bytecode_model::TypeRef;
 use cert_format::VType;
+use frame_types::{
+    arguments_text, arity, has_receiver, is_this, next_type, result_text, result_type,
+};
 use insn_codec::{Heap, How, Item, Kind, Shape, depth_of, shape_of};
-use type_lattice::{Indexed, TypeRef};
+use type_lattice::Indexed;
 
 // ---- how many
 

@@ -2,12 +2,12 @@
 
 ghost use Rattle.std.specs.Prelude.{◌≡◌, option_copied};
 ghost use Rattle.bytecode_model.specs.Operands.{index_of};
-ghost use Rattle.bytecode_model.specs.Place.{class_referred, name_referred, desc_referred, class_of, target_or_none};
-ghost use Rattle.bytecode_model.specs.Place.{has_receiver, calls_maker, is_own_field, is_maker};
+ghost use Rattle.bytecode_model.specs.Place.{class_referred, name_referred, desc_referred};
+ghost use Rattle.bytecode_model.specs.Place.{calls_maker, is_own_field};
 
 use bytecode_model::{LinkedClass, Method, Target, index_of};
 use class_codec::{Reference, reference_at};
-use insn_codec::{How, Insn};
+use insn_codec::Insn;
 use std::marker::Model;
 use type_lattice::Indexed;
 
@@ -71,26 +71,6 @@ pub fn desc_referred<'a>(place: &PlaceRef<'a>) -> &'a [u8]
     }
 }
 
-/// The class or the array type that is named, or none.
-pub fn class_of<'a>(target: Option<&'a Target>) -> &'a [u8]
-    ensures { result.now ≡ class_of (target_or_none (option_copied target.entry)) }
-{
-    match target {
-        Some(Target::ClassName(name)) => name.as_slice(),
-        _ => b"".as_slice(),
-    }
-}
-
-/// Whether a call has a receiver.
-pub fn has_receiver(how: How) -> bool
-    ensures { result ≡ has_receiver how }
-{
-    match how {
-        How::Static => false,
-        How::Virtual | How::Special | How::Interface => true,
-    }
-}
-
 /// Whether a call is of the method that makes an object.
 pub fn calls_maker(place: &PlaceRef) -> bool
     ensures { result ≡ calls_maker place.now }
@@ -106,11 +86,4 @@ pub fn is_own_field(place: &PlaceRef) -> bool
         Some(Target::Field { class, .. }) => *class == place.own,
         _ => false,
     }
-}
-
-/// Whether the method makes an object.
-pub fn is_maker(method: &Method) -> bool
-    ensures { result ≡ is_maker method.now }
-{
-    method.name.as_slice() == b"<init>".as_slice()
 }

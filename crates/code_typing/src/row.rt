@@ -3,7 +3,7 @@
 ghost use Rattle.std.specs.Prelude.{◌≡◌, ◌&&◌, option_copied};
 ghost use Rattle.bytecode_model.specs.Rules.{Depth, Operand, Local, Made, rule_failing, row_failing};
 
-use crate::depth::{is_deep, split_top};
+use crate::depth::is_deep;
 use crate::entry::is_entered;
 use crate::following::is_followed;
 use crate::handlers::is_caught;
@@ -12,6 +12,7 @@ use crate::made::is_made;
 use crate::operands::{are_operands, count_taken};
 use crate::place::PlaceRef;
 use cert_format::FrameType;
+use frame_types::split_top;
 
 /// Rule 3.
 fn has_operands(place: &PlaceRef, frame: &FrameType) -> bool

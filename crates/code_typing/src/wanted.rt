@@ -1,16 +1,14 @@
 //! What is wanted of operands and locals.
 
 ghost use Rattle.std.specs.Prelude.{◌≡◌, ◌∷◌, []};
-ghost use Rattle.bytecode_model.specs.Wants.{is_number, is_reference, is_made, is_array_type, is_this, of_kind};
 ghost use Rattle.bytecode_model.specs.Wants.{to_class, to_array, to_item, to_described, all_met};
 ghost use Rattle.code_typing.specs.Wanted.{want_of};
-ghost use Rattle.bytecode_model.specs.Arrays.{is_array};
 
-use crate::described::without_last;
-use bytecode_model::is_array;
+use bytecode_model::lend;
 use cert_format::VType;
+use frame_types::{is_array_type, is_made, is_number, of_kind, without_last};
 use insn_codec::{Item, Kind};
-use type_lattice::{Indexed, fits_class, lend};
+use type_lattice::{Indexed, fits_class};
 
 /// What is wanted of an operand.
 #[derive(Clone, Copy)]
@@ -28,60 +26,6 @@ pub enum Wanted<'a> {
     Class(&'a [u8]),
     /// What this descriptor tells.
     Described(&'a [u8]),
-}
-
-/// Whether it is a number.
-pub fn is_number(t: &VType) -> bool
-    ensures { result ≡ is_number t.now }
-{
-    matches!(t, VType::Int)
-}
-
-fn is_reference(t: &VType) -> bool
-    ensures { result ≡ is_reference t.now }
-{
-    match t {
-        VType::Top => false,
-        VType::Int => false,
-        _ => true,
-    }
-}
-
-fn is_made(t: &VType) -> bool
-    ensures { result ≡ is_made t.now }
-{
-    match t {
-        VType::Null => true,
-        VType::Ref(_) => true,
-        _ => false,
-    }
-}
-
-fn is_array_type(t: &VType) -> bool
-    ensures { result ≡ is_array_type t.now }
-{
-    match t {
-        VType::Null => true,
-        VType::Ref(name) => is_array(name.as_slice()),
-        _ => false,
-    }
-}
-
-/// Whether it is the object that this constructor makes.
-pub fn is_this(t: &VType) -> bool
-    ensures { result ≡ is_this t.now }
-{
-    matches!(t, VType::UninitThis)
-}
-
-/// Whether it is of the kind, as a load or a store tells it.
-pub fn of_kind(kind: Kind, t: &VType) -> bool
-    ensures { result ≡ of_kind kind t.now }
-{
-    match kind {
-        Kind::Int => is_number(t),
-        Kind::Reference => is_reference(t),
-    }
 }
 
 /// Whether it is assignable to the class or array of this name.

@@ -1,121 +1,21 @@
 //! What an instruction pushes. (The Java Virtual Machine Specification, section 6.5.)
 
-ghost use Rattle.std.specs.Prelude.{◌≡◌, ◌≤◌, ◌∷◌, [], ℕ, List, length, map, reverse, option_copied};
-ghost use Rattle.insn_codec.specs.Forms.{order_of};
-ghost use Rattle.type_lattice.specs.Lending.{type_lent};
-ghost use Rattle.bytecode_model.specs.Makes.{type_at, moved_from, form_yields, constant_type, item_type, read_type, array_named, call_yields, heap_yields, yields, yields_of};
-ghost use Rattle.bytecode_model.specs.Place.{target_or_none};
+ghost use Rattle.std.specs.Prelude.{◌≡◌, ◌≤◌, ◌∷◌, [], List, length, map};
+ghost use Rattle.bytecode_model.specs.Lending.{type_lent};
+ghost use Rattle.bytecode_model.specs.Makes.{moved_from, call_yields, heap_yields, yields, yields_of};
 ghost use Rattle.bytecode_model.specs.Rules.{stack_fits};
 ghost use Rattle.cert_format.specs.declared.typing.VType.{VType};
-ghost use Rattle.cert_format.specs.declared.typing.VType.TheVariants.{Ref};
 ghost use Rattle.bytecode_model.specs.Described.{result_type};
 
-use crate::described::{result_type, type_described};
-use crate::place::{PlaceRef, class_of, desc_referred};
-use bytecode_model::Target;
+use crate::place::{PlaceRef, desc_referred};
+use bytecode_model::TypeRef;
 use cert_format::VType;
-use insn_codec::{Heap, Item, Shape, StackForm, depth_of, shape_of};
-use type_lattice::{Indexed, TypeRef, lend, lent_fits};
-
-/// The type in a place, or Top.
-pub fn type_at(list: &[VType], i: usize) -> TypeRef<'_>
-    ensures { type_lent result ≡ type_at list.now i }
-{
-    match list.get(i) {
-        Some(t) => lend(t),
-        None => TypeRef::Top,
-    }
-}
-
-// ---- each type that is pushed
-
-/// The operands that a form puts back, counted from the top of those taken, the lowest first.
-pub fn put_back(form: StackForm) -> &'static [u8]
-    ensures value { result.now ≡ reverse (order_of form) }
-    ensures few { length result.now ≤ 6 }
-{
-    match form {
-        StackForm::Pop => b"".as_slice(),
-        StackForm::Pop2 => b"".as_slice(),
-        StackForm::Dup => b"\x00\x00".as_slice(),
-        StackForm::DupX1 => b"\x00\x01\x00".as_slice(),
-        StackForm::DupX2 => b"\x00\x02\x01\x00".as_slice(),
-        StackForm::Dup2 => b"\x01\x00\x01\x00".as_slice(),
-        StackForm::Dup2X1 => b"\x01\x00\x02\x01\x00".as_slice(),
-        StackForm::Dup2X2 => b"\x01\x00\x03\x02\x01\x00".as_slice(),
-        StackForm::Swap => b"\x00\x01".as_slice(),
-    }
-}
-
-/// The operand that a form puts back, counted from the top of those taken.
-pub fn moved_from(depth: u8, taken: &[VType], i: u8) -> TypeRef<'_>
-    ensures { type_lent result ≡ moved_from depth taken.now i }
-{
-    type_at(
-        taken,
-        usize::from(depth.saturating_sub(1).saturating_sub(i)),
-    )
-}
-
-/// The type of the constant that is named.
-pub fn constant_type<'a>(target: Option<&'a Target>) -> TypeRef<'a>
-    ensures { type_lent result ≡ constant_type (target_or_none (option_copied target.entry)) }
-{
-    match target {
-        Some(Target::Number(_)) => TypeRef::Int,
-        Some(Target::Literal(_)) => TypeRef::Ref(b"java/lang/String"),
-        Some(Target::ClassName(_)) => TypeRef::Ref(b"java/lang/Class"),
-        _ => TypeRef::Top,
-    }
-}
-
-/// The type of an item of the array of this name.
-fn item_described(name: &[u8]) -> TypeRef<'_>
-    ensures { type_lent result ≡ item_type (Ref name.now) }
-{
-    match name {
-        [] => TypeRef::Top,
-        [_, item @ ..] => type_described(item),
-    }
-}
-
-/// The type of an item that is read.
-pub fn read_type<'a>(item: Item, taken: &'a [VType]) -> TypeRef<'a>
-    ensures { type_lent result ≡ read_type item taken.now }
-{
-    match item {
-        Item::Reference => {
-            match taken {
-                [] => TypeRef::Top,
-                [array, ..] => read_from(array),
-            }
-        }
-        _ => TypeRef::Int,
-    }
-}
-
-fn read_from(array: &VType) -> TypeRef<'_>
-    ensures { type_lent result ≡ item_type array.now }
-{
-    match array {
-        VType::Null => TypeRef::Null,
-        VType::Ref(name) => item_described(name.as_slice()),
-        _ => TypeRef::Top,
-    }
-}
-
-/// The array that `newarray` makes.
-pub fn array_named(kind: u8) -> &'static [u8]
-    ensures { result.now ≡ array_named kind }
-{
-    match kind {
-        4 => b"[Z".as_slice(),
-        5 => b"[C".as_slice(),
-        8 => b"[B".as_slice(),
-        9 => b"[S".as_slice(),
-        _ => b"[I".as_slice(),
-    }
-}
+use frame_types::{
+    array_named, class_of, constant_type, moved_from, put_back, read_type, result_type, type_at,
+    type_described,
+};
+use insn_codec::{Heap, Shape, depth_of, shape_of};
+use type_lattice::{Indexed, lent_fits};
 
 // ---- whether the pushed are assignable
 

@@ -12,7 +12,8 @@ ghost use Rattle.type_infer.specs.Solving.{Left, IsKept, IsOfHeight, IsRaisedBy,
 
 use crate::told::Told;
 use cert_format::{FrameType, VType};
-use code_typing::{PlaceRef, is_maker, is_same_object, rows_follow_the_order};
+use code_typing::{PlaceRef, rows_follow_the_order};
+use frame_types::{is_maker, is_same_object};
 use insn_codec::{Heap, Shape, shape_of};
 use mon_base::{List, NoMemory};
 use std::alloc::Global;

@@ -30,9 +30,10 @@ use crate::work::Work;
 use bytecode_model::Handler;
 use cert_format::FrameType;
 use code_typing::{
-    PlaceRef, catches_well, goes_well, is_alone_met, locals_after, locals_thrown,
-    rows_follow_the_order, stack_after, stack_thrown,
+    PlaceRef, catches_well, goes_well, is_alone_met, locals_after, rows_follow_the_order,
+    stack_after,
 };
+use frame_types::{locals_thrown, stack_thrown};
 use insn_codec::{Insn, goes_on};
 use mon_base::NoMemory;
 use std::alloc::Global;

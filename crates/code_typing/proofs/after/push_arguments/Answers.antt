@@ -2,7 +2,7 @@ use Rattle.std.proofs.Common.{◌-◌, ◌+◌, ◌++◌, [], ◌∷◌, List, m
 use Rattle.std.proofs.lemmas.List.{append_assoc, append-nil}
 use Rattle.cert_format.specs.declared.typing.VType.{VType}
 use Rattle.bytecode_model.specs.Described.{Descriptor, type_described, types_at}
-use Rattle.code_typing.proofs.Describing.{types_some, types_end, types_over}
+use Rattle.frame_types.proofs.Describing.{types_some, types_end, types_over}
 use Rattle.code_typing.proofs.after.push_arguments.Goals as goal
 
 pub returns-in_default : goal.returns-in_default

@@ -4,7 +4,8 @@ use Rattle.bytecode_model.specs.Described.{Descriptor, type_described}
 use Rattle.bytecode_model.specs.Makes.{type_at}
 use Rattle.bytecode_model.specs.Rules.{locals_fit}
 use Rattle.code_typing.specs.Steps.{behind_fit}
-use Rattle.code_typing.proofs.Describing.{types_some, types_end, types_over, fit_some, fit_none}
+use Rattle.frame_types.proofs.Describing.{types_some, types_end, types_over}
+use Rattle.code_typing.proofs.Describing.{fit_some, fit_none}
 use Rattle.code_typing.proofs.entry.arguments_fit.Goals as goal
 
 pub returns-in_default : goal.returns-in_default

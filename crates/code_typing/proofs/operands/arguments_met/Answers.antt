@@ -1,7 +1,8 @@
 use Rattle.std.proofs.Common.{◌-◌, ◌+◌, List, map, sym, ap, ◌∙◌}
 use Rattle.bytecode_model.specs.Described.{Descriptor, types_at}
 use Rattle.bytecode_model.specs.Wants.{all_met, to_described}
-use Rattle.code_typing.proofs.Describing.{types_some, types_end, types_over, met_some, met_none}
+use Rattle.frame_types.proofs.Describing.{types_some, types_end, types_over}
+use Rattle.code_typing.proofs.Describing.{met_some, met_none}
 use Rattle.code_typing.proofs.operands.arguments_met.Goals as goal
 
 pub loop-preserved : goal.loop-preserved

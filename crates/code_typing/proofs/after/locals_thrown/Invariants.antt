@@ -1,6 +1,0 @@
-use Rattle.std.proofs.Common.{◌≡◌, map, take}
-use Rattle.bytecode_model.specs.Rules.{when_thrown}
-use Rattle.code_typing.proofs.after.locals_thrown.Given as goal
-
-abbrev pub invariant-loop-t : goal.invariant-loop-t
-invariant-loop-t l = l.found ≡ map when_thrown (take l.t-index l.locals)
