@@ -28,5 +28,6 @@ pub fn seen_is_enough()
         → next policy state e ≡ next policy state f }
     // So calls of two threads, or with two objects, are the same to it.
     ensures alike { (method thread other object another : ℕ) (class next : List ℕ)
-        → sight_of (events.Call thread method (api.Obj class object ∷ [])) ≡ sight_of (events.Call other method (api.Obj next another ∷ [])) }
+        → sight_of (events.Call thread method (api.Obj class object ∷ []))
+        ≡ sight_of (events.Call other method (api.Obj next another ∷ [])) }
 {}
