@@ -3,3 +3,4 @@ pub mod Ranges
 pub mod Built
 pub mod Obeying
 pub mod Turned
+mod Seeing

@@ -1,5 +1,6 @@
 pub mod Building
 pub mod Next
+pub mod Sight
 pub mod Range
 pub mod Sound
 pub mod Obeys

@@ -39,7 +39,7 @@ ends_same xs ys e = (pointwise_decides Decides-int_eq xs ys).1 e
 abbrev pub ends_alike : Values → Option (List Update) → Option (List Update) → Bool
 ends_alike state run turned = option_map_or (λ (end : Values). is_end end (option_map (updated state) turned)) (option_map (updated state) run) true
 
-turned_is : (policy : Policy) (d c : Clause) (state : Values) (first second : Event) → clause_of policy first ≡ Some d → clause_of policy second ≡ Some c
+pub turned_is : (policy : Policy) (d c : Clause) (state : Values) (first second : Event) → clause_of policy first ≡ Some d → clause_of policy second ≡ Some c
     → is_turned policy state first second ≡ ends_alike state (run_of d c state first second) (run_of c d state second first)
 turned_is policy d c state first second e f =
     ap (λ (o : Option Values). option_map_or (λ (end : Values). is_end end (after (next policy) state (second ∷ first ∷ []))) o true) (run_is policy d c state first second e f)

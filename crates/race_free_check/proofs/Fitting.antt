@@ -26,7 +26,7 @@ use Rattle.conspec_automaton.specs.Trying.{is_of_calls}
 use Rattle.race_free_check.proofs.EachChoice.{Choice, each_choice_has}
 use Rattle.race_free_check.proofs.Likening.{phase_after, phase_before, phase_exceptional}
 use Rattle.race_free_check.proofs.Members.{Has, map_has, place_of}
-use Rattle.race_free_check.proofs.Nearest.{ascending_has, near_within}
+use Rattle.race_free_check.proofs.Nearest.{near_within, of_ascending}
 use Rattle.race_free_check.proofs.Thresholds.{Within, is_within}
 use Rattle.race_free_check.proofs.Passing.{argument_constants, numbers_are, result_constants, results_are, tried_from}
 
@@ -40,7 +40,7 @@ listed_within low high x cs ordered (inr (inr h)) = near_within low high cs x h
 between_within : (low high x : ℤ) (cs : List ℤ) → low ≤ℤ pos 0 → pos 0 ≤ℤ high → Has (points_between low high cs) x → Within low high x
 between_within low high x [] l m (inl e) = record { least = omega (arith, ints); most = omega (arith, ints) }
 between_within low high x [] l m (inr h) = absurd h
-between_within low high x (c ∷ cs) l m h = listed_within low high x (c ∷ cs) (omega (arith, ints)) (ascending_has x (low ∷ high ∷ near low high (c ∷ cs)) h)
+between_within low high x (c ∷ cs) l m h = listed_within low high x (c ∷ cs) (omega (arith, ints)) (of_ascending x (low ∷ high ∷ near low high (c ∷ cs)) h)
 
 least_low : (kind : Kind) → least_of kind ≤ℤ pos 0
 least_low kinds.Int = omega (arith, ints)
@@ -174,7 +174,7 @@ module _ (policy : Policy) (sound : IsPolicy policy) where
 
   module _ (cs : List Clause) where
     int_points : (i : ℕ) (x : ℤ) → Has (named_points policy.maxint i false cs) x → Within (pos 0) policy.maxint x
-    int_points i x h = near_within (pos 0) policy.maxint (thresholds policy.maxint i cs) x (ascending_has x (near (pos 0) policy.maxint (thresholds policy.maxint i cs)) h)
+    int_points i x h = near_within (pos 0) policy.maxint (thresholds policy.maxint i cs) x (of_ascending x (near (pos 0) policy.maxint (thresholds policy.maxint i cs)) h)
 
     named_within : (i : ℕ) (is_bool : Bool) (x : ℤ) → Has (named_points policy.maxint i is_bool cs) x → Within (pos 0) (greatest policy.maxint is_bool) x
     named_within i true x (inl e) = record { least = omega (arith, ints); most = omega (arith, ints) }

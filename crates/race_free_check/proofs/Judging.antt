@@ -1,5 +1,5 @@
 -- The clauses of each trial are those of the policy, and what the decision says of the policy.
-use Rattle.std.proofs.Common.{◌≡◌, ◌≢◌, ◌⊎◌, inl, inr, ℕ, zero, suc, ◌+◌, Bool, true, false, cond, not, List, [], ◌∷◌, ◌++◌, filter, map, Option, Some, None, Result, Ok, Err, refl, sym, ap, subst, ◌∙◌}
+use Rattle.std.proofs.Common.{◌≡◌, ◌≢◌, ◌⊎◌, inl, inr, ℕ, zero, suc, ◌+◌, Bool, true, false, cond, not, List, [], ◌∷◌, ◌++◌, filter, map, Option, Some, None, Result, Ok, Err, refl, sym, ap, subst, ◌∙◌, arith}
 use Rattle.std.specs.Prelude.{IfOk, find, flat_map, slice_get}
 use Rattle.std.specs.List.{AllByRecursion, enumerate_from}
 use Rattle.std.specs.Option.{option_map_or}
@@ -21,12 +21,19 @@ use Rattle.race_free_check.proofs.Bounded.{all_joined}
 -- ---- the clauses of trials
 
 module _ (policy : Policy) where
-  abbrev IsPlacedIn : Placed → Type 0
-  IsPlacedIn c = IsClauseIn policy.vars policy.maxint c.1
+  record IsPlacedIn (c : Placed) : Type 0 where
+    pub sound : IsClauseIn policy.vars policy.maxint c.1
+    pub there : slice_get policy.clauses c.0 ≡ Some c.1
 
-  placed_all : (clauses : List Clause) (i : ℕ) → AllByRecursion (IsClauseIn policy.vars policy.maxint) clauses → AllByRecursion IsPlacedIn (enumerate_from i clauses)
-  placed_all [] i all = tt
-  placed_all (c ∷ clauses) i all = (all.0, placed_all clauses (i + 1) all.1)
+  placed_all : (clauses : List Clause) (i : ℕ) → AllByRecursion (IsClauseIn policy.vars policy.maxint) clauses → ((j : ℕ) → slice_get policy.clauses (i + j) ≡ slice_get clauses j)
+      → AllByRecursion IsPlacedIn (enumerate_from i clauses)
+  placed_all [] i all each = tt
+  placed_all (c ∷ clauses) i all each = (record { sound = all.0; there = here }, placed_all clauses (i + 1) all.1 later) where
+    here : slice_get policy.clauses i ≡ Some c
+    here = let same : i + 0 ≡ i = omega arith in subst (λ (n : ℕ). slice_get policy.clauses n ≡ Some c) same (each 0)
+
+    later : (j : ℕ) → slice_get policy.clauses ((i + 1) + j) ≡ slice_get clauses j
+    later j = let same : i + suc j ≡ (i + 1) + j = omega arith in subst (λ (n : ℕ). slice_get policy.clauses n ≡ slice_get clauses j) same (each (suc j))
 
   kept_all : (test : Placed → Bool) (cs : List Placed) → AllByRecursion IsPlacedIn cs → AllByRecursion IsPlacedIn (filter test cs)
   kept_all test [] all = tt
@@ -37,11 +44,11 @@ module _ (policy : Policy) where
 
   alone_all : (condition : ℕ) (cs : List Placed) → AllByRecursion IsPlacedIn cs → AllByRecursion (AreClausesOf policy) (map (alone condition) cs)
   alone_all condition [] all = tt
-  alone_all condition (c ∷ cs) all = (record { first = all.0; second = tt }, alone_all condition cs all.1)
+  alone_all condition (c ∷ cs) all = (record { first = all.0.sound; second = tt; first_there = all.0.there; second_there = tt }, alone_all condition cs all.1)
 
   both_all : (condition : ℕ) (c : Placed) (ds : List Placed) → IsPlacedIn c → AllByRecursion IsPlacedIn ds → AllByRecursion (AreClausesOf policy) (map (both condition c) ds)
   both_all condition c [] one all = tt
-  both_all condition c (d ∷ ds) one all = (record { first = one; second = all.0 }, both_all condition c ds one all.1)
+  both_all condition c (d ∷ ds) one all = (record { first = one.sound; second = all.0.sound; first_there = one.there; second_there = all.0.there }, both_all condition c ds one all.1)
 
   pairs_all : (condition : ℕ) (cs ds : List Placed) → AllByRecursion IsPlacedIn cs → AllByRecursion IsPlacedIn ds → AllByRecursion (AreClausesOf policy) (pairs condition cs ds)
   pairs_all condition [] ds first second = tt
@@ -50,7 +57,7 @@ module _ (policy : Policy) where
 
   pub trials_all : IsPolicy policy → AllByRecursion (AreClausesOf policy) (trials policy)
   trials_all sound =
-      let all = placed_all policy.clauses 0 sound.clauses in
+      let all = placed_all policy.clauses 0 sound.clauses (λ j. let same : 0 + j ≡ j = omega arith in ap (slice_get policy.clauses) same) in
       let calls = kept_all (λ (c : Placed). is_of_calls c.1.phase) (enumerate_from 0 policy.clauses) all in
       let ends = kept_all (λ (c : Placed). not (is_of_calls c.1.phase)) (enumerate_from 0 policy.clauses) all in
       all_joined (AreClausesOf policy)

@@ -25,5 +25,6 @@ pub mod Likening
 pub mod Fitting
 pub mod Comparing
 pub mod Trials
+pub mod Parting
 pub mod Enough
 pub mod Broken

@@ -156,6 +156,10 @@ found_passes p (z ∷ xs) x e = by (p z) refl e (found_passes p xs x) where
       record { there = inl same; passes = ap p (sym same) ∙ is }
   by false is some later = let m = later some in record { there = inr m.there; passes = m.passes }
 
+pub none_where : {X : Type 0} (p : X → Bool) (xs : List X) → ((x : X) → Has xs x → p x ≡ false) → find p xs ≡ None
+none_where p [] each = refl
+none_where p (z ∷ xs) each = rw (each z (inl refl)) (none_where p xs (λ x h. each x (inr h)))
+
 -- two tests that agree on the items find the same one
 pub same_found : {X : Type 0} (p q : X → Bool) (xs : List X) → ((x : X) → Has xs x → p x ≡ q x) → find p xs ≡ find q xs
 same_found p q [] each = refl

@@ -27,7 +27,7 @@ updates_of c = flat_map (λ (b : Branch). b.updates) c.branches
 atoms_alone : (c : Clause) → atoms_in (c ∷ []) ≡ atoms_of c
 atoms_alone c = append-nil (atoms_of c)
 
-updates_alone : (c : Clause) → updates_in (c ∷ []) ≡ updates_of c
+pub updates_alone : (c : Clause) → updates_in (c ∷ []) ≡ updates_of c
 updates_alone c = append-nil (updates_of c)
 
 atoms_both : (c d : Clause) → atoms_in (c ∷ d ∷ []) ≡ atoms_in (c ∷ []) ++ atoms_in (d ∷ [])

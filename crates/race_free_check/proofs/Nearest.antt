@@ -1,54 +1,33 @@
 -- Of each number that is in a range, numbers of a few are on the same side of each threshold.
 use Rattle.std.proofs.Common.{◌≡◌, ◌≢◌, ◌⊎◌, inl, inr, ℤ, pos, ◌+ℤ◌, Bool, true, false, List, [], ◌∷◌, refl, sym, subst, ◌∙◌, arith}
-use Rattle.std.specs.Prelude.{◌≤ℤ◌, ◌<ℤ◌, ◌-ℤ◌, if◌then◌else◌, int_lt, flat_map}
+use Rattle.std.specs.Prelude.{◌≤ℤ◌, ◌<ℤ◌, ◌-ℤ◌, flat_map}
 use Rattle.std.specs.Ordering.{int_eq}
+use Rattle.std.proofs.lemmas.Bool.{false≢true, or_cases}
 use Rattle.std.proofs.lemmas.Int.{ints, by_lt_z}
-use Rattle.conspec_automaton.specs.Points.{around, ascending, near, placed, points_between}
+use Rattle.conspec_automaton.specs.Points.{around, ascending, near, points_between}
 use Rattle.conspec_automaton.specs.Range.{is_between}
-use Rattle.race_free_check.proofs.Members.{Has, filter_has, in_filter, in_flat}
+use Rattle.race_free_check.specs.Small.{has}
+use Rattle.race_free_check.proofs.Members.{Has, filter_has, in_any, in_filter, in_flat}
+use Rattle.race_free_check.proofs.Rising.{ascending_has, equal_self}
 use Rattle.race_free_check.proofs.Thresholds.{Alike, Side, Within, above, below, differs, equals, is_within, side_itself, within}
 
 -- ---- lists that ascend
 
-in_placed : (n x : ℤ) (ms : List ℤ) → (n ≡ x) ⊎ Has ms x → Has (placed n ms) x
-in_placed n x [] (inl e) = inl e
-in_placed n x [] (inr h) = absurd h
-in_placed n x (m ∷ ms) h = by (int_lt n m) (int_eq n m) refl h (in_placed n x ms) where
-  by : (b c : Bool) → int_eq n m ≡ c → (n ≡ x) ⊎ Has (m ∷ ms) x → ((n ≡ x) ⊎ Has ms x → Has (placed n ms) x) → Has (if b then n ∷ m ∷ ms else if c then m ∷ ms else m ∷ placed n ms) x
-  by true c is (inl e) later = inl e
-  by true c is (inr k) later = inr k
-  by false true is (inl e) later = inl (sym (equals n m is) ∙ e)
-  by false true is (inr k) later = k
-  by false false is (inl e) later = inr (later (inl e))
-  by false false is (inr (inl e)) later = inl e
-  by false false is (inr (inr k)) later = inr (later (inr k))
+has_there : (x : ℤ) (ns : List ℤ) → Has ns x → has ns x ≡ true
+has_there x ns h = in_any (int_eq x) ns x h (equal_self x)
 
-placed_has : (n x : ℤ) (ms : List ℤ) → Has (placed n ms) x → (n ≡ x) ⊎ Has ms x
-placed_has n x [] (inl e) = inl e
-placed_has n x [] (inr h) = absurd h
-placed_has n x (m ∷ ms) h = by (int_lt n m) (int_eq n m) h (placed_has n x ms) where
-  deeper : (n ≡ x) ⊎ Has ms x → (n ≡ x) ⊎ Has (m ∷ ms) x
-  deeper (inl e) = inl e
-  deeper (inr k) = inr (inr k)
-
-  by : (b c : Bool) → Has (if b then n ∷ m ∷ ms else if c then m ∷ ms else m ∷ placed n ms) x → (Has (placed n ms) x → (n ≡ x) ⊎ Has ms x) → (n ≡ x) ⊎ Has (m ∷ ms) x
-  by true c (inl e) later = inl e
-  by true c (inr k) later = inr k
-  by false true k later = inr k
-  by false false (inl e) later = inr (inl e)
-  by false false (inr k) later = deeper (later k)
+there_has : (x : ℤ) (ns : List ℤ) → has ns x ≡ true → Has ns x
+there_has x [] e = absurd (false≢true e)
+there_has x (n ∷ ns) e = by (or_cases (int_eq x n) (has ns x) e) (there_has x ns) where
+  by : (int_eq x n ≡ true) ⊎ (has ns x ≡ true) → (has ns x ≡ true → Has ns x) → Has (n ∷ ns) x
+  by (inl same) later = inl (sym (equals x n same))
+  by (inr rest) later = inr (later rest)
 
 pub in_ascending : (x : ℤ) (ns : List ℤ) → Has ns x → Has (ascending ns) x
-in_ascending x [] h = absurd h
-in_ascending x (n ∷ ns) (inl e) = in_placed n x (ascending ns) (inl e)
-in_ascending x (n ∷ ns) (inr h) = in_placed n x (ascending ns) (inr (in_ascending x ns h))
+in_ascending x ns h = there_has x (ascending ns) (ascending_has ns x ∙ has_there x ns h)
 
-pub ascending_has : (x : ℤ) (ns : List ℤ) → Has (ascending ns) x → Has ns x
-ascending_has x [] h = h
-ascending_has x (n ∷ ns) h = by (placed_has n x (ascending ns) h) (ascending_has x ns) where
-  by : (n ≡ x) ⊎ Has (ascending ns) x → (Has (ascending ns) x → Has ns x) → Has (n ∷ ns) x
-  by (inl e) later = inl e
-  by (inr k) later = inr (later k)
+pub of_ascending : (x : ℤ) (ns : List ℤ) → Has (ascending ns) x → Has ns x
+of_ascending x ns h = there_has x ns (sym (ascending_has ns x) ∙ has_there x (ascending ns) h)
 
 -- ---- numbers beside thresholds
 

@@ -19,7 +19,7 @@ use Rattle.race_free_check.proofs.Nearest.{Near, in_ascending, itself, near_poin
 use Rattle.race_free_check.proofs.Moves.{Move, Stay, agree, moved}
 use Rattle.race_free_check.proofs.Thresholds.{Alike, differs, equals, side_itself, within}
 use Rattle.race_free_check.proofs.Sides.{Meets, Sided, mark_is, names_update}
-use Rattle.race_free_check.proofs.Updating.{got, moves, stays}
+use Rattle.race_free_check.proofs.Updating.{each_same, got, moves, stays}
 
 -- ---- one number
 
@@ -119,15 +119,6 @@ module _ (maxint : ℤ) (cs : List Clause) (us vs : List Update) where
   value_told i None (Some y) m e = absurd m
   value_told i (Some x) None m e = absurd m
   value_told i (Some x) (Some y) m e = ap Some (m.tells (same_Some (moved (moves us i) y) (moved (moves vs i) y) e))
-
-  each_same : (xs ys : Values) → ((i : ℕ) → slice_get xs i ≡ slice_get ys i) → xs ≡ ys
-  each_same [] [] each = refl
-  each_same [] (y ∷ ys) each = let e = each 0 in absurd cc
-  each_same (x ∷ xs) [] each = let e = each 0 in absurd cc
-  each_same (x ∷ xs) (y ∷ ys) each =
-      let first = same_Some x y (each 0) in
-      let rest = each_same xs ys (λ i. each (suc i)) in
-      cc
 
   -- where both lists of updates lead to the same from the point, they do from the state
   pub ends_told : (s p : Values) → StandsFor s p → updated p us ≡ updated p vs → updated s us ≡ updated s vs

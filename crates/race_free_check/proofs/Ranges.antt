@@ -1,4 +1,4 @@
--- The states that are tried are in range, and of each variable, argument and result there are points.
+-- There are points of each variable, argument and result, and so states and events.
 use Rattle.std.proofs.Common.{◌≡◌, ℕ, ◌+◌, ◌*◌, ◌/◌, ◌%◌, ◌<◌, ◌≤◌, ◌^◌, ℤ, pos, Bool, true, false, List, [], ◌∷◌, length, map, Option, Some, None, refl, sym, ap, subst, ◌∙◌, arith}
 use Rattle.std.specs.Prelude.{◌≤ℤ◌, ◌&&◌, int_le, nat_le, if◌then◌else◌}
 use Rattle.std.specs.List.{AllByRecursion, enumerate_from}
@@ -27,38 +27,12 @@ use Rattle.race_free_check.proofs.Making.{events_counted}
 use Rattle.race_free_check.proofs.Numbered.{number_all, split}
 use Rattle.race_free_check.proofs.Sizes.{capped_few, some_between, some_points}
 
--- ---- states in range
-
-is_le : (n m : ℤ) → n ≤ℤ m → int_le n m ≡ true
-is_le n m h = grind (arith, ints)
-
 some_product : (a b : ℕ) → 0 < a → 0 < b → 0 < a * b
 some_product a b first second = let le = mul-le-mul_left {m = 1} {n = b} a (omega arith) in omega arith
 
 module _ (maxint : ℤ) (cs : List Clause) where
-  named_within : (i : ℕ) (is_bool : Bool) → AllByRecursion (λ n. is_between (pos 0) (greatest maxint is_bool) n ≡ true) (named_points maxint i is_bool cs)
-  named_within i true = (refl, (refl, tt))
-  named_within i false =
-      ascending_all (λ n. is_between (pos 0) maxint n ≡ true) (near (pos 0) maxint (thresholds maxint i cs)) (near_between (pos 0) maxint (thresholds maxint i cs))
-
-  points_within : (i : ℕ) (v : Var) → IsInRange maxint v.is_bool v.first → AllByRecursion (λ n. is_in_range maxint v n ≡ true) (points_of maxint cs i v)
-  points_within i v first = by (is_named i cs) where
-    by : (b : Bool) → AllByRecursion (λ n. is_in_range maxint v n ≡ true) (if b then named_points maxint i v.is_bool cs else v.first ∷ [])
-    by true = named_within i v.is_bool
-    by false = (and_from (int_le (pos 0) v.first) (int_le v.first (greatest maxint v.is_bool)) (is_le (pos 0) v.first first.low) (is_le v.first (greatest maxint v.is_bool) first.high), tt)
-
   abbrev points_from : ℕ → List Var → List (List ℤ)
   points_from i vars = map (λ (v : ℕ × Var). points_of maxint cs v.0 v.1) (enumerate_from i vars)
-
-  chosen_within : (vars : List Var) (i n : ℕ) → AllByRecursion (λ v. IsInRange maxint v.is_bool v.first) vars → n < size_of (points_from i vars) → are_in_range maxint vars (chosen (points_from i vars) n) ≡ true
-  chosen_within [] i n all below = refl
-  chosen_within (v ∷ vars) i n all below =
-      let s = split n (length (points_of maxint cs i v)) (size_of (points_from (i + 1) vars)) below in
-      let q = n / size_of (points_from (i + 1) vars) in
-      let r = n % size_of (points_from (i + 1) vars) in
-      and_from (is_in_range maxint v (number_at (points_of maxint cs i v) q)) (are_in_range maxint vars (chosen (points_from (i + 1) vars) r))
-      (number_all (λ m. is_in_range maxint v m ≡ true) (points_of maxint cs i v) q (points_within i v all.0) s.at)
-      (chosen_within vars (i + 1) r all.1 s.left)
 
   -- ---- points of all variables
 
@@ -69,9 +43,6 @@ module _ (maxint : ℤ) (cs : List Clause) where
   some_states : pos 1 ≤ℤ maxint → (vars : List Var) (i : ℕ) → 0 < size_of (points_from i vars)
   some_states positive [] i = omega arith
   some_states positive (v ∷ vars) i = some_product (length (points_of maxint cs i v)) (size_of (points_from (i + 1) vars)) (some_points maxint cs positive i v) (some_states positive vars (i + 1))
-
-pub state_in_range : (policy : Policy) (cs : List Clause) (n : ℕ) → IsPolicy policy → n < size_of (choices_of policy cs) → in_range policy (chosen (choices_of policy cs) n) ≡ true
-state_in_range policy cs n sound below = chosen_within policy.maxint cs policy.vars 0 n sound.vars below
 
 pub few_choices : (policy : Policy) (cs : List Clause) → IsPolicy policy → length (choices_of policy cs) ≤ 16
 few_choices policy cs sound = let e = length_points policy.maxint cs policy.vars 0 in let few = sound.few_vars in omega arith

@@ -12,7 +12,9 @@ use Rattle.conspec_automaton.specs.Trying.{Placed, breaks, clauses_of, seconds_o
 use Rattle.race_free_check.specs.Choosing.{IsMade, chosen, made, numbers_of}
 use Rattle.race_free_check.specs.Searching.{IsSecond, Searched}
 use Rattle.race_free_check.proofs.Found.{event_there, events_length, point_of, second_is, second_of, seconds_of_length, state_there, states_length}
-use Rattle.race_free_check.proofs.Ranges.{few_choices, state_in_range}
+use Rattle.race_free_check.proofs.Fitting.{state_in_range}
+use Rattle.race_free_check.proofs.Members.{at_index}
+use Rattle.race_free_check.proofs.Ranges.{few_choices}
 
 pub record ReachedState (s : Searched) (number : ℕ) (state : Values) : Type 0 where
   pub there : slice_get (states_of s.policy (clauses_of s.trial)) number ≡ Some state
@@ -41,9 +43,10 @@ module _ (view s : Searched) (seen : view ≡ s) where
     state_reached taken count number state same counted below e =
         let inside = subst (λ (n : ℕ). number < n) (counted ∙ ap size_of lists_are) below in
         let state_is = e ∙ ap (λ (ls : List (List ℤ)). chosen ls number) (same ∙ lists_are) in
+        let there = state_there s.policy (clauses_of s.trial) number inside ∙ ap (λ (values : Values). Some values) (sym state_is) in
         record {
-          there = state_there s.policy (clauses_of s.trial) number inside ∙ ap (λ (values : Values). Some values) (sym state_is);
-          ranged = λ sound. subst (λ (values : Values). in_range s.policy values ≡ true) (sym state_is) (state_in_range s.policy (clauses_of s.trial) number sound inside);
+          there = there;
+          ranged = λ sound. state_in_range s.policy sound (clauses_of s.trial) state (at_index (states_of s.policy (clauses_of s.trial)) number state there);
         }
 
     pub states_done : (count number : ℕ) → count ≡ size_of lists → count ≤ number → length (states_of s.policy (clauses_of s.trial)) ≤ number

@@ -1,13 +1,14 @@
 -- What a list of updates does to each variable.
-use Rattle.std.proofs.Common.{◌≡◌, ◌≢◌, inl, inr, ℕ, zero, suc, ℤ, ◌+ℤ◌, Bool, true, false, List, [], ◌∷◌, ◌++◌, Option, Some, None, refl, sym, ap, subst, ◌∙◌, arith}
+use Rattle.std.proofs.Common.{◌≡◌, ◌≢◌, ◌⊎◌, inl, inr, ℕ, zero, suc, ℤ, ◌+ℤ◌, Bool, true, false, List, [], ◌∷◌, ◌++◌, Option, Some, None, refl, sym, ap, subst, ◌∙◌, arith}
 use Rattle.std.specs.Prelude.{AllPairs, ◌==◌, if◌then◌else◌, option_map, slice_get, slice_set}
 use Rattle.std.specs.Option.{option_map_or}
 use Rattle.std.proofs.lemmas.Bool.{eqb-false, eqb-true}
+use Rattle.std.proofs.lemmas.Option.{same_Some}
 use Rattle.conspec_tree.specs.declared.types.Update.{Update}
 use Rattle.conspec_tree.specs.declared.types.Update.TheVariants.{Set, Add}
 use Rattle.conspec_tree.specs.Updates.{target}
 use Rattle.conspec_automaton.specs.Next.{Values, updated, updated_once}
-use Rattle.race_free_check.proofs.Members.{Has, place_of}
+use Rattle.race_free_check.proofs.Members.{Among, Has, place_of}
 use Rattle.race_free_check.proofs.Moves.{By, Move, Stay, To, moved, joined, moved_joined}
 
 -- ---- one update
@@ -96,6 +97,25 @@ stays (u ∷ us) i none = at (target u == i) refl (stays us i (λ w h. none w (i
   at : (b : Bool) → (target u == i) ≡ b → moves us i ≡ Stay → joined (if b then move_at u else Stay) (moves us i) ≡ Stay
   at true e rest = absurd (none u (inl refl) (eqb-true (target u) i e))
   at false e rest = rest
+
+-- a variable stays, or one of them is of it
+pub touched : (us : List Update) (i : ℕ) → (moves us i ≡ Stay) ⊎ Among us (λ u. target u ≡ i)
+touched [] i = inl refl
+touched (u ∷ us) i = at (target u == i) refl (touched us i) where
+  at : (b : Bool) → (target u == i) ≡ b → (moves us i ≡ Stay) ⊎ Among us (λ u. target u ≡ i) → (joined (if b then move_at u else Stay) (moves us i) ≡ Stay) ⊎ Among (u ∷ us) (λ u. target u ≡ i)
+  at true e rest = inr (record { item = u; there = inl refl; so = eqb-true (target u) i e })
+  at false e (inl stay) = inl stay
+  at false e (inr m) = inr (record { item = m.item; there = inr m.there; so = m.so })
+
+-- lists that agree at each place are one
+pub each_same : (xs ys : Values) → ((i : ℕ) → slice_get xs i ≡ slice_get ys i) → xs ≡ ys
+each_same [] [] each = refl
+each_same [] (y ∷ ys) each = let e = each 0 in absurd cc
+each_same (x ∷ xs) [] each = let e = each 0 in absurd cc
+each_same (x ∷ xs) (y ∷ ys) each =
+    let first = same_Some x y (each 0) in
+    let rest = each_same xs ys (λ i. each (suc i)) in
+    cc
 
 -- ---- updates of different variables
 

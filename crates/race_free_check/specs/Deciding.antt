@@ -1,5 +1,5 @@
 -- What is decided of a policy: that there are too many points, or the first of them that breaks a condition, or that none does.
-use Rattle.std.specs.Prelude.{ℕ, Bool, not, if◌then◌else◌, List, [], ◌∷◌, find, Option, Some, None, Result, Ok, IfSome}
+use Rattle.std.specs.Prelude.{◌≡◌, ℕ, Bool, not, if◌then◌else◌, List, [], ◌∷◌, find, Option, Some, None, Result, Ok, IfSome, slice_get}
 use Rattle.std.specs.Option.{option_map_or}
 use Rattle.conspec_tree.specs.declared.types.Phase.{Phase}
 use Rattle.conspec_automaton.specs.declared.policy.Policy.{Policy}
@@ -47,7 +47,9 @@ counted policy (trial ∷ others) = small_or_told policy trial >>= λ small. cou
 abbrev pub decided : Policy → Result RaceVerdict RaceFault
 decided policy = counted policy (trials policy) >>= λ small. Ok (judged policy (trials policy))
 
--- The clauses of the trial are those of the policy.
+-- The clauses of the trial are those of the policy, at their places.
 pub record AreClausesOf (policy : Policy) (trial : Trial) : Type 0 where
   pub first : IsClauseIn policy.vars policy.maxint trial.first.1
   pub second : IfSome trial.second (λ (c : Placed). IsClauseIn policy.vars policy.maxint c.1)
+  pub first_there : slice_get policy.clauses trial.first.0 ≡ Some trial.first.1
+  pub second_there : IfSome trial.second (λ (c : Placed). slice_get policy.clauses c.0 ≡ Some c.1)

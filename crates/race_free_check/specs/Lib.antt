@@ -1,3 +1,4 @@
+pub mod Apart
 pub mod Choosing
 pub mod Deciding
 pub mod Laws

@@ -6,12 +6,13 @@ ghost use Rattle.mon_base.specs.Answer.{Answers};
 ghost use Rattle.conspec_automaton.specs.Racing.{IsRaceFree};
 ghost use Rattle.conspec_automaton.specs.Sound.{IsPolicy};
 ghost use Rattle.conspec_automaton.specs.Trying.{is_small, point_count};
-ghost use Rattle.race_free_check.specs.Deciding.{AreClausesOf, counted, decided, judged, second_place, small_or_told};
+ghost use Rattle.race_free_check.specs.Deciding.{AreClausesOf, broken_in, counted, decided, judged, second_place, small_or_told};
 
+use crate::apart::is_apart;
 use crate::events::events_count;
 use crate::fault::RaceFault;
 use crate::laws::{broken_points_race, points_are_enough};
-use crate::searching::broken_in;
+use crate::searching::{Point, broken_in};
 use crate::states::states_count;
 use crate::trial::{TrialRef, trials};
 use crate::verdict::RaceVerdict;
@@ -103,7 +104,7 @@ fn judged(alloc: Global, policy: &Policy, trials: &[TrialRef]) -> Result<RaceVer
 {
     let mut left = trials;
     while let [trial, rest @ ..] = left {
-        if let Some(point) = broken_in(alloc, policy, trial)? {
+        if let Some(point) = first_broken(alloc, policy, trial)? {
             return Ok(RaceVerdict::Racy {
                 condition: trial.condition,
                 state: point.state,
@@ -114,4 +115,18 @@ fn judged(alloc: Global, policy: &Policy, trials: &[TrialRef]) -> Result<RaceVer
         left = rest;
     }
     Ok(RaceVerdict::Free)
+}
+
+/// The first point of the trial that breaks its condition. Where neither clause changes what the other names none does, and
+/// none is tried.
+fn first_broken(alloc: Global, policy: &Policy, trial: &TrialRef) -> Result<Option<Point>, NoMemory>
+    requires policy { IsPolicy policy.now }
+    requires clauses { AreClausesOf policy.now trial.now }
+    requires small { is_small policy.now trial.now ≡ true }
+    ensures { IfOk result (λ found. found ≡ broken_in policy.now trial.now) }
+{
+    if is_apart(policy, trial) {
+        return Ok(None);
+    }
+    broken_in(alloc, policy, trial)
 }

@@ -4,6 +4,7 @@
 //! that does. It takes memory for the points of one pair of clauses, and none for each point. (docs/RACES.md)
 #![tactic(auto)]
 
+mod apart;
 mod choices;
 mod deciding;
 mod events;

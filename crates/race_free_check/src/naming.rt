@@ -41,7 +41,7 @@ pub fn is_named(trial: &TrialRef, var: u32) -> bool
 }
 
 /// Whether an atom of the clause asks for the variable.
-fn is_asked(clause: &Clause, var: u32) -> bool
+pub fn is_asked(clause: &Clause, var: u32) -> bool
     ensures { result ≡ list_any (λ (a : Atom). is_same (bases.Var var) a.base) (atoms_in (clause.now ∷ [])) }
 {
     let mut left = clause.branches.as_slice();
@@ -61,7 +61,7 @@ fn any_asks(atoms: &[Atom], var: u32) -> bool
 }
 
 /// Whether an update of the clause is of the variable.
-fn is_changed(clause: &Clause, var: u32) -> bool
+pub fn is_changed(clause: &Clause, var: u32) -> bool
     ensures { result ≡ list_any (λ (u : Update). target u == var) (updates_in (clause.now ∷ [])) }
 {
     let mut left = clause.branches.as_slice();

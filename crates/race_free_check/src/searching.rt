@@ -197,8 +197,10 @@ fn breaks_in_state(alloc: Global, search: &Search, point: &mut Point) -> bool
     requires first { IsMade search.now.trial.first.1 point.old.first }
     requires second { IsSecond search.now.trial.second point.old.second }
     ensures broken { MatchBool result
-        (broken_in_state search.now.policy point.old.state (events_of search.now.trial.first.1) (seconds_of search.now.trial.second) ≡ Some point.new)
-        (broken_in_state search.now.policy point.old.state (events_of search.now.trial.first.1) (seconds_of search.now.trial.second) ≡ None) }
+        (broken_in_state search.now.policy point.old.state (events_of search.now.trial.first.1)
+        (seconds_of search.now.trial.second) ≡ Some point.new)
+        (broken_in_state search.now.policy point.old.state (events_of search.now.trial.first.1)
+        (seconds_of search.now.trial.second) ≡ None) }
     ensures first { IsMade search.now.trial.first.1 point.new.first }
     ensures second { IsSecond search.now.trial.second point.new.second }
 {

@@ -93,7 +93,8 @@ fn clauses_where<'a>(
     of_calls: bool,
 ) -> Result<Vec<PlacedClause<'a>>, NoMemory>
     requires { length policy.now.clauses ≤ 64 }
-    ensures { IfOk result (λ found. found.items ≡ filter (λ (c : Placed). is_wanted of_calls c.1.phase) (enumerate_from 0 policy.now.clauses)) }
+    ensures { IfOk result (λ found. found.items
+        ≡ filter (λ (c : Placed). is_wanted of_calls c.1.phase) (enumerate_from 0 policy.now.clauses)) }
 {
     let mut found = Vec::new(alloc);
     let mut place: u32 = 0;
