@@ -1,11 +1,11 @@
 -- Numbers that are small enough to be added without overflow, and those that lie between numbers of 32 bits.
-use Rattle.std.proofs.Common.{◌≡◌, ℕ, zero, suc, ◌^◌, ◌<◌, ℤ, pos, ◌+ℤ◌, Bool, true, false, cond, List, [], ◌∷◌, ◌++◌, length, get_or, filter, refl, sym, ap, subst, ◌∙◌, arith}
-use Rattle.std.specs.Prelude.{◌≤ℤ◌, ◌-ℤ◌, ◌&&◌, int_le, flat_map, FitsSigned}
-use Rattle.std.specs.Int.{w32, w64}
+use Rattle.std.proofs.Common.{◌≡◌, ℕ, zero, suc, ◌^◌, ◌<◌, ℤ, Bool, true, false, cond, List, [], ◌∷◌, ◌++◌, length, get_or, filter, refl, arith}
+use Rattle.std.specs.Prelude.{◌≤ℤ◌, int_le, flat_map, FitsSigned}
+use Rattle.std.specs.Int.{w32}
 use Rattle.std.specs.List.{AllByRecursion}
 use Rattle.std.proofs.lemmas.Bool.{and_parts}
 use Rattle.std.proofs.lemmas.Int.{ints}
-use Rattle.conspec_automaton.specs.Points.{around, ascending, near, points_between}
+use Rattle.conspec_automaton.specs.Points.{around, ascending, near}
 use Rattle.conspec_automaton.specs.Range.{is_between}
 use Rattle.race_free_check.specs.Small.{AreSmall, IsSmall}
 use Rattle.race_free_check.proofs.Rising.{ascending_all}

@@ -1,7 +1,7 @@
 -- The first point that breaks a condition, among states, first events and second ones.
-use Rattle.std.proofs.Common.{◌≡◌, ℕ, ◌+◌, ◌<◌, ◌≤◌, Bool, true, false, cond, ℤ, List, [], ◌∷◌, ◌++◌, length, drop, map, Option, Some, None, refl, sym, ap, subst, ◌∙◌, arith}
+use Rattle.std.proofs.Common.{◌≡◌, ℕ, ◌+◌, ◌<◌, ◌≤◌, Bool, true, false, cond, ℤ, List, [], ◌∷◌, length, drop, map, Option, Some, None, refl, sym, ap, subst, ◌∙◌}
 use Rattle.std.specs.Prelude.{find, flat_map, option_map, slice_get}
-use Rattle.std.specs.Option.{option_map_or, option_or}
+use Rattle.std.specs.Option.{option_or}
 use Rattle.std.proofs.lemmas.List.{drop_all, length-map}
 use Rattle.std.proofs.lemmas.List.Folds.{find-append}
 use Rattle.api_listing.specs.declared.events.Event.{Event}
@@ -12,7 +12,7 @@ use Rattle.conspec_automaton.specs.Points.{choices_of, each_choice, events_of, s
 use Rattle.conspec_automaton.specs.Trying.{Placed, Point, Trial, breaks, clauses_of, points_in, seconds_of}
 use Rattle.race_free_check.specs.Choosing.{chosen, made, numbers_of}
 use Rattle.race_free_check.specs.Deciding.{broken_in}
-use Rattle.race_free_check.specs.Searching.{IsSecond, Searched, broken_among, broken_in_state, broken_with, first_some}
+use Rattle.race_free_check.specs.Searching.{IsSecond, Searched, broken_among, broken_with, first_some}
 use Rattle.race_free_check.proofs.Numbered.{chosen_there, got_mapped, left_from, length_choices}
 use Rattle.race_free_check.proofs.Making.{events_made}
 

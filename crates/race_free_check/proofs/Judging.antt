@@ -1,10 +1,9 @@
 -- The clauses of each trial are those of the policy, and what the decision says of the policy.
-use Rattle.std.proofs.Common.{◌≡◌, ◌≢◌, ◌⊎◌, inl, inr, ℕ, zero, suc, ◌+◌, Bool, true, false, cond, not, List, [], ◌∷◌, ◌++◌, filter, map, Option, Some, None, Result, Ok, Err, refl, sym, ap, subst, ◌∙◌, arith}
-use Rattle.std.specs.Prelude.{IfOk, find, flat_map, slice_get}
+use Rattle.std.proofs.Common.{◌≡◌, ◌≢◌, ℕ, zero, suc, ◌+◌, Bool, true, false, cond, not, List, [], ◌∷◌, ◌++◌, filter, map, Option, Some, None, Result, Ok, Err, refl, sym, ap, subst, ◌∙◌, arith}
+use Rattle.std.specs.Prelude.{IfOk, find, slice_get}
 use Rattle.std.specs.List.{AllByRecursion, enumerate_from}
 use Rattle.std.specs.Option.{option_map_or}
 use Rattle.mon_base.specs.Answer.{Answers}
-use Rattle.conspec_tree.specs.declared.types.Var.{Var}
 use Rattle.conspec_automaton.specs.declared.policy.Clause.{Clause}
 use Rattle.conspec_automaton.specs.declared.policy.Policy.{Policy}
 use Rattle.conspec_automaton.specs.Racing.{IsRaceFree}
@@ -13,7 +12,7 @@ use Rattle.conspec_automaton.specs.Trying.{Placed, Point, Trial, alone, both, br
 use Rattle.race_free_check.specs.declared.fault.RaceFault.{RaceFault}
 use Rattle.race_free_check.specs.declared.fault.RaceFault.TheVariants.{Memory}
 use Rattle.race_free_check.specs.declared.verdict.RaceVerdict.{RaceVerdict}
-use Rattle.race_free_check.specs.declared.verdict.RaceVerdict.TheVariants.{Free, Racy}
+use Rattle.race_free_check.specs.declared.verdict.RaceVerdict.TheVariants.{Free}
 use Rattle.race_free_check.specs.Deciding.{AreClausesOf, broken_in, judged, shown}
 use Rattle.race_free_check.specs.Laws.{BrokenPointsRace, PointsAreEnough}
 use Rattle.race_free_check.proofs.Bounded.{all_joined}

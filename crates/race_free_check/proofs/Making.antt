@@ -1,19 +1,17 @@
 -- The events that are tried for a clause are those that it makes of each choice of numbers.
-use Rattle.std.proofs.Common.{◌≡◌, ◌≢◌, ℕ, ◌+◌, ◌*◌, ◌<◌, ℤ, pos, List, [], ◌∷◌, ◌++◌, length, map, Option, Some, None, refl, sym, ap, subst, ◌∙◌, arith}
+use Rattle.std.proofs.Common.{◌≡◌, ℕ, ◌+◌, ◌*◌, ℤ, pos, List, [], ◌∷◌, ◌++◌, length, map, Option, Some, None, refl, sym, ap, ◌∙◌, arith}
 use Rattle.std.specs.Prelude.{flat_map}
 use Rattle.std.specs.List.{enumerate_from}
-use Rattle.std.proofs.lemmas.List.{length-map, append-nil}
+use Rattle.std.proofs.lemmas.List.{length-map}
 use Rattle.std.proofs.lemmas.List.Concat.{flat_map_single}
 use Rattle.api_listing.specs.declared.events.ApiValue.{ApiValue}
-use Rattle.api_listing.specs.declared.events.ApiValue.TheVariants as api
-use Rattle.api_listing.specs.declared.events.Event.{Event}
 use Rattle.api_listing.specs.declared.events.Event.TheVariants as events
 use Rattle.conspec_tree.specs.declared.types.Kind.{Kind}
 use Rattle.conspec_tree.specs.declared.types.Kind.TheVariants as kinds
 use Rattle.conspec_tree.specs.declared.types.Phase.{Phase}
 use Rattle.conspec_tree.specs.declared.types.Phase.TheVariants.{Before, After, Exceptional}
 use Rattle.conspec_automaton.specs.declared.policy.Clause.{Clause}
-use Rattle.conspec_automaton.specs.Points.{arguments_at, arguments_of, each_choice, events_count, events_in, events_of, results_of, size_of}
+use Rattle.conspec_automaton.specs.Points.{arguments_at, each_choice, events_count, events_in, events_of, results_of, size_of}
 use Rattle.race_free_check.specs.Choosing.{IsMade, argument_numbers, made, made_in, numbers_in, numbers_of, result_as, result_numbers, value_as, values_as}
 
 -- ---- lists

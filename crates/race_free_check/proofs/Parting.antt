@@ -1,9 +1,9 @@
 -- Clauses of which neither changes what the other names: neither event changes which branch the other takes, and their
 -- updates turn. So no point of the two breaks a condition.
-use Rattle.std.proofs.Common.{◌≡◌, ◌≢◌, ◌⊎◌, inl, inr, ℕ, zero, suc, ◌+◌, ◌<◌, ℤ, Bool, true, false, not, cond, List, [], ◌∷◌, ◌++◌, length, map, Option, Some, None, refl, sym, ap, subst, ◌∙◌, arith}
-use Rattle.std.specs.Prelude.{◌==◌, ◌&&◌, ◌||◌, IfSome, find, option_and_then, option_map, slice_get}
+use Rattle.std.proofs.Common.{◌≡◌, ◌≢◌, ◌⊎◌, inl, inr, ℕ, zero, suc, ◌+◌, ◌<◌, ℤ, Bool, true, false, not, List, [], ◌∷◌, ◌++◌, length, map, Option, Some, None, refl, sym, ap, subst, ◌∙◌, arith}
+use Rattle.std.specs.Prelude.{◌==◌, ◌&&◌, ◌||◌, IfSome, option_and_then, option_map, slice_get}
 use Rattle.std.specs.Option.{option_map_or}
-use Rattle.std.proofs.lemmas.Bool.{eq-eqb, false≢true, not-true, or_left, or_right}
+use Rattle.std.proofs.lemmas.Bool.{eq-eqb, false≢true, not-true}
 use Rattle.std.proofs.lemmas.Option.{slice_get_within}
 use Rattle.api_listing.specs.declared.events.Event.{Event}
 use Rattle.conspec_tree.specs.declared.types.Atom.{Atom}
@@ -16,9 +16,9 @@ use Rattle.conspec_automaton.specs.declared.policy.Branch.{Branch}
 use Rattle.conspec_automaton.specs.declared.policy.Clause.{Clause}
 use Rattle.conspec_automaton.specs.declared.policy.Policy.{Policy}
 use Rattle.conspec_automaton.specs.Next.{Values, holds, is_taken, relates, updated, value_of}
-use Rattle.conspec_automaton.specs.Points.{atoms_in, events_of, is_named, is_same, states_of, updates_in}
+use Rattle.conspec_automaton.specs.Points.{atoms_in, events_of, is_named, is_same, updates_in}
 use Rattle.conspec_automaton.specs.Sound.{IsClauseIn, IsPolicy}
-use Rattle.conspec_automaton.specs.Trying.{Placed, Point, Trial, breaks, clauses_of, is_broken, is_end, is_turned, points, seconds_of}
+use Rattle.conspec_automaton.specs.Trying.{Placed, Point, Trial, breaks, is_broken, is_turned, points, seconds_of}
 use Rattle.race_free_check.specs.Apart.{disturbs, is_apart, is_changed, meet_at, meet_from}
 use Rattle.race_free_check.specs.Deciding.{AreClausesOf, broken_in}
 use Rattle.race_free_check.proofs.Choosing.{chosen, run_of}

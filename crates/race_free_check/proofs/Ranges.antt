@@ -1,31 +1,25 @@
 -- There are points of each variable, argument and result, and so states and events.
-use Rattle.std.proofs.Common.{◌≡◌, ℕ, ◌+◌, ◌*◌, ◌/◌, ◌%◌, ◌<◌, ◌≤◌, ◌^◌, ℤ, pos, Bool, true, false, List, [], ◌∷◌, length, map, Option, Some, None, refl, sym, ap, subst, ◌∙◌, arith}
-use Rattle.std.specs.Prelude.{◌≤ℤ◌, ◌&&◌, int_le, nat_le, if◌then◌else◌}
-use Rattle.std.specs.List.{AllByRecursion, enumerate_from}
+use Rattle.std.proofs.Common.{◌≡◌, ℕ, ◌+◌, ◌*◌, ◌<◌, ◌≤◌, ℤ, pos, Bool, true, false, List, [], ◌∷◌, length, map, Option, Some, None, refl, subst, arith}
+use Rattle.std.specs.Prelude.{◌≤ℤ◌, nat_le, if◌then◌else◌}
+use Rattle.std.specs.List.{enumerate_from}
 use Rattle.std.specs.Option.{option_map_or}
 use Rattle.std.proofs.Math.Nat.{mul-le-mul_left, mul_comm}
-use Rattle.std.proofs.lemmas.Bool.{leb-true, and_from}
-use Rattle.std.proofs.lemmas.Int.{ints}
+use Rattle.std.proofs.lemmas.Bool.{leb-true}
 use Rattle.conspec_tree.specs.declared.types.Base.TheVariants as bases
 use Rattle.conspec_tree.specs.declared.types.Kind.{Kind}
 use Rattle.conspec_tree.specs.declared.types.Kind.TheVariants as kinds
 use Rattle.conspec_tree.specs.declared.types.Phase.{Phase}
 use Rattle.conspec_tree.specs.declared.types.Phase.TheVariants.{Before, After, Exceptional}
 use Rattle.conspec_tree.specs.declared.types.Var.{Var}
-use Rattle.conspec_tree.specs.Tree.{IsInRange, greatest}
 use Rattle.conspec_automaton.specs.declared.policy.Clause.{Clause}
 use Rattle.conspec_automaton.specs.declared.policy.Policy.{Policy}
 use Rattle.conspec_automaton.specs.Events.{greatest_of, least_of}
-use Rattle.conspec_automaton.specs.Points.{ascending, choices_of, constants_of, events_count, is_named, named_points, near, points_of, size_of, states_count, thresholds}
-use Rattle.conspec_automaton.specs.Range.{are_in_range, in_range, is_between, is_in_range}
+use Rattle.conspec_automaton.specs.Points.{choices_of, constants_of, events_count, points_of, size_of, states_count}
 use Rattle.conspec_automaton.specs.Sound.{IsPolicy}
 use Rattle.conspec_automaton.specs.Trying.{Placed, Trial, capped, clauses_of, is_small, most}
-use Rattle.race_free_check.specs.Choosing.{argument_numbers, chosen, number_at, numbers_in, numbers_of, result_numbers}
-use Rattle.race_free_check.proofs.Rising.{ascending_all}
-use Rattle.race_free_check.proofs.Bounded.{filtered_all, near_between}
+use Rattle.race_free_check.specs.Choosing.{argument_numbers, numbers_in, numbers_of, result_numbers}
 use Rattle.race_free_check.proofs.Making.{events_counted}
-use Rattle.race_free_check.proofs.Numbered.{number_all, split}
-use Rattle.race_free_check.proofs.Sizes.{capped_few, some_between, some_points}
+use Rattle.race_free_check.proofs.Sizes.{some_between, some_points}
 
 some_product : (a b : ℕ) → 0 < a → 0 < b → 0 < a * b
 some_product a b first second = let le = mul-le-mul_left {m = 1} {n = b} a (omega arith) in omega arith

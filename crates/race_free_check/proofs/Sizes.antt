@@ -1,19 +1,14 @@
 -- How many choices there are: products of which no more than 64 bits are counted.
-use Rattle.std.proofs.Common.{◌≡◌, ℕ, zero, suc, ◌+◌, ◌*◌, ◌-◌, ◌^◌, ◌<◌, ◌≤◌, min, ℤ, pos, Bool, true, false, List, [], ◌∷◌, ◌++◌, length, map, Option, Some, None, refl, sym, ap, subst, ◌∙◌, arith}
-use Rattle.std.specs.Prelude.{◌≤ℤ◌, ◌-ℤ◌, int_le, nat_le, flat_map, if◌then◌else◌, int_lt}
+use Rattle.std.proofs.Common.{◌≡◌, ℕ, zero, suc, ◌*◌, ◌^◌, ◌<◌, ◌≤◌, min, ℤ, pos, Bool, true, false, List, [], ◌∷◌, length, refl, sym, ap, ◌∙◌, arith}
+use Rattle.std.specs.Prelude.{◌≤ℤ◌, int_le, nat_le, if◌then◌else◌, int_lt}
 use Rattle.std.specs.Ordering.{int_eq}
-use Rattle.std.specs.List.{enumerate_from}
 use Rattle.std.proofs.Math.Nat.{mul-suc, mul-zero, mul_assoc, mul_comm}
 use Rattle.std.proofs.lemmas.Bool.{le-leb, leb-false, leb-true}
 use Rattle.std.proofs.lemmas.Int.{ints}
-use Rattle.conspec_tree.specs.declared.types.Kind.{Kind}
-use Rattle.conspec_tree.specs.declared.types.Kind.TheVariants as kinds
 use Rattle.conspec_tree.specs.declared.types.Var.{Var}
 use Rattle.conspec_automaton.specs.declared.policy.Clause.{Clause}
-use Rattle.conspec_automaton.specs.Points.{ascending, choices_of, is_named, named_points, near, placed, points_between, points_of, size_of, thresholds}
-use Rattle.conspec_automaton.specs.declared.policy.Policy.{Policy}
+use Rattle.conspec_automaton.specs.Points.{ascending, is_named, named_points, near, placed, points_between, points_of, thresholds}
 use Rattle.conspec_automaton.specs.Trying.{capped, most}
-use Rattle.race_free_check.specs.Choosing.{argument_numbers, numbers_in, numbers_of, result_numbers}
 
 -- ---- capped products
 

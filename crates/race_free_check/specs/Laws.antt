@@ -1,5 +1,5 @@
 -- That the points are enough, and that what breaks a condition at a point breaks it.
-use Rattle.std.specs.Prelude.{◌≡◌, ℕ, true, List, Some, None, slice_get}
+use Rattle.std.specs.Prelude.{◌≡◌, ℕ, true, Some, None, slice_get}
 use Rattle.conspec_automaton.specs.declared.policy.Policy.{Policy}
 use Rattle.conspec_automaton.specs.Racing.{IsRaceFree}
 use Rattle.conspec_automaton.specs.Sound.{IsPolicy}

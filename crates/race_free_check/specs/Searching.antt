@@ -1,5 +1,5 @@
 -- The search for the first point that breaks a condition: through the states, the first events, and the second ones.
-use Rattle.std.specs.Prelude.{◌≡◌, ℕ, List, [], ◌∷◌, find, map, Option, Some, None, option_map}
+use Rattle.std.specs.Prelude.{◌≡◌, List, [], ◌∷◌, find, map, Option, Some, None}
 use Rattle.std.specs.Option.{option_or}
 use Rattle.api_listing.specs.declared.events.Event.{Event}
 use Rattle.conspec_automaton.specs.declared.policy.Policy.{Policy}

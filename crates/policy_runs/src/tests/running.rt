@@ -183,3 +183,23 @@ fn a_refused_event_changes_nothing(rt: HostRuntime) -> Result<(), Fail> {
     assert_eq!(&rt; state.copy().get(0), Some(3));
     Ok(())
 }
+
+#[test]
+fn numbers_are_seen_and_threads_are_not(rt: HostRuntime) -> Result<(), Fail> {
+    let policy = automaton(rt.alloc(), FIRST_FIVE)?;
+    let mut few = initial(&policy);
+    let mut many = initial(&policy);
+    let mut elsewhere = initial(&policy);
+    assert!(&rt; next(&policy, &mut few, &returned(READ, Some(ApiValue::Int(3)))));
+    assert!(&rt; next(&policy, &mut many, &returned(READ, Some(ApiValue::Int(7)))));
+    let other = Event::Return {
+        thread: 2,
+        method: READ,
+        value: Some(ApiValue::Int(7)),
+    };
+    assert!(&rt; next(&policy, &mut elsewhere, &other));
+    assert_eq!(&rt; few.values(), [2i32].as_slice());
+    assert_eq!(&rt; many.values(), [5i32].as_slice());
+    assert_eq!(&rt; elsewhere.values(), many.values());
+    Ok(())
+}

@@ -1,4 +1,4 @@
-use Rattle.std.proofs.Common.{◌≡◌, ℕ, ◌+◌, length}
+use Rattle.std.proofs.Common.{◌≡◌, ◌+◌, length}
 use Rattle.race_free_check.specs.Apart.{meet_from}
 use Rattle.race_free_check.proofs.apart.meet.Given as goal
 
