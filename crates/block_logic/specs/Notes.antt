@@ -1,6 +1,6 @@
 -- The rules of the notes, so far of the notes of policies that deny calls outright. Each tells of an instruction that is
 -- reached the first rule that fails there. (docs/CERTIFICATES.md)
-use Rattle.std.specs.Prelude.{ℕ, ℤ, pos, ◌+◌, ◌==◌, ◌&&◌, ◌||◌, not, Bool, true, false, if◌then◌else◌, List, [], ◌∷◌, ◌++◌, Option, Some, None, option_and_then, slice_get}
+use Rattle.std.specs.Prelude.{ℕ, pos, ◌+◌, ◌==◌, ◌&&◌, ◌||◌, not, Bool, if◌then◌else◌, List, [], ◌∷◌, Option, Some, None, option_and_then, slice_get}
 use Rattle.insn_codec.specs.declared.insn.Insn.{Insn}
 use Rattle.insn_codec.specs.declared.shape.Shape.{Shape}
 use Rattle.insn_codec.specs.Control.{successors}

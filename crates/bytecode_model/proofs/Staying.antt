@@ -1,5 +1,5 @@
 -- The way up from a class, while it stays among some classes.
-use Rattle.std.proofs.Common.{◌≡◌, ℕ, suc, ◌+◌, ◌-◌, ◌<◌, Bool, false, List, Some, None, refl, sym, ◌∙◌, arith}
+use Rattle.std.proofs.Common.{◌≡◌, ℕ, suc, ◌+◌, ◌-◌, ◌<◌, Bool, List, Some, refl, sym, ◌∙◌, arith}
 use Rattle.api_listing.specs.declared.types.ListedClass.{ListedClass}
 use Rattle.api_listing.specs.Nearest.{class_named}
 use Rattle.bytecode_model.specs.Conditions.{stays_within}

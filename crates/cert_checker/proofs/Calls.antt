@@ -1,7 +1,6 @@
 -- Where no rule of the notes fails, no method that the policy has a clause for is called.
-use Rattle.std.proofs.Common.{◌≡◌, ◌⊎◌, ℕ, ◌+◌, Bool, true, false, cond, List, [], ◌∷◌, Option, Some, None, refl, sym, ap, subst, ◌∙◌}
-use Rattle.std.specs.Prelude.{◌&&◌, ◌||◌, ◌==◌, not, is_some, slice_get, option_and_then}
-use Rattle.insn_codec.specs.declared.insn.Insn.{Insn}
+use Rattle.std.proofs.Common.{◌≡◌, ℕ, ◌+◌, Bool, true, false, cond, List, [], ◌∷◌, Option, Some, None, refl, sym, ◌∙◌}
+use Rattle.std.specs.Prelude.{◌&&◌, ◌||◌, ◌==◌, not}
 use Rattle.insn_codec.specs.declared.shape.Heap.TheVariants as heap
 use Rattle.insn_codec.specs.declared.shape.Shape.TheVariants as shapes
 use Rattle.insn_codec.specs.Shapes.{shape_of}
@@ -14,7 +13,7 @@ use Rattle.cert_format.specs.declared.note.Note.TheVariants as notes
 use Rattle.cert_format.specs.declared.note.Site.{Site}
 use Rattle.conspec_automaton.specs.declared.policy.Policy.{Policy}
 use Rattle.conspec_automaton.specs.Next.{has_clauses}
-use Rattle.block_logic.specs.Notes.{Here, first_broken, client_fault, free_fault, locking_fault, row_fault, told_fault, taking_fault, stop_fault}
+use Rattle.block_logic.specs.Notes.{Here, first_broken, client_fault, free_fault, row_fault, told_fault, taking_fault, stop_fault}
 use Rattle.block_logic.specs.Operands.{calls, has_clause, is_way_out, pushes_state}
 use Rattle.block_logic.specs.declared.wanted.Wanted.TheVariants as wanted
 use Rattle.block_logic.specs.Notes.{next_meet, handlers_meet}

@@ -1,6 +1,6 @@
 -- A program that begins with a call that its policy refuses does not obey.
-use Rattle.std.proofs.Common.{◌≡◌, ◌⊎◌, ℕ, Bool, true, false, cond, List, [], ◌∷◌, ◌++◌, filter, Option, Some, None, refl, sym, ap, subst, ◌∙◌, inl, inr}
-use Rattle.std.specs.Prelude.{IsTrue, IsSome, find, is_some, option_and_then}
+use Rattle.std.proofs.Common.{◌≡◌, Bool, true, false, List, [], ◌∷◌, Option, Some, None, refl, ap, subst, inl, inr}
+use Rattle.std.specs.Prelude.{IsSome, is_some, option_and_then}
 use Rattle.std.specs.Option.{option_map_or}
 use Rattle.api_listing.specs.declared.events.Event.{Event}
 use Rattle.api_listing.specs.declared.events.Event.TheVariants as events
@@ -10,9 +10,8 @@ use Rattle.conspec_automaton.specs.declared.policy.Clause.{Clause}
 use Rattle.conspec_automaton.specs.declared.policy.Policy.{Policy}
 use Rattle.conspec_automaton.specs.Next.{Values, clause_of, has_clause, initial, next, next_by}
 use Rattle.conspec_automaton.specs.Obeys.{Follows, Obeys, after, is_return, spoken}
-use Rattle.guest_model.specs.First.{BeginsWithCall, SeesFirstCall, goes_on, is_done}
-use Rattle.guest_model.specs.Runs.{trace}
-use Rattle.cert_checker.specs.Denied.{DisobeysAtOnce, IsRefusedFirst}
+use Rattle.guest_model.specs.First.{SeesFirstCall, goes_on, is_done}
+use Rattle.cert_checker.specs.Denied.{DisobeysAtOnce}
 
 -- Where the first event is refused, no list that begins with it is accepted.
 not_after : {S E : Type 0} (step : S → E → Option S) (first : S) (e : E) (later : List E) → step first e ≡ None → IsSome (after step first (e ∷ later)) → ⊥

@@ -6,7 +6,7 @@ use Rattle.bytecode_model.specs.declared.program.LinkedClass.{LinkedClass}
 use Rattle.bytecode_model.specs.declared.program.Method.{Method}
 use Rattle.bytecode_model.specs.Shape.{coded, shape_of}
 use Rattle.cert_checker.specs.Acceptance.{differ, methods_differ, classes_differ}
-use Rattle.cert_checker.specs.Places.{or_else, placed}
+use Rattle.cert_checker.specs.Places.{placed}
 use Rattle.cert_checker.proofs.Options.{or_else_none, placed_none}
 
 if_none : {A : Type 0} (b : Bool) (o : Option A) (x : A) → cond b o (Some x) ≡ None → (b ≡ true) × (o ≡ None)

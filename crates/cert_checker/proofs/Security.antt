@@ -1,16 +1,13 @@
 -- An accepted program obeys a policy that denies only.
-use Rattle.std.proofs.Common.{◌≡◌, ◌⊎◌, ℕ, zero, suc, ◌+◌, ◌<◌, ◌≤◌, Bool, true, false, cond, List, [], ◌∷◌, length, filter, Option, Some, None, refl, sym, ap, subst, ◌∙◌, arith, inl, inr}
-use Rattle.std.specs.Prelude.{◌&&◌, ◌||◌, ◌==◌, IsTrue, IsSome, IsSomeAnd, Contains, find, get_or, is_some, slice_get, option_and_then, option_map}
+use Rattle.std.proofs.Common.{◌≡◌, ℕ, zero, suc, ◌<◌, Bool, true, false, List, [], ◌∷◌, length, filter, Option, Some, None, refl, sym, ap, subst, ◌∙◌, arith, inl, inr}
+use Rattle.std.specs.Prelude.{◌&&◌, ◌||◌, ◌==◌, IsSomeAnd, Contains, find, get_or, is_some, slice_get, option_map}
 use Rattle.std.specs.List.{AllByRecursion, list_any}
-use Rattle.std.specs.Option.{option_map_or}
 use Rattle.std.proofs.lemmas.Bool.{and_parts}
-use Rattle.std.proofs.lemmas.Option.{slice_get_within, slice_get_cases}
+use Rattle.std.proofs.lemmas.Option.{slice_get_cases}
 use Rattle.api_listing.specs.declared.events.Event.{Event}
 use Rattle.api_listing.specs.declared.events.Event.TheVariants as events
 use Rattle.insn_codec.specs.declared.insn.Insn.{Insn}
 use Rattle.insn_codec.specs.Fits.{IsInsn}
-use Rattle.insn_codec.specs.Control.{successors}
-use Rattle.bytecode_model.specs.declared.program.Handler.{Handler}
 use Rattle.bytecode_model.specs.declared.program.LinkedClass.{LinkedClass}
 use Rattle.bytecode_model.specs.declared.program.Method.{Method}
 use Rattle.bytecode_model.specs.declared.program.Program.{Program}
@@ -18,21 +15,19 @@ use Rattle.bytecode_model.specs.declared.program.Target.{Target}
 use Rattle.bytecode_model.specs.declared.program.Target.TheVariants as target
 use Rattle.bytecode_model.specs.Sound.{IsSound, IsSoundClass, IsSoundMethod, IsWithin}
 use Rattle.cert_format.specs.declared.certificate.Certificate.{Certificate}
-use Rattle.cert_format.specs.declared.typing.Typing.{Typing}
 use Rattle.code_typing.specs.Closed.{BeginsReached, GoesToReached, IsCaughtReached}
 use Rattle.bytecode_model.specs.Shape.{has_code}
 use Rattle.bytecode_model.specs.Rules.{frame_of}
-use Rattle.bytecode_model.specs.Typed.{IsTyped, frames_in, frames_told, reached}
+use Rattle.bytecode_model.specs.Typed.{frames_in, frames_told, reached}
 use Rattle.conspec_automaton.specs.declared.policy.Clause.{Clause}
 use Rattle.conspec_automaton.specs.declared.policy.Policy.{Policy}
-use Rattle.conspec_automaton.specs.Next.{has_clause, has_clauses, is_phase_of, method_of, speaks_of, initial}
+use Rattle.conspec_automaton.specs.Next.{has_clause, has_clauses, method_of, speaks_of}
 use Rattle.cert_format.specs.declared.certificate.Mode.{Mode}
 use Rattle.cert_format.specs.declared.certificate.Mode.TheVariants as modes
 use Rattle.conspec_automaton.specs.Obeys.{Obeys, spoken}
-use Rattle.guest_model.specs.declared.machine.Step.{Step}
 use Rattle.guest_model.specs.Places.{method_at, insn_in}
 use Rattle.guest_model.specs.Runs.{trace}
-use Rattle.guest_model.specs.Standing.{HasInsns, IsAt, IsCalled, IsClosed, SeesOnlyCalled, method_of as method_seen}
+use Rattle.guest_model.specs.Standing.{HasInsns, IsCalled, IsClosed, SeesOnlyCalled, method_of as method_seen}
 use Rattle.block_logic.specs.Accepted.{IsAccepted, note_fault_at, notes_in, notes_told, reached_fault}
 use Rattle.block_logic.specs.Notes.{Here, note_fault, told_fault}
 use Rattle.cert_checker.specs.Secure.{Secure}

@@ -1,6 +1,5 @@
 -- The first test of the check that fails.
-use Rattle.std.specs.Prelude.{◌≡◌, ℕ, ◌+◌, Bool, false, ◌==◌, ◌&&◌, if◌then◌else◌, List, [], ◌∷◌, length, map, take, drop, is_some, sum_by, count_by, Option, Some, None, option_and_then, slice_get, Result, Ok, Err}
-use Rattle.std.specs.Option.{option_map_or}
+use Rattle.std.specs.Prelude.{ℕ, ◌+◌, ◌==◌, ◌&&◌, if◌then◌else◌, List, [], ◌∷◌, length, map, drop, sum_by, count_by, Option, Some, None, Result, Ok, Err}
 use Rattle.bytecode_model.specs.declared.program.LinkedClass.{LinkedClass}
 use Rattle.bytecode_model.specs.declared.program.Method.{Method}
 use Rattle.bytecode_model.specs.declared.program.Program.{Program}
@@ -8,10 +7,9 @@ use Rattle.cert_format.specs.declared.certificate.Certificate.{Certificate}
 use Rattle.cert_format.specs.declared.note.Note.{Note}
 use Rattle.cert_format.specs.declared.typing.FrameType.{FrameType}
 use Rattle.code_typing.specs.declared.fault.TypeFault.{TypeFault}
-use Rattle.bytecode_model.specs.Rules.{frame_of}
-use Rattle.bytecode_model.specs.Shape.{has_code, coded, IsShaped}
+use Rattle.bytecode_model.specs.Shape.{has_code, coded}
 use Rattle.code_typing.specs.First.{typing_fault}
-use Rattle.bytecode_model.specs.Typed.{IsTyped, frames_in, frames_told, list_at}
+use Rattle.bytecode_model.specs.Typed.{list_at}
 use Rattle.conspec_automaton.specs.declared.policy.Policy.{Policy}
 use Rattle.cert_checker.specs.declared.fault.CheckFault.{CheckFault}
 use Rattle.cert_checker.specs.declared.fault.CheckFault.TheVariants.{Shape, Typing, Local}

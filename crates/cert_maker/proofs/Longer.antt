@@ -1,15 +1,13 @@
 -- A constant pool that is longer tells at each place of the old one what it told there.
-use Rattle.std.proofs.Common.{◌≡◌, ℕ, zero, suc, ◌<◌, Bool, true, false, List, [], ◌∷◌, ◌++◌, length, Option, Some, None, refl, sym, ap, subst, ◌∙◌}
+use Rattle.std.proofs.Common.{◌≡◌, ℕ, zero, suc, ◌<◌, true, List, ◌++◌, length, Option, Some, None, refl, sym, ap, ◌∙◌}
 use Rattle.std.specs.Prelude.{slice_get}
-use Rattle.std.specs.List.{AllByRecursion}
 use Rattle.std.proofs.lemmas.Option.{slice_get_within}
-use Rattle.mon_base.specs.declared.method.MethodId.{MethodId}
 use Rattle.class_codec.specs.declared.pool.Kind.{Kind}
 use Rattle.class_codec.specs.declared.pool.Kind.TheVariants as kinds
 use Rattle.class_codec.specs.declared.tree.Const.{Const}
 use Rattle.class_codec.specs.declared.tree.Const.TheVariants as constants
 use Rattle.class_codec.specs.Fits.{IsNamed, FitsPool}
-use Rattle.class_codec.specs.Pool.{is_of, is_one_of, names, text_of, utf8_at, class_name_of, class_name_at, both, name_and_type_of, name_and_type_at, member_id, reference_of, reference_at}
+use Rattle.class_codec.specs.Pool.{is_of, is_one_of, names, text_of, utf8_at, class_name_of, class_name_at, name_and_type_of, name_and_type_at, reference_of, reference_at}
 use Rattle.cert_maker.proofs.Parts.{get_left}
 use Rattle.cert_maker.proofs.Woven.{slice_there, all_get}
 

@@ -1,16 +1,13 @@
 -- Each method of a woven program.
-use Rattle.std.proofs.Common.{◌≡◌, ℕ, zero, suc, ◌+◌, ◌-◌, ◌<◌, ◌≤◌, Bool, true, false, cond, List, [], ◌∷◌, ◌++◌, length, map, take, drop, filter, Option, Some, None, refl, sym, ap, subst, ◌∙◌, inl, inr, arith, length-append}
+use Rattle.std.proofs.Common.{◌≡◌, ℕ, zero, suc, ◌+◌, ◌-◌, ◌<◌, ◌≤◌, Bool, true, cond, List, [], ◌∷◌, ◌++◌, length, map, take, Option, Some, None, refl, sym, ap, subst, ◌∙◌, inl, inr, arith}
 use Rattle.std.specs.Prelude.{nat_lt, replicate, slice_get, slice_index, option_map, option_and_then}
-use Rattle.std.specs.List.{AllByRecursion}
 use Rattle.std.specs.Option.{option_map_or}
 use Rattle.std.proofs.lemmas.Bool.{cases_Bool, ltb-true, lt-ltb}
 use Rattle.std.proofs.lemmas.Bool.Decides.{nat_tests}
 use Rattle.std.proofs.lemmas.Option.{slice_get_within, slice_get-map}
-use Rattle.std.proofs.lemmas.List.{length-map}
 use Rattle.cert_format.specs.declared.typing.FrameType.{FrameType}
 use Rattle.cert_format.specs.declared.typing.Typing.{Typing}
 use Rattle.class_codec.specs.declared.tree.Const.{Const}
-use Rattle.insn_codec.specs.declared.insn.Insn.{Insn}
 use Rattle.bytecode_model.specs.declared.program.LinkedClass.{LinkedClass}
 use Rattle.bytecode_model.specs.declared.program.Method.{Method}
 use Rattle.bytecode_model.specs.declared.program.Program.{Program}
@@ -20,16 +17,16 @@ use Rattle.bytecode_model.specs.Sound.{IsSound, IsSoundClass, IsSoundMethod}
 use Rattle.class_codec.specs.Pool.{reference_at}
 use Rattle.conspec_automaton.specs.declared.policy.Policy.{Policy}
 use Rattle.bytecode_model.specs.Rules.{Frames, frame_of}
-use Rattle.bytecode_model.specs.Shape.{has_code, coded, program_shape, shape_of, IsShaped}
-use Rattle.bytecode_model.specs.Typed.{IsTyped, row_in, row_of_method, row_fault, list_at, frames_in, frames_told}
-use Rattle.block_template.specs.Outcome.{Each, IsWovenMethod, IsWovenClass, IsState, IsWoven, refs_woven}
-use Rattle.bytecode_model.specs.Named.{IsRightOperand, AreRightOperands}
+use Rattle.bytecode_model.specs.Shape.{has_code, coded}
+use Rattle.bytecode_model.specs.Typed.{IsTyped, row_in, row_of_method, list_at, frames_in, frames_told}
+use Rattle.block_template.specs.Outcome.{Each, IsWovenMethod, IsWovenClass, IsWoven}
+use Rattle.bytecode_model.specs.Named.{AreRightOperands}
 use Rattle.conspec_tree.specs.declared.types.Kind.{Kind}
 use Rattle.block_template.specs.Woven.{sites_of}
 use Rattle.offset_patch.specs.Splicing.{fronts_of}
 use Rattle.cert_maker.specs.Framing.{TellsArguments, arguments_of, moved_in, part_framed, low, frames_woven}
 use Rattle.cert_maker.specs.Renaming.{frame_renamed}
-use Rattle.cert_maker.specs.WovenTyping.{IsWovenOf, IsMetWoven, WovenIsTyped}
+use Rattle.cert_maker.specs.WovenTyping.{WovenIsTyped}
 use Rattle.cert_maker.proofs.Body.{IsWovenBody, made_long, same_length}
 use Rattle.cert_maker.proofs.Larger.{woven_larger}
 use Rattle.cert_maker.proofs.Longer.{reference_longer}

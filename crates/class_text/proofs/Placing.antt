@@ -1,5 +1,5 @@
 -- Places of methods in a map: of each class, name and descriptor the first counts.
-use Rattle.std.proofs.Common.{◌≡◌, ℕ, true, false, cond, List, [], Option, Some, None, refl, sym, ap, ◌∙◌, subst}
+use Rattle.std.proofs.Common.{◌≡◌, ℕ, false, cond, List, [], Option, Some, None, refl, sym, ap, ◌∙◌, subst}
 use Rattle.std.specs.Option.{option_or, is_some}
 use Rattle.std.specs.Ordering.{is_eq}
 use Rattle.std.specs.BTreeMap.{BTreeMap, is_at}
@@ -11,7 +11,7 @@ use Rattle.api_listing.specs.Nearest.{declared_in}
 use Rattle.api_listing.specs.Seen.{id_cmp}
 use Rattle.bytecode_model.proofs.Lists.{or_none}
 use Rattle.bytecode_model.proofs.Names.{id_cmp-is, same_id}
-use Rattle.bytecode_model.proofs.Placing.{test_cases, is_some_or, none_or}
+use Rattle.bytecode_model.proofs.Placing.{test_cases, none_or}
 use Rattle.class_text.specs.Library.{method_in}
 
 -- a new name

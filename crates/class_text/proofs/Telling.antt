@@ -1,5 +1,5 @@
 -- Faults of a code, told with their class and method.
-use Rattle.std.proofs.Common.{◌≡◌, ℕ, List, Result, Err, sym, ap, ◌∙◌}
+use Rattle.std.proofs.Common.{ℕ, List, Result, ap}
 use Rattle.insn_codec.specs.declared.fault.CodeFault.{CodeFault}
 use Rattle.insn_codec.specs.declared.fault.CodeFault.TheVariants as codes
 use Rattle.insn_codec.specs.declared.insn.Insn.{Insn}

@@ -1,5 +1,5 @@
 -- The fields and items of objects.
-use Rattle.std.specs.Prelude.{◌≡◌, ℕ, ◌<◌, List, [], ◌∷◌, length, Option, Some, None, option_map, option_and_then, slice_get, slice_set}
+use Rattle.std.specs.Prelude.{ℕ, ◌<◌, List, [], length, slice_get, slice_set}
 use Rattle.std.specs.Option.{option_map_or}
 use Rattle.guest_heap.specs.declared.value.Value.{Value}
 use Rattle.guest_heap.specs.declared.value.Value.TheVariants as values

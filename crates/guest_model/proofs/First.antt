@@ -1,7 +1,6 @@
 -- A program that begins with a call of the library.
-use Rattle.std.proofs.Common.{◌≡◌, ℕ, ◌+◌, Bool, true, false, List, [], ◌∷◌, ◌++◌, length, map, Option, Some, None, refl, sym, ap, subst, ◌∙◌, arith}
-use Rattle.std.specs.Prelude.{slice_get, option_map, option_and_then, ◌==◌, if◌then◌else◌}
-use Rattle.std.specs.Option.{option_to_list}
+use Rattle.std.proofs.Common.{◌≡◌, ℕ, ◌+◌, true, List, [], ◌∷◌, length, map, Some, None, refl, sym, ap, subst, ◌∙◌, arith}
+use Rattle.std.specs.Prelude.{slice_get, option_and_then, ◌==◌, if◌then◌else◌}
 use Rattle.std.proofs.lemmas.Bool.{le-ltb}
 use Rattle.api_listing.specs.declared.events.Event.{Event}
 use Rattle.api_listing.specs.declared.events.Event.TheVariants as events
@@ -17,10 +16,10 @@ use Rattle.guest_heap.specs.declared.thread.Thread.{Thread}
 use Rattle.guest_heap.specs.declared.value.Value.{Value}
 use Rattle.guest_model.specs.declared.machine.Machine.{Machine}
 use Rattle.guest_model.specs.Calls.{types_of, arity}
-use Rattle.guest_model.specs.First.{BeginsWithCall, goes_on, is_done, SeesFirstCall}
-use Rattle.guest_model.specs.Places.{method_at, insn_in, insn_at, moved_to}
-use Rattle.guest_model.specs.Runs.{first_heap, start_of, stepped_or_same, seen, trace_from}
-use Rattle.guest_model.specs.Stepping.{running, begun, begun_with, main_argument, stepped}
+use Rattle.guest_model.specs.First.{goes_on, is_done, SeesFirstCall}
+use Rattle.guest_model.specs.Places.{insn_in, insn_at, moved_to}
+use Rattle.guest_model.specs.Runs.{first_heap, start_of, trace_from}
+use Rattle.guest_model.specs.Stepping.{running, begun_with, main_argument, stepped}
 use Rattle.insn_codec.specs.declared.opcodes.TheConstants.{INVOKESTATIC}
 
 -- the machine with this one thread

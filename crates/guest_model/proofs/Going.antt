@@ -1,21 +1,18 @@
 -- Threads whose frames stand in a set of places, and what goes on in it.
-use Rattle.std.proofs.Common.{◌≡◌, ℕ, ◌+◌, ◌<◌, Bool, true, false, cond, List, [], ◌∷◌, ◌++◌, length, drop, Option, Some, None, refl, sym, ap, subst, ◌∙◌, arith}
-use Rattle.std.specs.Prelude.{IsTrue, Contains, not, option_map, option_and_then, nat_lt}
+use Rattle.std.proofs.Common.{◌≡◌, ℕ, ◌+◌, Bool, true, false, cond, List, [], ◌∷◌, length, drop, Option, Some, None, refl, ap, subst, ◌∙◌, arith}
+use Rattle.std.specs.Prelude.{IsTrue, not, option_and_then, nat_lt}
 use Rattle.std.specs.List.{AllByRecursion}
 use Rattle.std.specs.Option.{option_to_list}
-use Rattle.std.proofs.lemmas.List.Elements.{Contains-append_left}
 use Rattle.api_listing.specs.declared.events.Event.{Event}
 use Rattle.insn_codec.specs.declared.insn.Insn.{Insn}
 use Rattle.insn_codec.specs.Opcodes.{goes_on as may_go_on}
 use Rattle.insn_codec.specs.Spelling.{opcode_of}
 use Rattle.insn_codec.specs.declared.shape.Heap.TheVariants as heap
 use Rattle.insn_codec.specs.declared.shape.Shape.TheVariants as shapes
-use Rattle.insn_codec.specs.Control.{successors, jump_targets}
 use Rattle.insn_codec.specs.Shapes.{shape_of}
 use Rattle.insn_codec.specs.Table.{ends}
 use Rattle.insn_codec.proofs.Table.{goes_on_alike}
 use Rattle.insn_codec.specs.declared.shape.How.{How}
-use Rattle.bytecode_model.specs.declared.program.Method.{Method}
 use Rattle.bytecode_model.specs.declared.program.Program.{Program}
 use Rattle.bytecode_model.specs.declared.program.Target.{Target}
 use Rattle.bytecode_model.specs.declared.program.Target.TheVariants as target
@@ -25,7 +22,7 @@ use Rattle.guest_heap.specs.declared.thread.Doing.TheVariants as doings
 use Rattle.guest_heap.specs.declared.thread.Thread.{Thread}
 use Rattle.guest_heap.specs.declared.value.Value.{Value}
 use Rattle.guest_model.specs.declared.machine.Machine.{Machine}
-use Rattle.guest_model.specs.Places.{method_at, insn_in, insn_at, moved_to, fitted, after}
+use Rattle.guest_model.specs.Places.{method_at, moved_to, fitted}
 use Rattle.guest_model.specs.Standing.{Places, IsAt, IsClosed, HasInsns, IsCalled, method_of}
 use Rattle.guest_model.specs.Stepping.{Made, running, goes_on, begun, resting}
 use Rattle.guest_model.proofs.Options.{and_then_of, map_of, some_is, unless_of}

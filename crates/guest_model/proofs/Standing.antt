@@ -1,6 +1,6 @@
 -- Whatever the steps are, the library sees only what is called at a place of the set.
-use Rattle.std.proofs.Common.{◌≡◌, ℕ, Bool, true, false, cond, List, [], ◌∷◌, ◌++◌, Option, Some, None, refl, sym, ap, subst, ◌∙◌, arith}
-use Rattle.std.specs.Prelude.{slice_get, slice_set, is_some, option_map, option_and_then}
+use Rattle.std.proofs.Common.{◌≡◌, cond, List, [], ◌∷◌, Option, Some, None, refl, sym, subst}
+use Rattle.std.specs.Prelude.{slice_get, is_some, option_map}
 use Rattle.std.specs.List.{AllByRecursion}
 use Rattle.std.specs.Option.{option_map_or, option_to_list}
 use Rattle.api_listing.specs.declared.events.Event.{Event}
@@ -10,7 +10,7 @@ use Rattle.guest_model.specs.declared.machine.Machine.{Machine}
 use Rattle.guest_model.specs.declared.machine.Step.{Step}
 use Rattle.guest_model.specs.Runs.{start_of, stepped_or_same, seen, trace_from}
 use Rattle.guest_model.specs.Standing.{Places, IsClosed, HasInsns, IsCalled, method_of, SeesOnlyCalled}
-use Rattle.guest_model.specs.Stepping.{Made, doing_stepped, put_back, stepped}
+use Rattle.guest_model.specs.Stepping.{doing_stepped, put_back, stepped}
 use Rattle.guest_model.proofs.Going.{Well, SeenWell, GoodMade, Good, rests_well}
 use Rattle.guest_model.proofs.Options.{and_then_of, map_of, all_get, all_set, all_append}
 use Rattle.guest_model.proofs.Stepping.{thread_well}

@@ -1,8 +1,8 @@
 -- A step of a thread that is well leaves it well.
-use Rattle.std.proofs.Common.{◌≡◌, ℕ, ◌+◌, ◌<◌, ◌≤◌, Bool, true, false, cond, List, [], ◌∷◌, ◌++◌, length, drop, Option, Some, None, refl, sym, ap, subst, ◌∙◌, arith}
-use Rattle.std.specs.Prelude.{IsTrue, Contains, slice_get, option_map, option_and_then}
+use Rattle.std.proofs.Common.{◌≡◌, ℕ, ◌+◌, false, List, [], ◌∷◌, ◌++◌, drop, Option, Some, None, refl, sym, ap, subst}
+use Rattle.std.specs.Prelude.{slice_get, option_map}
 use Rattle.std.specs.List.{AllByRecursion}
-use Rattle.std.specs.Option.{option_to_list, option_map_or}
+use Rattle.std.specs.Option.{option_to_list}
 use Rattle.api_listing.specs.declared.events.ApiAnswer.{ApiAnswer}
 use Rattle.api_listing.specs.declared.events.ApiAnswer.TheVariants as answers
 use Rattle.api_listing.specs.declared.events.Event.{Event}
@@ -34,14 +34,14 @@ use Rattle.guest_heap.specs.declared.value.Value.TheVariants as values
 use Rattle.guest_model.specs.declared.machine.Choice.{Choice}
 use Rattle.guest_model.specs.declared.machine.Choice.TheVariants as choices
 use Rattle.guest_model.specs.declared.machine.Machine.{Machine}
-use Rattle.guest_model.specs.Calls.{taken, Taken, arity, value_seen}
+use Rattle.guest_model.specs.Calls.{taken, arity, value_seen}
 use Rattle.guest_model.specs.Monitors.{entered, left}
-use Rattle.guest_model.specs.Places.{insn_at, insn_in, method_at, fitted, after, moved_to}
+use Rattle.guest_model.specs.Places.{insn_at, insn_in, method_at, fitted, after}
 use Rattle.guest_model.specs.Standing.{Places, IsAt, IsClosed, HasInsns, IsCalled, method_of}
 use Rattle.guest_model.specs.Stepping
-use Rattle.guest_model.specs.Stepping.{Made, running, goes_on, frame_stepped, constant_value, with_held, with_monitors, enters, leaves, left_with, throws_top, returned, result_of, returns, calls_api, calls_listed, exits, calls, heap_stepped, shape_stepped, insn_stepped, event_made, api_returned, answered, null_answered, call_answered, frames_stepped, doing_stepped, null_pointer, bad_monitor, throws_new, throws, thrown_class, number_in, stopped_with, is_exit, is_on_null}
+use Rattle.guest_model.specs.Stepping.{Made, goes_on, frame_stepped, constant_value, with_held, with_monitors, enters, leaves, left_with, throws_top, returned, result_of, returns, calls_api, exits, calls, heap_stepped, shape_stepped, insn_stepped, event_made, answered, null_answered, call_answered, frames_stepped, doing_stepped, null_pointer, bad_monitor, throws_new, thrown_class, number_in, stopped_with, is_exit, is_on_null}
 use Rattle.guest_model.specs.Values.{is_null, values_moved, values_seen}
-use Rattle.guest_model.proofs.Options.{and_then_of, map_of, some_is}
+use Rattle.guest_model.proofs.Options.{and_then_of, map_of}
 use Rattle.guest_model.proofs.Going.{Inside, CallsFrom, Waits, TopCalls, BeginsInside, Well, SeenWell, GoodMade, Good, good_none, good_some, good_if, good_then, went_on, fitted_inside, next_inside, behind_call, rests_well}
 use Rattle.guest_model.proofs.Throwing.{Standing, throws_good, throws_new_good}
 

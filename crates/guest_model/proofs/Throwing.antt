@@ -1,6 +1,6 @@
 -- Where throwing leads, frames stay in the set.
-use Rattle.std.proofs.Common.{◌≡◌, ℕ, ◌+◌, ◌<◌, ◌≤◌, Bool, true, false, cond, List, [], ◌∷◌, ◌++◌, length, drop, Option, Some, None, refl, sym, ap, subst, ◌∙◌, arith}
-use Rattle.std.specs.Prelude.{IsTrue, Contains, find, nat_lt, nat_le, ◌&&◌, option_and_then}
+use Rattle.std.proofs.Common.{◌≡◌, ℕ, true, cond, List, [], ◌∷◌, drop, Option, Some, None, refl, subst}
+use Rattle.std.specs.Prelude.{find, nat_lt, nat_le, ◌&&◌}
 use Rattle.std.specs.List.{AllByRecursion}
 use Rattle.std.specs.Option.{option_map_or}
 use Rattle.std.proofs.lemmas.Bool.{and_parts, leb-true, ltb-true}
@@ -10,13 +10,12 @@ use Rattle.bytecode_model.specs.declared.program.Handler.{Handler}
 use Rattle.bytecode_model.specs.declared.program.Method.{Method}
 use Rattle.bytecode_model.specs.declared.program.Program.{Program}
 use Rattle.guest_heap.specs.declared.frame.Frame.{Frame}
-use Rattle.guest_heap.specs.declared.thread.Doing.TheVariants as doings
 use Rattle.guest_heap.specs.declared.value.Value.{Value}
 use Rattle.guest_model.specs.declared.machine.Machine.{Machine}
 use Rattle.bytecode_model.specs.Classes.{is_below}
 use Rattle.guest_model.specs.Places.{method_at, moved_to}
 use Rattle.guest_model.specs.Standing.{Places, IsClosed}
-use Rattle.guest_model.specs.Stepping.{Made, thrown_thread, throws, throws_new}
+use Rattle.guest_model.specs.Stepping.{thrown_thread, throws, throws_new}
 use Rattle.guest_model.specs.Throwing.{catches, handler_of, caught_in, unwound}
 use Rattle.guest_model.proofs.Options.{and_then_of, find_is}
 use Rattle.guest_model.proofs.Going.{Inside, Waits, BeginsInside, Well, SeenWell, GoodMade}

@@ -1,5 +1,5 @@
 -- Which answers of the library fit a call, so far of methods whose result is a number, or that have none.
-use Rattle.std.specs.Prelude.{ℕ, ℤ, pos, ◌-ℤ◌, ◌==◌, ◌&&◌, Bool, true, false, int_le, List, [], ◌∷◌, Option, Some, None, is_some}
+use Rattle.std.specs.Prelude.{ℕ, ℤ, pos, ◌-ℤ◌, ◌==◌, ◌&&◌, Bool, false, int_le, List, Option, Some, None}
 use Rattle.api_listing.specs.declared.descriptor.Element.{Element}
 use Rattle.api_listing.specs.declared.descriptor.Element.TheVariants as elements
 use Rattle.api_listing.specs.declared.descriptor.FieldType.{FieldType}

@@ -1,7 +1,6 @@
 -- What calls take from the operands, and what the library sees of them.
-use Rattle.std.specs.Prelude.{ℕ, ℤ, ◌+◌, ◌-◌, ◌<◌, Bool, true, false, nat_lt, nat_le, if◌then◌else◌, List, [], ◌∷◌, ◌++◌, length, map, take, drop, reverse, replicate, Option, Some, None, Result, Ok, Err, option_map, slice_get}
+use Rattle.std.specs.Prelude.{ℕ, ◌+◌, Bool, true, false, nat_le, if◌then◌else◌, List, [], length, map, take, drop, reverse, Option, Some, None, Ok, Err, option_map, slice_get}
 use Rattle.std.specs.Option.{option_map_or}
-use Rattle.api_listing.specs.declared.descriptor.FieldType.{FieldType}
 use Rattle.api_listing.specs.declared.descriptor.MethodType.{MethodType}
 use Rattle.api_listing.specs.declared.events.ApiValue.{ApiValue}
 use Rattle.api_listing.specs.declared.events.ApiValue.TheVariants as api

@@ -1,5 +1,5 @@
 -- Monitors: each is held by one thread, which may enter it again. (The Java Virtual Machine Specification, section 2.11.10.)
-use Rattle.std.specs.Prelude.{ℕ, ◌+◌, ◌-◌, ◌==◌, Bool, true, false, if◌then◌else◌, List, [], ◌∷◌, ◌++◌, Option, Some, None, option_map}
+use Rattle.std.specs.Prelude.{ℕ, ◌+◌, ◌-◌, ◌==◌, if◌then◌else◌, List, [], ◌∷◌, Option, Some, None, option_map}
 use Rattle.std.specs.Option.{option_map_or}
 use Rattle.guest_heap.specs.declared.object.Monitor.{Monitor}
 use Rattle.guest_heap.specs.declared.value.Value.{Value}

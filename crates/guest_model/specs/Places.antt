@@ -1,7 +1,6 @@
 -- Where a frame stands in a program.
-use Rattle.std.specs.Prelude.{◌≡◌, ℕ, ◌+◌, Bool, true, false, bytes_eq, nat_lt, if◌then◌else◌, List, [], ◌∷◌, ◌++◌, length, map, Option, Some, None, option_map, option_and_then, slice_get}
+use Rattle.std.specs.Prelude.{ℕ, ◌+◌, bytes_eq, nat_lt, if◌then◌else◌, List, length, Option, Some, None, option_map, option_and_then, slice_get}
 use Rattle.std.specs.List.{position_from}
-use Rattle.std.specs.Option.{option_map_or, option_or}
 use Rattle.api_listing.specs.declared.types.ListedClass.{ListedClass}
 use Rattle.insn_codec.specs.declared.insn.Insn.{Insn}
 use Rattle.bytecode_model.specs.declared.program.LinkedClass.{LinkedClass}
@@ -11,7 +10,6 @@ use Rattle.bytecode_model.specs.declared.program.Target.{Target}
 use Rattle.bytecode_model.specs.Classes.{classes_of}
 use Rattle.guest_heap.specs.declared.frame.Frame.{Frame}
 use Rattle.guest_heap.specs.declared.value.Value.{Value}
-use Rattle.guest_heap.specs.Stack.{Operands}
 
 -- ---- classes
 

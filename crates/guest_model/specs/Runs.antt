@@ -1,5 +1,5 @@
 -- The runs of a program: a step that is not enabled changes nothing and lets the library see nothing.
-use Rattle.std.specs.Prelude.{ℕ, List, [], ◌∷◌, ◌++◌, length, map, take, ◌-◌, Option, Some, None}
+use Rattle.std.specs.Prelude.{ℕ, List, [], ◌∷◌, ◌++◌, length, map, take, ◌-◌, Option, None}
 use Rattle.std.specs.Option.{option_map_or, option_to_list}
 use Rattle.api_listing.specs.declared.events.Event.{Event}
 use Rattle.bytecode_model.specs.declared.program.LinkedClass.{LinkedClass}

@@ -1,5 +1,5 @@
 -- Sets of places that control does not leave, and what the library can see of a program that stays in one.
-use Rattle.std.specs.Prelude.{◌≡◌, ℕ, ◌≤◌, ◌<◌, Bool, true, false, IsTrue, List, [], ◌∷◌, Contains, Some, option_and_then}
+use Rattle.std.specs.Prelude.{◌≡◌, ℕ, ◌≤◌, ◌<◌, Bool, IsTrue, List, Contains, Some}
 use Rattle.std.specs.List.{AllByRecursion}
 use Rattle.api_listing.specs.declared.events.Event.{Event}
 use Rattle.api_listing.specs.declared.events.Event.TheVariants as events

@@ -1,9 +1,8 @@
 -- One step of a program: a case for each group of instructions. A step that is not enabled has no value.
-use Rattle.std.specs.Prelude.{◌≡◌, ℕ, ℤ, ◌+◌, ◌-◌, ◌==◌, ◌&&◌, Bool, true, false, not, bytes_eq, codes, if◌then◌else◌, List, [], ◌∷◌, ◌++◌, length, drop, replicate, Option, Some, None, is_some, option_map, option_and_then, slice_get, slice_set}
+use Rattle.std.specs.Prelude.{ℕ, ℤ, ◌+◌, ◌-◌, ◌==◌, Bool, false, codes, if◌then◌else◌, List, [], ◌∷◌, ◌++◌, length, drop, replicate, Option, Some, None, is_some, option_map, option_and_then, slice_get, slice_set}
 use Rattle.std.specs.Option.{option_map_or, option_to_list}
 use Rattle.api_listing.specs.declared.events.ApiAnswer.{ApiAnswer}
 use Rattle.api_listing.specs.declared.events.ApiAnswer.TheVariants as answers
-use Rattle.api_listing.specs.declared.events.ApiValue.TheVariants as api
 use Rattle.api_listing.specs.declared.events.Event.{Event}
 use Rattle.api_listing.specs.declared.events.Event.TheVariants as events
 use Rattle.api_listing.specs.declared.types.ListedMethod.{ListedMethod}
@@ -38,7 +37,6 @@ use Rattle.guest_model.specs.declared.machine.Step.{Step}
 use Rattle.guest_model.specs.Answers.{fits_number, may_throw}
 use Rattle.guest_model.specs.Calls.{types_of, arity, Taken, taken, value_seen, values_seen_by}
 use Rattle.guest_model.specs.Monitors.{entered, left, all_given_up}
-use Rattle.bytecode_model.specs.Classes.{classes_of}
 use Rattle.guest_model.specs.Places.{class_index, method_at, insn_at, moved_to, fitted, after}
 use Rattle.guest_model.specs.Throwing.{unwound, locks_left, bare_object}
 use Rattle.guest_model.specs.Values.{values_moved, values_seen, fits, is_null}

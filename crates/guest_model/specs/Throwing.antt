@@ -1,5 +1,5 @@
 -- What throwing does: frames are left until one has a handler. (The Java Virtual Machine Specification, section 2.10.)
-use Rattle.std.specs.Prelude.{ℕ, Bool, true, false, ◌&&◌, ◌||◌, nat_le, nat_lt, if◌then◌else◌, List, [], ◌∷◌, ◌++◌, length, find, Option, Some, None, option_map, option_and_then, slice_get}
+use Rattle.std.specs.Prelude.{ℕ, Bool, true, ◌&&◌, nat_le, nat_lt, if◌then◌else◌, List, [], ◌∷◌, ◌++◌, find, Option, Some, None, option_and_then}
 use Rattle.std.specs.Option.{option_map_or, option_to_list}
 use Rattle.bytecode_model.specs.declared.program.Handler.{Handler}
 use Rattle.bytecode_model.specs.declared.program.Method.{Method}

@@ -1,5 +1,5 @@
 -- Values as what instructions move. Numbers wrap at 32 bits. (The Java Virtual Machine Specification, section 6.5.)
-use Rattle.std.specs.Prelude.{ℕ, ℤ, pos, ◌+◌, ◌^◌, ◌/◌, ◌%◌, ◌==◌, Bool, true, false}
+use Rattle.std.specs.Prelude.{ℕ, ℤ, pos, ◌^◌, ◌/◌, ◌%◌, ◌==◌, Bool, true, false}
 use Rattle.std.specs.Int.{w8, w16, w32, cast_signed, cast_unsigned, int_wrapping_add, int_wrapping_sub, int_wrapping_mul, int_wrapping_neg, int_bit_and, int_bit_or, int_bit_xor, int_shl, int_shr}
 use Rattle.guest_heap.specs.declared.value.Value.{Value}
 use Rattle.guest_heap.specs.declared.value.Value.TheVariants as values

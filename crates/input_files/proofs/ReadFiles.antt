@@ -1,14 +1,10 @@
 -- Reading the file of a name as a kind of file.
-use Rattle.std.proofs.Common.{◌≡◌, ◌≤◌, ℕ, List, length, Result, Ok, Err, subst, inl, inr, ⊎_elim}
+use Rattle.std.proofs.Common.{◌≤◌, ℕ, List, Err, inl, inr, ⊎_elim}
 use Rattle.mon_store.specs.Store.{Files}
 use Rattle.mon_store.proofs.StoreLaws.{Caused-since}
-use Rattle.input_files.specs.declared.fault.InputFault.{InputFault}
-use Rattle.input_files.specs.declared.fault.InputFault.TheVariants as faults
 use Rattle.input_files.specs.declared.files.Stop.{Stop}
 use Rattle.input_files.specs.declared.files.Stop.TheVariants.{Input, Unread, Memory}
-use Rattle.input_files.specs.Forms.{Form, Count, HasText, IsUnread, ReadsForm, ReadsText}
-use Rattle.input_files.specs.Named.{IsNoMemory, IsOfName}
-use Rattle.mon_base.specs.Answer.{Fails, Answers}
+use Rattle.input_files.specs.Forms.{Form, Count, IsUnread, ReadsForm}
 
 -- ---- since an earlier call
 

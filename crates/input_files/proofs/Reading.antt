@@ -13,9 +13,8 @@ use Rattle.input_files.specs.CheckInputs.{ReadsCheck}
 use Rattle.input_files.specs.Named.{ReadsClasses, AreClasses}
 use Rattle.input_files.specs.PolicyInputs.{ReadsPolicy}
 use Rattle.input_files.specs.RaceInputs.{ReadsRace}
-use Rattle.input_files.specs.ShowInputs.{ReadsShow}
 use Rattle.input_files.specs.Kinds.{certificate_form, listing_form, policy_form, record_form}
-use Rattle.command_words.specs.Words.{NamedCheck, NamedPolicy, NamedRace, NamedShow}
+use Rattle.command_words.specs.Words.{NamedCheck, NamedPolicy, NamedRace}
 use Rattle.input_files.proofs.ReadFiles.{counted, stops_since}
 use Rattle.input_files.proofs.ClassFiles.{among_since}
 

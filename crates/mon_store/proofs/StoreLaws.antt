@@ -1,8 +1,7 @@
 -- What a caller of several calls wants of them: a fault that was counted late was counted since the first call, and a
 -- file that was written is there.
-use Rattle.std.proofs.Common.{◌≡◌, ◌≤◌, ℕ, List, Bool, true, false, Some, None, bytes_eq, inl, inr, refl, arith}
-use Rattle.std.proofs.lemmas.Slice.Eq.{bytes_eq-Decides}
-use Rattle.mon_store.specs.Store.{Files, Rose, Caused, HasFile, written}
+use Rattle.std.proofs.Common.{◌≡◌, ◌≤◌, ℕ, List, Bool, true, false, inl, inr, refl, arith}
+use Rattle.mon_store.specs.Store.{Rose, Caused}
 
 -- what rose since a later count rose since the first
 pub Rose-since : (first second third : ℕ) → first ≤ second → Rose second third → Rose first third

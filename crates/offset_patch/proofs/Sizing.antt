@@ -1,6 +1,6 @@
 -- Weaving a method stops at the first of its sizes that does not fit.
 use Rattle.std.proofs.Common.{◌≡◌, ℕ, zero, suc, ◌+◌, ◌≤◌, Bool, true, false, cond, List, [], ◌∷◌, ◌++◌, length, map, take, Option, Some, None, Result, Ok, Err, refl, sym, ap, ◌∙◌, arith}
-use Rattle.std.specs.Prelude.{⊤, ℤ, pos, ◌-ℤ◌, nat_le, not, find, slice_index, if◌then◌else◌}
+use Rattle.std.specs.Prelude.{⊤, ℤ, pos, ◌-ℤ◌, nat_le, not, find, slice_index}
 use Rattle.std.specs.Option.{option_or}
 use Rattle.std.specs.List.{AllByRecursion}
 use Rattle.std.proofs.lemmas.Bool.Decides.{nat_tests}

@@ -2,7 +2,6 @@
 use Rattle.std.proofs.Common.{◌≡◌, cond, ℕ, ◌+◌, Bool, true, false, List, [], ◌∷◌, ◌++◌, length, Option, Some, None, option_map, map, refl, sym, ap, subst, ◌∙◌, append_assoc, append-nil, zero-add, arith}
 use Rattle.std.specs.Prelude.{bytes_eq, ◌==◌, codes}
 use Rattle.std.specs.List.{position_from}
-use Rattle.std.proofs.lemmas.List.{length-append, length-map, map-append}
 use Rattle.class_codec.specs.declared.tree.Const.{Const}
 use Rattle.class_codec.specs.declared.tree.Const.TheVariants as constants
 use Rattle.offset_patch.specs.declared.block.PoolWant.{PoolWant}

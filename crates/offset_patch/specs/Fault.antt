@@ -1,5 +1,5 @@
 -- How calls answer what weaving gives.
-use Rattle.std.specs.Prelude.{◌≡◌, ◌<◌, ◌^◌, ⊤, ℕ, pos, nat_le, List, Option, Some, None, Result, Ok, Err}
+use Rattle.std.specs.Prelude.{◌<◌, ◌^◌, ⊤, ℕ, pos, nat_le, List, Option, Some, None, Result, Ok, Err}
 use Rattle.mon_base.specs.Reading.{need}
 use Rattle.insn_codec.specs.declared.fault.CodeOverflow.{CodeOverflow}
 use Rattle.insn_codec.specs.declared.fault.CodeOverflow.TheVariants as codes

@@ -1,23 +1,17 @@
 -- What is thrown: no other type stands for it for which it stands.
-use Rattle.std.proofs.Common.{◌≡◌, ℕ, zero, suc, Bool, true, false, List, [], ◌∷◌, ◌⊎◌, length, drop, Option, Some, None, refl, sym, ap, subst, ◌∙◌, inl, inr}
+use Rattle.std.proofs.Common.{◌≡◌, ℕ, zero, suc, true, false, List, length, sym, ap, subst, ◌∙◌, inl, inr}
 use Rattle.std.specs.Prelude.{bytes_eq}
-use Rattle.std.specs.Option.{option_map_or}
-use Rattle.std.proofs.lemmas.Bool.{cases_Bool, false≢true}
-use Rattle.api_listing.specs.declared.types.ListedClass.{ListedClass}
+use Rattle.std.proofs.lemmas.Bool.{false≢true}
 use Rattle.api_listing.specs.BuiltIn.{object, throwable}
-use Rattle.api_listing.specs.Nearest.{class_named, upwards}
 use Rattle.bytecode_model.specs.declared.program.Program.{Program}
 use Rattle.bytecode_model.specs.Classes.{classes_of, is_below, is_interface}
-use Rattle.bytecode_model.specs.Conditions.{stays_within}
 use Rattle.cert_format.specs.declared.typing.VType.{VType}
 use Rattle.cert_format.specs.declared.typing.VType.TheVariants as types
 use Rattle.bytecode_model.specs.Arrays.{is_array}
 use Rattle.bytecode_model.specs.Assigning.{class_fits, array_fits, name_fits, assignable}
 use Rattle.bytecode_model.specs.Order.{IsInOrder}
-use Rattle.bytecode_model.proofs.Upwards.{one_named}
-use Rattle.bytecode_model.proofs.Upwards.{either_of, named_so, is_up, up_from}
+use Rattle.bytecode_model.proofs.Upwards.{either_of}
 use Rattle.type_lattice.proofs.Orders.{Fit, equal, top, interface, under, seen, array_first, array_second}
-use Rattle.bytecode_model.proofs.Upwards.{same_of, of_same}
 use Rattle.bytecode_model.proofs.Ending.{one_of_both, unnamed_up}
 
 module _ (program : Program) (order : IsInOrder program) (class : List ℕ) (thrown : is_below program class throwable ≡ true) where

@@ -1,12 +1,11 @@
 -- Classes that are found by their names, with the ways up.
-use Rattle.std.specs.Prelude.{◌≡◌, ℕ, suc, Bool, bytes_eq, List, length, map, find, Option, option_map, Vec}
+use Rattle.std.specs.Prelude.{◌≡◌, ℕ, suc, Bool, bytes_eq, List, map, find, Option, option_map, Vec}
 use Rattle.std.specs.List.{list_any}
 use Rattle.std.specs.Ordering.{nat_cmp}
 use Rattle.std.specs.Cmp.Lexicographic.{slice_cmp}
 use Rattle.std.specs.BTreeMap.{BTreeMap, get_by}
 use Rattle.std.specs.Global.{Global}
 use Rattle.api_listing.specs.declared.types.ListedClass.{ListedClass}
-use Rattle.api_listing.specs.Nearest.{upwards}
 use Rattle.bytecode_model.specs.Places.{class_place}
 use Rattle.bytecode_model.specs.Order.{EachWayEnds}
 use Rattle.bytecode_model.specs.SearchOrder.{superclasses}

@@ -1,16 +1,10 @@
 -- The types in order: what holds of assignability and of the least type above two.
-use Rattle.std.specs.Prelude.{◌≡◌, ℕ, true, false, ◌⊎◌, List, None, Ok}
-use Rattle.api_listing.specs.declared.types.Listing.{Listing}
-use Rattle.api_listing.specs.BuiltIn.{object, throwable}
-use Rattle.api_listing.specs.Listing.{SpellsListing}
-use Rattle.api_listing.specs.Nearest.{class_named}
+use Rattle.std.specs.Prelude.{◌≡◌, ℕ, true, List}
+use Rattle.api_listing.specs.BuiltIn.{throwable}
 use Rattle.bytecode_model.specs.declared.program.Program.{Program}
-use Rattle.bytecode_model.specs.declared.program.Side.{Side}
-use Rattle.bytecode_model.specs.Classes.{classes_of, is_below, is_interface}
-use Rattle.class_codec.specs.declared.tree.ClassFile.{ClassFile}
+use Rattle.bytecode_model.specs.Classes.{is_below}
 use Rattle.cert_format.specs.declared.typing.VType.{VType}
 use Rattle.cert_format.specs.declared.typing.VType.TheVariants as types
-use Rattle.bytecode_model.specs.Arrays.{is_array}
 use Rattle.bytecode_model.specs.Assigning.{assignable}
 use Rattle.bytecode_model.specs.Order.{IsInOrder}
 use Rattle.type_lattice.specs.Merging.{merged}

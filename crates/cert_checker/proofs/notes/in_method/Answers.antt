@@ -1,4 +1,4 @@
-use Rattle.std.proofs.Common.{◌≡◌, ◌<◌, ◌+◌, ◌-◌, ◌∙◌, Some, None, sym, refl, arith}
+use Rattle.std.proofs.Common.{◌≡◌, ◌+◌, ◌-◌, ◌∙◌, Some, None, sym, refl, arith}
 use Rattle.block_logic.specs.Accepted.{reached_fault}
 use Rattle.cert_checker.specs.Places.{first_from}
 use Rattle.cert_checker.proofs.Noted.{step_from}
