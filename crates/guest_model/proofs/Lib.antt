@@ -4,3 +4,8 @@ mod Throwing
 mod Stepping
 pub mod Standing
 mod First
+pub mod Always
+mod Effects
+mod Arithmetic
+mod Numbers
+mod InRange

@@ -8,3 +8,5 @@ pub mod Stepping
 pub mod Runs
 pub mod Standing
 pub mod First
+pub mod Always
+pub mod Numbers

@@ -7,5 +7,8 @@
 mod laws;
 mod machine;
 
-pub use laws::{sees_only_what_is_called, sees_the_first_call};
+pub use laws::{
+    sees_numbers_in_range, sees_only_what_is_called, sees_the_first_call,
+    what_each_step_keeps_holds_always,
+};
 pub use machine::{Choice, End, Machine, Step};
