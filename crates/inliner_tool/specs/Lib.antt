@@ -12,3 +12,4 @@ pub mod Expected
 pub mod Weaving
 pub mod Inline
 pub mod Tool
+pub mod Decision
