@@ -26,5 +26,6 @@ IsDecision status = (status ≡ statuses.Done) ⊎ ((status ≡ statuses.Denied)
 -- What `race` answers to such files, without a fault of the store, is a decision.
 abbrev pub RaceDecides : Type 0
 RaceDecides =
-    (old new : Files) (count : Count) (named : NamedRace) (answer : Answer) → IsAnswer (λ answer. CarriesOut old new count (Race named) answer) answer
+    (old new : Files) (count : Count) (named : NamedRace) (answer : Answer)
+    → IsAnswer (λ answer. CarriesOut old new count (Race named) answer) answer
     → (Rose count.before count.now → ⊥) → NamesPolicy old named → IsDecision (status_of answer)
