@@ -11,3 +11,4 @@ pub mod Expected
 pub mod Weaving
 pub mod Inline
 pub mod Tool
+pub mod Decision

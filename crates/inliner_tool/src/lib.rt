@@ -19,6 +19,7 @@ mod tool;
 mod weaving;
 
 pub use answer::Answer;
+pub use race::race_decides;
 pub use tool::{Status, run_tool};
 
 #[cfg(test)]

@@ -4,6 +4,7 @@ ghost use Rattle.std.specs.Prelude.{◌≡◌, ◌≤◌};
 ghost use Rattle.command_words.specs.Words.{Race, race_named};
 ghost use Rattle.conspec_tree.specs.Tree.{IsPolicyTree};
 ghost use Rattle.inliner_tool.specs.Answers.{Is, stopped};
+ghost use Rattle.inliner_tool.specs.Decision.{RaceDecides};
 ghost use Rattle.inliner_tool.specs.Race.{fault_answer, race_answer, verdict_answer};
 ghost use Rattle.inliner_tool.specs.Tool.{CarriesOut, IsAnswer};
 ghost use Rattle.input_files.specs.Forms.{since};
@@ -83,3 +84,9 @@ fn fault_answer(fault: RaceFault) -> Answer
         RaceFault::Memory => Answer::Memory,
     }
 }
+
+/// To files that are a listing and a policy, where the store tells them and counts no fault, `race` answers yes or no, or
+/// that memory ran out: its status is 0, 1 or 7.
+pub fn race_decides()
+    ensures { RaceDecides }
+{}

@@ -1,0 +1,31 @@
+-- That `race` decides: to a listing and a policy in their grammars and limits it answers yes or no, or memory runs out.
+use Rattle.std.specs.Prelude.{◌≡◌, ◌⊎◌, Ok, IsSome}
+use Rattle.api_listing.specs.declared.types.Listing.{Listing}
+use Rattle.conspec_tree.specs.declared.types.PolicyTree.{PolicyTree}
+use Rattle.mon_store.specs.Store.{Files, Rose}
+use Rattle.command_words.specs.Words.{NamedRace, Race}
+use Rattle.input_files.specs.Forms.{Count, IsRead}
+use Rattle.input_files.specs.Kinds.{listing_form, policy_form}
+use Rattle.inliner_tool.specs.declared.answer.Answer.{Answer}
+use Rattle.inliner_tool.specs.declared.tool.Status.{Status}
+use Rattle.inliner_tool.specs.declared.tool.Status.TheVariants as statuses
+use Rattle.inliner_tool.specs.Tool.{CarriesOut, IsAnswer, status_of}
+
+-- The files are told, and those of these names are a listing and a policy over it, in their grammars and limits.
+pub record NamesPolicy (files : Files) (named : NamedRace) : Type 0 where
+  pub told : IsSome files
+  pub listing : Listing
+  pub listing_read : IsRead files named.listing listing_form (Ok listing)
+  pub policy : PolicyTree
+  pub policy_read : IsRead files named.policy (policy_form listing) (Ok policy)
+
+-- 0, 1 or 7: yes, no, or no memory.
+abbrev pub IsDecision : Status → Type 0
+IsDecision status = (status ≡ statuses.Done) ⊎ ((status ≡ statuses.Denied) ⊎ (status ≡ statuses.Memory))
+
+-- What `race` answers to such files, without a fault of the store, is a decision.
+abbrev pub RaceDecides : Type 0
+RaceDecides =
+    (old new : Files) (count : Count) (named : NamedRace) (answer : Answer)
+    → IsAnswer (λ answer. CarriesOut old new count (Race named) answer) answer
+    → (Rose count.before count.now → ⊥) → NamesPolicy old named → IsDecision (status_of answer)
