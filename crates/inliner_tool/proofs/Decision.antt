@@ -1,8 +1,7 @@
 -- To files that are told, and are a listing and a policy, `race` answers what is decided, or that memory ran out.
-use Rattle.std.proofs.Common.{◌≡◌, ◌⊎◌, inl, inr, ℕ, ◌<◌, ◌≤◌, List, length, Option, Some, None, Result, Ok, Err, refl, sym, ap, subst, ◌∙◌, arith}
+use Rattle.std.proofs.Common.{◌≡◌, ◌⊎◌, inl, inr, ℕ, List, length, Option, Some, None, Result, Ok, Err, refl, sym, ap, subst, ◌∙◌, arith}
 use Rattle.std.specs.Prelude.{IsSome, IsSomeAnd}
 use Rattle.api_listing.specs.declared.types.Listing.{Listing}
-use Rattle.conspec_tree.specs.declared.types.PolicyTree.{PolicyTree}
 use Rattle.conspec_automaton.specs.Building.{built}
 use Rattle.mon_store.specs.Store.{Files, HasFile, Lacks, Rose}
 use Rattle.command_words.specs.Words.{NamedRace, Race}
