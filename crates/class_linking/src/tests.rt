@@ -155,9 +155,15 @@ fn refusals(rt: HostRuntime) -> Result<(), Fail> {
     let listed = "class a/E extends java/lang/Object\n";
     assert_eq!(rt; refused(alloc, listed, QUIET, "a/E", original)?, "twice");
     let unlisted = "class api/Net extends java/lang/Object\n";
-    assert_eq!(rt; refused(alloc, unlisted, SENDS, "a/S", original)?, "unresolved");
+    assert_eq!(rt;
+        refused(alloc, unlisted, SENDS, "a/S", original)?,
+        "unresolved"
+    );
     let above = with(alloc, QUIET, 22, b"k")?;
-    assert_eq!(rt; refused(alloc, "", &above, "a/E", original)?, "superclass left out");
+    assert_eq!(rt;
+        refused(alloc, "", &above, "a/E", original)?,
+        "superclass left out"
+    );
     assert_eq!(rt; refused(alloc, "", STATE, "a/E", original)?, "name taken");
     assert_eq!(rt; refused(alloc, "", STATE, "a/E", Side::Inlined)?, "no main");
     Ok(())
@@ -173,7 +179,10 @@ fn refusals_of_methods(rt: HostRuntime) -> Result<(), Fail> {
     assert_eq!(rt; refused(alloc, "", &code, "a/E", original)?, "code");
     let listed = "method java/lang/Object main ([Ljava/lang/String;)V\n";
     let instance = with(alloc, QUIET, 93, b"\x01")?;
-    assert_eq!(rt; refused(alloc, listed, &instance, "a/E", original)?, "overrides");
+    assert_eq!(rt;
+        refused(alloc, listed, &instance, "a/E", original)?,
+        "overrides"
+    );
     let name = with(alloc, QUIET, 13, b"-")?;
     assert_eq!(rt; refused(alloc, "", &name, "a/E", original)?, "name");
     let operand = with(alloc, SENDS, 151, b"\x00\x07")?;
