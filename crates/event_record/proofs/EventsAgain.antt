@@ -36,7 +36,7 @@ append_none [] = refl
 append_none (x ∷ xs) = ap (λ (t : List ℕ). x ∷ t) (append_none xs)
 
 -- the same as each word behind a space
-spaced_is : (word : List ℕ) (words : List (List ℕ)) → word ++ flat_map behind words ≡ spaced word words
+pub spaced_is : (word : List ℕ) (words : List (List ℕ)) → word ++ flat_map behind words ≡ spaced word words
 spaced_is word [] = append_none word
 spaced_is word (next ∷ words) = ap (λ (t : List ℕ). word ++ 32 ∷ t) (spaced_is next words)
 

@@ -8,5 +8,7 @@ pub mod Found
 pub mod LineLaws
 pub mod TextLaws
 pub mod RecordsAgain
+pub mod Joining
+pub mod WrittenAgain
 pub mod FirstFault
 pub mod Indices

@@ -23,7 +23,7 @@ use Rattle.event_record.proofs.Unbroken.{decimal_word, in_line, no_newline, sign
 two : (kind : List ℕ) (n : ℕ) → HasNoBreak kind → n < 2 ^ 63 → AllByRecursion HasNoBreak (codes "end" ∷ kind ∷ decimal n ∷ [])
 two kind n clear few = (written (codes "end") refl, (clear, (decimal_word n (omega (arith, few)), tt)))
 
-end_has_words : (ending : Ending) → IsEnding ending → AllByRecursion HasNoBreak (ending_words ending)
+pub end_has_words : (ending : Ending) → IsEnding ending → AllByRecursion HasNoBreak (ending_words ending)
 end_has_words (Finished n) is = two (codes "finished") n (written (codes "finished") refl) is.count
 end_has_words (Deadlock n) is = two (codes "deadlock") n (written (codes "deadlock") refl) is.count
 end_has_words (Stopped value n) is =
@@ -44,10 +44,10 @@ joined_pieces : (words : List (List ℕ)) → 0 < length words → AllByRecursio
 joined_pieces [] some clear = absurd (omega arith)
 joined_pieces (word ∷ words) some clear = spaced_pieces word words clear.0 clear.1
 
-abbrev end_text : Ending → List ℕ
+abbrev pub end_text : Ending → List ℕ
 end_text ending = join_with_byte 32 (ending_words ending)
 
-end_is_spelled : (ending : Ending) → IsEnding ending → SpellsEnd (pieces 32 (end_text ending))
+pub end_is_spelled : (ending : Ending) → IsEnding ending → SpellsEnd (pieces 32 (end_text ending))
 end_is_spelled ending is = record { ending = ending; spelled = joined_pieces (ending_words ending) (some_words ending) (end_has_words ending is); is = is }
 
 -- ---- the entries

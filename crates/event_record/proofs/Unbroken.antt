@@ -77,7 +77,7 @@ hex_letters : (bytes : List ℕ) → HasNoBreak (flat_map hex_byte bytes)
 hex_letters [] = tt
 hex_letters (b ∷ bytes) = (hex_letter (b / 16), (hex_letter (b % 16), hex_letters bytes))
 
-hex_word : (bytes : List ℕ) → HasNoBreak (hex bytes)
+pub hex_word : (bytes : List ℕ) → HasNoBreak (hex bytes)
 hex_word [] = (far 45 (omega arith), tt)
 hex_word (b ∷ bytes) = hex_letters (b ∷ bytes)
 

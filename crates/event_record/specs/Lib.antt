@@ -6,4 +6,6 @@ pub mod Record
 pub mod Printing
 pub mod Spelling
 pub mod Again
+pub mod Writing
+pub mod Joined
 pub mod FirstFault

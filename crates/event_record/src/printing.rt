@@ -61,7 +61,7 @@ pub fn events_are_read_again()
 {}
 
 /// Two digits for each byte, or `-` for none.
-fn push_hex(out: &mut Bytes, bytes: &[u8]) -> Result<(), NoMemory>
+pub fn push_hex(out: &mut Bytes, bytes: &[u8]) -> Result<(), NoMemory>
     ensures { OnOk result (out.new ≡ out.old ++ hex bytes.now) }
 {
     match bytes {

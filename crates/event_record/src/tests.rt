@@ -2,6 +2,7 @@
 
 mod faults;
 mod lines;
+mod writing;
 
 use crate::{Record, RecordFault, read_record};
 use listing_text::read;

@@ -8,11 +8,11 @@ use std::alloc::Global;
 use std::process::Abort;
 use std::test::Fail;
 
-fn bytes(alloc: Global, text: &[u8]) -> Result<Bytes, NoMemory> {
+pub fn bytes(alloc: Global, text: &[u8]) -> Result<Bytes, NoMemory> {
     Bytes::from_slice(alloc, text)
 }
 
-fn answers(alloc: Global) -> Result<List<(&'static str, ApiAnswer)>, NoMemory> {
+pub fn answers(alloc: Global) -> Result<List<(&'static str, ApiAnswer)>, NoMemory> {
     let mut table = List::new(alloc);
     table.push(("answer 7 nothing", ApiAnswer::Nothing))?;
     table.push(("answer 7 int -2147483648", ApiAnswer::Int(-2147483648)))?;
