@@ -1,5 +1,28 @@
 -- Frames whose locals and operands fit the types that are told of the place where they stand.
-use Rattle.std.proofs.Common.{◌≡◌, ℕ, ◌-◌, Bool, true, false, cond, List, [], ◌∷◌, ◌++◌, length, map, reverse, Option, Some, None, refl, sym, ap, subst, ◌∙◌}
+use Rattle.std.proofs.Common.{
+  ◌≡◌,
+  ℕ,
+  ◌-◌,
+  Bool,
+  true,
+  false,
+  cond,
+  List,
+  [],
+  ◌∷◌,
+  ◌++◌,
+  length,
+  map,
+  reverse,
+  Option,
+  Some,
+  None,
+  refl,
+  sym,
+  ap,
+  subst,
+  ◌∙◌,
+}
 use Rattle.std.specs.Prelude.{Contains, find, not, ◌&&◌, ◌||◌, nat_lt, nat_le, slice_get}
 use Rattle.std.specs.List.{list_all, range_with_len}
 use Rattle.std.specs.Option.{option_map_or}
@@ -28,7 +51,27 @@ use Rattle.bytecode_model.specs.declared.program.Method.{Method}
 use Rattle.bytecode_model.specs.declared.program.Program.{Program}
 use Rattle.bytecode_model.specs.Makes.{type_at, stores, changed, changed_by, local_after, topmost, below, yields, stack_after}
 use Rattle.bytecode_model.specs.Place.{Place}
-use Rattle.bytecode_model.specs.Rules.{Frames, frame_of, covers, class_caught, local_caught, is_alone, is_handled, goes_well, catches_well, taken, locals_fit, stack_fits, Successor, Caught, Depth, Operand, Local, Made, row_failing}
+use Rattle.bytecode_model.specs.Rules.{
+  Frames,
+  frame_of,
+  covers,
+  class_caught,
+  local_caught,
+  is_alone,
+  is_handled,
+  goes_well,
+  catches_well,
+  taken,
+  locals_fit,
+  stack_fits,
+  Successor,
+  Caught,
+  Depth,
+  Operand,
+  Local,
+  Made,
+  row_failing,
+}
 use Rattle.bytecode_model.specs.Typed.{IsTyped, row_fault, place_at, frames_in, frames_told}
 use Rattle.bytecode_model.specs.Wants.{takes}
 use Rattle.code_typing.specs.Moving.{types_moved, padded}
@@ -38,7 +81,21 @@ use Rattle.guest_model.specs.Places.{method_at, moved_to, fitted}
 use Rattle.guest_model.specs.Throwing.{catches, handler_of, caught_in}
 use Rattle.guest_model.specs.Values.{is_reference, values_moved}
 use Rattle.guest_model.proofs.Options.{IfThere, if_none, if_some, if_either, if_then, and_then_of, find_is}
-use Rattle.cert_checker.proofs.Kinded.{fits_type, Typed, thrown_keeps, changed_keeps, respects, append_typed, Widens, reverse_widens, widened, stack_widens, map_widens, places_widen, locals_widen}
+use Rattle.cert_checker.proofs.Kinded.{
+  fits_type,
+  Typed,
+  thrown_keeps,
+  changed_keeps,
+  respects,
+  append_typed,
+  Widens,
+  reverse_widens,
+  widened,
+  stack_widens,
+  map_widens,
+  places_widen,
+  locals_widen,
+}
 
 contained : {A : Type 0} (p : A → Bool) (xs : List A) (x : A) → list_all p xs ≡ true → Contains xs x → p x ≡ true
 contained p xs x h c = All-contains (λ y. p y ≡ true) xs x (AllPass-from_list_all p xs h) c

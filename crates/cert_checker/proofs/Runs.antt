@@ -33,7 +33,20 @@ use Rattle.std.proofs.Common.{
   ◌∙◌,
   arith,
 }
-use Rattle.std.specs.Prelude.{IsSomeAnd, Contains, get_or, not, ◌==◌, bytes_eq, codes, is_some, nat_le, slice_get, option_map, option_and_then}
+use Rattle.std.specs.Prelude.{
+  IsSomeAnd,
+  Contains,
+  get_or,
+  not,
+  ◌==◌,
+  bytes_eq,
+  codes,
+  is_some,
+  nat_le,
+  slice_get,
+  option_map,
+  option_and_then,
+}
 use Rattle.std.specs.List.{AllByRecursion, range_with_len}
 use Rattle.std.specs.Option.{option_map_or, option_to_list}
 use Rattle.std.proofs.lemmas.Bool.{and_parts, leb-true, eqb-true}
@@ -125,7 +138,49 @@ use Rattle.guest_model.specs.Monitors.{entered, left}
 use Rattle.guest_model.specs.Places.{class_index, method_at, insn_in, insn_at, after}
 use Rattle.guest_model.specs.Runs.{trace}
 use Rattle.guest_model.specs.Standing.{HasInsns}
-use Rattle.guest_model.specs.Stepping.{Made, running, begun, begun_with, main_argument, resting, goes_on, frame_stepped, constant_value, with_held, enters, leaves, left_with, throws_top, returned, result_of, returns, calls_api, calls_listed, exits, calls, heap_stepped, shape_stepped, insn_stepped, api_returned, answered, null_answered, call_answered, frames_stepped, doing_stepped, put_back, stepped, null_pointer, bad_monitor, throws_new, throws, thrown_thread, thrown_class, number_in, is_exit, is_on_null}
+use Rattle.guest_model.specs.Stepping.{
+  Made,
+  running,
+  begun,
+  begun_with,
+  main_argument,
+  resting,
+  goes_on,
+  frame_stepped,
+  constant_value,
+  with_held,
+  enters,
+  leaves,
+  left_with,
+  throws_top,
+  returned,
+  result_of,
+  returns,
+  calls_api,
+  calls_listed,
+  exits,
+  calls,
+  heap_stepped,
+  shape_stepped,
+  insn_stepped,
+  api_returned,
+  answered,
+  null_answered,
+  call_answered,
+  frames_stepped,
+  doing_stepped,
+  put_back,
+  stepped,
+  null_pointer,
+  bad_monitor,
+  throws_new,
+  throws,
+  thrown_thread,
+  thrown_class,
+  number_in,
+  is_exit,
+  is_on_null,
+}
 use Rattle.guest_model.specs.Throwing.{caught_in}
 use Rattle.guest_model.specs.Values.{is_null, is_reference, values_moved, values_seen}
 use Rattle.guest_model.proofs.Always.{holds_always}
@@ -736,7 +791,8 @@ module _ (program : Program) (typing : Typing) where
         let m = map_of (put_back step.thread) (doing_stepped program machine step.thread a.0 a.0.doing step.choice) made a.2 in
         let all = was.threads on.1 in
         let fit : FitsThread a.0 = all_get FitsThread machine.threads step.thread a.0 all a.1 in
-        let good : GoodMade machine m.0 = thread_good machine step.thread a.0.frames a.0.to_begin a.0.doing step.choice fit.later fit.frames_fit m.0 m.1 in
+        let good : GoodMade machine m.0 =
+        thread_good machine step.thread a.0.frames a.0.to_begin a.0.doing step.choice fit.later fit.frames_fit m.0 m.1 in
         let others : AllByRecursion FitsThread m.0.0.threads = subst (AllByRecursion FitsThread) (sym good.same) all in
         subst (λ (x : Machine × Option Event). AllFit x.0 (seen ++ option_to_list x.1)) m.2 (record {
           threads = λ goes. all_set FitsThread m.0.0.threads step.thread m.0.1 others (good.thread goes);
