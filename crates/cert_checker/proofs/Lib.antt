@@ -4,3 +4,8 @@ mod Noted
 mod Calls
 mod Security
 mod Denied
+mod Kinded
+mod Ready
+mod Passing
+mod Runs
+mod Formed

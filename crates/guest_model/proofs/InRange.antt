@@ -507,11 +507,11 @@ module _ (program : Program) (sound : IsSound program) (named : AreNamed program
       record { c = h.0; class_there = h.1; in_class = h.2; well = all_get IsSoundClass program.classes class h.0 sound.classes h.1 }
 
   -- an instruction of a method, and what its operand names
-  record HasInsn (of : Method) (at : ℕ) (insn : Insn) (ref : Target) : Type 0 where
+  pub record HasInsn (of : Method) (at : ℕ) (insn : Insn) (ref : Target) : Type 0 where
     pub insn_there : slice_get of.insns at ≡ Some insn
     pub ref_there : slice_get of.refs at ≡ Some ref
 
-  has_insn : (of : Method) (at : ℕ) (insn : Insn) (ref : Target) → insn_in of at ≡ Some (insn, ref) → HasInsn of at insn ref
+  pub has_insn : (of : Method) (at : ℕ) (insn : Insn) (ref : Target) → insn_in of at ≡ Some (insn, ref) → HasInsn of at insn ref
   has_insn of at insn ref e =
       let i = and_then_of (λ (i : Insn). option_map (λ (r : Target). (i, r)) (slice_get of.refs at)) (slice_get of.insns at)
       (insn, ref) e in
@@ -520,7 +520,7 @@ module _ (program : Program) (sound : IsSound program) (named : AreNamed program
       let same_ref : r.0 ≡ ref = ap (λ (p : Insn × Target). p.1) r.2 in
       record { insn_there = i.1 ∙ ap Some same_insn; ref_there = r.1 ∙ ap Some same_ref }
 
-  has_insns : HasInsns program
+  pub has_insns : HasInsns program
   has_insns class method at insn ref there =
       let f = found class method there.of there.there in
       let m : IsSoundMethod there.of = all_get IsSoundMethod f.c.methods method there.of f.well.methods f.in_class in

@@ -1,4 +1,4 @@
-mod Options
+pub mod Options
 mod Going
 mod Throwing
 mod Stepping
@@ -8,4 +8,4 @@ pub mod Always
 mod Effects
 mod Arithmetic
 mod Numbers
-mod InRange
+pub mod InRange
