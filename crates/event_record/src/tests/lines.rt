@@ -8,10 +8,12 @@ use std::alloc::Global;
 use std::process::Abort;
 use std::test::Fail;
 
+/// The bytes, owned.
 pub fn bytes(alloc: Global, text: &[u8]) -> Result<Bytes, NoMemory> {
     Bytes::from_slice(alloc, text)
 }
 
+/// Each kind of answer, with its line.
 pub fn answers(alloc: Global) -> Result<List<(&'static str, ApiAnswer)>, NoMemory> {
     let mut table = List::new(alloc);
     table.push(("answer 7 nothing", ApiAnswer::Nothing))?;
