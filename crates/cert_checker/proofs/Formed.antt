@@ -28,7 +28,8 @@ use Rattle.guest_model.specs.Answers.{is_number_of, fits_number}
 use Rattle.guest_model.specs.Calls.{types_of}
 use Rattle.guest_model.specs.Numbers.{IsWordSeen, ArePassed, IsReturned, IsInRange, SeesInRange}
 use Rattle.guest_model.specs.Runs.{trace}
-use Rattle.cert_checker.specs.Formed.{TellsTypes, ArePassedNumbers, PassesNumbers, SeesWellFormed}
+use Rattle.cert_checker.specs.Formed.{TellsTypes, SeesWellFormed}
+use Rattle.cert_checker.proofs.Passing.{ArePassedNumbers, PassesNumbers}
 use Rattle.cert_checker.proofs.Options.{all_at}
 use Rattle.cert_checker.proofs.Runs.{passes_numbers}
 

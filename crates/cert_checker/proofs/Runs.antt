@@ -201,9 +201,8 @@ use Rattle.guest_model.proofs.Options.{
   all_append,
   all_replicate,
 }
-use Rattle.cert_checker.specs.Formed.{ArePassedNumbers, PassesNumbers}
 use Rattle.cert_checker.proofs.Kinded.{fits_type, Typed, locals_widen, drop_typed, take_typed, reverse_typed, get_typed}
-use Rattle.cert_checker.proofs.Passing.{has_its_receiver, taking, as_many, met_at, passes_number, is_read, number_fits, nothing_fits}
+use Rattle.cert_checker.proofs.Passing.{ArePassedNumbers, PassesNumbers, has_its_receiver, taking, as_many, met_at, passes_number, is_read, number_fits, nothing_fits}
 use Rattle.cert_checker.proofs.Ready.{MeetsRules, alone_fits, heap_fits, split_stack, Stands, Ready, rules, next_ready, caught_ready}
 
 -- an instruction, and what its operand names
