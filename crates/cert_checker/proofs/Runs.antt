@@ -202,7 +202,18 @@ use Rattle.guest_model.proofs.Options.{
   all_replicate,
 }
 use Rattle.cert_checker.proofs.Kinded.{fits_type, Typed, locals_widen, drop_typed, take_typed, reverse_typed, get_typed}
-use Rattle.cert_checker.proofs.Passing.{ArePassedNumbers, PassesNumbers, has_its_receiver, taking, as_many, met_at, passes_number, is_read, number_fits, nothing_fits}
+use Rattle.cert_checker.proofs.Passing.{
+  ArePassedNumbers,
+  PassesNumbers,
+  has_its_receiver,
+  taking,
+  as_many,
+  met_at,
+  passes_number,
+  is_read,
+  number_fits,
+  nothing_fits,
+}
 use Rattle.cert_checker.proofs.Ready.{MeetsRules, alone_fits, heap_fits, split_stack, Stands, Ready, rules, next_ready, caught_ready}
 
 -- an instruction, and what its operand names
@@ -692,7 +703,8 @@ module _ (program : Program) (typing : Typing) where
       waiting doing = record { frames = frame ∷ []; to_begin = thread.to_begin; doing = doing }
 
       throws_event : (class : List ℕ)
-          → Good typed machine (Some (throws_new program machine number (frame ∷ []) thread.to_begin class (Some (events.Except number method))))
+          → Good typed machine
+          (Some (throws_new program machine number (frame ∷ []) thread.to_begin class (Some (events.Except number method))))
       throws_event class =
           throws_new_good typed machine number frame thread.to_begin class
           (Some (events.Except number method)) later w.stands w.insn w.insn_there (tt, tt)
