@@ -1,5 +1,27 @@
 -- The events that a program makes are those that a policy expects.
-use Rattle.std.proofs.Common.{◌≡◌, ℕ, ℤ, ◌<◌, Bool, true, false, cond, List, [], ◌∷◌, map, Option, Some, None, refl, sym, ap, subst, ◌∙◌, arith}
+use Rattle.std.proofs.Common.{
+  ◌≡◌,
+  ℕ,
+  ℤ,
+  ◌<◌,
+  Bool,
+  true,
+  false,
+  cond,
+  List,
+  [],
+  ◌∷◌,
+  map,
+  Option,
+  Some,
+  None,
+  refl,
+  sym,
+  ap,
+  subst,
+  ◌∙◌,
+  arith,
+}
 use Rattle.std.specs.Prelude.{◌≢◌, pos, negsuc, ◌==◌, find, int_le, slice_get, option_map, IsSomeAnd, FitsSigned}
 use Rattle.std.specs.Int.{w32}
 use Rattle.std.specs.List.{AllByRecursion}
@@ -28,7 +50,8 @@ use Rattle.guest_model.specs.Answers.{is_number_of, fits_number}
 use Rattle.guest_model.specs.Calls.{types_of}
 use Rattle.guest_model.specs.Numbers.{IsWordSeen, ArePassed, IsReturned, IsInRange, SeesInRange}
 use Rattle.guest_model.specs.Runs.{trace}
-use Rattle.cert_checker.specs.Formed.{TellsTypes, ArePassedNumbers, PassesNumbers, SeesWellFormed}
+use Rattle.cert_checker.specs.Formed.{TellsTypes, SeesWellFormed}
+use Rattle.cert_checker.proofs.Passing.{ArePassedNumbers, PassesNumbers}
 use Rattle.cert_checker.proofs.Options.{all_at}
 use Rattle.cert_checker.proofs.Runs.{passes_numbers}
 

@@ -7,5 +7,6 @@ mod Denied
 mod Kinded
 mod Ready
 mod Passing
+mod Beginning
 mod Runs
 mod Formed

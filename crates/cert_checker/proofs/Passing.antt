@@ -1,5 +1,35 @@
 -- What a typed call of the library passes and gets.
-use Rattle.std.proofs.Common.{◌≡◌, ℕ, ℤ, zero, suc, ◌<◌, Bool, true, false, cond, List, [], ◌∷◌, ◌++◌, length, map, reverse, replicate, Option, Some, None, refl, sym, ap, subst, ◌∙◌, arith, inl, inr}
+use Rattle.std.proofs.Common.{
+  ◌≡◌,
+  ℕ,
+  ℤ,
+  zero,
+  suc,
+  ◌<◌,
+  Bool,
+  true,
+  false,
+  cond,
+  List,
+  [],
+  ◌∷◌,
+  ◌++◌,
+  length,
+  map,
+  reverse,
+  replicate,
+  Option,
+  Some,
+  None,
+  refl,
+  sym,
+  ap,
+  subst,
+  ◌∙◌,
+  arith,
+  inl,
+  inr,
+}
 use Rattle.std.specs.Prelude.{◌≢◌, not, ◌&&◌, ◌==◌, codes, bytes_eq, slice_get, Ok, Err, is_ok}
 use Rattle.std.specs.Bool.{beq}
 use Rattle.std.proofs.lemmas.Bool.{and_parts, eqb-true, cases_lt}
@@ -7,6 +37,11 @@ use Rattle.api_listing.specs.declared.descriptor.Element.{Element}
 use Rattle.api_listing.specs.declared.descriptor.Element.TheVariants as elements
 use Rattle.api_listing.specs.declared.descriptor.FieldType.{FieldType}
 use Rattle.api_listing.specs.declared.descriptor.MethodType.{MethodType}
+use Rattle.api_listing.specs.declared.events.ApiValue.{ApiValue}
+use Rattle.api_listing.specs.declared.events.ApiValue.TheVariants as api
+use Rattle.api_listing.specs.declared.events.Event.{Event}
+use Rattle.api_listing.specs.declared.events.Event.TheVariants as events
+use Rattle.api_listing.specs.declared.types.ListedMethod.{ListedMethod}
 use Rattle.api_listing.specs.Descriptor.{element_spelled, type_spelled, result_spelled, method_type}
 use Rattle.api_listing.specs.Fault.{Read}
 use Rattle.cert_format.specs.declared.typing.VType.{VType}
@@ -33,8 +68,24 @@ use Rattle.bytecode_model.specs.Operands.{use_of, use_of_opcode}
 use Rattle.bytecode_model.specs.Place.{has_receiver}
 use Rattle.bytecode_model.specs.Wants.{Want, all_met, to_described}
 use Rattle.guest_model.specs.Answers.{is_number_of, fits_number}
+use Rattle.guest_model.specs.Calls.{types_of}
 use Rattle.guest_model.specs.Values.{is_number}
 use Rattle.cert_checker.proofs.Kinded.{fits_type, Typed, assign_keeps}
+
+-- ---- what a call has to pass
+
+-- A number is passed where the type is one of numbers.
+abbrev pub ArePassedNumbers : List FieldType → List ApiValue → Type 0
+ArePassedNumbers types arguments =
+    (i : ℕ) (t : FieldType) → slice_get types i ≡ Some t → kind_of t ≢ kinds.Object → (n : ℤ) × (slice_get arguments i ≡ Some (api.Int n))
+
+-- It is so in each call.
+abbrev pub PassesNumbers : Program → Event → Type 0
+PassesNumbers program (events.Call thread method arguments) =
+    (listed : ListedMethod) → slice_get program.listing.methods method ≡ Some listed → ArePassedNumbers
+    (types_of listed.id.desc).arguments arguments
+PassesNumbers program (events.Return thread method value) = Unit {0}
+PassesNumbers program (events.Except thread method) = Unit {0}
 
 -- ---- which calls have a receiver
 

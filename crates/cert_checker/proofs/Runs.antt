@@ -1,68 +1,11 @@
 -- A typed program passes a number where one is taken, whatever the steps are.
-use Rattle.std.proofs.Common.{
-  ◌≡◌,
-  ℕ,
-  ℤ,
-  zero,
-  suc,
-  ◌+◌,
-  ◌-◌,
-  ◌<◌,
-  ◌≤◌,
-  Bool,
-  true,
-  false,
-  cond,
-  List,
-  [],
-  ◌∷◌,
-  ◌++◌,
-  length,
-  map,
-  reverse,
-  take,
-  drop,
-  replicate,
-  Option,
-  Some,
-  None,
-  refl,
-  sym,
-  ap,
-  subst,
-  ◌∙◌,
-  arith,
-}
-use Rattle.std.specs.Prelude.{
-  IsSomeAnd,
-  Contains,
-  get_or,
-  not,
-  ◌==◌,
-  bytes_eq,
-  codes,
-  is_some,
-  nat_le,
-  slice_get,
-  option_map,
-  option_and_then,
-}
-use Rattle.std.specs.List.{AllByRecursion, range_with_len}
+use Rattle.std.proofs.Common.{◌≡◌, ℕ, ℤ, ◌+◌, ◌-◌, ◌≤◌, Bool, true, false, cond, List, [], ◌∷◌, ◌++◌, length, map, reverse, take, drop, Option, Some, None, refl, sym, ap, subst, ◌∙◌, arith}
+use Rattle.std.specs.Prelude.{Contains, not, is_some, nat_le, slice_get, option_map}
+use Rattle.std.specs.List.{AllByRecursion}
 use Rattle.std.specs.Option.{option_map_or, option_to_list}
-use Rattle.std.proofs.lemmas.Bool.{and_parts, leb-true, eqb-true}
-use Rattle.std.proofs.lemmas.List.{
-  nil_from_length,
-  length-append,
-  length-drop,
-  length-map,
-  length-replicate,
-  length-reverse,
-  reverse-append,
-  reverse-reverse,
-  append_assoc,
-}
-use Rattle.std.proofs.lemmas.List.FromFn.{length-range_with_len}
-use Rattle.std.proofs.lemmas.Option.{cond_some, slice_get-map, slice_get-get_or}
+use Rattle.std.proofs.lemmas.Bool.{and_parts, leb-true}
+use Rattle.std.proofs.lemmas.List.{length-drop, length-map, length-reverse, reverse-append, reverse-reverse, append_assoc}
+use Rattle.std.proofs.lemmas.Option.{cond_some, slice_get-map}
 use Rattle.mon_base.specs.declared.method.MethodId.{MethodId}
 use Rattle.api_listing.specs.declared.descriptor.FieldType.{FieldType}
 use Rattle.api_listing.specs.declared.descriptor.MethodType.{MethodType}
@@ -72,7 +15,6 @@ use Rattle.api_listing.specs.declared.events.Event.{Event}
 use Rattle.api_listing.specs.declared.events.Event.TheVariants as events
 use Rattle.api_listing.specs.declared.types.ListedMethod.{ListedMethod}
 use Rattle.api_listing.specs.Descriptor.{type_spelled, result_spelled}
-use Rattle.cert_format.specs.declared.typing.FrameType.{FrameType}
 use Rattle.cert_format.specs.declared.typing.Typing.{Typing}
 use Rattle.cert_format.specs.declared.typing.VType.{VType}
 use Rattle.cert_format.specs.declared.typing.VType.TheVariants as types
@@ -85,7 +27,6 @@ use Rattle.guest_heap.specs.declared.thread.Thread.{Thread}
 use Rattle.guest_heap.specs.declared.value.Value.{Value}
 use Rattle.guest_heap.specs.declared.value.Value.TheVariants as values
 use Rattle.insn_codec.specs.declared.insn.Insn.{Insn}
-use Rattle.insn_codec.specs.declared.insn.Insn.TheVariants as insn_forms
 use Rattle.insn_codec.specs.declared.shape.Heap.{Heap}
 use Rattle.insn_codec.specs.declared.shape.Heap.TheVariants as heap
 use Rattle.insn_codec.specs.declared.shape.How.{How}
@@ -100,31 +41,18 @@ use Rattle.insn_codec.specs.Shapes.{shape_of}
 use Rattle.insn_codec.specs.Spelling.{opcode_of}
 use Rattle.insn_codec.specs.Table.{ends, is_heap}
 use Rattle.insn_codec.proofs.Table.{goes_on_alike, goes_to_successor}
-use Rattle.bytecode_model.specs.declared.program.LinkedClass.{LinkedClass}
 use Rattle.bytecode_model.specs.declared.program.Method.{Method}
 use Rattle.bytecode_model.specs.declared.program.Program.{Program}
 use Rattle.bytecode_model.specs.declared.program.Target.{Target}
 use Rattle.bytecode_model.specs.declared.program.Target.TheVariants as target
-use Rattle.bytecode_model.specs.Makes.{type_at, constant_type, topmost, below, yields, yields_of, call_yields}
+use Rattle.bytecode_model.specs.Makes.{constant_type, topmost, below, yields, yields_of, call_yields}
 use Rattle.bytecode_model.specs.Place.{Place, desc_referred, has_receiver, target_or_none}
-use Rattle.bytecode_model.specs.Rules.{
-  Frames,
-  taken as taken_types,
-  frame_of,
-  locals_fit,
-  row_failing,
-  Entry,
-  entry_locals,
-  arguments_typed,
-  this_type,
-}
+use Rattle.bytecode_model.specs.Rules.{taken as taken_types, frame_of}
 use Rattle.bytecode_model.specs.Sound.{IsSound}
-use Rattle.bytecode_model.specs.Described.{arguments, result_text, result_type, type_described, types_at}
-use Rattle.bytecode_model.specs.Heads.{main_name, main_desc}
+use Rattle.bytecode_model.specs.Described.{arguments, result_text, result_type}
 use Rattle.bytecode_model.specs.Standing.{BeginsIn}
-use Rattle.bytecode_model.proofs.Placing.{same_name}
 use Rattle.bytecode_model.specs.Targets.{AreNamed, Calls}
-use Rattle.bytecode_model.specs.Typed.{IsTyped, row_fault, place_at, frames_in, frames_told}
+use Rattle.bytecode_model.specs.Typed.{IsTyped, place_at, frames_in, frames_told}
 use Rattle.bytecode_model.specs.Wants.{all_met, takes, takes_of, returns_well, to_receiver, to_arguments, to_described}
 use Rattle.code_typing.proofs.Choices.{passed}
 use Rattle.code_typing.proofs.Descriptors.{read_so}
@@ -138,73 +66,27 @@ use Rattle.guest_model.specs.Monitors.{entered, left}
 use Rattle.guest_model.specs.Places.{class_index, method_at, insn_in, insn_at, after}
 use Rattle.guest_model.specs.Runs.{trace}
 use Rattle.guest_model.specs.Standing.{HasInsns}
-use Rattle.guest_model.specs.Stepping.{
-  Made,
-  running,
-  begun,
-  begun_with,
-  main_argument,
-  resting,
-  goes_on,
-  frame_stepped,
-  constant_value,
-  with_held,
-  enters,
-  leaves,
-  left_with,
-  throws_top,
-  returned,
-  result_of,
-  returns,
-  calls_api,
-  calls_listed,
-  exits,
-  calls,
-  heap_stepped,
-  shape_stepped,
-  insn_stepped,
-  api_returned,
-  answered,
-  null_answered,
-  call_answered,
-  frames_stepped,
-  doing_stepped,
-  put_back,
-  stepped,
-  null_pointer,
-  bad_monitor,
-  throws_new,
-  throws,
-  thrown_thread,
-  thrown_class,
-  number_in,
-  is_exit,
-  is_on_null,
-}
+use Rattle.guest_model.specs.Stepping.{Made, running, resting, goes_on, frame_stepped, constant_value, with_held, enters, leaves, left_with, throws_top, returned, result_of, returns, calls_api, calls_listed, exits, calls, heap_stepped, shape_stepped, insn_stepped, api_returned, answered, null_answered, call_answered, frames_stepped, doing_stepped, put_back, stepped, null_pointer, bad_monitor, throws_new, throws, thrown_thread, thrown_class, number_in, is_exit, is_on_null}
 use Rattle.guest_model.specs.Throwing.{caught_in}
 use Rattle.guest_model.specs.Values.{is_null, is_reference, values_moved, values_seen}
 use Rattle.guest_model.proofs.Always.{holds_always}
 use Rattle.guest_model.proofs.InRange.{has_insns}
-use Rattle.guest_model.proofs.Options.{
-  and_then_of,
-  map_of,
-  some_is,
-  IfThere,
-  if_none,
-  if_some,
-  if_either,
-  if_holds,
-  if_then,
-  if_mapped,
-  all_get,
-  all_set,
-  all_append,
-  all_replicate,
+use Rattle.guest_model.proofs.Options.{and_then_of, map_of, some_is, IfThere, if_none, if_some, if_either, if_holds, if_then, if_mapped, all_get, all_set, all_append}
+use Rattle.cert_checker.proofs.Kinded.{fits_type, Typed, drop_typed, take_typed, reverse_typed, get_typed}
+use Rattle.cert_checker.proofs.Passing.{
+  ArePassedNumbers,
+  PassesNumbers,
+  has_its_receiver,
+  taking,
+  as_many,
+  met_at,
+  passes_number,
+  is_read,
+  number_fits,
+  nothing_fits,
 }
-use Rattle.cert_checker.specs.Formed.{ArePassedNumbers, PassesNumbers}
-use Rattle.cert_checker.proofs.Kinded.{fits_type, Typed, locals_widen, drop_typed, take_typed, reverse_typed, get_typed}
-use Rattle.cert_checker.proofs.Passing.{has_its_receiver, taking, as_many, met_at, passes_number, is_read, number_fits, nothing_fits}
 use Rattle.cert_checker.proofs.Ready.{MeetsRules, alone_fits, heap_fits, split_stack, Stands, Ready, rules, next_ready, caught_ready}
+use Rattle.cert_checker.proofs.Beginning.{first_frames, row, begins_ready, begun_is}
 
 -- an instruction, and what its operand names
 both_there : (of : Method) (at : ℕ) (insn : Insn) (ref : Target) → insn_in of at ≡ Some (insn, ref)
@@ -693,7 +575,8 @@ module _ (program : Program) (typing : Typing) where
       waiting doing = record { frames = frame ∷ []; to_begin = thread.to_begin; doing = doing }
 
       throws_event : (class : List ℕ)
-          → Good typed machine (Some (throws_new program machine number (frame ∷ []) thread.to_begin class (Some (events.Except number method))))
+          → Good typed machine
+          (Some (throws_new program machine number (frame ∷ []) thread.to_begin class (Some (events.Except number method))))
       throws_event class =
           throws_new_good typed machine number frame thread.to_begin class
           (Some (events.Except number method)) later w.stands w.insn w.insn_there (tt, tt)
@@ -799,105 +682,14 @@ module _ (program : Program) (typing : Typing) where
           numbers = all_append (PassesNumbers program) seen (option_to_list m.0.2) was.numbers good.seen;
         })
 
-    -- ---- the start
-
-    references_typed : (vs : List Value) (f : ℕ → VType) (places : List ℕ) → length vs ≡ length places
-        → AllByRecursion (λ v. is_reference v ≡ true) vs
-        → ((j : ℕ) (v : Value) → is_reference v ≡ true → fits_type v (f j) ≡ true) → Typed vs (map f places)
-    references_typed [] f [] long all each = tt
-    references_typed [] f (j ∷ places) long all each = absurd (omega (arith, long))
-    references_typed (v ∷ vs) f [] long all each = absurd (omega (arith, long))
-    references_typed (v ∷ vs) f (j ∷ places) long all each = (each j v all.0, references_typed vs f places (omega (arith, long)) all.1 each)
-
     module _ (main : List ℕ) (b : BeginsIn main program) where
-      abbrev first_frames : Frames
-      first_frames = frames_in b.class.methods (frames_told typing program.main_class) program.main_method
-
-      coded : 0 < length b.method.insns
-      coded =
-          let is : option_and_then (λ (c : LinkedClass). slice_get c.methods program.main_method)
-          (slice_get program.classes program.main_class) ≡ Some b.method =
-          rw b.there b.here in
-          subst (λ (o : Option Method). IsSomeAnd o (λ (m : Method). 0 < length m.insns)) is sound.main
-
-      abbrev first : Place
-      first = place_at program program.main_class b.class b.method 0 (get_or b.method.insns 0 (insn_forms.Plain 0))
-
-      row : row_failing first_frames first (frame_of first_frames 0) ≡ None
-      row =
-          let there = slice_get-get_or b.method.insns 0 (insn_forms.Plain 0) coded in
-          let is : row_fault program typing program.main_class program.main_method 0 ≡ row_failing first_frames first
-          (frame_of first_frames 0) = rw (b.there, b.here, there) refl in
-          sym is ∙ typed program.main_class program.main_method 0
-
-      main_takes : map type_described (arguments main_desc) ≡ types.Ref (codes "[Ljava/lang/String;") ∷ []
-      unfolding types_at
-      main_takes = refl
-
-      entry_is : entry_locals first ≡ types.Ref (codes "[Ljava/lang/String;") ∷ []
-      entry_is =
-          let desc : b.method.desc ≡ main_desc = same_name b.method.desc main_desc
-          (and_parts (bytes_eq b.method.name main_name) (bytes_eq b.method.desc main_desc) b.is).1 in
-          ap (λ (c : Bool). cond c (arguments_typed b.method) (this_type first ∷ arguments_typed b.method)) b.static ∙ ap
-          (λ (d : List ℕ). map type_described (arguments d)) desc ∙ main_takes
-
-      entered_with : (j : ℕ) (v : Value) → is_reference v ≡ true
-          → fits_type v (type_at (types.Ref (codes "[Ljava/lang/String;") ∷ []) j) ≡ true
-      entered_with zero v h = h
-      entered_with (suc j) v h = refl
-
-      first_arguments : (c : Bool)
-          → AllByRecursion (λ v. is_reference v ≡ true) (cond c [] (main_argument program ∷ [])) ×
-          (length (cond c [] (main_argument program ∷ [])) ≤ 1)
-      first_arguments true = (tt, omega arith)
-      first_arguments false = ((refl, tt), omega arith)
-
-      begins_ready : (o : Option FrameType) → frame_of first_frames 0 ≡ o → row_failing first_frames first o ≡ None
-          → Ready program typing (begun_with program program.main_class program.main_method b.method
-          (cond (arity b.method.desc == 0) [] (main_argument program ∷ [])))
-      begins_ready None told e = absurd cc
-      begins_ready (Some type) told e =
-          let entry : Entry first type ≡ true = (passed (Entry first type) 1 _ e).0 in
-          let p = and_parts (nat_le (length (entry_locals first)) b.method.max_locals) _ entry in
-          let q = and_parts (locals_fit program (type_at (entry_locals first)) 0 type.locals) (length type.stack == 0) p.1 in
-          let args = first_arguments (arity b.method.desc == 0) in
-          let given : List Value = cond (arity b.method.desc == 0) [] (main_argument program ∷ []) in
-          let room : length (entry_locals first) ≤ b.method.max_locals = leb-true (length (entry_locals first)) b.method.max_locals p.0 in
-          let one : length (entry_locals first) ≡ 1 = ap length entry_is in
-          let locals : List Value = given ++ replicate (b.method.max_locals - length given) values.Null in
-          let long : length locals ≡ length (range_with_len 0 b.method.max_locals) =
-          length-append given (replicate (b.method.max_locals - length given) values.Null) ∙ ap (λ (k : ℕ). length given + k)
-          (length-replicate (b.method.max_locals - length given) values.Null)
-          ∙ omega (arith, args.1) ∙ sym (length-range_with_len 0 b.method.max_locals) in
-          let empty : type.stack ≡ [] = nil_from_length type.stack (eqb-true (length type.stack) 0 q.1) in
-          record {
-            stands = record {
-              class = b.class;
-              method = b.method;
-              class_there = b.there;
-              method_there = b.here;
-              type = type;
-              told = told;
-              locals_fit = references_typed locals (type_at type.locals) (range_with_len 0 b.method.max_locals) long
-                  (all_append (λ v. is_reference v ≡ true) given _ args.0
-                  (all_replicate (λ v. is_reference v ≡ true) (b.method.max_locals - length given) values.Null refl))
-                  (λ j v h. locals_widen program (type_at (entry_locals first)) type.locals q.0 j v
-                  (subst (λ (x : List VType). fits_type v (type_at x j) ≡ true) (sym entry_is) (entered_with j v h)));
-            };
-            items_fit = subst (λ (x : List VType). Typed [] (reverse x)) (sym empty) tt;
-          }
-
-      begun_is : begun program (program.main_class, program.main_method) ≡ Some
-          (begun_with program program.main_class program.main_method b.method
-          (cond (arity b.method.desc == 0) [] (main_argument program ∷ [])))
-      begun_is = rw (b.there, b.here) refl
-
       first_thread : FitsThread (resting program ((program.main_class, program.main_method) ∷ []))
       first_thread = record {
         later = refl;
         frames_fit =
-            subst (λ (o : Option Frame). FitsFrames doings.Running (option_to_list o)) (sym begun_is)
-            (begins_ready (frame_of first_frames 0) refl row);
+            subst (λ (o : Option Frame). FitsFrames doings.Running (option_to_list o)) (sym (begun_is program typing typed sound main b))
+            (begins_ready program typing typed sound main b
+            (frame_of (first_frames program typing typed sound main b) 0) refl (row program typing typed sound main b));
       }
 
       pub passes_numbers : (steps : List Step) → AllByRecursion (PassesNumbers program) (trace program steps)

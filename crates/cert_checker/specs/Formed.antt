@@ -1,11 +1,6 @@
 -- The events that a program makes are those that a policy expects.
-use Rattle.std.specs.Prelude.{◌≡◌, ◌≢◌, ℕ, ℤ, List, map, Some, option_map, slice_get}
+use Rattle.std.specs.Prelude.{◌≡◌, ℕ, List, map, Some, option_map, slice_get}
 use Rattle.std.specs.List.{AllByRecursion}
-use Rattle.api_listing.specs.declared.descriptor.FieldType.{FieldType}
-use Rattle.api_listing.specs.declared.events.ApiValue.{ApiValue}
-use Rattle.api_listing.specs.declared.events.ApiValue.TheVariants as api
-use Rattle.api_listing.specs.declared.events.Event.{Event}
-use Rattle.api_listing.specs.declared.events.Event.TheVariants as events
 use Rattle.api_listing.specs.declared.types.ListedMethod.{ListedMethod}
 use Rattle.api_listing.specs.declared.types.Listing.{Listing}
 use Rattle.bytecode_model.specs.declared.program.Program.{Program}
@@ -14,7 +9,6 @@ use Rattle.bytecode_model.specs.Standing.{BeginsIn}
 use Rattle.bytecode_model.specs.Targets.{AreNamed}
 use Rattle.bytecode_model.specs.Typed.{IsTyped}
 use Rattle.cert_format.specs.declared.typing.Typing.{Typing}
-use Rattle.conspec_tree.specs.declared.types.Kind.TheVariants as kinds
 use Rattle.conspec_tree.specs.Kinds.{kind_of}
 use Rattle.conspec_automaton.specs.declared.policy.Clause.{Clause}
 use Rattle.conspec_automaton.specs.declared.policy.Policy.{Policy}
@@ -29,19 +23,6 @@ pub record TellsTypes (listing : Listing) (clause : Clause) : Type 0 where
       → clause.args ≡ map kind_of (types_of method.id.desc).arguments
   pub result : (method : ListedMethod) → slice_get listing.methods clause.method ≡ Some method
       → clause.result ≡ option_map kind_of (types_of method.id.desc).result
-
--- A number is passed where the type is one of numbers.
-abbrev pub ArePassedNumbers : List FieldType → List ApiValue → Type 0
-ArePassedNumbers types arguments =
-    (i : ℕ) (t : FieldType) → slice_get types i ≡ Some t → kind_of t ≢ kinds.Object → (n : ℤ) × (slice_get arguments i ≡ Some (api.Int n))
-
--- It is so in each call.
-abbrev pub PassesNumbers : Program → Event → Type 0
-PassesNumbers program (events.Call thread method arguments) =
-    (listed : ListedMethod) → slice_get program.listing.methods method ≡ Some listed → ArePassedNumbers
-    (types_of listed.id.desc).arguments arguments
-PassesNumbers program (events.Return thread method value) = Unit {0}
-PassesNumbers program (events.Except thread method) = Unit {0}
 
 -- Where each clause tells the types of its method, each event of a typed program is well formed, whatever the steps are.
 abbrev pub SeesWellFormed : Type 0
