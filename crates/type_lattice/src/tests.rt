@@ -4,7 +4,7 @@ ghost use Rattle.std.specs.Prelude.{◌≡◌, [], false, IfOk};
 
 use super::*;
 use api_listing::ListedClass;
-use bytecode_model::{LinkedClass, Program};
+use bytecode_model::{LinkedClass, Program, TypeRef};
 use cert_format::VType;
 use class_codec::{ClassFile, Const};
 use listing_text::read;
