@@ -1,0 +1,13 @@
+pub mod Options
+pub mod Layout
+pub mod Finding
+pub mod Kinds
+pub mod Seen
+pub mod Builtins
+pub mod Changes
+pub mod Working
+pub mod Calling
+pub mod Answering
+pub mod Stepping
+pub mod Runs
+pub mod Enabled

@@ -1,0 +1,10 @@
+//! The machine of linked programs, whole, as a definition: every instruction of the subset, objects and arrays, calls of given
+//! and of built-in methods, threads, monitors and handlers, and the library's answers. (docs/MACHINE.md)
+//!
+//! One guest instruction is one step, and so is one answer of the library; guest memory is sequentially consistent. What a step
+//! changes stands in specs/, in one case for each group of instructions.
+#![tactic(auto)]
+
+mod builtin;
+
+pub use builtin::Builtin;
