@@ -1,28 +1,24 @@
--- What holds at the start and is kept by each change that a step makes holds after every list of steps; and what holds of each
--- thread is kept where it holds of the thread that made the step and of the one that begins.
+-- What holds at the start and is kept by each change that a step makes holds after every list of steps.
 use Rattle.std.proofs.Common.{◌≡◌, ℕ, Bool, List, [], ◌∷◌, ◌++◌, Option, Some, None, refl, sym, subst}
 use Rattle.std.specs.Prelude.{IsTrue, option_map}
-use Rattle.std.specs.List.{AllByRecursion}
 use Rattle.std.specs.Option.{option_map_or, option_to_list}
 use Rattle.std.proofs.lemmas.List.{append-nil, append_assoc}
 use Rattle.api_listing.specs.declared.events.Event.{Event}
 use Rattle.bytecode_model.specs.declared.program.Program.{Program}
-use Rattle.guest_heap.specs.declared.thread.Thread.{Thread}
 use Rattle.guest_model.specs.declared.machine.Machine.{Machine}
 use Rattle.guest_model.specs.declared.machine.Step.{Step}
 use Rattle.guest_machine.specs.Always.{IsKept, HoldsAlways}
 use Rattle.guest_machine.specs.Changes.{Change, applied}
 use Rattle.guest_machine.specs.Runs.{start_of, stepped_or_same, seen, exec_from, trace_from, exec, trace}
 use Rattle.guest_machine.specs.Stepping.{changed}
-use Rattle.guest_machine.proofs.Options.{all_append, all_set}
 
 -- over any predicate of the machine and of the events so far
 module _ (program : Program) (Holds : Machine → List Event → Type 0) where
   -- each change that a step makes keeps it
   abbrev pub EachChangeKeeps : Type 0
   EachChangeKeeps =
-      (machine : Machine) (events : List Event) (step : Step) (change : Change) → Holds machine events → changed program machine step ≡ Some change
-      → Holds (applied step.thread machine change) (events ++ option_to_list change.event)
+      (machine : Machine) (events : List Event) (step : Step) (change : Change) → Holds machine events
+      → changed program machine step ≡ Some change → Holds (applied step.thread machine change) (events ++ option_to_list change.event)
 
   -- the machine and the event of a change
   abbrev made_of : Machine → Step → Change → Machine × Option Event
@@ -51,9 +47,3 @@ module _ (program : Program) (Holds : Machine → List Event → Type 0) where
 
 pub test_holds : (program : Program) (holds : Machine → List Event → Bool) → IsKept program holds → HoldsAlways program holds
 test_holds program holds kept steps = holds_always program (λ machine events. IsTrue (holds machine events)) kept.first kept.kept steps
-
--- the other threads stay
-pub threads_keep : (P : Thread → Type 0) (number : ℕ) (machine : Machine) (change : Change) → AllByRecursion P machine.threads → P change.thread
-    → AllByRecursion P (option_to_list change.begins) → AllByRecursion P (applied number machine change).threads
-threads_keep P number machine change all own begins =
-    all_append P _ (option_to_list change.begins) (all_set P machine.threads number change.thread all own) begins

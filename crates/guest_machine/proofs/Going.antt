@@ -34,7 +34,9 @@ use Rattle.guest_machine.proofs.Options.{and_then_of, unless_of, IfThere, if_som
 module _ (program : Program) (reached : Places) where
   -- Where the method of a frame has code, the frame stands at a place of the set.
   abbrev pub Stands : Frame → Type 0
-  Stands frame = (of : Method) → method_at program frame.class frame.method ≡ Some of → 0 < length of.insns → IsTrue (reached frame.class frame.method frame.at)
+  Stands frame =
+      (of : Method) → method_at program frame.class frame.method ≡ Some of → 0 < length of.insns
+      → IsTrue (reached frame.class frame.method frame.at)
 
   -- the frame stands at a call of this target
   pub record CallsFrom (frame : Frame) (ref : Target) : Type 0 where
@@ -84,7 +86,8 @@ module _ (program : Program) (reached : Places) where
   -- a method that has an instruction has code
   has_code : (class method at : ℕ) (insn : Insn) (ref : Target) (there : IsAt program class method at insn ref) → 0 < length there.of.insns
   has_code class method at insn ref there =
-      let a = and_then_of (λ (i : Insn). option_map (λ (r : Target). (i, r)) (slice_get there.of.refs at)) (slice_get there.of.insns at) (insn, ref) there.is in
+      let a = and_then_of (λ (i : Insn). option_map (λ (r : Target). (i, r)) (slice_get there.of.refs at)) (slice_get there.of.insns at)
+      (insn, ref) there.is in
       not_empty there.of.insns at a.0 a.1
 
   pub inside : (frame : Frame) (insn : Insn) (ref : Target) → Stands frame → IsAt program frame.class frame.method frame.at insn ref
@@ -114,7 +117,8 @@ module _ (program : Program) (reached : Places) where
   goes_good world thread frames standing = record { well = record { frames = standing; does = tt }; begins = tt; seen = tt }
 
   pub went_on : (world : World) (thread : Thread) (below : List Frame) (frame : Option Frame) → ((f : Frame) → frame ≡ Some f → Stands f)
-      → AllByRecursion Stands below → AllByRecursion Waits below → IfThere Good (option_map (λ (f : Frame). goes world thread (f ∷ below)) frame)
+      → AllByRecursion Stands below → AllByRecursion Waits below
+      → IfThere Good (option_map (λ (f : Frame). goes world thread (f ∷ below)) frame)
   went_on world thread below frame stands stand wait =
       if_mapped Good (λ (f : Frame). goes world thread (f ∷ below)) frame
       (λ f e. goes_good world thread (f ∷ below) (record { stand = (stands f e, stand); wait = wait }))
@@ -137,13 +141,15 @@ module _ (program : Program) (reached : Places) where
     behind_insn frame insn ref stands there stays items f e =
         fitted_stands frame (frame.at + 1) frame.locals items f e (next_inside frame insn ref stands there stays)
 
-    pub behind_call : (frame : Frame) → Stands frame → Waits frame → (items : List Value) (f : Frame) → after frame items ≡ Some f → Stands f
+    pub behind_call : (frame : Frame) → Stands frame → Waits frame → (items : List Value) (f : Frame) → after frame items ≡ Some f
+        → Stands f
     behind_call frame stands waits items f e =
         behind_insn frame waits.at_call.insn waits.ref stands waits.at_call.there (ap ends waits.at_call.calls) items f e
 
     -- ---- frames that begin
 
-    pub begun_stands : (to : Given) (method : Method) (receiver : Option Value) (arguments : List Value) → Stands (frame_of program to method receiver arguments)
+    pub begun_stands : (to : Given) (method : Method) (receiver : Option Value) (arguments : List Value)
+        → Stands (frame_of program to method receiver arguments)
     begun_stands to method receiver arguments = closed.begin to.0 to.1
 
     begun_well : (to : Given) (o : Option Frame) → IfThere Stands o → (to_begin : List Given)
@@ -161,10 +167,12 @@ module _ (program : Program) (reached : Places) where
 
     -- ---- returning
 
-    pub returned_good : (world : World) (thread : Thread) (frames : List Frame) (result : Option Value) (event : Option Event) → AllByRecursion Stands frames
-        → AllByRecursion Waits frames → SeenWell event → IfThere Good (returned program world thread frames result event)
+    pub returned_good : (world : World) (thread : Thread) (frames : List Frame) (result : Option Value) (event : Option Event)
+        → AllByRecursion Stands frames → AllByRecursion Waits frames → SeenWell event
+        → IfThere Good (returned program world thread frames result event)
     returned_good world thread [] result event stand wait seen =
-        if_some Good (with_event (rests_now program world thread) event) (record { well = rests_well thread.to_begin; begins = tt; seen = seen })
+        if_some Good (with_event (rests_now program world thread) event)
+        (record { well = rests_well thread.to_begin; begins = tt; seen = seen })
     returned_good world thread (caller ∷ below) result event stand wait seen =
         if_mapped Good (λ (f : Frame). with_event (goes world thread (f ∷ below)) event) (after caller _)
         (λ f e. event_good (goes world thread (f ∷ below)) event

@@ -1,5 +1,6 @@
 mod Options
 pub mod Always
+pub mod Staying
 mod Going
 mod Throwing
 mod Calling

@@ -8,7 +8,8 @@ use Rattle.std.proofs.lemmas.List.Elements.{Contains-append_right}
 pub some_is : {A : Type 0} (x y : A) → ◌≡◌ {A = Option A} (Some x) (Some y) → x ≡ y
 some_is x y e = cc
 
-pub and_then_of : {A B : Type 0} (f : A → Option B) (o : Option A) (y : B) → option_and_then f o ≡ Some y → (x : A) × (o ≡ Some x) × (f x ≡ Some y)
+pub and_then_of : {A B : Type 0} (f : A → Option B) (o : Option A) (y : B) → option_and_then f o ≡ Some y
+    → (x : A) × (o ≡ Some x) × (f x ≡ Some y)
 and_then_of f None y e = absurd cc
 and_then_of f (Some x) y e = (x, refl, e)
 
@@ -20,7 +21,8 @@ pub unless_of : {A : Type 0} (b : Bool) (x y : A) → cond b None (Some x) ≡ S
 unless_of true x y e = absurd cc
 unless_of false x y e = some_is x y e
 
-found_or : {A : Type 0} (b : Bool) (p : A → Bool) (first : A) (others : List A) (x : A) → p first ≡ b → cond b (Some first) (find p others) ≡ Some x
+found_or : {A : Type 0} (b : Bool) (p : A → Bool) (first : A) (others : List A) (x : A) → p first ≡ b
+    → cond b (Some first) (find p others) ≡ Some x
     → (find p others ≡ Some x → Contains others x × (p x ≡ true)) → Contains (first ∷ others) x × (p x ≡ true)
 found_or true p first others x is e later =
     let same : first ≡ x = some_is first x e in
@@ -70,7 +72,8 @@ pub if_made : {A B : Type 0} (P : A → Type 0) (Q : B → Type 0) (f : A → B)
 if_made P Q f o each h = if_mapped Q f o (λ x e. each x (is_there P o x h e))
 
 -- by whether the value is there
-pub there_or : {A B : Type 0} (P : B → Type 0) (f : A → B) (o : Option A) (y : B) → P y → ((x : A) → o ≡ Some x → P (f x)) → P (option_map_or f o y)
+pub there_or : {A B : Type 0} (P : B → Type 0) (f : A → B) (o : Option A) (y : B) → P y → ((x : A) → o ≡ Some x → P (f x))
+    → P (option_map_or f o y)
 there_or P f None y h each = h
 there_or P f (Some x) y h each = each x refl
 

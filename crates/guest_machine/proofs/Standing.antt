@@ -13,13 +13,19 @@ use Rattle.guest_machine.specs.Changes.{Change}
 use Rattle.guest_machine.specs.Runs.{start_of, initialisers}
 use Rattle.guest_machine.specs.Standing.{IsClosed, SeesOnlyCalled}
 use Rattle.guest_machine.specs.Stepping.{changed, doing_stepped}
-use Rattle.guest_machine.proofs.Always.{EachChangeKeeps, holds_always, threads_keep}
-use Rattle.guest_machine.proofs.Calling.{GoodIf}
+use Rattle.guest_machine.proofs.Always.{EachChangeKeeps, holds_always}
 use Rattle.guest_machine.proofs.Going.{Well, SeenWell, Good, rests_well}
-use Rattle.guest_machine.proofs.Options.{if_none, if_either, if_then, is_there, all_get, all_append}
+use Rattle.guest_machine.proofs.Options.{IfThere, if_none, if_either, if_then, is_there, all_get, all_append}
+use Rattle.guest_machine.proofs.Staying.{threads_keep}
 use Rattle.guest_machine.proofs.Stepping.{thread_good}
 
 module _ (program : Program) (reached : Places) (sound : HasInsns program) (closed : IsClosed program reached) where
+  abbrev IsGood : Change → Type 0
+  IsGood change = Good program reached change
+
+  abbrev GoodIf : Option Change → Type 0
+  GoodIf change = IfThere IsGood change
+
   abbrev Called : Event → Type 0
   Called event = IsCalled program reached (method_of event)
 
@@ -28,10 +34,11 @@ module _ (program : Program) (reached : Places) (sound : HasInsns program) (clos
     pub well : AllByRecursion (Well program reached) machine.threads
     pub seen : AllByRecursion Called events
 
-  changed_good : (machine : Machine) (step : Step) → AllByRecursion (Well program reached) machine.threads → GoodIf program reached sound closed (changed program machine step)
+  changed_good : (machine : Machine) (step : Step) → AllByRecursion (Well program reached) machine.threads
+      → GoodIf (changed program machine step)
   changed_good machine step well =
-      if_either (Good program reached) (is_some machine.stopped) _ _ (if_none (Good program reached))
-      (if_then (Good program reached) _ (slice_get machine.threads step.thread)
+      if_either IsGood (is_some machine.stopped) _ _ (if_none IsGood)
+      (if_then IsGood _ (slice_get machine.threads step.thread)
       (λ thread e. thread_good program reached sound closed machine step.thread thread step.choice
       (all_get (Well program reached) machine.threads step.thread thread well e)))
 
@@ -41,14 +48,16 @@ module _ (program : Program) (reached : Places) (sound : HasInsns program) (clos
 
   change_keeps : EachChangeKeeps program Holds
   change_keeps machine events step change holds e =
-      let good = is_there (Good program reached) (changed program machine step) change (changed_good machine step holds.well) e in
+      let good = is_there IsGood (changed program machine step) change (changed_good machine step holds.well) e in
       record {
         well = threads_keep (Well program reached) step.thread machine change holds.well good.well good.begins;
         seen = all_append Called events (option_to_list change.event) holds.seen (seen_called change.event good.seen);
       }
 
   holds_first : Holds (start_of program) []
-  holds_first = record { well = (rests_well program reached sound closed (initialisers program ++ (program.main_class, program.main_method) ∷ []), tt); seen = tt }
+  holds_first =
+      let to_begin = initialisers program ++ (program.main_class, program.main_method) ∷ [] in
+      record { well = (rests_well program reached sound closed to_begin, tt); seen = tt }
 
   pub sees_only_called : SeesOnlyCalled program reached
   sees_only_called steps = (holds_always program Holds holds_first change_keeps steps).seen

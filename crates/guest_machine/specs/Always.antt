@@ -13,7 +13,8 @@ use Rattle.guest_machine.specs.Stepping.{changed}
 pub record IsKept (program : Program) (holds : Machine → List Event → Bool) : Type 0 where
   pub first : IsTrue (holds (start_of program) [])
   pub kept : (machine : Machine) (events : List Event) (step : Step) (change : Change) → IsTrue (holds machine events)
-      → changed program machine step ≡ Some change → IsTrue (holds (applied step.thread machine change) (events ++ option_to_list change.event))
+      → changed program machine step ≡ Some change
+      → IsTrue (holds (applied step.thread machine change) (events ++ option_to_list change.event))
 
 -- It holds after every list of steps.
 abbrev pub HoldsAlways : Program → (Machine → List Event → Bool) → Type 0

@@ -12,5 +12,6 @@ pub mod Stepping
 pub mod Runs
 pub mod Enabled
 pub mod Always
+pub mod Staying
 pub mod Standing
 pub mod First

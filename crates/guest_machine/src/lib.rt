@@ -9,4 +9,7 @@ mod builtin;
 mod laws;
 
 pub use builtin::Builtin;
-pub use laws::{sees_only_what_is_called, sees_the_first_call, what_each_step_keeps_holds_always};
+pub use laws::{
+    other_threads_stay, sees_only_what_is_called, sees_the_first_call,
+    what_each_step_keeps_holds_always,
+};
