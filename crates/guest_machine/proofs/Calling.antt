@@ -1,6 +1,6 @@
 -- A call from a place of the set is well, whatever it names.
-use Rattle.std.proofs.Common.{◌≡◌, ℕ, ℤ, false, List, [], ◌∷◌, ◌++◌, Option, Some, None, refl}
-use Rattle.std.specs.Prelude.{pos, if◌then◌else◌, slice_get, option_map, option_and_then}
+use Rattle.std.proofs.Common.{◌≡◌, ℕ, ℤ, false, List, [], ◌∷◌, ◌++◌, Option, Some, None}
+use Rattle.std.specs.Prelude.{pos, slice_get}
 use Rattle.std.specs.List.{AllByRecursion}
 use Rattle.std.specs.Option.{option_map_or, option_or}
 use Rattle.insn_codec.specs.declared.insn.Insn.{Insn}
@@ -19,23 +19,22 @@ use Rattle.guest_heap.specs.declared.thread.Thread.{Thread}
 use Rattle.guest_heap.specs.declared.value.Value.{Value}
 use Rattle.guest_heap.specs.declared.value.Value.TheVariants as values
 use Rattle.guest_model.specs.declared.machine.Machine.{Machine}
-use Rattle.guest_model.specs.Calls.{Taken, arity, taken}
+use Rattle.guest_model.specs.Calls.{arity, taken}
 use Rattle.guest_model.specs.Places.{method_at}
 use Rattle.guest_model.specs.Standing.{Places, IsAt, HasInsns}
-use Rattle.guest_model.specs.Stepping.{null_pointer, number_in, running}
+use Rattle.guest_model.specs.Stepping.{null_pointer, running}
 use Rattle.guest_model.specs.Values.{is_null}
 use Rattle.guest_machine.specs.declared.builtin.Builtin.{Builtin}
 use Rattle.guest_machine.specs.declared.builtin.Builtin.TheVariants as builtins
 use Rattle.guest_machine.specs.Builtins.{builtin_at, characters}
-use Rattle.guest_machine.specs.Calling
-use Rattle.guest_machine.specs.Calling.{Calling, waiting, goes_past, on_receiver, run_of, target_of, begun_thread, thread_of_value, has_ended, with_begun, second_start, started, starts, joined, joins, runs, runs_target, runs_object, stopped_by, exits, aims, built_in, lacking, lacked, enters_of, enters_on, calls_given, calls_library, desc_named, is_static_call, calls_named, calls, call_throws}
-use Rattle.guest_machine.specs.Changes.{World, Change, world_of, with_heap, ends, ended_thread, frame_of, enters_method, lock_of, lock_taken, with_monitors, goes}
+use Rattle.guest_machine.specs.Calling.{Calling, waiting, goes_past, on_receiver, run_of, target_of, begun_thread, thread_of_value, has_ended, second_start, started, starts, joined, joins, runs, runs_target, runs_object, stopped_by, exits, aims, built_in, lacking, lacked, enters_on, calls_given, calls_library, desc_named, is_static_call, calls_named, calls, call_throws}
+use Rattle.guest_machine.specs.Changes.{World, Change, world_of, ends, ended_thread, frame_of, enters_method, lock_of, lock_taken, with_monitors}
 use Rattle.guest_machine.specs.Finding.{Given, is_run, method_run}
 use Rattle.guest_machine.specs.Kinds.{class_of_value, is_thread}
 use Rattle.guest_machine.specs.Seen.{text_of}
 use Rattle.guest_machine.specs.Standing.{IsClosed}
-use Rattle.guest_machine.proofs.Going.{Stands, CallsFrom, Waits, Standing, Well, Good, ended_well, called, went_on, goes_good, behind_call, begun_stands}
-use Rattle.guest_machine.proofs.Options.{IfThere, if_none, if_some, if_either, if_then, if_mapped, if_made, there_or}
+use Rattle.guest_machine.proofs.Going.{CallsFrom, Waits, Standing, Well, Good, ended_well, called, went_on, goes_good, behind_call, begun_stands}
+use Rattle.guest_machine.proofs.Options.{IfThere, if_none, if_some, if_either, if_then, if_made, there_or}
 use Rattle.guest_machine.proofs.Throwing.{throws_new_good}
 
 module _ (program : Program) (reached : Places) (sound : HasInsns program) (closed : IsClosed program reached) where

@@ -1,18 +1,17 @@
 -- Whatever the steps are, the library sees only what is called at a place of the set.
-use Rattle.std.proofs.Common.{◌≡◌, List, [], ◌∷◌, ◌++◌, Option, Some, None}
+use Rattle.std.proofs.Common.{List, [], ◌∷◌, ◌++◌, Option, Some, None}
 use Rattle.std.specs.Prelude.{is_some, slice_get}
 use Rattle.std.specs.List.{AllByRecursion}
 use Rattle.std.specs.Option.{option_to_list}
 use Rattle.api_listing.specs.declared.events.Event.{Event}
 use Rattle.bytecode_model.specs.declared.program.Program.{Program}
-use Rattle.guest_heap.specs.declared.thread.Thread.{Thread}
 use Rattle.guest_model.specs.declared.machine.Machine.{Machine}
 use Rattle.guest_model.specs.declared.machine.Step.{Step}
 use Rattle.guest_model.specs.Standing.{Places, HasInsns, IsCalled, method_of}
 use Rattle.guest_machine.specs.Changes.{Change}
 use Rattle.guest_machine.specs.Runs.{start_of, initialisers}
 use Rattle.guest_machine.specs.Standing.{IsClosed, SeesOnlyCalled}
-use Rattle.guest_machine.specs.Stepping.{changed, doing_stepped}
+use Rattle.guest_machine.specs.Stepping.{changed}
 use Rattle.guest_machine.proofs.Always.{EachChangeKeeps, holds_always}
 use Rattle.guest_machine.proofs.Going.{Well, SeenWell, Good, rests_well}
 use Rattle.guest_machine.proofs.Options.{IfThere, if_none, if_either, if_then, is_there, all_get, all_append}

@@ -1,10 +1,9 @@
 -- What a step of a thread that is well changes is well.
-use Rattle.std.proofs.Common.{◌≡◌, ℕ, Bool, false, List, [], ◌∷◌, drop, Option, Some, None, refl, ap}
-use Rattle.std.specs.Prelude.{Result, Ok, Err, slice_get, option_and_then, option_map}
+use Rattle.std.proofs.Common.{◌≡◌, ℕ, false, List, [], ◌∷◌, drop, Option, Some, None, refl, ap}
+use Rattle.std.specs.Prelude.{Result, Ok, Err, slice_get}
 use Rattle.std.specs.List.{AllByRecursion}
-use Rattle.std.specs.Option.{option_map_or, option_to_list}
+use Rattle.std.specs.Option.{option_map_or}
 use Rattle.api_listing.specs.declared.events.ApiAnswer.{ApiAnswer}
-use Rattle.api_listing.specs.declared.events.Event.{Event}
 use Rattle.api_listing.specs.declared.events.Event.TheVariants as events
 use Rattle.insn_codec.specs.declared.insn.Insn.{Insn}
 use Rattle.insn_codec.specs.declared.shape.Heap.{Heap}
@@ -31,15 +30,14 @@ use Rattle.guest_heap.specs.declared.value.Value.{Value}
 use Rattle.guest_model.specs.declared.machine.Choice.{Choice}
 use Rattle.guest_model.specs.declared.machine.Choice.TheVariants as choices
 use Rattle.guest_model.specs.declared.machine.Machine.{Machine}
-use Rattle.guest_model.specs.Monitors.{entered, left, all_given_up}
+use Rattle.guest_model.specs.Monitors.{entered, left}
 use Rattle.guest_model.specs.Places.{after, fitted, insn_at, insn_in, method_at}
-use Rattle.guest_model.specs.Standing.{Places, IsAt, HasInsns, IsCalled, method_of}
+use Rattle.guest_model.specs.Standing.{Places, IsAt, HasInsns, IsCalled}
 use Rattle.guest_model.specs.Stepping.{bad_monitor, frame_stepped, null_pointer, result_of, thrown_class}
 use Rattle.guest_model.specs.Values.{is_null, values_moved, values_seen}
-use Rattle.guest_machine.specs.Answering.{answer_fits, answered, answered_well, given, returned_by, thrown_by, thrown_by_library}
+use Rattle.guest_machine.specs.Answering.{answer_fits, answered, given, thrown_by, thrown_by_library}
 use Rattle.guest_machine.specs.Changes.{Change, World, with_monitors, world_of}
 use Rattle.guest_machine.specs.Standing.{IsClosed}
-use Rattle.guest_machine.specs.Stepping
 use Rattle.guest_machine.specs.Stepping.{Acting, acts_on, acts_throwing, call_stepped, comes_to, doing_stepped, enters, frames_stepped, heap_in, heap_stepped, insn_stepped, is_on_null, leaves, left_with, returns, running_stepped, throws_top, works}
 use Rattle.guest_machine.specs.Working.{worked}
 use Rattle.guest_machine.proofs.Calling.{calls_good}
