@@ -1,6 +1,6 @@
 -- What calls do: of given methods, of built-in ones, and of the library's. (The Java Virtual Machine Specification, section 6.5,
 -- invokevirtual to invokeinterface; docs/MACHINE.md)
-use Rattle.std.specs.Prelude.{ℕ, ℤ, pos, ◌+◌, Bool, true, false, codes, if◌then◌else◌, List, [], ◌∷◌, ◌++◌, length, slice_get, slice_set, Option, Some, None, option_map, option_and_then}
+use Rattle.std.specs.Prelude.{ℕ, ℤ, pos, Bool, true, false, codes, if◌then◌else◌, List, [], ◌∷◌, ◌++◌, length, slice_get, slice_set, Option, Some, None, option_map, option_and_then}
 use Rattle.std.specs.Option.{option_map_or, option_or}
 use Rattle.api_listing.specs.BuiltIn.{MethodRow, method_rows}
 use Rattle.api_listing.specs.declared.events.Event.TheVariants as events

@@ -11,3 +11,7 @@ pub mod Answering
 pub mod Stepping
 pub mod Runs
 pub mod Enabled
+pub mod Always
+pub mod Staying
+pub mod Standing
+pub mod First

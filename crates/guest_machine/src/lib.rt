@@ -6,5 +6,10 @@
 #![tactic(auto)]
 
 mod builtin;
+mod laws;
 
 pub use builtin::Builtin;
+pub use laws::{
+    other_threads_stay, sees_only_what_is_called, sees_the_first_call,
+    what_each_step_keeps_holds_always,
+};
