@@ -6,5 +6,7 @@
 #![tactic(auto)]
 
 mod builtin;
+mod laws_of_steps;
 
 pub use builtin::Builtin;
+pub use laws_of_steps::steps_are_enabled;
