@@ -95,7 +95,8 @@ pub entered_free : (monitors : List Monitor) (number : ℕ) (on : Value) (held :
     → is_held_by_other monitors number on ≡ false
 entered_free [] number on held e = refl
 entered_free (m ∷ others) number on held e =
-    free_or (are_one m.on on) (λ (m : Monitor). are_one m.on on) number m others (held_once_more m ∷ others) held (entered others number on) e
+    free_or (are_one m.on on) (λ (m : Monitor). are_one m.on on) number m others (held_once_more m ∷ others) held
+    (entered others number on) e
     (λ rest r. entered_free others number on rest r)
 
 lock_free : (monitors held : List Monitor) (number : ℕ) (lock : Option Value) → lock_taken monitors number lock ≡ Some held
@@ -105,7 +106,8 @@ lock_free monitors held number (Some on) e = entered_free monitors number on hel
 
 module _ (program : Program) where
   -- a method that is called takes no lock that another thread holds
-  method_free : (world : World) (number : ℕ) (thread : Thread) (frames : List Frame) (to : Given) (receiver : Option Value) (arguments : List Value) (change : Change)
+  method_free : (world : World) (number : ℕ) (thread : Thread) (frames : List Frame)
+      → (to : Given) (receiver : Option Value) (arguments : List Value) (change : Change)
       → enters_method program world number thread frames to receiver arguments ≡ Some change
       → option_map_or (is_held_by_other world.monitors number) (lock_wanted program to receiver) false ≡ false
   method_free world number thread frames to receiver arguments change e =
@@ -117,7 +119,9 @@ module _ (program : Program) where
     -- ---- calls of given methods
 
     found_free : (c : Calling) (how : How) (method : Method) (on : Value) (lacked : Option Change) (found : Option Given) (change : Change)
-        → option_map_or (λ (f : Given). enters_method program (world_of machine) c.number c.thread (waiting c) f c.passed.receiver c.passed.arguments) found lacked
+        → option_map_or
+        (λ (f : Given). enters_method program (world_of machine) c.number c.thread (waiting c) f c.passed.receiver c.passed.arguments)
+        found lacked
         ≡ Some change
         → c.passed.receiver ≡ Some on
         → waits_for_monitor machine c.number (option_and_then (λ (f : Given). lock_wanted program f (Some on)) found) ≡ false
@@ -245,7 +249,8 @@ module _ (program : Program) where
 
     enter_free : (a : Acting) (change : Change)
         → option_and_then (enters program (world_of machine) a) (slice_get a.frame.stack.items 0) ≡ Some change
-        → option_map_or (λ (on : Value). not (is_null on) && is_held_by_other machine.monitors a.number on) (slice_get a.frame.stack.items 0) false
+        → option_map_or (λ (on : Value). not (is_null on) && is_held_by_other machine.monitors a.number on)
+        (slice_get a.frame.stack.items 0) false
         ≡ false
     enter_free a change e =
         let v = and_then_of (enters program (world_of machine) a) (slice_get a.frame.stack.items 0) change e in
@@ -296,12 +301,14 @@ module _ (program : Program) where
     may_go_on number thread choices.Plain change e = frames_free number thread thread.frames change e
     may_go_on number thread (choices.Answer answer) change e = absurd cc
 
-    may_answer : (number : ℕ) (thread : Thread) (method : ℕ) (receiver : Option Value) (arguments : List Value) (choice : Choice) (change : Change)
+    may_answer : (number : ℕ) (thread : Thread) (method : ℕ) (receiver : Option Value) (arguments : List Value)
+        → (choice : Choice) (change : Change)
         → call_stepped program (world_of machine) number thread method receiver arguments choice ≡ Some change
         → MayAnswer program machine method receiver arguments choice
     may_answer number thread method receiver arguments choices.Plain change e = (if_of (is_on_null receiver) _ change e).0
     may_answer number thread method receiver arguments (choices.Answer answer) change e =
-        let u = unless_of (is_on_null receiver) (answered program (world_of machine) number thread method receiver arguments answer) change e in
+        let u = unless_of (is_on_null receiver)
+        (answered program (world_of machine) number thread method receiver arguments answer) change e in
         let l = and_then_of _ (slice_get program.listing.methods method) change u.1 in
         (u.0, rw l.1 (if_of (answer_fits program machine.heap (types_of l.0.id.desc).result receiver arguments answer) _ change l.2).0)
 

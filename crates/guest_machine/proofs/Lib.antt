@@ -1,2 +1,4 @@
 mod There
 mod Enabled
+mod Working
+mod Moving

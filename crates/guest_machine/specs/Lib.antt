@@ -11,3 +11,4 @@ pub mod Answering
 pub mod Stepping
 pub mod Runs
 pub mod Enabled
+pub mod Moving

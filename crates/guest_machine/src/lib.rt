@@ -9,4 +9,7 @@ mod builtin;
 mod laws_of_steps;
 
 pub use builtin::Builtin;
-pub use laws_of_steps::steps_are_enabled;
+pub use laws_of_steps::{
+    fitting_answers_are_taken, frames_are_left, free_monitors_are_entered, steps_are_enabled,
+    what_is_ready_moves,
+};
