@@ -6,3 +6,7 @@ mod Throwing
 mod Calling
 mod Stepping
 pub mod Standing
+mod There
+mod Enabled
+mod Working
+mod Moving

@@ -59,6 +59,6 @@ is_kind_of program name other = class_is program name other || array_is program 
 abbrev pub is_instance : Program → List Object → Value → Name → Bool
 is_instance program heap value name = option_map_or (λ class. is_kind_of program class name) (class_of_value heap value) false
 
--- the same where an interface counts as Object, as in the typing of what is passed
+-- whether the objects of a class are Threads
 abbrev pub is_thread : Program → Name → Bool
 is_thread program class = is_below program class (codes "java/lang/Thread")

@@ -1,6 +1,6 @@
 -- What objects and classes hold before anything is written, and where: the fields of the superclass first, and then those of
 -- the class, in the order of its file. (The Java Virtual Machine Specification, sections 2.3, 2.4 and 4.7.2.)
-use Rattle.std.specs.Prelude.{ℕ, zero, suc, pos, ◌+◌, ◌*◌, ◌==◌, ◌||◌, Bool, false, not, bytes_eq, codes, if◌then◌else◌, List, [], ◌∷◌, ◌++◌, length, map, take, filter, find, slice_get, slice_index, Option, Some, None, option_map, option_and_then}
+use Rattle.std.specs.Prelude.{ℕ, zero, suc, pos, ◌+◌, ◌*◌, ◌==◌, ◌||◌, Bool, false, not, bytes_eq, codes, if◌then◌else◌, List, [], ◌∷◌, ◌++◌, length, map, take, filter, find, slice_get, slice_index, Option, Some, None, option_map}
 use Rattle.std.specs.List.{filter_map}
 use Rattle.std.specs.Option.{option_map_or}
 use Rattle.class_codec.specs.declared.tree.Attr.{Attr}
@@ -19,6 +19,7 @@ use Rattle.guest_heap.specs.declared.object.Object.{Object}
 use Rattle.guest_heap.specs.declared.object.Object.TheVariants as objects
 use Rattle.guest_heap.specs.declared.value.Value.{Value}
 use Rattle.guest_heap.specs.declared.value.Value.TheVariants as values
+use Rattle.guest_machine.specs.Options.{◌>>=◌}
 
 -- ---- values before they are written
 
@@ -65,24 +66,33 @@ new_of program name = objects.Plain name (fields_of program name) values.Null No
 abbrev pub two_bytes : List ℕ → Option ℕ
 two_bytes bytes = if length bytes == 2 then Some (256 * slice_index bytes 0 + slice_index bytes 1) else None
 
--- the constant that an attribute of a field tells as its value
-abbrev pub constant_told : List Const → Attr → Option Const
-constant_told pool (attributes.Code code) = None
-constant_told pool (attributes.Other other) =
-    if bytes_eq (text_at pool other.name) (codes "ConstantValue") then option_and_then (slice_get pool) (two_bytes other.bytes) else None
+-- the bytes of an attribute, where it is a ConstantValue
+abbrev pub constant_bytes : List Const → Attr → Option (List ℕ)
+constant_bytes pool (attributes.Code code) = None
+constant_bytes pool (attributes.Other other) = if bytes_eq (text_at pool other.name) (codes "ConstantValue") then Some other.bytes else None
 
-abbrev pub value_of_constant : Program → List Const → Const → Option Value
-value_of_constant program pool (constants.Integer n) = Some (values.Int n)
-value_of_constant program pool (constants.Str text) = option_map (λ (t : List ℕ). values.Lit (place_of program.literals t)) (utf8_at pool text)
-value_of_constant program pool other = None
+-- a constant as the value of a field: a number, or a text of a String
+abbrev pub value_of_constant : Program → List Const → List ℕ → Const → Option Value
+value_of_constant program pool desc (constants.Integer n) = if is_of_references desc then None else Some (values.Int n)
+value_of_constant program pool desc (constants.Str text) =
+    if bytes_eq desc (codes "Ljava/lang/String;")
+    then option_map (λ (t : List ℕ). values.Lit (place_of program.literals t)) (utf8_at pool text)
+    else None
+value_of_constant program pool desc other = None
 
+-- what the first ConstantValue of the field tells, where that is a value of the field's type
 abbrev pub value_told : Program → ClassFile → Member → Option Value
-value_told program file member =
-    option_and_then (value_of_constant program file.pool) (slice_get (filter_map (constant_told file.pool) member.attrs) 0)
+value_told program file member = do
+  bytes ← slice_get (filter_map (constant_bytes file.pool) member.attrs) 0
+  index ← two_bytes bytes
+  constant ← slice_get file.pool index
+  value_of_constant program file.pool (desc_of file.pool member) constant
 
--- what the field holds at the start: its ConstantValue, or else 0 or null
+-- what a field holds at the start: if it is static its ConstantValue, or else 0 or null
 abbrev pub starting_value : Program → ClassFile → Member → Value
-starting_value program file member = option_map_or (λ (v : Value). v) (value_told program file member) (first_value (desc_of file.pool member))
+starting_value program file member =
+    option_map_or (λ (v : Value). v) (if is_static member.flags then value_told program file member else None)
+    (first_value (desc_of file.pool member))
 
 -- the static fields of each given class, in the place of each of its fields
 abbrev pub statics_of : Program → List (List Value)

@@ -15,3 +15,4 @@ pub mod Always
 pub mod Staying
 pub mod Standing
 pub mod First
+pub mod Moving

@@ -27,7 +27,7 @@ use Rattle.guest_machine.specs.Layout.{first_value, new_of, place_of_field}
 use Rattle.guest_machine.specs.Options.{◌>>=◌}
 
 -- What an instruction comes to: what is shared and the operands afterwards, or the class of what it throws. There is nothing
--- where an operand is missing or of another kind.
+-- where an operand is missing, or is not the number, the array or the object that is worked on.
 abbrev pub Worked : Type 0
 Worked = Option (Result (World × List Value) Name)
 

@@ -7,9 +7,14 @@
 
 mod builtin;
 mod laws;
+mod laws_of_steps;
 
 pub use builtin::Builtin;
 pub use laws::{
     other_threads_stay, sees_only_what_is_called, sees_the_first_call,
     what_each_step_keeps_holds_always,
+};
+pub use laws_of_steps::{
+    fitting_answers_are_taken, frames_are_left, free_monitors_are_entered, steps_are_enabled,
+    what_is_ready_moves,
 };
