@@ -10,7 +10,8 @@ use Rattle.conspec_automaton.specs.declared.policy.Clause.{Clause}
 use Rattle.conspec_automaton.specs.declared.policy.Policy.{Policy}
 use Rattle.conspec_automaton.specs.Next.{Values, clause_of, has_clause, initial, next, next_by}
 use Rattle.conspec_automaton.specs.Obeys.{Follows, Obeys, after, is_return, spoken}
-use Rattle.guest_model.specs.First.{SeesFirstCall, goes_on, is_done}
+use Rattle.guest_model.specs.First.{goes_on, is_done}
+use Rattle.guest_machine.specs.First.{SeesFirstCall}
 use Rattle.cert_checker.specs.Denied.{DisobeysAtOnce}
 
 -- Where the first event is refused, no list that begins with it is accepted.
@@ -36,8 +37,8 @@ refused_has_clause policy state event None is none =
 refused_has_clause policy state event (Some clause) is none = ap is_some is
 
 pub disobeys_at_once : SeesFirstCall → DisobeysAtOnce
-disobeys_at_once sees mode program policy index listed begins refused secure =
-    by mode (subst (Obeys mode policy) (sees program index listed begins) (secure (goes_on ∷ is_done ∷ []))) where
+disobeys_at_once sees mode program policy index listed begins at_once refused secure =
+    by mode (subst (Obeys mode policy) (sees program index listed begins at_once) (secure (goes_on ∷ is_done ∷ []))) where
       call : Event
       call = events.Call 0 listed []
 

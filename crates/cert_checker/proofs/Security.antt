@@ -1,6 +1,6 @@
 -- An accepted program obeys a policy that denies only.
 use Rattle.std.proofs.Common.{◌≡◌, ℕ, zero, suc, ◌<◌, Bool, true, false, List, [], ◌∷◌, length, filter, Option, Some, None, refl, sym, ap, subst, ◌∙◌, arith, inl, inr}
-use Rattle.std.specs.Prelude.{◌&&◌, ◌||◌, ◌==◌, IsSomeAnd, Contains, find, get_or, is_some, slice_get, option_map}
+use Rattle.std.specs.Prelude.{◌&&◌, ◌||◌, ◌==◌, Contains, find, get_or, is_some, slice_get, option_map}
 use Rattle.std.specs.List.{AllByRecursion, list_any}
 use Rattle.std.proofs.lemmas.Bool.{and_parts}
 use Rattle.std.proofs.lemmas.Option.{slice_get_cases}
@@ -26,8 +26,9 @@ use Rattle.cert_format.specs.declared.certificate.Mode.{Mode}
 use Rattle.cert_format.specs.declared.certificate.Mode.TheVariants as modes
 use Rattle.conspec_automaton.specs.Obeys.{Obeys, spoken}
 use Rattle.guest_model.specs.Places.{method_at, insn_in}
-use Rattle.guest_model.specs.Runs.{trace}
-use Rattle.guest_model.specs.Standing.{HasInsns, IsCalled, IsClosed, SeesOnlyCalled, method_of as method_seen}
+use Rattle.guest_model.specs.Standing.{HasInsns, IsCalled, method_of as method_seen}
+use Rattle.guest_machine.specs.Runs.{trace}
+use Rattle.guest_machine.specs.Standing.{IsClosed, SeesOnlyCalled}
 use Rattle.block_logic.specs.Accepted.{IsAccepted, note_fault_at, notes_in, notes_told, reached_fault}
 use Rattle.block_logic.specs.Notes.{Here, note_fault, told_fault}
 use Rattle.cert_checker.specs.Secure.{Secure}
@@ -86,11 +87,6 @@ insn_there m at insn ref e =
     let i = and_then_of (λ (i : Insn). option_map (beside i) (slice_get m.refs at)) (slice_get m.insns at) (beside insn ref) e in
     by_ref m at insn i.0 ref (slice_get m.refs at) refl i.1 i.2
 
--- what holds of a value that is there
-is_there : (P : Method → Type 0) (o : Option Method) → IsSomeAnd o P → (m : Method) × (o ≡ Some m) × P m
-is_there P None h = absurd h
-is_there P (Some m) h = (m, refl, h)
-
 -- what holds of each holds of one of them
 all_contains : {A : Type 0} (P : A → Type 0) (xs : List A) (x : A) → AllByRecursion P xs → Contains xs x → P x
 all_contains P xs x all has = at_place P xs x has.0 all has.1 has.2 where
@@ -147,9 +143,7 @@ module _ (laws : Laws) (program : Program) (policy : Policy) (certificate : Cert
 
   closed : IsClosed program set
   closed = record {
-    main =
-        let m = is_there (λ (m : Method). 0 < length m.insns) (method_at program program.main_class program.main_method) sound.main in
-        laws.begin program certificate.typing accepted.typed program.main_class program.main_method m.0 m.1 m.2;
+    begin = λ class method of there coded. laws.begin program certificate.typing accepted.typed class method of there coded;
     next = λ class method at insn ref inside there to goes.
         laws.next program certificate.typing accepted.typed class method at there.of insn there.there (insn_there there.of at insn ref there.is).insn_there inside to goes;
     caught = λ class method at of handler inside there has from to.

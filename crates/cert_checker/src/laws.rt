@@ -3,7 +3,8 @@
 ghost use Rattle.cert_checker.specs.Denied.{DisobeysAtOnce};
 ghost use Rattle.cert_checker.specs.Formed.{SeesWellFormed};
 
-use guest_model::{sees_numbers_in_range, sees_the_first_call};
+use guest_machine::sees_the_first_call;
+use guest_model::sees_numbers_in_range;
 
 /// The promise is not empty: a program whose `main` begins with a call that its policy refuses does not obey.
 pub fn denied_call_disobeys()

@@ -1,0 +1,6 @@
+use Rattle.guest_machine.proofs.Moving.{ready_steps}
+use Rattle.guest_machine.proofs.Working.{ready_works}
+use Rattle.guest_machine.proofs.laws_of_steps.what_is_ready_moves.Goals as goal
+
+pub returns : goal.returns
+returns c = record { comes = ready_works; steps = ready_steps }

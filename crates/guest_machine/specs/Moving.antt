@@ -1,0 +1,286 @@
+-- The machine moves: what each step needs, in the words of the instructions, and that it has a value where that is there.
+-- (The Java Virtual Machine Specification, section 6.5.)
+use Rattle.std.specs.Prelude.{
+  ◌≡◌,
+  ℕ,
+  ◌+◌,
+  ◌<◌,
+  ◌≤◌,
+  ◌⊎◌,
+  false,
+  IsTrue,
+  List,
+  [],
+  ◌∷◌,
+  length,
+  slice_get,
+  Option,
+  Some,
+  None,
+  Ok,
+  Err,
+  IsSome,
+  IsSomeAnd,
+}
+use Rattle.api_listing.specs.declared.events.ApiAnswer.{ApiAnswer}
+use Rattle.api_listing.specs.declared.events.ApiAnswer.TheVariants as answers
+use Rattle.api_listing.specs.Listing.{is_known}
+use Rattle.insn_codec.specs.declared.shape.Heap.{Heap}
+use Rattle.insn_codec.specs.declared.shape.Heap.TheVariants as heap
+use Rattle.insn_codec.specs.declared.shape.Kind.{Kind}
+use Rattle.insn_codec.specs.declared.shape.Kind.TheVariants as kinds
+use Rattle.bytecode_model.specs.declared.program.LinkedClass.{LinkedClass}
+use Rattle.bytecode_model.specs.declared.program.Program.{Program}
+use Rattle.bytecode_model.specs.declared.program.Target.{Target}
+use Rattle.bytecode_model.specs.declared.program.Target.TheVariants as target
+use Rattle.bytecode_model.specs.Classes.{classes_of}
+use Rattle.guest_heap.specs.declared.frame.Frame.{Frame}
+use Rattle.guest_heap.specs.declared.object.Monitor.{Monitor}
+use Rattle.guest_heap.specs.declared.object.Object.{Object}
+use Rattle.guest_heap.specs.declared.object.Object.TheVariants as objects
+use Rattle.guest_heap.specs.declared.thread.Thread.{Thread}
+use Rattle.guest_heap.specs.declared.value.Value.{Value}
+use Rattle.guest_heap.specs.declared.value.Value.TheVariants as values
+use Rattle.guest_heap.specs.Heap.{places_of}
+use Rattle.guest_model.specs.declared.machine.Choice.{Choice}
+use Rattle.guest_model.specs.declared.machine.Choice.TheVariants as choices
+use Rattle.guest_model.specs.declared.machine.Machine.{Machine}
+use Rattle.guest_model.specs.Monitors.{entered}
+use Rattle.guest_machine.specs.Changes.{World, world_of}
+use Rattle.guest_machine.specs.Enabled.{MayAnswer, heap_waits, is_held_by_other}
+use Rattle.guest_machine.specs.Layout.{place_of_field}
+use Rattle.guest_machine.specs.Stepping.{Acting, call_stepped, heap_stepped}
+use Rattle.guest_machine.specs.Working.{Worked, worked}
+
+-- ---- values
+
+abbrev pub IsNumber : Value → Type 0
+IsNumber (values.Int n) = Unit {0}
+IsNumber values.Null = ⊥
+IsNumber (values.Ref at) = ⊥
+IsNumber (values.Class index) = ⊥
+IsNumber (values.Lit index) = ⊥
+
+-- The value is of an object, or null.
+abbrev pub IsReference : Value → Type 0
+IsReference (values.Int n) = ⊥
+IsReference values.Null = Unit {0}
+IsReference (values.Ref at) = Unit {0}
+IsReference (values.Class index) = Unit {0}
+IsReference (values.Lit index) = Unit {0}
+
+abbrev pub IsAny : Value → Type 0
+IsAny v = Unit {0}
+
+abbrev pub IsArray : Object → Type 0
+IsArray (objects.Plain class fields target thread) = ⊥
+IsArray (objects.Array desc items) = Unit {0}
+IsArray (objects.Text text) = ⊥
+
+abbrev pub IsPlain : Object → Type 0
+IsPlain (objects.Plain class fields target thread) = Unit {0}
+IsPlain (objects.Array desc items) = ⊥
+IsPlain (objects.Text text) = ⊥
+
+-- The value is null, or of such an object of the heap.
+abbrev pub IsNullOr : (Object → Type 0) → List Object → Value → Type 0
+IsNullOr P heap (values.Int n) = ⊥
+IsNullOr P heap values.Null = Unit {0}
+IsNullOr P heap (values.Ref at) = IsSomeAnd (slice_get heap at) P
+IsNullOr P heap (values.Class index) = ⊥
+IsNullOr P heap (values.Lit index) = ⊥
+
+abbrev pub HasPlace : ℕ → Object → Type 0
+HasPlace place object = place < length (places_of object)
+
+-- ---- operands, the topmost first
+
+abbrev pub HasOne : (Value → Type 0) → List Value → Type 0
+HasOne P [] = ⊥
+HasOne P (v ∷ below) = P v
+
+abbrev pub HasTwo : (Value → Type 0) → (Value → Type 0) → List Value → Type 0
+HasTwo P Q [] = ⊥
+HasTwo P Q (v ∷ below) = P v × HasOne Q below
+
+abbrev pub HasThree : (Value → Type 0) → (Value → Type 0) → (Value → Type 0) → List Value → Type 0
+HasThree P Q R [] = ⊥
+HasThree P Q R (v ∷ below) = P v × HasTwo Q R below
+
+-- ---- what instructions name
+
+-- a number, a string, or a class that is known
+abbrev pub IsConstant : Program → Target → Type 0
+IsConstant program (target.Number n) = Unit {0}
+IsConstant program (target.Literal index) = Unit {0}
+IsConstant program (target.ClassName name) = IsTrue (is_known (classes_of program) name)
+IsConstant program target.None = ⊥
+IsConstant program (target.ApiMethod index) = ⊥
+IsConstant program (target.Builtin index) = ⊥
+IsConstant program (target.Method class method) = ⊥
+IsConstant program (target.Field class field) = ⊥
+IsConstant program (target.ApiField index) = ⊥
+
+-- a class or an array
+abbrev pub IsClass : Target → Type 0
+IsClass (target.ClassName name) = Unit {0}
+IsClass target.None = ⊥
+IsClass (target.ApiMethod index) = ⊥
+IsClass (target.Builtin index) = ⊥
+IsClass (target.Method class method) = ⊥
+IsClass (target.Field class field) = ⊥
+IsClass (target.ApiField index) = ⊥
+IsClass (target.Number n) = ⊥
+IsClass (target.Literal index) = ⊥
+
+-- a field of the objects of a given class, which has such a place in these
+abbrev pub IsField : Program → (ℕ → Type 0) → Target → Type 0
+IsField program P (target.Field class field) =
+    IsSomeAnd (slice_get program.classes class) (λ (c : LinkedClass). P (place_of_field program c field))
+IsField program P target.None = ⊥
+IsField program P (target.ApiMethod index) = ⊥
+IsField program P (target.Builtin index) = ⊥
+IsField program P (target.Method class method) = ⊥
+IsField program P (target.ApiField index) = ⊥
+IsField program P (target.ClassName name) = ⊥
+IsField program P (target.Number n) = ⊥
+IsField program P (target.Literal index) = ⊥
+
+-- a static field of a given class
+abbrev pub IsOwnStatic : World → Target → Type 0
+IsOwnStatic world (target.Field class field) = IsSomeAnd (slice_get world.statics class) (λ (fields : List Value). field < length fields)
+IsOwnStatic world target.None = ⊥
+IsOwnStatic world (target.ApiMethod index) = ⊥
+IsOwnStatic world (target.Builtin index) = ⊥
+IsOwnStatic world (target.Method class method) = ⊥
+IsOwnStatic world (target.ApiField index) = ⊥
+IsOwnStatic world (target.ClassName name) = ⊥
+IsOwnStatic world (target.Number n) = ⊥
+IsOwnStatic world (target.Literal index) = ⊥
+
+-- one of the listing
+abbrev pub IsListedStatic : Program → Target → Type 0
+IsListedStatic program (target.ApiField index) = index < length program.listing.fields
+IsListedStatic program target.None = ⊥
+IsListedStatic program (target.ApiMethod index) = ⊥
+IsListedStatic program (target.Builtin index) = ⊥
+IsListedStatic program (target.Method class method) = ⊥
+IsListedStatic program (target.Field class field) = ⊥
+IsListedStatic program (target.ClassName name) = ⊥
+IsListedStatic program (target.Number n) = ⊥
+IsListedStatic program (target.Literal index) = ⊥
+
+-- ---- the heap, static fields, division
+
+-- What an instruction needs that works on the heap or on static fields, or divides.
+abbrev pub IsReadyFor : Program → World → Heap → Target → List Value → Type 0
+IsReadyFor program world heap.Constant ref items = IsConstant program ref
+IsReadyFor program world (heap.ReadItem item) ref items = HasTwo IsNumber (IsNullOr IsArray world.heap) items
+IsReadyFor program world (heap.WriteItem item) ref items = HasThree IsAny IsNumber (IsNullOr IsArray world.heap) items
+IsReadyFor program world (heap.Divide remainder) ref items = HasTwo IsNumber IsNumber items
+IsReadyFor program world heap.ReadStatic ref items = IsOwnStatic world ref ⊎ IsListedStatic program ref
+IsReadyFor program world heap.WriteStatic ref items = IsOwnStatic world ref × HasOne IsAny items
+IsReadyFor program world heap.ReadField ref items = IsField program (λ place. HasOne (IsNullOr (HasPlace place) world.heap) items) ref
+IsReadyFor program world heap.WriteField ref items =
+    IsField program (λ place. HasTwo IsAny (IsNullOr (HasPlace place) world.heap) items) ref
+IsReadyFor program world heap.New ref items = IsClass ref
+IsReadyFor program world (heap.NewArray kind) ref items = HasOne IsNumber items
+IsReadyFor program world heap.NewArrayOf ref items = IsClass ref × HasOne IsNumber items
+IsReadyFor program world heap.Length ref items = HasOne (IsNullOr IsArray world.heap) items
+IsReadyFor program world heap.Cast ref items = IsClass ref × HasOne IsReference items
+IsReadyFor program world heap.IsInstance ref items = IsClass ref × HasOne IsReference items
+-- these have laws of their own
+IsReadyFor program world (heap.Call how) ref items = ⊥
+IsReadyFor program world heap.Throw ref items = ⊥
+IsReadyFor program world heap.Enter ref items = ⊥
+IsReadyFor program world heap.Exit ref items = ⊥
+IsReadyFor program world (heap.Return kind) ref items = ⊥
+
+-- What is ready comes to something.
+abbrev pub ReadyWorks : Type 0
+ReadyWorks = (program : Program) (world : World) (what : Heap) (ref : Target) (items : List Value) → IsReadyFor program world what ref items
+    → IsSome (worked program world what ref items)
+
+-- What it leaves is at most the stack's size, if it does not throw.
+abbrev pub FitsAfter : Frame → Worked → Type 0
+FitsAfter frame None = Unit {0}
+FitsAfter frame (Some (Ok made)) = length made.1 ≤ frame.stack.size
+FitsAfter frame (Some (Err class)) = Unit {0}
+
+-- A thread whose next instruction is ready makes the step.
+abbrev pub ReadySteps : Type 0
+ReadySteps = (program : Program) (machine : Machine) (a : Acting) (what : Heap) (ref : Target)
+    → IsReadyFor program (world_of machine) what ref a.frame.stack.items
+    → FitsAfter a.frame (worked program (world_of machine) what ref a.frame.stack.items)
+    → IsSome (heap_stepped program machine a what ref)
+
+-- ---- monitors
+
+-- A monitor that no other thread holds is entered.
+abbrev pub FreeIsEntered : Type 0
+FreeIsEntered = (monitors : List Monitor) (number : ℕ) (on : Value) → is_held_by_other monitors number on ≡ false
+    → IsSome (entered monitors number on)
+
+-- There are at most as many operands as the stack's size.
+abbrev pub IsWithin : Frame → Type 0
+IsWithin frame = length frame.stack.items ≤ frame.stack.size
+
+-- A thread enters the monitor of a reference where nothing is waited for.
+abbrev pub EnteringSteps : Type 0
+EnteringSteps = (program : Program) (machine : Machine) (a : Acting) (ref : Target) → HasOne IsReference a.frame.stack.items
+    → IsWithin a.frame
+    → heap_waits program machine a.number a.frame heap.Enter ref ≡ false → IsSome (heap_stepped program machine a heap.Enter ref)
+
+-- It leaves one always: what it does not hold throws.
+abbrev pub LeavingSteps : Type 0
+LeavingSteps = (program : Program) (machine : Machine) (a : Acting) (ref : Target) → HasOne IsReference a.frame.stack.items
+    → IsWithin a.frame
+    → IsSome (heap_stepped program machine a heap.Exit ref)
+
+-- ---- throwing and returning
+
+-- What is thrown is null, or an object that is neither an array nor a text.
+abbrev pub ThrowingSteps : Type 0
+ThrowingSteps = (program : Program) (machine : Machine) (a : Acting) (ref : Target)
+    → HasOne (IsNullOr IsPlain machine.heap) a.frame.stack.items
+    → IsSome (heap_stepped program machine a heap.Throw ref)
+
+-- The caller, if there is one, has room for so many results.
+abbrev pub HasRoom : ℕ → List Frame → Type 0
+HasRoom results [] = Unit {0}
+HasRoom results (caller ∷ below) = results + length caller.stack.items ≤ caller.stack.size
+
+abbrev pub CanReturn : Option Kind → List Value → List Frame → Type 0
+CanReturn None items below = HasRoom 0 below
+CanReturn (Some kinds.Int) items below = HasOne IsNumber items × HasRoom 1 below
+CanReturn (Some kinds.Reference) items below = HasOne IsReference items × HasRoom 1 below
+
+abbrev pub ReturningSteps : Type 0
+ReturningSteps = (program : Program) (machine : Machine) (a : Acting) (kind : Option Kind) (ref : Target)
+    → CanReturn kind a.frame.stack.items a.below
+    → IsSome (heap_stepped program machine a (heap.Return kind) ref)
+
+-- ---- answers
+
+-- The caller can take what the answer gives.
+abbrev pub CanTake : ApiAnswer → List Frame → Type 0
+CanTake answers.Nothing frames = HasRoom 0 frames
+CanTake (answers.Int n) frames = HasRoom 1 frames
+CanTake answers.Null frames = HasRoom 1 frames
+CanTake (answers.Text text) frames = HasRoom 1 frames
+CanTake (answers.Fresh class) frames = HasRoom 1 frames
+CanTake (answers.Arg i) frames = HasRoom 1 frames
+CanTake answers.Receiver frames = HasRoom 1 frames
+CanTake (answers.Throws class) frames = Unit {0}
+
+abbrev pub CanGoOn : Choice → List Frame → Type 0
+CanGoOn choices.Plain frames = Unit {0}
+CanGoOn (choices.Answer answer) frames = CanTake answer frames
+
+-- Each answer that fits is taken, and a call on null throws.
+abbrev pub AnswersStep : Type 0
+AnswersStep =
+    (program : Program) (machine : Machine) (number : ℕ) (thread : Thread) (method : ℕ) (receiver : Option Value) (arguments : List Value)
+    (choice : Choice)
+    → MayAnswer program machine method receiver arguments choice → CanGoOn choice thread.frames
+    → IsSome (call_stepped program (world_of machine) number thread method receiver arguments choice)

@@ -1,0 +1,36 @@
+//! What holds of every run.
+
+ghost use Rattle.bytecode_model.specs.declared.program.Program.{Program};
+ghost use Rattle.std.specs.Prelude.{Bool, List};
+ghost use Rattle.api_listing.specs.declared.events.Event.{Event};
+ghost use Rattle.guest_model.specs.declared.machine.Machine.{Machine};
+ghost use Rattle.guest_model.specs.Standing.{Places, HasInsns};
+ghost use Rattle.guest_machine.specs.Always.{IsKept, HoldsAlways};
+ghost use Rattle.guest_machine.specs.First.{SeesFirstCall, GoesOnBehindFirstCall};
+ghost use Rattle.guest_machine.specs.Staying.{OtherThreadsStay};
+ghost use Rattle.guest_machine.specs.Standing.{IsClosed, SeesOnlyCalled};
+
+/// What holds at the start, of the machine and of what the library saw, and is kept by each change that a step makes, holds
+/// after every list of steps.
+pub fn what_each_step_keeps_holds_always()
+    ensures holds { (program : Program) (holds : Machine → List Event → Bool) → IsKept program holds → HoldsAlways program holds }
+{}
+
+/// A step leaves each thread that was there as it was, but its own.
+pub fn other_threads_stay()
+    ensures stay { OtherThreadsStay }
+{}
+
+/// Where control begins in a set of places and does not leave it, the library sees only calls of methods that are called at
+/// a place of the set, and the returns from these, whatever the steps are.
+pub fn sees_only_what_is_called()
+    ensures sees { (program : Program) (reached : Places) → HasInsns program → IsClosed program reached → SeesOnlyCalled program reached }
+{}
+
+/// The machine moves: where no class has an initialiser and the first instruction of `main` calls a static method of the
+/// library that takes and gives nothing, the library sees the call in the first step, and its return in the next; `main`
+/// then goes on behind its call.
+pub fn sees_the_first_call()
+    ensures sees { SeesFirstCall }
+    ensures goes { GoesOnBehindFirstCall }
+{}

@@ -1,0 +1,45 @@
+//! What holds of every step.
+
+ghost use Rattle.guest_machine.specs.Enabled.{StepsAreEnabled};
+ghost use Rattle.guest_machine.specs.Moving.{
+  ReadyWorks,
+  ReadySteps,
+  FreeIsEntered,
+  EnteringSteps,
+  LeavingSteps,
+  ThrowingSteps,
+  ReturningSteps,
+  AnswersStep,
+};
+
+/// Each step that the machine makes is enabled by the rules alone: nothing that the thread waits for is left, and an
+/// answer of the library fits the call.
+pub fn steps_are_enabled()
+    ensures enabled { StepsAreEnabled }
+{}
+
+/// An instruction that works on the heap or on static fields, or divides, comes to something where its operands are
+/// there and of their kinds, and the thread makes the step where what is left fits on the stack.
+pub fn what_is_ready_moves()
+    ensures comes { ReadyWorks }
+    ensures steps { ReadySteps }
+{}
+
+/// A monitor that no other thread holds is entered, by an instruction too; leaving one is always a step.
+pub fn free_monitors_are_entered()
+    ensures entered { FreeIsEntered }
+    ensures enters { EnteringSteps }
+    ensures leaves { LeavingSteps }
+{}
+
+/// What is thrown, be it null, leads on; and so does a return to a caller with room for the result.
+pub fn frames_are_left()
+    ensures throws { ThrowingSteps }
+    ensures returns { ReturningSteps }
+{}
+
+/// Each answer of the library that fits its call is taken, where the caller has room for what it gives; a call on null
+/// throws.
+pub fn fitting_answers_are_taken()
+    ensures taken { AnswersStep }
+{}

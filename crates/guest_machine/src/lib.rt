@@ -1,0 +1,20 @@
+//! The machine of linked programs, whole, as a definition: every instruction of the subset, objects and arrays, calls of given
+//! and of built-in methods, threads, monitors and handlers, and the library's answers. (docs/MACHINE.md)
+//!
+//! One guest instruction is one step, and so is one answer of the library; guest memory is sequentially consistent. What a step
+//! changes stands in specs/, in one case for each group of instructions.
+#![tactic(auto)]
+
+mod builtin;
+mod laws;
+mod laws_of_steps;
+
+pub use builtin::Builtin;
+pub use laws::{
+    other_threads_stay, sees_only_what_is_called, sees_the_first_call,
+    what_each_step_keeps_holds_always,
+};
+pub use laws_of_steps::{
+    fitting_answers_are_taken, frames_are_left, free_monitors_are_entered, steps_are_enabled,
+    what_is_ready_moves,
+};
