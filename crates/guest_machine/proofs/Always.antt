@@ -7,7 +7,7 @@ use Rattle.api_listing.specs.declared.events.Event.{Event}
 use Rattle.bytecode_model.specs.declared.program.Program.{Program}
 use Rattle.guest_model.specs.declared.machine.Machine.{Machine}
 use Rattle.guest_model.specs.declared.machine.Step.{Step}
-use Rattle.guest_machine.specs.Always.{IsKept, HoldsAlways}
+use Rattle.guest_machine.specs.Always.{IsKeptBySteps, HoldsAlways}
 use Rattle.guest_machine.specs.Changes.{Change, applied}
 use Rattle.guest_machine.specs.Runs.{start_of, stepped_or_same, seen, exec_from, trace_from, exec, trace}
 use Rattle.guest_machine.specs.Stepping.{changed}
@@ -45,5 +45,5 @@ module _ (program : Program) (Holds : Machine → List Event → Type 0) where
   pub holds_always : Holds (start_of program) [] → EachChangeKeeps → (steps : List Step) → Holds (exec program steps) (trace program steps)
   holds_always first keeps steps = holds_from keeps steps (start_of program) [] first
 
-pub test_holds : (program : Program) (holds : Machine → List Event → Bool) → IsKept program holds → HoldsAlways program holds
+pub test_holds : (program : Program) (holds : Machine → List Event → Bool) → IsKeptBySteps program holds → HoldsAlways program holds
 test_holds program holds kept steps = holds_always program (λ machine events. IsTrue (holds machine events)) kept.first kept.kept steps

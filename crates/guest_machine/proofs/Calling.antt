@@ -28,10 +28,10 @@ use Rattle.guest_machine.specs.declared.builtin.Builtin.{Builtin}
 use Rattle.guest_machine.specs.declared.builtin.Builtin.TheVariants as builtins
 use Rattle.guest_machine.specs.Builtins.{builtin_at, characters}
 use Rattle.guest_machine.specs.Calling.{Calling, waiting, goes_past, on_receiver, run_of, target_of, begun_thread, thread_of_value, has_ended, second_start, started, starts, joined, joins, runs, runs_target, runs_object, stopped_by, exits, aims, built_in, lacking, lacked, enters_on, calls_given, calls_library, desc_named, is_static_call, calls_named, calls, call_throws}
-use Rattle.guest_machine.specs.Changes.{World, Change, world_of, ends, ended_thread, frame_of, enters_method, lock_of, lock_taken, with_monitors}
+use Rattle.guest_machine.specs.Changes.{World, Change, world_of, ends_thread, ended_thread, frame_of, enters_method, lock_of, lock_taken, with_monitors}
 use Rattle.guest_machine.specs.Finding.{Given, is_run, method_run}
 use Rattle.guest_machine.specs.Kinds.{class_of_value, is_thread}
-use Rattle.guest_machine.specs.Seen.{text_of}
+use Rattle.guest_machine.specs.Seen.{string_of}
 use Rattle.guest_machine.specs.Standing.{IsClosed}
 use Rattle.guest_machine.proofs.Going.{CallsFrom, Waits, Standing, Well, Good, ended_well, called, went_on, goes_good, behind_call, begun_stands}
 use Rattle.guest_machine.proofs.Options.{IfThere, if_none, if_some, if_either, if_then, if_made, there_or}
@@ -44,7 +44,7 @@ module _ (program : Program) (reached : Places) (sound : HasInsns program) (clos
   abbrev GoodIf : Option Change → Type 0
   GoodIf change = IfThere IsGood change
 
-  ends_good : (world : World) (number : ℕ) (frames : List Frame) → IsGood (ends world number frames)
+  ends_good : (world : World) (number : ℕ) (frames : List Frame) → IsGood (ends_thread world number frames)
   ends_good world number frames = record { well = ended_well program reached; begins = tt; seen = tt }
 
   -- the thread that a start begins
@@ -151,7 +151,7 @@ module _ (program : Program) (reached : Places) (sound : HasInsns program) (clos
     built_in_good how builtins.Exit = exits_good (world_of machine)
     built_in_good how builtins.Length =
         receiver_good (world_of machine) _
-        (λ on. past_good (world_of machine) (values.Int (pos (characters (text_of program machine.heap on))) ∷ []))
+        (λ on. past_good (world_of machine) (values.Int (pos (characters (string_of program machine.heap on))) ∷ []))
 
     -- ---- given methods
 

@@ -10,7 +10,7 @@ use Rattle.guest_machine.specs.Runs.{start_of, exec, trace}
 use Rattle.guest_machine.specs.Stepping.{changed}
 
 -- It holds at the start, and each change by a step keeps it: of the machine, and of what the library saw so far.
-pub record IsKept (program : Program) (holds : Machine → List Event → Bool) : Type 0 where
+pub record IsKeptBySteps (program : Program) (holds : Machine → List Event → Bool) : Type 0 where
   pub first : IsTrue (holds (start_of program) [])
   pub kept : (machine : Machine) (events : List Event) (step : Step) (change : Change) → IsTrue (holds machine events)
       → changed program machine step ≡ Some change

@@ -19,9 +19,9 @@ abbrev pub builtin_at : ℕ → Option Builtin
 builtin_at index = option_map builtin_of_row (slice_get method_rows index)
 
 -- whether a byte goes on with a character that another began
-abbrev pub goes_on : ℕ → Bool
-goes_on byte = nat_le 128 byte && nat_lt byte 192
+abbrev pub continues : ℕ → Bool
+continues byte = nat_le 128 byte && nat_lt byte 192
 
 -- how many characters a text has
 abbrev pub characters : List ℕ → ℕ
-characters text = length (filter (λ byte. not (goes_on byte)) text)
+characters text = length (filter (λ byte. not (continues byte)) text)

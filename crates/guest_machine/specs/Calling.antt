@@ -28,10 +28,10 @@ use Rattle.guest_model.specs.Values.{is_null}
 use Rattle.guest_machine.specs.declared.builtin.Builtin.{Builtin}
 use Rattle.guest_machine.specs.declared.builtin.Builtin.TheVariants as builtins
 use Rattle.guest_machine.specs.Builtins.{builtin_at, characters}
-use Rattle.guest_machine.specs.Changes.{World, Change, world_of, with_heap, goes, ends, ended_thread, throws_new, frame_of, enters_method}
+use Rattle.guest_machine.specs.Changes.{World, Change, world_of, with_heap, goes, ends_thread, ended_thread, throws_new, frame_of, enters_method}
 use Rattle.guest_machine.specs.Finding.{Given, client_run, is_run, method_run}
 use Rattle.guest_machine.specs.Kinds.{class_of_value, is_thread}
-use Rattle.guest_machine.specs.Seen.{text_of, values_shown}
+use Rattle.guest_machine.specs.Seen.{string_of, values_shown}
 use Rattle.guest_machine.specs.Options.{◌>>=◌}
 
 -- A call under way: the thread and its number, the frame that calls, those below it, and what it passes.
@@ -190,19 +190,19 @@ built_in program machine c how builtins.Run = on_receiver program (world_of mach
 built_in program machine c how builtins.Join = on_receiver program (world_of machine) c (joins machine c)
 built_in program machine c how builtins.Exit = exits (world_of machine) c
 built_in program machine c how builtins.Length =
-    on_receiver program (world_of machine) c (λ on. goes_past (world_of machine) c (values.Int (pos (characters (text_of program machine.heap on))) ∷ []))
+    on_receiver program (world_of machine) c (λ on. goes_past (world_of machine) c (values.Int (pos (characters (string_of program machine.heap on))) ∷ []))
 
 -- ---- given methods
 
 -- A class that lacks the method: of `run` what Thread does; of any other the thread ends.
 abbrev pub lacking : Program → World → Calling → Method → Value → Option Change
-lacking program world c method on = if is_run method then runs_target program world c on else Some (ends world c.number (c.frame ∷ c.below))
+lacking program world c method on = if is_run method then runs_target program world c on else Some (ends_thread world c.number (c.frame ∷ c.below))
 
 -- what is done where the class has no such method
 abbrev pub lacked : Program → World → Calling → How → Method → Value → Option Change
 lacked program world c hows.Virtual method on = lacking program world c method on
 lacked program world c hows.Interface method on = lacking program world c method on
-lacked program world c hows.Special method on = Some (ends world c.number (c.frame ∷ c.below))
+lacked program world c hows.Special method on = Some (ends_thread world c.number (c.frame ∷ c.below))
 lacked program world c hows.Static method on = None
 
 -- the call of a given method on an object of the class

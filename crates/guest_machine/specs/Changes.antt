@@ -79,8 +79,8 @@ locks_of frames = flat_map (λ (f : Frame). option_to_list f.lock) frames
 
 -- The thread ends as by an exception that no handler takes: the locks of its frames are given up, and what it had still to
 -- begin is dropped.
-abbrev pub ends : World → ℕ → List Frame → Change
-ends world number frames = record {
+abbrev pub ends_thread : World → ℕ → List Frame → Change
+ends_thread world number frames = record {
   world = with_monitors world (all_given_up world.monitors number (locks_of frames));
   thread = ended_thread;
   begins = None;

@@ -41,12 +41,12 @@ abbrev pub is_run_by_objects : Program → Given → Bool
 is_run_by_objects program to =
     option_map_or (λ (m : Method). not (is_static m.flags) && nat_lt 0 (length m.insns)) (method_at program to.0 to.1) false
 
-abbrev pub counted : Program → Option Given → Option Given
-counted program found = option_and_then (λ (to : Given). if is_run_by_objects program to then Some to else None) found
+abbrev pub if_run : Program → Option Given → Option Given
+if_run program found = option_and_then (λ (to : Given). if is_run_by_objects program to then Some to else None) found
 
 -- what a call of the method on an object of the class runs
 abbrev pub method_of_class : Program → Name → Name → Name → Option Given
-method_of_class program name desc class = counted program (nearest_given program name desc class)
+method_of_class program name desc class = if_run program (nearest_given program name desc class)
 
 -- the `run` that the program gives the class
 abbrev pub client_run : Program → Name → Option Given
@@ -72,5 +72,5 @@ method_itself program own to method =
 abbrev pub method_run : Program → ℕ → How → Given → Method → Name → Option Given
 method_run program own hows.Virtual to method class = method_of_class program method.name method.desc class
 method_run program own hows.Interface to method class = method_of_class program method.name method.desc class
-method_run program own hows.Special to method class = counted program (method_itself program own to method)
+method_run program own hows.Special to method class = if_run program (method_itself program own to method)
 method_run program own hows.Static to method class = Some to

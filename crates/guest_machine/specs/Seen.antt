@@ -23,12 +23,12 @@ text_in (objects.Text text) = text
 abbrev pub literal_at : Program → ℕ → List ℕ
 literal_at program index = option_map_or (λ (t : List ℕ). t) (slice_get program.literals index) []
 
-abbrev pub text_of : Program → List Object → Value → List ℕ
-text_of program heap (values.Int n) = []
-text_of program heap values.Null = []
-text_of program heap (values.Ref at) = option_map_or text_in (slice_get heap at) []
-text_of program heap (values.Class index) = []
-text_of program heap (values.Lit index) = literal_at program index
+abbrev pub string_of : Program → List Object → Value → List ℕ
+string_of program heap (values.Int n) = []
+string_of program heap values.Null = []
+string_of program heap (values.Ref at) = option_map_or text_in (slice_get heap at) []
+string_of program heap (values.Class index) = []
+string_of program heap (values.Lit index) = literal_at program index
 
 -- ---- what the library sees
 

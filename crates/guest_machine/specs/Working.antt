@@ -50,8 +50,8 @@ bad_cast = codes "java/lang/ClassCastException"
 
 -- ---- numbers
 
-abbrev pub number_at : List Value → ℕ → Option ℤ
-number_at items i = option_and_then number_in (slice_get items i)
+abbrev pub number_operand : List Value → ℕ → Option ℤ
+number_operand items i = option_and_then number_in (slice_get items i)
 
 -- the least number divided by -1 gives itself, and the remainder 0
 abbrev pub quotient : Bool → ℤ → ℤ → ℤ
@@ -63,8 +63,8 @@ divided world remainder x y items = if int_eq y (pos 0) then Some (Err bad_divis
 
 abbrev pub divides : World → Bool → List Value → Worked
 divides world remainder items = do
-  y ← number_at items 0
-  x ← number_at items 1
+  y ← number_operand items 0
+  x ← number_operand items 1
   divided world remainder x y (drop 2 items)
 
 -- ---- arrays
@@ -99,7 +99,7 @@ item_read world array index items =
 
 abbrev pub reads_item : World → List Value → Worked
 reads_item world items = do
-  index ← number_at items 0
+  index ← number_operand items 0
   array ← slice_get items 1
   on_array world.heap array (λ (a : ArrayAt). item_read world a index (drop 2 items))
 
@@ -136,7 +136,7 @@ item_written program world array place value items =
 abbrev pub writes_item : Program → World → List Value → Worked
 writes_item program world items = do
   value ← slice_get items 0
-  index ← number_at items 1
+  index ← number_operand items 1
   array ← slice_get items 2
   on_array world.heap array (λ (a : ArrayAt). option_map_or (λ place. item_written program world a place value (drop 3 items)) (place_among (length a.items) index) (Some (Err bad_place)))
 
@@ -152,7 +152,7 @@ array_made world desc (pos n) items =
 array_made world desc (negsuc n) items = Some (Err bad_size)
 
 abbrev pub makes_array : World → Name → List Value → Worked
-makes_array world desc items = option_and_then (λ n. array_made world desc n (drop 1 items)) (number_at items 0)
+makes_array world desc items = option_and_then (λ n. array_made world desc n (drop 1 items)) (number_operand items 0)
 
 -- ---- fields
 

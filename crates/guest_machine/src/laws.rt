@@ -5,7 +5,7 @@ ghost use Rattle.std.specs.Prelude.{Bool, List};
 ghost use Rattle.api_listing.specs.declared.events.Event.{Event};
 ghost use Rattle.guest_model.specs.declared.machine.Machine.{Machine};
 ghost use Rattle.guest_model.specs.Standing.{Places, HasInsns};
-ghost use Rattle.guest_machine.specs.Always.{IsKept, HoldsAlways};
+ghost use Rattle.guest_machine.specs.Always.{IsKeptBySteps, HoldsAlways};
 ghost use Rattle.guest_machine.specs.First.{SeesFirstCall, GoesOnBehindFirstCall};
 ghost use Rattle.guest_machine.specs.Staying.{OtherThreadsStay};
 ghost use Rattle.guest_machine.specs.Standing.{IsClosed, SeesOnlyCalled};
@@ -13,7 +13,7 @@ ghost use Rattle.guest_machine.specs.Standing.{IsClosed, SeesOnlyCalled};
 /// What holds at the start, of the machine and of what the library saw, and is kept by each change that a step makes, holds
 /// after every list of steps.
 pub fn what_each_step_keeps_holds_always()
-    ensures holds { (program : Program) (holds : Machine → List Event → Bool) → IsKept program holds → HoldsAlways program holds }
+    ensures holds { (program : Program) (holds : Machine → List Event → Bool) → IsKeptBySteps program holds → HoldsAlways program holds }
 {}
 
 /// A step leaves each thread that was there as it was, but its own.
