@@ -2,3 +2,4 @@ mod There
 mod Enabled
 mod Working
 mod Moving
+mod Calls
