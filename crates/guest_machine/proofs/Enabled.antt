@@ -153,7 +153,7 @@ module _ (program : Program) where
         rw r (method_free (world_of machine) c.number c.thread (waiting c) to None c.passed.arguments change e)
 
     -- a static call has no receiver
-    abbrev IsOf : How → Calling → Type 0
+    abbrev pub IsOf : How → Calling → Type 0
     IsOf hows.Static c = c.passed.receiver ≡ None
     IsOf hows.Virtual c = Unit {0}
     IsOf hows.Special c = Unit {0}
@@ -220,7 +220,7 @@ module _ (program : Program) where
     call_free c how (target.Number n) change of e = refl
     call_free c how (target.Literal index) change of e = refl
 
-    receiver_of : (how : How) (n : ℕ) (c : Calling) (stack : List Value) → taken (is_static_call how) n stack ≡ Some c.passed → IsOf how c
+    pub receiver_of : (how : How) (n : ℕ) (c : Calling) (stack : List Value) → taken (is_static_call how) n stack ≡ Some c.passed → IsOf how c
     receiver_of hows.Static n c stack e = ap (λ (t : Taken). t.receiver) (sym (cond_some (nat_le n (length stack)) _ c.passed e).1)
     receiver_of hows.Virtual n c stack e = tt
     receiver_of hows.Special n c stack e = tt

@@ -10,3 +10,4 @@ mod There
 mod Enabled
 mod Working
 mod Moving
+mod Calls

@@ -73,12 +73,12 @@ use Rattle.guest_machine.specs.Moving.{
 }
 use Rattle.guest_machine.specs.Stepping.{Acting, comes_to, enters, leaves, left_with, throws_top, works}
 use Rattle.guest_machine.specs.Working.{Worked, worked}
-use Rattle.guest_machine.proofs.There.{cond_either, map_some, then_some}
+use Rattle.guest_machine.proofs.There.{cond_either, holds_there, map_some, then_some}
 use Rattle.guest_machine.proofs.Working.{ready_works}
 
 -- ---- operands
 
-one_there : (P : Value → Type 0) (items : List Value) → HasOne P items → IsSome (slice_get items 0)
+pub one_there : (P : Value → Type 0) (items : List Value) → HasOne P items → IsSome (slice_get items 0)
 one_there P [] h = absurd h
 one_there P (v ∷ below) h = refl
 
@@ -90,7 +90,7 @@ one_dropped : (items : List Value) (n : ℕ) → length items ≤ n → length (
 one_dropped [] n h = h
 one_dropped (v ∷ below) n h = omega arith
 
-after_some : (frame : Frame) (items : List Value) → length items ≤ frame.stack.size → IsSome (after frame items)
+pub after_some : (frame : Frame) (items : List Value) → length items ≤ frame.stack.size → IsSome (after frame items)
 after_some frame items h = rw (le-ltb frame.stack.size (length items) h) refl
 
 -- ---- instructions that are ready
@@ -258,10 +258,6 @@ holds_then : {A B : Type 0} (p : A → Bool) (o : Option A) (f : A → Option B)
     → IsSome (option_and_then f o)
 holds_then p None f e each = absurd cc
 holds_then p (Some x) f e each = each x e
-
-holds_there : {A : Type 0} (p : A → Bool) (o : Option A) → option_map_or p o false ≡ true → IsSome o
-holds_there p None e = absurd cc
-holds_there p (Some x) e = refl
 
 module _ (program : Program) (world : World) (number : ℕ) (thread : Thread) (method : ℕ) where
   gave_some : (o : Option (World × Option Value)) → IsSome o → HasRoom 1 thread.frames

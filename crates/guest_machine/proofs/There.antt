@@ -46,3 +46,7 @@ pub get_some : {A : Type 0} (xs : List A) (i : ℕ) → i < length xs → IsSome
 get_some [] i h = absurd (omega arith)
 get_some (x ∷ xs) zero h = refl
 get_some (x ∷ xs) (suc i) h = get_some xs i (omega arith)
+
+pub holds_there : {A : Type 0} (p : A → Bool) (o : Option A) → option_map_or p o false ≡ true → IsSome o
+holds_there p None e = absurd cc
+holds_there p (Some x) e = refl

@@ -90,7 +90,7 @@ use Rattle.guest_machine.proofs.There.{cond_either, map_or_some, map_some, then_
 
 -- ---- values
 
-number_some : (v : Value) → IsNumber v → IsSome (number_in v)
+pub number_some : (v : Value) → IsNumber v → IsSome (number_in v)
 number_some (values.Int n) h = refl
 number_some values.Null h = absurd h
 number_some (values.Ref at) h = absurd h

@@ -27,6 +27,8 @@ use Rattle.api_listing.specs.declared.events.ApiAnswer.TheVariants as answers
 use Rattle.api_listing.specs.Listing.{is_known}
 use Rattle.insn_codec.specs.declared.shape.Heap.{Heap}
 use Rattle.insn_codec.specs.declared.shape.Heap.TheVariants as heap
+use Rattle.insn_codec.specs.declared.shape.How.{How}
+use Rattle.insn_codec.specs.declared.shape.How.TheVariants as hows
 use Rattle.insn_codec.specs.declared.shape.Kind.{Kind}
 use Rattle.insn_codec.specs.declared.shape.Kind.TheVariants as kinds
 use Rattle.bytecode_model.specs.declared.program.LinkedClass.{LinkedClass}
@@ -34,6 +36,7 @@ use Rattle.bytecode_model.specs.declared.program.Program.{Program}
 use Rattle.bytecode_model.specs.declared.program.Target.{Target}
 use Rattle.bytecode_model.specs.declared.program.Target.TheVariants as target
 use Rattle.bytecode_model.specs.Classes.{classes_of}
+use Rattle.bytecode_model.specs.Standing.{AreStanding}
 use Rattle.guest_heap.specs.declared.frame.Frame.{Frame}
 use Rattle.guest_heap.specs.declared.object.Monitor.{Monitor}
 use Rattle.guest_heap.specs.declared.object.Object.{Object}
@@ -45,9 +48,13 @@ use Rattle.guest_heap.specs.Heap.{places_of}
 use Rattle.guest_model.specs.declared.machine.Choice.{Choice}
 use Rattle.guest_model.specs.declared.machine.Choice.TheVariants as choices
 use Rattle.guest_model.specs.declared.machine.Machine.{Machine}
+use Rattle.guest_model.specs.Calls.{Taken}
 use Rattle.guest_model.specs.Monitors.{entered}
+use Rattle.guest_machine.specs.declared.builtin.Builtin.{Builtin}
+use Rattle.guest_machine.specs.declared.builtin.Builtin.TheVariants as builtins
+use Rattle.guest_machine.specs.Builtins.{builtin_at}
 use Rattle.guest_machine.specs.Changes.{World, world_of}
-use Rattle.guest_machine.specs.Enabled.{MayAnswer, heap_waits, is_held_by_other}
+use Rattle.guest_machine.specs.Enabled.{MayAnswer, heap_waits, is_held_by_other, passed_by}
 use Rattle.guest_machine.specs.Layout.{place_of_field}
 use Rattle.guest_machine.specs.Stepping.{Acting, call_stepped, heap_stepped}
 use Rattle.guest_machine.specs.Working.{Worked, worked}
@@ -284,3 +291,57 @@ AnswersStep =
     (choice : Choice)
     → MayAnswer program machine method receiver arguments choice → CanGoOn choice thread.frames
     → IsSome (call_stepped program (world_of machine) number thread method receiver arguments choice)
+
+-- ---- calls
+
+-- The value is null, or of an object that is there.
+abbrev pub IsObject : List Object → Value → Type 0
+IsObject heap (values.Int n) = ⊥
+IsObject heap values.Null = Unit {0}
+IsObject heap (values.Ref at) = at < length heap
+IsObject heap (values.Class index) = Unit {0}
+IsObject heap (values.Lit index) = Unit {0}
+
+-- The call is on an object, or on null.
+abbrev pub IsOnObject : How → Type 0
+IsOnObject hows.Virtual = Unit {0}
+IsOnObject hows.Special = Unit {0}
+IsOnObject hows.Interface = Unit {0}
+IsOnObject hows.Static = ⊥
+
+-- What a built-in method needs.
+abbrev pub IsReadyToRun : List Object → How → Builtin → Taken → Type 0
+IsReadyToRun heap how builtins.Make passed = Unit {0}
+IsReadyToRun heap how builtins.MakeOn passed = IsSomeAnd passed.receiver IsReference × HasOne IsReference passed.arguments
+IsReadyToRun heap how builtins.Start passed = IsSomeAnd passed.receiver (IsNullOr IsPlain heap)
+IsReadyToRun heap how builtins.Run passed = IsOnObject how × IsSomeAnd passed.receiver (IsObject heap)
+IsReadyToRun heap how builtins.Join passed = IsSomeAnd passed.receiver (IsNullOr IsPlain heap)
+IsReadyToRun heap how builtins.Exit passed = HasOne IsNumber passed.arguments
+IsReadyToRun heap how builtins.Length passed = IsSomeAnd passed.receiver IsReference
+
+-- A call of a given method needs a receiver, where it is not static.
+abbrev pub IsReceived : List Object → How → Taken → Type 0
+IsReceived heap hows.Static passed = Unit {0}
+IsReceived heap hows.Virtual passed = IsSomeAnd passed.receiver (IsObject heap)
+IsReceived heap hows.Special passed = IsSomeAnd passed.receiver (IsObject heap)
+IsReceived heap hows.Interface passed = IsSomeAnd passed.receiver (IsObject heap)
+
+-- What a call needs, by what it names; where it passes something it names a method.
+abbrev pub IsReadyToCall : List Object → How → Target → Taken → Type 0
+IsReadyToCall heap how (target.ApiMethod index) passed = Unit {0}
+IsReadyToCall heap how (target.Builtin index) passed = IsSomeAnd (builtin_at index) (λ (what : Builtin). IsReadyToRun heap how what passed)
+IsReadyToCall heap how (target.Method class method) passed = IsReceived heap how passed
+IsReadyToCall heap how target.None passed = ⊥
+IsReadyToCall heap how (target.Field class field) passed = ⊥
+IsReadyToCall heap how (target.ApiField index) passed = ⊥
+IsReadyToCall heap how (target.ClassName name) passed = ⊥
+IsReadyToCall heap how (target.Number n) passed = ⊥
+IsReadyToCall heap how (target.Literal index) passed = ⊥
+
+-- A thread of a linked program makes a call that is ready where nothing is waited for: a lock, or the end of a thread.
+abbrev pub CallingSteps : Type 0
+CallingSteps = (program : Program) (machine : Machine) (a : Acting) (how : How) (ref : Target) (passed : Taken)
+    → AreStanding program → IsWithin a.frame
+    → passed_by program a.frame how ref ≡ Some passed → IsReadyToCall machine.heap how ref passed
+    → heap_waits program machine a.number a.frame (heap.Call how) ref ≡ false
+    → IsSome (heap_stepped program machine a (heap.Call how) ref)

@@ -10,6 +10,7 @@ ghost use Rattle.guest_machine.specs.Moving.{
   ThrowingSteps,
   ReturningSteps,
   AnswersStep,
+  CallingSteps,
 };
 
 /// Each step that the machine makes is enabled by the rules alone: nothing that the thread waits for is left, and an
@@ -42,4 +43,10 @@ pub fn frames_are_left()
 /// throws.
 pub fn fitting_answers_are_taken()
     ensures taken { AnswersStep }
+{}
+
+/// A thread of a linked program calls a method of the library, a built-in one or a given one, whatever the class of the
+/// receiver, where it waits for no lock and for no thread.
+pub fn ready_calls_are_made()
+    ensures made { CallingSteps }
 {}
