@@ -100,7 +100,7 @@ use Rattle.guest_machine.specs.Enabled.{
 use Rattle.guest_machine.specs.Finding.{
   Given,
   client_run,
-  counted,
+  if_run,
   declared_in,
   declared_up,
   given_index,
@@ -181,13 +181,13 @@ module _ (program : Program) where
       up_or name desc i.0 c.0 (declared_in name desc c.0) (declared_up n program name desc c.0.parent) to c.1 refl c.2
       (up_named n name desc c.0.parent to)
 
-  counted_is : (o : Option Given) (to : Given) → counted program o ≡ Some to → (o ≡ Some to) × (is_run_by_objects program to ≡ true)
+  counted_is : (o : Option Given) (to : Given) → if_run program o ≡ Some to → (o ≡ Some to) × (is_run_by_objects program to ≡ true)
   counted_is o to e =
       let f = and_then_of _ o to e in
       let c = cond_some (is_run_by_objects program f.0) f.0 to f.2 in
       (f.1 ∙ ap Some c.1, subst (λ (g : Given). is_run_by_objects program g ≡ true) c.1 c.0)
 
-  counted_there : (o : Option Given) (to : Given) → counted program o ≡ Some to → IsSome (method_at program to.0 to.1)
+  counted_there : (o : Option Given) (to : Given) → if_run program o ≡ Some to → IsSome (method_at program to.0 to.1)
   counted_there o to e = holds_there _ (method_at program to.0 to.1) (counted_is o to e).1
 
   run_named : (class : Name) (to : Given) → client_run program class ≡ Some to → Named program run_name takes_nothing to
