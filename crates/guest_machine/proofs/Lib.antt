@@ -3,3 +3,4 @@ mod Enabled
 mod Working
 mod Moving
 mod Calls
+mod Making

@@ -25,12 +25,14 @@ use Rattle.std.specs.Prelude.{
 use Rattle.api_listing.specs.declared.events.ApiAnswer.{ApiAnswer}
 use Rattle.api_listing.specs.declared.events.ApiAnswer.TheVariants as answers
 use Rattle.api_listing.specs.Listing.{is_known}
+use Rattle.insn_codec.specs.declared.insn.Insn.{Insn}
 use Rattle.insn_codec.specs.declared.shape.Heap.{Heap}
 use Rattle.insn_codec.specs.declared.shape.Heap.TheVariants as heap
 use Rattle.insn_codec.specs.declared.shape.How.{How}
 use Rattle.insn_codec.specs.declared.shape.How.TheVariants as hows
 use Rattle.insn_codec.specs.declared.shape.Kind.{Kind}
 use Rattle.insn_codec.specs.declared.shape.Kind.TheVariants as kinds
+use Rattle.insn_codec.specs.Shapes.{shape_of}
 use Rattle.bytecode_model.specs.declared.program.LinkedClass.{LinkedClass}
 use Rattle.bytecode_model.specs.declared.program.Program.{Program}
 use Rattle.bytecode_model.specs.declared.program.Target.{Target}
@@ -41,6 +43,8 @@ use Rattle.guest_heap.specs.declared.frame.Frame.{Frame}
 use Rattle.guest_heap.specs.declared.object.Monitor.{Monitor}
 use Rattle.guest_heap.specs.declared.object.Object.{Object}
 use Rattle.guest_heap.specs.declared.object.Object.TheVariants as objects
+use Rattle.guest_heap.specs.declared.thread.Doing.{Doing}
+use Rattle.guest_heap.specs.declared.thread.Doing.TheVariants as doings
 use Rattle.guest_heap.specs.declared.thread.Thread.{Thread}
 use Rattle.guest_heap.specs.declared.value.Value.{Value}
 use Rattle.guest_heap.specs.declared.value.Value.TheVariants as values
@@ -48,15 +52,18 @@ use Rattle.guest_heap.specs.Heap.{places_of}
 use Rattle.guest_model.specs.declared.machine.Choice.{Choice}
 use Rattle.guest_model.specs.declared.machine.Choice.TheVariants as choices
 use Rattle.guest_model.specs.declared.machine.Machine.{Machine}
+use Rattle.guest_model.specs.declared.machine.Step.{Step}
 use Rattle.guest_model.specs.Calls.{Taken}
 use Rattle.guest_model.specs.Monitors.{entered}
+use Rattle.guest_model.specs.Places.{insn_at}
+use Rattle.guest_model.specs.Stepping.{frame_stepped}
 use Rattle.guest_machine.specs.declared.builtin.Builtin.{Builtin}
 use Rattle.guest_machine.specs.declared.builtin.Builtin.TheVariants as builtins
 use Rattle.guest_machine.specs.Builtins.{builtin_at}
 use Rattle.guest_machine.specs.Changes.{World, world_of}
-use Rattle.guest_machine.specs.Enabled.{MayAnswer, heap_waits, is_held_by_other, passed_by}
+use Rattle.guest_machine.specs.Enabled.{IsEnabled, MayAnswer, heap_waits, is_held_by_other, passed_by}
 use Rattle.guest_machine.specs.Layout.{place_of_field}
-use Rattle.guest_machine.specs.Stepping.{Acting, call_stepped, heap_stepped}
+use Rattle.guest_machine.specs.Stepping.{Acting, call_stepped, changed, heap_in, heap_stepped}
 use Rattle.guest_machine.specs.Working.{Worked, worked}
 
 -- ---- values
@@ -345,3 +352,57 @@ CallingSteps = (program : Program) (machine : Machine) (a : Acting) (how : How) 
     → passed_by program a.frame how ref ≡ Some passed → IsReadyToCall machine.heap how ref passed
     → heap_waits program machine a.number a.frame (heap.Call how) ref ≡ false
     → IsSome (heap_stepped program machine a (heap.Call how) ref)
+
+-- ---- steps
+
+-- The operands of an instruction that works on the heap are there, and what it leaves fits.
+abbrev pub CanWork : Program → Machine → Acting → Heap → Target → Type 0
+CanWork program machine a what ref =
+    IsReadyFor program (world_of machine) what ref a.frame.stack.items
+    × FitsAfter a.frame (worked program (world_of machine) what ref a.frame.stack.items)
+
+-- What an instruction needs that does more than change its frame.
+abbrev pub CanDo : Program → Machine → Acting → Heap → Target → Type 0
+CanDo program machine a (heap.Call how) ref =
+    IsWithin a.frame × IsSomeAnd (passed_by program a.frame how ref) (λ (passed : Taken). IsReadyToCall machine.heap how ref passed)
+CanDo program machine a heap.Throw ref = HasOne (IsNullOr IsPlain machine.heap) a.frame.stack.items
+CanDo program machine a heap.Enter ref = IsWithin a.frame × HasOne IsReference a.frame.stack.items
+CanDo program machine a heap.Exit ref = IsWithin a.frame × HasOne IsReference a.frame.stack.items
+CanDo program machine a (heap.Return kind) ref = CanReturn kind a.frame.stack.items a.below
+CanDo program machine a heap.Constant ref = CanWork program machine a heap.Constant ref
+CanDo program machine a (heap.ReadItem item) ref = CanWork program machine a (heap.ReadItem item) ref
+CanDo program machine a (heap.WriteItem item) ref = CanWork program machine a (heap.WriteItem item) ref
+CanDo program machine a (heap.Divide remainder) ref = CanWork program machine a (heap.Divide remainder) ref
+CanDo program machine a heap.ReadStatic ref = CanWork program machine a heap.ReadStatic ref
+CanDo program machine a heap.WriteStatic ref = CanWork program machine a heap.WriteStatic ref
+CanDo program machine a heap.ReadField ref = CanWork program machine a heap.ReadField ref
+CanDo program machine a heap.WriteField ref = CanWork program machine a heap.WriteField ref
+CanDo program machine a heap.New ref = CanWork program machine a heap.New ref
+CanDo program machine a (heap.NewArray kind) ref = CanWork program machine a (heap.NewArray kind) ref
+CanDo program machine a heap.NewArrayOf ref = CanWork program machine a heap.NewArrayOf ref
+CanDo program machine a heap.Length ref = CanWork program machine a heap.Length ref
+CanDo program machine a heap.Cast ref = CanWork program machine a heap.Cast ref
+CanDo program machine a heap.IsInstance ref = CanWork program machine a heap.IsInstance ref
+
+-- the same of each instruction: of one that changes its frame alone, that it can
+abbrev pub CanDoNext : Program → Machine → Acting → Insn × Target → Option Heap → Type 0
+CanDoNext program machine a next None = IsSome (frame_stepped next.0 a.frame)
+CanDoNext program machine a next (Some what) = CanDo program machine a what next.1
+
+-- A thread in these frames can do its next instruction.
+abbrev pub CanRun : Program → Machine → ℕ → Thread → List Frame → Type 0
+CanRun program machine number thread [] = ⊥
+CanRun program machine number thread (frame ∷ below) =
+    let a : Acting = record { number = number; thread = thread; frame = frame; below = below } in
+    IsSomeAnd (insn_at program frame) (λ (next : Insn × Target). CanDoNext program machine a next (heap_in (shape_of next.0)))
+
+-- What a thread needs for a step is there.
+abbrev pub IsAble : Program → Machine → ℕ → Thread → Doing → Choice → Type 0
+IsAble program machine number thread doings.Running choice = CanRun program machine number thread thread.frames
+IsAble program machine number thread (doings.InCall method receiver arguments) choice = CanGoOn choice thread.frames
+IsAble program machine number thread doings.Ended choice = Unit {0}
+
+-- A step that is enabled by the rules is made, in a linked program, where what the thread needs for it is there.
+abbrev pub EnabledIsMade : Type 0
+EnabledIsMade = (program : Program) (machine : Machine) (step : Step) → AreStanding program → (enabled : IsEnabled program machine step)
+    → IsAble program machine step.thread enabled.thread enabled.thread.doing step.choice → IsSome (changed program machine step)

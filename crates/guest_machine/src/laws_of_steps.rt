@@ -11,6 +11,7 @@ ghost use Rattle.guest_machine.specs.Moving.{
   ReturningSteps,
   AnswersStep,
   CallingSteps,
+  EnabledIsMade,
 };
 
 /// Each step that the machine makes is enabled by the rules alone: nothing that the thread waits for is left, and an
@@ -49,4 +50,10 @@ pub fn fitting_answers_are_taken()
 /// receiver, where it waits for no lock and for no thread.
 pub fn ready_calls_are_made()
     ensures made { CallingSteps }
+{}
+
+/// A step that is enabled by the rules is made, in a linked program, where what the thread needs for it is there: its
+/// operands, of their kinds, and room for what is left.
+pub fn enabled_steps_are_made()
+    ensures made { EnabledIsMade }
 {}
