@@ -3,6 +3,7 @@
 ghost use Rattle.guest_machine.specs.Enabled.{StepsAreEnabled};
 ghost use Rattle.guest_machine.specs.Moving.{
   ReadyWorks,
+  LeavesAsMany,
   ReadySteps,
   FreeIsEntered,
   EnteringSteps,
@@ -21,9 +22,11 @@ pub fn steps_are_enabled()
 {}
 
 /// An instruction that works on the heap or on static fields, or divides, comes to something where its operands are
-/// there and of their kinds, and the thread makes the step where what is left fits on the stack.
+/// there and of their kinds; it takes and pushes as many as it should; and the thread makes the step where what is left
+/// fits on the stack.
 pub fn what_is_ready_moves()
     ensures comes { ReadyWorks }
+    ensures leaves { LeavesAsMany }
     ensures steps { ReadySteps }
 {}
 
