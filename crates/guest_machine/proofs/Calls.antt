@@ -129,6 +129,10 @@ use Rattle.guest_machine.proofs.Moving.{after_some, free_entered, one_there}
 use Rattle.guest_machine.proofs.There.{and_then_of, cond_either, get_some, holds_there, map_of, map_some, then_some}
 use Rattle.guest_machine.proofs.Working.{number_some}
 
+-- no other thread holds the lock, if there is one
+abbrev IsFree : List Monitor → ℕ → Option Value → Type 0
+IsFree monitors number lock = option_map_or (is_held_by_other monitors number) lock false ≡ false
+
 -- ---- which methods are found
 
 record Stands {A : Type 0} (p : A → Bool) (xs : List A) (k : ℕ) : Type 0 where
@@ -204,15 +208,16 @@ module _ (program : Program) where
   enter_lock monitors number (Some on) e = free_entered monitors number on e
 
   -- a method whose lock no other thread holds
-  enters_free : (world : World) (number : ℕ) (thread : Thread) (frames : List Frame) (to : Given) (receiver : Option Value) (arguments : List Value)
+  enters_free : (world : World) (number : ℕ) (thread : Thread) (frames : List Frame)
+      → (to : Given) (receiver : Option Value) (arguments : List Value)
       → IsSome (method_at program to.0 to.1)
-      → option_map_or (is_held_by_other world.monitors number) (lock_wanted program to receiver) false ≡ false
+      → IsFree world.monitors number (lock_wanted program to receiver)
       → IsSome (enters_method program world number thread frames to receiver arguments)
   enters_free world number thread frames to receiver arguments there free =
       then_some _ (method_at program to.0 to.1) there
       (λ method e. then_some _ (lock_taken world.monitors number (lock_of program to.0 method receiver))
       (enter_lock world.monitors number (lock_of program to.0 method receiver)
-      (subst (λ (o : Option Method). option_map_or (is_held_by_other world.monitors number) (option_and_then (λ (m : Method). lock_of program to.0 m receiver) o) false ≡ false)
+      (subst (λ (o : Option Method). IsFree world.monitors number (option_and_then (λ (m : Method). lock_of program to.0 m receiver) o))
       e free))
       (λ held h. refl))
 
@@ -245,7 +250,8 @@ module _ (program : Program) where
       (bytes_eq named.method.name initialiser) _ allowed.unlocked named.named in
       rw named.there (lock_none (is_synchronized named.method.flags) monitors number _ unlocked)
 
-  run_enters : (world : World) (number : ℕ) (thread : Thread) (frames : List Frame) (class : Name) (to : Given) (receiver : Option Value) (arguments : List Value)
+  run_enters : (world : World) (number : ℕ) (thread : Thread) (frames : List Frame) (class : Name)
+      → (to : Given) (receiver : Option Value) (arguments : List Value)
       → AreStanding program → client_run program class ≡ Some to
       → IsSome (enters_method program world number thread frames to receiver arguments)
   run_enters world number thread frames class to receiver arguments standing e =
@@ -330,29 +336,40 @@ module _ (program : Program) (machine : Machine) (standing : AreStanding program
   method_there hows.Special to method class f h e = counted_there program (method_itself program c.frame.class to method) f e
   method_there hows.Static to method class f h e = absurd h
 
+  abbrev enters_found : Given → Option Change
+  enters_found f = enters_method program (world_of machine) c.number c.thread (waiting c) f c.passed.receiver c.passed.arguments
+
   found_enters : (how : How) (method : Method) (on : Value) (o : Option Given) → IsOnObject how → c.passed.receiver ≡ Some on
       → ((f : Given) → o ≡ Some f → IsSome (method_at program f.0 f.1))
-      → option_map_or (is_held_by_other machine.monitors c.number) (option_and_then (λ (f : Given). lock_wanted program f (Some on)) o) false
-      ≡ false
-      → IsSome (option_map_or (λ (f : Given). enters_method program (world_of machine) c.number c.thread (waiting c) f c.passed.receiver c.passed.arguments) o (lacked program (world_of machine) c how method on))
+      → IsFree machine.monitors c.number (option_and_then (λ (f : Given). lock_wanted program f (Some on)) o)
+      → IsSome (option_map_or enters_found o (lacked program (world_of machine) c how method on))
   found_enters how method on None h r there free = lacked_some (world_of machine) how method on h
   found_enters how method on (Some f) h r there free =
       enters_free program (world_of machine) c.number c.thread (waiting c) f c.passed.receiver c.passed.arguments (there f refl)
-      (subst (λ (receiver : Option Value). option_map_or (is_held_by_other machine.monitors c.number) (lock_wanted program f receiver) false ≡ false) (sym r) free)
+      (subst (λ (receiver : Option Value). IsFree machine.monitors c.number (lock_wanted program f receiver)) (sym r) free)
 
   live_free : (b : Bool) (o : Option Value) → b ≡ false → waits_for_monitor machine c.number (cond b None o) ≡ false
       → waits_for_monitor machine c.number o ≡ false
   live_free true o e free = absurd cc
   live_free false o e free = free
 
+  -- the lock of the method that is found
+  abbrev lock_found : How → Given → Method → Value → Name → Option Value
+  lock_found how to method on class =
+      option_and_then (λ (f : Given). lock_wanted program f (Some on)) (method_run program c.frame.class how to method class)
+
+  -- the lock of a call on this receiver is free
+  abbrev CallIsFree : How → Given → Method → Option Value → Type 0
+  CallIsFree how to method receiver =
+      IsFree machine.monitors c.number (lock_of_call program machine.heap c.frame.class how to method receiver)
+
   free_of : (how : How) (to : Given) (method : Method) (on : Value) (class : Name) → class_of_value machine.heap on ≡ Some class
       → is_null on ≡ false
       → waits_for_monitor machine c.number (lock_of_call program machine.heap c.frame.class how to method (Some on)) ≡ false
-      → option_map_or (is_held_by_other machine.monitors c.number)
-      (option_and_then (λ (f : Given). lock_wanted program f (Some on)) (method_run program c.frame.class how to method class)) false ≡ false
+      → IsFree machine.monitors c.number (lock_found how to method on class)
   free_of how to method on class k lives free =
       subst
-      (λ (o : Option Name). waits_for_monitor machine c.number (option_and_then (λ (class : Name). option_and_then (λ (f : Given). lock_wanted program f (Some on)) (method_run program c.frame.class how to method class)) o) ≡ false)
+      (λ (o : Option Name). IsFree machine.monitors c.number (option_and_then (lock_found how to method on) o))
       k (live_free (is_null on) (lock_on program machine.heap c.frame.class how to method on) lives free)
 
   instance_enters : (how : How) (to : Given) (method : Method) → IsOnObject how → IsSomeAnd c.passed.receiver (IsObject machine.heap)
@@ -360,9 +377,11 @@ module _ (program : Program) (machine : Machine) (standing : AreStanding program
       → IsSome (on_receiver program (world_of machine) c (enters_on program (world_of machine) c how to method))
   instance_enters how to method h r free =
       received (IsObject machine.heap) c.passed.receiver _ (enters_on program (world_of machine) c how to method) refl r
-      (λ on e is lives. then_some (enters_of program (world_of machine) c how to method on) (class_of_value machine.heap on) (object_class machine.heap on is lives)
-      (λ class k. found_enters how method on (method_run program c.frame.class how to method class) h e (λ f g. method_there how to method class f h g)
-      (free_of how to method on class k lives (subst (λ (o : Option Value). waits_for_monitor machine c.number (lock_of_call program machine.heap c.frame.class how to method o) ≡ false) e free))))
+      (λ on e is lives. then_some (enters_of program (world_of machine) c how to method on) (class_of_value machine.heap on)
+      (object_class machine.heap on is lives)
+      (λ class k. found_enters how method on (method_run program c.frame.class how to method class) h e
+      (λ f g. method_there how to method class f h g)
+      (free_of how to method on class k lives (subst (CallIsFree how to method) e free))))
 
   given_enters : (how : How) (to : Given) (method : Method) → IsSome (method_at program to.0 to.1) → IsReceived machine.heap how c.passed
       → IsOf program machine how c
@@ -370,7 +389,7 @@ module _ (program : Program) (machine : Machine) (standing : AreStanding program
       → IsSome (calls_given program (world_of machine) c how to method)
   given_enters hows.Static to method there r none free =
       enters_free program (world_of machine) c.number c.thread (waiting c) to None c.passed.arguments there
-      (subst (λ (o : Option Value). waits_for_monitor machine c.number (lock_of_call program machine.heap c.frame.class hows.Static to method o) ≡ false) none free)
+      (subst (CallIsFree hows.Static to method) none free)
   given_enters hows.Virtual to method there r none free = instance_enters hows.Virtual to method tt r free
   given_enters hows.Special to method there r none free = instance_enters hows.Special to method tt r free
   given_enters hows.Interface to method there r none free = instance_enters hows.Interface to method tt r free
@@ -408,6 +427,10 @@ module _ (program : Program) (machine : Machine) (standing : AreStanding program
   awaited_free on o k free =
       subst (λ (t : Option (Option ℕ)). waits_for_thread machine (option_and_then (λ (number : Option ℕ). number) t) ≡ false) k free
 
+  -- the thread that `join` waits for on this receiver has ended
+  abbrev JoinIsFree : Option Value → Type 0
+  JoinIsFree receiver = waits_for_thread machine (thread_awaited machine.heap builtins.Join receiver) ≡ false
+
   module _ (one : (v : Value) → c.passed.receiver ≡ Some v → length c.passed.beneath < c.frame.stack.size) where
     built_in_some : (how : How) (what : Builtin) → IsReadyToRun machine.heap how what c.passed
         → waits_for_thread machine (thread_awaited machine.heap what c.passed.receiver) ≡ false
@@ -425,11 +448,12 @@ module _ (program : Program) (machine : Machine) (standing : AreStanding program
     built_in_some how builtins.Join h free =
         received (IsNullOr IsPlain machine.heap) c.passed.receiver _ (joins machine c) refl h
         (λ on e is lives. then_some (joined machine c) (thread_of_value machine.heap on) (thread_there machine.heap on is lives)
-        (λ o k. joined_some o (awaited_free on o k (subst (λ (r : Option Value). waits_for_thread machine (thread_awaited machine.heap builtins.Join r) ≡ false) e free))))
+        (λ o k. joined_some o (awaited_free on o k (subst JoinIsFree e free))))
     built_in_some how builtins.Exit h free = exit_some c.passed.arguments h
     built_in_some how builtins.Length h free =
         received IsReference c.passed.receiver _ _ refl h
-        (λ on e is lives. map_some _ (after c.frame (_ ∷ c.passed.beneath)) (after_some c.frame (_ ∷ c.passed.beneath) (omega (arith, one on e))))
+        (λ on e is lives. map_some _ (after c.frame (_ ∷ c.passed.beneath))
+        (after_some c.frame (_ ∷ c.passed.beneath) (omega (arith, one on e))))
 
 -- ---- what a call leaves on the stack
 
@@ -480,7 +504,7 @@ map_there : {A B : Type 0} (f : A → B) (o : Option A) → IsSome (option_map f
 map_there f None h = absurd cc
 map_there f (Some x) h = refl
 
-then_at : {A B : Type 0} (f : A → Option B) (o : Option A) (x : A) → o ≡ Some x → IsSome (f x) → IsSome (option_and_then f o)
+pub then_at : {A B : Type 0} (f : A → Option B) (o : Option A) (x : A) → o ≡ Some x → IsSome (f x) → IsSome (option_and_then f o)
 then_at f o x e h = subst (λ (p : Option _). IsSome (option_and_then f p)) (sym e) h
 
 is_there : {A : Type 0} (o : Option A) (x : A) → o ≡ Some x → IsSome o
@@ -489,6 +513,10 @@ is_there o x e = ap is_some e
 module _ (program : Program) (machine : Machine) (standing : AreStanding program) (c : Calling)
     (room : length c.passed.beneath ≤ c.frame.stack.size)
     (one : (v : Value) → c.passed.receiver ≡ Some v → length c.passed.beneath < c.frame.stack.size) where
+  -- a call of this method on this receiver waits
+  abbrev method_waits : How → Given → Method → Option Value → Bool
+  method_waits how to m receiver = waits_for_monitor machine c.number (lock_of_call program machine.heap c.frame.class how to m receiver)
+
   named_some : (how : How) (ref : Target) → IsSome (desc_named program ref) → IsReadyToCall machine.heap how ref c.passed
       → IsOf program machine how c
       → call_waits program machine c.number c.frame.class how ref c.passed ≡ false → IsSome (calls_named program machine c how ref)
@@ -502,7 +530,7 @@ module _ (program : Program) (machine : Machine) (standing : AreStanding program
       then_some (calls_given program (world_of machine) c how (class, method)) (method_at program class method) there
       (λ m e. given_enters program machine standing c room how (class, method) m there h of
       (subst
-      (λ (o : Option Method). option_map_or (λ (m : Method). waits_for_monitor machine c.number (lock_of_call program machine.heap c.frame.class how (class, method) m c.passed.receiver)) o false ≡ false)
+      (λ (o : Option Method). option_map_or (λ (m : Method). method_waits how (class, method) m c.passed.receiver) o false ≡ false)
       e free))
   named_some how target.None d h of free = absurd h
   named_some how (target.Field class field) d h of free = absurd h

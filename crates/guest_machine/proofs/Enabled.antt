@@ -220,7 +220,8 @@ module _ (program : Program) where
     call_free c how (target.Number n) change of e = refl
     call_free c how (target.Literal index) change of e = refl
 
-    pub receiver_of : (how : How) (n : ℕ) (c : Calling) (stack : List Value) → taken (is_static_call how) n stack ≡ Some c.passed → IsOf how c
+    pub receiver_of : (how : How) (n : ℕ) (c : Calling) (stack : List Value) → taken (is_static_call how) n stack ≡ Some c.passed
+        → IsOf how c
     receiver_of hows.Static n c stack e = ap (λ (t : Taken). t.receiver) (sym (cond_some (nat_le n (length stack)) _ c.passed e).1)
     receiver_of hows.Virtual n c stack e = tt
     receiver_of hows.Special n c stack e = tt

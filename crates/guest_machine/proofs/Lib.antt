@@ -9,5 +9,7 @@ pub mod Standing
 mod There
 mod Enabled
 mod Working
+mod Leaving
 mod Moving
 mod Calls
+mod Making

@@ -2,6 +2,7 @@
 use Rattle.std.proofs.Common.{
   ◌≡◌,
   ℕ,
+  ◌+◌,
   ◌≤◌,
   Bool,
   true,
@@ -56,7 +57,7 @@ use Rattle.guest_machine.specs.Moving.{
   AnswersStep,
   CanTake,
   EnteringSteps,
-  FitsAfter,
+  HasRoomFor,
   FreeIsEntered,
   HasOne,
   HasRoom,
@@ -65,14 +66,18 @@ use Rattle.guest_machine.specs.Moving.{
   IsPlain,
   IsReadyFor,
   IsReference,
-  IsWithin,
+  StackFits,
+  Leaves,
   LeavingSteps,
   ReadySteps,
   ReturningSteps,
   ThrowingSteps,
+  pushed_by,
+  taken_by,
 }
 use Rattle.guest_machine.specs.Stepping.{Acting, comes_to, enters, leaves, left_with, throws_top, works}
 use Rattle.guest_machine.specs.Working.{Worked, worked}
+use Rattle.guest_machine.proofs.Leaving.{leaves_as_many}
 use Rattle.guest_machine.proofs.There.{cond_either, holds_there, map_some, then_some}
 use Rattle.guest_machine.proofs.Working.{ready_works}
 
@@ -95,6 +100,18 @@ after_some frame items h = rw (le-ltb frame.stack.size (length items) h) refl
 
 -- ---- instructions that are ready
 
+-- what an instruction leaves is at most the stack's size, if it does not throw
+abbrev FitsAfter : Frame → Worked → Type 0
+FitsAfter frame None = Unit {0}
+FitsAfter frame (Some (Ok made)) = length made.1 ≤ frame.stack.size
+FitsAfter frame (Some (Err class)) = Unit {0}
+
+fits_after : (frame : Frame) (t p : ℕ) (o : Worked) → Leaves t p (length frame.stack.items) o
+    → length frame.stack.items + p ≤ frame.stack.size + t → FitsAfter frame o
+fits_after frame t p None leaves room = tt
+fits_after frame t p (Some (Ok made)) leaves room = omega (arith, leaves, room)
+fits_after frame t p (Some (Err class)) leaves room = tt
+
 module _ (program : Program) where
   comes_some : (world : World) (a : Acting) (o : Worked) → IsSome o → FitsAfter a.frame o
       → IsSome (option_and_then (comes_to program world a) o)
@@ -104,11 +121,13 @@ module _ (program : Program) where
 
   ready_step : (machine : Machine) (a : Acting) (what : Heap) (ref : Target)
       → IsReadyFor program (world_of machine) what ref a.frame.stack.items
-      → FitsAfter a.frame (worked program (world_of machine) what ref a.frame.stack.items)
+      → HasRoomFor a.frame what
       → IsSome (works program (world_of machine) a what ref)
-  ready_step machine a what ref h fit =
-      comes_some (world_of machine) a (worked program (world_of machine) what ref a.frame.stack.items)
-      (ready_works program (world_of machine) what ref a.frame.stack.items h) fit
+  ready_step machine a what ref h room =
+      let done = worked program (world_of machine) what ref a.frame.stack.items in
+      let leaves = leaves_as_many program (world_of machine) what ref a.frame.stack.items in
+      comes_some (world_of machine) a done (ready_works program (world_of machine) what ref a.frame.stack.items h)
+      (fits_after a.frame (taken_by what) (pushed_by what) done leaves room)
 
 pub ready_steps : ReadySteps
 ready_steps program machine a heap.Constant ref h fit = ready_step program machine a heap.Constant ref h fit
@@ -159,7 +178,7 @@ enter_or false monitors number on thrown f t each e =
     then_some f (entered monitors number on) (free_entered monitors number on e) (λ held h. each held)
 
 -- what is left below the topmost operand fits
-below_fits : (frame : Frame) → IsWithin frame → IsSome (after frame (drop 1 frame.stack.items))
+below_fits : (frame : Frame) → StackFits frame → IsSome (after frame (drop 1 frame.stack.items))
 below_fits frame within = after_some frame (drop 1 frame.stack.items) (one_dropped frame.stack.items frame.stack.size within)
 
 pub entering_steps : EnteringSteps

@@ -46,18 +46,18 @@ use Rattle.guest_machine.specs.Changes.{World, with_statics}
 use Rattle.guest_machine.specs.Layout.{place_of_field}
 use Rattle.guest_machine.specs.Moving.{
   HasOne,
-  HasPlace,
+  HasPlaceAt,
   HasTwo,
   HasThree,
   IsAny,
   IsArray,
-  IsClass,
-  IsConstant,
-  IsField,
-  IsListedStatic,
+  NamesClass,
+  NamesConstant,
+  NamesField,
+  NamesListedStatic,
   IsNullOr,
   IsNumber,
-  IsOwnStatic,
+  NamesOwnStatic,
   IsReadyFor,
   IsReference,
   ReadyWorks,
@@ -112,13 +112,13 @@ array_some heap (values.Ref at) f h each = in_array at (slice_get heap at) f h e
 array_some heap (values.Class index) f h each = absurd h
 array_some heap (values.Lit index) f h each = absurd h
 
-in_object : (at place : ℕ) (o : Option Object) (f : ℕ → List Value → Worked) → IsSomeAnd o (HasPlace place)
+in_object : (at place : ℕ) (o : Option Object) (f : ℕ → List Value → Worked) → IsSomeAnd o (HasPlaceAt place)
     → ((fields : List Value) → place < length fields → IsSome (f at fields))
     → IsSome (option_and_then (λ (object : Object). f at (places_of object)) o)
 in_object at place None f h each = absurd h
 in_object at place (Some object) f h each = each (places_of object) h
 
-object_some : (heap : List Object) (place : ℕ) (v : Value) (f : ℕ → List Value → Worked) → IsNullOr (HasPlace place) heap v
+object_some : (heap : List Object) (place : ℕ) (v : Value) (f : ℕ → List Value → Worked) → IsNullOr (HasPlaceAt place) heap v
     → ((at : ℕ) (fields : List Value) → place < length fields → IsSome (f at fields)) → IsSome (on_object heap v f)
 object_some heap place (values.Int n) f h each = absurd h
 object_some heap place values.Null f h each = refl
@@ -137,7 +137,7 @@ position_some : {A : Type 0} (p : A → Bool) (i : ℕ) (xs : List A) → list_a
 position_some p i [] h = absurd cc
 position_some p i (x ∷ xs) h = position_or (p x) p i xs h (position_some p (i + 1) xs)
 
-constant_some : (program : Program) (ref : Target) → IsConstant program ref → IsSome (constant_value program ref)
+constant_some : (program : Program) (ref : Target) → NamesConstant program ref → IsSome (constant_value program ref)
 constant_some program (target.Number n) h = refl
 constant_some program (target.Literal index) h = refl
 constant_some program (target.ClassName name) h =
@@ -198,7 +198,7 @@ module _ (program : Program) (world : World) where
   field_then None g f h each = absurd h
   field_then (Some c) g f h each = each (g c) h
 
-  field_some : (P : ℕ → Type 0) (ref : Target) (f : ℕ → Worked) → IsField program P ref → ((place : ℕ) → P place → IsSome (f place))
+  field_some : (P : ℕ → Type 0) (ref : Target) (f : ℕ → Worked) → NamesField program P ref → ((place : ℕ) → P place → IsSome (f place))
       → IsSome (option_and_then f (place_named program ref))
   field_some P (target.Field class field) f h each =
       field_then {P = P} (slice_get program.classes class) (λ (c : LinkedClass). place_of_field program c field) f h each
@@ -221,14 +221,14 @@ module _ (program : Program) (world : World) where
       → IsSome (writes_field program world ref items)
   write_field_some ref [] h = field_some _ ref _ h (λ place p. absurd p)
   write_field_some ref (v ∷ []) h =
-      field_some (λ place. HasTwo IsAny (IsNullOr (HasPlace place) world.heap) (v ∷ [])) ref _ h (λ place p. absurd p.1)
+      field_some (λ place. HasTwo IsAny (IsNullOr (HasPlaceAt place) world.heap) (v ∷ [])) ref _ h (λ place p. absurd p.1)
   write_field_some ref (v ∷ w ∷ below) h =
-      field_some (λ place. HasTwo IsAny (IsNullOr (HasPlace place) world.heap) (v ∷ w ∷ below)) ref _ h
+      field_some (λ place. HasTwo IsAny (IsNullOr (HasPlaceAt place) world.heap) (v ∷ w ∷ below)) ref _ h
       (λ place p. object_some world.heap place w _ p.1 (λ at fields lt. map_some _ _ (get_some fields place lt)))
 
   -- ---- static fields
 
-  listed_some : (ref : Target) (items : List Value) → IsListedStatic program ref → IsSome (reads_static program world ref items)
+  listed_some : (ref : Target) (items : List Value) → NamesListedStatic program ref → IsSome (reads_static program world ref items)
   listed_some (target.ApiField index) items h = rw (lt-ltb index (length program.listing.fields) h) refl
   listed_some target.None items h = absurd h
   listed_some (target.ApiMethod index) items h = absurd h
@@ -244,7 +244,7 @@ module _ (program : Program) (world : World) where
   static_there None field h = absurd h
   static_there (Some fields) field h = get_some fields field h
 
-  own_some : (ref : Target) (items : List Value) → IsOwnStatic world ref → IsSome (reads_static program world ref items)
+  own_some : (ref : Target) (items : List Value) → NamesOwnStatic world ref → IsSome (reads_static program world ref items)
   own_some (target.Field class field) items h = map_some _ _ (static_there (slice_get world.statics class) field h)
   own_some target.None items h = absurd h
   own_some (target.ApiMethod index) items h = absurd h
@@ -255,7 +255,7 @@ module _ (program : Program) (world : World) where
   own_some (target.Number n) items h = absurd h
   own_some (target.Literal index) items h = absurd h
 
-  read_static_some : (ref : Target) (items : List Value) → IsOwnStatic world ref ⊎ IsListedStatic program ref
+  read_static_some : (ref : Target) (items : List Value) → NamesOwnStatic world ref ⊎ NamesListedStatic program ref
       → IsSome (reads_static program world ref items)
   read_static_some ref items (inl h) = own_some ref items h
   read_static_some ref items (inr h) = listed_some ref items h
@@ -266,7 +266,7 @@ module _ (program : Program) (world : World) where
   written_there None field f h = absurd h
   written_there (Some fields) field f h = then_some _ (slice_get fields field) (get_some fields field h) (λ old e. refl)
 
-  write_static_some : (ref : Target) (items : List Value) → IsOwnStatic world ref → HasOne IsAny items
+  write_static_some : (ref : Target) (items : List Value) → NamesOwnStatic world ref → HasOne IsAny items
       → IsSome (writes_static world ref items)
   write_static_some (target.Field class field) [] h k = absurd k
   write_static_some (target.Field class field) (v ∷ below) h k =
@@ -284,7 +284,7 @@ module _ (program : Program) (world : World) where
 
   -- ---- classes
 
-  name_some : (ref : Target) (f : Name → Worked) → IsClass ref → ((name : Name) → IsSome (f name))
+  name_some : (ref : Target) (f : Name → Worked) → NamesClass ref → ((name : Name) → IsSome (f name))
       → IsSome (option_and_then f (name_named ref))
   name_some (target.ClassName name) f h each = each name
   name_some target.None f h each = absurd h

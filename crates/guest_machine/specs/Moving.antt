@@ -25,12 +25,14 @@ use Rattle.std.specs.Prelude.{
 use Rattle.api_listing.specs.declared.events.ApiAnswer.{ApiAnswer}
 use Rattle.api_listing.specs.declared.events.ApiAnswer.TheVariants as answers
 use Rattle.api_listing.specs.Listing.{is_known}
+use Rattle.insn_codec.specs.declared.insn.Insn.{Insn}
 use Rattle.insn_codec.specs.declared.shape.Heap.{Heap}
 use Rattle.insn_codec.specs.declared.shape.Heap.TheVariants as heap
 use Rattle.insn_codec.specs.declared.shape.How.{How}
 use Rattle.insn_codec.specs.declared.shape.How.TheVariants as hows
 use Rattle.insn_codec.specs.declared.shape.Kind.{Kind}
 use Rattle.insn_codec.specs.declared.shape.Kind.TheVariants as kinds
+use Rattle.insn_codec.specs.Shapes.{shape_of}
 use Rattle.bytecode_model.specs.declared.program.LinkedClass.{LinkedClass}
 use Rattle.bytecode_model.specs.declared.program.Program.{Program}
 use Rattle.bytecode_model.specs.declared.program.Target.{Target}
@@ -41,6 +43,8 @@ use Rattle.guest_heap.specs.declared.frame.Frame.{Frame}
 use Rattle.guest_heap.specs.declared.object.Monitor.{Monitor}
 use Rattle.guest_heap.specs.declared.object.Object.{Object}
 use Rattle.guest_heap.specs.declared.object.Object.TheVariants as objects
+use Rattle.guest_heap.specs.declared.thread.Doing.{Doing}
+use Rattle.guest_heap.specs.declared.thread.Doing.TheVariants as doings
 use Rattle.guest_heap.specs.declared.thread.Thread.{Thread}
 use Rattle.guest_heap.specs.declared.value.Value.{Value}
 use Rattle.guest_heap.specs.declared.value.Value.TheVariants as values
@@ -48,15 +52,18 @@ use Rattle.guest_heap.specs.Heap.{places_of}
 use Rattle.guest_model.specs.declared.machine.Choice.{Choice}
 use Rattle.guest_model.specs.declared.machine.Choice.TheVariants as choices
 use Rattle.guest_model.specs.declared.machine.Machine.{Machine}
+use Rattle.guest_model.specs.declared.machine.Step.{Step}
 use Rattle.guest_model.specs.Calls.{Taken}
 use Rattle.guest_model.specs.Monitors.{entered}
+use Rattle.guest_model.specs.Places.{insn_at}
+use Rattle.guest_model.specs.Stepping.{frame_stepped}
 use Rattle.guest_machine.specs.declared.builtin.Builtin.{Builtin}
 use Rattle.guest_machine.specs.declared.builtin.Builtin.TheVariants as builtins
 use Rattle.guest_machine.specs.Builtins.{builtin_at}
 use Rattle.guest_machine.specs.Changes.{World, world_of}
-use Rattle.guest_machine.specs.Enabled.{MayAnswer, heap_waits, is_held_by_other, passed_by}
+use Rattle.guest_machine.specs.Enabled.{IsEnabled, MayAnswer, heap_waits, is_held_by_other, passed_by}
 use Rattle.guest_machine.specs.Layout.{place_of_field}
-use Rattle.guest_machine.specs.Stepping.{Acting, call_stepped, heap_stepped}
+use Rattle.guest_machine.specs.Stepping.{Acting, call_stepped, changed, heap_in, heap_stepped}
 use Rattle.guest_machine.specs.Working.{Worked, worked}
 
 -- ---- values
@@ -97,8 +104,8 @@ IsNullOr P heap (values.Ref at) = IsSomeAnd (slice_get heap at) P
 IsNullOr P heap (values.Class index) = ⊥
 IsNullOr P heap (values.Lit index) = ⊥
 
-abbrev pub HasPlace : ℕ → Object → Type 0
-HasPlace place object = place < length (places_of object)
+abbrev pub HasPlaceAt : ℕ → Object → Type 0
+HasPlaceAt place object = place < length (places_of object)
 
 -- ---- operands, the topmost first
 
@@ -117,85 +124,85 @@ HasThree P Q R (v ∷ below) = P v × HasTwo Q R below
 -- ---- what instructions name
 
 -- a number, a string, or a class that is known
-abbrev pub IsConstant : Program → Target → Type 0
-IsConstant program (target.Number n) = Unit {0}
-IsConstant program (target.Literal index) = Unit {0}
-IsConstant program (target.ClassName name) = IsTrue (is_known (classes_of program) name)
-IsConstant program target.None = ⊥
-IsConstant program (target.ApiMethod index) = ⊥
-IsConstant program (target.Builtin index) = ⊥
-IsConstant program (target.Method class method) = ⊥
-IsConstant program (target.Field class field) = ⊥
-IsConstant program (target.ApiField index) = ⊥
+abbrev pub NamesConstant : Program → Target → Type 0
+NamesConstant program (target.Number n) = Unit {0}
+NamesConstant program (target.Literal index) = Unit {0}
+NamesConstant program (target.ClassName name) = IsTrue (is_known (classes_of program) name)
+NamesConstant program target.None = ⊥
+NamesConstant program (target.ApiMethod index) = ⊥
+NamesConstant program (target.Builtin index) = ⊥
+NamesConstant program (target.Method class method) = ⊥
+NamesConstant program (target.Field class field) = ⊥
+NamesConstant program (target.ApiField index) = ⊥
 
 -- a class or an array
-abbrev pub IsClass : Target → Type 0
-IsClass (target.ClassName name) = Unit {0}
-IsClass target.None = ⊥
-IsClass (target.ApiMethod index) = ⊥
-IsClass (target.Builtin index) = ⊥
-IsClass (target.Method class method) = ⊥
-IsClass (target.Field class field) = ⊥
-IsClass (target.ApiField index) = ⊥
-IsClass (target.Number n) = ⊥
-IsClass (target.Literal index) = ⊥
+abbrev pub NamesClass : Target → Type 0
+NamesClass (target.ClassName name) = Unit {0}
+NamesClass target.None = ⊥
+NamesClass (target.ApiMethod index) = ⊥
+NamesClass (target.Builtin index) = ⊥
+NamesClass (target.Method class method) = ⊥
+NamesClass (target.Field class field) = ⊥
+NamesClass (target.ApiField index) = ⊥
+NamesClass (target.Number n) = ⊥
+NamesClass (target.Literal index) = ⊥
 
 -- a field of the objects of a given class, which has such a place in these
-abbrev pub IsField : Program → (ℕ → Type 0) → Target → Type 0
-IsField program P (target.Field class field) =
+abbrev pub NamesField : Program → (ℕ → Type 0) → Target → Type 0
+NamesField program P (target.Field class field) =
     IsSomeAnd (slice_get program.classes class) (λ (c : LinkedClass). P (place_of_field program c field))
-IsField program P target.None = ⊥
-IsField program P (target.ApiMethod index) = ⊥
-IsField program P (target.Builtin index) = ⊥
-IsField program P (target.Method class method) = ⊥
-IsField program P (target.ApiField index) = ⊥
-IsField program P (target.ClassName name) = ⊥
-IsField program P (target.Number n) = ⊥
-IsField program P (target.Literal index) = ⊥
+NamesField program P target.None = ⊥
+NamesField program P (target.ApiMethod index) = ⊥
+NamesField program P (target.Builtin index) = ⊥
+NamesField program P (target.Method class method) = ⊥
+NamesField program P (target.ApiField index) = ⊥
+NamesField program P (target.ClassName name) = ⊥
+NamesField program P (target.Number n) = ⊥
+NamesField program P (target.Literal index) = ⊥
 
 -- a static field of a given class
-abbrev pub IsOwnStatic : World → Target → Type 0
-IsOwnStatic world (target.Field class field) = IsSomeAnd (slice_get world.statics class) (λ (fields : List Value). field < length fields)
-IsOwnStatic world target.None = ⊥
-IsOwnStatic world (target.ApiMethod index) = ⊥
-IsOwnStatic world (target.Builtin index) = ⊥
-IsOwnStatic world (target.Method class method) = ⊥
-IsOwnStatic world (target.ApiField index) = ⊥
-IsOwnStatic world (target.ClassName name) = ⊥
-IsOwnStatic world (target.Number n) = ⊥
-IsOwnStatic world (target.Literal index) = ⊥
+abbrev pub NamesOwnStatic : World → Target → Type 0
+NamesOwnStatic world (target.Field class field) = IsSomeAnd (slice_get world.statics class) (λ (fields : List Value). field < length fields)
+NamesOwnStatic world target.None = ⊥
+NamesOwnStatic world (target.ApiMethod index) = ⊥
+NamesOwnStatic world (target.Builtin index) = ⊥
+NamesOwnStatic world (target.Method class method) = ⊥
+NamesOwnStatic world (target.ApiField index) = ⊥
+NamesOwnStatic world (target.ClassName name) = ⊥
+NamesOwnStatic world (target.Number n) = ⊥
+NamesOwnStatic world (target.Literal index) = ⊥
 
 -- one of the listing
-abbrev pub IsListedStatic : Program → Target → Type 0
-IsListedStatic program (target.ApiField index) = index < length program.listing.fields
-IsListedStatic program target.None = ⊥
-IsListedStatic program (target.ApiMethod index) = ⊥
-IsListedStatic program (target.Builtin index) = ⊥
-IsListedStatic program (target.Method class method) = ⊥
-IsListedStatic program (target.Field class field) = ⊥
-IsListedStatic program (target.ClassName name) = ⊥
-IsListedStatic program (target.Number n) = ⊥
-IsListedStatic program (target.Literal index) = ⊥
+abbrev pub NamesListedStatic : Program → Target → Type 0
+NamesListedStatic program (target.ApiField index) = index < length program.listing.fields
+NamesListedStatic program target.None = ⊥
+NamesListedStatic program (target.ApiMethod index) = ⊥
+NamesListedStatic program (target.Builtin index) = ⊥
+NamesListedStatic program (target.Method class method) = ⊥
+NamesListedStatic program (target.Field class field) = ⊥
+NamesListedStatic program (target.ClassName name) = ⊥
+NamesListedStatic program (target.Number n) = ⊥
+NamesListedStatic program (target.Literal index) = ⊥
 
 -- ---- the heap, static fields, division
 
 -- What an instruction needs that works on the heap or on static fields, or divides.
 abbrev pub IsReadyFor : Program → World → Heap → Target → List Value → Type 0
-IsReadyFor program world heap.Constant ref items = IsConstant program ref
+IsReadyFor program world heap.Constant ref items = NamesConstant program ref
 IsReadyFor program world (heap.ReadItem item) ref items = HasTwo IsNumber (IsNullOr IsArray world.heap) items
 IsReadyFor program world (heap.WriteItem item) ref items = HasThree IsAny IsNumber (IsNullOr IsArray world.heap) items
 IsReadyFor program world (heap.Divide remainder) ref items = HasTwo IsNumber IsNumber items
-IsReadyFor program world heap.ReadStatic ref items = IsOwnStatic world ref ⊎ IsListedStatic program ref
-IsReadyFor program world heap.WriteStatic ref items = IsOwnStatic world ref × HasOne IsAny items
-IsReadyFor program world heap.ReadField ref items = IsField program (λ place. HasOne (IsNullOr (HasPlace place) world.heap) items) ref
+IsReadyFor program world heap.ReadStatic ref items = NamesOwnStatic world ref ⊎ NamesListedStatic program ref
+IsReadyFor program world heap.WriteStatic ref items = NamesOwnStatic world ref × HasOne IsAny items
+IsReadyFor program world heap.ReadField ref items = NamesField program (λ place. HasOne (IsNullOr (HasPlaceAt place) world.heap) items) ref
 IsReadyFor program world heap.WriteField ref items =
-    IsField program (λ place. HasTwo IsAny (IsNullOr (HasPlace place) world.heap) items) ref
-IsReadyFor program world heap.New ref items = IsClass ref
+    NamesField program (λ place. HasTwo IsAny (IsNullOr (HasPlaceAt place) world.heap) items) ref
+IsReadyFor program world heap.New ref items = NamesClass ref
 IsReadyFor program world (heap.NewArray kind) ref items = HasOne IsNumber items
-IsReadyFor program world heap.NewArrayOf ref items = IsClass ref × HasOne IsNumber items
+IsReadyFor program world heap.NewArrayOf ref items = NamesClass ref × HasOne IsNumber items
 IsReadyFor program world heap.Length ref items = HasOne (IsNullOr IsArray world.heap) items
-IsReadyFor program world heap.Cast ref items = IsClass ref × HasOne IsReference items
-IsReadyFor program world heap.IsInstance ref items = IsClass ref × HasOne IsReference items
+IsReadyFor program world heap.Cast ref items = NamesClass ref × HasOne IsReference items
+IsReadyFor program world heap.IsInstance ref items = NamesClass ref × HasOne IsReference items
 -- these have laws of their own
 IsReadyFor program world (heap.Call how) ref items = ⊥
 IsReadyFor program world heap.Throw ref items = ⊥
@@ -208,17 +215,70 @@ abbrev pub ReadyWorks : Type 0
 ReadyWorks = (program : Program) (world : World) (what : Heap) (ref : Target) (items : List Value) → IsReadyFor program world what ref items
     → IsSome (worked program world what ref items)
 
--- What it leaves is at most the stack's size, if it does not throw.
-abbrev pub FitsAfter : Frame → Worked → Type 0
-FitsAfter frame None = Unit {0}
-FitsAfter frame (Some (Ok made)) = length made.1 ≤ frame.stack.size
-FitsAfter frame (Some (Err class)) = Unit {0}
+-- how many operands an instruction takes that works on the heap or on static fields, or divides
+abbrev pub taken_by : Heap → ℕ
+taken_by heap.Constant = 0
+taken_by (heap.ReadItem item) = 2
+taken_by (heap.WriteItem item) = 3
+taken_by (heap.Divide remainder) = 2
+taken_by heap.ReadStatic = 0
+taken_by heap.WriteStatic = 1
+taken_by heap.ReadField = 1
+taken_by heap.WriteField = 2
+taken_by heap.New = 0
+taken_by (heap.NewArray kind) = 1
+taken_by heap.NewArrayOf = 1
+taken_by heap.Length = 1
+taken_by heap.Cast = 1
+taken_by heap.IsInstance = 1
+-- these do not work so
+taken_by (heap.Call how) = 0
+taken_by heap.Throw = 0
+taken_by heap.Enter = 0
+taken_by heap.Exit = 0
+taken_by (heap.Return kind) = 0
+
+-- and how many it pushes
+abbrev pub pushed_by : Heap → ℕ
+pushed_by heap.Constant = 1
+pushed_by (heap.ReadItem item) = 1
+pushed_by (heap.WriteItem item) = 0
+pushed_by (heap.Divide remainder) = 1
+pushed_by heap.ReadStatic = 1
+pushed_by heap.WriteStatic = 0
+pushed_by heap.ReadField = 1
+pushed_by heap.WriteField = 0
+pushed_by heap.New = 1
+pushed_by (heap.NewArray kind) = 1
+pushed_by heap.NewArrayOf = 1
+pushed_by heap.Length = 1
+pushed_by heap.Cast = 1
+pushed_by heap.IsInstance = 1
+pushed_by (heap.Call how) = 0
+pushed_by heap.Throw = 0
+pushed_by heap.Enter = 0
+pushed_by heap.Exit = 0
+pushed_by (heap.Return kind) = 0
+
+-- Of so many operands it takes so many, and pushes so many, if it does not throw.
+abbrev pub Leaves : ℕ → ℕ → ℕ → Worked → Type 0
+Leaves takes pushes count None = Unit {0}
+Leaves takes pushes count (Some (Ok made)) = length made.1 + takes ≡ count + pushes
+Leaves takes pushes count (Some (Err class)) = Unit {0}
+
+abbrev pub LeavesAsMany : Type 0
+LeavesAsMany = (program : Program) (world : World) (what : Heap) (ref : Target) (items : List Value)
+    → Leaves (taken_by what) (pushed_by what) (length items) (worked program world what ref items)
+
+-- What it leaves fits on the stack.
+abbrev pub HasRoomFor : Frame → Heap → Type 0
+HasRoomFor frame what = length frame.stack.items + pushed_by what ≤ frame.stack.size + taken_by what
 
 -- A thread whose next instruction is ready makes the step.
 abbrev pub ReadySteps : Type 0
 ReadySteps = (program : Program) (machine : Machine) (a : Acting) (what : Heap) (ref : Target)
     → IsReadyFor program (world_of machine) what ref a.frame.stack.items
-    → FitsAfter a.frame (worked program (world_of machine) what ref a.frame.stack.items)
+    → HasRoomFor a.frame what
     → IsSome (heap_stepped program machine a what ref)
 
 -- ---- monitors
@@ -229,19 +289,19 @@ FreeIsEntered = (monitors : List Monitor) (number : ℕ) (on : Value) → is_hel
     → IsSome (entered monitors number on)
 
 -- There are at most as many operands as the stack's size.
-abbrev pub IsWithin : Frame → Type 0
-IsWithin frame = length frame.stack.items ≤ frame.stack.size
+abbrev pub StackFits : Frame → Type 0
+StackFits frame = length frame.stack.items ≤ frame.stack.size
 
 -- A thread enters the monitor of a reference where nothing is waited for.
 abbrev pub EnteringSteps : Type 0
 EnteringSteps = (program : Program) (machine : Machine) (a : Acting) (ref : Target) → HasOne IsReference a.frame.stack.items
-    → IsWithin a.frame
+    → StackFits a.frame
     → heap_waits program machine a.number a.frame heap.Enter ref ≡ false → IsSome (heap_stepped program machine a heap.Enter ref)
 
 -- It leaves one always: what it does not hold throws.
 abbrev pub LeavingSteps : Type 0
 LeavingSteps = (program : Program) (machine : Machine) (a : Acting) (ref : Target) → HasOne IsReference a.frame.stack.items
-    → IsWithin a.frame
+    → StackFits a.frame
     → IsSome (heap_stepped program machine a heap.Exit ref)
 
 -- ---- throwing and returning
@@ -341,7 +401,60 @@ IsReadyToCall heap how (target.Literal index) passed = ⊥
 -- A thread of a linked program makes a call that is ready where nothing is waited for: a lock, or the end of a thread.
 abbrev pub CallingSteps : Type 0
 CallingSteps = (program : Program) (machine : Machine) (a : Acting) (how : How) (ref : Target) (passed : Taken)
-    → AreStanding program → IsWithin a.frame
+    → AreStanding program → StackFits a.frame
     → passed_by program a.frame how ref ≡ Some passed → IsReadyToCall machine.heap how ref passed
     → heap_waits program machine a.number a.frame (heap.Call how) ref ≡ false
     → IsSome (heap_stepped program machine a (heap.Call how) ref)
+
+-- ---- steps
+
+-- The operands of an instruction that works on the heap are there, and what it leaves fits.
+abbrev pub CanWork : Program → Machine → Acting → Heap → Target → Type 0
+CanWork program machine a what ref =
+    IsReadyFor program (world_of machine) what ref a.frame.stack.items × HasRoomFor a.frame what
+
+-- What an instruction needs that does more than change its frame.
+abbrev pub CanDo : Program → Machine → Acting → Heap → Target → Type 0
+CanDo program machine a (heap.Call how) ref =
+    StackFits a.frame × IsSomeAnd (passed_by program a.frame how ref) (λ (passed : Taken). IsReadyToCall machine.heap how ref passed)
+CanDo program machine a heap.Throw ref = HasOne (IsNullOr IsPlain machine.heap) a.frame.stack.items
+CanDo program machine a heap.Enter ref = StackFits a.frame × HasOne IsReference a.frame.stack.items
+CanDo program machine a heap.Exit ref = StackFits a.frame × HasOne IsReference a.frame.stack.items
+CanDo program machine a (heap.Return kind) ref = CanReturn kind a.frame.stack.items a.below
+CanDo program machine a heap.Constant ref = CanWork program machine a heap.Constant ref
+CanDo program machine a (heap.ReadItem item) ref = CanWork program machine a (heap.ReadItem item) ref
+CanDo program machine a (heap.WriteItem item) ref = CanWork program machine a (heap.WriteItem item) ref
+CanDo program machine a (heap.Divide remainder) ref = CanWork program machine a (heap.Divide remainder) ref
+CanDo program machine a heap.ReadStatic ref = CanWork program machine a heap.ReadStatic ref
+CanDo program machine a heap.WriteStatic ref = CanWork program machine a heap.WriteStatic ref
+CanDo program machine a heap.ReadField ref = CanWork program machine a heap.ReadField ref
+CanDo program machine a heap.WriteField ref = CanWork program machine a heap.WriteField ref
+CanDo program machine a heap.New ref = CanWork program machine a heap.New ref
+CanDo program machine a (heap.NewArray kind) ref = CanWork program machine a (heap.NewArray kind) ref
+CanDo program machine a heap.NewArrayOf ref = CanWork program machine a heap.NewArrayOf ref
+CanDo program machine a heap.Length ref = CanWork program machine a heap.Length ref
+CanDo program machine a heap.Cast ref = CanWork program machine a heap.Cast ref
+CanDo program machine a heap.IsInstance ref = CanWork program machine a heap.IsInstance ref
+
+-- the same of each instruction: of one that changes its frame alone, that it can
+abbrev pub CanDoNext : Program → Machine → Acting → Insn × Target → Option Heap → Type 0
+CanDoNext program machine a next None = IsSome (frame_stepped next.0 a.frame)
+CanDoNext program machine a next (Some what) = CanDo program machine a what next.1
+
+-- A thread in these frames can do its next instruction.
+abbrev pub CanRun : Program → Machine → ℕ → Thread → List Frame → Type 0
+CanRun program machine number thread [] = ⊥
+CanRun program machine number thread (frame ∷ below) =
+    let a : Acting = record { number = number; thread = thread; frame = frame; below = below } in
+    IsSomeAnd (insn_at program frame) (λ (next : Insn × Target). CanDoNext program machine a next (heap_in (shape_of next.0)))
+
+-- What a thread needs for a step is there.
+abbrev pub IsAble : Program → Machine → ℕ → Thread → Doing → Choice → Type 0
+IsAble program machine number thread doings.Running choice = CanRun program machine number thread thread.frames
+IsAble program machine number thread (doings.InCall method receiver arguments) choice = CanGoOn choice thread.frames
+IsAble program machine number thread doings.Ended choice = Unit {0}
+
+-- A step that is enabled by the rules is made, in a linked program, where what the thread needs for it is there.
+abbrev pub EnabledIsMade : Type 0
+EnabledIsMade = (program : Program) (machine : Machine) (step : Step) → AreStanding program → (enabled : IsEnabled program machine step)
+    → IsAble program machine step.thread enabled.thread enabled.thread.doing step.choice → IsSome (changed program machine step)

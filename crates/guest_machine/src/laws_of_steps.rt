@@ -3,6 +3,7 @@
 ghost use Rattle.guest_machine.specs.Enabled.{StepsAreEnabled};
 ghost use Rattle.guest_machine.specs.Moving.{
   ReadyWorks,
+  LeavesAsMany,
   ReadySteps,
   FreeIsEntered,
   EnteringSteps,
@@ -11,6 +12,7 @@ ghost use Rattle.guest_machine.specs.Moving.{
   ReturningSteps,
   AnswersStep,
   CallingSteps,
+  EnabledIsMade,
 };
 
 /// Each step that the machine makes is enabled by the rules alone: nothing that the thread waits for is left, and an
@@ -20,9 +22,11 @@ pub fn steps_are_enabled()
 {}
 
 /// An instruction that works on the heap or on static fields, or divides, comes to something where its operands are
-/// there and of their kinds, and the thread makes the step where what is left fits on the stack.
+/// there and of their kinds; it takes and pushes as many as it should; and the thread makes the step where what is left
+/// fits on the stack.
 pub fn what_is_ready_moves()
     ensures comes { ReadyWorks }
+    ensures leaves { LeavesAsMany }
     ensures steps { ReadySteps }
 {}
 
@@ -49,4 +53,10 @@ pub fn fitting_answers_are_taken()
 /// receiver, where it waits for no lock and for no thread.
 pub fn ready_calls_are_made()
     ensures made { CallingSteps }
+{}
+
+/// A step that is enabled by the rules is made, in a linked program, where what the thread needs for it is there: its
+/// operands, of their kinds, and room for what is left.
+pub fn enabled_steps_are_made()
+    ensures made { EnabledIsMade }
 {}

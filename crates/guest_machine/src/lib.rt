@@ -15,6 +15,6 @@ pub use laws::{
     what_each_step_keeps_holds_always,
 };
 pub use laws_of_steps::{
-    fitting_answers_are_taken, frames_are_left, free_monitors_are_entered, ready_calls_are_made,
-    steps_are_enabled, what_is_ready_moves,
+    enabled_steps_are_made, fitting_answers_are_taken, frames_are_left, free_monitors_are_entered,
+    ready_calls_are_made, steps_are_enabled, what_is_ready_moves,
 };
