@@ -6,6 +6,7 @@ ghost use Rattle.policy_runs.specs.Texts.{IsOfTexts, IsNoListing, IsNoPolicy};
 use conspec_automaton::{Policy, build};
 use conspec_parse::{PolicyFault, parse};
 use listing_text::{ListFault, read};
+use mon_base::NoMemory;
 use std::alloc::Global;
 
 /// The text that is refused, with its fault; or memory ran out behind the reading.
@@ -22,7 +23,16 @@ pub fn automaton_of(alloc: Global, listing: &[u8], policy: &[u8]) -> Result<Poli
     ensures no_listing { (fault : ListFault) → IsErrOf result (TextFault.Listing fault) → IsNoListing listing.now fault }
     ensures no_policy { (fault : PolicyFault) → IsErrOf result (TextFault.Policy fault) → IsNoPolicy listing.now policy.now fault }
 {
-    let listing = read(alloc, listing).map_err(TextFault::Listing)?;
-    let tree = parse(alloc, policy, &listing).map_err(TextFault::Policy)?;
-    build(alloc, &tree).map_err(|_| TextFault::Memory)
+    let listing = match read(alloc, listing) {
+        Ok(listing) => listing,
+        Err(fault) => return Err(TextFault::Listing(fault)),
+    };
+    let tree = match parse(alloc, policy, &listing) {
+        Ok(tree) => tree,
+        Err(fault) => return Err(TextFault::Policy(fault)),
+    };
+    match build(alloc, &tree) {
+        Ok(policy) => Ok(policy),
+        Err(NoMemory) => Err(TextFault::Memory),
+    }
 }
