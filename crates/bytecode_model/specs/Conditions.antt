@@ -47,8 +47,12 @@ may_be_extended name = bytes_eq name object || (bytes_eq name thread || is_one_o
 abbrev pub is_super : List ListedClass → Name → Bool
 is_super heads name = is_known heads name || may_be_extended name
 
+-- whether one of the classes has the name, and is an interface
+abbrev pub has_interface : List ListedClass → Name → Bool
+has_interface heads name = option_map_or (λ (c : ListedClass). c.is_interface) (class_named heads name) false
+
 abbrev pub is_above : List ListedClass → Name → Bool
-is_above heads name = is_known heads name || bytes_eq name runnable
+is_above heads name = has_interface heads name || bytes_eq name runnable
 
 -- after n superclasses the way up is still among the given classes
 abbrev pub stays_within : ℕ → List ListedClass → Name → Bool

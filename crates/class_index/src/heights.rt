@@ -3,7 +3,7 @@
 ghost use Rattle.std.specs.Prelude.{◌≡◌, ◌≤◌, ◌<◌, ◌+◌, ℕ, length, option_copied, IfOk, IfSome, OnOk};
 ghost use Rattle.api_listing.specs.Listing.{is_known};
 ghost use Rattle.api_listing.specs.Nearest.{class_named};
-ghost use Rattle.bytecode_model.specs.Conditions.{runs_in_circle};
+ghost use Rattle.bytecode_model.specs.Conditions.{has_interface, runs_in_circle};
 ghost use Rattle.class_index.specs.Heights.{AreHeights, LeavesAfter};
 
 use crate::classes::Classes;
@@ -48,6 +48,16 @@ impl Heads {
         ensures { result ≡ is_known self.now name.now }
     {
         self.classes.has(name)
+    }
+
+    /// Whether one has the name, and is an interface.
+    pub fn has_interface(&self, name: &Bytes) -> bool
+        ensures { result ≡ has_interface self.now name.now }
+    {
+        match self.classes.named(name) {
+            Some(class) => class.is_interface,
+            None => false,
+        }
     }
 
     /// The classes in their order.

@@ -230,7 +230,7 @@ fn are_above(heads: &Heads, names: &[Bytes]) -> bool
 fn is_above(heads: &Heads, name: &Bytes) -> bool
     ensures { result ≡ is_above heads.now name.now }
 {
-    heads.has(name) || is_text(name.as_slice(), "java/lang/Runnable")
+    heads.has_interface(name) || is_text(name.as_slice(), "java/lang/Runnable")
 }
 
 /// Whether an interface is below Object and has static fields alone.

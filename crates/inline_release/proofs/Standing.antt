@@ -21,7 +21,7 @@ use Rattle.class_linking.specs.declared.fault.LinkFault.{LinkFault}
 use Rattle.class_linking.specs.declared.fault.LinkFault.TheVariants as faults
 use Rattle.bytecode_model.specs.declared.program.Side.TheVariants as sides
 use Rattle.class_linking.specs.Fault.{Linked}
-use Rattle.bytecode_model.specs.Conditions.{is_free, names_own_class, may_be_extended, is_super, is_above, stays_within, runs_in_circle, stands_below, is_good_interface, has_supers}
+use Rattle.bytecode_model.specs.Conditions.{is_free, names_own_class, may_be_extended, has_interface, is_super, is_above, stays_within, runs_in_circle, stands_below, is_good_interface, has_supers}
 use Rattle.class_linking.specs.ClassConditions.{class_linked, classes_linked}
 use Rattle.bytecode_model.specs.Heads.{head_of, heads_of}
 use Rattle.bytecode_model.proofs.Lists.{not_true}
@@ -118,12 +118,20 @@ module _ (heads : List ListedClass) (parents : AllByRecursion (λ (c : ListedCla
   known_still : (name : List ℕ) → is_known heads name ≡ true → is_known (heads ++ state_head ∷ []) name ≡ true
   known_still name e = list_any-append (has_name name) heads (state_head ∷ []) ∙ or_left (is_known heads name) (is_known (state_head ∷ []) name) e
 
+  interface_still : (name : List ℕ) → has_interface heads name ≡ true → has_interface (heads ++ state_head ∷ []) name ≡ true
+  interface_still name e = by (class_named heads name) refl e where
+    by : (o : Option ListedClass) → class_named heads name ≡ o → option_map_or (λ (c : ListedClass). c.is_interface) o false ≡ true
+        → has_interface (heads ++ state_head ∷ []) name ≡ true
+    by None none e = absurd (false≢true e)
+    by (Some c) found e =
+        ap (λ (o : Option ListedClass). option_map_or (λ (c : ListedClass). c.is_interface) o false) (find-append (has_name name) heads (state_head ∷ []) ∙ ap (λ (o : Option ListedClass). option_or o (class_named (state_head ∷ []) name)) found) ∙ e
+
   above_still : (names : List (List ℕ)) → list_all (is_above heads) names ≡ true → list_all (is_above (heads ++ state_head ∷ [])) names ≡ true
   above_still [] e = refl
   above_still (name ∷ names) e =
       let both = and_both (is_above heads name) (list_all (is_above heads) names) e in
       and_holds (is_above (heads ++ state_head ∷ []) name) (list_all (is_above (heads ++ state_head ∷ [])) names)
-      (or_still (is_known heads name) (is_known (heads ++ state_head ∷ []) name) _ (known_still name) both.0) (above_still names both.1)
+      (or_still (has_interface heads name) (has_interface (heads ++ state_head ∷ []) name) _ (interface_still name) both.0) (above_still names both.1)
 
   supers_still : (c : ListedClass) (fields : List Member) → c.name ≢ state_head.name → has_supers heads c fields ≡ true → has_supers (heads ++ state_head ∷ []) c fields ≡ true
   supers_still c fields other e =
