@@ -88,3 +88,8 @@ def with_main(name, parent="java/lang/Object", flags=0x21):
 def operation(opcode, index):
     """An opcode and an index into the constant pool."""
     return bytes([opcode]) + u2(index)
+
+
+def code_of(made, text, constants):
+    """The bytes of words, each of hexadecimal digits or the name of a constant, which gives its index."""
+    return b"".join(u2(constants[word](made)) if word in constants else bytes.fromhex(word) for word in text.split())

@@ -12,6 +12,3 @@ mod reply;
 pub use field::{Field, Report};
 pub use line::Line;
 pub use reply::{Reply, text_of};
-
-#[cfg(test)]
-mod tests;

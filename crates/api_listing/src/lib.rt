@@ -26,6 +26,3 @@ pub use fault::FormFault;
 pub use lookup::{find_class, index_of, is_known_class, resolve};
 pub use types::{ListedClass, ListedMethod, Listing};
 pub use words::{class_name, is_text};
-
-#[cfg(test)]
-mod tests;

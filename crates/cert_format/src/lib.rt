@@ -25,6 +25,3 @@ pub use encoding::{MAX_LEN, encode, one_spelling};
 pub use fault::{CertForm, CertLong};
 pub use note::{Note, Phase8, Site, Term};
 pub use typing::{FrameType, Typing, VType};
-
-#[cfg(test)]
-mod tests;

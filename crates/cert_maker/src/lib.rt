@@ -13,6 +13,3 @@ mod notes;
 
 pub use laws::{policy_tells_arguments, woven_is_accepted, woven_is_typed};
 pub use making::make;
-
-#[cfg(test)]
-mod tests;

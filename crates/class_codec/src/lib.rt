@@ -25,6 +25,3 @@ pub use pool::{
     utf8_at,
 };
 pub use tree::{Attr, ClassFile, Code, Const, Member, Other, TableEntry};
-
-#[cfg(test)]
-mod tests;

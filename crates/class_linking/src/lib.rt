@@ -17,6 +17,3 @@ mod operands;
 pub use fault::LinkFault;
 pub use laws::{linked_is_in_order, linked_operands_are_right, linked_programs_are_named};
 pub use linking::{MAX_FILES, link};
-
-#[cfg(test)]
-mod tests;

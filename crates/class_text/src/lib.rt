@@ -14,6 +14,3 @@ mod words;
 
 pub use fault::ShowFault;
 pub use printing::show;
-
-#[cfg(test)]
-mod tests;

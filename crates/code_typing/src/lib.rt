@@ -30,6 +30,3 @@ pub use laws::{descriptors_agree, rows_follow_the_order, typed_effect, typed_is_
 pub use place::PlaceRef;
 pub use row::is_alone_met;
 pub use typing::{check_row, check_typing, row_in};
-
-#[cfg(test)]
-mod tests;

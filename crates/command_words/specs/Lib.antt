@@ -1,2 +1,3 @@
 pub mod InlineWords
+pub mod ReplayWords
 pub mod Words

@@ -8,6 +8,7 @@ use Rattle.command_words.specs.declared.words.PolicyWords.{PolicyWords}
 use Rattle.command_words.specs.declared.words.RaceWords.{RaceWords}
 use Rattle.command_words.specs.declared.words.ShowWords.{ShowWords}
 use Rattle.command_words.specs.InlineWords.{IsInline, NamedInline, inline_named}
+use Rattle.command_words.specs.ReplayWords.{IsReplay, NamedReplay, replay_named}
 
 -- the files of a check, and the name of its main class
 pub record NamedCheck : Type 0 where
@@ -39,6 +40,7 @@ pub data NamedCommand : Type 0 where
   Policy : NamedPolicy → NamedCommand
   Race : NamedRace → NamedCommand
   Inline : NamedInline → NamedCommand
+  Replay : NamedReplay → NamedCommand
 
 abbrev pub check_named : CheckWords → NamedCheck
 check_named words = record {
@@ -64,6 +66,7 @@ named_by (commands.Show words) = Show (show_named words)
 named_by (commands.Policy words) = Policy (policy_named words)
 named_by (commands.Race words) = Race (race_named words)
 named_by (commands.Inline words) = Inline (inline_named words)
+named_by (commands.Replay words) = Replay (replay_named words)
 
 -- check POLICY LISTING CERT MAIN CLASS..
 pub record IsCheck (words : List (List ℕ)) (named : NamedCheck) : Type 0 where
@@ -89,6 +92,7 @@ Spells words (Show named) = IsShow words named
 Spells words (Policy named) = IsPolicyCommand words named
 Spells words (Race named) = IsRace words named
 Spells words (Inline named) = IsInline words named
+Spells words (Replay named) = IsReplay words named
 
 -- The words are those of the command, and none of them is empty.
 pub record IsCommand (words : List (List ℕ)) (named : NamedCommand) : Type 0 where

@@ -5,10 +5,9 @@
 #![tactic(auto)]
 
 mod inline_words;
+mod replay_words;
 mod words;
 
 pub use inline_words::{InlineWords, Weaving};
+pub use replay_words::ReplayWords;
 pub use words::{CheckWords, Command, PolicyWords, RaceWords, ShowWords, command_of};
-
-#[cfg(test)]
-mod tests;

@@ -21,6 +21,7 @@ ghost use Rattle.command_words.specs.Words.{
 };
 
 use crate::inline_words::{InlineWords, inline_words};
+use crate::replay_words::{ReplayWords, replay_words};
 use mon_base::Bytes;
 
 /// The words of the command `check`, each the name of a file but `main`.
@@ -65,6 +66,7 @@ pub enum Command<'a> {
     Policy(PolicyWords<'a>),
     Race(RaceWords<'a>),
     Inline(InlineWords<'a>),
+    Replay(ReplayWords<'a>),
 }
 
 /// The command whose words these are. No word is empty, and where classes are named there is at least one.
@@ -89,6 +91,9 @@ pub fn command_of(words: &[Bytes]) -> Option<Command<'_>>
     }
     if let Some(words) = inline_words(words) {
         return Some(Command::Inline(words));
+    }
+    if let Some(words) = replay_words(words) {
+        return Some(Command::Replay(words));
     }
     None
 }

@@ -19,6 +19,3 @@ pub use laws::{ranges_are_kept, runs_join, seen_is_enough};
 pub use policy::{Branch, Clause, Policy, has_clauses};
 pub use running::{Verdict, accept, initial, next, stays_in_range};
 pub use state::State;
-
-#[cfg(test)]
-mod tests;

@@ -11,6 +11,3 @@ mod token;
 pub use front::{front_at, is_end, is_name, is_next, next_name, next_number, rest_of};
 pub use scanning::tokens_of;
 pub use token::{Lexeme, Token};
-
-#[cfg(test)]
-mod tests;

@@ -78,6 +78,10 @@ ending_of ends.Running n = Running n
 abbrev pub record_text : Listing → List Line → EndLine → List ℕ
 record_text listing lines end = flat_map (entry_line listing.methods) (entries_of lines) ++ end_line (ending_of end (length lines))
 
+-- the lines of events alone, and the end line with this number
+abbrev pub events_text : Listing → List Event → EndLine → ℕ → List ℕ
+events_text listing events end count = flat_map (event_line listing.methods) events ++ end_line (ending_of end count)
+
 -- ---- what is written is read again
 
 -- The class that an answer names is a word.

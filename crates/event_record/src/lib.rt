@@ -2,7 +2,7 @@
 //!
 //! [`read_record`] reads the steps and the events of a record, or answers its first line that is wrong. [`push_value`] and
 //! [`push_event`] print values and events as a record has them, and [`push_threadless`] an event of no thread. [`record_text`]
-//! writes the record of a run. (docs/RECORDS.md)
+//! writes the record of a run, and [`events_text`] its events and its end line alone. (docs/RECORDS.md)
 #![tactic(auto)]
 
 mod entry;
@@ -23,7 +23,4 @@ pub use printing::{
     events_are_read_again, push_event, push_threadless, push_value, values_are_read_again,
 };
 pub use reading::{Record, read_record};
-pub use writing::{EndLine, Line, record_text, records_are_read_again};
-
-#[cfg(test)]
-mod tests;
+pub use writing::{EndLine, Line, events_text, record_text, records_are_read_again};

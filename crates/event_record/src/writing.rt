@@ -6,7 +6,7 @@ ghost use Rattle.std.specs.List.{flat_map};
 ghost use Rattle.api_listing.specs.declared.types.ListedMethod.{ListedMethod};
 ghost use Rattle.event_record.specs.Again.{end_line};
 ghost use Rattle.event_record.specs.Joined.{WritesOn, end_head, joined_line};
-ghost use Rattle.event_record.specs.Printing.{behind};
+ghost use Rattle.event_record.specs.Printing.{behind, event_line};
 ghost use Rattle.event_record.specs.Spelling.{answer_words};
 ghost use Rattle.event_record.specs.Value.{hex};
 ghost use Rattle.event_record.specs.Writing.{
@@ -17,6 +17,7 @@ ghost use Rattle.event_record.specs.Writing.{
   entries_of,
   entry_line,
   event_before,
+  events_text,
   plain_before,
   record_text,
 };
@@ -74,10 +75,35 @@ pub fn record_text(
     Ok(out)
 }
 
+/// The lines of these events, and the end line with this number. (`events_are_read_again`)
+pub fn events_text(
+    alloc: Global,
+    listing: &Listing,
+    events: &[Event],
+    end: EndLine,
+    count: u64,
+) -> Result<Bytes, NoMemory>
+    ensures { IfOk result (λ text. text ≡ events_text listing.now events.now end count) }
+{
+    let mut out = Bytes::new(alloc);
+    push_events(&mut out, listing, events)?;
+    push_end(&mut out, end, count)?;
+    Ok(out)
+}
+
 /// What is written of a run is read as that run, where a record can tell its steps and its events.
 pub fn records_are_read_again()
     ensures { RecordsAreReadAgain }
 {}
+
+fn push_events(out: &mut Bytes, listing: &Listing, events: &[Event]) -> Result<(), NoMemory>
+    ensures { OnOk result (out.new ≡ out.old ++ flat_map (event_line listing.now.methods) events.now) }
+{
+    for event in events {
+        push_event(out, listing, event)?;
+    }
+    Ok(())
+}
 
 fn push_lines(out: &mut Bytes, listing: &Listing, lines: &[Line]) -> Result<(), NoMemory>
     ensures { OnOk result (out.new ≡ out.old ++ flat_map (entry_line listing.now.methods) (entries_of lines.now)) }

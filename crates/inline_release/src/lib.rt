@@ -11,6 +11,3 @@ mod weaving;
 
 pub use laws::{original_is_free, origins_are_true, sizes_decide, woven_files_link};
 pub use weaving::inline;
-
-#[cfg(test)]
-mod tests;

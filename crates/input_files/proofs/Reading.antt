@@ -9,6 +9,9 @@ use Rattle.input_files.specs.declared.named.ReadClasses.{ReadClasses as Classes}
 use Rattle.input_files.specs.Forms.{IsRead, ReadsForm}
 use Rattle.input_files.specs.InlineInputs.{ReadsInline}
 use Rattle.command_words.specs.InlineWords.{NamedInline}
+use Rattle.command_words.specs.ReplayWords.{NamedReplay}
+use Rattle.event_record.specs.declared.reading.Record.{Record}
+use Rattle.input_files.specs.ReplayInputs.{ReadsReplay}
 use Rattle.input_files.specs.CheckInputs.{ReadsCheck}
 use Rattle.input_files.specs.Named.{ReadsClasses, AreClasses}
 use Rattle.input_files.specs.PolicyInputs.{ReadsPolicy}
@@ -55,3 +58,11 @@ pub inline_stops : (files : Files) (named : NamedInline) (first begun now : ℕ)
     → ReadsClasses files (counted begun now last) named.classes (Err stop) → ReadsInline files (counted first now last) named (Err stop)
 inline_stops files named first begun now last le listing listed policy has stop reads =
     inr (listing, listed, inr (policy, has, inl (among_since files named.classes first begun now last stop le reads)))
+
+module _ (files : Files) (named : NamedReplay) (first begun now : ℕ) (last : List ℕ) (le : first ≤ begun) (listing : Listing) (listed : IsRead files named.listing listing_form (Ok listing)) where
+  pub run_stops : (stop : Stop) → ReadsForm files (counted begun now last) named.recorded (record_form listing) (Err stop) → ReadsReplay files (counted first now last) named (Err stop)
+  run_stops stop form = inr (listing, listed, inl (stops_since files (record_form listing) named.recorded first begun now last stop le form))
+
+  pub program_stops : (recorded : Record) → IsRead files named.recorded (record_form listing) (Ok recorded) → (stop : Stop)
+      → ReadsClasses files (counted begun now last) named.classes (Err stop) → ReadsReplay files (counted first now last) named (Err stop)
+  program_stops recorded has stop reads = inr (listing, listed, inr (recorded, has, inl (among_since files named.classes first begun now last stop le reads)))

@@ -8,3 +8,4 @@ pub mod ShowInputs
 pub mod PolicyInputs
 pub mod RaceInputs
 pub mod InlineInputs
+pub mod ReplayInputs

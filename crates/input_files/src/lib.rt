@@ -14,6 +14,7 @@ mod inline_inputs;
 mod named;
 mod policy_inputs;
 mod race_inputs;
+mod replay_inputs;
 mod show_inputs;
 
 pub use check_inputs::{CheckInputs, read_check};
@@ -23,7 +24,5 @@ pub use inline_inputs::{InlineInputs, read_inline};
 pub use named::ReadClasses;
 pub use policy_inputs::{PolicyInputs, read_policy};
 pub use race_inputs::{RaceInputs, read_race};
+pub use replay_inputs::{ReplayInputs, read_replay};
 pub use show_inputs::{ShowInputs, read_show};
-
-#[cfg(test)]
-mod tests;

@@ -36,8 +36,3 @@ pub use shape_laws::{
     control_goes_to_successor, effect_follows, operands_move, shapes_are_the_tables,
 };
 pub use writing::write_code;
-
-#[cfg(test)]
-mod shape_tests;
-#[cfg(test)]
-mod tests;

@@ -15,6 +15,3 @@ mod words;
 pub use fault::ListFault;
 pub use laws::faults_stay;
 pub use reading::read;
-
-#[cfg(test)]
-mod tests;

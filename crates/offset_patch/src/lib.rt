@@ -22,6 +22,3 @@ pub use fault::{Size, SpliceFault};
 pub use fronts::{has_block, origins_of};
 pub use sizes::room;
 pub use splicing::splice;
-
-#[cfg(test)]
-mod tests;

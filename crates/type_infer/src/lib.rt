@@ -17,6 +17,3 @@ mod work;
 
 pub use fault::InferFault;
 pub use inferring::infer;
-
-#[cfg(test)]
-mod tests;

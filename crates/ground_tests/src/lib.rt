@@ -1,0 +1,5 @@
+//! Tests of the store and the sink.
+#![tactic(auto)]
+
+#[cfg(test)]
+mod tests;

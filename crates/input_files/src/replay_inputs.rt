@@ -1,0 +1,44 @@
+//! The files of a program and of a run of it, read in their order.
+
+ghost use Rattle.std.specs.Prelude.{◌≡◌, ◌≤◌, IfOk};
+ghost use Rattle.input_files.specs.Forms.{since};
+ghost use Rattle.input_files.specs.ReplayInputs.{ReadsReplay, ReplaySound};
+ghost use Rattle.command_words.specs.ReplayWords.{replay_named};
+
+use crate::files::Stop;
+use crate::named::{ReadClasses, classes_of, listing_of, record_of};
+use api_listing::Listing;
+use command_words::ReplayWords;
+use event_record::Record;
+use mon_store::Store;
+use std::alloc::Global;
+
+/// What the files of a program and of a run of it are.
+#[derive(Debug, Drop)]
+pub struct ReplayInputs {
+    pub listing: Listing,
+    pub recorded: Record,
+    pub classes: ReadClasses,
+}
+
+/// Reads the files of a program and of a run of it in their order: listing, record, classes.
+pub fn read_replay<S: Store>(
+    alloc: Global,
+    store: &mut S,
+    words: &ReplayWords,
+) -> Result<ReplayInputs, Stop>
+    ensures read { ReadsReplay (S.files store.old) (since (S.faults store.old) (S.faults store.new) (S.last store.new))
+        (replay_named words.now) result }
+    ensures sound { IfOk result ReplaySound }
+    ensures files { S.files store.new ≡ S.files store.old }
+    ensures faults { S.faults store.old ≤ S.faults store.new }
+{
+    let listing = listing_of(alloc, store, words.listing)?;
+    let recorded = record_of(alloc, store, words.recorded, &listing)?;
+    let classes = classes_of(alloc, store, words.classes)?;
+    Ok(ReplayInputs {
+        listing,
+        recorded,
+        classes,
+    })
+}

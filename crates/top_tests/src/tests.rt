@@ -1,0 +1,4 @@
+//! A module for each crate that is tested.
+
+mod answers;
+mod words;

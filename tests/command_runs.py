@@ -1,0 +1,140 @@
+"""Runs the built program over files in a folder of its own, and counts what it answers otherwise than expected.
+
+Most runs begin with the files of one denied call: two classes, the first with a block too, and the class of the lock. They
+are those of examples/denied, written by hand, and so are their certificates.
+"""
+import os
+import subprocess
+import sys
+import tempfile
+
+HERE = os.path.dirname(os.path.realpath(__file__))
+DENIED = os.path.join(HERE, "..", "examples", "denied")
+
+LISTING = b"class api/Net extends java/lang/Object\nstatic api/Net send ()V\n"
+POLICY = b"MAXINT 1 SCOPE Session SECURITY STATE BEFORE void api.Net.send() PERFORM"
+
+# The certificate of the class with its block, as `inline` is to write it: up to `athrow` the notes are Free, Taking, and the
+# four places of Stop, each with local 1 as the first behind the client's; the rest is not reached.
+WOVEN_CERTIFICATE = bytes.fromhex(
+    "43535043 0001 01 00000002" + "0013" + b"[Ljava/lang/String;".hex() + "000f" + b"java/lang/Class".hex() + "0002 0001 0000000a"
+    "01 0001 0300000000 0000 00"
+    "01 0001 0300000000 0001 0300000001 01 00000000 01"
+    "01 0001 0300000000 0000 05 00000000 01 00"
+    "01 0001 0300000000 0001 01 05 00000000 01 01"
+    "01 0001 0300000000 0000 05 00000000 01 02"
+    "01 0001 0300000000 0001 02 05 00000000 01 03"
+    "0000 0000 0000 0000 0000"
+)
+
+# the checks of a class that calls nothing, of one that calls the denied method, and of the same with a block before the call
+QUIET = ["check", "POLICY", "LISTING", "CERT", "a/E", "E.class", "State.class"]
+SENDS = ["check", "POLICY", "LISTING", "S.CERT", "a/S", "S.class", "State.class"]
+WOVEN = ["check", "POLICY", "LISTING", "W.CERT", "a/S", "W.class", "State.class"]
+
+# the class that calls the denied method is woven
+WEAVE = ["inline", "POLICY", "LISTING", "a/S", "new", "auto", "S.class"]
+
+DONE, REFUSED, WORDS, INPUT, OVERFLOW, STORE, SINK, MEMORY = range(8)
+
+
+def read(name):
+    with open(os.path.join(DENIED, name), "rb") as file:
+        return file.read()
+
+
+def denied():
+    """The files of the three checks, by their names."""
+    files = {"LISTING": LISTING, "POLICY": POLICY}
+    for name in ("E.class", "S.class", "W.class", "State.class"):
+        files[name] = read(name)
+    files["CERT"], files["S.CERT"], files["W.CERT"] = read("E.certificate"), read("S.certificate"), WOVEN_CERTIFICATE
+    return files
+
+
+def changed(*edits):
+    """The files with these changes, one after the other: a name, a place in the file, how many bytes go, and what comes."""
+    files = denied()
+    for name, at, gone, new in edits:
+        old = files[name]
+        assert at + gone <= len(old), (name, at, gone)
+        files[name] = old[:at] + new + old[at + gone :]
+    return files
+
+
+class Ended:
+    """How a run ended: its status, what it printed, and the files that stand then."""
+
+    def __init__(self, status, printed, files):
+        self.status, self.printed, self.files = status, printed, files
+
+
+def put(folder, name, content):
+    """Writes a file, or a long one of zeros where the content is its length; None stands for a folder."""
+    path = os.path.join(folder, name)
+    os.makedirs(path if content is None else os.path.dirname(path), exist_ok=True)
+    if content is None:
+        return
+    with open(path, "wb") as file:
+        if isinstance(content, int):
+            file.truncate(content)
+        else:
+            file.write(content)
+
+
+def standing(folder):
+    """Each file below the folder with its bytes, and each folder below it with None."""
+    found = {}
+    for root, folders, names in os.walk(folder):
+        for name in folders:
+            found[os.path.relpath(os.path.join(root, name), folder)] = None
+        for name in names:
+            path = os.path.join(root, name)
+            # a file of zeros is told by its length
+            if os.path.getsize(path) > 1 << 26:
+                found[os.path.relpath(path, folder)] = os.path.getsize(path)
+                continue
+            with open(path, "rb") as file:
+                found[os.path.relpath(path, folder)] = file.read()
+    return found
+
+
+class Runs:
+    """Runs the program, and counts."""
+
+    def __init__(self, name):
+        found = subprocess.run([os.path.join(HERE, "program")], capture_output=True, text=True, check=False)
+        if found.returncode:
+            sys.exit(found.stderr)
+        self.name, self.program, self.passed, self.failed = name, found.stdout.strip(), 0, 0
+
+    def run(self, words, files, out=None):
+        """One run over these files. Standard output is kept, or goes to `out`."""
+        with tempfile.TemporaryDirectory() as folder:
+            for name, content in files.items():
+                put(folder, name, content)
+            ran = subprocess.run(
+                [self.program, *words], cwd=folder, stdout=out or subprocess.PIPE, stderr=subprocess.PIPE, check=False
+            )
+            return Ended(ran.returncode, (ran.stdout or b"").decode("latin-1"), standing(folder))
+
+    def say(self, what, wrong):
+        if wrong:
+            self.failed += 1
+            print(f"NOT AS EXPECTED: {what}: {wrong}")
+        else:
+            self.passed += 1
+            print(what)
+
+    def expect(self, what, words, status, printed, files=None, out=None):
+        """The run prints this and ends so; what it leaves is given back."""
+        ended = self.run(words, denied() if files is None else files, out)
+        wrong = ""
+        if (ended.status, ended.printed) != (status, printed):
+            wrong = f"printed {ended.printed!r} with status {ended.status}, not {printed!r} with status {status}"
+        self.say(f"{printed.strip() or '(nothing)'}: {what}", wrong)
+        return ended
+
+    def end(self):
+        print(f"{self.name}: {self.passed} as expected, {self.failed} not")
+        sys.exit(1 if self.failed else 0)
