@@ -15,8 +15,10 @@ mod near;
 mod places;
 mod search;
 
+pub use classes::Classes;
 pub use heads::{head_of, heads_of};
 pub use heights::Heads;
 pub use index::Index;
 pub use near::in_class;
 pub use places::add_name;
+pub use search::search_order;

@@ -1,6 +1,8 @@
 //! Frames.
 
-ghost use Rattle.std.specs.Prelude.{◌≡◌, ◌∷◌, [], OnOk, OnErr, slice_get, drop};
+ghost use Rattle.std.specs.Prelude.{◌≡◌, ◌∷◌, ◌<◌, [], Some, OnOk, OnErr, length, option_copied, slice_get, drop};
+ghost use Rattle.std.specs.Borrow.{sem};
+ghost use Rattle.guest_heap.specs.Lending.{LendsCaller, LendsTop};
 
 use crate::stack::Stack;
 use crate::value::Value;
@@ -64,5 +66,40 @@ impl Frames {
         ensures left { self.new ≡ drop 1 self.old }
     {
         self.items.pop()
+    }
+
+    /// The top frame; `None` where there is none.
+    pub fn top(&self) -> Option<&Frame>
+        ensures { option_copied result ≡ slice_get self.now 0 }
+    {
+        self.items.last()
+    }
+
+    /// The top frame, which can be written.
+    pub fn top_mut(&mut self) -> &mut Frame
+        requires { 0 < length self.old }
+        ensures* lends { sem 𝓛 (LendsTop self.entry result) }
+        ensures top { slice_get self.old 0 ≡ Some result.now }
+    {
+        let last = self.items.len() - 1;
+        &mut self.items[last]
+    }
+
+    /// The frame under the top one; `None` where there is none.
+    pub fn caller(&self) -> Option<&Frame>
+        ensures { option_copied result ≡ slice_get self.now 1 }
+    {
+        let place = self.items.len().checked_sub(2)?;
+        Some(&self.items[place])
+    }
+
+    /// The frame under the top one, which can be written.
+    pub fn caller_mut(&mut self) -> &mut Frame
+        requires { 1 < length self.old }
+        ensures* lends { sem 𝓛 (LendsCaller self.entry result) }
+        ensures caller { slice_get self.old 1 ≡ Some result.now }
+    {
+        let place = self.items.len() - 2;
+        &mut self.items[place]
     }
 }

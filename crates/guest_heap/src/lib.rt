@@ -12,11 +12,8 @@ mod thread;
 mod value;
 
 pub use frame::{Frame, Frames};
-pub use heap::{get, new_object};
+pub use heap::{get, new_object, put};
 pub use object::{Monitor, Object};
 pub use stack::Stack;
 pub use thread::{Doing, Thread};
 pub use value::Value;
-
-#[cfg(test)]
-mod tests;

@@ -1,6 +1,6 @@
 //! Operand stacks.
 
-ghost use Rattle.std.specs.Prelude.{◌≡◌, ◌∷◌, [], ◌<◌, length, drop, slice_get, IfOk};
+ghost use Rattle.std.specs.Prelude.{◌≡◌, ◌∷◌, [], ◌<◌, ◌≤◌, length, drop, slice_get, IfOk};
 
 use crate::value::Value;
 use mon_base::NoMemory;
@@ -51,5 +51,37 @@ impl Stack {
         ensures left { self.new ≡ record { items = drop 1 self.old.items; size = self.old.size } }
     {
         self.items.pop()
+    }
+
+    /// The operand at this depth, the top at 0; `None` where there are not so many. It takes no memory.
+    pub fn get(&self, depth: u8) -> Option<Value>
+        ensures there { result ≡ slice_get self.now.items depth }
+        ensures few { length self.now.items ≤ self.now.size }
+    {
+        let place = self.items.len().checked_sub(depth as usize + 1)?;
+        Some(self.items[place])
+    }
+
+    /// How many operands there are.
+    pub fn len(&self) -> usize
+        ensures count { result ≡ length self.now.items }
+        ensures few { length self.now.items ≤ self.now.size }
+    {
+        self.items.len()
+    }
+
+    /// How many it holds at most.
+    pub fn size(&self) -> u16
+        ensures { result ≡ self.now.size }
+    {
+        self.size
+    }
+
+    /// Drops the topmost operands, so many, or all. It takes no memory.
+    pub fn drop_top(&mut self, count: usize)
+        ensures left { self.new ≡ record { items = drop count self.old.items; size = self.old.size } }
+        ensures few { length self.old.items ≤ self.old.size }
+    {
+        self.items.truncate(self.items.len().saturating_sub(count))
     }
 }

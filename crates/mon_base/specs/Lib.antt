@@ -2,3 +2,5 @@ pub mod Reading
 pub mod Room
 pub mod Answer
 pub mod Widths
+pub mod Popping
+pub mod Lending

@@ -1,9 +1,12 @@
 //! Lists that are owned.
 
-ghost use Rattle.std.specs.Prelude.{◌≡◌, ◌∷◌, [], ◌++◌, ◌↔◌, length, IfOk, OnOk, OnErr, IsTrue, IsErr};
+ghost use Rattle.std.specs.Prelude.{◌≡◌, ◌∷◌, [], ◌++◌, ◌↔◌, ◌<◌, ◌+◌, length, take, drop, slice_get, slice_set, Option, Some, IfOk, OnOk, OnErr, IsTrue, IsErr};
 ghost use Rattle.std.specs.Cmp.Lexicographic.{pointwise};
 ghost use Rattle.std.proofs.Common.{rules};
 ghost use Rattle.std.specs.Cmp.Rules.{comparing};
+ghost use Rattle.std.specs.Borrow.{sem};
+ghost use Rattle.mon_base.specs.Lending.{LendsItem};
+ghost use Rattle.mon_base.specs.Popping.{IsPopped};
 
 use crate::memory::NoMemory;
 use std::alloc::Global;
@@ -56,6 +59,15 @@ impl<T> List<T> {
         self.items.as_slice()
     }
 
+    /// The item in this place, which can be written.
+    pub fn item_mut(&mut self, place: usize) -> &mut T
+        requires { place < length self.old }
+        ensures* lends { sem 𝓛 (LendsItem T.row self.entry place result) }
+        ensures item { slice_get self.old place ≡ Some result.now }
+    {
+        &mut self.items[place]
+    }
+
     /// The number of items.
     pub fn len(&self) -> usize
         ensures { result ≡ length self.now }
@@ -79,6 +91,31 @@ impl<T: Drop> List<T> {
     {
         self.items.push(item)?;
         Ok(())
+    }
+
+    /// Takes the last item; `None` where there is none. It takes no memory.
+    pub fn pop(&mut self) -> Option<T>
+        ensures { IsPopped result self.old self.new }
+    {
+        self.items.pop()
+    }
+
+    /// Puts the item into this place, and answers the one that stood there. It takes no memory.
+    pub fn replace(&mut self, place: usize, item: T) -> T
+        requires { place < length self.old }
+        ensures was { slice_get self.old place ≡ Some result }
+        ensures is { self.new ≡ slice_set self.old place item }
+    {
+        std::mem::replace(&mut self.items[place], item)
+    }
+
+    /// Takes the item from this place; those behind it move up. It takes no memory.
+    pub fn remove(&mut self, place: usize) -> T
+        requires { place < length self.old }
+        ensures was { slice_get self.old place ≡ Some result }
+        ensures left { self.new ≡ take place self.old ++ drop (place + 1) self.old }
+    {
+        self.items.remove(place)
     }
 }
 

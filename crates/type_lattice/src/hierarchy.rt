@@ -59,6 +59,13 @@ impl Hierarchy {
         self.classes.as_slice()
     }
 
+    /// The place of the first class with the name.
+    pub fn class_place(&self, name: &[u8]) -> Option<usize>
+        ensures { result ≡ class_place self.now name.now }
+    {
+        place_of(&self.places, name)
+    }
+
     /// The first class with the name.
     pub fn class_named(&self, name: &[u8]) -> Option<&ListedClass>
         ensures { option_copied result ≡ class_named self.now name.now }

@@ -5,6 +5,7 @@ ghost use Rattle.api_listing.specs.declared.types.ListedClass.{ListedClass};
 ghost use Rattle.api_listing.specs.Nearest.{upwards};
 ghost use Rattle.bytecode_model.specs.Classes.{classes_of, is_below, is_interface};
 ghost use Rattle.bytecode_model.specs.Order.{EachWayEnds};
+ghost use Rattle.bytecode_model.specs.Places.{class_place};
 
 use crate::classes::classes_of;
 use crate::ending::each_way_ends;
@@ -70,6 +71,13 @@ impl Indexed {
     {
         self.program
     }
+}
+
+/// The place of the class among those of the listing and the given ones behind them.
+pub fn class_place(program: &Indexed, name: &[u8]) -> Option<usize>
+    ensures { result ≡ class_place (classes_of program.now) name.now }
+{
+    program.hierarchy.class_place(name)
 }
 
 /// Whether the class is an interface, of the listing or given.

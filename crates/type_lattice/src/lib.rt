@@ -17,9 +17,6 @@ mod ways;
 
 pub use assigning::{assignable, fits_class, lent_fits};
 pub use hierarchy::Hierarchy;
-pub use indexed::{Indexed, is_below, is_interface};
+pub use indexed::{Indexed, class_place, is_below, is_interface};
 pub use laws::{assignable_is_an_order, merge_is_the_least};
 pub use merging::merge;
-
-#[cfg(test)]
-mod tests;
