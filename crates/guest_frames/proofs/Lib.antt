@@ -1,0 +1,5 @@
+mod Switches
+mod Putting
+mod Locals
+mod Frames
+mod Forms

@@ -1,0 +1,10 @@
+//! Steps that change a frame alone: numbers, locals, the forms of the operand stack, and jumps. They take no memory.
+//! (The Java Virtual Machine Specification, section 6.5; docs/MACHINE.md)
+#![tactic(auto)]
+
+mod jumps;
+mod numbers;
+mod operands;
+mod step;
+
+pub use step::local_step;
