@@ -4,9 +4,3 @@ mod Noted
 mod Calls
 mod Security
 mod Denied
-mod Kinded
-mod Ready
-mod Passing
-mod Beginning
-mod Runs
-mod Formed

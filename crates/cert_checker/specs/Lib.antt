@@ -2,4 +2,3 @@ pub mod Places
 pub mod Acceptance
 pub mod Secure
 pub mod Denied
-pub mod Formed

@@ -12,4 +12,4 @@ mod shape;
 
 pub use checking::{Accepted, check};
 pub use fault::CheckFault;
-pub use laws::{denied_call_disobeys, events_are_well_formed};
+pub use laws::denied_call_disobeys;

@@ -23,7 +23,7 @@ use Rattle.guest_model.specs.Calls.{arity, taken}
 use Rattle.guest_model.specs.Places.{method_at}
 use Rattle.guest_model.specs.Standing.{Places, IsAt, HasInsns}
 use Rattle.guest_model.specs.Stepping.{null_pointer, running}
-use Rattle.guest_model.specs.Values.{is_null}
+use Rattle.guest_frames.specs.Values.{is_null}
 use Rattle.guest_machine.specs.declared.builtin.Builtin.{Builtin}
 use Rattle.guest_machine.specs.declared.builtin.Builtin.TheVariants as builtins
 use Rattle.guest_machine.specs.Builtins.{builtin_at, characters}
@@ -34,7 +34,7 @@ use Rattle.guest_machine.specs.Kinds.{class_of_value, is_thread}
 use Rattle.guest_machine.specs.Seen.{string_of}
 use Rattle.guest_machine.specs.Standing.{IsClosed}
 use Rattle.guest_machine.proofs.Going.{CallsFrom, Waits, Standing, Well, Good, ended_well, called, went_on, goes_good, behind_call, begun_stands}
-use Rattle.guest_machine.proofs.Options.{IfThere, if_none, if_some, if_either, if_then, if_made, there_or}
+use Rattle.guest_model.proofs.Options.{IfThere, if_none, if_some, if_either, if_then, if_made, there_or}
 use Rattle.guest_machine.proofs.Throwing.{throws_new_good}
 
 module _ (program : Program) (reached : Places) (sound : HasInsns program) (closed : IsClosed program reached) where

@@ -43,15 +43,16 @@ use Rattle.bytecode_model.specs.Standing.{AreStanding, IsStanding, is_main}
 use Rattle.guest_heap.specs.declared.frame.Frame.{Frame}
 use Rattle.guest_heap.specs.declared.object.Monitor.{Monitor}
 use Rattle.guest_heap.specs.declared.object.Object.{Object}
-use Rattle.guest_heap.specs.declared.object.Object.TheVariants as objects
 use Rattle.guest_heap.specs.declared.thread.Thread.{Thread}
 use Rattle.guest_heap.specs.declared.value.Value.{Value}
 use Rattle.guest_heap.specs.declared.value.Value.TheVariants as values
 use Rattle.guest_model.specs.declared.machine.Machine.{Machine}
 use Rattle.guest_model.specs.Calls.{Taken, arity, taken}
-use Rattle.guest_model.specs.Places.{after, method_at}
+use Rattle.guest_model.specs.Places.{method_at}
+use Rattle.guest_frames.specs.Stepping.{after}
 use Rattle.guest_model.specs.Stepping.{number_in}
-use Rattle.guest_model.specs.Values.{is_null}
+use Rattle.guest_frames.specs.Values.{is_null}
+use Rattle.guest_model.proofs.Options.{and_then_of, map_of}
 use Rattle.guest_machine.specs.declared.builtin.Builtin.{Builtin}
 use Rattle.guest_machine.specs.declared.builtin.Builtin.TheVariants as builtins
 use Rattle.guest_machine.specs.Builtins.{builtin_at}
@@ -114,19 +115,17 @@ use Rattle.guest_machine.specs.Kinds.{class_of_value, is_thread}
 use Rattle.guest_machine.specs.Moving.{
   CallingSteps,
   HasOne,
-  IsNullOr,
   IsNumber,
   IsObject,
   IsOnObject,
-  IsPlain,
   IsReadyToCall,
   IsReadyToRun,
   IsReceived,
   IsReference,
 }
 use Rattle.guest_machine.proofs.Enabled.{IsOf, receiver_of}
-use Rattle.guest_machine.proofs.Moving.{after_some, free_entered, one_there}
-use Rattle.guest_machine.proofs.There.{and_then_of, cond_either, get_some, holds_there, map_of, map_some, then_some}
+use Rattle.guest_machine.proofs.Moving.{after_some, free_entered, null_or, object_class, one_there}
+use Rattle.guest_machine.proofs.There.{cond_either, get_some, holds_there, map_some, then_some}
 use Rattle.guest_machine.proofs.Working.{number_some}
 
 -- no other thread holds the lock, if there is one
@@ -260,35 +259,18 @@ module _ (program : Program) where
 
 -- ---- receivers
 
-null_or : {A : Type 0} (b : Bool) (x y : Option A) → IsSome x → (b ≡ false → IsSome y) → IsSome (cond b x y)
-null_or true x y h each = h
-null_or false x y h each = each refl
-
 received : (P : Value → Type 0) (o : Option Value) (thrown : Option Change) (f : Value → Option Change) → IsSome thrown → IsSomeAnd o P
     → ((v : Value) → o ≡ Some v → P v → is_null v ≡ false → IsSome (f v))
     → IsSome (option_and_then (λ (v : Value). cond (is_null v) thrown (f v)) o)
 received P None thrown f t h each = absurd h
 received P (Some v) thrown f t h each = null_or (is_null v) thrown (f v) t (λ e. each v refl h e)
 
-object_class : (heap : List Object) (v : Value) → IsObject heap v → is_null v ≡ false → IsSome (class_of_value heap v)
-object_class heap (values.Int n) h e = absurd h
-object_class heap values.Null h e = absurd cc
-object_class heap (values.Ref at) h e = map_some _ (slice_get heap at) (get_some heap at h)
-object_class heap (values.Class index) h e = refl
-object_class heap (values.Lit index) h e = refl
-
-plain_thread : (o : Option Object) → IsSomeAnd o IsPlain → IsSome (option_and_then thread_in o)
-plain_thread None h = absurd h
-plain_thread (Some (objects.Plain class fields target thread)) h = refl
-plain_thread (Some (objects.Array desc items)) h = absurd h
-plain_thread (Some (objects.Text text)) h = absurd h
-
-thread_there : (heap : List Object) (v : Value) → IsNullOr IsPlain heap v → is_null v ≡ false → IsSome (thread_of_value heap v)
+thread_there : (heap : List Object) (v : Value) → IsObject heap v → is_null v ≡ false → IsSome (thread_of_value heap v)
 thread_there heap (values.Int n) h e = absurd h
 thread_there heap values.Null h e = absurd cc
-thread_there heap (values.Ref at) h e = plain_thread (slice_get heap at) h
-thread_there heap (values.Class index) h e = absurd h
-thread_there heap (values.Lit index) h e = absurd h
+thread_there heap (values.Ref at) h e = map_some thread_in (slice_get heap at) (get_some heap at h)
+thread_there heap (values.Class index) h e = refl
+thread_there heap (values.Lit index) h e = refl
 
 module _ (program : Program) (machine : Machine) (standing : AreStanding program) (c : Calling)
     (room : length c.passed.beneath ≤ c.frame.stack.size) where
@@ -439,14 +421,14 @@ module _ (program : Program) (machine : Machine) (standing : AreStanding program
     built_in_some how builtins.MakeOn h free =
         received IsReference c.passed.receiver _ (aims (world_of machine) c) refl h.0 (λ on e is lives. aims_some on h.1)
     built_in_some how builtins.Start h free =
-        received (IsNullOr IsPlain machine.heap) c.passed.receiver _ (starts program machine c) refl h
+        received (IsObject machine.heap) c.passed.receiver _ (starts program machine c) refl h
         (λ on e is lives. then_some (started program machine c on) (thread_of_value machine.heap on) (thread_there machine.heap on is lives)
         (λ o k. started_some on o))
     built_in_some how builtins.Run h free =
         received (IsObject machine.heap) c.passed.receiver _ (runs_object program (world_of machine) c how) refl h.1
         (λ on e is lives. runs_object_some (world_of machine) how on h.0)
     built_in_some how builtins.Join h free =
-        received (IsNullOr IsPlain machine.heap) c.passed.receiver _ (joins machine c) refl h
+        received (IsObject machine.heap) c.passed.receiver _ (joins machine c) refl h
         (λ on e is lives. then_some (joined machine c) (thread_of_value machine.heap on) (thread_there machine.heap on is lives)
         (λ o k. joined_some o (awaited_free on o k (subst JoinIsFree e free))))
     built_in_some how builtins.Exit h free = exit_some c.passed.arguments h

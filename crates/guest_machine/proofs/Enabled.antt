@@ -26,7 +26,8 @@ use Rattle.guest_model.specs.declared.machine.Machine.{Machine}
 use Rattle.guest_model.specs.Calls.{Taken, arity, taken, types_of}
 use Rattle.guest_model.specs.Monitors.{entered, held_once_more}
 use Rattle.guest_model.specs.Places.{insn_at, method_at}
-use Rattle.guest_model.specs.Values.{are_one, is_null}
+use Rattle.guest_frames.specs.Values.{are_one, is_null}
+use Rattle.guest_model.proofs.Options.{and_then_of, map_of}
 use Rattle.guest_machine.specs.declared.builtin.Builtin.{Builtin}
 use Rattle.guest_machine.specs.declared.builtin.Builtin.TheVariants as builtins
 use Rattle.guest_machine.specs.Answering.{answer_fits, answered}
@@ -79,7 +80,7 @@ use Rattle.guest_machine.specs.Stepping.{
   is_on_null,
   running_stepped,
 }
-use Rattle.guest_machine.proofs.There.{and_then_of, map_of, if_of, unless_of}
+use Rattle.guest_machine.proofs.There.{if_of, unless_of}
 
 -- ---- monitors
 

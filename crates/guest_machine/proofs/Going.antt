@@ -23,13 +23,14 @@ use Rattle.guest_heap.specs.declared.thread.Doing.TheVariants as doings
 use Rattle.guest_heap.specs.declared.thread.Thread.{Thread}
 use Rattle.guest_heap.specs.declared.value.Value.{Value}
 use Rattle.guest_model.specs.Calls.{arity}
-use Rattle.guest_model.specs.Places.{after, fitted, method_at, moved_to}
+use Rattle.guest_model.specs.Places.{method_at}
+use Rattle.guest_frames.specs.Stepping.{after, fitted, moved_to}
 use Rattle.guest_model.specs.Standing.{Places, IsAt, HasInsns, IsCalled, method_of}
 use Rattle.guest_model.specs.Stepping.{main_argument}
 use Rattle.guest_machine.specs.Changes.{Change, World, ended_thread, frame_begun, frame_of, goes, rests, returned, rests_now, with_event}
 use Rattle.guest_machine.specs.Finding.{Given}
 use Rattle.guest_machine.specs.Standing.{IsClosed}
-use Rattle.guest_machine.proofs.Options.{and_then_of, unless_of, IfThere, if_some, if_mapped, not_empty}
+use Rattle.guest_model.proofs.Options.{and_then_of, unless_of, IfThere, if_some, if_mapped, not_empty}
 
 module _ (program : Program) (reached : Places) where
   -- Where the method of a frame has code, the frame stands at a place of the set.

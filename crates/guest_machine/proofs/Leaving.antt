@@ -4,6 +4,8 @@ use Rattle.std.specs.Prelude.{slice_get, option_map, option_and_then, nat_lt}
 use Rattle.std.specs.Option.{option_map_or}
 use Rattle.std.specs.Ordering.{int_eq}
 use Rattle.insn_codec.specs.declared.shape.Heap.TheVariants as heap
+use Rattle.insn_codec.specs.declared.shape.Item.{Item}
+use Rattle.insn_codec.specs.declared.shape.Kind.TheVariants as kinds
 use Rattle.bytecode_model.specs.declared.program.Program.{Program}
 use Rattle.bytecode_model.specs.declared.program.Target.{Target}
 use Rattle.bytecode_model.specs.declared.program.Target.TheVariants as target
@@ -24,13 +26,17 @@ use Rattle.guest_machine.specs.Working.{
   array_made,
   casts,
   divides,
+  has_items,
   is_cast,
+  item_kind,
   length_told,
   makes_array,
   may_hold,
   name_named,
   on_array,
+  on_items,
   on_object,
+  operand_of,
   place_among,
   place_named,
   reads_field,
@@ -75,6 +81,10 @@ module _ (t p n : ℕ) where
   leaves_array heap (values.Class index) f each = tt
   leaves_array heap (values.Lit index) f each = tt
 
+  leaves_items : (item : Item) (heap : List Object) (v : Value) (f : ArrayAt → Worked) → ((a : ArrayAt) → Leaves t p n (f a))
+      → Leaves t p n (on_items item heap v f)
+  leaves_items item heap v f each = leaves_array heap v _ (λ a. leaves_either (has_items item a.desc) (f a) None (each a) tt)
+
   leaves_object : (heap : List Object) (v : Value) (f : ℕ → List Value → Worked)
       → ((at : ℕ) (fields : List Value) → Leaves t p n (f at fields)) → Leaves t p n (on_object heap v f)
   leaves_object heap (values.Int m) f each = tt
@@ -91,23 +101,26 @@ module _ (program : Program) (world : World) where
       leaves_then 2 1 _ _ (number_in v)
       (λ y. leaves_then 2 1 _ _ (number_in w) (λ x. leaves_either 2 1 _ (int_eq y (pos 0)) _ _ tt (omega arith)))
 
-  read_item_leaves : (items : List Value) → Leaves 2 1 (length items) (reads_item world items)
-  read_item_leaves [] = tt
-  read_item_leaves (v ∷ []) = leaves_then 2 1 (length (v ∷ [])) _ (number_in v) (λ i. tt)
-  read_item_leaves (v ∷ w ∷ below) =
+  read_item_leaves : (item : Item) (items : List Value) → Leaves 2 1 (length items) (reads_item item world items)
+  read_item_leaves item [] = tt
+  read_item_leaves item (v ∷ []) = leaves_then 2 1 (length (v ∷ [])) _ (number_in v) (λ i. tt)
+  read_item_leaves item (v ∷ w ∷ below) =
       leaves_then 2 1 _ _ (number_in v)
-      (λ i. leaves_array 2 1 _ world.heap w _
+      (λ i. leaves_items 2 1 _ item world.heap w _
       (λ a. leaves_map_or 2 1 _ _ (option_and_then (slice_get a.items) (place_among (length a.items) i)) _ (λ x. omega arith) tt))
 
-  write_item_leaves : (items : List Value) → Leaves 3 0 (length items) (writes_item program world items)
-  write_item_leaves [] = tt
-  write_item_leaves (v ∷ []) = tt
-  write_item_leaves (v ∷ w ∷ []) = leaves_then 3 0 (length (v ∷ w ∷ [])) _ (number_in w) (λ i. tt)
-  write_item_leaves (v ∷ w ∷ u ∷ below) =
-      leaves_then 3 0 _ _ (number_in w)
-      (λ i. leaves_array 3 0 _ world.heap u _
+  write_item_leaves : (item : Item) (items : List Value) → Leaves 3 0 (length items) (writes_item item program world items)
+  write_item_leaves item [] = tt
+  write_item_leaves item (v ∷ []) = leaves_then 3 0 (length (v ∷ [])) _ (operand_of (item_kind item) (v ∷ []) 0) (λ value. tt)
+  write_item_leaves item (v ∷ w ∷ []) =
+      leaves_then 3 0 (length (v ∷ w ∷ [])) _ (operand_of (item_kind item) (v ∷ w ∷ []) 0)
+      (λ value. leaves_then 3 0 (length (v ∷ w ∷ [])) _ (number_in w) (λ i. tt))
+  write_item_leaves item (v ∷ w ∷ u ∷ below) =
+      leaves_then 3 0 _ _ (operand_of (item_kind item) (v ∷ w ∷ u ∷ below) 0)
+      (λ value. leaves_then 3 0 _ _ (number_in w)
+      (λ i. leaves_items 3 0 _ item world.heap u _
       (λ a. leaves_map_or 3 0 _ _ (place_among (length a.items) i) _
-      (λ place. leaves_either 3 0 _ (may_hold program world.heap a.desc v) _ _ (omega arith) tt) tt))
+      (λ place. leaves_either 3 0 _ (may_hold program world.heap a.desc value) _ _ (omega arith) tt) tt)))
 
   length_leaves : (items : List Value) → Leaves 1 1 (length items) (length_told world items)
   length_leaves [] = tt
@@ -161,16 +174,18 @@ module _ (program : Program) (world : World) where
 
   cast_leaves : (name : Name) (items : List Value) → Leaves 1 1 (length items) (casts program world name items)
   cast_leaves name [] = tt
-  cast_leaves name (v ∷ below) = leaves_either_ok 1 1 _ (is_cast program world.heap v name) _ _ refl tt
+  cast_leaves name (v ∷ below) =
+      leaves_map 1 1 _ _ (operand_of kinds.Reference (v ∷ below) 0)
+      (λ value. leaves_either_ok 1 1 _ (is_cast program world.heap value name) _ _ refl tt)
 
   instance_leaves : (name : Name) (items : List Value) → Leaves 1 1 (length items) (tells_instance program world name items)
   instance_leaves name [] = tt
-  instance_leaves name (v ∷ below) = omega arith
+  instance_leaves name (v ∷ below) = leaves_map 1 1 _ _ (operand_of kinds.Reference (v ∷ below) 0) (λ value. omega arith)
 
 pub leaves_as_many : LeavesAsMany
 leaves_as_many program world heap.Constant ref items = leaves_map 0 1 _ _ (constant_value program ref) (λ v. omega arith)
-leaves_as_many program world (heap.ReadItem item) ref items = read_item_leaves program world items
-leaves_as_many program world (heap.WriteItem item) ref items = write_item_leaves program world items
+leaves_as_many program world (heap.ReadItem item) ref items = read_item_leaves program world item items
+leaves_as_many program world (heap.WriteItem item) ref items = write_item_leaves program world item items
 leaves_as_many program world (heap.Divide remainder) ref items = divide_leaves program world remainder items
 leaves_as_many program world heap.ReadStatic ref items = read_static_leaves program world ref items
 leaves_as_many program world heap.WriteStatic ref items = write_static_leaves program world ref items

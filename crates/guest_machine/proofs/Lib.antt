@@ -1,4 +1,3 @@
-mod Options
 pub mod Always
 pub mod Staying
 mod Going
@@ -6,6 +5,12 @@ mod Throwing
 mod Calling
 mod Stepping
 pub mod Standing
+pub mod Words
+mod Comings
+mod Passing
+mod Answers
+mod InRange
+mod Linked
 mod There
 mod Enabled
 mod Working

@@ -19,7 +19,7 @@ use Rattle.guest_model.specs.declared.machine.Choice.TheVariants as choices
 use Rattle.guest_model.specs.declared.machine.Machine.{Machine}
 use Rattle.guest_model.specs.Calls.{Taken}
 use Rattle.guest_model.specs.Places.{insn_at}
-use Rattle.guest_model.specs.Stepping.{frame_stepped}
+use Rattle.guest_frames.specs.Stepping.{frame_stepped}
 use Rattle.guest_machine.specs.Changes.{world_of}
 use Rattle.guest_machine.specs.Enabled.{MayStep, heap_waits, passed_by, waits}
 use Rattle.guest_machine.specs.Moving.{CanDo, CanDoNext, CanRun, EnabledIsMade, IsAble, IsReadyToCall}

@@ -22,7 +22,7 @@ use Rattle.std.proofs.Common.{
   subst,
   arith,
 }
-use Rattle.std.specs.Prelude.{◌==◌, ◌&&◌, IsSome, IsSomeAnd, not, find, slice_get, option_map, option_and_then}
+use Rattle.std.specs.Prelude.{◌==◌, ◌&&◌, IsSome, not, find, slice_get, option_map, option_and_then}
 use Rattle.std.specs.Option.{option_map_or, option_to_list}
 use Rattle.std.proofs.lemmas.Bool.{le-ltb}
 use Rattle.std.proofs.lemmas.Option.{same_Some}
@@ -39,7 +39,6 @@ use Rattle.bytecode_model.specs.declared.program.Target.{Target}
 use Rattle.guest_heap.specs.declared.frame.Frame.{Frame}
 use Rattle.guest_heap.specs.declared.object.Monitor.{Monitor}
 use Rattle.guest_heap.specs.declared.object.Object.{Object}
-use Rattle.guest_heap.specs.declared.object.Object.TheVariants as objects
 use Rattle.guest_heap.specs.declared.thread.Thread.{Thread}
 use Rattle.guest_heap.specs.declared.value.Value.{Value}
 use Rattle.guest_heap.specs.declared.value.Value.TheVariants as values
@@ -47,12 +46,13 @@ use Rattle.guest_model.specs.declared.machine.Choice.TheVariants as choices
 use Rattle.guest_model.specs.declared.machine.Machine.{Machine}
 use Rattle.guest_model.specs.Calls.{types_of}
 use Rattle.guest_model.specs.Monitors.{entered, held_once_more, left}
-use Rattle.guest_model.specs.Places.{after}
-use Rattle.guest_model.specs.Stepping.{plain_class, result_of}
-use Rattle.guest_model.specs.Values.{are_one, fits, is_null}
+use Rattle.guest_frames.specs.Stepping.{after}
+use Rattle.guest_model.specs.Stepping.{result_of}
+use Rattle.guest_frames.specs.Values.{are_one, fits, is_null}
 use Rattle.guest_machine.specs.Answering.{answer_fits, answered_well, given, returned_by}
 use Rattle.guest_machine.specs.Changes.{Change, World, returned, world_of}
 use Rattle.guest_machine.specs.Enabled.{is_held_by_other}
+use Rattle.guest_machine.specs.Kinds.{class_of_value}
 use Rattle.guest_machine.specs.Moving.{
   AnswersStep,
   CanTake,
@@ -61,9 +61,8 @@ use Rattle.guest_machine.specs.Moving.{
   FreeIsEntered,
   HasOne,
   HasRoom,
-  IsNullOr,
   IsNumber,
-  IsPlain,
+  IsObject,
   IsReadyFor,
   IsReference,
   StackFits,
@@ -78,7 +77,7 @@ use Rattle.guest_machine.specs.Moving.{
 use Rattle.guest_machine.specs.Stepping.{Acting, comes_to, enters, leaves, left_with, throws_top, works}
 use Rattle.guest_machine.specs.Working.{Worked, worked}
 use Rattle.guest_machine.proofs.Leaving.{leaves_as_many}
-use Rattle.guest_machine.proofs.There.{cond_either, holds_there, map_some, then_some}
+use Rattle.guest_machine.proofs.There.{cond_either, get_some, holds_there, map_some, then_some}
 use Rattle.guest_machine.proofs.Working.{ready_works}
 
 -- ---- operands
@@ -202,26 +201,27 @@ leaving_steps program machine a ref one within =
 
 -- ---- throwing
 
-plain_some : (o : Option Object) → IsSomeAnd o IsPlain → IsSome (option_and_then plain_class o)
-plain_some None h = absurd h
-plain_some (Some (objects.Plain class fields target thread)) h = refl
-plain_some (Some (objects.Array desc items)) h = absurd h
-plain_some (Some (objects.Text text)) h = absurd h
+pub null_or : {A : Type 0} (b : Bool) (x y : Option A) → IsSome x → (b ≡ false → IsSome y) → IsSome (cond b x y)
+null_or true x y h each = h
+null_or false x y h each = each refl
 
-throw_some : (program : Program) (world : World) (a : Acting) (v : Value) → IsNullOr IsPlain world.heap v
+pub object_class : (heap : List Object) (v : Value) → IsObject heap v → is_null v ≡ false → IsSome (class_of_value heap v)
+object_class heap (values.Int n) h e = absurd h
+object_class heap values.Null h e = absurd cc
+object_class heap (values.Ref at) h e = map_some _ (slice_get heap at) (get_some heap at h)
+object_class heap (values.Class index) h e = refl
+object_class heap (values.Lit index) h e = refl
+
+throw_some : (program : Program) (world : World) (a : Acting) (v : Value) → IsObject world.heap v
     → IsSome (throws_top program world a v)
-throw_some program world a (values.Int n) h = absurd h
-throw_some program world a values.Null h = refl
-throw_some program world a (values.Ref at) h =
-    map_some _ (option_and_then plain_class (slice_get world.heap at)) (plain_some (slice_get world.heap at) h)
-throw_some program world a (values.Class index) h = absurd h
-throw_some program world a (values.Lit index) h = absurd h
+throw_some program world a v h =
+    null_or (is_null v) _ _ refl (λ lives. map_some _ (class_of_value world.heap v) (object_class world.heap v h lives))
 
 pub throwing_steps : ThrowingSteps
 throwing_steps program machine a ref one =
     then_some (throws_top program (world_of machine) a) (slice_get a.frame.stack.items 0)
-    (one_there (IsNullOr IsPlain machine.heap) a.frame.stack.items one)
-    (λ v e. throw_some program (world_of machine) a v (one_is (IsNullOr IsPlain machine.heap) a.frame.stack.items v one e))
+    (one_there (IsObject machine.heap) a.frame.stack.items one)
+    (λ v e. throw_some program (world_of machine) a v (one_is (IsObject machine.heap) a.frame.stack.items v one e))
 
 -- ---- returning
 

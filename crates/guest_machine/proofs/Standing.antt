@@ -14,7 +14,7 @@ use Rattle.guest_machine.specs.Standing.{IsClosed, SeesOnlyCalled}
 use Rattle.guest_machine.specs.Stepping.{changed}
 use Rattle.guest_machine.proofs.Always.{EachChangeKeeps, holds_always}
 use Rattle.guest_machine.proofs.Going.{Well, SeenWell, Good, rests_well}
-use Rattle.guest_machine.proofs.Options.{IfThere, if_none, if_either, if_then, is_there, all_get, all_append}
+use Rattle.guest_model.proofs.Options.{IfThere, if_none, if_either, if_then, is_there, all_get, all_append}
 use Rattle.guest_machine.proofs.Staying.{threads_keep}
 use Rattle.guest_machine.proofs.Stepping.{thread_good}
 

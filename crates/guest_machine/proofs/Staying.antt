@@ -9,7 +9,7 @@ use Rattle.guest_model.specs.declared.machine.Machine.{Machine}
 use Rattle.guest_machine.specs.Changes.{Change, applied}
 use Rattle.guest_machine.specs.Staying.{OtherThreadsStay}
 use Rattle.guest_machine.specs.Stepping.{changed}
-use Rattle.guest_machine.proofs.Options.{all_append, all_set, map_of}
+use Rattle.guest_model.proofs.Options.{all_append, all_set, map_of}
 
 get_before : {A : Type 0} (xs ys : List A) (j : ℕ) → j < length xs → slice_get (xs ++ ys) j ≡ slice_get xs j
 get_before [] ys j within = let no : ⊥ = omega arith in absurd no

@@ -31,18 +31,21 @@ use Rattle.guest_model.specs.declared.machine.Choice.{Choice}
 use Rattle.guest_model.specs.declared.machine.Choice.TheVariants as choices
 use Rattle.guest_model.specs.declared.machine.Machine.{Machine}
 use Rattle.guest_model.specs.Monitors.{entered, left}
-use Rattle.guest_model.specs.Places.{after, fitted, insn_at, insn_in, method_at}
+use Rattle.guest_model.specs.Places.{insn_at, insn_in, method_at}
+use Rattle.guest_frames.specs.Stepping.{after, fitted}
 use Rattle.guest_model.specs.Standing.{Places, IsAt, HasInsns, IsCalled}
-use Rattle.guest_model.specs.Stepping.{bad_monitor, frame_stepped, null_pointer, result_of, thrown_class}
-use Rattle.guest_model.specs.Values.{is_null, values_moved, values_seen}
+use Rattle.guest_model.specs.Stepping.{bad_monitor, null_pointer, result_of}
+use Rattle.guest_frames.specs.Stepping.{frame_stepped}
+use Rattle.guest_frames.specs.Values.{is_null, values_moved, values_seen}
 use Rattle.guest_machine.specs.Answering.{answer_fits, answered, given, thrown_by, thrown_by_library}
 use Rattle.guest_machine.specs.Changes.{Change, World, with_monitors, world_of}
+use Rattle.guest_machine.specs.Kinds.{class_of_value}
 use Rattle.guest_machine.specs.Standing.{IsClosed}
 use Rattle.guest_machine.specs.Stepping.{Acting, acts_on, acts_throwing, call_stepped, comes_to, doing_stepped, enters, frames_stepped, heap_in, heap_stepped, insn_stepped, is_on_null, leaves, left_with, returns, running_stepped, throws_top, works}
 use Rattle.guest_machine.specs.Working.{worked}
 use Rattle.guest_machine.proofs.Calling.{calls_good}
 use Rattle.guest_machine.proofs.Going.{Stands, Waits, TopCalls, DoesWell, Standing, Well, Good, called, fitted_stands, went_on, inside, behind_insn, returned_good}
-use Rattle.guest_machine.proofs.Options.{and_then_of, IfThere, if_none, if_some, if_either, if_then, if_mapped, there_or}
+use Rattle.guest_model.proofs.Options.{and_then_of, IfThere, if_none, if_some, if_either, if_then, if_mapped, there_or}
 use Rattle.guest_machine.proofs.Throwing.{throws_good, throws_new_good}
 
 module _ (program : Program) (reached : Places) (sound : HasInsns program) (closed : IsClosed program reached) where
@@ -94,7 +97,7 @@ module _ (program : Program) (reached : Places) (sound : HasInsns program) (clos
     throws_top_good : (world : World) (v : Value) → GoodIf (throws_top program world a v)
     throws_top_good world v =
         if_either IsGood (is_null v) _ _ (throws_here world null_pointer)
-        (if_mapped IsGood _ (thrown_class world.heap v)
+        (if_mapped IsGood _ (class_of_value world.heap v)
         (λ class e. throws_good program reached closed world a.number a.thread (a.frame ∷ a.below) v class None stands tt))
 
     returns_good : (world : World) (kind : Option Kind) → GoodIf (returns program world a kind)

@@ -1,20 +1,19 @@
 -- Where throwing leads, frames stay in the set.
-use Rattle.std.proofs.Common.{◌≡◌, ℕ, Bool, true, cond, List, [], ◌∷◌, length, drop, Option, Some, None, refl, sym, subst, ◌∙◌}
-use Rattle.std.specs.Prelude.{◌<◌, ◌≤◌, Contains, find, nat_lt, nat_le, ◌&&◌}
+use Rattle.std.proofs.Common.{◌≡◌, ℕ, cond, List, [], ◌∷◌, length, drop, Option, Some, None, refl, sym, subst, ◌∙◌}
+use Rattle.std.specs.Prelude.{◌<◌, find, nat_lt}
 use Rattle.std.specs.List.{AllByRecursion}
 use Rattle.std.specs.Option.{option_map_or}
-use Rattle.std.proofs.lemmas.Bool.{and_parts, leb-true, ltb-true}
 use Rattle.std.proofs.lemmas.Option.{cond_some}
 use Rattle.api_listing.specs.declared.events.Event.{Event}
 use Rattle.bytecode_model.specs.declared.program.Handler.{Handler}
 use Rattle.bytecode_model.specs.declared.program.Method.{Method}
 use Rattle.bytecode_model.specs.declared.program.Program.{Program}
-use Rattle.bytecode_model.specs.Classes.{is_below}
 use Rattle.bytecode_model.specs.SearchOrder.{Name}
 use Rattle.guest_heap.specs.declared.frame.Frame.{Frame}
 use Rattle.guest_heap.specs.declared.thread.Thread.{Thread}
 use Rattle.guest_heap.specs.declared.value.Value.{Value}
-use Rattle.guest_model.specs.Places.{method_at, moved_to}
+use Rattle.guest_model.specs.Places.{method_at}
+use Rattle.guest_frames.specs.Stepping.{moved_to}
 use Rattle.guest_model.specs.Standing.{Places}
 use Rattle.guest_model.specs.Stepping.{thrown_thread}
 use Rattle.guest_model.specs.Throwing.{catches, handler_of, caught_in, unwound}
@@ -22,17 +21,8 @@ use Rattle.guest_machine.specs.Changes.{World, throws, throws_new}
 use Rattle.guest_machine.specs.Finding.{Given}
 use Rattle.guest_machine.specs.Standing.{IsClosed}
 use Rattle.guest_machine.proofs.Going.{Stands, Waits, Standing, Well, SeenWell, Good, ended_well}
-use Rattle.guest_machine.proofs.Options.{and_then_of, find_is, some_is}
-
--- the handler is one of these, and its test holds
-caught_at : (program : Program) (at : ℕ) (class : Name) (handlers : List Handler) (handler : Handler)
-    → find (catches program at class) handlers ≡ Some handler → Contains handlers handler × (handler.from ≤ at) × (at < handler.to)
-caught_at program at class handlers handler e =
-    let caught : Bool = option_map_or (λ (name : Name). is_below program class name) handler.class true in
-    let l = find_is (catches program at class) handlers handler e in
-    let a = and_parts (nat_le handler.from at) (nat_lt at handler.to && caught) l.1 in
-    let b = and_parts (nat_lt at handler.to) caught a.1 in
-    (l.0, leb-true handler.from at a.0, ltb-true at handler.to b.0)
+use Rattle.guest_model.proofs.Catching.{caught_at}
+use Rattle.guest_model.proofs.Options.{and_then_of, some_is}
 
 module _ (program : Program) (reached : Places) (closed : IsClosed program reached) where
   abbrev Inside : Frame → Type 0

@@ -28,6 +28,9 @@ use Rattle.std.specs.Ordering.{int_eq}
 use Rattle.std.proofs.lemmas.Bool.{lt-ltb}
 use Rattle.api_listing.specs.declared.types.ListedClass.{ListedClass}
 use Rattle.insn_codec.specs.declared.shape.Heap.TheVariants as heap
+use Rattle.insn_codec.specs.declared.shape.Item.{Item}
+use Rattle.insn_codec.specs.declared.shape.Kind.{Kind}
+use Rattle.insn_codec.specs.declared.shape.Kind.TheVariants as kinds
 use Rattle.bytecode_model.specs.declared.program.LinkedClass.{LinkedClass}
 use Rattle.bytecode_model.specs.declared.program.Program.{Program}
 use Rattle.bytecode_model.specs.declared.program.Target.{Target}
@@ -42,9 +45,11 @@ use Rattle.guest_heap.specs.declared.value.Value.{Value}
 use Rattle.guest_heap.specs.declared.value.Value.TheVariants as values
 use Rattle.guest_heap.specs.Heap.{places_of}
 use Rattle.guest_model.specs.Stepping.{constant_value, number_in}
+use Rattle.guest_frames.specs.Values.{fits}
 use Rattle.guest_machine.specs.Changes.{World, with_statics}
 use Rattle.guest_machine.specs.Layout.{place_of_field}
 use Rattle.guest_machine.specs.Moving.{
+  HasItems,
   HasOne,
   HasPlaceAt,
   HasTwo,
@@ -57,6 +62,7 @@ use Rattle.guest_machine.specs.Moving.{
   NamesListedStatic,
   IsNullOr,
   IsNumber,
+  IsOf,
   NamesOwnStatic,
   IsReadyFor,
   IsReference,
@@ -68,12 +74,16 @@ use Rattle.guest_machine.specs.Working.{
   array_in,
   array_made,
   casts,
+  has_items,
+  item_kind,
   length_told,
   makes_array,
   may_hold,
   name_named,
   on_array,
+  on_items,
   on_object,
+  operand_of,
   place_among,
   place_named,
   reads_field,
@@ -111,6 +121,41 @@ array_some heap values.Null f h each = refl
 array_some heap (values.Ref at) f h each = in_array at (slice_get heap at) f h each
 array_some heap (values.Class index) f h each = absurd h
 array_some heap (values.Lit index) f h each = absurd h
+
+if_true : {A : Type 0} (b : Bool) (o : Option A) → b ≡ true → IsSome o → IsSome (cond b o None)
+if_true true o e h = h
+if_true false o e h = absurd cc
+
+-- what is done with the array, where it has such items
+abbrev with_items : Item → (ArrayAt → Worked) → ArrayAt → Worked
+with_items item f a = cond (has_items item a.desc) (f a) None
+
+in_items : (item : Item) (at : ℕ) (o : Option Object) (f : ArrayAt → Worked) → IsSomeAnd o (HasItems item) → ((a : ArrayAt) → IsSome (f a))
+    → IsSome (option_and_then (λ (object : Object). option_and_then (with_items item f) (array_in at object)) o)
+in_items item at None f h each = absurd h
+in_items item at (Some (objects.Plain class fields target thread)) f h each = absurd h
+in_items item at (Some (objects.Array desc items)) f h each =
+    if_true (has_items item desc) _ h (each (record { at = at; desc = desc; items = items }))
+in_items item at (Some (objects.Text text)) f h each = absurd h
+
+items_some : (item : Item) (heap : List Object) (v : Value) (f : ArrayAt → Worked) → IsNullOr (HasItems item) heap v
+    → ((a : ArrayAt) → IsSome (f a)) → IsSome (on_items item heap v f)
+items_some item heap (values.Int n) f h each = absurd h
+items_some item heap values.Null f h each = refl
+items_some item heap (values.Ref at) f h each = in_items item at (slice_get heap at) f h each
+items_some item heap (values.Class index) f h each = absurd h
+items_some item heap (values.Lit index) f h each = absurd h
+
+-- the topmost operand, where it is of the kind
+operand_some : (kind : Kind) (v : Value) (below : List Value) → IsOf kind v → IsSome (operand_of kind (v ∷ below) 0)
+operand_some kind v below h = if_true (fits kind v) (Some v) h refl
+
+reference_is : (v : Value) → IsReference v → IsOf kinds.Reference v
+reference_is (values.Int n) h = absurd h
+reference_is values.Null h = refl
+reference_is (values.Ref at) h = refl
+reference_is (values.Class index) h = refl
+reference_is (values.Lit index) h = refl
 
 in_object : (at place : ℕ) (o : Option Object) (f : ℕ → List Value → Worked) → IsSomeAnd o (HasPlaceAt place)
     → ((fields : List Value) → place < length fields → IsSome (f at fields))
@@ -160,24 +205,27 @@ module _ (program : Program) (world : World) where
       then_some _ (number_in v) (number_some v h.0)
       (λ y e. then_some _ (number_in w) (number_some w h.1) (λ x f. cond_either (int_eq y (pos 0)) _ _ refl refl))
 
-  read_item_some : (items : List Value) → HasTwo IsNumber (IsNullOr IsArray world.heap) items → IsSome (reads_item world items)
-  read_item_some [] h = absurd h
-  read_item_some (v ∷ []) h = absurd h.1
-  read_item_some (v ∷ w ∷ below) h =
+  read_item_some : (item : Item) (items : List Value) → HasTwo IsNumber (IsNullOr (HasItems item) world.heap) items
+      → IsSome (reads_item item world items)
+  read_item_some item [] h = absurd h
+  read_item_some item (v ∷ []) h = absurd h.1
+  read_item_some item (v ∷ w ∷ below) h =
       then_some _ (number_in v) (number_some v h.0)
-      (λ n e. array_some world.heap w _ h.1
+      (λ n e. items_some item world.heap w _ h.1
       (λ a. map_or_some _ (option_and_then (slice_get a.items) (place_among (length a.items) n)) _ (λ x. refl) refl))
 
-  write_item_some : (items : List Value) → HasThree IsAny IsNumber (IsNullOr IsArray world.heap) items
-      → IsSome (writes_item program world items)
-  write_item_some [] h = absurd h
-  write_item_some (v ∷ []) h = absurd h.1
-  write_item_some (v ∷ w ∷ []) h = absurd h.1.1
-  write_item_some (v ∷ w ∷ u ∷ below) h =
-      then_some _ (number_in w) (number_some w h.1.0)
-      (λ n e. array_some world.heap u _ h.1.1
+  write_item_some : (item : Item) (items : List Value)
+      → HasThree (IsOf (item_kind item)) IsNumber (IsNullOr (HasItems item) world.heap) items
+      → IsSome (writes_item item program world items)
+  write_item_some item [] h = absurd h
+  write_item_some item (v ∷ []) h = absurd h.1
+  write_item_some item (v ∷ w ∷ []) h = absurd h.1.1
+  write_item_some item (v ∷ w ∷ u ∷ below) h =
+      then_some _ (operand_of (item_kind item) (v ∷ w ∷ u ∷ below) 0) (operand_some (item_kind item) v (w ∷ u ∷ below) h.0)
+      (λ value is. then_some _ (number_in w) (number_some w h.1.0)
+      (λ n e. items_some item world.heap u _ h.1.1
       (λ a. map_or_some _ (place_among (length a.items) n) _
-      (λ place. cond_either (may_hold program world.heap a.desc v) _ _ refl refl) refl))
+      (λ place. cond_either (may_hold program world.heap a.desc value) _ _ refl refl) refl)))
 
   length_some : (items : List Value) → HasOne (IsNullOr IsArray world.heap) items → IsSome (length_told world items)
   length_some [] h = absurd h
@@ -298,18 +346,20 @@ module _ (program : Program) (world : World) where
 
   cast_some : (name : Name) (items : List Value) → HasOne IsReference items → IsSome (casts program world name items)
   cast_some name [] h = absurd h
-  cast_some name (v ∷ below) h = refl
+  cast_some name (v ∷ below) h =
+      map_some _ (operand_of kinds.Reference (v ∷ below) 0) (operand_some kinds.Reference v below (reference_is v h))
 
   instance_some : (name : Name) (items : List Value) → HasOne IsReference items → IsSome (tells_instance program world name items)
   instance_some name [] h = absurd h
-  instance_some name (v ∷ below) h = refl
+  instance_some name (v ∷ below) h =
+      map_some _ (operand_of kinds.Reference (v ∷ below) 0) (operand_some kinds.Reference v below (reference_is v h))
 
 -- ---- the rows
 
 pub ready_works : ReadyWorks
 ready_works program world heap.Constant ref items h = map_some _ (constant_value program ref) (constant_some program ref h)
-ready_works program world (heap.ReadItem item) ref items h = read_item_some program world items h
-ready_works program world (heap.WriteItem item) ref items h = write_item_some program world items h
+ready_works program world (heap.ReadItem item) ref items h = read_item_some program world item items h
+ready_works program world (heap.WriteItem item) ref items h = write_item_some program world item items h
 ready_works program world (heap.Divide remainder) ref items h = divide_some program world remainder ref items h
 ready_works program world heap.ReadStatic ref items h = read_static_some program world ref items h
 ready_works program world heap.WriteStatic ref items h = write_static_some program world ref items h.0 h.1

@@ -22,9 +22,10 @@ use Rattle.guest_heap.specs.declared.value.Value.{Value}
 use Rattle.guest_heap.specs.declared.value.Value.TheVariants as values
 use Rattle.guest_model.specs.declared.machine.Machine.{Machine}
 use Rattle.guest_model.specs.Calls.{Taken, arity, taken}
-use Rattle.guest_model.specs.Places.{after, method_at, moved_to}
+use Rattle.guest_model.specs.Places.{method_at}
+use Rattle.guest_frames.specs.Stepping.{after, moved_to}
 use Rattle.guest_model.specs.Stepping.{null_pointer, number_in, running}
-use Rattle.guest_model.specs.Values.{is_null}
+use Rattle.guest_frames.specs.Values.{is_null}
 use Rattle.guest_machine.specs.declared.builtin.Builtin.{Builtin}
 use Rattle.guest_machine.specs.declared.builtin.Builtin.TheVariants as builtins
 use Rattle.guest_machine.specs.Builtins.{builtin_at, characters}
@@ -99,18 +100,19 @@ aimed_at on (objects.Plain class fields target thread) = objects.Plain class fie
 aimed_at on (objects.Array desc items) = objects.Array desc items
 aimed_at on (objects.Text text) = objects.Text text
 
--- the number of the thread that was started by the object, if one was; nothing of what is no Thread
-abbrev pub thread_in : Object → Option (Option ℕ)
-thread_in (objects.Plain class fields target thread) = Some thread
+-- the number of the thread that was started by the object, if one was
+abbrev pub thread_in : Object → Option ℕ
+thread_in (objects.Plain class fields target thread) = thread
 thread_in (objects.Array desc items) = None
 thread_in (objects.Text text) = None
 
+-- the same of a reference; nothing of a number, of null, and of no object of the heap
 abbrev pub thread_of_value : List Object → Value → Option (Option ℕ)
 thread_of_value heap (values.Int n) = None
 thread_of_value heap values.Null = None
-thread_of_value heap (values.Ref at) = option_and_then thread_in (slice_get heap at)
-thread_of_value heap (values.Class index) = None
-thread_of_value heap (values.Lit index) = None
+thread_of_value heap (values.Ref at) = option_map thread_in (slice_get heap at)
+thread_of_value heap (values.Class index) = Some None
+thread_of_value heap (values.Lit index) = Some None
 
 -- the heap with the object of the reference changed
 abbrev pub with_changed : List Object → Value → (Object → Object) → List Object

@@ -17,7 +17,8 @@ use Rattle.guest_heap.specs.declared.value.Value.TheVariants as values
 use Rattle.guest_model.specs.declared.machine.Machine.{Machine}
 use Rattle.guest_model.specs.Calls.{arity}
 use Rattle.guest_model.specs.Monitors.{entered, all_given_up}
-use Rattle.guest_model.specs.Places.{after, method_at}
+use Rattle.guest_model.specs.Places.{method_at}
+use Rattle.guest_frames.specs.Stepping.{after}
 use Rattle.guest_model.specs.Stepping.{running, thrown_thread, main_argument}
 use Rattle.guest_model.specs.Throwing.{unwound, locks_left, bare_object}
 use Rattle.guest_machine.specs.Finding.{Given}

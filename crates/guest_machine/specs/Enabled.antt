@@ -25,7 +25,7 @@ use Rattle.guest_model.specs.declared.machine.Machine.{Machine}
 use Rattle.guest_model.specs.declared.machine.Step.{Step}
 use Rattle.guest_model.specs.Calls.{Taken, arity, taken, types_of}
 use Rattle.guest_model.specs.Places.{insn_at, method_at}
-use Rattle.guest_model.specs.Values.{are_one, is_null}
+use Rattle.guest_frames.specs.Values.{are_one, is_null}
 use Rattle.guest_machine.specs.declared.builtin.Builtin.{Builtin}
 use Rattle.guest_machine.specs.declared.builtin.Builtin.TheVariants as builtins
 use Rattle.guest_machine.specs.Answering.{answer_fits}

@@ -5,7 +5,7 @@ use Rattle.api_listing.specs.BuiltIn.{object}
 use Rattle.bytecode_model.specs.declared.program.Program.{Program}
 use Rattle.bytecode_model.specs.Arrays.{is_array}
 use Rattle.bytecode_model.specs.Assigning.{named, reference_of}
-use Rattle.bytecode_model.specs.Classes.{classes_of, is_below}
+use Rattle.bytecode_model.specs.Classes.{classes_of, is_below, is_interface}
 use Rattle.bytecode_model.specs.SearchOrder.{Name, is_one_of, search_order}
 use Rattle.guest_heap.specs.declared.object.Object.{Object}
 use Rattle.guest_heap.specs.declared.object.Object.TheVariants as objects
@@ -33,9 +33,13 @@ class_of_value heap (values.Lit index) = Some string
 
 -- ---- which classes have it as one of theirs
 
+-- whether the other is an interface that the class has, itself or by what is above it
+abbrev pub implements : Program → Name → Name → Bool
+implements program name other = is_interface program other && is_one_of (search_order (classes_of program) name) other
+
 -- A class is, extends or implements the other, or the other is Object; of an array the other is Object.
 abbrev pub class_is : Program → Name → Name → Bool
-class_is program name other = bytes_eq other object || (not (is_array name) && is_one_of (search_order (classes_of program) name) other)
+class_is program name other = bytes_eq other object || (not (is_array name) && (is_below program name other || implements program name other))
 
 -- the same component, or one that is a class which is the other
 abbrev pub leaf_is : Program → List ℕ → List ℕ → Bool

@@ -16,3 +16,4 @@ pub mod Staying
 pub mod Standing
 pub mod First
 pub mod Moving
+pub mod Numbers

@@ -30,6 +30,7 @@ use Rattle.insn_codec.specs.declared.shape.Heap.{Heap}
 use Rattle.insn_codec.specs.declared.shape.Heap.TheVariants as heap
 use Rattle.insn_codec.specs.declared.shape.How.{How}
 use Rattle.insn_codec.specs.declared.shape.How.TheVariants as hows
+use Rattle.insn_codec.specs.declared.shape.Item.{Item}
 use Rattle.insn_codec.specs.declared.shape.Kind.{Kind}
 use Rattle.insn_codec.specs.declared.shape.Kind.TheVariants as kinds
 use Rattle.insn_codec.specs.Shapes.{shape_of}
@@ -56,7 +57,8 @@ use Rattle.guest_model.specs.declared.machine.Step.{Step}
 use Rattle.guest_model.specs.Calls.{Taken}
 use Rattle.guest_model.specs.Monitors.{entered}
 use Rattle.guest_model.specs.Places.{insn_at}
-use Rattle.guest_model.specs.Stepping.{frame_stepped}
+use Rattle.guest_frames.specs.Stepping.{frame_stepped}
+use Rattle.guest_frames.specs.Values.{fits}
 use Rattle.guest_machine.specs.declared.builtin.Builtin.{Builtin}
 use Rattle.guest_machine.specs.declared.builtin.Builtin.TheVariants as builtins
 use Rattle.guest_machine.specs.Builtins.{builtin_at}
@@ -64,7 +66,7 @@ use Rattle.guest_machine.specs.Changes.{World, world_of}
 use Rattle.guest_machine.specs.Enabled.{IsEnabled, MayAnswer, heap_waits, is_held_by_other, passed_by}
 use Rattle.guest_machine.specs.Layout.{place_of_field}
 use Rattle.guest_machine.specs.Stepping.{Acting, call_stepped, changed, heap_in, heap_stepped}
-use Rattle.guest_machine.specs.Working.{Worked, worked}
+use Rattle.guest_machine.specs.Working.{Worked, has_items, item_kind, worked}
 
 -- ---- values
 
@@ -91,10 +93,23 @@ IsArray (objects.Plain class fields target thread) = ⊥
 IsArray (objects.Array desc items) = Unit {0}
 IsArray (objects.Text text) = ⊥
 
-abbrev pub IsPlain : Object → Type 0
-IsPlain (objects.Plain class fields target thread) = Unit {0}
-IsPlain (objects.Array desc items) = ⊥
-IsPlain (objects.Text text) = ⊥
+-- an array of such items
+abbrev pub HasItems : Item → Object → Type 0
+HasItems item (objects.Plain class fields target thread) = ⊥
+HasItems item (objects.Array desc items) = IsTrue (has_items item desc)
+HasItems item (objects.Text text) = ⊥
+
+-- The value is a number, or else a reference or null.
+abbrev pub IsOf : Kind → Value → Type 0
+IsOf kind v = IsTrue (fits kind v)
+
+-- The value is null, or of an object that is there.
+abbrev pub IsObject : List Object → Value → Type 0
+IsObject heap (values.Int n) = ⊥
+IsObject heap values.Null = Unit {0}
+IsObject heap (values.Ref at) = at < length heap
+IsObject heap (values.Class index) = Unit {0}
+IsObject heap (values.Lit index) = Unit {0}
 
 -- The value is null, or of such an object of the heap.
 abbrev pub IsNullOr : (Object → Type 0) → List Object → Value → Type 0
@@ -189,8 +204,8 @@ NamesListedStatic program (target.Literal index) = ⊥
 -- What an instruction needs that works on the heap or on static fields, or divides.
 abbrev pub IsReadyFor : Program → World → Heap → Target → List Value → Type 0
 IsReadyFor program world heap.Constant ref items = NamesConstant program ref
-IsReadyFor program world (heap.ReadItem item) ref items = HasTwo IsNumber (IsNullOr IsArray world.heap) items
-IsReadyFor program world (heap.WriteItem item) ref items = HasThree IsAny IsNumber (IsNullOr IsArray world.heap) items
+IsReadyFor program world (heap.ReadItem item) ref items = HasTwo IsNumber (IsNullOr (HasItems item) world.heap) items
+IsReadyFor program world (heap.WriteItem item) ref items = HasThree (IsOf (item_kind item)) IsNumber (IsNullOr (HasItems item) world.heap) items
 IsReadyFor program world (heap.Divide remainder) ref items = HasTwo IsNumber IsNumber items
 IsReadyFor program world heap.ReadStatic ref items = NamesOwnStatic world ref ⊎ NamesListedStatic program ref
 IsReadyFor program world heap.WriteStatic ref items = NamesOwnStatic world ref × HasOne IsAny items
@@ -306,10 +321,10 @@ LeavingSteps = (program : Program) (machine : Machine) (a : Acting) (ref : Targe
 
 -- ---- throwing and returning
 
--- What is thrown is null, or an object that is neither an array nor a text.
+-- What is thrown is null, or an object that is there.
 abbrev pub ThrowingSteps : Type 0
 ThrowingSteps = (program : Program) (machine : Machine) (a : Acting) (ref : Target)
-    → HasOne (IsNullOr IsPlain machine.heap) a.frame.stack.items
+    → HasOne (IsObject machine.heap) a.frame.stack.items
     → IsSome (heap_stepped program machine a heap.Throw ref)
 
 -- The caller, if there is one, has room for so many results.
@@ -354,14 +369,6 @@ AnswersStep =
 
 -- ---- calls
 
--- The value is null, or of an object that is there.
-abbrev pub IsObject : List Object → Value → Type 0
-IsObject heap (values.Int n) = ⊥
-IsObject heap values.Null = Unit {0}
-IsObject heap (values.Ref at) = at < length heap
-IsObject heap (values.Class index) = Unit {0}
-IsObject heap (values.Lit index) = Unit {0}
-
 -- The call is on an object, or on null.
 abbrev pub IsOnObject : How → Type 0
 IsOnObject hows.Virtual = Unit {0}
@@ -373,9 +380,9 @@ IsOnObject hows.Static = ⊥
 abbrev pub IsReadyToRun : List Object → How → Builtin → Taken → Type 0
 IsReadyToRun heap how builtins.Make passed = Unit {0}
 IsReadyToRun heap how builtins.MakeOn passed = IsSomeAnd passed.receiver IsReference × HasOne IsReference passed.arguments
-IsReadyToRun heap how builtins.Start passed = IsSomeAnd passed.receiver (IsNullOr IsPlain heap)
+IsReadyToRun heap how builtins.Start passed = IsSomeAnd passed.receiver (IsObject heap)
 IsReadyToRun heap how builtins.Run passed = IsOnObject how × IsSomeAnd passed.receiver (IsObject heap)
-IsReadyToRun heap how builtins.Join passed = IsSomeAnd passed.receiver (IsNullOr IsPlain heap)
+IsReadyToRun heap how builtins.Join passed = IsSomeAnd passed.receiver (IsObject heap)
 IsReadyToRun heap how builtins.Exit passed = HasOne IsNumber passed.arguments
 IsReadyToRun heap how builtins.Length passed = IsSomeAnd passed.receiver IsReference
 
@@ -417,7 +424,7 @@ CanWork program machine a what ref =
 abbrev pub CanDo : Program → Machine → Acting → Heap → Target → Type 0
 CanDo program machine a (heap.Call how) ref =
     StackFits a.frame × IsSomeAnd (passed_by program a.frame how ref) (λ (passed : Taken). IsReadyToCall machine.heap how ref passed)
-CanDo program machine a heap.Throw ref = HasOne (IsNullOr IsPlain machine.heap) a.frame.stack.items
+CanDo program machine a heap.Throw ref = HasOne (IsObject machine.heap) a.frame.stack.items
 CanDo program machine a heap.Enter ref = StackFits a.frame × HasOne IsReference a.frame.stack.items
 CanDo program machine a heap.Exit ref = StackFits a.frame × HasOne IsReference a.frame.stack.items
 CanDo program machine a (heap.Return kind) ref = CanReturn kind a.frame.stack.items a.below

@@ -24,12 +24,15 @@ use Rattle.guest_model.specs.declared.machine.Choice.TheVariants as choices
 use Rattle.guest_model.specs.declared.machine.Machine.{Machine}
 use Rattle.guest_model.specs.declared.machine.Step.{Step}
 use Rattle.guest_model.specs.Monitors.{entered, left, all_given_up}
-use Rattle.guest_model.specs.Places.{insn_at, after}
-use Rattle.guest_model.specs.Stepping.{bad_monitor, frame_stepped, null_pointer, result_of, thrown_class}
-use Rattle.guest_model.specs.Values.{is_null}
+use Rattle.guest_model.specs.Places.{insn_at}
+use Rattle.guest_frames.specs.Stepping.{after}
+use Rattle.guest_model.specs.Stepping.{bad_monitor, null_pointer, result_of}
+use Rattle.guest_frames.specs.Stepping.{frame_stepped}
+use Rattle.guest_frames.specs.Values.{is_null}
 use Rattle.guest_machine.specs.Answering.{answered}
 use Rattle.guest_machine.specs.Calling.{calls}
 use Rattle.guest_machine.specs.Changes.{World, Change, applied, goes, returned, throws, throws_new, with_monitors, world_of}
+use Rattle.guest_machine.specs.Kinds.{class_of_value}
 use Rattle.guest_machine.specs.Working.{worked}
 
 -- the thread that makes a step, its number, and its frames
@@ -48,7 +51,7 @@ acts_throwing program world a class = throws_new program world a.number a.thread
 abbrev pub throws_top : Program → World → Acting → Value → Option Change
 throws_top program world a v =
     if is_null v then Some (acts_throwing program world a null_pointer)
-    else option_map (λ class. throws program world a.number a.thread (a.frame ∷ a.below) v class None) (thrown_class world.heap v)
+    else option_map (λ class. throws program world a.number a.thread (a.frame ∷ a.below) v class None) (class_of_value world.heap v)
 
 -- ---- going on with the frame alone changed
 
@@ -112,7 +115,21 @@ heap_stepped program machine a heap.IsInstance ref = works program (world_of mac
 -- what an instruction does with more than its frame
 abbrev pub heap_in : Shape → Option Heap
 heap_in (shapes.Heap what) = Some what
-heap_in other = None
+heap_in shapes.Nothing = None
+heap_in (shapes.Push n) = None
+heap_in shapes.PushNull = None
+heap_in (shapes.Load kind slot) = None
+heap_in (shapes.Store kind slot) = None
+heap_in (shapes.Move form) = None
+heap_in (shapes.Two op) = None
+heap_in (shapes.One op) = None
+heap_in (shapes.Increment slot by) = None
+heap_in (shapes.Test relation to) = None
+heap_in (shapes.Compare relation to) = None
+heap_in (shapes.CompareReferences same to) = None
+heap_in (shapes.TestNull null to) = None
+heap_in (shapes.Goto to) = None
+heap_in shapes.Switch = None
 
 abbrev pub insn_stepped : Program → Machine → Acting → Insn × Target → Option Change
 insn_stepped program machine a next =

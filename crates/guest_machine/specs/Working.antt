@@ -1,10 +1,14 @@
 -- What instructions do that work on the heap, on static fields, or divide. (The Java Virtual Machine Specification, section 6.5.)
-use Rattle.std.specs.Prelude.{ℕ, ℤ, pos, negsuc, int_rem, Bool, true, false, bytes_eq, codes, nat_lt, if◌then◌else◌, List, ◌∷◌, length, drop, replicate, slice_get, slice_set, Option, Some, None, Result, Ok, Err, option_map, option_and_then}
+use Rattle.std.specs.Prelude.{ℕ, ℤ, pos, negsuc, int_rem, Bool, true, false, ◌||◌, bytes_eq, codes, nat_lt, if◌then◌else◌, List, ◌∷◌, length, drop, replicate, slice_get, slice_set, Option, Some, None, Result, Ok, Err, option_map, option_and_then}
 use Rattle.std.specs.Int.{w32, int_wrapping_div, int_bit_and}
 use Rattle.std.specs.Ordering.{int_eq}
 use Rattle.std.specs.Option.{option_map_or}
 use Rattle.insn_codec.specs.declared.shape.Heap.{Heap}
 use Rattle.insn_codec.specs.declared.shape.Heap.TheVariants as heap
+use Rattle.insn_codec.specs.declared.shape.Item.{Item}
+use Rattle.insn_codec.specs.declared.shape.Item.TheVariants as items
+use Rattle.insn_codec.specs.declared.shape.Kind.{Kind}
+use Rattle.insn_codec.specs.declared.shape.Kind.TheVariants as kinds
 use Rattle.insn_codec.specs.declared.shape.One.TheVariants as one
 use Rattle.bytecode_model.specs.declared.program.LinkedClass.{LinkedClass}
 use Rattle.bytecode_model.specs.declared.program.Program.{Program}
@@ -20,10 +24,10 @@ use Rattle.guest_heap.specs.declared.value.Value.{Value}
 use Rattle.guest_heap.specs.declared.value.Value.TheVariants as values
 use Rattle.guest_heap.specs.Heap.{places_of, with_value_at}
 use Rattle.guest_model.specs.Stepping.{constant_value, null_pointer, number_in}
-use Rattle.guest_model.specs.Values.{made_of_one}
+use Rattle.guest_frames.specs.Values.{fits, made_of_one}
 use Rattle.guest_machine.specs.Changes.{World, with_heap, with_object, with_statics}
 use Rattle.guest_machine.specs.Kinds.{is_instance}
-use Rattle.guest_machine.specs.Layout.{first_value, new_of, place_of_field}
+use Rattle.guest_machine.specs.Layout.{first_value, is_of_references, new_of, place_of_field}
 use Rattle.guest_machine.specs.Options.{◌>>=◌}
 
 -- What an instruction comes to: what is shared and the operands afterwards, or the class of what it throws. There is nothing
@@ -88,6 +92,26 @@ on_array heap (values.Ref at) f = option_and_then (λ (object : Object). option_
 on_array heap (values.Class index) f = None
 on_array heap (values.Lit index) f = None
 
+-- whether an array of this descriptor has such items; those of `baload` and `bastore` are bytes, or truth values
+abbrev pub has_items : Item → Name → Bool
+has_items items.Int desc = bytes_eq desc (codes "[I")
+has_items items.Reference desc = is_of_references (drop 1 desc)
+has_items items.Byte desc = bytes_eq desc (codes "[B") || bytes_eq desc (codes "[Z")
+has_items items.Char desc = bytes_eq desc (codes "[C")
+has_items items.Short desc = bytes_eq desc (codes "[S")
+
+-- what is done with an array of such items
+abbrev pub on_items : Item → List Object → Value → (ArrayAt → Worked) → Worked
+on_items item heap array f = on_array heap array (λ (a : ArrayAt). if has_items item a.desc then f a else None)
+
+-- what such an item is: a reference, or a number
+abbrev pub item_kind : Item → Kind
+item_kind items.Int = kinds.Int
+item_kind items.Reference = kinds.Reference
+item_kind items.Byte = kinds.Int
+item_kind items.Char = kinds.Int
+item_kind items.Short = kinds.Int
+
 -- the place that a number names, if it is one of so many
 abbrev pub place_among : ℕ → ℤ → Option ℕ
 place_among count (pos n) = if nat_lt n count then Some n else None
@@ -97,11 +121,11 @@ abbrev pub item_read : World → ArrayAt → ℤ → List Value → Worked
 item_read world array index items =
     option_map_or (λ (v : Value). Some (Ok (world, v ∷ items))) (option_and_then (slice_get array.items) (place_among (length array.items) index)) (Some (Err bad_place))
 
-abbrev pub reads_item : World → List Value → Worked
-reads_item world items = do
-  index ← number_operand items 0
-  array ← slice_get items 1
-  on_array world.heap array (λ (a : ArrayAt). item_read world a index (drop 2 items))
+abbrev pub reads_item : Item → World → List Value → Worked
+reads_item item world operands = do
+  index ← number_operand operands 0
+  array ← slice_get operands 1
+  on_items item world.heap array (λ (a : ArrayAt). item_read world a index (drop 2 operands))
 
 -- what the items of an array keep of a number
 abbrev pub kept_number : Name → ℤ → ℤ
@@ -133,12 +157,16 @@ item_written program world array place value items =
     then Some (Ok (with_heap world (with_value_at world.heap array.at place (kept array.desc value)), items))
     else Some (Err bad_item)
 
-abbrev pub writes_item : Program → World → List Value → Worked
-writes_item program world items = do
-  value ← slice_get items 0
-  index ← number_operand items 1
-  array ← slice_get items 2
-  on_array world.heap array (λ (a : ArrayAt). option_map_or (λ place. item_written program world a place value (drop 3 items)) (place_among (length a.items) index) (Some (Err bad_place)))
+-- the operand at this depth, where it is of the kind
+abbrev pub operand_of : Kind → List Value → ℕ → Option Value
+operand_of kind operands i = option_and_then (λ (v : Value). if fits kind v then Some v else None) (slice_get operands i)
+
+abbrev pub writes_item : Item → Program → World → List Value → Worked
+writes_item item program world operands = do
+  value ← operand_of (item_kind item) operands 0
+  index ← number_operand operands 1
+  array ← slice_get operands 2
+  on_items item world.heap array (λ (a : ArrayAt). option_map_or (λ place. item_written program world a place value (drop 3 operands)) (place_among (length a.items) index) (Some (Err bad_place)))
 
 abbrev pub length_told : World → List Value → Worked
 length_told world items = do
@@ -248,7 +276,7 @@ is_cast program heap (values.Lit index) name = is_instance program heap (values.
 
 abbrev pub casts : Program → World → Name → List Value → Worked
 casts program world name items =
-    option_map (λ (v : Value). if is_cast program world.heap v name then Ok (world, items) else Err bad_cast) (slice_get items 0)
+    option_map (λ (v : Value). if is_cast program world.heap v name then Ok (world, items) else Err bad_cast) (operand_of kinds.Reference items 0)
 
 abbrev pub truth : Bool → Value
 truth true = values.Int (pos 1)
@@ -256,14 +284,14 @@ truth false = values.Int (pos 0)
 
 abbrev pub tells_instance : Program → World → Name → List Value → Worked
 tells_instance program world name items =
-    option_map (λ (v : Value). Ok (world, truth (is_instance program world.heap v name) ∷ drop 1 items)) (slice_get items 0)
+    option_map (λ (v : Value). Ok (world, truth (is_instance program world.heap v name) ∷ drop 1 items)) (operand_of kinds.Reference items 0)
 
 -- ---- the rows
 
 abbrev pub worked : Program → World → Heap → Target → List Value → Worked
 worked program world heap.Constant ref items = option_map (λ (v : Value). Ok (world, v ∷ items)) (constant_value program ref)
-worked program world (heap.ReadItem item) ref items = reads_item world items
-worked program world (heap.WriteItem item) ref items = writes_item program world items
+worked program world (heap.ReadItem item) ref items = reads_item item world items
+worked program world (heap.WriteItem item) ref items = writes_item item program world items
 worked program world (heap.Divide remainder) ref items = divides world remainder items
 worked program world heap.ReadStatic ref items = reads_static program world ref items
 worked program world heap.WriteStatic ref items = writes_static world ref items

@@ -3,10 +3,14 @@
 ghost use Rattle.bytecode_model.specs.declared.program.Program.{Program};
 ghost use Rattle.std.specs.Prelude.{Bool, List};
 ghost use Rattle.api_listing.specs.declared.events.Event.{Event};
+ghost use Rattle.bytecode_model.specs.Sound.{IsSound};
+ghost use Rattle.bytecode_model.specs.Standing.{AreLiterals};
+ghost use Rattle.bytecode_model.specs.Targets.{AreNamed};
 ghost use Rattle.guest_model.specs.declared.machine.Machine.{Machine};
 ghost use Rattle.guest_model.specs.Standing.{Places, HasInsns};
 ghost use Rattle.guest_machine.specs.Always.{IsKeptBySteps, HoldsAlways};
 ghost use Rattle.guest_machine.specs.First.{SeesFirstCall, GoesOnBehindFirstCall};
+ghost use Rattle.guest_machine.specs.Numbers.{SeesInRange};
 ghost use Rattle.guest_machine.specs.Staying.{OtherThreadsStay};
 ghost use Rattle.guest_machine.specs.Standing.{IsClosed, SeesOnlyCalled};
 
@@ -25,6 +29,12 @@ pub fn other_threads_stay()
 /// a place of the set, and the returns from these, whatever the steps are.
 pub fn sees_only_what_is_called()
     ensures sees { (program : Program) (reached : Places) → HasInsns program → IsClosed program reached → SeesOnlyCalled program reached }
+{}
+
+/// Whatever the steps of a linked program are, a call passes as many arguments as its method takes, each number of 32 bits; and
+/// a method without a result returns nothing, one whose result is a number one in the range of its type.
+pub fn sees_numbers_in_range()
+    ensures sees { (program : Program) → IsSound program → AreNamed program → AreLiterals program → SeesInRange program }
 {}
 
 /// The machine moves: where no class has an initialiser and the first instruction of `main` calls a static method of the

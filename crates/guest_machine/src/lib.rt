@@ -11,7 +11,7 @@ mod laws_of_steps;
 
 pub use builtin::Builtin;
 pub use laws::{
-    other_threads_stay, sees_only_what_is_called, sees_the_first_call,
+    other_threads_stay, sees_numbers_in_range, sees_only_what_is_called, sees_the_first_call,
     what_each_step_keeps_holds_always,
 };
 pub use laws_of_steps::{

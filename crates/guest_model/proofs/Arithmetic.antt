@@ -4,18 +4,13 @@ use Rattle.std.specs.Prelude.{pos, ◌/◌, ◌%◌, ◌-◌, FitsSigned, bit_an
 use Rattle.std.specs.Int.{w8, w16, w32, cast_signed, cast_unsigned, int_shr}
 use Rattle.std.specs.Int.Signed.{mag_shr}
 use Rattle.std.proofs.lemmas.Int.{ints}
-use Rattle.insn_codec.specs.declared.shape.One.{One}
 use Rattle.insn_codec.specs.declared.shape.One.TheVariants as one
-use Rattle.insn_codec.specs.declared.shape.Two.{Two}
 use Rattle.insn_codec.specs.declared.shape.Two.TheVariants as two
-use Rattle.guest_heap.specs.declared.value.Value.{Value}
-use Rattle.guest_heap.specs.declared.value.Value.TheVariants as values
-use Rattle.guest_model.specs.Numbers.{IsWord}
-use Rattle.guest_model.specs.Values.{made_of_one, made_of_two, distance, number_of, values_moved}
-use Rattle.guest_model.proofs.Effects.{IsKeptBy}
+use Rattle.guest_model.specs.Numbers.{OneMakesWords, TwoMakeWords}
+use Rattle.guest_frames.specs.Values.{distance}
 
 -- bits as a number of the type
-cast_fits : (n : ℕ) → FitsSigned w32 (cast_signed w32 n)
+pub cast_fits : (n : ℕ) → FitsSigned w32 (cast_signed w32 n)
 cast_fits n = grind (arith, ints)
 
 wrapped : (n : ℕ) → FitsSigned w32 (cast_signed w32 (n % 2 ^ 32))
@@ -30,7 +25,7 @@ of_16 z h = grind (arith, ints)
 shifted : (z : ℤ) (k : ℕ) → FitsSigned w32 z → FitsSigned w32 (int_shr z k)
 shifted z k h = record { sfits = omega (arith, mag_shr z (2 ^ k), h.sfits) }
 
-made_of_two_fits : (op : Two) (x y : ℤ) → FitsSigned w32 x → FitsSigned w32 (made_of_two op x y)
+pub made_of_two_fits : TwoMakeWords
 made_of_two_fits two.Add x y h = wrapped (cast_unsigned w32 x + cast_unsigned w32 y)
 made_of_two_fits two.Subtract x y h = wrapped (cast_unsigned w32 x + (2 ^ 32 - cast_unsigned w32 y))
 made_of_two_fits two.Multiply x y h = wrapped (cast_unsigned w32 x * cast_unsigned w32 y)
@@ -50,24 +45,8 @@ narrow_16 n = let lt : n % 2 ^ 16 < 2 ^ 16 = omega arith in grind (arith, ints)
 as_char : (n : ℕ) → FitsSigned w32 (pos (n % 2 ^ 16))
 as_char n = let lt : n % 2 ^ 16 < 2 ^ 16 = omega arith in grind (arith, ints)
 
-made_of_one_fits : (op : One) (x : ℤ) → FitsSigned w32 (made_of_one op x)
+pub made_of_one_fits : OneMakesWords
 made_of_one_fits one.Negate x = wrapped (2 ^ 32 - cast_unsigned w32 x)
 made_of_one_fits one.ToByte x = narrow_8 (cast_unsigned w32 x)
 made_of_one_fits one.ToChar x = as_char (cast_unsigned w32 x)
 made_of_one_fits one.ToShort x = narrow_16 (cast_unsigned w32 x)
-
--- the number of a value, which is 0 where it is none
-number_is : (v : Value) → IsWord v → FitsSigned w32 (number_of v)
-number_is (values.Int n) h = h
-number_is values.Null h = cast_fits 0
-number_is (values.Ref at) h = cast_fits 0
-number_is (values.Class index) h = cast_fits 0
-number_is (values.Lit index) h = cast_fits 0
-
--- what instructions make of values of 32 bits is of 32 bits
-pub words_kept : IsKeptBy values_moved IsWord
-words_kept = record {
-  none = tt;
-  of_two = λ op v w is also. made_of_two_fits op (number_of v) (number_of w) (number_is v is);
-  of_one = λ op v is. made_of_one_fits op (number_of v);
-}

@@ -1,11 +1,6 @@
 pub mod Options
-mod Going
-mod Throwing
-mod Stepping
-pub mod Standing
-mod First
-pub mod Always
-mod Effects
-mod Arithmetic
-mod Numbers
-pub mod InRange
+pub mod Effects
+pub mod Arithmetic
+pub mod Numbers
+pub mod Insns
+pub mod Catching

@@ -1,8 +1,8 @@
 -- Values that may be there, and lists of which something holds.
-use Rattle.std.proofs.Common.{◌≡◌, ℕ, zero, suc, Bool, true, false, cond, List, [], ◌∷◌, ◌++◌, map, take, drop, replicate, Option, Some, None, refl, sym, subst, arith}
-use Rattle.std.specs.Prelude.{slice_get, slice_set, find, option_map, option_and_then, reverse, Contains, IsSomeAnd}
+use Rattle.std.proofs.Common.{◌≡◌, ℕ, zero, suc, Bool, true, false, cond, List, [], ◌∷◌, ◌++◌, length, map, take, drop, replicate, Option, Some, None, refl, sym, subst, arith}
+use Rattle.std.specs.Prelude.{◌<◌, slice_get, slice_set, find, option_map, option_and_then, reverse, Contains, IsSomeAnd}
 use Rattle.std.specs.List.{AllByRecursion}
-use Rattle.std.specs.Option.{option_to_list}
+use Rattle.std.specs.Option.{option_map_or, option_to_list}
 use Rattle.std.proofs.lemmas.Grind.{reverse_onto}
 use Rattle.std.proofs.lemmas.List.Elements.{Contains-append_right}
 
@@ -48,6 +48,10 @@ pub if_some : {A : Type 0} (P : A → Type 0) (x : A) → P x → IfThere P (Som
 unfolding IfThere
 if_some P x p y e = subst P (some_is x y e) p
 
+pub is_there : {A : Type 0} (P : A → Type 0) (o : Option A) (x : A) → IfThere P o → o ≡ Some x → P x
+unfolding IfThere
+is_there P o x h e = h x e
+
 pub if_either : {A : Type 0} (P : A → Type 0) (b : Bool) (o q : Option A) → IfThere P o → IfThere P q → IfThere P (cond b o q)
 if_either P true o q h k = h
 if_either P false o q h k = k
@@ -65,6 +69,17 @@ if_then P f o each y e = let a = and_then_of f o y e in each a.0 a.1 y a.2
 pub if_mapped : {A B : Type 0} (P : B → Type 0) (f : A → B) (o : Option A) → ((x : A) → o ≡ Some x → P (f x)) → IfThere P (option_map f o)
 unfolding IfThere
 if_mapped P f o each y e = let m = map_of f o y e in subst P m.2 (each m.0 m.1)
+
+-- what holds of the value holds otherwise of what is made of it
+pub if_made : {A B : Type 0} (P : A → Type 0) (Q : B → Type 0) (f : A → B) (o : Option A) → ((x : A) → P x → Q (f x)) → IfThere P o
+    → IfThere Q (option_map f o)
+if_made P Q f o each h = if_mapped Q f o (λ x e. each x (is_there P o x h e))
+
+-- by whether the value is there
+pub there_or : {A B : Type 0} (P : B → Type 0) (f : A → B) (o : Option A) (y : B) → P y → ((x : A) → o ≡ Some x → P (f x))
+    → P (option_map_or f o y)
+there_or P f None y h each = h
+there_or P f (Some x) y h each = each x refl
 
 -- ---- what holds of each item
 
@@ -115,6 +130,16 @@ pub all_of_one : {A : Type 0} (P : A → Type 0) (o : Option A) → IfThere P o 
 unfolding IfThere
 all_of_one P None h = tt
 all_of_one P (Some x) h = (h x refl, tt)
+
+-- the one item
+pub the_one : {A : Type 0} (P : A → Type 0) (o : Option A) (x : A) → AllByRecursion P (option_to_list o) → o ≡ Some x → P x
+the_one P None x all e = absurd cc
+the_one P (Some y) x all e = subst P (some_is y x e) all.0
+
+-- a list that has an item is not empty
+pub not_empty : {A : Type 0} (xs : List A) (i : ℕ) (x : A) → slice_get xs i ≡ Some x → 0 < length xs
+not_empty [] i x e = absurd cc
+not_empty (y ∷ xs) i x e = omega arith
 
 pub some_and : {A : Type 0} (P : A → Type 0) (o : Option A) (x : A) → o ≡ Some x → P x → IsSomeAnd o P
 some_and P o x e p = subst (λ (a : Option _). IsSomeAnd a P) (sym e) p

@@ -1,4 +1,4 @@
--- Which answers of the library fit a call, so far of methods whose result is a number, or that have none.
+-- Which numbers the library may give, and what it may throw.
 use Rattle.std.specs.Prelude.{ℕ, ℤ, pos, ◌-ℤ◌, ◌==◌, ◌&&◌, Bool, false, int_le, List, Option, Some, None}
 use Rattle.api_listing.specs.declared.descriptor.Element.{Element}
 use Rattle.api_listing.specs.declared.descriptor.Element.TheVariants as elements
@@ -20,6 +20,7 @@ is_number_of elements.Short n = between (pos 0 -ℤ pos 32768) (pos 32767) n
 is_number_of elements.Int n = between (pos 0 -ℤ pos 2147483648) (pos 2147483647) n
 is_number_of (elements.Class name) n = false
 
+-- the number is one of the result's type, if there is a result
 abbrev pub fits_number : Option FieldType → ℤ → Bool
 fits_number None n = false
 fits_number (Some t) n = (t.dimensions == 0) && is_number_of t.element n

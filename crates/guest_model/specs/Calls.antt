@@ -1,18 +1,11 @@
--- What calls take from the operands, and what the library sees of them.
-use Rattle.std.specs.Prelude.{ℕ, ◌+◌, Bool, true, false, nat_le, if◌then◌else◌, List, [], length, map, take, drop, reverse, Option, Some, None, Ok, Err, option_map, slice_get}
+-- What calls take from the operands.
+use Rattle.std.specs.Prelude.{ℕ, ◌+◌, Bool, true, false, nat_le, if◌then◌else◌, List, [], length, take, drop, reverse, Option, Some, None, Ok, Err, option_map, slice_get}
 use Rattle.std.specs.Option.{option_map_or}
 use Rattle.api_listing.specs.declared.descriptor.MethodType.{MethodType}
-use Rattle.api_listing.specs.declared.events.ApiValue.{ApiValue}
-use Rattle.api_listing.specs.declared.events.ApiValue.TheVariants as api
 use Rattle.api_listing.specs.declared.types.ListedClass.{ListedClass}
 use Rattle.api_listing.specs.Descriptor.{method_type}
 use Rattle.api_listing.specs.Fault.{Read}
-use Rattle.bytecode_model.specs.declared.program.Program.{Program}
-use Rattle.guest_heap.specs.declared.object.Object.{Object}
-use Rattle.guest_heap.specs.declared.object.Object.TheVariants as objects
 use Rattle.guest_heap.specs.declared.value.Value.{Value}
-use Rattle.guest_heap.specs.declared.value.Value.TheVariants as values
-use Rattle.bytecode_model.specs.Classes.{classes_of}
 
 -- ---- descriptors
 
@@ -47,22 +40,8 @@ abbrev pub taken : Bool → ℕ → List Value → Option Taken
 taken true n stack = taken_static n stack
 taken false n stack = taken_instance n stack
 
--- ---- what the library sees
+-- ---- classes
 
+-- the name of the class with this index
 abbrev pub name_at : List ListedClass → ℕ → List ℕ
 name_at classes index = option_map_or (λ (c : ListedClass). c.name) (slice_get classes index) []
-
-abbrev pub object_seen : ℕ → Object → ApiValue
-object_seen at (objects.Plain class fields target thread) = api.Obj class at
-object_seen at (objects.Array desc items) = api.Obj desc at
-object_seen at (objects.Text text) = api.Text text
-
-abbrev pub value_seen : Program → List Object → Value → ApiValue
-value_seen program heap (values.Int n) = api.Int n
-value_seen program heap values.Null = api.Null
-value_seen program heap (values.Ref at) = option_map_or (object_seen at) (slice_get heap at) api.Null
-value_seen program heap (values.Class index) = api.Class (name_at (classes_of program) index)
-value_seen program heap (values.Lit index) = api.Text (option_map_or (λ (t : List ℕ). t) (slice_get program.literals index) [])
-
-abbrev pub values_seen_by : Program → List Object → List Value → List ApiValue
-values_seen_by program heap arguments = map (value_seen program heap) arguments

@@ -1,7 +1,6 @@
--- What a program does that begins with a call of the library.
-use Rattle.std.specs.Prelude.{◌≡◌, ℕ, true, [], ◌∷◌, Some, None, slice_get}
+-- Programs that begin with a call of the library.
+use Rattle.std.specs.Prelude.{◌≡◌, ℕ, true, [], Some, None, slice_get}
 use Rattle.api_listing.specs.declared.events.ApiAnswer.TheVariants as answers
-use Rattle.api_listing.specs.declared.events.Event.TheVariants as events
 use Rattle.api_listing.specs.declared.types.ListedMethod.{ListedMethod}
 use Rattle.insn_codec.specs.declared.insn.Insn.TheVariants as insns
 use Rattle.bytecode_model.specs.declared.program.Method.{Method}
@@ -11,7 +10,6 @@ use Rattle.guest_model.specs.declared.machine.Choice.TheVariants as choices
 use Rattle.guest_model.specs.declared.machine.Step.{Step}
 use Rattle.guest_model.specs.Calls.{types_of}
 use Rattle.guest_model.specs.Places.{method_at, insn_in}
-use Rattle.guest_model.specs.Runs.{trace}
 use Rattle.insn_codec.specs.declared.opcodes.TheConstants.{INVOKESTATIC}
 
 -- The first instruction of main calls a static method of the library that takes and gives nothing.
@@ -32,8 +30,3 @@ goes_on = record { thread = 0; choice = choices.Plain }
 -- the library answers that it is done
 abbrev pub is_done : Step
 is_done = record { thread = 0; choice = choices.Answer answers.Nothing }
-
--- The library sees the call in the first step, and its return in the next.
-abbrev pub SeesFirstCall : Type 0
-SeesFirstCall = (program : Program) (index listed : ℕ) → BeginsWithCall program index listed
-    → trace program (goes_on ∷ is_done ∷ []) ≡ events.Call 0 listed [] ∷ events.Return 0 listed None ∷ []

@@ -1,4 +1,3 @@
-pub mod Values
 pub mod Places
 pub mod Throwing
 pub mod Monitors
@@ -8,5 +7,4 @@ pub mod Stepping
 pub mod Runs
 pub mod Standing
 pub mod First
-pub mod Always
 pub mod Numbers

@@ -3,7 +3,7 @@ use Rattle.std.specs.Prelude.{ℕ, ◌+◌, ◌-◌, ◌==◌, if◌then◌else�
 use Rattle.std.specs.Option.{option_map_or}
 use Rattle.guest_heap.specs.declared.object.Monitor.{Monitor}
 use Rattle.guest_heap.specs.declared.value.Value.{Value}
-use Rattle.guest_model.specs.Values.{are_one}
+use Rattle.guest_frames.specs.Values.{are_one}
 
 abbrev pub held_once_more : Monitor → Monitor
 held_once_more m = record { on = m.on; owner = m.owner; count = m.count + 1 }

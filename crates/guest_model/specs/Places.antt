@@ -1,5 +1,5 @@
 -- Where a frame stands in a program.
-use Rattle.std.specs.Prelude.{ℕ, ◌+◌, bytes_eq, nat_lt, if◌then◌else◌, List, length, Option, Some, None, option_map, option_and_then, slice_get}
+use Rattle.std.specs.Prelude.{ℕ, bytes_eq, List, Option, option_map, option_and_then, slice_get}
 use Rattle.std.specs.List.{position_from}
 use Rattle.api_listing.specs.declared.types.ListedClass.{ListedClass}
 use Rattle.insn_codec.specs.declared.insn.Insn.{Insn}
@@ -9,7 +9,6 @@ use Rattle.bytecode_model.specs.declared.program.Program.{Program}
 use Rattle.bytecode_model.specs.declared.program.Target.{Target}
 use Rattle.bytecode_model.specs.Classes.{classes_of}
 use Rattle.guest_heap.specs.declared.frame.Frame.{Frame}
-use Rattle.guest_heap.specs.declared.value.Value.{Value}
 
 -- ---- classes
 
@@ -29,24 +28,3 @@ insn_in method at = option_and_then (λ (insn : Insn). option_map (λ (ref : Tar
 -- the instruction that comes next in a frame
 abbrev pub insn_at : Program → Frame → Option (Insn × Target)
 insn_at program frame = option_and_then (λ (method : Method). insn_in method frame.at) (method_at program frame.class frame.method)
-
--- ---- frames
-
--- the frame, gone on to this instruction with these locals and operands
-abbrev pub moved_to : Frame → ℕ → List Value → List Value → Frame
-moved_to frame at locals items = record {
-  class = frame.class;
-  method = frame.method;
-  at = at;
-  locals = locals;
-  stack = record { items = items; size = frame.stack.size };
-  lock = frame.lock;
-}
-
--- the same, where the operands are at most the stack's size
-abbrev pub fitted : Frame → ℕ → List Value → List Value → Option Frame
-fitted frame at locals items = if nat_lt frame.stack.size (length items) then None else Some (moved_to frame at locals items)
-
--- the frame after an instruction that left these operands
-abbrev pub after : Frame → List Value → Option Frame
-after frame items = fitted frame (frame.at + 1) frame.locals items

@@ -1,5 +1,5 @@
 -- What throwing does: frames are left until one has a handler. (The Java Virtual Machine Specification, section 2.10.)
-use Rattle.std.specs.Prelude.{ℕ, Bool, true, ◌&&◌, nat_le, nat_lt, if◌then◌else◌, List, [], ◌∷◌, ◌++◌, find, Option, Some, None, option_and_then}
+use Rattle.std.specs.Prelude.{◌≡◌, ◌≤◌, ◌<◌, ℕ, Bool, true, ◌&&◌, nat_le, nat_lt, if◌then◌else◌, List, [], ◌∷◌, ◌++◌, find, Option, Some, None, option_and_then}
 use Rattle.std.specs.Option.{option_map_or, option_to_list}
 use Rattle.bytecode_model.specs.declared.program.Handler.{Handler}
 use Rattle.bytecode_model.specs.declared.program.Method.{Method}
@@ -10,7 +10,8 @@ use Rattle.guest_heap.specs.declared.object.Object.TheVariants as objects
 use Rattle.guest_heap.specs.declared.value.Value.{Value}
 use Rattle.guest_heap.specs.declared.value.Value.TheVariants as values
 use Rattle.bytecode_model.specs.Classes.{is_below}
-use Rattle.guest_model.specs.Places.{method_at, moved_to}
+use Rattle.guest_model.specs.Places.{method_at}
+use Rattle.guest_frames.specs.Stepping.{moved_to}
 
 -- the handler catches what is thrown at this instruction
 abbrev pub catches : Program → ℕ → List ℕ → Handler → Bool
@@ -21,6 +22,11 @@ catches program at class handler =
 abbrev pub handler_of : Program → Frame → List ℕ → Option Handler
 handler_of program frame class =
     option_and_then (λ (method : Method). find (catches program frame.at class) method.handlers) (method_at program frame.class frame.method)
+
+-- A handler that is found covers the instruction at which the frame stands.
+abbrev pub HandlersCover : Type 0
+HandlersCover = (program : Program) (frame : Frame) (class : List ℕ) (handler : Handler) → handler_of program frame class ≡ Some handler
+    → (handler.from ≤ frame.at) × (frame.at < handler.to)
 
 -- the frame at the handler, with the exception alone on its stack; a stack that holds nothing takes none
 abbrev pub caught_in : Program → Value → List ℕ → Frame → Option Frame
