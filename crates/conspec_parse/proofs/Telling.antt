@@ -1,6 +1,6 @@
--- A policy that is read tells the kinds of the arguments of its methods.
+-- A policy that is read tells the kinds of the arguments and of the results of its methods.
 use Rattle.std.proofs.Common.{◌≡◌, ◌≢◌, ◌⊎◌, inl, inr, ℕ, zero, suc, ◌+◌, ◌≤◌, Bool, true, false, cond, ◌&&◌, List, [], ◌∷◌, ◌++◌, length, map, take, drop, replicate, Option, Some, None, refl, sym, ap, subst, ◌∙◌, eqb, append_assoc, arith}
-use Rattle.std.specs.Prelude.{◌==◌, not, codes, slice_get, nat_lt, bytes_eq}
+use Rattle.std.specs.Prelude.{◌==◌, not, codes, slice_get, nat_lt, bytes_eq, option_map}
 use Rattle.std.specs.List.{AllByRecursion, list_all, flat_map, position_from, prefix_len}
 use Rattle.std.specs.Option.{option_map_or}
 use Rattle.std.specs.Char.{is_ascii_digit}
@@ -11,11 +11,12 @@ use Rattle.std.proofs.lemmas.Slice.Eq.{bytes_eq-Decides}
 use Rattle.api_listing.specs.declared.descriptor.Element.{Element as ListedElement}
 use Rattle.api_listing.specs.declared.descriptor.Element.TheVariants as elements
 use Rattle.api_listing.specs.declared.descriptor.FieldType.{FieldType}
+use Rattle.api_listing.specs.declared.descriptor.MethodType.{MethodType}
 use Rattle.api_listing.specs.declared.types.ListedMethod.{ListedMethod}
 use Rattle.api_listing.specs.declared.types.Listing.{Listing}
 use Rattle.api_listing.specs.BuiltIn.{is_method}
 use Rattle.api_listing.specs.Descriptor as listed
-use Rattle.api_listing.specs.Descriptor.{class_spelled, is_element, is_type, named_only, until}
+use Rattle.api_listing.specs.Descriptor.{SpellsDescriptor, class_spelled, is_element, is_type, named_only, until}
 use Rattle.api_listing.specs.Nearest.{declared_in}
 use Rattle.api_listing.specs.Words.{is_name_start, is_name_byte, is_class_name}
 use Rattle.api_listing.proofs.DescriptorLaws.{both, name_again}
@@ -34,11 +35,11 @@ use Rattle.conspec_tree.specs.declared.types.PolicyTree.{PolicyTree}
 use Rattle.conspec_tree.specs.declared.types.TreeClause.{TreeClause}
 use Rattle.conspec_tree.specs.Kinds as tree
 use Rattle.conspec_tree.specs.Kinds.{kind_or_object, kind_of}
-use Rattle.conspec_tree.specs.Telling.{ClauseTellsKinds}
+use Rattle.conspec_tree.specs.Telling.{ClauseTellsKinds, ClauseTellsResult}
 use Rattle.conspec_parse.specs.declared.signature.Param.{Param}
-use Rattle.conspec_parse.specs.Meaning.{EachIs, below, joined, element_desc, element_kind, type_desc, kind_in, param_of, method_bytes, IsClause, lexemes}
+use Rattle.conspec_parse.specs.Meaning.{EachIs, below, joined, element_desc, element_kind, type_desc, type_kind, kind_in, param_of, method_bytes, IsClause, SpellsPolicy, lexemes}
 use Rattle.conspec_parse.specs.Methods.{desc_of}
-use Rattle.conspec_parse.specs.Telling.{KindsAreTold}
+use Rattle.conspec_parse.specs.Telling.{KindsAreTold, ResultsAreTold}
 use Rattle.conspec_parse.specs.Written as written
 use Rattle.conspec_parse.specs.Written.{WrittenParam, WrittenClause, Written, led, one_name, params_spelled, param_spelled, clause_spelled, policy_spelled}
 use Rattle.conspec_parse.specs.Written.Element.{Void, Int, Boolean, Byte, Short, Char, Class}
@@ -284,24 +285,55 @@ types_text (t ∷ ts) all =
     let p = both (is_type t) (list_all is_type ts) all in
     (listed_text t.dimensions t.element p.0, types_text ts p.1)
 
--- Types that are spelled alike up to the `)` are of the same kinds.
-same_kinds : {X Y : Type 0} (xd : X → List ℕ) (xk : X → Kind) (yd : Y → List ℕ) (yk : Y → Kind) (xs : List X) (ys : List Y) (a b : List ℕ)
+-- Types that are spelled alike up to the `)` are of the same kinds, and the same stands behind it.
+same_types : {X Y : Type 0} (xd : X → List ℕ) (xk : X → Kind) (yd : Y → List ℕ) (yk : Y → Kind) (xs : List X) (ys : List Y) (a b : List ℕ)
     → AllByRecursion (λ (x : X). IsTypeText (xd x) (xk x)) xs → AllByRecursion (λ (y : Y). IsTypeText (yd y) (yk y)) ys
-    → flat_map xd xs ++ 41 ∷ a ≡ flat_map yd ys ++ 41 ∷ b → map xk xs ≡ map yk ys
-same_kinds xd xk yd yk [] [] a b p q e = refl
-same_kinds xd xk yd yk [] (y ∷ ys) a b p q e =
+    → flat_map xd xs ++ 41 ∷ a ≡ flat_map yd ys ++ 41 ∷ b → (map xk xs ≡ map yk ys) × (a ≡ b)
+same_types xd xk yd yk [] [] a b p q e = (refl, ap (drop 1) e)
+same_types xd xk yd yk [] (y ∷ ys) a b p q e =
     let split = append_assoc (yd y) (flat_map yd ys) (41 ∷ b) in
     absurd (false≢true (sym (q.0.opens (flat_map yd ys ++ 41 ∷ b)) ∙ sym (ap closes (e ∙ split))))
-same_kinds xd xk yd yk (x ∷ xs) [] a b p q e =
+same_types xd xk yd yk (x ∷ xs) [] a b p q e =
     let split = append_assoc (xd x) (flat_map xd xs) (41 ∷ a) in
     absurd (false≢true (sym (p.0.opens (flat_map xd xs ++ 41 ∷ a)) ∙ ap closes (sym split ∙ e)))
-same_kinds xd xk yd yk (x ∷ xs) (y ∷ ys) a b p q e =
+same_types xd xk yd yk (x ∷ xs) (y ∷ ys) a b p q e =
     let left : List ℕ = flat_map xd xs ++ 41 ∷ a in
     let right : List ℕ = flat_map yd ys ++ 41 ∷ b in
     let same : xd x ++ left ≡ yd y ++ right = sym (append_assoc (xd x) (flat_map xd xs) (41 ∷ a)) ∙ (e ∙ append_assoc (yd y) (flat_map yd ys) (41 ∷ b)) in
     let kind : xk x ≡ yk y = sym (p.0.told left) ∙ (ap kind_at same ∙ q.0.told right) in
     let rest : left ≡ right = sym (p.0.passed left) ∙ (ap behind_type same ∙ q.0.passed right) in
-    rw (kind, same_kinds xd xk yd yk xs ys a b p.1 q.1 rest) refl
+    let others = same_types xd xk yd yk xs ys a b p.1 q.1 rest in
+    (rw (kind, others.0) refl, others.1)
+
+-- ---- results
+
+-- the kind of the result that is spelled so; `V` is none
+abbrev result_at : List ℕ → Option Kind
+result_at [] = None
+result_at (b ∷ text) = cond (b == 86) None (Some (kind_at (b ∷ text)))
+
+written_result : (n : ℕ) (e : written.Element) → result_at (replicate n 91 ++ element_desc e) ≡ kind_in n e
+written_result zero Void = refl
+written_result zero Int = refl
+written_result zero Boolean = refl
+written_result zero Byte = refl
+written_result zero Short = refl
+written_result zero Char = refl
+written_result zero (Class first others) = refl
+written_result (suc n) e = refl
+
+listed_type : (n : ℕ) (e : ListedElement) → result_at (replicate n 91 ++ listed.element_spelled e) ≡ Some (tree.array_kind n e)
+listed_type zero elements.Boolean = refl
+listed_type zero elements.Byte = refl
+listed_type zero elements.Char = refl
+listed_type zero elements.Short = refl
+listed_type zero elements.Int = refl
+listed_type zero (elements.Class name) = refl
+listed_type (suc n) e = refl
+
+listed_result : (result : Option FieldType) → result_at (listed.result_spelled result) ≡ option_map kind_of result
+listed_result None = refl
+listed_result (Some t) = listed_type t.dimensions t.element
 
 -- ---- the methods of the listing
 
@@ -345,8 +377,12 @@ described_by methods name desc class index m found there =
 
 -- ---- clauses
 
+-- the kinds of the arguments, and that of the result
+abbrev Tells : TreeClause → MethodType → Type 0
+Tells clause types = (clause.args ≡ map kind_of types.arguments) × (clause.result ≡ option_map kind_of types.result)
+
 clause_tells : (listing : Listing) (tree : PolicyTree) (text : WrittenClause) (clause : TreeClause) → IsClause listing.methods tree.vars tree.maxint text clause → AreGood (clause_spelled text)
-    → ClauseTellsKinds listing clause
+    → (m : ListedMethod) (types : MethodType) → slice_get listing.methods clause.method ≡ Some m → SpellsDescriptor m.id.desc types → Tells clause types
 clause_tells listing tree text clause is good m types there spelled =
     let params : List Param = map param_of text.params in
     let result : List ℕ = type_desc text.type in
@@ -355,17 +391,34 @@ clause_tells listing tree text clause is good m types there spelled =
     let same : flat_map (λ (p : Param). p.desc) params ++ 41 ∷ result ≡ flat_map listed.type_spelled types.arguments ++ 41 ∷ listed.result_spelled types.result =
     ap (drop 1) (sym desc ∙ spelled.spelled) in
     let args : clause.args ≡ map (λ (p : Param). p.kind) params = ap (λ (c : TreeClause). c.args) is.is in
-    args ∙ same_kinds (λ (p : Param). p.desc) (λ (p : Param). p.kind) listed.type_spelled kind_of params types.arguments result (listed.result_spelled types.result)
-    (params_text text.params (clause_params text good)) (types_text types.arguments spelled.arguments) same
+    let given : clause.result ≡ type_kind text.type = ap (λ (c : TreeClause). c.result) is.is in
+    let alike =
+    same_types (λ (p : Param). p.desc) (λ (p : Param). p.kind) listed.type_spelled kind_of params types.arguments result (listed.result_spelled types.result)
+    (params_text text.params (clause_params text good)) (types_text types.arguments spelled.arguments) same in
+    let told = written_result text.type.dimensions text.type.element in
+    (args ∙ alike.0, given ∙ sym told ∙ ap result_at alike.1 ∙ listed_result types.result)
 
-each_tells : (listing : Listing) (tree : PolicyTree) (texts : List WrittenClause) (clauses : List TreeClause) → EachIs (IsClause listing.methods tree.vars tree.maxint) texts clauses
-    → AllByRecursion (λ (c : WrittenClause). AreGood (clause_spelled c)) texts → AllByRecursion (ClauseTellsKinds listing) clauses
-each_tells listing tree [] [] each good = tt
-each_tells listing tree [] (c ∷ clauses) each good = absurd each
-each_tells listing tree (w ∷ texts) [] each good = absurd each
-each_tells listing tree (w ∷ texts) (c ∷ clauses) each good = (clause_tells listing tree w c each.0 good.0, each_tells listing tree texts clauses each.1 good.1)
+-- what each clause of a written policy tells
+each_tells : (P : TreeClause → Type 0) (listing : Listing) (tree : PolicyTree) (texts : List WrittenClause) (clauses : List TreeClause)
+    → ((w : WrittenClause) (c : TreeClause) → IsClause listing.methods tree.vars tree.maxint w c → AreGood (clause_spelled w) → P c)
+    → EachIs (IsClause listing.methods tree.vars tree.maxint) texts clauses
+    → AllByRecursion (λ (c : WrittenClause). AreGood (clause_spelled c)) texts → AllByRecursion P clauses
+each_tells P listing tree [] [] tells each good = tt
+each_tells P listing tree [] (c ∷ clauses) tells each good = absurd each
+each_tells P listing tree (w ∷ texts) [] tells each good = absurd each
+each_tells P listing tree (w ∷ texts) (c ∷ clauses) tells each good = (tells w c each.0 good.0, each_tells P listing tree texts clauses tells each.1 good.1)
+
+all_tell : (P : TreeClause → Type 0) (text : List ℕ) (listing : Listing) (tree : PolicyTree) → SpellsPolicy text listing tree
+    → ((w : WrittenClause) (c : TreeClause) → IsClause listing.methods tree.vars tree.maxint w c → AreGood (clause_spelled w) → P c)
+    → AllByRecursion P tree.clauses
+all_tell P text listing tree spelled tells =
+    let good : AreGood (policy_spelled spelled.written) = subst AreGood spelled.tokens (good_tokens text) in
+    each_tells P listing tree spelled.written.clauses tree.clauses tells spelled.says.clauses (good_clauses spelled.written good)
 
 pub kinds_are_told : KindsAreTold
 kinds_are_told text listing tree spelled =
-    let good : AreGood (policy_spelled spelled.written) = subst AreGood spelled.tokens (good_tokens text) in
-    each_tells listing tree spelled.written.clauses tree.clauses spelled.says.clauses (good_clauses spelled.written good)
+    all_tell (ClauseTellsKinds listing) text listing tree spelled (λ w c is good m types there desc. (clause_tells listing tree w c is good m types there desc).0)
+
+pub results_are_told : ResultsAreTold
+results_are_told text listing tree spelled =
+    all_tell (ClauseTellsResult listing) text listing tree spelled (λ w c is good m types there desc. (clause_tells listing tree w c is good m types there desc).1)

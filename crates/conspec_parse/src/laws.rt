@@ -1,7 +1,7 @@
 //! What holds of the policies that texts are read as, and of the faults that texts have.
 
 ghost use Rattle.conspec_parse.specs.Deciding.{BeginningsAreRight, FaultsAreDecided};
-ghost use Rattle.conspec_parse.specs.Telling.{KindsAreTold};
+ghost use Rattle.conspec_parse.specs.Telling.{KindsAreTold, ResultsAreTold};
 
 /// Texts that agree up to the token that decides have the same fault.
 pub fn faults_are_decided()
@@ -13,7 +13,8 @@ pub fn beginnings_are_right()
     ensures { BeginningsAreRight }
 {}
 
-/// A policy that is read tells the kinds of the arguments of its methods.
+/// A policy that is read tells the kinds of the arguments and of the results of its methods.
 pub fn kinds_are_told()
-    ensures { KindsAreTold }
+    ensures arguments { KindsAreTold }
+    ensures results { ResultsAreTold }
 {}

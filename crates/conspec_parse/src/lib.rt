@@ -24,6 +24,3 @@ mod update;
 pub use fault::PolicyFault;
 pub use laws::{beginnings_are_right, faults_are_decided, kinds_are_told};
 pub use reading::parse;
-
-#[cfg(test)]
-mod tests;

@@ -1,5 +1,5 @@
 -- What the clauses of a policy tell of their methods.
-use Rattle.std.specs.Prelude.{◌≡◌, map, slice_get, Some}
+use Rattle.std.specs.Prelude.{◌≡◌, map, option_map, slice_get, Some}
 use Rattle.std.specs.List.{AllByRecursion}
 use Rattle.api_listing.specs.declared.descriptor.MethodType.{MethodType}
 use Rattle.api_listing.specs.declared.types.ListedMethod.{ListedMethod}
@@ -18,3 +18,13 @@ ClauseTellsKinds listing clause =
 -- Each clause tells the kinds of the arguments of its method.
 abbrev pub TellsKinds : Listing → PolicyTree → Type 0
 TellsKinds listing tree = AllByRecursion (ClauseTellsKinds listing) tree.clauses
+
+-- The result has the kind of the type that the descriptor spells, if it spells one.
+abbrev pub ClauseTellsResult : Listing → TreeClause → Type 0
+ClauseTellsResult listing clause =
+    (method : ListedMethod) (types : MethodType) → slice_get listing.methods clause.method ≡ Some method → SpellsDescriptor method.id.desc types
+    → clause.result ≡ option_map kind_of types.result
+
+-- Each clause tells the kind of the result of its method.
+abbrev pub TellsResults : Listing → PolicyTree → Type 0
+TellsResults listing tree = AllByRecursion (ClauseTellsResult listing) tree.clauses

@@ -18,6 +18,3 @@ pub use kinds::{is_equality, is_object, is_truth, kind_or_object};
 pub use types::{Atom, Base, Guard, Kind, Phase, PolicyTree, Rel, TreeClause, Update, Var};
 pub use updates::{all_range_atoms, is_updated};
 pub use variables::{is_variable, variable_named};
-
-#[cfg(test)]
-mod tests;

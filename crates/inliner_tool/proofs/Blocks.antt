@@ -25,7 +25,8 @@ use Rattle.inliner_tool.specs.declared.refusal.Refusal.TheVariants as refusals
 use Rattle.inliner_tool.specs.declared.weaving.Ready.{Ready}
 use Rattle.command_words.specs.InlineWords.{NamedInline}
 use Rattle.input_files.specs.Forms.{Then, Gives}
-use Rattle.inliner_tool.specs.Weaving.{Accepts, Equals, IsPlanned, IsRewoven, Remakes, Step, Types, UnlessMemory, link_step, original, outputs_step}
+use Rattle.inliner_tool.specs.Programs.{Equals, Step, Types, UnlessMemory, link_step}
+use Rattle.inliner_tool.specs.Weaving.{Accepts, IsPlanned, IsRewoven, Remakes, original, outputs_step}
 use Rattle.output_files.specs.Outputs.{outputs_of}
 use Rattle.type_infer.specs.Untyped.{IsUntypedAt}
 
@@ -88,6 +89,7 @@ types_memory program (refusals.Link fault) typable (inl told) = absurd told
 types_memory program refusals.NotBuilt typable (inl told) = absurd told
 types_memory program (refusals.Overflow class method what value) typable (inl told) = absurd told
 types_memory program (refusals.LongCertificate value) typable (inl told) = absurd told
+types_memory program (refusals.NotEnabled index) typable (inl told) = absurd told
 types_memory program refusals.Memory typable (inl told) = absurd told
 types_memory program e typable (inr memory) = memory
 

@@ -2,5 +2,7 @@ pub mod NeverUsage
 pub mod Planning
 pub mod Replying
 pub mod Decision
+pub mod RunDecision
+pub mod Told
 mod Blocks
 mod Expected

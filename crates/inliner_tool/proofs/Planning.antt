@@ -2,7 +2,7 @@
 use Rattle.std.proofs.Common.{Ok, Err, inl, inr, ⊎_elim}
 use Rattle.inliner_tool.specs.declared.refusal.Refusal.{Refusal}
 use Rattle.input_files.specs.Forms.{Then}
-use Rattle.inliner_tool.specs.Weaving.{Step, UnlessMemory}
+use Rattle.inliner_tool.specs.Programs.{Step, UnlessMemory}
 
 module _ {A B : Type 0} (First : Step A → Type 0) (Second : A → Step B → Type 0) where
   -- a step that fails is the answer

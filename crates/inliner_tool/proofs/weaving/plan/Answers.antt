@@ -4,7 +4,8 @@ use Rattle.conspec_automaton.specs.declared.policy.Policy.{Policy}
 use Rattle.block_template.specs.Outcome.{IsWoven}
 use Rattle.block_template.specs.Woven.{woven}
 use Rattle.command_words.specs.InlineWords.{NamedInline, inline_named}
-use Rattle.inliner_tool.specs.Weaving.{Denying, Equals, Remakes, Typed, Types, Weaves, denying, original, weave_step}
+use Rattle.inliner_tool.specs.Programs.{Equals, Types}
+use Rattle.inliner_tool.specs.Weaving.{Denying, Remakes, Typed, Weaves, denying, original, weave_step}
 use Rattle.inliner_tool.proofs.Blocks.{inputs_link, planned}
 use Rattle.inliner_tool.proofs.Expected.{expected, one_file, remade}
 use Rattle.inliner_tool.proofs.Planning.{first_fails, later}
@@ -32,7 +33,7 @@ rewoven-requires-clause-expected c =
     rw c.into_program.ensures
     (expected c.woven_files_link.ensures.links inputs c.requires named.main client policy c.in_ok-made.made (inputs_link named inputs client (sym c.in_ok-client.ensures.is))
     c.in_ok-client.ensures.back c.in_ok-client.ensures.sound (one_file named.weaving inputs.policy client policy (sym c.in_ok-policy.ensures.is)) c.in_ok-policy.ensures.denies
-    c.in_ok-made.ensures.exact c.original_is_free.ensures.free c.linked_is_in_order.ensures.ordered c.linked_operands_are_right.ensures.right c.linked_programs_are_named.ensures.named c.kinds_are_told.ensures c.policy_tells_arguments.ensures.tells c.woven_is_typed.ensures.typed
+    c.in_ok-made.ensures.exact c.original_is_free.ensures.free c.linked_is_in_order.ensures.ordered c.linked_operands_are_right.ensures.right c.linked_programs_are_named.ensures.named c.kinds_are_told.ensures.arguments c.policy_tells_arguments.ensures.tells c.woven_is_typed.ensures.typed
     c.woven_is_accepted.ensures.accepted c.in_ok-types_of.field-0 c.in_ok-client.ensures.listing c.in_ok-policy.ensures.built c.in_ok-types_of.ensures.is c.in_ok-types_of.ensures.shaped)
 
 pub returns-clause-plans : goal.returns-clause-plans

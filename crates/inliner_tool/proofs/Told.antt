@@ -1,0 +1,94 @@
+-- What is read of files that the store tells, without a fault, and what an answer of its case is.
+use Rattle.std.proofs.Common.{◌≡◌, ◌⊎◌, inl, inr, ℕ, List, length, Option, Some, None, Result, Ok, Err, refl, sym, ap, ◌∙◌, arith}
+use Rattle.std.specs.Prelude.{IsSome, IsSomeAnd}
+use Rattle.mon_store.specs.Store.{Files, HasFile, Lacks, Rose}
+use Rattle.input_files.specs.declared.fault.InputFault.{InputFault}
+use Rattle.input_files.specs.declared.files.Stop.{Stop}
+use Rattle.input_files.specs.declared.files.Stop.TheVariants as stops
+use Rattle.input_files.specs.Forms.{Count, Form, IsRead, IsRefused, IsTooLong, IsUnread, ReadsForm}
+use Rattle.inliner_tool.specs.declared.answer.Answer.{Answer}
+use Rattle.inliner_tool.specs.declared.answer.Answer.TheVariants as answers
+use Rattle.inliner_tool.specs.Tool.{IsAnswer}
+
+-- ---- a file that is told and read
+
+-- the bytes of a file, of which two things are told
+record Both (P Q : List ℕ → Type 0) : Type 0 where
+  pub bytes : List ℕ
+  pub first : P bytes
+  pub second : Q bytes
+
+both_some : (P Q : List ℕ → Type 0) (o : Option (List ℕ)) → IsSomeAnd o P → IsSomeAnd o Q → Both P Q
+both_some P Q None p q = absurd p
+both_some P Q (Some bytes) p q = record { bytes = bytes; first = p; second = q }
+
+both_told : (P Q : List ℕ → Type 0) (files : Files) (name : List ℕ) → IsSome files → HasFile files name P → HasFile files name Q → Both P Q
+both_told P Q None name told p q = absurd cc
+both_told P Q (Some known) name told p q = both_some P Q (known name) p q
+
+some_lacks : (P : List ℕ → Type 0) (o : Option (List ℕ)) → IsSomeAnd o P → o ≡ None → ⊥
+some_lacks P None p e = p
+some_lacks P (Some bytes) p e = absurd cc
+
+told_lacks : (P : List ℕ → Type 0) (files : Files) (name : List ℕ) → HasFile files name P → Lacks files name → ⊥
+told_lacks P None name p lacks = lacks
+told_lacks P (Some known) name p lacks = some_lacks P (known name) p lacks
+
+module _ {A : Type 0} (files : Files) (count : Count) (name : List ℕ) (form : Form A) (tree : A) (told : IsSome files) (read : IsRead files name form (Ok tree)) (quiet : Rose count.before count.now → ⊥) where
+  -- what else the file is read as is the same
+  pub read_once : (answer : Result A InputFault) → IsRead files name form answer → answer ≡ Ok tree
+  read_once answer other =
+      let both = both_told (λ bytes. read.text ≡ bytes) (λ bytes. other.text ≡ bytes) files name told read.told other.told in
+      let same : other.text ≡ read.text = both.second ∙ sym both.first in
+      sym other.reads ∙ ap form.reads same ∙ read.reads
+
+  pub tree_once : (other : A) → ReadsForm files count name form (Ok other) → other ≡ tree
+  tree_once other is = let e : Ok other ≡ Ok tree = read_once (Ok other) is in cc
+
+  not_long : (fault : InputFault) → IsTooLong files name form.limit fault → ⊥
+  not_long fault long =
+      let both = both_told (λ bytes. read.text ≡ bytes) (λ bytes. long.len ≡ length bytes) files name told read.told long.told in
+      let same : long.len ≡ length read.text = both.second ∙ ap length (sym both.first) in
+      let short = read.short in
+      let above = long.above in
+      absurd (omega arith)
+
+  not_refused : (fault : InputFault) → IsRefused files name form fault → ⊥
+  not_refused fault (inl long) = not_long fault long
+  not_refused fault (inr wrong) = let e : Err fault ≡ Ok tree = read_once (Err fault) wrong in absurd cc
+
+  not_unread : IsUnread files count name → ⊥
+  not_unread (inl caused) = quiet caused.rose
+  not_unread (inr lacks) = told_lacks (λ bytes. read.text ≡ bytes) files name read.told lacks
+
+  -- only memory stops the reading of it
+  pub stops_once : (stop : Stop) → ReadsForm files count name form (Err stop) → stop ≡ stops.Memory
+  stops_once (stops.Input bad fault) is = absurd (not_refused fault is.1)
+  stops_once (stops.Unread bad) is = absurd (not_unread is.1)
+  stops_once stops.Memory is = refl
+
+-- ---- answers
+
+-- An answer of its case is so, or memory ran out.
+pub says_of : (P : Answer → Type 0) (answer : Answer) → IsAnswer P answer → P answer ⊎ (answer ≡ answers.Memory)
+says_of P (answers.Accepted accepted) is = inl is
+says_of P (answers.Denied fault label) is = inl is
+says_of P (answers.Shown text) is = inl is
+says_of P (answers.Judged verdict) is = inl is
+says_of P answers.RaceFree is = inl is
+says_of P (answers.Racy condition example) is = inl is
+says_of P (answers.CellLimit first second count) is = inl is
+says_of P (answers.Inlined accepted classes) is = inl is
+says_of P (answers.Replayed text) is = inl is
+says_of P (answers.NotEnabled index) is = inl is
+says_of P (answers.Input name fault) is = inl is
+says_of P (answers.TotalLong len) is = inl is
+says_of P (answers.Link fault) is = inl is
+says_of P (answers.Untyped class method at) is = inl is
+says_of P answers.NotBuilt is = inl is
+says_of P (answers.Overflow class method what value) is = inl is
+says_of P (answers.LongCertificate value) is = inl is
+says_of P (answers.Unread name) is = inl is
+says_of P (answers.Unwritten name) is = inl is
+says_of P answers.Usage is = absurd is
+says_of P answers.Memory is = inr refl
