@@ -1,0 +1,131 @@
+-- The events of a typed program are well formed for a policy that tells the types of its methods.
+use Rattle.std.proofs.Common.{◌≡◌, ℕ, ℤ, zero, suc, ◌<◌, true, ◌&&◌, List, [], ◌∷◌, map, Option, Some, None, refl, sym, ap, subst, ◌∙◌, arith}
+use Rattle.std.specs.Prelude.{◌≢◌, pos, negsuc, ◌==◌, find, int_le, slice_get, option_map, FitsSigned}
+use Rattle.std.specs.Int.{w32}
+use Rattle.std.specs.List.{AllByRecursion}
+use Rattle.std.proofs.lemmas.Bool.{and_parts, and_from, eqb-true, le-leb}
+use Rattle.std.proofs.lemmas.Option.{slice_get-map}
+use Rattle.api_listing.specs.declared.descriptor.Element.{Element}
+use Rattle.api_listing.specs.declared.descriptor.Element.TheVariants as elements
+use Rattle.api_listing.specs.declared.descriptor.FieldType.{FieldType}
+use Rattle.api_listing.specs.declared.events.ApiValue.{ApiValue}
+use Rattle.api_listing.specs.declared.events.ApiValue.TheVariants as api
+use Rattle.api_listing.specs.declared.events.Event.{Event}
+use Rattle.api_listing.specs.declared.events.Event.TheVariants as events
+use Rattle.bytecode_model.specs.declared.program.Program.{Program}
+use Rattle.bytecode_model.specs.Sound.{IsSound}
+use Rattle.bytecode_model.specs.Standing.{AreLiterals}
+use Rattle.bytecode_model.specs.Targets.{AreNamed}
+use Rattle.bytecode_model.specs.Uses.{UsesAreShaped}
+use Rattle.conspec_tree.specs.declared.types.Kind.{Kind}
+use Rattle.conspec_tree.specs.declared.types.Kind.TheVariants as kinds
+use Rattle.conspec_tree.specs.Kinds.{kind_of, array_kind, element_kind}
+use Rattle.conspec_automaton.specs.declared.policy.Clause.{Clause}
+use Rattle.conspec_automaton.specs.declared.policy.Policy.{Policy}
+use Rattle.conspec_automaton.specs.Events.{IsNumberOf, IsWellFormed, least_of, greatest_of}
+use Rattle.conspec_automaton.specs.Next.{speaks_of}
+use Rattle.conspec_automaton.specs.Range.{is_between}
+use Rattle.guest_model.specs.Answers.{is_number_of, fits_number}
+use Rattle.guest_model.specs.Calls.{types_of}
+use Rattle.guest_model.proofs.Options.{all_get, find_is, map_of}
+use Rattle.guest_machine.specs.Numbers.{IsWordSeen, IsReturned, IsInRange, SeesInRange, is_of_numbers, is_primitive}
+use Rattle.guest_machine.specs.Runs.{trace}
+use Rattle.typed_runs.specs.Formed.{SeesWellFormed, TellsTypes}
+use Rattle.typed_runs.proofs.Called.{there_and}
+use Rattle.typed_runs.proofs.Changed.{ArePassedNumbers, PassesNumbers}
+use Rattle.typed_runs.proofs.CallsWork.{calls_work}
+use Rattle.typed_runs.proofs.Runs.{runs_pass_numbers}
+use Rattle.typed_runs.proofs.Within.{among}
+
+-- ---- numbers
+
+word_between : (n : ℤ) → FitsSigned w32 n → is_between (least_of kinds.Int) (greatest_of kinds.Int) n ≡ true
+word_between (pos m) fits = let lt : m < 2147483648 = fits.sfits in le-leb m 2147483647 (omega arith)
+word_between (negsuc m) fits =
+    let lt : m < 2147483648 = fits.sfits in and_from (int_le (least_of kinds.Int) (negsuc m)) (int_le (negsuc m) (greatest_of kinds.Int))
+    (le-leb m 2147483647 (omega arith)) refl
+
+-- the numbers of an element are those of its kind
+number_between : (t : Element) (n : ℤ) → is_number_of t n ≡ true
+    → is_between (least_of (element_kind t)) (greatest_of (element_kind t)) n ≡ true
+number_between elements.Boolean n h = h
+number_between elements.Byte n h = h
+number_between elements.Char n h = h
+number_between elements.Short n h = h
+number_between elements.Int n h = h
+number_between (elements.Class name) n h = absurd cc
+
+answer_between : (t : FieldType) (n : ℤ) → fits_number (Some t) n ≡ true
+    → is_between (least_of (kind_of t)) (greatest_of (kind_of t)) n ≡ true
+answer_between t n h =
+    let a = and_parts (t.dimensions == 0) (is_number_of t.element n) h in
+    let none : t.dimensions ≡ 0 = eqb-true t.dimensions 0 a.0 in
+    subst (λ (k : Kind). is_between (least_of k) (greatest_of k) n ≡ true) (ap (λ (d : ℕ). array_kind d t.element) (sym none))
+    (number_between t.element n a.1)
+
+-- a type of no object is one of numbers
+kind_of_numbers : (dimensions : ℕ) (element : Element) → array_kind dimensions element ≢ kinds.Object
+    → ((dimensions == 0) && is_primitive element) ≡ true
+kind_of_numbers zero elements.Boolean some = refl
+kind_of_numbers zero elements.Byte some = refl
+kind_of_numbers zero elements.Char some = refl
+kind_of_numbers zero elements.Short some = refl
+kind_of_numbers zero elements.Int some = refl
+kind_of_numbers zero (elements.Class name) some = absurd (some refl)
+kind_of_numbers (suc n) element some = absurd (some refl)
+
+of_numbers : (t : FieldType) (kind : Kind) → kind_of t ≡ kind → kind ≢ kinds.Object → is_of_numbers t ≡ true
+of_numbers t kind is some = kind_of_numbers t.dimensions t.element (λ object. some (sym is ∙ object))
+
+-- ---- what is passed, and what is given
+
+passed : (types : List FieldType) (args : List Kind) (arguments : List ApiValue) → args ≡ map kind_of types
+    → AllByRecursion IsWordSeen arguments → ArePassedNumbers types arguments
+    → (i : ℕ) (kind : Kind) → slice_get args i ≡ Some kind → kind ≢ kinds.Object → IsNumberOf kinds.Int (slice_get arguments i)
+passed types args arguments told words numbers i kind e some =
+    let m = map_of kind_of (slice_get types i) kind (sym (slice_get-map kind_of types i) ∙ ap (λ (ks : List Kind). slice_get ks i) (sym told) ∙ e) in
+    let n = numbers i m.0 m.1 (of_numbers m.0 kind m.2 some) in
+    (n.0, n.1, word_between n.0 (all_get IsWordSeen arguments i (api.Int n.0) words n.1))
+
+given : (type : Option FieldType) (result : Option Kind) (value : Option ApiValue) → result ≡ option_map kind_of type
+    → IsReturned type value
+    → (kind : Kind) → result ≡ Some kind → kind ≢ kinds.Object → IsNumberOf kind value
+given None result value told returned kind e some = absurd cc
+given (Some t) result value told returned kind e some =
+    let same : kind_of t ≡ kind = cc in
+    let n = returned (of_numbers t kind same some) in
+    subst (λ (k : Kind). IsNumberOf k value) same (n.0, n.1, answer_between t n.0 n.2)
+
+-- ---- events
+
+module _ (program : Program) (policy : Policy) (tells : AllByRecursion (TellsTypes program.listing) policy.clauses) where
+  -- The clause that is found is of the method, and tells its types.
+  found : (event : Event) (clause : Clause) → find (speaks_of event) policy.clauses ≡ Some clause
+      → TellsTypes program.listing clause × (speaks_of event clause ≡ true)
+  found event clause e =
+      let f = find_is (speaks_of event) policy.clauses clause e in
+      (among (TellsTypes program.listing) policy.clauses clause tells f.0, f.1)
+
+  formed : (event : Event) → IsInRange program event → PassesNumbers program event → IsWellFormed policy event
+  formed (events.Call thread method arguments) range numbers clause e =
+      let f = found (events.Call thread method arguments) clause e in
+      let of : clause.method ≡ method = eqb-true clause.method method (and_parts (clause.method == method) _ f.1).0 in
+      let l = there_and (slice_get program.listing.methods method) range in
+      passed (types_of l.0.id.desc).arguments clause.args arguments (f.0.args l.0 (ap (slice_get program.listing.methods) of ∙ l.1)) l.2.words
+      (numbers l.0 l.1)
+  formed (events.Return thread method value) range numbers clause e =
+      let f = found (events.Return thread method value) clause e in
+      let of : clause.method ≡ method = eqb-true clause.method method (and_parts (clause.method == method) _ f.1).0 in
+      let l = there_and (slice_get program.listing.methods method) range in
+      given (types_of l.0.id.desc).result clause.result value (f.0.result l.0 (ap (slice_get program.listing.methods) of ∙ l.1)) l.2
+  formed (events.Except thread method) range numbers clause e = tt
+
+  each_formed : (seen : List Event) → AllByRecursion (IsInRange program) seen → AllByRecursion (PassesNumbers program) seen
+      → AllByRecursion (IsWellFormed policy) seen
+  each_formed [] range numbers = tt
+  each_formed (event ∷ seen) range numbers = (formed event range.0 numbers.0, each_formed seen range.1 numbers.1)
+
+pub sees_well_formed : UsesAreShaped → ((program : Program) → IsSound program → AreNamed program → AreLiterals program → SeesInRange program) → SeesWellFormed
+sees_well_formed shaped range program typing policy ok tells steps =
+    each_formed program policy tells (trace program steps) (range program ok.sound ok.linked.named ok.linked.literals steps)
+    (runs_pass_numbers shaped (λ program typing ok. calls_work program typing ok shaped) program typing ok steps)

@@ -1,0 +1,7 @@
+pub mod Fitting
+pub mod Growing
+pub mod Frames
+pub mod Machines
+pub mod Programs
+pub mod Runs
+pub mod Formed

@@ -1,0 +1,20 @@
+-- The programs that the laws are about: those that files link to, with a listing that was read and a typing that meets the rules.
+use Rattle.std.specs.Prelude.{List, ℕ}
+use Rattle.api_listing.specs.Listing.{SpellsListing}
+use Rattle.cert_format.specs.declared.typing.Typing.{Typing}
+use Rattle.bytecode_model.specs.declared.program.Program.{Program}
+use Rattle.bytecode_model.specs.declared.program.Side.{Side}
+use Rattle.bytecode_model.specs.Order.{IsInOrder}
+use Rattle.bytecode_model.specs.Sound.{IsSound}
+use Rattle.bytecode_model.specs.Standing.{IsLinkedOf}
+use Rattle.bytecode_model.specs.Typed.{IsTyped}
+
+pub record IsTypedProgram (program : Program) (typing : Typing) : Type 0 where
+  pub side : Side
+  pub main : List ℕ
+  pub text : List ℕ
+  pub listed : SpellsListing text program.listing
+  pub linked : IsLinkedOf side program.listing main program
+  pub sound : IsSound program
+  pub order : IsInOrder program
+  pub typed : IsTyped program typing

@@ -1,0 +1,31 @@
+//! What a typing promises of runs.
+
+ghost use Rattle.typed_runs.specs.Formed.{PoliciesTellTypes, SeesWellFormed};
+ghost use Rattle.typed_runs.specs.Runs.{RunsFit, NeverStuck};
+
+use bytecode_model::uses_are_shaped;
+use guest_machine::{enabled_steps_are_made, sees_numbers_in_range};
+
+/// After every list of steps the machine is as the typing says, so that no operand is missing and none is of a wrong kind;
+/// and each step that is enabled by the rules is made.
+pub fn typed_programs_run()
+    ensures fit { RunsFit }
+    ensures moves { NeverStuck }
+{
+    uses_are_shaped();
+    enabled_steps_are_made();
+}
+
+/// Where a policy tells the types of its methods, the events of a typed program are well formed for it, whatever the steps
+/// are: a number of 32 bits is passed where the method takes one, and what is returned is in the range of its type.
+pub fn events_are_well_formed()
+    ensures formed { SeesWellFormed }
+{
+    uses_are_shaped();
+    sees_numbers_in_range();
+}
+
+/// The automaton of a policy that was read, with a listing that was read, tells the types of its methods.
+pub fn policies_tell_types()
+    ensures tell { PoliciesTellTypes }
+{}
