@@ -1,0 +1,15 @@
+use Rattle.std.proofs.Common.{drop}
+use Rattle.std.specs.Option.{option_and_then}
+use Rattle.bytecode_model.specs.SearchOrder.{Name}
+use Rattle.guest_machine.specs.Changes.{World}
+use Rattle.guest_machine.specs.Working.{name_named, tells_instance}
+use Rattle.guest_step.specs.Works.{at, comes}
+use Rattle.guest_step.proofs.Works.{works_same}
+use Rattle.guest_step.proofs.work.objects.tell_instance.Goals as goal
+
+pub returns : goal.returns
+returns c statics =
+    let items = c.args.stack.now.items in
+    works_same c.replace.result (at c.args.heap.now statics c.args.stack.now) (at c.args.heap.now statics c.replace.new.stack)
+    (λ (world : World). comes world (drop 1 items) c.in_ok-came.came) (λ (world : World). option_and_then (λ (name : Name). tells_instance c.args.guest.now world name items) (name_named c.args.target.now))
+    (λ monitors. c.in_ok-came.ensures statics monitors) (c.replace.ensures c.args.heap.now statics)

@@ -1,0 +1,43 @@
+use Rattle.std.proofs.Common.{◌≡◌, None, Option, Ok, Result, Some, rules, subst, sym}
+use Rattle.mon_base.specs.declared.memory.NoMemory.{NoMemory}
+use Rattle.guest_heap.specs.declared.thread.Thread.{Thread}
+use Rattle.guest_machine.specs.Changes.{World, world_of}
+use Rattle.guest_machine.specs.Stepping.{Acting, works}
+use Rattle.guest_machine.specs.Working.{worked}
+use Rattle.guest_step.specs.declared.outcome.Outcome.{Outcome}
+use Rattle.guest_step.specs.declared.outcome.Outcome.TheVariants as outcomes
+use Rattle.guest_step.specs.Acts.{ActsIn, acting}
+use Rattle.guest_step.specs.InFrame.{WorksIn, inside}
+use Rattle.guest_step.proofs.InFrame.{sharing, works_nowhere, works_on, works_thrown}
+use Rattle.guest_step.proofs.working.run_work.Goals as goal
+
+pub returns-in-None : goal.returns-in-None
+returns-in-None c =
+    let is : c.work_in.result ≡ Ok None = grind rules in
+    works_nowhere c.args.guest.now c.args.machine.now c.args.number c.args.thread.now c.args.what c.args.target.now c.top_mut-frame.result.now c.top_mut-frame.ensures.top
+    c.work_in.new.heap c.work_in.new.statics c.work_in.new.frame
+    (subst (λ (r : Result (Option Outcome) NoMemory). WorksIn r (inside c.args.machine.now.heap c.args.machine.now.statics c.top_mut-frame.result.now)
+    (inside c.work_in.new.heap c.work_in.new.statics c.work_in.new.frame)
+    (λ (world : World). worked c.args.guest.now world c.args.what c.args.target.now c.top_mut-frame.result.now.stack.items)) is c.work_in.ensures)
+
+pub returns-in-Some-Goes : goal.returns-in-Some-Goes
+returns-in-Some-Goes c =
+    let is : c.work_in.result ≡ Ok (Some outcomes.Goes) = grind rules in
+    subst (λ (left : Thread). ActsIn (Ok None) c.args.machine.now (sharing c.args.machine.now c.work_in.new.heap c.work_in.new.statics) c.args.thread.now left
+    (acting c.args.number c.args.thread.now c.args.thread.now.frames (λ (a : Acting). works c.args.guest.now (world_of c.args.machine.now) a c.args.what c.args.target.now)))
+    (sym c.keep_running.ensures)
+    (works_on c.args.guest.now c.args.machine.now c.args.number c.args.thread.now c.args.what c.args.target.now c.top_mut-frame.result.now c.top_mut-frame.ensures.top
+    c.work_in.new.heap c.work_in.new.statics c.work_in.new.frame
+    (subst (λ (r : Result (Option Outcome) NoMemory). WorksIn r (inside c.args.machine.now.heap c.args.machine.now.statics c.top_mut-frame.result.now)
+    (inside c.work_in.new.heap c.work_in.new.statics c.work_in.new.frame)
+    (λ (world : World). worked c.args.guest.now world c.args.what c.args.target.now c.top_mut-frame.result.now.stack.items)) is c.work_in.ensures))
+
+pub returns-in-Some-Throws : goal.returns-in-Some-Throws
+returns-in-Some-Throws c =
+    let is : c.work_in.result ≡ Ok (Some (outcomes.Throws c.in-Some-Throws.thrown)) = grind rules in
+    works_thrown c.args.guest.now c.args.machine.now c.args.number c.args.thread.now c.args.what c.args.target.now c.top_mut-frame.result.now c.top_mut-frame.ensures.top
+    c.work_in.new.heap c.work_in.new.statics c.work_in.new.frame c.in-Some-Throws.thrown c.throw_new.result c.throw_new.new.machine c.throw_new.new.thread c.name.result.now
+    (subst (λ (r : Result (Option Outcome) NoMemory). WorksIn r (inside c.args.machine.now.heap c.args.machine.now.statics c.top_mut-frame.result.now)
+    (inside c.work_in.new.heap c.work_in.new.statics c.work_in.new.frame)
+    (λ (world : World). worked c.args.guest.now world c.args.what c.args.target.now c.top_mut-frame.result.now.stack.items)) is c.work_in.ensures)
+    c.name.ensures c.throw_new.ensures

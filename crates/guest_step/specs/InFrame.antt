@@ -1,0 +1,55 @@
+-- What an instruction that works on the heap did in its frame.
+use Rattle.std.specs.Prelude.{◌≡◌, ⊤, ℕ, List, Option, Some, None, Result, Ok, Err, option_map}
+use Rattle.bytecode_model.specs.SearchOrder.{Name}
+use Rattle.mon_base.specs.declared.memory.NoMemory.{NoMemory}
+use Rattle.guest_heap.specs.declared.frame.Frame.{Frame}
+use Rattle.guest_heap.specs.declared.object.Monitor.{Monitor}
+use Rattle.guest_heap.specs.declared.object.Object.{Object}
+use Rattle.guest_heap.specs.declared.value.Value.{Value}
+use Rattle.guest_frames.specs.Stepping.{after}
+use Rattle.guest_machine.specs.Changes.{World}
+use Rattle.guest_machine.specs.Working.{Worked}
+use Rattle.guest_step.specs.declared.outcome.Outcome.{Outcome}
+use Rattle.guest_step.specs.declared.outcome.Outcome.TheVariants as outcomes
+use Rattle.guest_step.specs.Works.{name_of}
+
+-- the heap, the static fields, and a frame
+pub record Inside : Type 0 where
+  pub heap : List Object
+  pub statics : List (List Value)
+  pub frame : Frame
+
+abbrev pub inside : List Object → List (List Value) → Frame → Inside
+inside heap statics frame = record { heap = heap; statics = statics; frame = frame }
+
+abbrev pub shared : Inside → List Monitor → World
+shared place monitors = record { heap = place.heap; statics = place.statics; monitors = monitors }
+
+-- what is shared and the frame behind its instruction, or the class of what is thrown
+abbrev pub gone : Frame → Worked → Option (Result (World × Frame) Name)
+gone frame None = None
+gone frame (Some (Err class)) = Some (Err class)
+gone frame (Some (Ok made)) = option_map (λ (f : Frame). Ok (made.0, f)) (after frame made.1)
+
+-- the same as an outcome tells it, with what was left
+abbrev pub told_in : Inside → List Monitor → Option Outcome → Option (Result (World × Frame) Name)
+told_in left monitors None = None
+told_in left monitors (Some outcomes.Goes) = Some (Ok (shared left monitors, left.frame))
+told_in left monitors (Some (outcomes.Throws t)) = Some (Err (name_of t))
+
+-- all is as it was, unless it went on
+abbrev pub StaysIn : Inside → Inside → Option Outcome → Type 0
+StaysIn old new None = new ≡ old
+StaysIn old new (Some outcomes.Goes) = ⊤
+StaysIn old new (Some (outcomes.Throws t)) = new ≡ old
+
+-- Whatever the monitors are, the instruction comes to what the outcome tells; or memory ran out, and all is as it was.
+abbrev pub WorksIn : Result (Option Outcome) NoMemory → Inside → Inside → (World → Worked) → Type 0
+WorksIn (Ok outcome) old new made = ((monitors : List Monitor) → gone old.frame (made (shared old monitors)) ≡ told_in new monitors outcome) × StaysIn old new outcome
+WorksIn (Err e) old new made = new ≡ old
+
+-- where a frame stands afterwards: behind its instruction where that went on
+abbrev pub at_after : Option Outcome → ℕ → ℕ → ℕ
+at_after None at behind = at
+at_after (Some outcomes.Goes) at behind = behind
+at_after (Some (outcomes.Throws t)) at behind = at

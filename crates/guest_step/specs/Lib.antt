@@ -1,0 +1,15 @@
+pub mod Ready
+pub mod Did
+pub mod Monitors
+pub mod Works
+pub mod Acts
+pub mod Answering
+pub mod Statics
+pub mod Start
+pub mod Ending
+pub mod Led
+pub mod Layout
+pub mod Methods
+pub mod Calls
+pub mod InFrame
+pub mod Replaying

@@ -1,0 +1,25 @@
+-- What is known of a program that is ready to run.
+use Rattle.std.specs.Prelude.{◌≡◌, ℕ, List}
+use Rattle.api_listing.specs.declared.types.ListedClass.{ListedClass}
+use Rattle.bytecode_model.specs.declared.program.Program.{Program}
+use Rattle.bytecode_model.specs.Classes.{classes_of}
+use Rattle.bytecode_model.specs.Order.{IsInOrder}
+use Rattle.bytecode_model.specs.Sound.{IsSound}
+use Rattle.bytecode_model.specs.Standing.{AreStanding}
+use Rattle.bytecode_model.specs.Targets.{AreNamed}
+use Rattle.guest_step.specs.Layout.{begins_of, counts_of}
+use Rattle.guest_step.specs.Methods.{Methods, AreMethods}
+
+pub record IsReady (program : Program) : Type 0 where
+  pub sound : IsSound program
+  pub standing : AreStanding program
+  pub named : AreNamed program
+  pub order : IsInOrder program
+
+-- The program is ready, and the tables that are kept beside it are of it.
+pub record IsGuest (program : Program) (classes : List ListedClass) (methods : List Methods) (begins : List ℕ) (counts : List (List ℕ)) : Type 0 where
+  pub ready : IsReady program
+  pub classes_are : classes ≡ classes_of program
+  pub methods_are : AreMethods methods program.classes
+  pub begins_are : begins ≡ begins_of program
+  pub counts_are : counts ≡ counts_of program

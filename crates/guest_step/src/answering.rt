@@ -1,0 +1,255 @@
+//! The library's answers to calls: which fit, and what they give. (docs/MACHINE.md)
+
+ghost use Rattle.std.specs.Prelude.{◌≡◌, Some, length, option_map, IfOk};
+ghost use Rattle.guest_heap.specs.declared.value.Value.TheVariants as values;
+ghost use Rattle.guest_machine.specs.Answering.{answered, answered_well, returned_by, thrown_by_library};
+ghost use Rattle.guest_machine.specs.Changes.{with_object, world_of};
+ghost use Rattle.guest_machine.specs.Seen.{value_shown};
+ghost use Rattle.guest_machine.specs.Stepping.{call_stepped, is_on_null};
+ghost use Rattle.guest_model.specs.Calls.{types_of};
+ghost use Rattle.guest_model.specs.Throwing.{bare_object};
+ghost use Rattle.guest_step.specs.Acts.{ActsIn};
+
+use crate::fault::StepFault;
+use crate::fitting::answer_fits;
+use crate::guest::Guest;
+use crate::kinds::is_null;
+use crate::outcome::Thrown;
+use crate::returning::resume;
+use crate::seen::value_shown;
+use crate::throwing::throw_new;
+use api_listing::{ApiAnswer, ApiValue, Event, FieldType, FormFault, parse_descriptor};
+use guest_heap::{Object, Thread, Value, new_object};
+use guest_model::{Choice, Machine};
+use mon_base::{Bytes, List, NoMemory};
+use std::alloc::Global;
+
+// ---- results
+
+/// The type of the result of a method of this descriptor.
+pub fn result_type(alloc: Global, desc: &[u8]) -> Result<Option<FieldType>, NoMemory>
+    ensures { IfOk result (λ t. t ≡ (types_of desc.now).result) }
+{
+    match parse_descriptor(alloc, desc) {
+        Ok(types) => Ok(types.result),
+        Err(FormFault::NoForm) => Ok(None),
+        Err(FormFault::Memory) => Err(NoMemory),
+    }
+}
+
+// ---- going on
+
+/// The caller goes on with what is given, and the library sees the return.
+fn finish(
+    alloc: Global,
+    guest: &Guest,
+    machine: &Machine,
+    number: u32,
+    thread: &mut Thread,
+    method: u32,
+    value: Option<Value>,
+) -> Result<Option<Event>, StepFault>
+    ensures { ActsIn result machine.now machine.now thread.old thread.new (returned_by guest.now number thread.old method (world_of machine.now, value)) }
+{
+    let shown = shown_if_any(alloc, guest, &machine.heap, value)?;
+    resume(alloc, guest, thread, value)?;
+    Ok(Some(Event::Return {
+        thread: number,
+        method,
+        value: shown,
+    }))
+}
+
+/// What the library sees of a result.
+fn shown_if_any(
+    alloc: Global,
+    guest: &Guest,
+    heap: &List<Object>,
+    value: Option<Value>,
+) -> Result<Option<ApiValue>, NoMemory>
+    ensures { IfOk result (λ shown. shown ≡ option_map (value_shown guest.now heap.now) value) }
+{
+    match value {
+        Some(value) => Ok(Some(value_shown(alloc, guest, heap, value)?)),
+        None => Ok(None),
+    }
+}
+
+/// The same with a new object, which is taken back where the caller does not go on.
+fn finish_with(
+    alloc: Global,
+    guest: &Guest,
+    machine: &mut Machine,
+    number: u32,
+    thread: &mut Thread,
+    method: u32,
+    object: Object,
+) -> Result<Option<Event>, StepFault>
+    ensures { ActsIn result machine.old machine.new thread.old thread.new
+        (returned_by guest.now number thread.old method (with_object (world_of machine.old) object, Some (values.Ref (length machine.old.heap)))) }
+{
+    if machine.heap.len() >= u32::MAX as usize {
+        return Err(StepFault::Memory);
+    }
+    let at = new_object(&mut machine.heap, object)?;
+    let value = Some(Value::Ref(at));
+    let made = finish(alloc, guest, machine, number, thread, method, value);
+    if made.is_err() {
+        machine.heap.pop();
+    }
+    made
+}
+
+/// The library throws, and sees that it did.
+fn throw_in_call(
+    alloc: Global,
+    guest: &Guest,
+    machine: &mut Machine,
+    number: u32,
+    thread: &mut Thread,
+    method: u32,
+    class: &[u8],
+) -> Result<Option<Event>, StepFault>
+    ensures { ActsIn result machine.old machine.new thread.old thread.new (thrown_by_library guest.now (world_of machine.old) number thread.old method class.now) }
+{
+    let event = Event::Except {
+        thread: number,
+        method,
+    };
+    throw_new(alloc, guest, machine, number, thread, class, Some(event))
+}
+
+/// The answer, which fits, is taken.
+fn take(
+    alloc: Global,
+    guest: &Guest,
+    machine: &mut Machine,
+    number: u32,
+    thread: &mut Thread,
+    method: u32,
+    receiver: Option<Value>,
+    args: &[Value],
+    answer: &ApiAnswer,
+) -> Result<Option<Event>, StepFault>
+    ensures { ActsIn result machine.old machine.new thread.old thread.new
+        (answered_well guest.now (world_of machine.old) number thread.old method receiver args.now answer.now) }
+{
+    let value = match answer {
+        ApiAnswer::Text(text) => {
+            let object = Object::Text(text.copy(alloc)?);
+            return finish_with(alloc, guest, machine, number, thread, method, object);
+        }
+        ApiAnswer::Fresh(class) => {
+            let object = bare_object(alloc, class)?;
+            return finish_with(alloc, guest, machine, number, thread, method, object);
+        }
+        ApiAnswer::Throws(class) => {
+            let class = class.as_slice();
+            return throw_in_call(alloc, guest, machine, number, thread, method, class);
+        }
+        ApiAnswer::Nothing => None,
+        ApiAnswer::Int(n) => Some(Value::Int(*n)),
+        ApiAnswer::Null => Some(Value::Null),
+        ApiAnswer::Arg(i) => match args.get(*i as usize) {
+            Some(value) => Some(*value),
+            None => return Err(StepFault::NotEnabled),
+        },
+        ApiAnswer::Receiver => match receiver {
+            Some(value) => Some(value),
+            None => return Err(StepFault::NotEnabled),
+        },
+    };
+    finish(alloc, guest, machine, number, thread, method, value)
+}
+
+/// An object that was just made of a class without fields.
+fn bare_object(alloc: Global, class: &Bytes) -> Result<Object, NoMemory>
+    ensures { IfOk result (λ object. object ≡ bare_object class.now) }
+{
+    Ok(Object::Plain {
+        class: class.copy(alloc)?,
+        fields: List::new(alloc),
+        target: Value::Null,
+        thread: None,
+    })
+}
+
+// ---- steps in a call
+
+/// A thread in a call throws where the receiver is null, and else takes an answer that fits.
+pub fn step_in_call(
+    alloc: Global,
+    guest: &Guest,
+    machine: &mut Machine,
+    number: u32,
+    thread: &mut Thread,
+    method: u32,
+    receiver: Option<Value>,
+    args: &[Value],
+    choice: &Choice,
+) -> Result<Option<Event>, StepFault>
+    ensures { ActsIn result machine.old machine.new thread.old thread.new
+        (call_stepped guest.now (world_of machine.old) number thread.old method receiver args.now choice.now) }
+{
+    let is_on_null = is_on_null(receiver);
+    match choice {
+        Choice::Plain => {
+            if !is_on_null {
+                return Err(StepFault::NotEnabled);
+            }
+            let class = Thrown::NullPointer.name();
+            throw_in_call(alloc, guest, machine, number, thread, method, class)
+        }
+        Choice::Answer(answer) => {
+            if is_on_null {
+                return Err(StepFault::NotEnabled);
+            }
+            answer_call(
+                alloc, guest, machine, number, thread, method, receiver, args, answer,
+            )
+        }
+    }
+}
+
+/// Whether the receiver is null.
+pub fn is_on_null(receiver: Option<Value>) -> bool
+    ensures { result ≡ is_on_null receiver }
+{
+    match receiver {
+        Some(value) => is_null(value),
+        None => false,
+    }
+}
+
+/// The answer of the library, where it fits.
+fn answer_call(
+    alloc: Global,
+    guest: &Guest,
+    machine: &mut Machine,
+    number: u32,
+    thread: &mut Thread,
+    method: u32,
+    receiver: Option<Value>,
+    args: &[Value],
+    answer: &ApiAnswer,
+) -> Result<Option<Event>, StepFault>
+    ensures { ActsIn result machine.old machine.new thread.old thread.new
+        (answered guest.now (world_of machine.old) number thread.old method receiver args.now answer.now) }
+{
+    let Some(listed) = guest
+        .program()
+        .listing
+        .methods
+        .as_slice()
+        .get(method as usize)
+    else {
+        return Err(StepFault::NotEnabled);
+    };
+    let of = result_type(alloc, listed.id.desc.as_slice())?;
+    if !answer_fits(alloc, guest, &machine.heap, &of, receiver, args, answer)? {
+        return Err(StepFault::NotEnabled);
+    }
+    take(
+        alloc, guest, machine, number, thread, method, receiver, args, answer,
+    )
+}

@@ -1,0 +1,96 @@
+//! The steps of a run, made one after the other from the start.
+
+ghost use Rattle.std.specs.Prelude.{◌≡◌, IfOk};
+ghost use Rattle.guest_step.specs.declared.replaying.ReplayFault.TheVariants as faults;
+ghost use Rattle.guest_step.specs.Ending.{EndsWhereNoneIsEnabled};
+ghost use Rattle.guest_step.specs.Replaying.{ReplaysAreRuns, after_step, replayed};
+ghost use Rattle.mon_base.specs.Answer.{Answers};
+
+use crate::fault::StepFault;
+use crate::guest::Guest;
+use crate::starting::start;
+use crate::stepping::step;
+use api_listing::Event;
+use guest_model::{Machine, Step};
+use mon_base::{List, NoMemory};
+use std::alloc::Global;
+use thiserror::Error;
+
+/// What the library saw of a run, and where it left the machine.
+#[derive(Debug, Drop)]
+pub struct Replayed {
+    pub events: List<Event>,
+    pub machine: Machine,
+}
+
+/// Why a run is not made.
+#[derive(Clone, Copy, Debug, PartialEq, Eq, Error)]
+pub enum ReplayFault {
+    /// The step of this index, from 0, is not enabled in its place.
+    #[error("step {index} is not enabled")]
+    NotEnabled { index: u64 },
+    #[error("out of memory")]
+    Memory,
+}
+
+impl From<NoMemory> for ReplayFault {
+    ghost from_gives = { λ _ e. e ≡ faults.Memory };
+
+    fn from(_error: NoMemory) -> ReplayFault {
+        ReplayFault::Memory
+    }
+}
+
+/// Makes these steps from the start, or tells the first that is not enabled in its place. Nothing is copied but the events.
+pub fn replay(alloc: Global, guest: &Guest, steps: &[Step]) -> Result<Replayed, ReplayFault>
+    ensures { Answers ReplayFault.Memory result (replayed guest.now steps.now) }
+{
+    let mut run = Replayed {
+        events: List::new(alloc),
+        machine: start(alloc, guest)?,
+    };
+    let mut index = 0u64;
+    let mut left = steps;
+    while let [next, rest @ ..] = left {
+        run = after(alloc, guest, index, run, next)?;
+        index += 1;
+        left = rest;
+    }
+    Ok(run)
+}
+
+/// A run after one more step, which has this index.
+fn after(
+    alloc: Global,
+    guest: &Guest,
+    index: u64,
+    run: Replayed,
+    next: &Step,
+) -> Result<Replayed, ReplayFault>
+    ensures { Answers ReplayFault.Memory result (after_step guest.now index run next.now) }
+{
+    let Replayed {
+        mut events,
+        mut machine,
+    } = run;
+    match step(alloc, guest, &mut machine, next) {
+        Ok(Some(event)) => {
+            events.push(event)?;
+            Ok(Replayed { events, machine })
+        }
+        Ok(None) => Ok(Replayed { events, machine }),
+        Err(StepFault::NotEnabled) => Err(ReplayFault::NotEnabled { index }),
+        Err(StepFault::Memory) => Err(ReplayFault::Memory),
+    }
+}
+
+/// Where all steps of a list are made, each was enabled in its place, and the events and the machine are those of the run;
+/// else the step that is told is the first that is not.
+pub fn replays_are_runs()
+    ensures runs { ReplaysAreRuns }
+{}
+
+/// A machine has ended exactly where the rules enable no step of any thread, whatever the library answers.
+pub fn ends_where_none_is_enabled()
+    ensures ends { EndsWhereNoneIsEnabled }
+{}

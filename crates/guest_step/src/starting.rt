@@ -1,0 +1,130 @@
+//! The machine before the first step.
+
+ghost use Rattle.std.specs.Prelude.{◌≡◌, ◌∷◌, [], ◌++◌, IfOk, OnOk, map};
+ghost use Rattle.std.specs.Option.{option_to_list};
+ghost use Rattle.std.specs.List.{position_from};
+ghost use Rattle.mon_base.specs.declared.method.MethodId.{MethodId};
+ghost use Rattle.guest_machine.specs.Changes.{rests};
+ghost use Rattle.guest_machine.specs.Runs.{initialiser_of, initialisers, start_of};
+ghost use Rattle.guest_model.specs.Runs.{first_heap, inner};
+ghost use Rattle.guest_model.specs.Throwing.{bare_object};
+ghost use Rattle.guest_step.specs.Start.{is_initialiser};
+
+use crate::beginning::rest;
+use crate::guest::Guest;
+use crate::statics::statics_of;
+use crate::throwing::push_object;
+use bytecode_model::{LinkedClass, Method};
+use guest_heap::{Doing, Frames, Object, Thread};
+use guest_model::Machine;
+use mon_base::{Bytes, List, MethodId, NoMemory};
+use std::alloc::Global;
+
+/// The machine before the first step: its one thread runs the initialisers of the classes, in their order, and then main.
+pub fn start(alloc: Global, guest: &Guest) -> Result<Machine, NoMemory>
+    ensures { IfOk result (λ machine. machine ≡ start_of guest.now) }
+{
+    let mut threads = List::new(alloc);
+    threads.push(first_thread(alloc, guest)?)?;
+    Ok(Machine {
+        heap: first_heap(alloc, guest)?,
+        statics: statics_of(alloc, guest)?,
+        monitors: List::new(alloc),
+        threads,
+        stopped: None,
+    })
+}
+
+/// The thread that runs the initialisers, and then main.
+fn first_thread(alloc: Global, guest: &Guest) -> Result<Thread, NoMemory>
+    ensures { IfOk result (λ thread. thread ≡ rests guest.now (initialisers guest.now ++ (guest.now.main_class, guest.now.main_method) ∷ [])) }
+{
+    let mut to_begin = initialisers(alloc, guest)?;
+    to_begin.push((guest.program().main_class, guest.program().main_method))?;
+    let mut thread = Thread {
+        frames: Frames::new(alloc),
+        to_begin,
+        doing: Doing::Running,
+    };
+    rest(alloc, guest, &mut thread)?;
+    Ok(thread)
+}
+
+/// The initialisers of the classes that have one, in their order.
+fn initialisers(alloc: Global, guest: &Guest) -> Result<List<(u32, u32)>, NoMemory>
+    ensures { IfOk result (λ found. found ≡ initialisers guest.now) }
+{
+    let mut found = List::new(alloc);
+    let mut index: u32 = 0;
+    let mut left = guest.program().classes.as_slice();
+    while let [class, rest @ ..] = left {
+        push_initialiser(&mut found, index, class)?;
+        index = index.checked_add(1).ok_or(NoMemory)?;
+        left = rest;
+    }
+    Ok(found)
+}
+
+/// Appends the initialiser of the class with this index, if it has one.
+fn push_initialiser(
+    found: &mut List<(u32, u32)>,
+    index: u32,
+    class: &LinkedClass,
+) -> Result<(), NoMemory>
+    ensures { OnOk result (found.new ≡ found.old ++ option_to_list (initialiser_of (index, class.now))) }
+{
+    let Some(place) = initialiser_in(class.methods.as_slice()) else {
+        return Ok(());
+    };
+    let Ok(method) = u32::try_from(place) else {
+        return Err(NoMemory);
+    };
+    found.push((index, method))
+}
+
+/// The place of the first initialiser among the methods.
+fn initialiser_in(methods: &[Method]) -> Option<usize>
+    ensures { result ≡ position_from is_initialiser 0 methods.now }
+{
+    methods.iter().position(|method| is_initialiser(method))
+}
+
+/// Whether the method makes a class ready.
+fn is_initialiser(method: &Method) -> bool
+    ensures { result ≡ is_initialiser method.now }
+{
+    method.name.as_slice() == b"<clinit>".as_slice() && method.desc.as_slice() == b"()V".as_slice()
+}
+
+/// An object for each field of the listing, and then the array of no strings that main takes.
+fn first_heap(alloc: Global, guest: &Guest) -> Result<List<Object>, NoMemory>
+    ensures { IfOk result (λ heap. heap ≡ first_heap guest.now) }
+{
+    let mut heap = List::new(alloc);
+    push_fields(alloc, &mut heap, guest.program().listing.fields.as_slice())?;
+    heap.push(Object::Array {
+        desc: Bytes::from_slice(alloc, b"[Ljava/lang/String;")?,
+        items: List::new(alloc),
+    })?;
+    Ok(heap)
+}
+
+/// Appends an object for each of the fields.
+fn push_fields(alloc: Global, heap: &mut List<Object>, fields: &[MethodId]) -> Result<(), NoMemory>
+    ensures { OnOk result (heap.new ≡ heap.old ++ map (λ (f : MethodId). bare_object (inner f.desc)) fields.now) }
+{
+    for field in fields {
+        push_object(alloc, heap, inner(field.desc.as_slice()))?;
+    }
+    Ok(())
+}
+
+/// The text without its first and last byte: the class in a field's descriptor.
+fn inner(text: &[u8]) -> &[u8]
+    ensures { result.now ≡ inner text.now }
+{
+    match text {
+        [] => b"".as_slice(),
+        [_, rest @ ..] => &rest[..rest.len().saturating_sub(1)],
+    }
+}

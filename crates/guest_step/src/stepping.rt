@@ -1,0 +1,267 @@
+//! Steps.
+
+ghost use Rattle.std.specs.Prelude.{◌≡◌, if◌then◌else◌, option_map};
+ghost use Rattle.std.specs.Borrow.{Bor};
+ghost use Rattle.insn_codec.specs.declared.insn.Insn.{Insn};
+ghost use Rattle.bytecode_model.specs.declared.program.Target.{Target};
+ghost use Rattle.guest_heap.specs.declared.thread.Doing.TheVariants as doings;
+ghost use Rattle.guest_frames.specs.Stepping.{frame_stepped};
+ghost use Rattle.guest_machine.specs.Stepping.{Acting, doing_stepped, frames_stepped, heap_in, heap_stepped, running_stepped, stepped};
+ghost use Rattle.guest_model.specs.Places.{insn_at};
+ghost use Rattle.guest_step.specs.Acts.{ActsIn, acting, doing_this, thread_stepped, unseen};
+ghost use Rattle.guest_step.specs.Did.{Becomes, Did};
+
+use crate::acting::{enter_top, leave_top, throw_top};
+use crate::answering::step_in_call;
+use crate::calling::call;
+use crate::fault::StepFault;
+use crate::guest::Guest;
+use crate::returning::return_from;
+use crate::working::run_work;
+use api_listing::Event;
+use bytecode_model::Target;
+use guest_frames::local_step;
+use guest_heap::{Doing, Frame, Frames, Thread};
+use guest_model::{Choice, Machine, Step};
+use insn_codec::{Heap, Insn, Shape, shape_of};
+use mon_base::List;
+use std::alloc::Global;
+
+/// Makes the step, and answers what the library sees of it. Where it is refused, the machine is as it was.
+pub fn step(
+    alloc: Global,
+    guest: &Guest,
+    machine: &mut Machine,
+    step: &Step,
+) -> Result<Option<Event>, StepFault>
+    ensures { Did result machine.old machine.new (stepped guest.now machine.old step.now) }
+{
+    let place = step.thread as usize;
+    if machine.stopped.is_some() || place >= machine.threads.len() {
+        return Err(StepFault::NotEnabled);
+    }
+    let mut thread = machine.threads.replace(place, idle(alloc));
+    let made = act(
+        alloc,
+        guest,
+        machine,
+        step.thread,
+        &mut thread,
+        &step.choice,
+    );
+    machine.threads.replace(place, thread);
+    made
+}
+
+/// What stands in the place of the thread that acts.
+fn idle(alloc: Global) -> Thread
+    ensures { result.doing ≡ doings.Running }
+{
+    Thread {
+        frames: Frames::new(alloc),
+        to_begin: List::new(alloc),
+        doing: Doing::Running,
+    }
+}
+
+/// What the thread does by this choice.
+fn act(
+    alloc: Global,
+    guest: &Guest,
+    machine: &mut Machine,
+    number: u32,
+    thread: &mut Thread,
+    choice: &Choice,
+) -> Result<Option<Event>, StepFault>
+    ensures { ActsIn result machine.old machine.new thread.old thread.new
+        (doing_stepped guest.now machine.old number thread.old thread.old.doing choice.now) }
+{
+    let doing = std::mem::replace(&mut thread.doing, Doing::Running);
+    let made = act_as(alloc, guest, machine, number, thread, &doing, choice);
+    give_back(thread, doing, made.is_err());
+    made
+}
+
+/// The thread does again what it did, where its step is refused.
+fn give_back(thread: &mut Thread, doing: Doing, is_refused: bool)
+    ensures { thread.new ≡ (if is_refused then doing_this thread.old doing else thread.old) }
+{
+    if is_refused {
+        thread.doing = doing;
+    }
+}
+
+/// The same of a thread whose doing stands apart.
+fn act_as(
+    alloc: Global,
+    guest: &Guest,
+    machine: &mut Machine,
+    number: u32,
+    thread: &mut Thread,
+    doing: &Doing,
+    choice: &Choice,
+) -> Result<Option<Event>, StepFault>
+    ensures { ActsIn result machine.old machine.new thread.old thread.new
+        (doing_stepped guest.now machine.old number thread.old doing.now choice.now) }
+{
+    match doing {
+        Doing::Running => run(alloc, guest, machine, number, thread, choice),
+        Doing::InCall {
+            method,
+            receiver,
+            args,
+        } => {
+            let args = args.as_slice();
+            step_in_call(
+                alloc, guest, machine, number, thread, *method, *receiver, args, choice,
+            )
+        }
+        Doing::Ended => Err(StepFault::NotEnabled),
+    }
+}
+
+/// A thread that runs makes a plain step.
+fn run(
+    alloc: Global,
+    guest: &Guest,
+    machine: &mut Machine,
+    number: u32,
+    thread: &mut Thread,
+    choice: &Choice,
+) -> Result<Option<Event>, StepFault>
+    ensures { ActsIn result machine.old machine.new thread.old thread.new (running_stepped guest.now machine.old number thread.old choice.now) }
+{
+    match choice {
+        Choice::Plain => run_next(alloc, guest, machine, number, thread),
+        Choice::Answer(_) => Err(StepFault::NotEnabled),
+    }
+}
+
+/// The instruction that comes next in the frame, and what its operand names.
+pub fn insn_at<'a>(guest: &'a Guest, frame: &Frame) -> Option<(&'a Insn, &'a Target)>
+    ensures { option_map (λ (next : Bor Insn × Bor Target). (next.0.now, next.1.now)) result ≡ insn_at guest.now frame.now }
+{
+    let method = guest.method(frame.class, frame.method)?;
+    let insn = method.insns.as_slice().get(frame.at as usize)?;
+    let target = method.refs.as_slice().get(frame.at as usize)?;
+    Some((insn, target))
+}
+
+/// What an instruction does with more than its frame.
+pub fn heap_in(shape: Shape) -> Option<Heap>
+    ensures { result ≡ heap_in shape }
+{
+    match shape {
+        Shape::Heap(what) => Some(what),
+        Shape::Nothing
+        | Shape::Push(_)
+        | Shape::PushNull
+        | Shape::Load { .. }
+        | Shape::Store { .. }
+        | Shape::Move(_)
+        | Shape::Two(_)
+        | Shape::One(_)
+        | Shape::Increment { .. }
+        | Shape::Test { .. }
+        | Shape::Compare { .. }
+        | Shape::CompareReferences { .. }
+        | Shape::TestNull { .. }
+        | Shape::Goto { .. }
+        | Shape::Switch => None,
+    }
+}
+
+/// The next instruction of the top frame.
+fn run_next(
+    alloc: Global,
+    guest: &Guest,
+    machine: &mut Machine,
+    number: u32,
+    thread: &mut Thread,
+) -> Result<Option<Event>, StepFault>
+    ensures { ActsIn result machine.old machine.new thread.old thread.new
+        (frames_stepped guest.now machine.old number thread.old thread.old.frames) }
+{
+    let Some(frame) = thread.frames.top() else {
+        return Err(StepFault::NotEnabled);
+    };
+    let Some((insn, target)) = insn_at(guest, frame) else {
+        return Err(StepFault::NotEnabled);
+    };
+    match heap_in(shape_of(insn)) {
+        Some(what) => run_heap(alloc, guest, machine, number, thread, what, target),
+        None => unseen(run_alone(thread, insn)),
+    }
+}
+
+/// The same answer, of what the library does not see.
+fn unseen(made: Result<(), StepFault>) -> Result<Option<Event>, StepFault>
+    ensures { result ≡ unseen made }
+{
+    match made {
+        Ok(()) => Ok(None),
+        Err(fault) => Err(fault),
+    }
+}
+
+/// The instruction changes the top frame alone.
+fn run_alone(thread: &mut Thread, insn: &Insn) -> Result<(), StepFault>
+    ensures { Becomes result thread.old thread.new (thread_stepped thread.old thread.old.frames insn.now) }
+{
+    if thread.frames.top().is_none() {
+        return Err(StepFault::NotEnabled);
+    }
+    step_frame(thread.frames.top_mut(), insn)?;
+    thread.doing = Doing::Running;
+    Ok(())
+}
+
+/// The instruction changes the frame alone.
+fn step_frame(frame: &mut Frame, insn: &Insn) -> Result<(), StepFault>
+    ensures { Becomes result frame.old frame.new (frame_stepped insn.now frame.old) }
+{
+    if frame.at == u32::MAX {
+        return Err(StepFault::Memory);
+    }
+    if local_step(frame, insn) {
+        Ok(())
+    } else {
+        Err(StepFault::NotEnabled)
+    }
+}
+
+/// The instruction works on more than its frame.
+fn run_heap(
+    alloc: Global,
+    guest: &Guest,
+    machine: &mut Machine,
+    number: u32,
+    thread: &mut Thread,
+    what: Heap,
+    target: &Target,
+) -> Result<Option<Event>, StepFault>
+    ensures { ActsIn result machine.old machine.new thread.old thread.new (acting number thread.old thread.old.frames
+        (λ (a : Acting). heap_stepped guest.now machine.old a what target.now)) }
+{
+    match what {
+        Heap::Throw => throw_top(alloc, guest, machine, number, thread),
+        Heap::Enter => enter_top(alloc, guest, machine, number, thread),
+        Heap::Exit => leave_top(alloc, guest, machine, number, thread),
+        Heap::Return(kind) => return_from(alloc, guest, machine, number, thread, kind),
+        Heap::Call(how) => call(alloc, guest, machine, number, thread, how, target),
+        Heap::Constant
+        | Heap::ReadItem(_)
+        | Heap::WriteItem(_)
+        | Heap::Divide { .. }
+        | Heap::ReadStatic
+        | Heap::WriteStatic
+        | Heap::ReadField
+        | Heap::WriteField
+        | Heap::New
+        | Heap::NewArray(_)
+        | Heap::NewArrayOf
+        | Heap::Length
+        | Heap::Cast
+        | Heap::IsInstance => run_work(alloc, guest, machine, number, thread, what, target),
+    }
+}

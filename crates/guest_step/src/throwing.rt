@@ -1,0 +1,173 @@
+//! What throwing does: frames are left until one has a handler. (The Java Virtual Machine Specification, section 2.10.)
+
+ghost use Rattle.std.specs.Prelude.{◌≡◌, ◌∷◌, [], ◌++◌, ℕ, List, Some, true, length, option_map, find, drop, IfOk, OnOk, OnErr};
+ghost use Rattle.std.specs.Option.{option_map_or};
+ghost use Rattle.bytecode_model.specs.Classes.{is_below};
+ghost use Rattle.bytecode_model.specs.declared.program.Handler.{Handler};
+ghost use Rattle.guest_frames.specs.Became.{Became};
+ghost use Rattle.guest_machine.specs.Changes.{throws_new, world_of};
+ghost use Rattle.guest_model.specs.Monitors.{all_given_up};
+ghost use Rattle.guest_model.specs.Stepping.{thrown_thread};
+ghost use Rattle.guest_model.specs.Throwing.{bare_object, catches, caught_in, handler_of, locks_left, unwound};
+ghost use Rattle.guest_step.specs.Acts.{ActsIn, lock_on_top};
+
+use crate::fault::StepFault;
+use crate::guest::Guest;
+use crate::monitors::give_up;
+use api_listing::Event;
+use bytecode_model::{Handler, Handlers};
+use guest_heap::{Doing, Frame, Frames, Monitor, Object, Thread, Value, new_object};
+use guest_model::Machine;
+use mon_base::{Bytes, List, NoMemory};
+use std::alloc::Global;
+
+/// Whether the handler catches an exception of the class that is thrown at this instruction.
+fn catches(guest: &Guest, at: u32, class: &[u8], handler: &Handler) -> bool
+    ensures { result ≡ catches guest.now at class.now handler.now }
+{
+    handler.covers(at) && is_of_class(guest, class, &handler.class)
+}
+
+/// Whether the class is below the one that is caught, if one is told.
+fn is_of_class(guest: &Guest, class: &[u8], caught: &Option<Bytes>) -> bool
+    ensures { result ≡ option_map_or (λ (name : List ℕ). is_below guest.now class.now name) caught.now true }
+{
+    match caught {
+        Some(name) => guest.is_below(class, name.as_slice()),
+        None => true,
+    }
+}
+
+/// Where the first of the handlers begins that catches an exception of the class, thrown at this instruction.
+fn first_catching(guest: &Guest, handlers: &Handlers, at: u32, class: &[u8]) -> Option<u32>
+    ensures { result ≡ option_map (λ (h : Handler). h.at) (find (catches guest.now at class.now) handlers.now) }
+{
+    let mut near = handlers.near(at);
+    while let Some(handler) = near.next() {
+        if catches(guest, at, class, handler) {
+            return Some(handler.at);
+        }
+    }
+    None
+}
+
+/// Where the frame goes on if an exception of the class is thrown in it.
+fn handler_at(guest: &Guest, frame: &Frame, class: &[u8]) -> Option<u32>
+    ensures { result ≡ option_map (λ (h : Handler). h.at) (handler_of guest.now frame.now class.now) }
+{
+    let method = guest.method(frame.class, frame.method)?;
+    first_catching(guest, &method.handlers, frame.at, class)
+}
+
+/// The frame goes on at its handler, with the exception alone on its stack, where it has one; and whether it has.
+fn catch_in(guest: &Guest, frame: &mut Frame, thrown: Value, class: &[u8]) -> bool
+    ensures { Became result frame.old frame.new (caught_in guest.now thrown class.now frame.old) }
+{
+    let Some(at) = handler_at(guest, frame, class) else {
+        return false;
+    };
+    if frame.stack.size() == 0 {
+        return false;
+    }
+    frame.at = at;
+    frame.stack.drop_top(frame.stack.len());
+    frame.stack.push(thrown);
+    true
+}
+
+/// The top frame is left, and its lock is given up.
+pub fn leave_top(monitors: &mut List<Monitor>, number: u32, frames: &mut Frames)
+    ensures left { frames.new ≡ drop 1 frames.old }
+    ensures given { monitors.new ≡ all_given_up monitors.old number (lock_on_top frames.old) }
+{
+    if let Some(frame) = frames.pop() {
+        give_up(monitors, number, frame.lock);
+    }
+}
+
+/// Frames are left, and their locks are given up, until one has a handler.
+fn unwind(
+    guest: &Guest,
+    monitors: &mut List<Monitor>,
+    number: u32,
+    frames: &mut Frames,
+    thrown: Value,
+    class: &[u8],
+)
+    ensures frames { frames.new ≡ unwound guest.now thrown class.now frames.old }
+    ensures locks { monitors.new ≡ all_given_up monitors.old number (locks_left guest.now thrown class.now frames.old) }
+{
+    while frames.top().is_some() {
+        if catch_in(guest, frames.top_mut(), thrown, class) {
+            return;
+        }
+        leave_top(monitors, number, frames);
+    }
+}
+
+/// The object, which is of the class, is thrown. A thread without a handler has ended.
+pub fn throw(
+    alloc: Global,
+    guest: &Guest,
+    monitors: &mut List<Monitor>,
+    number: u32,
+    thread: &mut Thread,
+    thrown: Value,
+    class: &[u8],
+)
+    ensures monitors { monitors.new ≡ all_given_up monitors.old number (locks_left guest.now thrown class.now thread.old.frames) }
+    ensures thread { thread.new ≡ thrown_thread (unwound guest.now thrown class.now thread.old.frames) thread.old.to_begin }
+{
+    unwind(guest, monitors, number, &mut thread.frames, thrown, class);
+    if thread.frames.top().is_some() {
+        thread.doing = Doing::Running;
+    } else {
+        thread.to_begin = List::new(alloc);
+        thread.doing = Doing::Ended;
+    }
+}
+
+/// A new object of the class is thrown.
+pub fn throw_new(
+    alloc: Global,
+    guest: &Guest,
+    machine: &mut Machine,
+    number: u32,
+    thread: &mut Thread,
+    class: &[u8],
+    event: Option<Event>,
+) -> Result<Option<Event>, StepFault>
+    ensures { ActsIn result machine.old machine.new thread.old thread.new
+        (Some (throws_new guest.now (world_of machine.old) number thread.old thread.old.frames class.now event)) }
+{
+    let at = push_object(alloc, &mut machine.heap, class)?;
+    throw(
+        alloc,
+        guest,
+        &mut machine.monitors,
+        number,
+        thread,
+        Value::Ref(at),
+        class,
+    );
+    Ok(event)
+}
+
+/// A new object of the class, without fields, and its index.
+pub fn push_object(alloc: Global, heap: &mut List<Object>, class: &[u8]) -> Result<u32, NoMemory>
+    ensures index { IfOk result (λ at. at ≡ length heap.old) }
+    ensures ok { OnOk result (heap.new ≡ heap.old ++ bare_object class.now ∷ []) }
+    ensures err { OnErr result (heap.new ≡ heap.old) }
+{
+    if heap.len() >= u32::MAX as usize {
+        return Err(NoMemory);
+    }
+    let class = Bytes::from_slice(alloc, class)?;
+    let object = Object::Plain {
+        class,
+        fields: List::new(alloc),
+        target: Value::Null,
+        thread: None,
+    };
+    new_object(heap, object)
+}

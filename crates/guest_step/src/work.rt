@@ -1,0 +1,54 @@
+//! What instructions do to the heap, the static fields and the operands. (The Java Virtual Machine Specification, section 6.5.)
+
+ghost use Rattle.guest_machine.specs.Changes.{World};
+ghost use Rattle.guest_machine.specs.Working.{worked};
+ghost use Rattle.guest_step.specs.Works.{Works, at};
+
+mod arrays;
+mod fields;
+mod numbers;
+mod objects;
+mod operands;
+mod places;
+mod statics;
+
+use crate::guest::Guest;
+use crate::outcome::Outcome;
+use bytecode_model::Target;
+use guest_heap::{Object, Stack, Value};
+use insn_codec::Heap;
+use mon_base::{List, NoMemory};
+use std::alloc::Global;
+
+/// Does what an instruction does that works on the heap or on static fields, or divides. There is nothing where an operand is
+/// missing or not of its kind, or what is left does not fit on the stack; all is then as it was.
+pub fn work(
+    alloc: Global,
+    guest: &Guest,
+    what: Heap,
+    target: &Target,
+    heap: &mut List<Object>,
+    statics: &mut List<List<Value>>,
+    stack: &mut Stack,
+) -> Result<Option<Outcome>, NoMemory>
+    ensures { Works result (at heap.old statics.old stack.old) (at heap.new statics.new stack.new)
+        (λ (world : World). worked guest.now world what target.now stack.old.items) }
+{
+    match what {
+        Heap::Constant => Ok(numbers::constant(guest, target, stack)),
+        Heap::ReadItem(item) => Ok(arrays::read_item(item, heap, stack)),
+        Heap::WriteItem(item) => arrays::write_item(alloc, guest, item, heap, stack),
+        Heap::Divide { remainder } => Ok(numbers::divide(remainder, stack)),
+        Heap::ReadStatic => Ok(statics::read_static(guest, target, statics, stack)),
+        Heap::WriteStatic => Ok(statics::write_static(target, statics, stack)),
+        Heap::ReadField => Ok(fields::read_field(guest, target, heap, stack)),
+        Heap::WriteField => Ok(fields::write_field(guest, target, heap, stack)),
+        Heap::New => objects::make_object(alloc, guest, target, heap, stack),
+        Heap::NewArray(kind) => objects::make_numbers(alloc, kind, heap, stack),
+        Heap::NewArrayOf => objects::make_references(alloc, target, heap, stack),
+        Heap::Length => arrays::tell_length(heap, stack),
+        Heap::Cast => objects::cast(alloc, guest, target, heap, stack),
+        Heap::IsInstance => objects::tell_instance(alloc, guest, target, heap, stack),
+        Heap::Call(_) | Heap::Throw | Heap::Enter | Heap::Exit | Heap::Return(_) => Ok(None),
+    }
+}
