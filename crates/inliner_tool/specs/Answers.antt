@@ -5,12 +5,25 @@ use Rattle.inliner_tool.specs.declared.answer.Answer.{Answer}
 use Rattle.inliner_tool.specs.declared.answer.Answer.TheVariants as answers
 use Rattle.input_files.specs.declared.files.Stop.{Stop}
 use Rattle.input_files.specs.declared.files.Stop.TheVariants as stops
+use Rattle.inliner_tool.specs.declared.refusal.Refusal.{Refusal}
+use Rattle.inliner_tool.specs.declared.refusal.Refusal.TheVariants as refusals
 
 -- where the reading of files stopped
 abbrev pub stopped : Stop → Answer
 stopped (stops.Input name fault) = answers.Input name fault
 stopped (stops.Unread name) = answers.Unread name
 stopped stops.Memory = answers.Memory
+
+-- where a command ended before its work was done
+abbrev pub refused : Refusal → Answer
+refused (refusals.TotalLong len) = answers.TotalLong len
+refused (refusals.Link fault) = answers.Link fault
+refused (refusals.Untyped class method at) = answers.Untyped class method at
+refused refusals.NotBuilt = answers.NotBuilt
+refused (refusals.Overflow class method what value) = answers.Overflow class method what value
+refused (refusals.LongCertificate value) = answers.LongCertificate value
+refused (refusals.NotEnabled index) = answers.NotEnabled index
+refused refusals.Memory = answers.Memory
 
 -- It is this answer, unless memory ran out.
 abbrev pub Is : Answer → Answer → Type 0
@@ -24,4 +37,5 @@ EndsWell (answers.Shown text) = Unit {0}
 EndsWell (answers.Judged verdict) = is_refused verdict ≡ false
 EndsWell answers.RaceFree = Unit {0}
 EndsWell (answers.Inlined accepted classes) = Unit {0}
+EndsWell (answers.Replayed text) = Unit {0}
 EndsWell other = ⊥

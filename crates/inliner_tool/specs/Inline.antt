@@ -7,24 +7,14 @@ use Rattle.inliner_tool.specs.declared.answer.Answer.TheVariants as answers
 use Rattle.input_files.specs.declared.files.Stop.{Stop}
 use Rattle.input_files.specs.declared.inline_inputs.InlineInputs.{InlineInputs}
 use Rattle.inliner_tool.specs.declared.refusal.Refusal.{Refusal}
-use Rattle.inliner_tool.specs.declared.refusal.Refusal.TheVariants as refusals
 use Rattle.inliner_tool.specs.declared.weaving.Ready.{Ready}
 use Rattle.input_files.specs.Forms.{Count}
 use Rattle.input_files.specs.InlineInputs.{ReadsInline}
 use Rattle.command_words.specs.InlineWords.{IsInline, NamedInline}
-use Rattle.inliner_tool.specs.Answers.{stopped}
+use Rattle.inliner_tool.specs.Answers.{refused, stopped}
 use Rattle.inliner_tool.specs.Weaving.{IsPlanned, Plans}
 
 -- ---- answers
-
-abbrev pub refused : Refusal → Answer
-refused (refusals.TotalLong len) = answers.TotalLong len
-refused (refusals.Link fault) = answers.Link fault
-refused (refusals.Untyped class method at) = answers.Untyped class method at
-refused refusals.NotBuilt = answers.NotBuilt
-refused (refusals.Overflow class method what value) = answers.Overflow class method what value
-refused (refusals.LongCertificate value) = answers.LongCertificate value
-refused refusals.Memory = answers.Memory
 
 -- The files are read, and of what they are these outputs are made, of which this is so.
 pub record Writes (files : Files) (count : Count) (named : NamedInline) (P : Ready → Type 0) : Type 0 where

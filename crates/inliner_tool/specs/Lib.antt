@@ -8,7 +8,10 @@ pub mod Numbers
 pub mod Replies
 pub mod Status
 pub mod Expected
+pub mod Programs
 pub mod Weaving
 pub mod Inline
+pub mod Replay
 pub mod Tool
 pub mod Decision
+pub mod ReplayDecision

@@ -136,6 +136,10 @@ race_report condition example = report 245 (Name (condition_name condition) ∷ 
 abbrev pub cells_report : ℕ → ℕ → ℕ → Report
 cells_report first second count = report 222 (Count first ∷ Count second ∷ Count count ∷ [])
 
+-- the first step of a run that is not enabled
+abbrev pub step_report : ℕ → Report
+step_report index = report 301 (Count index ∷ [])
+
 -- ---- sizes
 
 abbrev pub size_name : Size → List ℕ

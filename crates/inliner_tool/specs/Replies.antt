@@ -11,7 +11,7 @@ use Rattle.conspec_automaton.specs.declared.running.Verdict.{Verdict}
 use Rattle.conspec_automaton.specs.declared.running.Verdict.TheVariants as verdicts
 use Rattle.inliner_tool.specs.declared.answer.Answer.{Answer}
 use Rattle.inliner_tool.specs.declared.answer.Answer.TheVariants as answers
-use Rattle.inliner_tool.specs.Numbers.{cells_report, check_report, event_report, input_report, length_report, link_report, race_report, size_report, total_report, unbuilt_report, untyped_report}
+use Rattle.inliner_tool.specs.Numbers.{cells_report, check_report, event_report, input_report, length_report, link_report, race_report, size_report, step_report, total_report, unbuilt_report, untyped_report}
 
 abbrev pub mode_name : Mode → List ℕ
 mode_name modes.Hold = codes "hold"
@@ -35,6 +35,8 @@ reply_of answers.RaceFree = replies.Line lines.Free
 reply_of (answers.Racy condition example) = replies.Line (lines.Denied (race_report condition example))
 reply_of (answers.CellLimit first second count) = replies.Line (lines.Denied (cells_report first second count))
 reply_of (answers.Inlined accepted classes) = replies.Line (lines.Inlined (mode_name accepted.mode) accepted.sites classes)
+reply_of (answers.Replayed text) = replies.Text text
+reply_of (answers.NotEnabled index) = replies.Line (lines.Denied (step_report index))
 reply_of (answers.Input name fault) = input (Some name) (input_report fault)
 reply_of (answers.TotalLong len) = input None (total_report len)
 reply_of (answers.Link fault) = input None (link_report fault)

@@ -19,10 +19,11 @@ use Rattle.inliner_tool.specs.Inline.{Inlines}
 use Rattle.inliner_tool.specs.Check.{IsChecked, check_answer}
 use Rattle.inliner_tool.specs.Policy.{policy_answer}
 use Rattle.inliner_tool.specs.Race.{race_answer}
+use Rattle.inliner_tool.specs.Replay.{Replays}
 use Rattle.inliner_tool.specs.Show.{show_answer}
 use Rattle.inliner_tool.specs.Answers.{stopped}
 use Rattle.inliner_tool.specs.Replies.{text_of}
-use Rattle.command_words.specs.Words.{NamedCheck, NamedCommand, Check, Show, Policy, Race, Inline, IsCommand}
+use Rattle.command_words.specs.Words.{NamedCheck, NamedCommand, Check, Show, Policy, Race, Inline, Replay, IsCommand}
 
 -- ---- the headline
 
@@ -47,6 +48,7 @@ CarriesOut old new count (Show named) answer = Ends (ReadsShow old count named) 
 CarriesOut old new count (Policy named) answer = Ends (ReadsPolicy old count named) policy_answer answer × (new ≡ old)
 CarriesOut old new count (Race named) answer = Ends (ReadsRace old count named) race_answer answer × (new ≡ old)
 CarriesOut old new count (Inline named) answer = Inlines old new count named answer
+CarriesOut old new count (Replay named) answer = Replays old count named answer × (new ≡ old)
 
 -- It is such an answer, or memory ran out.
 abbrev pub IsAnswer : (Answer → Type 0) → Answer → Type 0
@@ -76,6 +78,8 @@ status_of answers.RaceFree = statuses.Done
 status_of (answers.Racy condition example) = statuses.Denied
 status_of (answers.CellLimit first second count) = statuses.Denied
 status_of (answers.Inlined accepted classes) = statuses.Done
+status_of (answers.Replayed text) = statuses.Done
+status_of (answers.NotEnabled index) = statuses.Denied
 status_of (answers.Input name fault) = statuses.Input
 status_of (answers.TotalLong len) = statuses.Input
 status_of (answers.Link fault) = statuses.Input

@@ -1,12 +1,9 @@
 -- What is woven of inputs, judged, and then written; or the first thing for which nothing is written.
-use Rattle.std.specs.Prelude.{◌≡◌, ◌⊎◌, ℕ, ◌&&◌, nat_lt, Bool, true, false, List, length, if◌then◌else◌, Result, Ok, Err}
+use Rattle.std.specs.Prelude.{◌≡◌, ℕ, ◌&&◌, nat_lt, Bool, true, false, List, length, if◌then◌else◌, Result, Ok, Err}
 use Rattle.mon_store.specs.declared.outputs.Output.{Output}
 use Rattle.api_listing.specs.declared.types.Listing.{Listing}
-use Rattle.class_linking.specs.declared.fault.LinkFault.{LinkFault}
-use Rattle.class_linking.specs.declared.fault.LinkFault.TheVariants as links
 use Rattle.bytecode_model.specs.declared.program.Program.{Program}
 use Rattle.bytecode_model.specs.declared.program.Side.TheVariants.{Inlined, Original}
-use Rattle.class_linking.specs.Fault.{Linked}
 use Rattle.class_linking.specs.Linking.{linked}
 use Rattle.bytecode_model.specs.Files.{unlinked}
 use Rattle.cert_checker.specs.declared.checking.Accepted.{Accepted}
@@ -32,40 +29,19 @@ use Rattle.input_files.specs.declared.inline_inputs.InlineInputs.{InlineInputs}
 use Rattle.command_words.specs.declared.inline_words.Weaving.{Weaving}
 use Rattle.command_words.specs.declared.inline_words.Weaving.TheVariants as weavings
 use Rattle.input_files.specs.declared.named.ReadClasses.{ReadClasses as Classes}
-use Rattle.inliner_tool.specs.declared.refusal.Refusal.{Refusal}
 use Rattle.inliner_tool.specs.declared.refusal.Refusal.TheVariants as refusals
 use Rattle.inliner_tool.specs.declared.weaving.Ready.{Ready}
 use Rattle.built_form.specs.Built.{is_built_client}
 use Rattle.input_files.specs.Forms.{Gives, Then}
 use Rattle.command_words.specs.InlineWords.{NamedInline}
-use Rattle.inliner_tool.specs.Classes.{label_of}
+use Rattle.inliner_tool.specs.Programs.{Equals, Step, Types, UnlessMemory, program_of}
 use Rattle.output_files.specs.Outputs.{outputs_of}
-use Rattle.type_infer.specs.Untyped.{IsUntypedAt}
 
 -- ---- the steps
 
--- a step's value, or why nothing is written
-abbrev pub Step : Type 0 → Type 0
-Step A = Result A Refusal
-
-abbrev pub link_refusal : LinkFault → Refusal
-link_refusal links.Memory = refusals.Memory
-link_refusal fault = refusals.Link fault
-
-abbrev pub link_step : Linked Program → Step Program
-link_step (Ok program) = Ok program
-link_step (Err fault) = Err (link_refusal fault)
-
--- The class files have at most 16 MiB in all, and link as those of a compiler.
+-- the program that the class files link to, as those of a compiler
 abbrev pub original : Listing → Classes → List ℕ → Step Program
-original listing classes main =
-    if nat_lt 16777216 classes.total then Err (refusals.TotalLong classes.total) else link_step (linked classes.files listing main Original)
-
--- Types fit; or none do, and the first instruction is told up to which none fit, of the first method without types.
-abbrev pub Types : Program → Step Typing → Type 0
-Types program (Ok typing) = IsTyped program typing
-Types program (Err (refusals.Untyped label method at)) = (class : ℕ) × (label ≡ label_of program class) × IsUntypedAt program class method at
-Types program (Err other) = ⊥
+original listing classes main = program_of listing classes main Original
 
 -- the blocks let the lock go before the call
 abbrev pub lets_go : Weaving → Bool
@@ -91,10 +67,6 @@ outputs_step folder program certificate =
     else Ok (outputs_of folder program certificate)
 
 -- ---- all steps
-
--- It is what this definition gives.
-abbrev pub Equals : {A : Type 0} → Step A → Step A → Type 0
-Equals wanted result = result ≡ wanted
 
 -- What is woven is a program that is typed, and that is accepted with the certificate that is made of its types.
 pub record IsRemade (main : List ℕ) (client : Program) (policy : Policy) (made : Woven) (program : Program) (certificate : Certificate) (accepted : Accepted) : Type 0 where
@@ -127,11 +99,6 @@ Typed named policy client = Then (Types client) (λ typing. Denying named policy
 -- The inputs link. These are all steps, each after the one above it: the first that fails is the answer.
 abbrev pub Plans : NamedInline → InlineInputs → Step Ready → Type 0
 Plans named inputs = Then (Equals (original inputs.listing inputs.classes named.main)) (Typed named inputs.policy)
-
--- It is so, or memory ran out.
-abbrev pub UnlessMemory : {A : Type 0} → (Step A → Type 0) → Step A → Type 0
-UnlessMemory Says (Ok value) = Says (Ok value)
-UnlessMemory Says (Err refusal) = Says (Err refusal) ⊎ (refusal ≡ refusals.Memory)
 
 -- The outputs of an accepted program, or that its certificate is too long; or memory ran out.
 abbrev pub Accepts : List ℕ → Policy → Program → Certificate → Step Ready → Type 0

@@ -1,8 +1,9 @@
 //! What is answered to a command.
 
 ghost use Rattle.std.specs.Prelude.{◌≡◌};
-ghost use Rattle.inliner_tool.specs.Answers.{stopped};
+ghost use Rattle.inliner_tool.specs.Answers.{refused, stopped};
 
+use crate::refusal::Refusal;
 use cert_checker::{Accepted, CheckFault};
 use class_linking::LinkFault;
 use conspec_automaton::Verdict;
@@ -39,6 +40,12 @@ pub enum Answer {
     Inlined {
         accepted: Accepted,
         classes: u64,
+    },
+    /// The events of a run and its end, as they are printed.
+    Replayed(Bytes),
+    /// The step of a run that has this index is the first that is not enabled in its place.
+    NotEnabled {
+        index: u64,
     },
     /// The first file that is not what it is named for, and why.
     Input(Bytes, InputFault),
@@ -85,5 +92,31 @@ pub fn stopped(stop: Stop) -> Answer
         Stop::Input(name, fault) => Answer::Input(name, fault),
         Stop::Unread(name) => Answer::Unread(name),
         Stop::Memory => Answer::Memory,
+    }
+}
+
+/// The answer where a command ended before its work was done.
+pub fn refused(refusal: Refusal) -> Answer
+    ensures { result ≡ refused refusal }
+{
+    match refusal {
+        Refusal::TotalLong { len } => Answer::TotalLong { len },
+        Refusal::Link(fault) => Answer::Link(fault),
+        Refusal::Untyped { class, method, at } => Answer::Untyped { class, method, at },
+        Refusal::NotBuilt => Answer::NotBuilt,
+        Refusal::Overflow {
+            class,
+            method,
+            what,
+            value,
+        } => Answer::Overflow {
+            class,
+            method,
+            what,
+            value,
+        },
+        Refusal::LongCertificate { value } => Answer::LongCertificate { value },
+        Refusal::NotEnabled { index } => Answer::NotEnabled { index },
+        Refusal::Memory => Answer::Memory,
     }
 }

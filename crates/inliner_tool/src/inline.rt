@@ -2,15 +2,14 @@
 
 ghost use Rattle.std.specs.Prelude.{◌≡◌, ◌≤◌};
 ghost use Rattle.input_files.specs.Forms.{since};
-ghost use Rattle.inliner_tool.specs.Inline.{Begins, IsInlined, Outputs, refused};
+ghost use Rattle.inliner_tool.specs.Inline.{Begins, IsInlined, Outputs};
 ghost use Rattle.input_files.specs.InlineInputs.{InlineSound};
 ghost use Rattle.command_words.specs.InlineWords.{inline_named};
 ghost use Rattle.inliner_tool.specs.Answers.{EndsWell};
 ghost use Rattle.inliner_tool.specs.Tool.{CarriesOut, IsAnswer};
 ghost use Rattle.command_words.specs.Words.{Inline};
 
-use crate::answer::{Answer, stopped};
-use crate::refusal::Refusal;
+use crate::answer::{Answer, refused, stopped};
 use crate::weaving::{Ready, plan};
 use command_words::InlineWords;
 use input_files::read_inline;
@@ -51,30 +50,5 @@ fn write_out<S: Store>(alloc: Global, ready: Ready, store: &mut S) -> Answer
         },
         Err(WriteFault::Failed(name)) => Answer::Unwritten(name),
         Err(WriteFault::Memory) => Answer::Memory,
-    }
-}
-
-/// The answer where nothing is written.
-fn refused(refusal: Refusal) -> Answer
-    ensures { result ≡ refused refusal }
-{
-    match refusal {
-        Refusal::TotalLong { len } => Answer::TotalLong { len },
-        Refusal::Link(fault) => Answer::Link(fault),
-        Refusal::Untyped { class, method, at } => Answer::Untyped { class, method, at },
-        Refusal::NotBuilt => Answer::NotBuilt,
-        Refusal::Overflow {
-            class,
-            method,
-            what,
-            value,
-        } => Answer::Overflow {
-            class,
-            method,
-            what,
-            value,
-        },
-        Refusal::LongCertificate { value } => Answer::LongCertificate { value },
-        Refusal::Memory => Answer::Memory,
     }
 }

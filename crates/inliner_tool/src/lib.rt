@@ -11,8 +11,10 @@ mod classes;
 mod inline;
 mod numbers;
 mod policy;
+mod programs;
 mod race;
 mod refusal;
+mod replay;
 mod replies;
 mod show;
 mod tool;
@@ -20,7 +22,5 @@ mod weaving;
 
 pub use answer::Answer;
 pub use race::race_decides;
+pub use replay::replay_decides;
 pub use tool::{Status, run_tool};
-
-#[cfg(test)]
-mod tests;

@@ -20,6 +20,7 @@ ghost use Rattle.inliner_tool.specs.Numbers.{
   record_report,
   size_name,
   size_report,
+  step_report,
   total_report,
   unbuilt_report,
   untyped_report,
@@ -291,6 +292,13 @@ pub fn cells_report(alloc: Global, first: u32, second: u32, count: u64) -> Resul
     let first = Field::Count(u64::from(first));
     let second = Field::Count(u64::from(second));
     Report::new(alloc, 222, [first, second, Field::Count(count)])
+}
+
+/// The first step of a run that is not enabled.
+pub fn step_report(alloc: Global, index: u64) -> Result<Report, NoMemory>
+    ensures { IfOk result (λ r. r ≡ step_report index) }
+{
+    Report::new(alloc, 301, [Field::Count(index)])
 }
 
 // ---- sizes

@@ -1,4 +1,4 @@
-//! Why nothing is written of what was to be woven.
+//! Why a command ends before its work is done.
 
 ghost use Rattle.std.specs.Prelude.{◌≡◌};
 ghost use Rattle.inliner_tool.specs.declared.refusal.Refusal.TheVariants as refusals;
@@ -7,7 +7,7 @@ use class_linking::LinkFault;
 use mon_base::{Bytes, NoMemory};
 use offset_patch::Size;
 
-/// Why nothing is written of what was to be woven.
+/// Why nothing is written of what was to be woven, or nothing told of a run.
 #[derive(Debug, Drop, PartialEq, Eq)]
 pub enum Refusal {
     /// The class files have so many bytes in all, which is too many.
@@ -34,6 +34,10 @@ pub enum Refusal {
     /// The certificate would have so many bytes.
     LongCertificate {
         value: u64,
+    },
+    /// The step of a run that has this index is not enabled in its place.
+    NotEnabled {
+        index: u64,
     },
     /// Memory ran out.
     Memory,

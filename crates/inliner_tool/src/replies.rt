@@ -9,7 +9,7 @@ ghost use Rattle.inliner_tool.specs.Replies.{input, mode_name, reply_of, text_of
 use crate::answer::Answer;
 use crate::numbers::{
     cells_report, check_report, event_report, input_report, length_report, link_report,
-    race_report, size_report, total_report, unbuilt_report, untyped_report,
+    race_report, size_report, step_report, total_report, unbuilt_report, untyped_report,
 };
 use answer_text::{Line, Reply, Report};
 use cert_checker::Accepted;
@@ -43,6 +43,8 @@ fn reply_of(alloc: Global, answer: Answer) -> Result<Reply, NoMemory>
             count,
         } => Ok(denied(cells_report(alloc, first, second, count)?)),
         Answer::Inlined { accepted, classes } => inlined_reply(alloc, accepted, classes),
+        Answer::Replayed(text) => Ok(Reply::Text(text)),
+        Answer::NotEnabled { index } => Ok(denied(step_report(alloc, index)?)),
         Answer::Input(name, fault) => Ok(input(Some(name), input_report(alloc, fault)?)),
         Answer::TotalLong { len } => Ok(input(None, total_report(alloc, len)?)),
         Answer::Link(fault) => Ok(input(None, link_report(alloc, fault)?)),

@@ -16,6 +16,7 @@ use crate::check::answer_check;
 use crate::inline::answer_inline;
 use crate::policy::answer_policy;
 use crate::race::answer_race;
+use crate::replay::answer_replay;
 use crate::replies::text_of;
 use crate::show::answer_show;
 use command_words::{Command, command_of};
@@ -67,7 +68,8 @@ impl Status {
 /// `show LISTING CLASS..` gives the text of class files; `policy POLICY LISTING RECORD` says of the events of a run whether
 /// they obey the policy; `race POLICY LISTING` says of a policy whether its events race;
 /// `inline POLICY LISTING MAIN OUTDIR MODE CLASS..` weaves blocks into the classes, checks the program that they make with
-/// its certificate, and writes all of it.
+/// its certificate, and writes all of it; `replay LISTING MAIN RECORD CLASS..` links and types the classes, makes the steps of
+/// a recorded run, and gives the events that the library sees and the end.
 ///
 /// Other commands change no file. One output is put into the sink, which says the answer.
 pub fn run_tool<S: Store, K: Sink>(
@@ -135,6 +137,7 @@ fn answer_to<S: Store>(alloc: Global, words: &[Bytes], store: &mut S) -> Answer
         Some(Command::Policy(words)) => answer_policy(alloc, &words, store),
         Some(Command::Race(words)) => answer_race(alloc, &words, store),
         Some(Command::Inline(words)) => answer_inline(alloc, &words, store),
+        Some(Command::Replay(words)) => answer_replay(alloc, &words, store),
         None => Answer::Usage,
     }
 }
@@ -152,6 +155,8 @@ fn status_of(answer: &Answer) -> Status
         Answer::Racy { .. } => Status::Denied,
         Answer::CellLimit { .. } => Status::Denied,
         Answer::Inlined { .. } => Status::Done,
+        Answer::Replayed(_) => Status::Done,
+        Answer::NotEnabled { .. } => Status::Denied,
         Answer::Input(_, _) => Status::Input,
         Answer::TotalLong { .. } => Status::Input,
         Answer::Link(_) => Status::Input,

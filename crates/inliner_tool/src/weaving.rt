@@ -12,20 +12,15 @@ ghost use Rattle.conspec_automaton.specs.Denying.{DeniesOnly};
 ghost use Rattle.input_files.specs.InlineInputs.{InlineSound};
 ghost use Rattle.command_words.specs.InlineWords.{inline_named};
 ghost use Rattle.input_files.specs.Named.{IsListed};
+ghost use Rattle.inliner_tool.specs.Programs.{Equals, UnlessMemory};
 ghost use Rattle.inliner_tool.specs.Weaving.{
   Accepts,
-  Equals,
   IsPlanned,
   IsRewoven,
   Plans,
   Remakes,
-  Types,
-  UnlessMemory,
   denying,
   lets_go,
-  link_refusal,
-  link_step,
-  original,
   outputs_step,
   weave_step,
 };
@@ -39,30 +34,25 @@ ghost use Rattle.type_infer.specs.Untyped.{IsLeast};
 ghost use Rattle.bytecode_model.specs.Order.{IsInOrder};
 ghost use Rattle.block_template.specs.Woven.{woven};
 
-use crate::classes::{TOTAL_LIMIT, label_of};
+use crate::programs::{linked, program_of, types_of};
 use crate::refusal::Refusal;
-use api_listing::Listing;
 use block_template::Woven;
 use built_form::is_built_client;
 use bytecode_model::{Program, Side};
 use cert_checker::{Accepted, check};
-use cert_format::{CertLong, Certificate, Typing};
+use cert_format::{CertLong, Certificate};
 use cert_maker::{make, policy_tells_arguments, woven_is_accepted, woven_is_typed};
-use class_codec::ClassFile;
-use class_linking::{
-    LinkFault, link, linked_is_in_order, linked_operands_are_right, linked_programs_are_named,
-};
+use class_linking::{linked_is_in_order, linked_operands_are_right, linked_programs_are_named};
 use command_words::{InlineWords, Weaving};
 use conspec_automaton::{Policy, build, denies_only};
 use conspec_parse::kinds_are_told;
 use conspec_tree::PolicyTree;
 use inline_release::{inline, original_is_free, woven_files_link};
-use input_files::{InlineInputs, ReadClasses};
+use input_files::InlineInputs;
 use mon_base::{Bytes, List};
 use mon_store::Output;
 use offset_patch::SpliceFault;
 use std::alloc::Global;
-use type_infer::{InferFault, infer};
 use type_lattice::Indexed;
 
 /// What is to be written, and what is said of it.
@@ -87,7 +77,7 @@ pub fn plan(alloc: Global, inputs: InlineInputs, words: &InlineWords) -> Result<
         policy,
         classes,
     } = inputs;
-    let client = original(alloc, listing, classes, words.main)?;
+    let client = program_of(alloc, listing, classes, words.main, Side::Original)?;
     types_of(alloc, &client)?;
     let policy = denying(alloc, words.weaving, &policy, &client)?;
     let made = woven(alloc, &client, &policy)?;
@@ -108,79 +98,6 @@ pub fn plan(alloc: Global, inputs: InlineInputs, words: &InlineWords) -> Result<
         &policy,
         made,
     )
-}
-
-/// The program that the inputs link to.
-fn original(
-    alloc: Global,
-    listing: Listing,
-    classes: ReadClasses,
-    main: &Bytes,
-) -> Result<Indexed, Refusal>
-    requires few { IsFew listing }
-    requires listed { IsListed listing }
-    requires fits { AllByRecursion CanSpell classes.files }
-    ensures is { UnlessMemory (Equals (original listing classes main.now)) result }
-    ensures listing { IfOk result (λ program. program.listing ≡ listing) }
-    ensures back { IfOk result (λ program. unlinked program ≡ classes.files) }
-    ensures sound { IfOk result IsSound }
-    ensures order { IfOk result IsInOrder }
-{
-    let total = classes.total;
-    if total > TOTAL_LIMIT {
-        return Err(Refusal::TotalLong { len: total });
-    }
-    linked(alloc, classes.files, listing, main, Side::Original)
-}
-
-/// The program that the files link to, with an index of its classes.
-fn linked(
-    alloc: Global,
-    files: List<ClassFile>,
-    listing: Listing,
-    main: &Bytes,
-    side: Side,
-) -> Result<Indexed, Refusal>
-    requires few { IsFew listing }
-    requires listed { IsListed listing }
-    requires fits { AllByRecursion CanSpell files }
-    ensures is { UnlessMemory (Equals (link_step (linked files listing main.now side))) result }
-    ensures back { IfOk result (λ program. unlinked program ≡ files) }
-    ensures listing { IfOk result (λ program. program.listing ≡ listing) }
-    ensures sound { IfOk result IsSound }
-    ensures order { IfOk result IsInOrder }
-{
-    match link(alloc, files, listing, main, side) {
-        Ok(program) => Ok(Indexed::new(alloc, program)?),
-        Err(fault) => Err(link_refusal(fault)),
-    }
-}
-
-fn link_refusal(fault: LinkFault) -> Refusal
-    ensures { result ≡ link_refusal fault }
-{
-    match fault {
-        LinkFault::Memory => Refusal::Memory,
-        fault => Refusal::Link(fault),
-    }
-}
-
-/// The types of a program.
-fn types_of(alloc: Global, program: &Indexed) -> Result<Typing, Refusal>
-    requires sound { IsSound program.now }
-    requires order { IsInOrder program.now }
-    ensures is { UnlessMemory (Types program.now) result }
-    ensures shaped { IfOk result (λ typing. IsShaped program.now typing.frames) }
-    ensures least { IfOk result (λ typing. IsLeast program.now typing) }
-{
-    match infer(alloc, program) {
-        Ok(typing) => Ok(typing),
-        Err(InferFault::Untyped { class, method, at }) => {
-            let class = label_of(alloc, program.program(), class)?;
-            Err(Refusal::Untyped { class, method, at })
-        }
-        Err(InferFault::Memory) => Err(Refusal::Memory),
-    }
 }
 
 /// The policy, where what is asked for is of the form that is built so far.

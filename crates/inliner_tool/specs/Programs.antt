@@ -1,0 +1,52 @@
+-- The program that class files link to, and its types; or the first thing for which a command ends there.
+use Rattle.std.specs.Prelude.{◌≡◌, ◌⊎◌, ℕ, nat_lt, List, if◌then◌else◌, Result, Ok, Err}
+use Rattle.api_listing.specs.declared.types.Listing.{Listing}
+use Rattle.bytecode_model.specs.declared.program.Program.{Program}
+use Rattle.bytecode_model.specs.declared.program.Side.{Side}
+use Rattle.bytecode_model.specs.Typed.{IsTyped}
+use Rattle.cert_format.specs.declared.typing.Typing.{Typing}
+use Rattle.class_linking.specs.declared.fault.LinkFault.{LinkFault}
+use Rattle.class_linking.specs.declared.fault.LinkFault.TheVariants as links
+use Rattle.class_linking.specs.Fault.{Linked}
+use Rattle.class_linking.specs.Linking.{linked}
+use Rattle.input_files.specs.declared.named.ReadClasses.{ReadClasses as Classes}
+use Rattle.inliner_tool.specs.declared.refusal.Refusal.{Refusal}
+use Rattle.inliner_tool.specs.declared.refusal.Refusal.TheVariants as refusals
+use Rattle.inliner_tool.specs.Classes.{label_of}
+use Rattle.type_infer.specs.Untyped.{IsUntypedAt}
+
+-- ---- steps
+
+-- a step's value, or why the command ends there
+abbrev pub Step : Type 0 → Type 0
+Step A = Result A Refusal
+
+-- It is what this definition gives.
+abbrev pub Equals : {A : Type 0} → Step A → Step A → Type 0
+Equals wanted result = result ≡ wanted
+
+-- It is so, or memory ran out.
+abbrev pub UnlessMemory : {A : Type 0} → (Step A → Type 0) → Step A → Type 0
+UnlessMemory Says (Ok value) = Says (Ok value)
+UnlessMemory Says (Err refusal) = Says (Err refusal) ⊎ (refusal ≡ refusals.Memory)
+
+-- ---- programs
+
+abbrev pub link_refusal : LinkFault → Refusal
+link_refusal links.Memory = refusals.Memory
+link_refusal fault = refusals.Link fault
+
+abbrev pub link_step : Linked Program → Step Program
+link_step (Ok program) = Ok program
+link_step (Err fault) = Err (link_refusal fault)
+
+-- The class files have at most 16 MiB in all, and link on this side.
+abbrev pub program_of : Listing → Classes → List ℕ → Side → Step Program
+program_of listing classes main side =
+    if nat_lt 16777216 classes.total then Err (refusals.TotalLong classes.total) else link_step (linked classes.files listing main side)
+
+-- Types fit; or none do, and the first instruction is told up to which none fit, of the first method without types.
+abbrev pub Types : Program → Step Typing → Type 0
+Types program (Ok typing) = IsTyped program typing
+Types program (Err (refusals.Untyped label method at)) = (class : ℕ) × (label ≡ label_of program class) × IsUntypedAt program class method at
+Types program (Err other) = ⊥

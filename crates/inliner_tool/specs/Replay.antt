@@ -1,0 +1,68 @@
+-- What the command `replay` tells of a recorded run.
+use Rattle.std.specs.Prelude.{◌≡◌, ◌⊎◌, ℕ, List, length, Option, Some, None, Result, Ok, Err}
+use Rattle.mon_store.specs.Store.{Files}
+use Rattle.bytecode_model.specs.declared.program.Program.{Program}
+use Rattle.bytecode_model.specs.declared.program.Side.TheVariants.{Inlined}
+use Rattle.command_words.specs.ReplayWords.{NamedReplay}
+use Rattle.event_record.specs.declared.writing.EndLine.{EndLine}
+use Rattle.event_record.specs.declared.writing.EndLine.TheVariants as lines
+use Rattle.event_record.specs.Writing.{events_text}
+use Rattle.guest_model.specs.declared.machine.End.{End}
+use Rattle.guest_model.specs.declared.machine.End.TheVariants as ends
+use Rattle.guest_model.specs.declared.machine.Step.{Step as GuestStep}
+use Rattle.guest_step.specs.declared.replaying.Replayed.{Replayed}
+use Rattle.guest_step.specs.declared.replaying.ReplayFault.{ReplayFault}
+use Rattle.guest_step.specs.declared.replaying.ReplayFault.TheVariants as faults
+use Rattle.guest_step.specs.Ending.{end_of}
+use Rattle.guest_step.specs.Replaying.{replayed}
+use Rattle.input_files.specs.declared.files.Stop.{Stop}
+use Rattle.input_files.specs.declared.replay_inputs.ReplayInputs.{ReplayInputs}
+use Rattle.input_files.specs.Forms.{Count, Then}
+use Rattle.input_files.specs.ReplayInputs.{ReadsReplay}
+use Rattle.inliner_tool.specs.declared.answer.Answer.{Answer}
+use Rattle.inliner_tool.specs.declared.answer.Answer.TheVariants as answers
+use Rattle.inliner_tool.specs.declared.refusal.Refusal.TheVariants as refusals
+use Rattle.inliner_tool.specs.Answers.{refused, stopped}
+use Rattle.inliner_tool.specs.Programs.{Equals, Step, Types, program_of}
+
+-- ---- a run
+
+-- how a record tells the end, or that there was none
+abbrev pub end_told : Option End → EndLine
+end_told None = lines.Running
+end_told (Some ends.Finished) = lines.Finished
+end_told (Some ends.Deadlock) = lines.Deadlock
+end_told (Some (ends.Stopped value)) = lines.Stopped value
+
+-- the lines of the events of a run of so many steps, and its end line
+abbrev pub run_text : Program → ℕ → Replayed → List ℕ
+run_text program count run = events_text program.listing run.events (end_told (end_of program run.machine)) count
+
+abbrev pub run_told : Program → ℕ → Result Replayed ReplayFault → Step (List ℕ)
+run_told program count (Ok run) = Ok (run_text program count run)
+run_told program count (Err (faults.NotEnabled index)) = Err (refusals.NotEnabled index)
+run_told program count (Err faults.Memory) = Err refusals.Memory
+
+-- what is told of the run that these steps are
+abbrev pub steps_told : Program → List GuestStep → Step (List ℕ)
+steps_told program steps = run_told program (length steps) (replayed program steps)
+
+-- ---- the answer
+
+-- The class files link, as those that were woven, to a program; it is typed; and its run is told. These are all steps, each
+-- after the one above it: the first that fails is the answer.
+abbrev pub Tells : List ℕ → ReplayInputs → Step (List ℕ) → Type 0
+Tells main inputs =
+    Then (Equals (program_of inputs.listing inputs.classes main Inlined)) (λ program.
+    Then (Types program) (λ typing.
+    Equals (steps_told program inputs.recorded.steps)))
+
+abbrev pub replay_answer : Step (List ℕ) → Answer
+replay_answer (Ok text) = answers.Replayed text
+replay_answer (Err refusal) = refused refusal
+
+-- The files are read, and this is told of what they are; or the reading of them stops, and this says where.
+abbrev pub Replays : Files → Count → NamedReplay → Answer → Type 0
+Replays files count named answer =
+    ((stop : Stop) × ReadsReplay files count named (Err stop) × (answer ≡ stopped stop))
+    ⊎ ((inputs : ReplayInputs) × ReadsReplay files count named (Ok inputs) × (told : Step (List ℕ)) × Tells named.main inputs told × (answer ≡ replay_answer told))

@@ -1,0 +1,105 @@
+//! The program that class files link to, and its types.
+
+ghost use Rattle.std.specs.Prelude.{◌≡◌, IfOk};
+ghost use Rattle.std.specs.List.{AllByRecursion};
+ghost use Rattle.api_listing.specs.Listing.{IsFew};
+ghost use Rattle.bytecode_model.specs.Files.{unlinked};
+ghost use Rattle.bytecode_model.specs.Order.{IsInOrder};
+ghost use Rattle.bytecode_model.specs.Shape.{IsShaped};
+ghost use Rattle.bytecode_model.specs.Sound.{IsSound};
+ghost use Rattle.bytecode_model.specs.Standing.{IsLinkedOf};
+ghost use Rattle.class_codec.specs.Fits.{CanSpell};
+ghost use Rattle.class_linking.specs.Linking.{linked};
+ghost use Rattle.input_files.specs.Named.{IsListed};
+ghost use Rattle.inliner_tool.specs.Programs.{Equals, Types, UnlessMemory, link_refusal, link_step, program_of};
+ghost use Rattle.type_infer.specs.Untyped.{IsLeast};
+
+use crate::classes::{TOTAL_LIMIT, label_of};
+use crate::refusal::Refusal;
+use api_listing::Listing;
+use bytecode_model::Side;
+use cert_format::Typing;
+use class_codec::ClassFile;
+use class_linking::{LinkFault, link};
+use input_files::ReadClasses;
+use mon_base::{Bytes, List};
+use std::alloc::Global;
+use type_infer::{InferFault, infer};
+use type_lattice::Indexed;
+
+/// The program that class files link to, with an index of its classes, where they are not too long in all.
+pub fn program_of(
+    alloc: Global,
+    listing: Listing,
+    classes: ReadClasses,
+    main: &Bytes,
+    side: Side,
+) -> Result<Indexed, Refusal>
+    requires few { IsFew listing }
+    requires listed { IsListed listing }
+    requires fits { AllByRecursion CanSpell classes.files }
+    ensures is { UnlessMemory (Equals (program_of listing classes main.now side)) result }
+    ensures listing { IfOk result (λ program. program.listing ≡ listing) }
+    ensures back { IfOk result (λ program. unlinked program ≡ classes.files) }
+    ensures sound { IfOk result IsSound }
+    ensures order { IfOk result IsInOrder }
+    ensures links { IfOk result (IsLinkedOf side listing main.now) }
+{
+    let total = classes.total;
+    if total > TOTAL_LIMIT {
+        return Err(Refusal::TotalLong { len: total });
+    }
+    linked(alloc, classes.files, listing, main, side)
+}
+
+/// The program that the files link to, with an index of its classes.
+pub fn linked(
+    alloc: Global,
+    files: List<ClassFile>,
+    listing: Listing,
+    main: &Bytes,
+    side: Side,
+) -> Result<Indexed, Refusal>
+    requires few { IsFew listing }
+    requires listed { IsListed listing }
+    requires fits { AllByRecursion CanSpell files }
+    ensures is { UnlessMemory (Equals (link_step (linked files listing main.now side))) result }
+    ensures back { IfOk result (λ program. unlinked program ≡ files) }
+    ensures listing { IfOk result (λ program. program.listing ≡ listing) }
+    ensures sound { IfOk result IsSound }
+    ensures order { IfOk result IsInOrder }
+    ensures links { IfOk result (IsLinkedOf side listing main.now) }
+{
+    match link(alloc, files, listing, main, side) {
+        Ok(program) => Ok(Indexed::new(alloc, program)?),
+        Err(fault) => Err(link_refusal(fault)),
+    }
+}
+
+/// Why files do not link.
+fn link_refusal(fault: LinkFault) -> Refusal
+    ensures { result ≡ link_refusal fault }
+{
+    match fault {
+        LinkFault::Memory => Refusal::Memory,
+        fault => Refusal::Link(fault),
+    }
+}
+
+/// The types of a program.
+pub fn types_of(alloc: Global, program: &Indexed) -> Result<Typing, Refusal>
+    requires sound { IsSound program.now }
+    requires order { IsInOrder program.now }
+    ensures is { UnlessMemory (Types program.now) result }
+    ensures shaped { IfOk result (λ typing. IsShaped program.now typing.frames) }
+    ensures least { IfOk result (λ typing. IsLeast program.now typing) }
+{
+    match infer(alloc, program) {
+        Ok(typing) => Ok(typing),
+        Err(InferFault::Untyped { class, method, at }) => {
+            let class = label_of(alloc, program.program(), class)?;
+            Err(Refusal::Untyped { class, method, at })
+        }
+        Err(InferFault::Memory) => Err(Refusal::Memory),
+    }
+}

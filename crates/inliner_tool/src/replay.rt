@@ -1,0 +1,104 @@
+//! The command `replay`: its inputs, and what is told of the run.
+
+ghost use Rattle.std.specs.Prelude.{◌≡◌, ◌≤◌, IfOk};
+ghost use Rattle.command_words.specs.ReplayWords.{replay_named};
+ghost use Rattle.command_words.specs.Words.{Replay};
+ghost use Rattle.guest_step.specs.Ready.{IsReady};
+ghost use Rattle.inliner_tool.specs.Programs.{Equals, UnlessMemory};
+ghost use Rattle.inliner_tool.specs.Replay.{Tells, end_told, run_text, steps_told};
+ghost use Rattle.inliner_tool.specs.ReplayDecision.{ReplayDecides};
+ghost use Rattle.inliner_tool.specs.Tool.{CarriesOut, IsAnswer};
+ghost use Rattle.input_files.specs.Forms.{since};
+ghost use Rattle.input_files.specs.ReplayInputs.{ReplaySound};
+
+use crate::answer::{Answer, refused, stopped};
+use crate::programs::{program_of, types_of};
+use crate::refusal::Refusal;
+use bytecode_model::Side;
+use command_words::ReplayWords;
+use event_record::{EndLine, events_text};
+use guest_model::{End, Step};
+use guest_step::{Guest, ReplayFault, Replayed, ended, replay};
+use input_files::{ReplayInputs, read_replay};
+use mon_base::{Bytes, NoMemory};
+use mon_store::Store;
+use std::alloc::Global;
+use type_lattice::Indexed;
+
+/// The answer to `replay`.
+pub fn answer_replay<S: Store>(alloc: Global, words: &ReplayWords, store: &mut S) -> Answer
+    ensures says { IsAnswer (λ answer. CarriesOut (S.files store.old) (S.files store.new)
+        (since (S.faults store.old) (S.faults store.new) (S.last store.new)) (Replay (replay_named words.now)) answer) result }
+    ensures files { S.files store.new ≡ S.files store.old }
+    ensures faults { S.faults store.old ≤ S.faults store.new }
+{
+    match read_replay(alloc, store, words) {
+        Ok(inputs) => {
+            match told(alloc, inputs, words.main) {
+                Ok(text) => Answer::Replayed(text),
+                Err(refusal) => refused(refusal),
+            }
+        }
+        Err(stop) => stopped(stop),
+    }
+}
+
+/// Links and types the class files, makes the steps of the record, and tells the run.
+fn told(alloc: Global, inputs: ReplayInputs, main: &Bytes) -> Result<Bytes, Refusal>
+    requires { ReplaySound inputs }
+    ensures { UnlessMemory (Tells main.now inputs) result }
+{
+    let ReplayInputs {
+        listing,
+        recorded,
+        classes,
+    } = inputs;
+    let program = program_of(alloc, listing, classes, main, Side::Inlined)?;
+    types_of(alloc, &program)?;
+    steps_told(alloc, program, recorded.steps.as_slice())
+}
+
+/// What is told of the run that these steps are.
+fn steps_told(alloc: Global, program: Indexed, steps: &[Step]) -> Result<Bytes, Refusal>
+    requires { IsReady program }
+    ensures { UnlessMemory (Equals (steps_told program steps.now)) result }
+{
+    let guest = Guest::new(alloc, program)?;
+    match replay(alloc, &guest, steps) {
+        Ok(run) => Ok(run_text(alloc, &guest, steps.len() as u64, &run)?),
+        Err(ReplayFault::NotEnabled { index }) => Err(Refusal::NotEnabled { index }),
+        Err(ReplayFault::Memory) => Err(Refusal::Memory),
+    }
+}
+
+/// The lines of the events of a run of so many steps, and its end line.
+fn run_text(alloc: Global, guest: &Guest, count: u64, run: &Replayed) -> Result<Bytes, NoMemory>
+    ensures { IfOk result (λ text. text ≡ run_text guest.now count run.now) }
+{
+    let end = end_told(ended(alloc, guest, &run.machine)?);
+    events_text(
+        alloc,
+        &guest.program().listing,
+        run.events.as_slice(),
+        end,
+        count,
+    )
+}
+
+/// How a record tells the end, or that there was none.
+fn end_told(end: Option<End>) -> EndLine
+    ensures { result ≡ end_told end }
+{
+    match end {
+        None => EndLine::Running,
+        Some(End::Finished) => EndLine::Finished,
+        Some(End::Deadlock) => EndLine::Deadlock,
+        Some(End::Stopped(value)) => EndLine::Stopped(value),
+    }
+}
+
+/// To files in their grammars and limits that link to a program with types, where the store tells them and counts no fault,
+/// `replay` tells the run, or the first step that is not enabled, or that memory ran out: its status is 0, 1 or 7.
+pub fn replay_decides()
+    ensures { ReplayDecides }
+{}
