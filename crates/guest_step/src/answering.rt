@@ -49,7 +49,8 @@ fn finish(
     method: u32,
     value: Option<Value>,
 ) -> Result<Option<Event>, StepFault>
-    ensures { ActsIn result machine.now machine.now thread.old thread.new (returned_by guest.now number thread.old method (world_of machine.now, value)) }
+    ensures { ActsIn result machine.now machine.now thread.old thread.new
+        (returned_by guest.now number thread.old method (world_of machine.now, value)) }
 {
     let shown = shown_if_any(alloc, guest, &machine.heap, value)?;
     resume(alloc, guest, thread, value)?;
@@ -86,7 +87,8 @@ fn finish_with(
     object: Object,
 ) -> Result<Option<Event>, StepFault>
     ensures { ActsIn result machine.old machine.new thread.old thread.new
-        (returned_by guest.now number thread.old method (with_object (world_of machine.old) object, Some (values.Ref (length machine.old.heap)))) }
+        (returned_by guest.now number thread.old method
+        (with_object (world_of machine.old) object, Some (values.Ref (length machine.old.heap)))) }
 {
     if machine.heap.len() >= u32::MAX as usize {
         return Err(StepFault::Memory);
@@ -110,7 +112,8 @@ fn throw_in_call(
     method: u32,
     class: &[u8],
 ) -> Result<Option<Event>, StepFault>
-    ensures { ActsIn result machine.old machine.new thread.old thread.new (thrown_by_library guest.now (world_of machine.old) number thread.old method class.now) }
+    ensures { ActsIn result machine.old machine.new thread.old thread.new
+        (thrown_by_library guest.now (world_of machine.old) number thread.old method class.now) }
 {
     let event = Event::Except {
         thread: number,

@@ -5,7 +5,26 @@ ghost use Rattle.std.specs.Option.{option_or};
 ghost use Rattle.guest_heap.specs.declared.thread.Thread.{Thread};
 ghost use Rattle.guest_heap.specs.declared.value.Value.{Value};
 ghost use Rattle.guest_machine.specs.Builtins.{builtin_at, characters, continues};
-ghost use Rattle.guest_machine.specs.Calling.{Calling, aimed_at, aims, begun_thread, built_in, exits, has_ended, is_ended, joins, on_receiver, run_of, started, started_as, starts, target_of, thread_in, thread_of_value, with_changed};
+ghost use Rattle.guest_machine.specs.Calling.{
+  Calling,
+  aimed_at,
+  aims,
+  begun_thread,
+  built_in,
+  exits,
+  has_ended,
+  is_ended,
+  joins,
+  on_receiver,
+  run_of,
+  started,
+  started_as,
+  starts,
+  target_of,
+  thread_in,
+  thread_of_value,
+  with_changed,
+};
 ghost use Rattle.guest_machine.specs.Changes.{ended_thread, world_of};
 ghost use Rattle.guest_model.specs.Stepping.{number_in};
 ghost use Rattle.guest_step.specs.Acts.{ActsIn};
@@ -433,7 +452,8 @@ fn build_on_receiver(
 ) -> Result<Option<Event>, StepFault>
     ensures { ActsIn result machine.old machine.new thread.old thread.new
         (calling call.now thread.old thread.old.frames
-        (λ (c : Calling). on_receiver guest.now (world_of machine.old) c (λ (on : Value). built_on guest.now machine.old c how on builtin))) }
+        (λ (c : Calling). on_receiver guest.now (world_of machine.old) c
+        (λ (on : Value). built_on guest.now machine.old c how on builtin))) }
 {
     let Some(on) = call.receiver else {
         return Err(StepFault::NotEnabled);

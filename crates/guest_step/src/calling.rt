@@ -5,7 +5,19 @@ ghost use Rattle.std.specs.Prelude.{◌≡◌, ◌∷◌, List, Some, option_map
 ghost use Rattle.std.specs.Option.{option_to_list};
 ghost use Rattle.bytecode_model.specs.SearchOrder.{Name};
 ghost use Rattle.guest_heap.specs.declared.object.Monitor.{Monitor};
-ghost use Rattle.guest_machine.specs.Calling.{Calling, call_throws, calls, calls_given, calls_library, calls_named, enters_on, goes_past, lacked, lacking, waiting};
+ghost use Rattle.guest_machine.specs.Calling.{
+  Calling,
+  call_throws,
+  calls,
+  calls_given,
+  calls_library,
+  calls_named,
+  enters_on,
+  goes_past,
+  lacked,
+  lacking,
+  waiting,
+};
 ghost use Rattle.guest_machine.specs.Changes.{ends_thread, enters_method, lock_taken, locks_of, world_of};
 ghost use Rattle.guest_machine.specs.Finding.{method_run};
 ghost use Rattle.guest_machine.specs.Kinds.{class_of_value};
@@ -138,7 +150,8 @@ fn push_locked(
     frame: Frame,
 ) -> Result<(), StepFault>
     ensures monitors { Becomes result monitors.old monitors.new (lock_taken monitors.old number frame.lock) }
-    ensures frames { Becomes result frames.old frames.new (option_map (λ (held : List Monitor). frame ∷ frames.old) (lock_taken monitors.old number frame.lock)) }
+    ensures frames { Becomes result frames.old frames.new
+        (option_map (λ (held : List Monitor). frame ∷ frames.old) (lock_taken monitors.old number frame.lock)) }
 {
     let lock = frame.lock;
     frames.push(frame)?;
@@ -200,7 +213,8 @@ fn end_thread(
     call: &Call,
 ) -> Result<Option<Event>, StepFault>
     ensures { ActsIn result machine.old machine.new thread.old thread.new
-        (calling call.now thread.old thread.old.frames (λ (c : Calling). Some (ends_thread (world_of machine.old) c.number (c.frame ∷ c.below)))) }
+        (calling call.now thread.old thread.old.frames
+        (λ (c : Calling). Some (ends_thread (world_of machine.old) c.number (c.frame ∷ c.below)))) }
 {
     if thread.frames.top().is_none() {
         return Err(StepFault::NotEnabled);
@@ -293,7 +307,8 @@ fn call_on(
     on: Value,
 ) -> Result<Option<Event>, StepFault>
     ensures { ActsIn result machine.old machine.new thread.old thread.new
-        (calling call.now thread.old thread.old.frames (λ (c : Calling). enters_on guest.now (world_of machine.old) c how to method.now on)) }
+        (calling call.now thread.old thread.old.frames
+        (λ (c : Calling). enters_on guest.now (world_of machine.old) c how to method.now on)) }
 {
     let Some(frame) = thread.frames.top() else {
         return Err(StepFault::NotEnabled);
@@ -330,7 +345,8 @@ fn call_given(
     method: &Method,
 ) -> Result<Option<Event>, StepFault>
     ensures { ActsIn result machine.old machine.new thread.old thread.new
-        (calling call.now thread.old thread.old.frames (λ (c : Calling). calls_given guest.now (world_of machine.old) c how to method.now)) }
+        (calling call.now thread.old thread.old.frames
+        (λ (c : Calling). calls_given guest.now (world_of machine.old) c how to method.now)) }
 {
     match how {
         How::Static => {
@@ -405,7 +421,8 @@ pub fn call(
     target: &Target,
 ) -> Result<Option<Event>, StepFault>
     ensures { ActsIn result machine.old machine.new thread.old thread.new
-        (acting number thread.old thread.old.frames (λ (a : Acting). calls guest.now machine.old a.number a.thread a.frame a.below how target.now)) }
+        (acting number thread.old thread.old.frames
+        (λ (a : Acting). calls guest.now machine.old a.number a.thread a.frame a.below how target.now)) }
 {
     let Some(count) = arity_named(alloc, guest, target)? else {
         return Err(StepFault::NotEnabled);

@@ -143,7 +143,8 @@ fn heap_waits(
 
 /// Whether the monitor of what is on top is held by another thread.
 fn enter_waits(machine: &Machine, number: u32, frame: &Frame) -> bool
-    ensures { result ≡ option_map_or (λ (on : Value). not (is_null on) && is_held_by_other machine.now.monitors number on) (slice_get frame.now.stack.items 0) false }
+    ensures { result ≡ option_map_or (λ (on : Value). not (is_null on) && is_held_by_other machine.now.monitors number on)
+        (slice_get frame.now.stack.items 0) false }
 {
     match frame.stack.get(0) {
         Some(on) => !is_null(on) && is_held_by_other(machine.monitors.as_slice(), number, on),

@@ -153,7 +153,8 @@ fn is_null_or_of(
 
 /// Whether a new object of the class fits a result of this one.
 fn takes_new(alloc: Global, guest: &Guest, name: &[u8], class: &[u8]) -> Result<bool, NoMemory>
-    ensures { IfOk result (λ test. test ≡ ((is_interface guest.now name.now || is_below guest.now class.now name.now) && is_listed_class guest.now class.now)) }
+    ensures { IfOk result (λ test. test ≡
+        ((is_interface guest.now name.now || is_below guest.now class.now name.now) && is_listed_class guest.now class.now)) }
 {
     if guest.is_interface(name) || guest.is_below(class, name) {
         is_listed_class(alloc, guest, class)

@@ -1,6 +1,28 @@
 //! Frames that go on, and frames that begin.
 
-ghost use Rattle.std.specs.Prelude.{◌≡◌, ◌∷◌, [], ◌++◌, ◌+◌, ◌-◌, ◌<◌, ◌^◌, ℕ, List, Some, None, length, drop, replicate, nat_lt, not, IfOk, IfSome, OnOk, option_copied};
+ghost use Rattle.std.specs.Prelude.{
+  ◌≡◌,
+  ◌∷◌,
+  [],
+  ◌++◌,
+  ◌+◌,
+  ◌-◌,
+  ◌<◌,
+  ◌^◌,
+  ℕ,
+  List,
+  Some,
+  None,
+  length,
+  drop,
+  replicate,
+  nat_lt,
+  not,
+  IfOk,
+  IfSome,
+  OnOk,
+  option_copied,
+};
 ghost use Rattle.std.specs.Option.{option_to_list};
 ghost use Rattle.guest_heap.specs.declared.value.Value.TheVariants as values;
 ghost use Rattle.bytecode_model.specs.Heads.{is_synchronized};

@@ -93,7 +93,8 @@ fn push_own(out: &mut Vec<Value>, file: &ClassFile) -> Result<(), NoMemory>
 
 /// Appends what the field holds at first, if it is one of each object.
 fn push_member(out: &mut Vec<Value>, file: &ClassFile, member: &Member) -> Result<(), NoMemory>
-    ensures { OnOk result (out.new.items ≡ out.old.items ++ (if is_in_objects member.now then first_value (desc_of file.now.pool member.now) ∷ [] else [])) }
+    ensures { OnOk result (out.new.items ≡ out.old.items ++
+        (if is_in_objects member.now then first_value (desc_of file.now.pool member.now) ∷ [] else [])) }
 {
     if is_in_objects(member) {
         out.push(first_value(text_at(file.pool.as_slice(), member.desc)))?;

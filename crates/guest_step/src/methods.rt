@@ -1,6 +1,22 @@
 //! The methods of the given classes by their names and descriptors, of which the first counts. The maps are made once.
 
-ghost use Rattle.std.specs.Prelude.{◌≡◌, ◌<◌, ◌^◌, ◌&&◌, ℕ, List, Some, None, bytes_eq, if◌then◌else◌, length, option_copied, slice_get, IfOk, OnOk};
+ghost use Rattle.std.specs.Prelude.{
+  ◌≡◌,
+  ◌<◌,
+  ◌^◌,
+  ◌&&◌,
+  ℕ,
+  List,
+  Some,
+  None,
+  bytes_eq,
+  if◌then◌else◌,
+  length,
+  option_copied,
+  slice_get,
+  IfOk,
+  OnOk,
+};
 ghost use Rattle.std.specs.Option.{option_or};
 ghost use Rattle.guest_step.specs.Methods.{named, method_in, HasMethods, AreMethods};
 ghost use Rattle.guest_step.specs.Ready.{IsReady};

@@ -37,7 +37,8 @@ pub fn start(alloc: Global, guest: &Guest) -> Result<Machine, NoMemory>
 
 /// The thread that runs the initialisers, and then main.
 fn first_thread(alloc: Global, guest: &Guest) -> Result<Thread, NoMemory>
-    ensures { IfOk result (λ thread. thread ≡ rests guest.now (initialisers guest.now ++ (guest.now.main_class, guest.now.main_method) ∷ [])) }
+    ensures { IfOk result (λ thread. thread ≡ rests guest.now
+        (initialisers guest.now ++ (guest.now.main_class, guest.now.main_method) ∷ [])) }
 {
     let mut to_begin = initialisers(alloc, guest)?;
     to_begin.push((guest.program().main_class, guest.program().main_method))?;

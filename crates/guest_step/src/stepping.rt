@@ -129,7 +129,8 @@ fn run(
     thread: &mut Thread,
     choice: &Choice,
 ) -> Result<Option<Event>, StepFault>
-    ensures { ActsIn result machine.old machine.new thread.old thread.new (running_stepped guest.now machine.old number thread.old choice.now) }
+    ensures { ActsIn result machine.old machine.new thread.old thread.new
+        (running_stepped guest.now machine.old number thread.old choice.now) }
 {
     match choice {
         Choice::Plain => run_next(alloc, guest, machine, number, thread),

@@ -73,7 +73,8 @@ fn target_waits(
     target: &Target,
     receiver: Option<Value>,
 ) -> bool
-    ensures { result ≡ call_waits guest.now machine.now number own how target.now (record { receiver = receiver; arguments = []; beneath = [] }) }
+    ensures { result ≡ call_waits guest.now machine.now number own how target.now
+        (record { receiver = receiver; arguments = []; beneath = [] }) }
 {
     match target {
         Target::Method { class, method } => {

@@ -75,7 +75,8 @@ fn work_in(
     what: Heap,
     target: &Target,
 ) -> Result<Option<Outcome>, NoMemory>
-    ensures { WorksIn result (inside heap.old statics.old frame.old) (inside heap.new statics.new frame.new) (λ (world : World). worked guest.now world what target.now frame.old.stack.items) }
+    ensures { WorksIn result (inside heap.old statics.old frame.old) (inside heap.new statics.new frame.new)
+        (λ (world : World). worked guest.now world what target.now frame.old.stack.items) }
 {
     let Some(at) = frame.at.checked_add(1) else {
         return Err(NoMemory);

@@ -7,7 +7,18 @@ ghost use Rattle.guest_heap.specs.declared.object.Monitor.{Monitor};
 ghost use Rattle.guest_heap.specs.declared.value.Value.{Value};
 ghost use Rattle.guest_machine.specs.Changes.{World};
 ghost use Rattle.bytecode_model.specs.Assigning.{reference_of};
-ghost use Rattle.guest_machine.specs.Working.{ArrayAt, Worked, has_items, item_kind, kept, kept_number, length_told, may_hold, on_array, on_items};
+ghost use Rattle.guest_machine.specs.Working.{
+  ArrayAt,
+  Worked,
+  has_items,
+  item_kind,
+  kept,
+  kept_number,
+  length_told,
+  may_hold,
+  on_array,
+  on_items,
+};
 ghost use Rattle.guest_machine.specs.Working.{place_among, reads_item, writes_item};
 ghost use Rattle.guest_step.specs.Led.{led, IsOf};
 ghost use Rattle.guest_step.specs.Works.{Works, at, comes, with_monitors};

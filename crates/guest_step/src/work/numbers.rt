@@ -58,7 +58,8 @@ pub fn constant(guest: &Guest, target: &Target, stack: &mut Stack) -> Option<Out
 
 /// What a constant names.
 fn constant_named(guest: &Guest, target: &Target) -> Option<Comes>
-    ensures { (world : World) (items : List Value) → option_map (λ (v : Value). Ok (world, v ∷ items)) (constant_value guest.now target.now) ≡ comes world items result }
+    ensures { (world : World) (items : List Value) → option_map (λ (v : Value). Ok (world, v ∷ items))
+        (constant_value guest.now target.now) ≡ comes world items result }
 {
     match target {
         Target::Number(n) => Some(Comes::Value(Value::Int(*n))),

@@ -223,7 +223,8 @@ pub fn tell_instance(
     stack: &mut Stack,
 ) -> Result<Option<Outcome>, NoMemory>
     ensures { (statics : List (List Value)) → Works result (at heap.now statics stack.old) (at heap.now statics stack.new)
-        (λ (world : World). option_and_then (λ (name : Name). tells_instance guest.now world name stack.old.items) (name_named target.now)) }
+        (λ (world : World). option_and_then (λ (name : Name). tells_instance guest.now world name stack.old.items)
+        (name_named target.now)) }
 {
     let came = instance_told(alloc, guest, target, heap, stack)?;
     Ok(replace(stack, 1, came))
@@ -238,7 +239,8 @@ fn instance_told(
     stack: &Stack,
 ) -> Result<Option<Comes>, NoMemory>
     ensures { IfOk result (λ came. (statics : List (List Value)) (monitors : List Monitor)
-        → option_and_then (λ (name : Name). tells_instance guest.now (with_monitors (at heap.now statics stack.now) monitors) name stack.now.items) (name_named target.now)
+        → option_and_then (λ (name : Name). tells_instance guest.now
+        (with_monitors (at heap.now statics stack.now) monitors) name stack.now.items) (name_named target.now)
         ≡ comes (with_monitors (at heap.now statics stack.now) monitors) (drop 1 stack.now.items) came) }
 {
     let Some(name) = name_named(target) else {
