@@ -61,8 +61,8 @@ unfoldable pub name_and_type_at : List Const → ℕ → Option (List ℕ × Lis
 name_and_type_at pool index = name_and_type_of pool (slice_get pool index)
 
 -- what a reference tells
-abbrev pub told : Reference → MethodId
-told r = record { class = r.class.now; name = r.name.now; desc = r.desc.now }
+abbrev pub id_told : Reference → MethodId
+id_told r = record { class = r.class.now; name = r.name.now; desc = r.desc.now }
 
 abbrev pub member_id : Option (List ℕ) → Option (List ℕ × List ℕ) → Option MethodId
 member_id (Some class) (Some member) = Some (record { class = class; name = member.0; desc = member.1 })

@@ -1,7 +1,7 @@
 //! What indices into a constant pool name. (The Java Virtual Machine Specification, section 4.4.)
 
 ghost use Rattle.std.specs.Prelude.{◌≡◌, option_copied, option_map};
-ghost use Rattle.class_codec.specs.Pool.{is_of, names, utf8_at, is_code, class_name_at, name_and_type_at, member_id, told, reference_at};
+ghost use Rattle.class_codec.specs.Pool.{is_of, names, utf8_at, is_code, class_name_at, name_and_type_at, member_id, id_told, reference_at};
 
 use crate::tree::Const;
 use mon_base::Bytes;
@@ -94,7 +94,7 @@ pub struct Reference<'a> {
 /// The class, the name and the descriptor of the field or the method that the index names.
 #[tactic(auto, unfolding(crate::specs::Pool::reference_at))]
 pub fn reference_at(pool: &[Const], index: u16) -> Option<Reference<'_>>
-    ensures { option_map told result ≡ reference_at pool.now index }
+    ensures { option_map id_told result ≡ reference_at pool.now index }
 {
     match pool.get(index as usize) {
         Some(Const::Field(class, member)) => referred(pool, *class, *member),
@@ -106,7 +106,7 @@ pub fn reference_at(pool: &[Const], index: u16) -> Option<Reference<'_>>
 
 /// The class at one index, with the name and the descriptor at another.
 fn referred(pool: &[Const], class: u16, member: u16) -> Option<Reference<'_>>
-    ensures { option_map told result ≡ member_id (class_name_at pool.now class) (name_and_type_at pool.now member) }
+    ensures { option_map id_told result ≡ member_id (class_name_at pool.now class) (name_and_type_at pool.now member) }
 {
     let class = class_name_at(pool, class)?;
     let (name, desc) = name_and_type_at(pool, member)?;

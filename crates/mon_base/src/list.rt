@@ -1,6 +1,7 @@
 //! Lists that are owned.
 
-ghost use Rattle.std.specs.Prelude.{◌≡◌, ◌∷◌, [], ◌++◌, ◌↔◌, ◌<◌, ◌+◌, length, take, drop, slice_get, slice_set, Option, Some, IfOk, OnOk, OnErr, IsTrue, IsErr};
+ghost use Rattle.std.specs.Prelude.{◌≡◌, ◌∷◌, [], ◌++◌, ◌↔◌, ◌<◌, ◌+◌, length, take, drop, slice_get, slice_set};
+ghost use Rattle.std.specs.Prelude.{Option, Some, IfOk, OnOk, OnErr, IsTrue, IsErr};
 ghost use Rattle.std.specs.Cmp.Lexicographic.{pointwise};
 ghost use Rattle.std.proofs.Common.{rules};
 ghost use Rattle.std.specs.Cmp.Rules.{comparing};
