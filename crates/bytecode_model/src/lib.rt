@@ -28,6 +28,6 @@ pub use lending::{TypeRef, lend, own};
 pub use member_code::{code_of, has_its_code};
 pub use members::{Found, MemberKind};
 pub use operand::{Use, index_of, use_of};
-pub use origin::Origin;
+pub use origin::{Inlined, Origin};
 pub use program::{Handler, LinkedClass, Method, Program, Side, Target};
 pub use text::{class_at, copy_class, copy_text, has_flag, id_at, is_text, text_at};

@@ -1,5 +1,5 @@
 -- What a shape does to types it does to values of these types.
-use Rattle.std.proofs.Common.{◌≡◌, ℕ, ◌≤◌, ◌<◌, Bool, true, false, cond, List, [], ◌∷◌, ◌++◌, length, drop, Option, Some, None, refl, sym, ap, subst, ◌∙◌, arith}
+use Rattle.std.proofs.Common.{◌≡◌, ℕ, Bool, cond, List, ◌∷◌, ◌++◌, length, drop, Option, Some, None, refl, subst}
 use Rattle.std.specs.Prelude.{IsTrue, slice_get, slice_set, option_map, option_and_then, nat_lt, nat_le}
 use Rattle.std.specs.List.{filter_map}
 use Rattle.std.proofs.lemmas.Option.{cond_some}

@@ -1,6 +1,6 @@
 -- Lists of values and of their types, one beside the other.
-use Rattle.std.proofs.Common.{◌≡◌, ℕ, zero, suc, ◌<◌, ◌≤◌, Bool, true, false, List, [], ◌∷◌, ◌++◌, length, drop, Option, Some, None, refl, sym, ap, subst, ◌∙◌, arith, ◌⊎◌, inl, inr}
-use Rattle.std.specs.Prelude.{IsTrue, slice_get, slice_set, option_map, option_and_then, nat_lt, nat_le}
+use Rattle.std.proofs.Common.{◌≡◌, ℕ, zero, suc, Bool, List, [], ◌∷◌, ◌++◌, length, drop, Option, Some, None, refl, ap, subst, ◌⊎◌, inl, inr}
+use Rattle.std.specs.Prelude.{IsTrue, slice_get, slice_set, option_map, option_and_then}
 use Rattle.std.specs.List.{filter_map}
 use Rattle.insn_codec.specs.Following.{Paired}
 

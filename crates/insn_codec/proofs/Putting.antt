@@ -7,7 +7,7 @@ use Rattle.std.proofs.lemmas.Bool.Decides.{nat_tests}
 use Rattle.std.proofs.lemmas.List.{append-nil, take_all, length-drop}
 use Rattle.mon_base.specs.Reading.{◌>>=◌}
 use Rattle.insn_codec.specs.declared.fault.CodeOverflow.{CodeOverflow}
-use Rattle.insn_codec.specs.declared.fault.CodeOverflow.TheVariants.{Length, Branch, Memory}
+use Rattle.insn_codec.specs.declared.fault.CodeOverflow.TheVariants.{Length, Memory}
 use Rattle.insn_codec.specs.declared.insn.Case.{Case}
 use Rattle.insn_codec.specs.declared.insn.Insn.{Insn}
 use Rattle.insn_codec.specs.Spelling.{i4, size, offset, case, cases, bytes_of, bytes_from, starts_of, len_from, spelling}

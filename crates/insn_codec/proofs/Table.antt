@@ -1,6 +1,6 @@
 -- The shapes agree with the table of opcodes, and control goes to a successor.
-use Rattle.std.proofs.Common.{◌≡◌, ℕ, ℤ, zero, suc, ◌+◌, ◌<◌, Bool, true, false, cond, List, [], ◌∷◌, ◌++◌, length, refl, sym, ap, subst, ◌∙◌, arith, ◌⊎◌, inl, inr, ⊎_elim}
-use Rattle.std.specs.Prelude.{not, Contains, pos, ◌+ℤ◌, ◌==◌, ◌&&◌, nat_lt}
+use Rattle.std.proofs.Common.{◌≡◌, ℕ, ℤ, ◌+◌, Bool, true, false, cond, List, [], ◌∷◌, ◌++◌, length, refl, sym, ap, subst, ◌∙◌, arith, ◌⊎◌, inl, inr}
+use Rattle.std.specs.Prelude.{not, Contains, pos, ◌+ℤ◌, ◌==◌, nat_lt}
 use Rattle.std.specs.Ordering.{int_eq}
 use Rattle.std.proofs.lemmas.Bool.{eqb-true, and_parts, true≢false}
 use Rattle.std.proofs.lemmas.List.{nil_from_length}
@@ -8,14 +8,12 @@ use Rattle.std.proofs.lemmas.List.Elements.{Contains-append_left, Contains-appen
 use Rattle.insn_codec.specs.declared.insn.Insn.{Insn}
 use Rattle.insn_codec.specs.declared.insn.Insn.TheVariants as insns
 use Rattle.insn_codec.specs.declared.opcode.Operands.TheVariants as ops
-use Rattle.insn_codec.specs.Fits.{IsInsn}
-use Rattle.insn_codec.specs.Opcodes.{opcode_at, operands_of, is_frame_only, goes_on}
-use Rattle.insn_codec.specs.Spelling.{opcode_of}
+use Rattle.insn_codec.specs.Opcodes.{opcode_at, operands_of, goes_on}
 use Rattle.insn_codec.specs.declared.shape.Relation.TheVariants as relations
 use Rattle.insn_codec.specs.declared.shape.Shape.{Shape}
 use Rattle.insn_codec.specs.declared.shape.Shape.TheVariants as shapes
-use Rattle.insn_codec.specs.Control.{View, next_of, goes_to, in_range, by_key, jump_targets, successors}
-use Rattle.insn_codec.specs.Shapes.{shape_of, plain_shape, pool_shape, local_shape, branch_shape, test_shape, comparing_shape}
+use Rattle.insn_codec.specs.Control.{View, goes_to, in_range, by_key}
+use Rattle.insn_codec.specs.Shapes.{plain_shape, local_shape, branch_shape, test_shape, comparing_shape}
 use Rattle.insn_codec.specs.Table.{is_heap, ends, MarkedAlike, GoesOnAlike, NopAlone, GoesToSuccessor}
 use Rattle.insn_codec.proofs.OpcodeTests.{Agreement, is_nothing, is_switch, jumps_of, jumps_nowhere, plain_agrees, plain_stays, pool_agrees, pool_is_heap, local_agrees, local_stays, branch_agrees}
 use Rattle.insn_codec.specs.declared.opcodes.TheConstants.{

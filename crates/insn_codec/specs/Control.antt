@@ -1,6 +1,6 @@
 -- Where control goes after an instruction that works on its frame alone. (The Java Virtual Machine Specification,
 -- section 6.5.)
-use Rattle.std.specs.Prelude.{◌≡◌, ℕ, ℤ, pos, ◌+◌, ◌+ℤ◌, Bool, true, false, not, if◌then◌else◌, int_lt, int_le, List, [], ◌∷◌, ◌++◌, slice_get}
+use Rattle.std.specs.Prelude.{ℕ, ℤ, pos, ◌+◌, ◌+ℤ◌, Bool, false, not, if◌then◌else◌, int_lt, int_le, List, [], ◌∷◌, ◌++◌, slice_get}
 use Rattle.std.specs.Bool.{beq}
 use Rattle.std.specs.Ordering.{int_eq}
 use Rattle.std.specs.Option.{option_map_or}

@@ -1,5 +1,5 @@
 -- What an instruction that works on its frame alone does to locals and operands, over any domain of what is moved.
-use Rattle.std.specs.Prelude.{ℕ, ℤ, zero, suc, pos, Bool, true, false, ◌&&◌, nat_le, nat_lt, if◌then◌else◌, List, [], ◌∷◌, ◌++◌, length, map, drop, Option, Some, None, option_map, option_and_then, slice_get, slice_set}
+use Rattle.std.specs.Prelude.{ℕ, ℤ, Bool, nat_le, nat_lt, if◌then◌else◌, List, ◌∷◌, ◌++◌, length, drop, Option, Some, None, option_map, option_and_then, slice_get, slice_set}
 use Rattle.std.specs.List.{filter_map}
 use Rattle.insn_codec.specs.declared.forms.StackForm.{StackForm}
 use Rattle.insn_codec.specs.declared.shape.Kind.{Kind}

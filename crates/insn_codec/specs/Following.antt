@@ -1,5 +1,5 @@
 -- One domain follows another: what works on the types works on the values, and leaves values of the types.
-use Rattle.std.specs.Prelude.{◌≡◌, ℕ, ℤ, Bool, IsTrue, List, [], ◌∷◌, Some}
+use Rattle.std.specs.Prelude.{◌≡◌, ℤ, Bool, IsTrue, List, [], ◌∷◌, Some}
 use Rattle.insn_codec.specs.declared.shape.Kind.{Kind}
 use Rattle.insn_codec.specs.declared.shape.Kind.TheVariants as kinds
 use Rattle.insn_codec.specs.declared.shape.One.{One}

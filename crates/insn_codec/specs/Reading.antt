@@ -1,10 +1,10 @@
 -- Reading a code from left to right: the instructions, or the first fault.
-use Rattle.std.specs.Prelude.{◌≡◌, ℕ, zero, suc, ℤ, pos, negsuc, ◌+ℤ◌, ◌-ℤ◌, int_le, ◌+◌, ◌==◌, ◌&&◌, Bool, true, false, List, [], ◌∷◌, length, map, not, Option, Some, None, ok_or, Result, Ok, Err, nat_le, nat_abs, if◌then◌else◌}
+use Rattle.std.specs.Prelude.{ℕ, zero, suc, ℤ, pos, negsuc, ◌+ℤ◌, ◌-ℤ◌, int_le, ◌+◌, ◌==◌, ◌&&◌, Bool, true, false, List, [], ◌∷◌, length, map, not, Option, Some, None, ok_or, Result, Ok, Err, nat_le, nat_abs, if◌then◌else◌}
 use Rattle.std.specs.List.{list_all}
 use Rattle.std.specs.Int.{w8, w16, w32, cast_signed}
 use Rattle.mon_base.specs.Reading.{Place, bytes_at, number_at, ◌>>=◌, need, counted}
 use Rattle.insn_codec.specs.declared.fault.CodeFault.{CodeFault}
-use Rattle.insn_codec.specs.declared.fault.CodeFault.TheVariants.{Opcode, Cut, Target, LeftOut, Form, End, Memory}
+use Rattle.insn_codec.specs.declared.fault.CodeFault.TheVariants.{Opcode, Cut, Target, LeftOut, Form, End}
 use Rattle.insn_codec.specs.declared.opcode.Operands.{Operands}
 use Rattle.insn_codec.specs.declared.opcode.Operands.TheVariants as ops
 use Rattle.insn_codec.specs.declared.insn.Insn.{Insn}

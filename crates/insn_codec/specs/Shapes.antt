@@ -1,5 +1,5 @@
 -- What each instruction does, with numbers alone. (The Java Virtual Machine Specification, section 6.5.)
-use Rattle.std.specs.Prelude.{ℕ, ℤ, pos, ◌-ℤ◌, ◌-◌, ◌==◌, ◌&&◌, Bool, true, false, nat_le, nat_lt, Option, Some, None, if◌then◌else◌}
+use Rattle.std.specs.Prelude.{ℕ, pos, ◌-ℤ◌, ◌-◌, ◌==◌, ◌&&◌, true, false, nat_le, nat_lt, Some, None, if◌then◌else◌}
 use Rattle.insn_codec.specs.declared.insn.Insn.{Insn}
 use Rattle.insn_codec.specs.declared.insn.Insn.TheVariants as insns
 use Rattle.insn_codec.specs.declared.forms.StackForm.TheVariants as forms
