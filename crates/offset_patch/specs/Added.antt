@@ -4,13 +4,15 @@ use Rattle.std.specs.List.{AllByRecursion}
 use Rattle.class_codec.specs.declared.tree.Const.{Const}
 use Rattle.class_codec.specs.declared.tree.Const.TheVariants as constants
 use Rattle.offset_patch.specs.declared.constants.Added.{Added}
-use Rattle.offset_patch.specs.declared.constants.Added.TheVariants.{Text, Class, NameAndType, Method}
+use Rattle.offset_patch.specs.declared.constants.Added.TheVariants.{Text, Class, NameAndType, Field, Method, Integer}
 
 abbrev pub const_of : Added → Const
 const_of (Text bytes) = constants.Utf8 bytes
 const_of (Class name) = constants.Class name
 const_of (NameAndType name desc) = constants.NameAndType name desc
+const_of (Field class member) = constants.Field class member
 const_of (Method class member) = constants.Method class member
+const_of (Integer n) = constants.Integer n
 
 -- the pool with what is added behind it
 abbrev pub with_added : List Const → List Added → List Const
@@ -21,7 +23,9 @@ abbrev pub NamesBelow : ℕ → Added → Type 0
 NamesBelow n (Text bytes) = ⊤
 NamesBelow n (Class name) = name < n
 NamesBelow n (NameAndType name desc) = (name < n) × (desc < n)
+NamesBelow n (Field class member) = (class < n) × (member < n)
 NamesBelow n (Method class member) = (class < n) × (member < n)
+NamesBelow n (Integer value) = ⊤
 
 -- What is added names places of the pool with what is added behind it.
 abbrev pub AreNamed : List Const → List Added → Type 0

@@ -1,6 +1,8 @@
 -- The entries of a constant pool that blocks name. An entry that is there is used, the first of several; a new one stands
 -- at the end, behind the entries that it names itself, in the order in which it names them.
-use Rattle.std.specs.Prelude.{◌≡◌, ℕ, ◌==◌, ◌&&◌, Bool, false, bytes_eq, codes, List, [], ◌∷◌, ◌++◌, length, Option, Some, None}
+use Rattle.std.specs.Prelude.{◌≡◌, ℕ, ℤ, ◌==◌, ◌&&◌, Bool, true, false, bytes_eq, codes, List, [], ◌∷◌, ◌++◌, length, Option, Some, None}
+use Rattle.std.specs.Fmt.{decimal}
+use Rattle.std.specs.Ordering.{int_eq}
 use Rattle.std.specs.List.{position_from}
 use Rattle.class_codec.specs.declared.tree.Const.{Const}
 use Rattle.class_codec.specs.declared.tree.Const.TheVariants as constants
@@ -11,7 +13,9 @@ use Rattle.offset_patch.specs.declared.block.PoolWant.TheVariants as wants
 abbrev pub same : Const → Const → Bool
 same (constants.Utf8 a) (constants.Utf8 b) = bytes_eq a b
 same (constants.Class a) (constants.Class b) = a == b
+same (constants.Field a m) (constants.Field b n) = (a == b) && (m == n)
 same (constants.Method a m) (constants.Method b n) = (a == b) && (m == n)
+same (constants.Integer a) (constants.Integer b) = int_eq a b
 same (constants.NameAndType a m) (constants.NameAndType b n) = (a == b) && (m == n)
 same a b = false
 
@@ -46,6 +50,12 @@ name_and_type_of name desc = entry (constants.NameAndType name.1 (text desc name
 abbrev pub name_and_type : List ℕ → List ℕ → List Const → Placed
 name_and_type name desc pool = name_and_type_of (text name pool) desc
 
+abbrev pub field_entry : Placed → List ℕ → List ℕ → Placed
+field_entry owner name desc = entry (constants.Field owner.1 (name_and_type name desc owner.0).1) (name_and_type name desc owner.0).0
+
+abbrev pub field : List ℕ → List ℕ → List ℕ → List Const → Placed
+field owner name desc pool = field_entry (class owner pool) name desc
+
 abbrev pub method_entry : Placed → List ℕ → List ℕ → Placed
 method_entry owner name desc = entry (constants.Method owner.1 (name_and_type name desc owner.0).1) (name_and_type name desc owner.0).0
 
@@ -56,10 +66,21 @@ method owner name desc pool = method_entry (class owner pool) name desc
 abbrev pub state_name : List ℕ
 state_name = codes "conspec/State"
 
+-- the name of the variable of this index: v0, v1 and so on
+abbrev pub variable_name : ℕ → List ℕ
+variable_name index = codes "v" ++ decimal index
+
+-- the type of a variable: boolean, or int
+abbrev pub variable_type : Bool → List ℕ
+variable_type true = codes "Z"
+variable_type false = codes "I"
+
 -- an entry that a block names
 abbrev pub wanted : PoolWant → List Const → Placed
 wanted wants.StateClass pool = class state_name pool
+wanted (wants.StateField var is_bool) pool = field state_name (variable_name var) (variable_type is_bool) pool
 wanted wants.Exit pool = method (codes "java/lang/System") (codes "exit") (codes "(I)V") pool
+wanted (wants.Integer n) pool = entry (constants.Integer n) pool
 
 -- the pool with the entries that are wanted, in the order of use
 abbrev pub with_wants : List Const → List PoolWant → List Const

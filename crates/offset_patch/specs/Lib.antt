@@ -2,6 +2,8 @@ pub mod Fault
 pub mod Added
 pub mod Entries
 pub mod Splicing
+pub mod Lines
+pub mod Plan
 pub mod Fits
 pub mod Length
 pub mod Sizes

@@ -15,7 +15,7 @@ use Rattle.offset_patch.specs.declared.fault.Size.TheVariants as sizes
 use Rattle.offset_patch.specs.declared.fault.SpliceFault.{SpliceFault}
 use Rattle.offset_patch.specs.declared.fault.SpliceFault.TheVariants as faults
 use Rattle.offset_patch.specs.Length.{size_in, part_end, length_of}
-use Rattle.offset_patch.specs.Splicing.{part_of, grown, operands_needed}
+use Rattle.offset_patch.specs.Splicing.{part_of, catching, grown, operands_needed}
 
 -- ---- where parts begin, in bytes
 
@@ -64,7 +64,7 @@ abbrev pub method_sizes : List ℕ → ℕ → List Const → Method → Code �
 method_sizes class number pool method code locals sites =
     faults.Overflow class number sizes.Stack (pos (code.max_stack + operands_needed))
     ∷ faults.Overflow class number sizes.Locals (pos (code.max_locals + locals))
-    ∷ faults.Overflow class number sizes.Entries (pos (length code.table))
+    ∷ faults.Overflow class number sizes.Entries (pos (length code.table + catching sites))
     ∷ faults.Overflow class number sizes.Pool (pos (length (grown pool sites)))
     ∷ faults.Overflow class number sizes.Length (pos (length_of method.insns sites))
     ∷ map (faults.Overflow class number sizes.Branch) (offsets_of method.insns sites)

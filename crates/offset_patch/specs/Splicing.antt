@@ -1,10 +1,11 @@
 -- Blocks in the code of a method: each stands in the place of the instruction that it is for, and what goes to that
 -- instruction goes to the front of its block.
-use Rattle.std.specs.Prelude.{ℕ, ◌+◌, ◌≤◌, ⊤, Bool, is_some, List, [], ◌∷◌, ◌++◌, length, map, slice_index, Option, Some, None, Ok}
+use Rattle.std.specs.Prelude.{ℕ, zero, suc, ◌+◌, ◌≤◌, ⊤, Bool, is_some, List, [], ◌∷◌, ◌++◌, length, map, take, slice_index, Option, Some, None, option_and_then, Ok}
 use Rattle.std.specs.List.{flat_map, filter_map, list_any, enumerate_from}
 use Rattle.mon_base.specs.Reading.{◌>>=◌}
 use Rattle.class_codec.specs.declared.tree.Code.{Code}
 use Rattle.class_codec.specs.declared.tree.Const.{Const}
+use Rattle.class_codec.specs.declared.tree.Other.{Other}
 use Rattle.class_codec.specs.declared.tree.TableEntry.{TableEntry}
 use Rattle.insn_codec.specs.declared.insn.Insn.{Insn}
 use Rattle.insn_codec.specs.declared.insn.Insn.TheVariants as insns
@@ -21,6 +22,7 @@ use Rattle.offset_patch.specs.declared.block.PoolWant.{PoolWant}
 use Rattle.offset_patch.specs.declared.fault.Size.TheVariants as sizes
 use Rattle.offset_patch.specs.Entries.{with_wants, place_in, IsThere}
 use Rattle.offset_patch.specs.Fault.{Spliced, fitted, code_fitted}
+use Rattle.offset_patch.specs.Lines.{attrs_kept, start_moved}
 
 -- what stands for an instruction: its block, or the instruction alone
 abbrev pub part_of : Option Block → List BlockInsn
@@ -113,6 +115,41 @@ grown pool sites = with_wants pool (wants_of sites)
 
 -- ---- the exception table
 
+-- the place of the client's instruction in its part
+unfoldable pub call_place : List BlockInsn → ℕ
+call_place [] = zero
+call_place (Call ∷ insns) = zero
+call_place (insn ∷ insns) = suc (call_place insns)
+
+-- A block that begins at `begin` catches at this place of it what its call throws, of any class.
+abbrev pub own_entry : List ℕ → ℕ → List BlockInsn → ℕ → TableEntry
+own_entry starts begin insns place = record {
+  from = slice_index starts (begin + call_place insns);
+  to = slice_index starts (begin + call_place insns + 1);
+  at = slice_index starts (begin + place);
+  class = 0;
+}
+
+abbrev pub caught_by : List ℕ → ℕ → List BlockInsn → Option ℕ → List TableEntry
+caught_by starts begin insns None = []
+caught_by starts begin insns (Some place) = own_entry starts begin insns place ∷ []
+
+abbrev pub site_entries : List ℕ → ℕ → Option Block → List TableEntry
+site_entries starts begin None = []
+site_entries starts begin (Some block) = caught_by starts begin block.insns block.handler
+
+-- those of the blocks, where the part of the first instruction begins at `begin`
+abbrev pub own_entries : List ℕ → ℕ → List (Option Block) → List TableEntry
+own_entries starts begin [] = []
+own_entries starts begin (site ∷ sites) = site_entries starts begin site ++ own_entries starts (begin + length (part_of site)) sites
+
+-- how many these are
+abbrev pub handler_of : Option Block → Option ℕ
+handler_of site = option_and_then (λ (block : Block). block.handler) site
+
+abbrev pub catching : List (Option Block) → ℕ
+catching sites = length (filter_map handler_of sites)
+
 -- An entry covers the fronts of what it covered, where the instructions begin at these bytes.
 abbrev pub moved : List ℕ → List ℕ → Handler × TableEntry → TableEntry
 moved starts fronts (handler, entry) = record {
@@ -127,6 +164,10 @@ table_moved starts fronts [] entries = []
 table_moved starts fronts (handler ∷ handlers) [] = []
 table_moved starts fronts (handler ∷ handlers) (entry ∷ entries) = moved starts fronts (handler, entry) ∷ table_moved starts fronts handlers entries
 
+-- The blocks' entries come first: what a block's call throws is caught in the block.
+abbrev pub table_spliced : List ℕ → List (Option Block) → List Handler → List TableEntry → List TableEntry
+table_spliced starts sites handlers entries = own_entries starts 0 sites ++ table_moved starts (fronts_of sites) handlers entries
+
 -- ---- a method with a block
 
 -- how many operands a block needs beside the client's
@@ -139,26 +180,34 @@ room class method code locals = do
   stack ← fitted class method sizes.Stack (code.max_stack + operands_needed)
   fitted class method sizes.Locals (code.max_locals + locals)
 
--- the code with these instructions and bytes, without the attributes that it had
-abbrev pub code_with : Code → ℕ → List ℕ → List Handler → List Insn → List ℕ → Code
-code_with code locals fronts handlers insns bytes = record {
+-- where instructions begin, without the end of the code
+abbrev pub begins : List Insn → List ℕ
+begins insns = take (length insns) (starts_of insns)
+
+-- the line numbers of the code, where its instructions are these now
+abbrev pub attrs_spliced : List Const → List Insn → List Insn → List (Option Block) → List Other → List Other
+attrs_spliced pool olds news sites attrs = attrs_kept pool (start_moved (begins olds) (fronts_of sites) (starts_of news)) attrs
+
+-- the code with these instructions and bytes; of its attributes the line numbers are kept
+abbrev pub code_with : List Const → Method → Code → ℕ → List (Option Block) → List Insn → List ℕ → Code
+code_with pool method code locals sites insns bytes = record {
   name = code.name;
   max_stack = code.max_stack + operands_needed;
   max_locals = code.max_locals + locals;
   code = bytes;
-  table = table_moved (starts_of insns) fronts handlers code.table;
-  attrs = [];
+  table = table_spliced (starts_of insns) sites method.handlers code.table;
+  attrs = attrs_spliced pool method.insns insns sites code.attrs;
 }
 
 -- the code with the blocks, in a pool that has what they name, where the pool and the table fit
 abbrev pub bytes_spliced : List ℕ → ℕ → List Const → Method → Code → ℕ → List (Option Block) → Spliced Code
 bytes_spliced class number pool method code locals sites = do
   bytes ← code_fitted class number (written (spliced pool method.insns sites))
-  Ok (code_with code locals (fronts_of sites) method.handlers (spliced pool method.insns sites) bytes)
+  Ok (code_with pool method code locals sites (spliced pool method.insns sites) bytes)
 
 -- the code with the blocks, in a pool that has what they name
 abbrev pub code_spliced : List ℕ → ℕ → List Const → Method → Code → ℕ → List (Option Block) → Spliced Code
 code_spliced class number pool method code locals sites = do
-  entries ← fitted class number sizes.Entries (length code.table)
+  entries ← fitted class number sizes.Entries (length code.table + catching sites)
   count ← fitted class number sizes.Pool (length pool)
   bytes_spliced class number pool method code locals sites

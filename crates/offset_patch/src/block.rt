@@ -3,12 +3,16 @@
 use mon_base::List;
 
 /// An entry of the constant pool that a block names.
-#[derive(Clone, Copy, Debug, PartialEq, Eq)]
+#[derive(Clone, Copy, Debug, PartialEq, Eq, PartialOrd, Ord)]
 pub enum PoolWant {
     /// The class `conspec/State`.
     StateClass,
+    /// The field of `conspec/State` that holds the variable of this index.
+    StateField { var: u32, is_bool: bool },
     /// The method `java/lang/System.exit (I)V`.
     Exit,
+    /// A number that no shorter instruction pushes.
+    Integer(i32),
 }
 
 /// An instruction of a block.
@@ -34,4 +38,6 @@ pub enum BlockInsn {
 #[derive(Debug, Drop, PartialEq, Eq)]
 pub struct Block {
     pub insns: List<BlockInsn>,
+    /// Where in the block what the client's instruction throws is caught, if it is.
+    pub handler: Option<u32>,
 }

@@ -4,22 +4,21 @@ ghost use Rattle.std.specs.Prelude.{◌≡◌, ◌<◌, ◌^◌, ◌+◌, IfOk, 
 ghost use Rattle.std.specs.List.{AllByRecursion};
 ghost use Rattle.bytecode_model.specs.Sound.{IsSoundMethod};
 ghost use Rattle.mon_base.specs.Answer.{Answers};
-ghost use Rattle.block_template.specs.Woven.{first_code, attr_with, member_with, bare_put};
-ghost use Rattle.block_template.specs.Woven.{code_put, body_woven, member_woven, members_woven, none_made};
+ghost use Rattle.class_weaving.specs.Woven.{first_code, attr_with, member_with, bare_put};
+ghost use Rattle.class_weaving.specs.Woven.{code_put, body_woven, member_woven, members_woven, none_made};
 
 use crate::code::{code_woven, copy_code};
-use block_template::{Members, WovenCode};
+use crate::woven::{Members, WovenCode};
 use bytecode_model::{LinkedClass, Method, Origin};
 use class_codec::{Attr, Code, Copied, Member};
-use conspec_automaton::Policy;
 use mon_base::{Bytes, List, NoMemory};
-use offset_patch::{Entries, SpliceFault};
+use offset_patch::{Entries, Planner, SpliceFault};
 use std::alloc::Global;
 
 /// The members of a class, with its blocks.
-pub fn members_woven(
+pub fn members_woven<P: Planner>(
     alloc: Global,
-    policy: &Policy,
+    planner: &P,
     class: &LinkedClass,
     made: Members,
     members: &[Member],
@@ -27,21 +26,21 @@ pub fn members_woven(
     requires methods { AllByRecursion IsSoundMethod class.now.methods }
     requires count { made.number + length members.now < 2 ^ 17 }
     requires pool { length made.entries < 2 ^ 16 }
-    ensures is { Answers SpliceFault.Memory result (members_woven policy.now class.now made members.now) }
+    ensures is { Answers SpliceFault.Memory result (members_woven (P.plan planner.now) class.now made members.now) }
     ensures pool { IfOk result (λ next. length next.entries < 2 ^ 16) }
 {
     let mut made = made;
     let mut left = members;
     while let [member, rest @ ..] = left {
-        made = member_woven(alloc, policy, class, made, member)?;
+        made = member_woven(alloc, planner, class, made, member)?;
         left = rest;
     }
     Ok(made)
 }
 
-fn member_woven(
+fn member_woven<P: Planner>(
     alloc: Global,
-    policy: &Policy,
+    planner: &P,
     class: &LinkedClass,
     made: Members,
     member: &Member,
@@ -49,7 +48,7 @@ fn member_woven(
     requires methods { AllByRecursion IsSoundMethod class.now.methods }
     requires count { made.number < 2 ^ 17 }
     requires pool { length made.entries < 2 ^ 16 }
-    ensures is { Answers SpliceFault.Memory result (member_woven policy.now class.now made member.now) }
+    ensures is { Answers SpliceFault.Memory result (member_woven (P.plan planner.now) class.now made member.now) }
     ensures count { IfOk result (λ next. next.number ≡ made.number + 1) }
     ensures pool { IfOk result (λ next. length next.entries < 2 ^ 16) }
 {
@@ -58,7 +57,7 @@ fn member_woven(
         return Ok(made);
     };
     match first_code(member.attrs.as_slice()) {
-        Some(code) => body_woven(alloc, policy, &class.name, made, member, method, code),
+        Some(code) => body_woven(alloc, planner, &class.name, made, member, method, code),
         None => {
             let made = bare_put(alloc, made, member)?;
             Ok(made)
@@ -86,9 +85,9 @@ fn bare_put(alloc: Global, made: Members, member: &Member) -> Result<Members, No
     })
 }
 
-fn body_woven(
+fn body_woven<P: Planner>(
     alloc: Global,
-    policy: &Policy,
+    planner: &P,
     class: &Bytes,
     made: Members,
     member: &Member,
@@ -98,7 +97,7 @@ fn body_woven(
     requires method { IsSoundMethod method.now }
     requires count { made.number < 2 ^ 17 }
     requires pool { length made.entries < 2 ^ 16 }
-    ensures is { Answers SpliceFault.Memory result (body_woven policy.now class.now made member.now (Some method.now) (Some code.now)) }
+    ensures is { Answers SpliceFault.Memory result (body_woven (P.plan planner.now) class.now made member.now (Some method.now) (Some code.now)) }
     ensures count { IfOk result (λ next. next.number ≡ made.number + 1) }
     ensures pool { IfOk result (λ next. length next.entries < 2 ^ 16) }
 {
@@ -108,7 +107,7 @@ fn body_woven(
         items,
         origins,
     } = made;
-    let woven = code_woven(alloc, policy, class, number, entries, method, code)?;
+    let woven = code_woven(alloc, planner, class, number, entries, method, code)?;
     let WovenCode {
         code,
         entries,

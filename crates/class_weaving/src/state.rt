@@ -2,30 +2,19 @@
 
 ghost use Rattle.std.specs.Prelude.{◌≡◌, ◌+◌, ◌*◌, ◌++◌, ◌<◌, ◌≤◌, IfOk, OnOk, length};
 ghost use Rattle.byteorder.specs.Endian.{big_bytes};
-ghost use Rattle.class_codec.specs.Fits.{CanSpell};
 ghost use Rattle.class_codec.specs.declared.tree.Const.TheVariants.{Utf8};
-ghost use Rattle.conspec_automaton.specs.Denying.{DeniesOnly};
-ghost use Rattle.block_template.specs.State.{variable_name, head, values_from, variable_text};
-ghost use Rattle.block_template.specs.State.{kind_text, field, fields_from, state_file, state_class};
+ghost use Rattle.class_weaving.specs.State.{head, values_from, variable_text};
+ghost use Rattle.class_weaving.specs.State.{kind_text, field, fields_from, state_file};
+ghost use Rattle.offset_patch.specs.Entries.{variable_name};
 
 use byteorder::{BigEndian, ByteOrder};
 use class_codec::{Attr, ClassFile, Const, Member, Other};
-use conspec_automaton::Policy;
 use conspec_tree::Var;
 use mon_base::{Bytes, List, NoMemory, push_count};
 use std::alloc::Global;
 
-/// The class file of the policy's variables.
-pub fn state_class(alloc: Global, policy: &Policy) -> Result<ClassFile, NoMemory>
-    requires { length policy.now.vars ≤ 10000 }
-    ensures is { IfOk result (λ file. file ≡ state_class policy.now) }
-    ensures fits { DeniesOnly policy.now → IfOk result CanSpell }
-{
-    let file = state_file(alloc, policy.vars.as_slice())?;
-    Ok(file)
-}
-
-fn state_file(alloc: Global, vars: &[Var]) -> Result<ClassFile, NoMemory>
+/// The class file of these variables.
+pub fn state_file(alloc: Global, vars: &[Var]) -> Result<ClassFile, NoMemory>
     requires { length vars.now ≤ 10000 }
     ensures { IfOk result (λ file. file ≡ state_file vars.now) }
 {

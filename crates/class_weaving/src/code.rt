@@ -5,22 +5,20 @@ ghost use Rattle.std.specs.List.{AllByRecursion, list_any};
 ghost use Rattle.bytecode_model.specs.Sound.{IsSoundMethod};
 ghost use Rattle.mon_base.specs.Answer.{Answers};
 ghost use Rattle.offset_patch.specs.Fits.{IsSite};
-ghost use Rattle.block_template.specs.Blocks.{has_block, site, site_locals};
-ghost use Rattle.block_template.specs.Woven.{is_woven, sites_of, most_locals, locals_of, clients_from, blocks_put, code_woven};
+ghost use Rattle.class_weaving.specs.Woven.{is_woven, sites_of, most_locals, locals_of, clients_from, blocks_put, code_woven};
 
-use block_template::{WovenCode, has_block, site, site_locals};
+use crate::woven::WovenCode;
 use bytecode_model::{Method, Origin, Target};
 use class_codec::{Code, copy_list};
-use conspec_automaton::Policy;
 use insn_codec::Insn;
 use mon_base::{Bytes, List, NoMemory};
-use offset_patch::{Block, Entries, SpliceFault, origins_of, room, splice};
+use offset_patch::{Block, Entries, Planner, SpliceFault, origins_of, room, splice};
 use std::alloc::Global;
 
-/// The code of a method with a block for each call that is denied, and the constants that these need.
-pub fn code_woven(
+/// The code of a method with its blocks, and the constants that these need.
+pub fn code_woven<P: Planner>(
     alloc: Global,
-    policy: &Policy,
+    planner: &P,
     class: &Bytes,
     number: u32,
     entries: Entries,
@@ -29,11 +27,11 @@ pub fn code_woven(
 ) -> Result<WovenCode, SpliceFault>
     requires method { IsSoundMethod method.now }
     requires pool { length entries < 2 ^ 16 }
-    ensures is { Answers SpliceFault.Memory result (code_woven policy.now class.now number entries method.now code.now) }
+    ensures is { Answers SpliceFault.Memory result (code_woven (P.plan planner.now) class.now number entries method.now code.now) }
     ensures pool { IfOk result (λ w. length w.entries < 2 ^ 16) }
 {
-    if is_woven(policy, method) {
-        return blocks_put(alloc, policy, class, number, entries, method, code);
+    if is_woven(planner, method) {
+        return blocks_put(alloc, planner, class, number, entries, method, code);
     }
     let code = copy_code(alloc, code)?;
     let origins = clients(alloc, method.insns.as_slice())?;
@@ -45,19 +43,19 @@ pub fn code_woven(
 }
 
 /// Whether one of the instructions has a block.
-fn is_woven(policy: &Policy, method: &Method) -> bool
-    ensures { result ≡ is_woven policy.now method.now }
+fn is_woven<P: Planner>(planner: &P, method: &Method) -> bool
+    ensures { result ≡ is_woven (P.plan planner.now) method.now }
 {
     method
         .refs
         .as_slice()
         .iter()
-        .any(|target| has_block(policy, target))
+        .any(|target| planner.has_block(target))
 }
 
-fn blocks_put(
+fn blocks_put<P: Planner>(
     alloc: Global,
-    policy: &Policy,
+    planner: &P,
     class: &Bytes,
     number: u32,
     entries: Entries,
@@ -65,13 +63,13 @@ fn blocks_put(
     code: &Code,
 ) -> Result<WovenCode, SpliceFault>
     requires { IsSoundMethod method.now }
-    ensures is { Answers SpliceFault.Memory result (blocks_put policy.now class.now number entries method.now code.now
-        (sites_of policy.now code.now.max_locals method.now)) }
+    ensures is { Answers SpliceFault.Memory result (blocks_put (P.plan planner.now) class.now number entries method.now code.now
+        (sites_of (P.plan planner.now) code.now.max_locals method.now)) }
     ensures pool { IfOk result (λ w. length w.entries < 2 ^ 16) }
 {
-    let locals = most_locals(policy, method.refs.as_slice())?;
+    let locals = most_locals(planner, method.refs.as_slice())?;
     room(alloc, class, number, code, locals)?;
-    let sites = sites_of(alloc, policy, code.max_locals, method.refs.as_slice())?;
+    let sites = sites_of(alloc, planner, code.max_locals, method.refs.as_slice())?;
     let mut entries = entries;
     let code = splice(
         alloc,
@@ -92,13 +90,13 @@ fn blocks_put(
 }
 
 /// The greatest number of locals that a block uses. No memory holds more than a number of 32 bits counts.
-fn most_locals(policy: &Policy, refs: &[Target]) -> Result<u32, NoMemory>
-    ensures { IfOk result (λ most. most ≡ most_locals policy.now refs.now) }
+fn most_locals<P: Planner>(planner: &P, refs: &[Target]) -> Result<u32, NoMemory>
+    ensures { IfOk result (λ most. most ≡ most_locals (P.plan planner.now) refs.now) }
 {
     let mut most: u32 = 0;
     let mut left = refs;
     while let [target, rest @ ..] = left {
-        most = most.max(count(site_locals(policy, target))?);
+        most = most.max(count(planner.locals(target))?);
         left = rest;
     }
     Ok(most)
@@ -114,21 +112,21 @@ fn count(n: usize) -> Result<u32, NoMemory>
 }
 
 /// For each instruction its block, if it has one.
-fn sites_of(
+fn sites_of<P: Planner>(
     alloc: Global,
-    policy: &Policy,
+    planner: &P,
     base: u16,
     refs: &[Target],
 ) -> Result<List<Option<Block>>, NoMemory>
-    requires { base + most_locals policy.now refs.now < 2 ^ 16 }
-    ensures is { IfOk result (λ sites. sites ≡ map (site policy.now base) refs.now) }
+    requires { base + most_locals (P.plan planner.now) refs.now < 2 ^ 16 }
+    ensures is { IfOk result (λ sites. sites ≡ map ((P.plan planner.now).block base) refs.now) }
     ensures each { IfOk result (λ sites. length sites ≡ length refs.now) }
     ensures fits { IfOk result (AllByRecursion IsSite) }
 {
     let mut sites = List::new(alloc);
     let mut left = refs;
     while let [target, rest @ ..] = left {
-        sites.push(site(alloc, policy, base, target)?)?;
+        sites.push(planner.block(alloc, base, target)?)?;
         left = rest;
     }
     Ok(sites)

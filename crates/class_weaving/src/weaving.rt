@@ -1,92 +1,106 @@
-//! A program and a policy become class files with blocks.
+//! A program becomes class files with blocks.
 
-ghost use Rattle.std.specs.Prelude.{◌≡◌, ◌≢◌, ◌<◌, ◌^◌, IfErr, IfOk, IsOk, None, Some, length};
+ghost use Rattle.std.specs.Prelude.{◌≡◌, ◌≢◌, ◌<◌, ◌≤◌, ◌^◌, FitsSigned, IfErr, IfOk, IsOk, None, Some, length, map};
+ghost use Rattle.std.specs.Int.{w32};
 ghost use Rattle.std.specs.List.{AllByRecursion};
 ghost use Rattle.class_codec.specs.Fits.{CanSpell};
+ghost use Rattle.conspec_tree.specs.declared.types.Var.{Var};
 ghost use Rattle.bytecode_model.specs.Sound.{IsSound, IsSoundClass};
-ghost use Rattle.conspec_automaton.specs.Denying.{DeniesOnly};
 ghost use Rattle.mon_base.specs.Answer.{Answers};
+ghost use Rattle.offset_patch.specs.Plan.{IsGood};
 ghost use Rattle.offset_patch.specs.Sizes.{first_unfit};
 ghost use Rattle.offset_patch.specs.declared.fault.SpliceFault.TheVariants.{Memory};
-ghost use Rattle.inline_release.specs.Sizes.{program_sizes};
-ghost use Rattle.block_template.specs.Woven.{none_made, file_with, file_put, class_woven, classes_woven, state_put, woven};
+ghost use Rattle.class_weaving.specs.Sizes.{program_sizes};
+ghost use Rattle.class_weaving.specs.Woven.{none_made, file_with, file_put, class_woven, classes_woven, state_put, woven};
 
 use crate::members::members_woven;
-use block_template::{Members, Woven, state_class};
-use bytecode_model::{LinkedClass, Origin, Program};
+use crate::state::state_file;
+use crate::woven::{Members, Woven};
+use bytecode_model::{LinkedClass, Program};
 use class_codec::{ClassFile, Member, copy_list};
-use conspec_automaton::Policy;
+use conspec_tree::Var;
 use mon_base::{List, NoMemory};
-use offset_patch::{Entries, SpliceFault};
+use offset_patch::{Entries, Planner, SpliceFault};
 use std::alloc::Global;
 
-/// The class files of a program with a block for each call that the policy denies, and behind them `conspec/State`; or the
-/// first size that does not fit. A policy denies calls outright.
-pub fn inline(alloc: Global, program: &Program, policy: &Policy) -> Result<Woven, SpliceFault>
+/// The class files of a program with a block for each instruction to which the planner gives one, and behind them
+/// `conspec/State` of these variables; or the first size that does not fit.
+pub fn weave<P: Planner>(
+    alloc: Global,
+    program: &Program,
+    planner: &P,
+    vars: &[Var],
+) -> Result<Woven, SpliceFault>
     requires sound { IsSound program.now }
-    requires denies { DeniesOnly policy.now }
-    ensures exact { Answers SpliceFault.Memory result (woven program.now policy.now) }
+    requires good { IsGood (map (λ (v : Var). v.is_bool) vars.now) (P.plan planner.now) }
+    requires few { length vars.now ≤ 16 }
+    ensures exact { Answers SpliceFault.Memory result (woven program.now (P.plan planner.now) vars.now) }
     // Each size fits, or the first that does not is the fault.
-    ensures fits { IsOk result → first_unfit (program_sizes program.now policy.now) ≡ None }
-    ensures unfit { IfErr result (λ fault. fault ≢ Memory → first_unfit (program_sizes program.now policy.now) ≡ Some fault) }
+    ensures fits { IsOk result → first_unfit (program_sizes program.now (P.plan planner.now)) ≡ None }
+    ensures unfit { IfErr result (λ fault. fault ≢ Memory → first_unfit (program_sizes program.now (P.plan planner.now)) ≡ Some fault) }
     // The files can be written.
-    ensures spells { IfOk result (λ made. AllByRecursion CanSpell made.files) }
+    ensures spells { AllByRecursion (λ (v : Var). FitsSigned w32 v.first) vars.now → IfOk result (λ made. AllByRecursion CanSpell made.files) }
 {
-    all_woven(alloc, program, policy)
+    all_woven(alloc, program, planner, vars)
 }
 
-fn all_woven(alloc: Global, program: &Program, policy: &Policy) -> Result<Woven, SpliceFault>
+fn all_woven<P: Planner>(
+    alloc: Global,
+    program: &Program,
+    planner: &P,
+    vars: &[Var],
+) -> Result<Woven, SpliceFault>
     requires sound { IsSound program.now }
-    requires denies { DeniesOnly policy.now }
-    ensures { Answers SpliceFault.Memory result (woven program.now policy.now) }
+    requires few { length vars.now ≤ 16 }
+    ensures { Answers SpliceFault.Memory result (woven program.now (P.plan planner.now) vars.now) }
 {
     let none = Woven {
         files: List::new(alloc),
         origins: List::new(alloc),
     };
-    let woven = classes_woven(alloc, policy, none, program.classes.as_slice())?;
-    let woven = state_put(alloc, policy, woven)?;
+    let woven = classes_woven(alloc, planner, none, program.classes.as_slice())?;
+    let woven = state_put(alloc, vars, woven)?;
     Ok(woven)
 }
 
-fn state_put(alloc: Global, policy: &Policy, woven: Woven) -> Result<Woven, NoMemory>
-    requires { DeniesOnly policy.now }
-    ensures { IfOk result (λ other. other ≡ state_put policy.now woven) }
+fn state_put(alloc: Global, vars: &[Var], woven: Woven) -> Result<Woven, NoMemory>
+    requires { length vars.now ≤ 16 }
+    ensures { IfOk result (λ other. other ≡ state_put vars.now woven) }
 {
     let Woven { files, origins } = woven;
     let mut files = files;
     let mut origins = origins;
-    files.push(state_class(alloc, policy)?)?;
+    files.push(state_file(alloc, vars)?)?;
     origins.push(List::new(alloc))?;
     Ok(Woven { files, origins })
 }
 
-fn classes_woven(
+fn classes_woven<P: Planner>(
     alloc: Global,
-    policy: &Policy,
+    planner: &P,
     woven: Woven,
     classes: &[LinkedClass],
 ) -> Result<Woven, SpliceFault>
     requires { AllByRecursion IsSoundClass classes.now }
-    ensures { Answers SpliceFault.Memory result (classes_woven policy.now woven classes.now) }
+    ensures { Answers SpliceFault.Memory result (classes_woven (P.plan planner.now) woven classes.now) }
 {
     let mut woven = woven;
     let mut left = classes;
     while let [class, rest @ ..] = left {
-        woven = class_woven(alloc, policy, woven, class)?;
+        woven = class_woven(alloc, planner, woven, class)?;
         left = rest;
     }
     Ok(woven)
 }
 
-fn class_woven(
+fn class_woven<P: Planner>(
     alloc: Global,
-    policy: &Policy,
+    planner: &P,
     woven: Woven,
     class: &LinkedClass,
 ) -> Result<Woven, SpliceFault>
     requires { IsSoundClass class.now }
-    ensures { Answers SpliceFault.Memory result (class_woven policy.now woven class.now) }
+    ensures { Answers SpliceFault.Memory result (class_woven (P.plan planner.now) woven class.now) }
 {
     let none = Members {
         number: 0,
@@ -94,7 +108,7 @@ fn class_woven(
         items: List::new(alloc),
         origins: List::new(alloc),
     };
-    let made = members_woven(alloc, policy, class, none, class.file.methods.as_slice())?;
+    let made = members_woven(alloc, planner, class, none, class.file.methods.as_slice())?;
     let woven = file_put(alloc, woven, class, made)?;
     Ok(woven)
 }

@@ -1,6 +1,5 @@
 -- The class file of conspec/State, which holds the variables of a policy, and whose monitor is the lock.
 use Rattle.std.specs.Prelude.{ℕ, ◌+◌, ◌*◌, Bool, if◌then◌else◌, List, [], ◌∷◌, ◌++◌, codes}
-use Rattle.std.specs.Fmt.{decimal}
 use Rattle.byteorder.specs.Endian.{big_bytes}
 use Rattle.class_codec.specs.declared.tree.Attr.TheVariants as attributes
 use Rattle.class_codec.specs.declared.tree.ClassFile.{ClassFile}
@@ -8,12 +7,7 @@ use Rattle.class_codec.specs.declared.tree.Const.{Const}
 use Rattle.class_codec.specs.declared.tree.Const.TheVariants.{Utf8, Integer, Class, Second}
 use Rattle.class_codec.specs.declared.tree.Member.{Member}
 use Rattle.conspec_tree.specs.declared.types.Var.{Var}
-use Rattle.conspec_automaton.specs.declared.policy.Policy.{Policy}
-use Rattle.offset_patch.specs.Entries.{state_name}
-
--- the name of the variable of this index: v0, v1 and so on
-abbrev pub variable_name : ℕ → List ℕ
-variable_name index = codes "v" ++ decimal index
+use Rattle.offset_patch.specs.Entries.{state_name, variable_name}
 
 -- place 0, and the constants that each such class has
 abbrev pub head : List Const
@@ -66,6 +60,3 @@ state_file vars = record {
   methods = [];
   attrs = [];
 }
-
-abbrev pub state_class : Policy → ClassFile
-state_class policy = state_file policy.vars

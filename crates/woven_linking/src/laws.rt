@@ -1,8 +1,7 @@
 //! What holds of what is woven.
 
-ghost use Rattle.inline_release.specs.Links.{OriginalIsFree, WovenLinks};
-ghost use Rattle.inline_release.specs.Origins.{OriginsAreTrue};
-ghost use Rattle.inline_release.specs.Sizes.{SizesDecide};
+ghost use Rattle.woven_linking.specs.Links.{OriginalIsFree, WovenLinks};
+ghost use Rattle.woven_linking.specs.Origins.{OriginsAreTrue};
 
 /// Class files that were woven link to the program with its blocks.
 pub fn woven_files_link()
@@ -17,9 +16,4 @@ pub fn original_is_free()
 /// Each origin is true of its instruction.
 pub fn origins_are_true()
     ensures true_of { OriginsAreTrue }
-{}
-
-/// Weaving stops at the first size that does not fit, and where each fits it does not.
-pub fn sizes_decide()
-    ensures decide { SizesDecide }
 {}

@@ -8,7 +8,6 @@ pub mod Pairs
 pub mod Named
 pub mod Standing
 pub mod Added
-pub mod Spells
 pub mod Aims
 pub mod Again
 pub mod Texts
@@ -17,4 +16,3 @@ pub mod Steps
 pub mod Whole
 pub mod Original
 pub mod Told
-pub mod Sizing

@@ -1,5 +1,5 @@
--- What weaving makes of a program: each call that the policy denies stands in its block, and behind the classes stands
--- conspec/State. Or the first size that does not fit.
+-- What weaving makes of a program: each instruction to which the plan gives a block stands in it, and behind the classes
+-- stands conspec/State. Or the first size that does not fit.
 use Rattle.std.specs.Prelude.{ℕ, ◌+◌, Bool, max, if◌then◌else◌, List, [], ◌∷◌, ◌++◌, map, Option, Some, None, slice_get, Ok}
 use Rattle.std.specs.List.{list_any}
 use Rattle.mon_base.specs.Reading.{◌>>=◌}
@@ -14,17 +14,17 @@ use Rattle.bytecode_model.specs.declared.program.LinkedClass.{LinkedClass}
 use Rattle.bytecode_model.specs.declared.program.Method.{Method}
 use Rattle.bytecode_model.specs.declared.program.Program.{Program}
 use Rattle.bytecode_model.specs.declared.program.Target.{Target}
-use Rattle.conspec_automaton.specs.declared.policy.Policy.{Policy}
 use Rattle.offset_patch.specs.declared.block.Block.{Block}
 use Rattle.bytecode_model.specs.declared.origin.Origin.{Origin}
 use Rattle.bytecode_model.specs.declared.origin.Origin.TheVariants.{Client}
 use Rattle.offset_patch.specs.Fault.{Spliced}
 use Rattle.offset_patch.specs.Splicing.{grown, origins_of, room, code_spliced}
-use Rattle.block_template.specs.Blocks.{has_block, site, site_locals}
-use Rattle.block_template.specs.State.{state_class}
-use Rattle.block_template.specs.declared.woven.WovenCode.{WovenCode}
-use Rattle.block_template.specs.declared.woven.Members.{Members}
-use Rattle.block_template.specs.declared.woven.Woven.{Woven}
+use Rattle.offset_patch.specs.Plan.{Plan}
+use Rattle.conspec_tree.specs.declared.types.Var.{Var}
+use Rattle.class_weaving.specs.State.{state_file}
+use Rattle.class_weaving.specs.declared.woven.WovenCode.{WovenCode}
+use Rattle.class_weaving.specs.declared.woven.Members.{Members}
+use Rattle.class_weaving.specs.declared.woven.Woven.{Woven}
 
 -- one after another, as long as each fits
 abbrev pub folded : {S X : Type 0} → (S → X → Spliced S) → S → List X → Spliced S
@@ -34,36 +34,36 @@ folded step made (x ∷ xs) = step made x >>= λ next. folded step next xs
 -- ---- the code of a method
 
 -- whether one of the instructions has a block
-abbrev pub is_woven : Policy → Method → Bool
-is_woven policy method = list_any (has_block policy) method.refs
+abbrev pub is_woven : Plan → Method → Bool
+is_woven plan method = list_any plan.has_block method.refs
 
 -- for each instruction its block, if it has one
-abbrev pub sites_of : Policy → ℕ → Method → List (Option Block)
-sites_of policy base method = map (site policy base) method.refs
+abbrev pub sites_of : Plan → ℕ → Method → List (Option Block)
+sites_of plan base method = map (plan.block base) method.refs
 
-abbrev pub most_locals : Policy → List Target → ℕ
-most_locals policy [] = 0
-most_locals policy (ref ∷ refs) = max (site_locals policy ref) (most_locals policy refs)
+abbrev pub most_locals : Plan → List Target → ℕ
+most_locals plan [] = 0
+most_locals plan (ref ∷ refs) = max (plan.locals ref) (most_locals plan refs)
 
 -- the greatest number of locals that a block of the method uses
-abbrev pub locals_of : Policy → Method → ℕ
-locals_of policy method = most_locals policy method.refs
+abbrev pub locals_of : Plan → Method → ℕ
+locals_of plan method = most_locals plan method.refs
 
 -- Each instruction is the client's.
 abbrev pub clients_from : ℕ → List Insn → List Origin
 clients_from at [] = []
 clients_from at (insn ∷ insns) = Client at ∷ clients_from (at + 1) insns
 
-abbrev pub blocks_put : Policy → List ℕ → ℕ → List Const → Method → Code → List (Option Block) → Spliced WovenCode
-blocks_put policy class number pool method code sites = do
-  fits ← room class number code (locals_of policy method)
-  new ← code_spliced class number (grown pool sites) method code (locals_of policy method) sites
+abbrev pub blocks_put : Plan → List ℕ → ℕ → List Const → Method → Code → List (Option Block) → Spliced WovenCode
+blocks_put plan class number pool method code sites = do
+  fits ← room class number code (locals_of plan method)
+  new ← code_spliced class number (grown pool sites) method code (locals_of plan method) sites
   Ok (record { code = new; entries = grown pool sites; origins = origins_of sites })
 
 -- A method without a block stays as it is. The locals of a block stand behind the client's.
-abbrev pub code_woven : Policy → List ℕ → ℕ → List Const → Method → Code → Spliced WovenCode
-code_woven policy class number pool method code =
-    if is_woven policy method then blocks_put policy class number pool method code (sites_of policy code.max_locals method)
+abbrev pub code_woven : Plan → List ℕ → ℕ → List Const → Method → Code → Spliced WovenCode
+code_woven plan class number pool method code =
+    if is_woven plan method then blocks_put plan class number pool method code (sites_of plan code.max_locals method)
     else Ok (record { code = code; entries = pool; origins = clients_from 0 method.insns })
 
 -- ---- the methods of a class
@@ -94,18 +94,18 @@ code_put made member woven = record {
   origins = made.origins ++ woven.origins ∷ [];
 }
 
-abbrev pub body_woven : Policy → List ℕ → Members → Member → Option Method → Option Code → Spliced Members
-body_woven policy class made member (Some method) (Some code) =
-    code_woven policy class made.number made.entries method code >>= λ woven. Ok (code_put made member woven)
-body_woven policy class made member method code = Ok (bare_put made member)
+abbrev pub body_woven : Plan → List ℕ → Members → Member → Option Method → Option Code → Spliced Members
+body_woven plan class made member (Some method) (Some code) =
+    code_woven plan class made.number made.entries method code >>= λ woven. Ok (code_put made member woven)
+body_woven plan class made member method code = Ok (bare_put made member)
 
-abbrev pub member_woven : Policy → LinkedClass → Members → Member → Spliced Members
-member_woven policy class made member =
-    body_woven policy class.name made member (slice_get class.methods made.number) (first_code member.attrs)
+abbrev pub member_woven : Plan → LinkedClass → Members → Member → Spliced Members
+member_woven plan class made member =
+    body_woven plan class.name made member (slice_get class.methods made.number) (first_code member.attrs)
 
 -- the members one after another, the pool growing
-abbrev pub members_woven : Policy → LinkedClass → Members → List Member → Spliced Members
-members_woven policy class made members = folded (member_woven policy class) made members
+abbrev pub members_woven : Plan → LinkedClass → Members → List Member → Spliced Members
+members_woven plan class made members = folded (member_woven plan class) made members
 
 -- ---- classes
 
@@ -130,18 +130,18 @@ file_with file pool methods = record {
 abbrev pub file_put : Woven → LinkedClass → Members → Woven
 file_put woven class made = record { files = woven.files ++ file_with class.file made.entries made.items ∷ []; origins = woven.origins ++ made.origins ∷ [] }
 
-abbrev pub class_woven : Policy → Woven → LinkedClass → Spliced Woven
-class_woven policy woven class = members_woven policy class (none_made class.file.pool) class.file.methods >>= λ made. Ok (file_put woven class made)
+abbrev pub class_woven : Plan → Woven → LinkedClass → Spliced Woven
+class_woven plan woven class = members_woven plan class (none_made class.file.pool) class.file.methods >>= λ made. Ok (file_put woven class made)
 
 -- the classes one after another
-abbrev pub classes_woven : Policy → Woven → List LinkedClass → Spliced Woven
-classes_woven policy woven classes = folded (class_woven policy) woven classes
+abbrev pub classes_woven : Plan → Woven → List LinkedClass → Spliced Woven
+classes_woven plan woven classes = folded (class_woven plan) woven classes
 
 -- ---- the program
 
 -- conspec/State stands behind the classes, and has no method.
-abbrev pub state_put : Policy → Woven → Woven
-state_put policy woven = record { files = woven.files ++ state_class policy ∷ []; origins = woven.origins ++ [] ∷ [] }
+abbrev pub state_put : List Var → Woven → Woven
+state_put vars woven = record { files = woven.files ++ state_file vars ∷ []; origins = woven.origins ++ [] ∷ [] }
 
-abbrev pub woven : Program → Policy → Spliced Woven
-woven program policy = classes_woven policy (record { files = []; origins = [] }) program.classes >>= λ made. Ok (state_put policy made)
+abbrev pub woven : Program → Plan → List Var → Spliced Woven
+woven program plan vars = classes_woven plan (record { files = []; origins = [] }) program.classes >>= λ made. Ok (state_put vars made)

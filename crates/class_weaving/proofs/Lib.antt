@@ -1,0 +1,4 @@
+pub mod FirstCode
+pub mod StateFits
+pub mod Spells
+pub mod Sizing

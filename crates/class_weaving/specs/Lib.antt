@@ -1,0 +1,4 @@
+pub mod State
+pub mod Woven
+pub mod Sizes
+pub mod Outcome

@@ -1,0 +1,204 @@
+-- What class files that were woven link to: the classes of the program, in which each instruction to which the plan gives a
+-- block stands in it, and behind them conspec/State.
+use Rattle.mon_base.specs.declared.method.MethodId.{MethodId}
+use Rattle.std.specs.Prelude.{◌≡◌, ◌≢◌, ℕ, ◌+◌, codes, if◌then◌else◌, List, [], ◌∷◌, ◌++◌, length, map, slice_index, Contains, Option, Some, None, ⊤}
+use Rattle.std.specs.List.{AllByRecursion}
+use Rattle.class_codec.specs.declared.tree.Attr.{Attr}
+use Rattle.class_codec.specs.declared.tree.Attr.TheVariants as attributes
+use Rattle.class_codec.specs.declared.tree.Const.{Const}
+use Rattle.class_codec.specs.declared.tree.Member.{Member}
+use Rattle.insn_codec.specs.declared.insn.Insn.{Insn}
+use Rattle.bytecode_model.specs.declared.program.Target.{Target}
+use Rattle.bytecode_model.specs.declared.program.Target.TheVariants as target
+use Rattle.bytecode_model.specs.Heads.{head_of}
+use Rattle.class_codec.specs.Pool.{reference_at}
+use Rattle.offset_patch.specs.declared.block.Block.{Block}
+use Rattle.offset_patch.specs.declared.block.BlockInsn.{BlockInsn}
+use Rattle.offset_patch.specs.declared.block.BlockInsn.TheVariants.{Plain, Byte, Short, Local, Want, Jump, Call}
+use Rattle.offset_patch.specs.declared.block.PoolWant.{PoolWant}
+use Rattle.offset_patch.specs.declared.block.PoolWant.TheVariants as wants
+use Rattle.bytecode_model.specs.declared.program.Handler.{Handler}
+use Rattle.bytecode_model.specs.declared.program.LinkedClass.{LinkedClass}
+use Rattle.bytecode_model.specs.declared.program.Method.{Method}
+use Rattle.bytecode_model.specs.declared.program.Program.{Program}
+use Rattle.offset_patch.specs.Entries.{state_name, place_in, with_wants}
+use Rattle.offset_patch.specs.Splicing.{call_place, part_of, fronts_of, spliced, wants_of, operands_needed}
+use Rattle.offset_patch.specs.Plan.{Plan}
+use Rattle.conspec_tree.specs.declared.types.Var.{Var}
+use Rattle.class_weaving.specs.State.{state_file}
+use Rattle.class_weaving.specs.Woven.{is_woven, sites_of, locals_of, file_with}
+
+-- Two lists have as many items, and those of one place belong together.
+abbrev pub Each : {X Y : Type 0} → (X → Y → Type 0) → List X → List Y → Type 0
+Each Belong [] [] = ⊤
+Each Belong [] (y ∷ ys) = ⊥
+Each Belong (x ∷ xs) [] = ⊥
+Each Belong (x ∷ xs) (y ∷ ys) = Belong x y × Each Belong xs ys
+
+-- the instructions with their blocks, which name constants of the pool
+abbrev pub insns_woven : Plan → List Const → Method → List Insn
+insns_woven plan pool method =
+    if is_woven plan method then spliced pool method.insns (sites_of plan method.max_locals method) else method.insns
+
+-- a method with a block needs this many operands and local variables
+abbrev pub stack_woven : Plan → Method → ℕ
+stack_woven plan method = if is_woven plan method then method.max_stack + operands_needed else method.max_stack
+
+abbrev pub locals_woven : Plan → Method → ℕ
+locals_woven plan method = if is_woven plan method then method.max_locals + locals_of plan method else method.max_locals
+
+-- the handler with its bounds and its target at their fronts
+abbrev pub at_fronts : List ℕ → Handler → Handler
+at_fronts fronts handler = record {
+  from = slice_index fronts handler.from;
+  to = slice_index fronts handler.to;
+  at = slice_index fronts handler.at;
+  class = handler.class;
+}
+
+-- A block that begins at `begin` catches at this place of it what its call throws, of any class.
+abbrev pub own_handler : ℕ → List BlockInsn → ℕ → Handler
+own_handler begin insns place = record { from = begin + call_place insns; to = begin + call_place insns + 1; at = begin + place; class = None }
+
+abbrev pub handlers_by : ℕ → List BlockInsn → Option ℕ → List Handler
+handlers_by begin insns None = []
+handlers_by begin insns (Some place) = own_handler begin insns place ∷ []
+
+abbrev pub site_handlers : ℕ → Option Block → List Handler
+site_handlers begin None = []
+site_handlers begin (Some block) = handlers_by begin block.insns block.handler
+
+-- those of the blocks, where the part of the first instruction begins at `begin`
+abbrev pub own_handlers : ℕ → List (Option Block) → List Handler
+own_handlers begin [] = []
+own_handlers begin (site ∷ sites) = site_handlers begin site ++ own_handlers (begin + length (part_of site)) sites
+
+-- The blocks' handlers come first.
+abbrev pub handlers_with : List (Option Block) → List Handler → List Handler
+handlers_with sites handlers = own_handlers 0 sites ++ map (at_fronts (fronts_of sites)) handlers
+
+abbrev pub handlers_woven : Plan → Method → List Handler
+handlers_woven plan method = if is_woven plan method then handlers_with (sites_of plan method.max_locals method) method.handlers else method.handlers
+
+-- ---- what operands name
+
+-- the method that stops the program
+abbrev pub way_out : MethodId
+way_out = record { class = codes "java/lang/System"; name = codes "exit"; desc = codes "(I)V" }
+
+-- the place of that method in the table of the built-in ones
+abbrev pub way_out_index : ℕ
+way_out_index = 7
+
+-- what an entry that a block names is, where conspec/State is the class of the index `state`
+abbrev pub want_named : ℕ → PoolWant → Target
+want_named state wants.StateClass = target.ClassName state_name
+want_named state (wants.StateField var is_bool) = target.Field state var
+want_named state wants.Exit = target.Builtin way_out_index
+want_named state (wants.Integer n) = target.Number n
+
+-- what the operand of an instruction of a part names, where that of the client's instruction names `own`
+abbrev pub part_named : ℕ → Target → BlockInsn → Target
+part_named state own (Want op want) = want_named state want
+part_named state own Call = own
+part_named state own (Plain op) = target.None
+part_named state own (Byte n) = target.None
+part_named state own (Short n) = target.None
+part_named state own (Local op slot wide) = target.None
+part_named state own (Jump op place) = target.None
+
+-- the operands of the parts one after another
+abbrev pub parts_named : ℕ → List Target → List (Option Block) → List Target
+parts_named state [] sites = []
+parts_named state (own ∷ refs) [] = []
+parts_named state (own ∷ refs) (site ∷ sites) = map (part_named state own) (part_of site) ++ parts_named state refs sites
+
+abbrev pub refs_woven : Plan → ℕ → Method → List Target
+refs_woven plan state method =
+    if is_woven plan method then parts_named state method.refs (sites_of plan method.max_locals method) else method.refs
+
+-- ---- what is added to the constants
+
+-- what the blocks of a method name in the constant pool, in the order of use
+abbrev pub wants_woven : Plan → Method → List PoolWant
+wants_woven plan method = if is_woven plan method then wants_of (sites_of plan method.max_locals method) else []
+
+-- those of a class, its methods in their order
+abbrev pub class_wants : Plan → List Method → List PoolWant
+class_wants plan [] = []
+class_wants plan (method ∷ methods) = wants_woven plan method ++ class_wants plan methods
+
+-- ---- members
+
+-- A code may be another; any other attribute is as it was.
+abbrev pub IsWovenAttr : Attr → Attr → Type 0
+IsWovenAttr (attributes.Code old) (attributes.Code new) = ⊤
+IsWovenAttr (attributes.Code old) (attributes.Other new) = ⊥
+IsWovenAttr (attributes.Other old) (attributes.Code new) = ⊥
+IsWovenAttr (attributes.Other old) (attributes.Other new) = new ≡ old
+
+-- All but its code is as it was.
+pub record IsWovenMember (old new : Member) : Type 0 where
+  pub flags : new.flags ≡ old.flags
+  pub name : new.name ≡ old.name
+  pub desc : new.desc ≡ old.desc
+  pub attrs : Each IsWovenAttr old.attrs new.attrs
+
+-- ---- methods, classes and programs
+
+-- What a method was, and what it is.
+pub record IsWovenMethod (plan : Plan) (state : ℕ) (pool : List Const) (old new : Method) : Type 0 where
+  pub flags : new.flags ≡ old.flags
+  pub name : new.name ≡ old.name
+  pub desc : new.desc ≡ old.desc
+  pub max_stack : new.max_stack ≡ stack_woven plan old
+  pub max_locals : new.max_locals ≡ locals_woven plan old
+  pub insns : new.insns ≡ insns_woven plan pool old
+  pub handlers : new.handlers ≡ handlers_woven plan old
+  pub refs : new.refs ≡ refs_woven plan state old
+  -- where a block stops the program, the pool's way out is that
+  pub out : Contains wants.Exit (wants_woven plan old) → reference_at pool (place_in pool wants.Exit) ≡ Some way_out
+
+-- The blocks name constants of the new file, which has all of the old one, each in its place, and behind them what the
+-- blocks name that was not there, in the order of use. All else of the file is as it was, but the code of its methods.
+pub record IsWovenClass (plan : Plan) (state : ℕ) (old new : LinkedClass) : Type 0 where
+  pub name : new.name ≡ old.name
+  pub parent : new.parent ≡ old.parent
+  pub head : head_of new.file ≡ head_of old.file
+  pub added : List Const
+  pub pool : new.file.pool ≡ old.file.pool ++ added
+  pub wanted : new.file.pool ≡ with_wants old.file.pool (class_wants plan old.methods)
+  pub file : new.file ≡ file_with old.file new.file.pool new.file.methods
+  pub members : Each IsWovenMember old.file.methods new.file.methods
+  pub methods : Each (IsWovenMethod plan state new.file.pool) old.methods new.methods
+
+-- The class conspec/State of these variables, which has no method.
+pub record IsState (vars : List Var) (class : LinkedClass) : Type 0 where
+  pub name : class.name ≡ state_name
+  pub file : class.file ≡ state_file vars
+  pub methods : class.methods ≡ []
+
+-- The classes stand in their order, and conspec/State is the last. The program begins where it began, and has the string
+-- constants that it had.
+pub record IsWoven (old : Program) (plan : Plan) (vars : List Var) (new : Program) : Type 0 where
+  pub own : List LinkedClass
+  pub state : LinkedClass
+  pub are : new.classes ≡ own ++ state ∷ []
+  pub classes : Each (IsWovenClass plan (length old.classes)) old.classes own
+  pub last : IsState vars state
+  pub listing : new.listing ≡ old.listing
+  pub literals : new.literals ≡ old.literals
+  pub main_class : new.main_class ≡ old.main_class
+  pub main_method : new.main_method ≡ old.main_method
+
+-- ---- names that are kept
+
+-- The operand names nothing of conspec/State.
+abbrev pub IsFreeTarget : Target → Type 0
+IsFreeTarget (target.ClassName name) = name ≢ state_name
+IsFreeTarget other = ⊤
+
+-- Nothing of the program is named as what the tool keeps for itself.
+pub record IsFreeOfState (program : Program) : Type 0 where
+  pub classes : AllByRecursion (λ (c : LinkedClass). c.name ≢ state_name) program.classes
+  pub operands : AllByRecursion (λ (c : LinkedClass). AllByRecursion (λ (m : Method). AllByRecursion IsFreeTarget m.refs) c.methods) program.classes
