@@ -8,10 +8,11 @@ which refuses one state: the first that is refused tells it.
 import itertools
 import os
 import re
-import shutil
 import subprocess
 import tempfile
 from typing import NamedTuple
+
+from built_program import Refused, program
 
 PROBE = "conspec/draw/Probe"
 MOST_CLAUSES = 64
@@ -19,10 +20,6 @@ NUMBERS = {"Z": (0, 1), "B": (-128, 127), "S": (-32768, 32767), "C": (0, 65535),
 LETTERS = {"void": "V", "int": "I", "boolean": "Z", "byte": "B", "short": "S", "char": "C"}
 PHASES = {"BEFORE": "call", "AFTER": "return", "EXCEPTIONAL": "except"}
 MOST_EVENTS = 400
-
-
-class Refused(Exception):
-    """conspecj does not take the policy or the listing, or is not there; the text is its line, or says why."""
 
 
 class TooLarge(Exception):
@@ -50,15 +47,6 @@ class Edge(NamedTuple):
 
 
 # ---- the program
-
-def program():
-    """The path of conspecj: told by CONSPECJ, or where the repository builds it, or on the path."""
-    built = os.path.join(os.path.dirname(os.path.realpath(__file__)), "..", "crates", "conspecj", "out", "conspecj")
-    for path in (os.environ.get("CONSPECJ"), built, shutil.which("conspecj")):
-        if path and os.access(path, os.X_OK):
-            return os.path.realpath(path)
-    raise Refused("conspecj is not built, and CONSPECJ does not tell where it is")
-
 
 class Runs:
     """Runs of `conspecj policy` over records, in a folder of their own."""
