@@ -91,7 +91,7 @@ CLASS_FILES = {
     ),
     107: Refusal(
         "a file that is too long",
-        ("bytes",),
+        ("number of bytes",),
         (
             "The file is longer than its kind may be: a listing or a class file 1,048,576 bytes, a policy 65,536, a"
             " certificate 67,108,864, a record 268,435,456."
@@ -268,7 +268,7 @@ LINKING = {
     ),
     147: Refusal(
         "too many class files",
-        ("files",),
+        ("number of files",),
         "There are more than 1,000 class files.",
         (
             "Tests, examples or a whole library are among the files.",
@@ -324,7 +324,7 @@ LINKING = {
     ),
     152: Refusal(
         "too many bytes of class files",
-        ("bytes",),
+        ("number of bytes",),
         "The class files have more than 16,777,216 bytes in all; their number of bytes is told.",
         (
             "Tests, examples or a whole library are among the files.",
@@ -383,7 +383,7 @@ LISTINGS = {
     ),
     164: Refusal(
         "too many lines",
-        ("lines",),
+        ("number of lines",),
         "The listing has more than 20,000 lines.",
         (
             "It lists a whole library, and not what the program calls.",
@@ -584,7 +584,7 @@ CHECKS = {
     ),
     222: Refusal(
         "too many points to decide",
-        ("first clause", "second clause", "points"),
+        ("first clause", "second clause", "number of points"),
         (
             "Whether the policy is race-free is not decided: these two clauses, counted from 0, would have to be "
             "tried at more than 1,000,000 states and events."
