@@ -1,9 +1,9 @@
 -- Entries are found in the order of the map just where they are equal.
-use Rattle.std.proofs.Common.{◌≡◌, ℕ, ℤ, ◌+◌, ◌<◌, ◌≤◌, Bool, true, false, cond, List, [], ◌∷◌, ◌++◌, length, map, Option, Some, None, refl, sym, ap, ap₂, subst, ◌∙◌, ◌&&◌, append_assoc, arith}
-use Rattle.std.specs.Prelude.{◌==◌, bytes_eq}
+use Rattle.std.proofs.Common.{◌≡◌, ℕ, ◌+◌, ◌<◌, ◌≤◌, Bool, true, false, cond, List, [], ◌∷◌, ◌++◌, length, map, Option, Some, None, refl, sym, ap, ap₂, subst, ◌∙◌, ◌&&◌, append_assoc, arith}
+use Rattle.std.specs.Prelude.{◌==◌}
 use Rattle.std.specs.declared.cmp.Ordering.{Ordering}
 use Rattle.std.specs.declared.cmp.Ordering.TheVariants.{Less, Equal, Greater}
-use Rattle.std.specs.Ordering.{is_eq, nat_cmp, int_cmp, int_eq, ordering_then}
+use Rattle.std.specs.Ordering.{is_eq, nat_cmp, ordering_then}
 use Rattle.std.specs.Cmp.{unsigned_tied, unsigned_Decides}
 use Rattle.std.specs.BTreeMap.{BTreeMap, is_at}
 use Rattle.std.specs.Map.{lookup}
@@ -21,7 +21,7 @@ use Rattle.offset_patch.specs.declared.constants.Added.TheVariants.{Text, Class,
 use Rattle.offset_patch.specs.declared.growth.Growth.{Growth}
 use Rattle.offset_patch.specs.Added.{const_of, added_of, with_added, NamesBelow}
 use Rattle.offset_patch.specs.Entries.{same, placed, place_of, entry}
-use Rattle.offset_patch.specs.Growth.{added_cmp, found_at, ArePlaced, IsGrowth}
+use Rattle.offset_patch.specs.Growth.{added_cmp, found_at, IsGrowth}
 use Rattle.offset_patch.proofs.PoolFits.{each_on}
 use Rattle.offset_patch.proofs.Lists.{all_append}
 

@@ -1,12 +1,12 @@
 -- Lines that are read, moved and written, and where instructions began.
-use Rattle.std.proofs.Common.{◌≡◌, ℕ, zero, suc, ◌+◌, ◌-◌, ◌<◌, ◌≤◌, Bool, true, false, cond, List, [], ◌∷◌, ◌++◌, length, get_or, take, drop, Option, Some, None, option_map, Result, Ok, Err, refl, sym, ap, ◌∙◌, append_assoc, append-nil, arith}
+use Rattle.std.proofs.Common.{◌≡◌, ℕ, ◌+◌, ◌-◌, ◌<◌, ◌≤◌, Bool, true, false, cond, List, [], ◌∷◌, ◌++◌, length, take, drop, Option, Some, None, option_map, Result, Ok, Err, refl, sym, ap, ◌∙◌, append_assoc, append-nil, arith}
 use Rattle.std.specs.Prelude.{slice_index, ◌==◌, option_and_then, IfOk, bytes_eq, codes, if◌then◌else◌}
 use Rattle.std.specs.Ordering.{is_eq, nat_cmp}
 use Rattle.std.specs.BTreeMap.{BTreeMap, is_at}
 use Rattle.std.specs.Map.{lookup}
 use Rattle.std.specs.Cmp.{unsigned_tied, unsigned_Decides}
 use Rattle.std.specs.Option.{option_or, is_some}
-use Rattle.std.specs.List.{position_from, filter_map, cons_option}
+use Rattle.std.specs.List.{position_from, cons_option}
 use Rattle.std.proofs.lemmas.Bool.{false≢true}
 use Rattle.std.proofs.lemmas.List.{take_all}
 use Rattle.class_codec.specs.declared.tree.Const.{Const}
@@ -15,7 +15,7 @@ use Rattle.byteorder.specs.Endian.{big_number}
 use Rattle.insn_codec.specs.declared.insn.Insn.{Insn}
 use Rattle.insn_codec.specs.Spelling.{size, starts_from}
 use Rattle.bytecode_model.specs.Heads.{text_at}
-use Rattle.offset_patch.specs.Lines.{Line, table, lines_in, lines_of, line_moved, before, lines_moved, table_moved, attr_kept, each_kept, few_attrs, attrs_kept, start_moved, moved_in}
+use Rattle.offset_patch.specs.Lines.{Line, table, lines_in, lines_of, line_moved, before, lines_moved, table_moved, attr_kept, each_kept, few_attrs, attrs_kept, moved_in}
 
 -- ---- bytes that are lines
 

@@ -1,5 +1,5 @@
 -- An entry that was added stays where it is: what is added later stands behind it.
-use Rattle.std.proofs.Common.{◌≡◌, cond, ℕ, ℤ, ◌+◌, Bool, true, false, List, [], ◌∷◌, ◌++◌, length, Option, Some, None, option_map, map, refl, sym, ap, subst, ◌∙◌, append_assoc, append-nil, zero-add, arith}
+use Rattle.std.proofs.Common.{◌≡◌, cond, ℕ, ℤ, ◌+◌, Bool, true, false, List, [], ◌∷◌, ◌++◌, length, Option, Some, None, refl, sym, ap, subst, ◌∙◌, append_assoc, append-nil, zero-add, arith}
 use Rattle.std.specs.Prelude.{bytes_eq, ◌==◌, codes}
 use Rattle.std.specs.Ordering.{int_eq}
 use Rattle.std.specs.List.{position_from}
@@ -7,8 +7,6 @@ use Rattle.std.proofs.lemmas.Bool.Decides.{Decides-int_eq}
 use Rattle.class_codec.specs.declared.tree.Const.{Const}
 use Rattle.class_codec.specs.declared.tree.Const.TheVariants as constants
 use Rattle.offset_patch.specs.declared.block.PoolWant.{PoolWant}
-use Rattle.offset_patch.specs.declared.constants.Added.{Added}
-use Rattle.offset_patch.specs.Added.{const_of, with_added}
 use Rattle.offset_patch.specs.declared.block.PoolWant.TheVariants as wants
 use Rattle.offset_patch.specs.Entries.{same, Placed, placed, place_of, entry, text, class, name_and_type, field, method, state_name, variable_name, variable_type, wanted}
 

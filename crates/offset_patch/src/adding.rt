@@ -17,11 +17,14 @@ const STATE: &[u8] = b"conspec/State";
 
 /// The method that ends the program: its class, its name and its descriptor.
 const SYSTEM: &[u8] = b"java/lang/System";
+
 const EXIT: &[u8] = b"exit";
+
 const EXIT_TYPE: &[u8] = b"(I)V";
 
 /// The types of variables.
 const BOOL: &[u8] = b"Z";
+
 const INT: &[u8] = b"I";
 
 /// Sees to it that the entry is there that a block names, and tells where.
@@ -39,7 +42,14 @@ pub fn wanted(
         PoolWant::StateClass => class(alloc, pool, growth, STATE),
         PoolWant::StateField { var, is_bool } => {
             let name = variable_name(alloc, var)?;
-            field(alloc, pool, growth, STATE, name.as_slice(), variable_type(is_bool))
+            field(
+                alloc,
+                pool,
+                growth,
+                STATE,
+                name.as_slice(),
+                variable_type(is_bool),
+            )
         }
         PoolWant::Exit => method(alloc, pool, growth, SYSTEM, EXIT, EXIT_TYPE),
         PoolWant::Integer(n) => entry(alloc, pool, growth, Added::Integer(n)),

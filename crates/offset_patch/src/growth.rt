@@ -105,12 +105,7 @@ fn place(places: &BTreeMap<Added, u64>, wanted: &Added) -> Option<u64>
 }
 
 /// Adds the constant, of which none is there, and tells where it stands.
-fn add(
-    alloc: Global,
-    pool: &[Const],
-    growth: &mut Growth,
-    wanted: Added,
-) -> Result<u64, NoMemory>
+fn add(alloc: Global, pool: &[Const], growth: &mut Growth, wanted: Added) -> Result<u64, NoMemory>
     requires good { IsGrowth pool.now growth.old }
     requires names { NamesBelow (length pool.now + length growth.old.added) wanted }
     requires new { found_at growth.old.places wanted ≡ None }

@@ -1,5 +1,4 @@
-use Rattle.std.proofs.Common.{◌≡◌, ◌+◌, length, sym, ap, ◌∙◌, arith}
-use Rattle.offset_patch.specs.Splicing.{call_place}
+use Rattle.std.proofs.Common.{length, sym, ap, ◌∙◌, arith}
 use Rattle.offset_patch.proofs.Lists.{first_is, none_left}
 use Rattle.offset_patch.proofs.Calling.{place_none, place_here, place_later}
 use Rattle.offset_patch.proofs.tables.call_place.Goals as goal

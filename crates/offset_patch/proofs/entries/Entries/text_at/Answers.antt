@@ -1,8 +1,6 @@
-use Rattle.std.proofs.Common.{sym, ap, length, subst, ◌≡◌, ◌∙◌, ◌<◌, ◌≤◌, ◌-◌, ℕ, arith}
-use Rattle.class_codec.specs.declared.tree.Const.{Const}
+use Rattle.std.proofs.Common.{sym, ap, length, ◌∙◌, ◌<◌, ◌≤◌, ◌-◌, arith}
 use Rattle.bytecode_model.specs.Heads.{text_at}
 use Rattle.offset_patch.specs.Growth.{added_in, text_among}
-use Rattle.offset_patch.specs.declared.constants.Added.{Added}
 use Rattle.offset_patch.proofs.Texts.{text_before, text_behind}
 use Rattle.offset_patch.proofs.entries.Entries.text_at.Goals as goal
 
