@@ -1,6 +1,7 @@
 //! What is added behind a pool, each constant where no equal one stands.
 
-ghost use Rattle.std.specs.Prelude.{◌≡◌, ◌∷◌, [], ◌+◌, ◌++◌, ◌<◌, ◌≤◌, Some, None, if◌then◌else◌, IfOk, IfSome, OnOk, length};
+ghost use Rattle.std.specs.Prelude.{◌≡◌, ◌∷◌, [], ◌+◌, ◌++◌, ◌<◌, ◌≤◌};
+ghost use Rattle.std.specs.Prelude.{Some, None, if◌then◌else◌, IfOk, IfSome, OnOk, length};
 ghost use Rattle.std.specs.Option.{option_or};
 ghost use Rattle.offset_patch.specs.declared.constants.Added.{Added};
 ghost use Rattle.offset_patch.specs.Added.{const_of, with_added, NamesBelow};

@@ -1,12 +1,14 @@
 //! The line numbers of a code with blocks.
 
-ghost use Rattle.std.specs.Prelude.{◌≡◌, ◌∷◌, [], ◌+◌, ◌<◌, ◌^◌, ◌++◌, ℕ, Some, None, if◌then◌else◌, ◌==◌, IfOk, OnOk, IfSome, IfNone, length};
+ghost use Rattle.std.specs.Prelude.{◌≡◌, ◌∷◌, [], ◌+◌, ◌<◌, ◌^◌, ◌++◌, ℕ, Some};
+ghost use Rattle.std.specs.Prelude.{None, if◌then◌else◌, ◌==◌, IfOk, OnOk, IfSome, IfNone, length};
 ghost use Rattle.std.specs.List.{AllByRecursion};
 ghost use Rattle.std.specs.Option.{option_or};
 ghost use Rattle.byteorder.specs.Endian.{big_bytes};
 ghost use Rattle.mon_base.specs.Widths.{IsU2};
 ghost use Rattle.insn_codec.specs.Spelling.{len_from};
-ghost use Rattle.offset_patch.specs.Lines.{table, lines_in, lines_of, line_moved, lines_moved, table_moved, attr_kept, each_kept, attrs_kept};
+ghost use Rattle.offset_patch.specs.Lines.{table, lines_in, lines_of, line_moved, lines_moved};
+ghost use Rattle.offset_patch.specs.Lines.{table_moved, attr_kept, each_kept, attrs_kept};
 ghost use Rattle.offset_patch.specs.Lines.{are_within, start_moved, moved_in};
 ghost use Rattle.offset_patch.specs.Splicing.{begins};
 

@@ -4,7 +4,8 @@ ghost use Rattle.std.specs.Prelude.{◌≡◌, ◌+◌, ◌++◌, ◌<◌, ◌�
 ghost use Rattle.std.specs.List.{AllByRecursion};
 ghost use Rattle.mon_base.specs.Widths.{IsU2};
 ghost use Rattle.offset_patch.specs.Fits.{IsSite};
-ghost use Rattle.offset_patch.specs.Splicing.{part_of, count_of, is_call, call_place, handler_of, catching, own_entry, site_entries, own_entries};
+ghost use Rattle.offset_patch.specs.Splicing.{part_of, count_of, is_call, call_place, handler_of};
+ghost use Rattle.offset_patch.specs.Splicing.{catching, own_entry, site_entries, own_entries};
 ghost use Rattle.offset_patch.specs.Splicing.{moved, table_moved};
 
 use crate::block::{Block, BlockInsn};
