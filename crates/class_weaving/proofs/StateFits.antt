@@ -7,7 +7,7 @@ use Rattle.class_codec.specs.Pool.{names}
 use Rattle.class_codec.specs.Fits.{IsTextByte, FitsConst, HasSeconds, IsNamed, CanSpell}
 use Rattle.conspec_tree.specs.declared.types.Var.{Var}
 use Rattle.offset_patch.specs.Entries.{state_name}
-use Rattle.block_template.specs.State.{head, state_file}
+use Rattle.class_weaving.specs.State.{head, state_file}
 
 abbrev is_text_byte : ℕ → Bool
 is_text_byte b = nat_lt 0 b && nat_lt b 240

@@ -31,14 +31,14 @@ use Rattle.class_index.proofs.Declaring.{first_of-append}
 use Rattle.bytecode_model.proofs.Lists.{all_append, not_true}
 use Rattle.bytecode_model.proofs.Placing.{same_name}
 use Rattle.offset_patch.specs.Entries.{state_name}
-use Rattle.block_template.specs.Outcome.{Each, way_out, way_out_index}
-use Rattle.inline_release.proofs.Above.{has_name, find_none, found_fits, other_name, and_both, Ends, ordered, climbs, leaves, order_same}
-use Rattle.inline_release.proofs.Free.{class_free}
-use Rattle.inline_release.proofs.Kept.{IsKept}
-use Rattle.inline_release.proofs.Listed.{IsListed, nameless}
-use Rattle.inline_release.proofs.Named.{IsAdded}
-use Rattle.inline_release.proofs.Same.{bare_state, state_methods, state_fields, state_strings, heads_kept, given_kept, literals_kept}
-use Rattle.inline_release.proofs.Standing.{or_left, or_right, state_head, state_says, state_head_name, state_head_alone, IsGood, all_good, none_taken, classes_stand}
+use Rattle.class_weaving.specs.Outcome.{Each, way_out, way_out_index}
+use Rattle.woven_linking.proofs.Above.{has_name, find_none, found_fits, other_name, and_both, Ends, ordered, climbs, leaves, order_same}
+use Rattle.woven_linking.proofs.Free.{class_free}
+use Rattle.woven_linking.proofs.Kept.{IsKept}
+use Rattle.woven_linking.proofs.Listed.{IsListed, nameless}
+use Rattle.woven_linking.proofs.Named.{IsAdded}
+use Rattle.woven_linking.proofs.Same.{bare_state, state_methods, state_fields, state_strings, heads_kept, given_kept, literals_kept}
+use Rattle.woven_linking.proofs.Standing.{or_left, or_right, state_head, state_says, state_head_name, state_head_alone, IsGood, all_good, none_taken, classes_stand}
 
 heads_append : (files : List ClassFile) (s : ClassFile) → heads_of (files ++ s ∷ []) ≡ heads_of files ++ head_of s ∷ []
 heads_append [] s = refl

@@ -20,7 +20,7 @@ use Rattle.insn_codec.specs.Writing.{held_by_2, held_by_4, near, far, all_far, r
 use Rattle.insn_codec.proofs.CodeLaws.{spelled_code}
 use Rattle.bytecode_model.specs.declared.program.Method.{Method}
 use Rattle.bytecode_model.specs.Sound.{IsSoundMethod}
-use Rattle.conspec_automaton.specs.declared.policy.Policy.{Policy}
+use Rattle.offset_patch.specs.Plan.{Plan}
 use Rattle.offset_patch.specs.declared.block.Block.{Block}
 use Rattle.offset_patch.specs.declared.fault.Size.TheVariants as sizes
 use Rattle.offset_patch.specs.declared.fault.SpliceFault.{SpliceFault}
@@ -29,10 +29,10 @@ use Rattle.offset_patch.specs.Splicing.{grown, fronts_of, origins_of, room, spli
 use Rattle.offset_patch.proofs.CodeFits.{room_is, pool_short}
 use Rattle.offset_patch.proofs.InsnFits.{wants_there, parts_fit}
 use Rattle.block_template.specs.Blocks.{site}
-use Rattle.block_template.specs.declared.woven.WovenCode.{WovenCode}
-use Rattle.block_template.specs.Woven.{sites_of, locals_of, blocks_put}
-use Rattle.inline_release.proofs.Aims.{sites_part, spliced_aims, spliced_ends}
-use Rattle.inline_release.proofs.Spells.{refs_fit}
+use Rattle.class_weaving.specs.declared.woven.WovenCode.{WovenCode}
+use Rattle.class_weaving.specs.Woven.{sites_of, locals_of, blocks_put}
+use Rattle.woven_linking.proofs.Aims.{sites_part, spliced_aims, spliced_ends}
+use Rattle.class_weaving.proofs.Spells.{refs_fit}
 
 -- ---- offsets
 
@@ -134,18 +134,18 @@ made_of class number pool method code locals sites new e =
     }
 
 -- What is read of a code that was woven.
-pub record IsRead (policy : Policy) (pool : List Const) (method : Method) (code : Code) (w : WovenCode) : Type 0 where
-  pub entries : w.entries ≡ grown pool (sites_of policy code.max_locals method)
-  pub insns : code_of w.code.code ≡ Ok (spliced w.entries method.insns (sites_of policy code.max_locals method))
-  pub table : w.code.table ≡ table_moved (starts_of (spliced w.entries method.insns (sites_of policy code.max_locals method))) (fronts_of (sites_of policy code.max_locals method)) method.handlers code.table
+pub record IsRead (plan : Plan) (pool : List Const) (method : Method) (code : Code) (w : WovenCode) : Type 0 where
+  pub entries : w.entries ≡ grown pool (sites_of plan code.max_locals method)
+  pub insns : code_of w.code.code ≡ Ok (spliced w.entries method.insns (sites_of plan code.max_locals method))
+  pub table : w.code.table ≡ table_moved (starts_of (spliced w.entries method.insns (sites_of plan code.max_locals method))) (fronts_of (sites_of plan code.max_locals method)) method.handlers code.table
   pub max_stack : w.code.max_stack ≡ code.max_stack + 3
-  pub max_locals : w.code.max_locals ≡ code.max_locals + locals_of policy method
+  pub max_locals : w.code.max_locals ≡ code.max_locals + locals_of plan method
 
-pub put_reads : (policy : Policy) (class : List ℕ) (number : ℕ) (pool : List Const) (method : Method) (code : Code) (w : WovenCode) → IsSoundMethod method
-    → blocks_put policy class number pool method code (sites_of policy code.max_locals method) ≡ Ok w → IsRead policy pool method code w
-put_reads policy class number pool method code w sound e =
-    let locals = locals_of policy method in
-    let sites = sites_of policy code.max_locals method in
+pub put_reads : (plan : Plan) (class : List ℕ) (number : ℕ) (pool : List Const) (method : Method) (code : Code) (w : WovenCode) → IsSoundMethod method
+    → blocks_put plan class number pool method code (sites_of plan code.max_locals method) ≡ Ok w → IsRead plan pool method code w
+put_reads plan class number pool method code w sound e =
+    let locals = locals_of plan method in
+    let sites = sites_of plan code.max_locals method in
     let all = grown pool sites in
     let made : Code → WovenCode = λ new. record { code = new; entries = all; origins = origins_of sites } in
     let one = bind_ok (room class number code locals) (λ fits. code_spliced class number all method code locals sites >>= λ new. Ok (made new)) w e in
@@ -154,14 +154,14 @@ put_reads policy class number pool method code w sound e =
     let is : made new ≡ w = ok_is SpliceFault (made new) w two.2 in
     let roomy = room_is class number code locals one.1 in
     let h = made_of class number all method code locals sites new two.1 in
-    let fit = refs_fit policy code.max_locals method.refs (omega (arith, roomy.1)) in
-    let count : length sites ≡ length method.insns = length-map method.refs (site policy code.max_locals) ∙ sound.refs in
+    let fit = refs_fit plan code.max_locals method.refs (omega (arith, roomy.1)) in
+    let count : length sites ≡ length method.insns = length-map method.refs (plan.block code.max_locals) ∙ sound.refs in
     let each = parts_fit all (fronts_of sites) 0 method.insns sites h.short sound.insns fit (wants_there sites pool) in
-    let part = sites_part policy code.max_locals method.refs in
+    let part = sites_part plan code.max_locals method.refs in
     let reads = written_reads (spliced all method.insns sites) h.bytes each (spliced_aims all method.insns sites count sound.targets part)
     (spliced_ends all method.insns sites count sound.ends part) h.written in
     let there : code_of new.code ≡ Ok (spliced all method.insns sites) = ap (λ (c : Code). code_of c.code) (sym h.is) ∙ reads in
-    subst (IsRead policy pool method code) is (record {
+    subst (IsRead plan pool method code) is (record {
       entries = refl;
       insns = there;
       table = ap (λ (c : Code). c.table) (sym h.is);

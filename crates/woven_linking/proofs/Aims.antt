@@ -11,8 +11,8 @@ use Rattle.insn_codec.specs.Spelling.{opcode_of}
 use Rattle.insn_codec.specs.Fits.{AimsWithin, Ends}
 use Rattle.bytecode_model.specs.declared.program.Target.{Target}
 use Rattle.bytecode_model.specs.declared.program.Target.TheVariants as target
-use Rattle.conspec_automaton.specs.declared.policy.Clause.{Clause}
-use Rattle.conspec_automaton.specs.declared.policy.Policy.{Policy}
+use Rattle.conspec_automaton.specs.declared.plan.Clause.{Clause}
+use Rattle.offset_patch.specs.Plan.{Plan}
 use Rattle.conspec_tree.specs.declared.types.Kind.{Kind}
 use Rattle.conspec_tree.specs.declared.types.Kind.TheVariants as kinds
 use Rattle.offset_patch.specs.declared.block.Block.{Block}
@@ -83,17 +83,17 @@ denial_part base kinds =
 alone_part : IsPart (Call ∷ [])
 alone_part = record { still = (tt, tt); last = ([], refl) }
 
-pub site_part : (policy : Policy) (base : ℕ) (ref : Target) → EndsInCall (site policy base ref)
-site_part policy base (target.ApiMethod method) = by (clause_of policy method)
+pub site_part : (plan : Plan) (base : ℕ) (ref : Target) → EndsInCall (plan.block base ref)
+site_part plan base (target.ApiMethod method) = by (clause_of plan method)
   where
     by : (o : Option Clause) → EndsInCall (option_map (λ (c : Clause). denial base c.args) o)
     by None = alone_part
     by (Some c) = denial_part base c.args
-site_part policy base ref = alone_part
+site_part plan base ref = alone_part
 
-pub sites_part : (policy : Policy) (base : ℕ) (refs : List Target) → AllByRecursion EndsInCall (map (site policy base) refs)
-sites_part policy base [] = tt
-sites_part policy base (ref ∷ refs) = (site_part policy base ref, sites_part policy base refs)
+pub sites_part : (plan : Plan) (base : ℕ) (refs : List Target) → AllByRecursion EndsInCall (map (plan.block base) refs)
+sites_part plan base [] = tt
+sites_part plan base (ref ∷ refs) = (site_part plan base ref, sites_part plan base refs)
 
 -- ---- how many instructions there are
 

@@ -43,14 +43,14 @@ use Rattle.offset_patch.specs.Entries.{state_name, place_in, IsThere}
 use Rattle.offset_patch.specs.Splicing.{part_of, aimed, put, parts_from, want_of, block_wants, wants_of}
 use Rattle.offset_patch.proofs.InsnFits.{split_all}
 use Rattle.offset_patch.proofs.PoolFits.{get_on}
-use Rattle.block_template.specs.Outcome.{Each, way_out, way_out_index, want_named, part_named, parts_named}
-use Rattle.inline_release.proofs.Aims.{IsStill, opcode_for, EndsInCall}
-use Rattle.inline_release.proofs.Free.{IsFree, class_free}
-use Rattle.inline_release.proofs.Kept.{IsLonger}
-use Rattle.inline_release.proofs.Pairs.{each_append}
-use Rattle.inline_release.proofs.Same.{text_longer}
-use Rattle.inline_release.proofs.Texts.{id_on}
-use Rattle.inline_release.proofs.Wanted.{name_told, id_told, state_there, exit_there}
+use Rattle.class_weaving.specs.Outcome.{Each, way_out, way_out_index, want_named, part_named, parts_named}
+use Rattle.woven_linking.proofs.Aims.{IsStill, opcode_for, EndsInCall}
+use Rattle.woven_linking.proofs.Free.{IsFree, class_free}
+use Rattle.woven_linking.proofs.Kept.{IsLonger}
+use Rattle.woven_linking.proofs.Pairs.{each_append}
+use Rattle.woven_linking.proofs.Same.{text_longer}
+use Rattle.woven_linking.proofs.Texts.{id_on}
+use Rattle.woven_linking.proofs.Wanted.{name_told, id_told, state_there, exit_there}
 
 -- What of others is as it is of the files, and what they have beside it.
 pub record IsAdded (files others : List ClassFile) (listing : Listing) : Type 0 where

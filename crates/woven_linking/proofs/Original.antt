@@ -42,12 +42,12 @@ use Rattle.bytecode_model.specs.SearchOrder.{Name, search_order}
 use Rattle.bytecode_model.proofs.Lists.{all_append}
 use Rattle.class_linking.proofs.Loop.{each_of}
 use Rattle.offset_patch.specs.Entries.{state_name}
-use Rattle.block_template.specs.Woven.{first_code}
-use Rattle.block_template.specs.Outcome.{Each, IsFreeTarget}
-use Rattle.inline_release.specs.Links.{OriginalIsFree}
-use Rattle.inline_release.proofs.Free.{IsFree, text_free, class_free}
-use Rattle.inline_release.proofs.Steps.{coded, conditions_of}
-use Rattle.inline_release.proofs.Whole.{IsOf, program_of, free_classes}
+use Rattle.class_weaving.specs.Woven.{first_code}
+use Rattle.class_weaving.specs.Outcome.{Each, IsFreeTarget}
+use Rattle.woven_linking.specs.Links.{OriginalIsFree}
+use Rattle.woven_linking.proofs.Free.{IsFree, text_free, class_free}
+use Rattle.woven_linking.proofs.Steps.{coded, conditions_of}
+use Rattle.woven_linking.proofs.Whole.{IsOf, program_of, free_classes}
 
 -- ---- no declaration is of a class by its name
 

@@ -18,10 +18,10 @@ use Rattle.bytecode_model.specs.Members.{Declared, member_declared, members_from
 use Rattle.bytecode_model.specs.Operands.{text_of_string, strings_in, literals_of}
 use Rattle.class_linking.specs.Linking.{static_main, main_from}
 use Rattle.bytecode_model.specs.SearchOrder.{Name, with_name}
-use Rattle.block_template.specs.State.{state_file}
-use Rattle.block_template.specs.Outcome.{Each}
-use Rattle.inline_release.proofs.Kept.{IsLonger, IsPlain, IsKeptMember, same_member, IsKept}
-use Rattle.inline_release.proofs.Texts.{utf8_on, text_on, class_on}
+use Rattle.class_weaving.specs.State.{state_file}
+use Rattle.class_weaving.specs.Outcome.{Each}
+use Rattle.woven_linking.proofs.Kept.{IsLonger, IsPlain, IsKeptMember, same_member, IsKept}
+use Rattle.woven_linking.proofs.Texts.{utf8_on, text_on, class_on}
 
 -- ---- names
 

@@ -26,11 +26,11 @@ use Rattle.class_linking.specs.ClassConditions.{class_linked, classes_linked}
 use Rattle.bytecode_model.specs.Heads.{head_of, heads_of}
 use Rattle.bytecode_model.proofs.Lists.{not_true}
 use Rattle.offset_patch.specs.Entries.{state_name}
-use Rattle.block_template.specs.Outcome.{Each}
-use Rattle.inline_release.proofs.Above.{and_both, has_name, find_none, other_name, no_circle}
-use Rattle.inline_release.proofs.Free.{IsFree, class_free}
-use Rattle.inline_release.proofs.Kept.{IsKept}
-use Rattle.inline_release.proofs.Same.{bare_state, head_kept}
+use Rattle.class_weaving.specs.Outcome.{Each}
+use Rattle.woven_linking.proofs.Above.{and_both, has_name, find_none, other_name, no_circle}
+use Rattle.woven_linking.proofs.Free.{IsFree, class_free}
+use Rattle.woven_linking.proofs.Kept.{IsKept}
+use Rattle.woven_linking.proofs.Same.{bare_state, head_kept}
 
 -- ---- tests
 

@@ -27,11 +27,11 @@ use Rattle.class_linking.specs.Operands.{class_linked, told_at}
 use Rattle.bytecode_model.specs.Operands.{known_in}
 use Rattle.bytecode_model.specs.Sound.{IsWithin}
 use Rattle.offset_patch.specs.Splicing.{table_moved}
-use Rattle.block_template.specs.Outcome.{Each, at_fronts}
-use Rattle.inline_release.proofs.Kept.{IsLonger}
-use Rattle.inline_release.proofs.Named.{IsAdded, class_still, told_ok}
-use Rattle.inline_release.proofs.Pairs.{each_linked, linked_each}
-use Rattle.inline_release.proofs.Same.{class_longer}
+use Rattle.class_weaving.specs.Outcome.{Each, at_fronts}
+use Rattle.woven_linking.proofs.Kept.{IsLonger}
+use Rattle.woven_linking.proofs.Named.{IsAdded, class_still, told_ok}
+use Rattle.woven_linking.proofs.Pairs.{each_linked, linked_each}
+use Rattle.woven_linking.proofs.Same.{class_longer}
 
 -- ---- where instructions begin
 

@@ -23,10 +23,10 @@ use Rattle.offset_patch.specs.declared.block.BlockInsn.TheVariants.{Call}
 use Rattle.bytecode_model.specs.declared.program.Target.{Target}
 use Rattle.bytecode_model.specs.declared.program.Target.TheVariants as target
 use Rattle.conspec_tree.specs.declared.types.Kind.{Kind}
-use Rattle.conspec_automaton.specs.declared.policy.Clause.{Clause}
-use Rattle.conspec_automaton.specs.declared.policy.Policy.{Policy}
+use Rattle.conspec_automaton.specs.declared.plan.Clause.{Clause}
+use Rattle.offset_patch.specs.Plan.{Plan}
 use Rattle.block_template.specs.Blocks.{save, loads, lock, stop, unlock, denial, has_block, site}
-use Rattle.inline_release.proofs.Above.{find_some}
+use Rattle.woven_linking.proofs.Above.{find_some}
 
 -- ---- an entry
 
@@ -184,19 +184,19 @@ module _ (pool : List Const) where
       let both = subst (AllByRecursion (IsThere pool)) (filter_map-append want_of front behind) h in
       (split_all (IsThere pool) (filter_map want_of front) (filter_map want_of behind) both).1.1.0
 
-  site_wants : (policy : Policy) (base : ℕ) (ref : Target) → has_block policy ref ≡ true → AllByRecursion (IsThere pool) (block_wants (site policy base ref)) → IsThere pool wants.Exit
-  site_wants policy base (target.ApiMethod method) e h =
-      let c = find_some (λ (c : Clause). c.method == method) policy.clauses e in
+  site_wants : (plan : Plan) (base : ℕ) (ref : Target) → plan.has_block ref ≡ true → AllByRecursion (IsThere pool) (block_wants (plan.block base ref)) → IsThere pool wants.Exit
+  site_wants plan base (target.ApiMethod method) e h =
+      let c = find_some (λ (c : Clause). c.method == method) plan.clauses e in
       denial_wants base c.0.args (subst (λ (o : Option Clause). AllByRecursion (IsThere pool) (block_wants (option_map (λ (c : Clause). denial base c.args) o))) c.1 h)
-  site_wants policy base ref e h = absurd (false≢true e)
+  site_wants plan base ref e h = absurd (false≢true e)
 
-  pub exit_wanted : (policy : Policy) (base : ℕ) (refs : List Target) → list_any (has_block policy) refs ≡ true → AllByRecursion (IsThere pool) (wants_of (map (site policy base) refs)) → IsThere pool wants.Exit
-  exit_wanted policy base [] e h = absurd (false≢true e)
-  exit_wanted policy base (ref ∷ refs) e h =
-      let both = split_all (IsThere pool) (block_wants (site policy base ref)) (wants_of (map (site policy base) refs)) h in
-      by (has_block policy ref) refl e (λ f. exit_wanted policy base refs f both.1) both.0
+  pub exit_wanted : (plan : Plan) (base : ℕ) (refs : List Target) → list_any (plan.has_block) refs ≡ true → AllByRecursion (IsThere pool) (wants_of (map (plan.block base) refs)) → IsThere pool wants.Exit
+  exit_wanted plan base [] e h = absurd (false≢true e)
+  exit_wanted plan base (ref ∷ refs) e h =
+      let both = split_all (IsThere pool) (block_wants (plan.block base ref)) (wants_of (map (plan.block base) refs)) h in
+      by (plan.has_block ref) refl e (λ f. exit_wanted plan base refs f both.1) both.0
     where
-      by : (b : Bool) → has_block policy ref ≡ b → (b || list_any (has_block policy) refs) ≡ true → (list_any (has_block policy) refs ≡ true → IsThere pool wants.Exit)
-          → AllByRecursion (IsThere pool) (block_wants (site policy base ref)) → IsThere pool wants.Exit
-      by true is e rest here = site_wants policy base ref is here
+      by : (b : Bool) → plan.has_block ref ≡ b → (b || list_any (plan.has_block) refs) ≡ true → (list_any (plan.has_block) refs ≡ true → IsThere pool wants.Exit)
+          → AllByRecursion (IsThere pool) (block_wants (plan.block base ref)) → IsThere pool wants.Exit
+      by true is e rest here = site_wants plan base ref is here
       by false is e rest here = rest e

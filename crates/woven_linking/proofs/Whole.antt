@@ -26,24 +26,24 @@ use Rattle.bytecode_model.specs.Operands.{literals_of}
 use Rattle.class_linking.specs.Linking.{method_linked, methods_linked, each_linked, class_with, classes_with, members_of, main_of, linked}
 use Rattle.bytecode_model.specs.Files.{max_files}
 use Rattle.bytecode_model.specs.Sound.{IsSoundMethod, IsSoundClass}
-use Rattle.conspec_automaton.specs.declared.policy.Policy.{Policy}
+use Rattle.offset_patch.specs.Plan.{Plan}
 use Rattle.offset_patch.specs.declared.fault.SpliceFault.{SpliceFault}
 use Rattle.offset_patch.specs.Entries.{with_wants}
 use Rattle.offset_patch.proofs.Pieces.{wants_append}
-use Rattle.block_template.specs.State.{state_file, state_class}
-use Rattle.block_template.specs.declared.woven.Members.{Members}
-use Rattle.block_template.specs.Woven.{folded, first_code, body_woven, member_woven, none_made}
-use Rattle.block_template.specs.Outcome.{Each, wants_woven, class_wants, IsWovenMethod, IsWovenClass}
-use Rattle.inline_release.specs.Links.{WovenLinks}
-use Rattle.inline_release.proofs.Added.{is_added, new_stand}
-use Rattle.inline_release.proofs.Free.{IsFree}
-use Rattle.inline_release.proofs.Kept.{IsLonger, IsKept, IsFileOf, members_woven_of, file_kept, file_is, files_made}
-use Rattle.inline_release.proofs.Listed.{listed}
-use Rattle.inline_release.proofs.Named.{IsAdded}
-use Rattle.inline_release.proofs.Pairs.{first_linked}
-use Rattle.inline_release.proofs.Same.{bare_state, head_kept, literals_kept, main_kept, state_strings}
-use Rattle.inline_release.proofs.Standing.{IsGood, all_good, state_says, state_head_name}
-use Rattle.inline_release.proofs.Steps.{one_step}
+use Rattle.class_weaving.specs.State.{state_file, state_class}
+use Rattle.class_weaving.specs.declared.woven.Members.{Members}
+use Rattle.class_weaving.specs.Woven.{folded, first_code, body_woven, member_woven, none_made}
+use Rattle.class_weaving.specs.Outcome.{Each, wants_woven, class_wants, IsWovenMethod, IsWovenClass}
+use Rattle.woven_linking.specs.Links.{WovenLinks}
+use Rattle.woven_linking.proofs.Added.{is_added, new_stand}
+use Rattle.woven_linking.proofs.Free.{IsFree}
+use Rattle.woven_linking.proofs.Kept.{IsLonger, IsKept, IsFileOf, members_woven_of, file_kept, file_is, files_made}
+use Rattle.woven_linking.proofs.Listed.{listed}
+use Rattle.woven_linking.proofs.Named.{IsAdded}
+use Rattle.woven_linking.proofs.Pairs.{first_linked}
+use Rattle.woven_linking.proofs.Same.{bare_state, head_kept, literals_kept, main_kept, state_strings}
+use Rattle.woven_linking.proofs.Standing.{IsGood, all_good, state_says, state_head_name}
+use Rattle.woven_linking.proofs.Steps.{one_step}
 
 -- ---- lists
 
@@ -53,24 +53,24 @@ get_behind (z ∷ xs) x ys = get_behind xs x ys
 
 -- ---- the methods of a class
 
-module _ (policy : Policy) (class : LinkedClass) (new : ClassFile) (files others : List ClassFile) (listing : Listing) (added : IsAdded files others listing)
+module _ (plan : Plan) (class : LinkedClass) (new : ClassFile) (files others : List ClassFile) (listing : Listing) (added : IsAdded files others listing)
     (p : FitsPool class.file.pool) (free : IsFree class.file.pool) (longer : IsLonger class.file.pool new.pool) (named : (head_of new).name ≡ (head_of class.file).name) where
   -- What the members that are left make of what was made, and what these link to.
   record IsRest (made last : Members) (left : List Method) : Type 0 where
     items : List Member
     are : last.items ≡ made.items ++ items
     more : (xs : List Const) × (last.entries ≡ made.entries ++ xs)
-    wanted : last.entries ≡ with_wants made.entries (class_wants policy left)
+    wanted : last.entries ≡ with_wants made.entries (class_wants plan left)
     linked : List Method
     links : linked_from (method_linked others listing new) made.number items ≡ Ok linked
-    each : Each (IsWovenMethod policy new.pool) left linked
+    each : Each (IsWovenMethod plan new.pool) left linked
 
   none_left : (made : Members) → IsRest made made []
   none_left made = record { items = []; are = sym (append-nil made.items); more = ([], sym (append-nil made.entries)); wanted = refl; linked = []; links = refl; each = tt }
 
   members_rest : (members : List Member) (made last : Members) (done left : List Method) → class.methods ≡ done ++ left → length done ≡ made.number → AllByRecursion IsSoundMethod left
       → AllByRecursion (FitsMember class.file.pool true) members → linked_from (method_linked files listing class.file) made.number members ≡ Ok left
-      → folded (member_woven policy class) made members ≡ Ok last → last.entries ≡ new.pool → IsRest made last left
+      → folded (member_woven plan class) made members ≡ Ok last → last.entries ≡ new.pool → IsRest made last left
   members_rest [] made last done left split count sound fits e w pool =
       let none : [] ≡ left = ok_is LinkFault [] left e in
       subst (IsRest made last) none (subst (λ (x : Members). IsRest made x []) (ok_is SpliceFault made last w) (none_left made))
@@ -81,11 +81,11 @@ module _ (policy : Policy) (class : LinkedClass) (new : ClassFile) (files others
       let sound' : AllByRecursion IsSoundMethod (m ∷ rest) = subst (AllByRecursion IsSoundMethod) (sym a.4) sound in
       let split' : class.methods ≡ done ++ m ∷ rest = split ∙ ap (λ (xs : List Method). done ++ xs) (sym a.4) in
       let here : slice_get class.methods made.number ≡ Some m = ap (λ (n : ℕ). slice_get class.methods n) (sym count) ∙ ap (λ (xs : List Method). slice_get xs (length done)) split' ∙ get_behind done m rest in
-      let one = bind_ok (member_woven policy class made member) (λ next. folded (member_woven policy class) next members) last w in
+      let one = bind_ok (member_woven plan class made member) (λ next. folded (member_woven plan class) next members) last w in
       let next = one.0 in
-      let woven : body_woven policy class.name made member (Some m) (first_code member.attrs) ≡ Ok next =
-      ap (λ (o : Option Method). body_woven policy class.name made member o (first_code member.attrs)) (sym here) ∙ one.1 in
-      let step = one_step policy class.file new files others listing added p free longer named class.name made next member m fits.0 sound'.0 a.2 woven in
+      let woven : body_woven plan class.name made member (Some m) (first_code member.attrs) ≡ Ok next =
+      ap (λ (o : Option Method). body_woven plan class.name made member o (first_code member.attrs)) (sym here) ∙ one.1 in
+      let step = one_step plan class.file new files others listing added p free longer named class.name made next member m fits.0 sound'.0 a.2 woven in
       let linked' : linked_from (method_linked files listing class.file) next.number members ≡ Ok rest = ap (λ (n : ℕ). linked_from (method_linked files listing class.file) n members) step.number ∙ a.3 in
       let count' : length (done ++ m ∷ []) ≡ next.number = length-append done (m ∷ []) ∙ ap (λ (n : ℕ). n + 1) count ∙ sym step.number in
       let later = members_rest members next last (done ++ m ∷ []) rest (split' ∙ sym (append_assoc done (m ∷ []) rest)) count' sound'.1 fits.1 linked' one.2 pool in
@@ -96,7 +96,7 @@ module _ (policy : Policy) (class : LinkedClass) (new : ClassFile) (files others
         items = step.item ∷ later.items;
         are = later.are ∙ ap (λ (xs : List Member). xs ++ later.items) step.items ∙ append_assoc made.items (step.item ∷ []) later.items;
         more = (step.more.0 ++ later.more.0, later.more.1 ∙ ap (λ (xs : List Const). xs ++ later.more.0) step.more.1 ∙ append_assoc made.entries step.more.0 later.more.0);
-        wanted = later.wanted ∙ ap (λ (p : List Const). with_wants p (class_wants policy rest)) step.wanted ∙ sym (wants_append made.entries (wants_woven policy m) (class_wants policy rest));
+        wanted = later.wanted ∙ ap (λ (p : List Const). with_wants p (class_wants plan rest)) step.wanted ∙ sym (wants_append made.entries (wants_woven plan m) (class_wants plan rest));
         linked = first.0 ∷ later.linked;
         links = ap (λ (r : Linked Method). r >>= λ x. linked_from (method_linked others listing new) (made.number + 1) later.items >>= λ xs. Ok (x ∷ xs)) first.1
             ∙ ap (λ (r : Linked (List Method)). r >>= λ xs. Ok (first.0 ∷ xs)) again;
@@ -112,15 +112,15 @@ pub record IsOf (files : List ClassFile) (listing : Listing) (class : LinkedClas
   pub parent : class.parent ≡ class_at class.file.pool class.file.super_class
   pub methods : methods_linked files listing class.file ≡ Ok class.methods
 
-module _ (policy : Policy) (files others : List ClassFile) (listing : Listing) (added : IsAdded files others listing) where
-  class_joined : (old : LinkedClass) (new : ClassFile) → IsSoundClass old → IsFree old.file.pool → IsOf files listing old → IsFileOf policy old new
-      → (methods : List Method) × (methods_linked others listing new ≡ Ok methods) × IsWovenClass policy old (class_with new methods)
+module _ (plan : Plan) (files others : List ClassFile) (listing : Listing) (added : IsAdded files others listing) where
+  class_joined : (old : LinkedClass) (new : ClassFile) → IsSoundClass old → IsFree old.file.pool → IsOf files listing old → IsFileOf plan old new
+      → (methods : List Method) × (methods_linked others listing new ≡ Ok methods) × IsWovenClass plan old (class_with new methods)
   class_joined old new sound free of w =
-      let k = file_kept policy old new w in
+      let k = file_kept plan old new w in
       let head : head_of new ≡ head_of old.file = head_kept old.file new sound.fits k in
       let named : (head_of new).name ≡ (head_of old.file).name = ap (λ (c : ListedClass). c.name) head in
       let pool : w.made.entries ≡ new.pool = ap (λ (f : ClassFile). f.pool) w.is in
-      let rest = members_rest policy old new files others listing added sound.fits.pool free k.longer named old.file.methods (none_made old.file.pool) w.made [] old.methods refl refl sound.methods
+      let rest = members_rest plan old new files others listing added sound.fits.pool free k.longer named old.file.methods (none_made old.file.pool) w.made [] old.methods refl refl sound.methods
       sound.fits.methods.each of.methods w.all pool in
       let items : new.methods ≡ rest.items = ap (λ (f : ClassFile). f.methods) (sym w.is) ∙ rest.are in
       let links : methods_linked others listing new ≡ Ok rest.linked = ap (linked_from (method_linked others listing new) 0) items ∙ rest.links in (
@@ -133,7 +133,7 @@ module _ (policy : Policy) (files others : List ClassFile) (listing : Listing) (
           added = k.longer.more;
           pool = k.longer.is;
           wanted = sym pool ∙ rest.wanted;
-          file = file_is policy old new w;
+          file = file_is plan old new w;
           members = members_woven_of old.file.methods new.methods k.methods;
           methods = rest.each;
         },
@@ -145,10 +145,10 @@ module _ (policy : Policy) (files others : List ClassFile) (listing : Listing) (
     links : linked_from (λ i. methods_linked others listing) at (news ++ bare_state ∷ []) ≡ Ok methods
     own : List LinkedClass
     are : classes_with (news ++ bare_state ∷ []) methods ≡ own ++ class_with bare_state [] ∷ []
-    classes : Each (IsWovenClass policy) olds own
+    classes : Each (IsWovenClass plan) olds own
 
   classes_joined : (at : ℕ) (olds : List LinkedClass) (news : List ClassFile) → AllByRecursion IsSoundClass olds → AllByRecursion (λ (c : LinkedClass). IsFree c.file.pool) olds
-      → AllByRecursion (IsOf files listing) olds → Each (IsFileOf policy) olds news → AreJoined at olds news
+      → AllByRecursion (IsOf files listing) olds → Each (IsFileOf plan) olds news → AreJoined at olds news
   classes_joined at [] [] sound free of w = record { methods = [] ∷ []; links = refl; own = []; are = refl; classes = tt }
   classes_joined at [] (new ∷ news) sound free of w = absurd w
   classes_joined at (old ∷ olds) [] sound free of w = absurd w
@@ -225,14 +225,14 @@ linked_by files listing main side methods begin few good each is = rw (few, good
 
 -- ---- the law
 
-module _ (policy : Policy) where
-  all_kept : (classes : List LinkedClass) (news : List ClassFile) → Each (IsFileOf policy) classes news → Each IsKept (files_of classes) news
+module _ (plan : Plan) where
+  all_kept : (classes : List LinkedClass) (news : List ClassFile) → Each (IsFileOf plan) classes news → Each IsKept (files_of classes) news
   all_kept [] [] w = tt
   all_kept [] (new ∷ news) w = absurd w
   all_kept (class ∷ classes) [] w = absurd w
-  all_kept (class ∷ classes) (new ∷ news) w = (file_kept policy class new w.0, all_kept classes news w.1)
+  all_kept (class ∷ classes) (new ∷ news) w = (file_kept plan class new w.0, all_kept classes news w.1)
 
-  as_many : (classes : List LinkedClass) (news : List ClassFile) → Each (IsFileOf policy) classes news → length news ≡ length classes
+  as_many : (classes : List LinkedClass) (news : List ClassFile) → Each (IsFileOf plan) classes news → length news ≡ length classes
   as_many [] [] w = refl
   as_many [] (new ∷ news) w = absurd w
   as_many (class ∷ classes) [] w = absurd w
@@ -254,23 +254,23 @@ still_few : (n : ℕ) → n ≤ 1000 → not (nat_lt max_files n) ≡ true
 still_few n h = grind (arith, nat_tests)
 
 pub links : WovenLinks
-links text listing files main old policy made spelled first sound denies few w =
+links text listing files main old plan made spelled first sound denies few w =
     let p = program_of files listing main sides.Original old first in
-    let all = files_made policy old made w in
+    let all = files_made plan old made w in
     let news = all.0 in
     let others = news ++ bare_state ∷ [] in
-    let bare : state_class policy ≡ bare_state = ap state_file denies.vars in
+    let bare : state_file vars ≡ bare_state = ap state_file denies.vars in
     let is : others ≡ made.files = ap (λ (s : ClassFile). news ++ s ∷ []) (sym bare) ∙ sym all.1 in
     let fits : AllByRecursion CanSpell files = subst (AllByRecursion CanSpell) p.files_are (all_fit old.classes sound.classes) in
-    let kept : Each IsKept files news = subst (λ (fs : List ClassFile). Each IsKept fs news) p.files_are (all_kept policy old.classes news all.2) in
+    let kept : Each IsKept files news = subst (λ (fs : List ClassFile). Each IsKept fs news) p.files_are (all_kept plan old.classes news all.2) in
     let l = listed text listing spelled in
     let added = is_added listing l files news fits kept p.good in
     let free = free_classes files listing main old p in
-    let joined = classes_joined policy files others listing added 0 old.classes news sound.classes free p.classes all.2 in
+    let joined = classes_joined plan files others listing added 0 old.classes news sound.classes free p.classes all.2 in
     let begin = p.begin.0 in
     let main_is : main_of others main ≡ Some begin = main_kept bare_state main begin 0 files news fits kept p.begin.1 in
     let same : length old.classes ≡ length files = sym (length-map old.classes (λ (c : LinkedClass). c.file)) ∙ ap length p.files_are in
-    let count : length others ≤ 1000 = omega (arith, length-append news (bare_state ∷ []), as_many policy old.classes news all.2, same, few) in
+    let count : length others ≤ 1000 = omega (arith, length-append news (bare_state ∷ []), as_many plan old.classes news all.2, same, few) in
     let new : Program = record { classes = classes_with others joined.methods; listing = listing; literals = literals_of others; main_class = begin.0; main_method = begin.1 } in
     let linked_is : linked others listing main sides.Inlined ≡ Ok new =
     linked_by others listing main sides.Inlined joined.methods begin (still_few (length others) count) (new_stand listing l files news fits kept p.good) joined.links main_is in (
