@@ -22,9 +22,10 @@ use Rattle.offset_patch.specs.declared.block.Block.{Block}
 use Rattle.offset_patch.specs.declared.block.PoolWant.{PoolWant}
 use Rattle.offset_patch.specs.declared.block.PoolWant.TheVariants as wants
 use Rattle.offset_patch.specs.declared.fault.SpliceFault.{SpliceFault}
-use Rattle.offset_patch.specs.Entries.{placed, place_of, entry, text, class, name_and_type, method, wanted, with_wants}
+use Rattle.offset_patch.specs.Entries.{placed, place_of, entry, text, class, name_and_type, state_name, variable_name, variable_type, wanted, with_wants}
 use Rattle.offset_patch.specs.Splicing.{wants_of, grown, origins_of, room, code_spliced}
-use Rattle.class_weaving.specs.State.{state_class}
+use Rattle.class_weaving.specs.State.{state_file}
+use Rattle.conspec_tree.specs.declared.types.Var.{Var}
 use Rattle.class_weaving.specs.declared.woven.WovenCode.{WovenCode}
 use Rattle.class_weaving.specs.declared.woven.Members.{Members}
 use Rattle.class_weaving.specs.declared.woven.Woven.{Woven}
@@ -73,15 +74,19 @@ member_longer name desc pool =
     let two = text desc one.0 in
     longer_then pool two.0 (name_and_type name desc pool).0 (longer_then pool one.0 two.0 (text_longer name pool) (text_longer desc one.0)) (entry_longer (constants.NameAndType one.1 two.1) tt two.0)
 
-method_longer : (owner name desc : List ℕ) (pool : List Const) → IsLonger pool (method owner name desc pool).0
-method_longer owner name desc pool =
+-- what has a member of a class
+of_longer : (c : ℕ → ℕ → Const) → ((i j : ℕ) → IsPlain (c i j)) → (owner name desc : List ℕ) (pool : List Const)
+    → IsLonger pool (entry (c (class owner pool).1 (name_and_type name desc (class owner pool).0).1) (name_and_type name desc (class owner pool).0).0).0
+of_longer c plain owner name desc pool =
     let one = class owner pool in
     let two = name_and_type name desc one.0 in
-    longer_then pool two.0 (method owner name desc pool).0 (longer_then pool one.0 two.0 (class_longer owner pool) (member_longer name desc one.0)) (entry_longer (constants.Method one.1 two.1) tt two.0)
+    longer_then pool two.0 (entry (c one.1 two.1) two.0).0 (longer_then pool one.0 two.0 (class_longer owner pool) (member_longer name desc one.0)) (entry_longer (c one.1 two.1) (plain one.1 two.1) two.0)
 
 wanted_longer : (want : PoolWant) (pool : List Const) → IsLonger pool (wanted want pool).0
-wanted_longer wants.StateClass pool = class_longer (codes "conspec/State") pool
-wanted_longer wants.Exit pool = method_longer (codes "java/lang/System") (codes "exit") (codes "(I)V") pool
+wanted_longer wants.StateClass pool = class_longer state_name pool
+wanted_longer (wants.StateField var is_bool) pool = of_longer constants.Field (λ i j. tt) state_name (variable_name var) (variable_type is_bool) pool
+wanted_longer wants.Exit pool = of_longer constants.Method (λ i j. tt) (codes "java/lang/System") (codes "exit") (codes "(I)V") pool
+wanted_longer (wants.Integer n) pool = entry_longer (constants.Integer n) tt pool
 
 wants_longer : (wants : List PoolWant) (pool : List Const) → IsLonger pool (with_wants pool wants)
 wants_longer [] pool = same_pool pool
@@ -238,11 +243,11 @@ classes_made plan made last (class ∷ classes) e =
       (record { made = two.0; all = two.1; is = refl }, later.2),
     )
 
-pub files_made : (plan : Plan) (old : Program) (made : Woven) → woven old plan ≡ Ok made
+pub files_made : (plan : Plan) (vars : List Var) (old : Program) (made : Woven) → woven old plan vars ≡ Ok made
     → (files : List ClassFile) × (made.files ≡ files ++ state_file vars ∷ []) × Each (IsFileOf plan) old.classes files
-files_made plan old made e =
+files_made plan vars old made e =
     let none : Woven = record { files = []; origins = [] } in
-    let one = bind_ok (classes_woven plan none old.classes) (λ w. Ok (state_put plan w)) made e in
+    let one = bind_ok (classes_woven plan none old.classes) (λ w. Ok (state_put vars w)) made e in
     let all = classes_made plan none one.0 old.classes one.1 in
-    let put : made.files ≡ one.0.files ++ state_file vars ∷ [] = ap (λ (w : Woven). w.files) (sym (ok_is SpliceFault (state_put plan one.0) made one.2)) in
+    let put : made.files ≡ one.0.files ++ state_file vars ∷ [] = ap (λ (w : Woven). w.files) (sym (ok_is SpliceFault (state_put vars one.0) made one.2)) in
     (all.0, put ∙ ap (λ (xs : List ClassFile). xs ++ state_file vars ∷ []) all.1, all.2)
