@@ -141,8 +141,7 @@ both_say : (name : Name) (classes : List ListedClass) → is_known classes name 
     → AllByRecursion (SaysOnly (λ other. other ≢ name)) classes
 both_say name [] none h = tt
 both_say name (c ∷ classes) none h =
-    let rest : (b : Bool) → bytes_eq c.name name ≡ b → (b || is_known classes name) ≡ false → (c.name ≢ name) × (is_known classes name ≡ false) = by in
-    let one = rest (bytes_eq c.name name) refl none in
+    let one = by (bytes_eq c.name name) refl none in
     ((one.0, h.0), both_say name classes one.1 h.1)
   where
     by : (b : Bool) → bytes_eq c.name name ≡ b → (b || is_known classes name) ≡ false → (c.name ≢ name) × (is_known classes name ≡ false)
