@@ -44,7 +44,7 @@ use Rattle.woven_linking.proofs.Kept.{IsKept}
 use Rattle.woven_linking.proofs.Listed.{IsListed, nameless}
 use Rattle.woven_linking.proofs.Named.{IsAdded}
 use Rattle.woven_linking.proofs.Same.{state_methods, state_strings, heads_kept, given_kept, literals_kept}
-use Rattle.woven_linking.proofs.Standing.{or_left, or_right, state_head, state_says, state_head_name, state_head_alone, IsGood, all_good, none_taken, classes_stand}
+use Rattle.woven_linking.proofs.Standing.{or_left, or_right, state_head, state_says, state_head_name, state_head_alone, IsGoodClass, all_good, none_taken, classes_stand}
 
 heads_append : (files : List ClassFile) (s : ClassFile) → heads_of (files ++ s ∷ []) ≡ heads_of files ++ head_of s ∷ []
 heads_append [] s = refl
@@ -188,7 +188,7 @@ module _ (vars : List Var) (few_vars : length vars ≤ 16) (listing : Listing) (
   new_classes : all_classes listing new_files ≡ all ++ state_head ∷ []
   new_classes = ap (λ (xs : List ListedClass). listing.classes ++ xs) new_heads ∙ sym (append_assoc listing.classes heads (state_head ∷ []))
 
-  goods : AllByRecursion (IsGood heads) olds
+  goods : AllByRecursion (IsGoodClass heads) olds
   goods = all_good heads listing.classes olds good
 
   -- no given class has a name that is listed
@@ -200,7 +200,7 @@ module _ (vars : List Var) (few_vars : length vars ≤ 16) (listing : Listing) (
 
   -- ---- the way up
 
-  heads_as : (P : ListedClass → Type 0) → ((file : ClassFile) → IsGood heads file → P (head_of file)) → (files : List ClassFile) → AllByRecursion (IsGood heads) files → AllByRecursion P (heads_of files)
+  heads_as : (P : ListedClass → Type 0) → ((file : ClassFile) → IsGoodClass heads file → P (head_of file)) → (files : List ClassFile) → AllByRecursion (IsGoodClass heads) files → AllByRecursion P (heads_of files)
   heads_as P f [] h = tt
   heads_as P f (file ∷ files) h = (f file h.0, heads_as P f files h.1)
 

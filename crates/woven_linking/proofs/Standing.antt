@@ -76,12 +76,12 @@ state_head_alone = refl
 -- ---- the conditions of a class
 
 -- What holds of a class of a compiler's file, beside that its name is new.
-pub record IsGood (heads : List ListedClass) (file : ClassFile) : Type 0 where
+pub record IsGoodClass (heads : List ListedClass) (file : ClassFile) : Type 0 where
   pub named : is_class_name (head_of file).name ≡ true
   pub free : IsFree file.pool
   pub supers : has_supers heads (head_of file) file.fields ≡ true
 
-one_good : (heads : List ListedClass) (taken : Bool) (file : ClassFile) → class_linked sides.Original heads taken (head_of file) file ≡ Ok tt → IsGood heads file × (taken ≡ false)
+one_good : (heads : List ListedClass) (taken : Bool) (file : ClassFile) → class_linked sides.Original heads taken (head_of file) file ≡ Ok tt → IsGoodClass heads file × (taken ≡ false)
 one_good heads taken file e =
     let c = head_of file in
     let last = need (has_supers heads c file.fields) (faults.SuperLeftOut c.name) in
@@ -93,13 +93,13 @@ one_good heads taken file e =
 module _ (heads : List ListedClass) where
   -- of a first class and the others
   first_good : (taken : List ListedClass) (file : ClassFile) (files : List ClassFile) → classes_linked sides.Original heads taken (file ∷ files) ≡ Ok tt
-      → IsGood heads file × (is_known taken (head_of file).name ≡ false) × (classes_linked sides.Original heads (head_of file ∷ taken) files ≡ Ok tt)
+      → IsGoodClass heads file × (is_known taken (head_of file).name ≡ false) × (classes_linked sides.Original heads (head_of file ∷ taken) files ≡ Ok tt)
   first_good taken file files e =
       let a = bind_ok (class_linked sides.Original heads (is_known taken (head_of file).name) (head_of file) file) (λ _. classes_linked sides.Original heads (head_of file ∷ taken) files) tt e in
       let one = one_good heads (is_known taken (head_of file).name) file a.1 in
       (one.0, one.1, a.2)
 
-  pub all_good : (taken : List ListedClass) (files : List ClassFile) → classes_linked sides.Original heads taken files ≡ Ok tt → AllByRecursion (IsGood heads) files
+  pub all_good : (taken : List ListedClass) (files : List ClassFile) → classes_linked sides.Original heads taken files ≡ Ok tt → AllByRecursion (IsGoodClass heads) files
   all_good taken [] e = tt
   all_good taken (file ∷ files) e =
       let a = first_good taken file files e in
@@ -167,7 +167,7 @@ module _ (vars : List Var) (heads : List ListedClass) (parents : AllByRecursion 
   unfolding state_head
   named_state = refl
 
-  one_still : (taken : List ListedClass) (old new : ClassFile) → CanSpell old → IsKept old new → IsGood heads old → is_known taken (head_of old).name ≡ false
+  one_still : (taken : List ListedClass) (old new : ClassFile) → CanSpell old → IsKept old new → IsGoodClass heads old → is_known taken (head_of old).name ≡ false
       → class_linked sides.Inlined (heads ++ state_head ∷ []) (is_known taken (head_of new).name) (head_of new) new ≡ Ok tt
   one_still taken old new fits kept good once =
       let all = heads ++ state_head ∷ [] in

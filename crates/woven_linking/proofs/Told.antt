@@ -25,7 +25,6 @@ use Rattle.offset_patch.specs.declared.block.BlockInsn.TheVariants.{Plain, Byte,
 use Rattle.bytecode_model.specs.declared.origin.Origin.{Origin}
 use Rattle.offset_patch.specs.declared.fault.SpliceFault.{SpliceFault}
 use Rattle.offset_patch.specs.Splicing.{part_of, fronts_from, aimed, put, parts_from, spliced, grown, origin_of, part_origins, origins_of, room, code_spliced}
-use Rattle.block_template.specs.Blocks.{site}
 use Rattle.class_weaving.specs.declared.woven.WovenCode.{WovenCode}
 use Rattle.class_weaving.specs.declared.woven.Members.{Members}
 use Rattle.class_weaving.specs.declared.woven.Woven.{Woven}
@@ -35,7 +34,7 @@ use Rattle.woven_linking.specs.Origins.{fronts_in, insn_woven, IsOfBlock, IsFrom
 use Rattle.woven_linking.proofs.Pairs.{each_append, first_linked}
 use Rattle.woven_linking.proofs.Steps.{conditions_of, coded}
 use Rattle.woven_linking.proofs.Whole.{get_behind, IsOf, program_of}
-use Rattle.class_weaving.specs.State.{state_class}
+use Rattle.class_weaving.specs.State.{state_file}
 
 -- ---- the parts of a method
 
@@ -297,16 +296,16 @@ module _ (plan : Plan) (files : List ClassFile) (listing : Listing) where
       )
 
 pub tell : OriginsAreTrue
-tell files listing main old plan made linked sound w =
+tell files listing main old plan vars made linked sound w =
     let p = program_of files listing main sides.Original old linked in
     let none : Woven = record { files = []; origins = [] } in
-    let one = bind_ok (classes_woven plan none old.classes) (λ x. Ok (state_put plan x)) made w in
-    let is : state_put plan one.0 ≡ made = ok_is SpliceFault (state_put plan one.0) made one.2 in
+    let one = bind_ok (classes_woven plan none old.classes) (λ x. Ok (state_put vars x)) made w in
+    let is : state_put vars one.0 ≡ made = ok_is SpliceFault (state_put vars one.0) made one.2 in
     let all = classes_tell plan files listing none one.0 old.classes sound.classes p.classes one.1 in
-    let news : (state_put plan one.0).files ≡ all.0 ++ state_file vars ∷ [] = ap (λ (xs : List ClassFile). xs ++ state_file vars ∷ []) all.2 in
-    let told : (state_put plan one.0).origins ≡ all.1 ++ [] ∷ [] = ap (λ (xs : List (List (List Origin))). xs ++ [] ∷ []) all.3 in
+    let news : (state_put vars one.0).files ≡ all.0 ++ state_file vars ∷ [] = ap (λ (xs : List ClassFile). xs ++ state_file vars ∷ []) all.2 in
+    let told : (state_put vars one.0).origins ≡ all.1 ++ [] ∷ [] = ap (λ (xs : List (List (List Origin))). xs ++ [] ∷ []) all.3 in
     let here = all.4 (state_file vars) in
-    let put : ClassesAreFrom plan old.classes (state_put plan one.0).files (state_put plan one.0).origins =
-    subst (λ (xs : List (List (List Origin))). ClassesAreFrom plan old.classes (state_put plan one.0).files xs) (sym told)
+    let put : ClassesAreFrom plan old.classes (state_put vars one.0).files (state_put vars one.0).origins =
+    subst (λ (xs : List (List (List Origin))). ClassesAreFrom plan old.classes (state_put vars one.0).files xs) (sym told)
     (subst (λ (xs : List ClassFile). ClassesAreFrom plan old.classes xs (all.1 ++ [] ∷ [])) (sym news) here) in
     subst (λ (x : Woven). ClassesAreFrom plan old.classes x.files x.origins) is put
