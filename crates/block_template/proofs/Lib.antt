@@ -1,4 +1,0 @@
-pub mod Saves
-pub mod BlockFits
-pub mod StateFits
-pub mod FirstCode

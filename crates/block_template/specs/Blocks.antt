@@ -1,90 +1,168 @@
--- The block that stands for a call that the policy denies: it keeps the arguments, takes the lock of conspec/State and
--- stops the program. What stands behind that is never reached, and gives the call what it had.
-use Rattle.std.specs.Prelude.{ℕ, ◌+◌, ◌==◌, Bool, false, nat_lt, nat_le, if◌then◌else◌, pos, List, [], ◌∷◌, ◌++◌, length, find, Option, None, option_map}
+-- The block of a call: what is done before it, behind it where it returns, and where it throws.
+use Rattle.std.specs.Prelude.{ℕ, ◌+◌, ◌==◌, ◌&&◌, max, Bool, true, false, not, is_empty, List, [], ◌∷◌, ◌++◌, length, map, find, Option, Some, None, option_map}
 use Rattle.std.specs.Option.{option_map_or}
 use Rattle.bytecode_model.specs.declared.program.Target.{Target}
 use Rattle.bytecode_model.specs.declared.program.Target.TheVariants as target
+use Rattle.cert_format.specs.declared.certificate.Mode.{Mode}
+use Rattle.cert_format.specs.declared.certificate.Mode.TheVariants.{Hold, Release}
 use Rattle.conspec_tree.specs.declared.types.Kind.{Kind}
-use Rattle.conspec_tree.specs.declared.types.Kind.TheVariants as kinds
+use Rattle.conspec_tree.specs.declared.types.Phase.{Phase}
+use Rattle.conspec_tree.specs.declared.types.Phase.TheVariants.{Before, After, Exceptional}
+use Rattle.conspec_tree.specs.declared.types.Var.{Var}
 use Rattle.conspec_automaton.specs.declared.policy.Clause.{Clause}
 use Rattle.conspec_automaton.specs.declared.policy.Policy.{Policy}
 use Rattle.conspec_automaton.specs.Next.{has_clauses}
 use Rattle.offset_patch.specs.declared.block.Block.{Block}
-use Rattle.offset_patch.specs.declared.block.BlockInsn.{BlockInsn}
-use Rattle.offset_patch.specs.declared.block.BlockInsn.TheVariants.{Plain, Byte, Local, Want, Call}
-use Rattle.offset_patch.specs.declared.block.PoolWant.TheVariants.{StateClass, Exit}
-use Rattle.insn_codec.specs.declared.opcodes.TheConstants.{
-  ACONST_NULL,
-  LDC_W,
-  ILOAD,
-  ALOAD,
-  ILOAD_0,
-  ALOAD_0,
-  ISTORE,
-  ASTORE,
-  ISTORE_0,
-  ASTORE_0,
-  INVOKESTATIC,
-  ATHROW,
-  MONITORENTER,
-  MONITOREXIT,
+use Rattle.offset_patch.specs.declared.block.BlockInsn.TheVariants.{Plain, Jump, Call}
+use Rattle.offset_patch.specs.Plan.{Plan}
+use Rattle.insn_codec.specs.declared.opcodes.TheConstants.{GOTO, ATHROW}
+use Rattle.block_template.specs.declared.item.Item.{Item}
+use Rattle.block_template.specs.declared.item.Role.TheVariants as roles
+use Rattle.block_template.specs.Parts.{item, lock, unlock, save, loads, check, keep, give, if_reached}
+
+-- ---- the clauses of a method
+
+abbrev pub is_phase : Phase → Phase → Bool
+is_phase Before Before = true
+is_phase After After = true
+is_phase Exceptional Exceptional = true
+is_phase phase other = false
+
+abbrev pub clause_at : Policy → ℕ → Phase → Option Clause
+clause_at policy method phase = find (λ (c : Clause). (c.method == method) && is_phase phase c.phase) policy.clauses
+
+-- those of a call, a return and an exception of the method
+pub record Clauses : Type 0 where
+  pub before : Option Clause
+  pub after : Option Clause
+  pub exceptional : Option Clause
+
+abbrev pub clauses_of : Policy → ℕ → Clauses
+clauses_of policy method = record {
+  before = clause_at policy method Before;
+  after = clause_at policy method After;
+  exceptional = clause_at policy method Exceptional;
 }
 
--- ---- locals
+-- A check without branches stops the program.
+abbrev pub goes_on : Option Clause → Bool
+goes_on None = true
+goes_on (Some clause) = not (is_empty clause.branches)
 
--- the shortest form of a load or a store: one of the four opcodes from `short` on, or `op` with the local's number
-abbrev pub local : ℕ → ℕ → ℕ → BlockInsn
-local short op slot = if nat_lt slot 4 then Plain (short + slot) else Local op slot (nat_le 256 slot)
+-- ---- mode release: each check takes the lock and leaves it
 
--- istore, and astore for a class or an array
-abbrev pub store : Kind → ℕ → BlockInsn
-store kinds.Object slot = local ASTORE_0 ASTORE slot
-store number slot = local ISTORE_0 ISTORE slot
+-- In `behind` stand the instructions behind a check and its lock.
+abbrev pub checked : List Bool → ℕ → ℕ → Clause → List Item → List Item
+checked bools base at clause behind = check bools base at clause ++ if_reached (goes_on (Some clause)) behind
 
--- iload, and aload
-abbrev pub load : Kind → ℕ → BlockInsn
-load kinds.Object slot = local ALOAD_0 ALOAD slot
-load number slot = local ILOAD_0 ILOAD slot
+abbrev pub released : List Bool → ℕ → ℕ → Clause → List Item → List Item
+released bools base at clause behind = lock clause.phase ++ checked bools base (at + 2) clause (unlock clause.phase true ++ behind)
 
--- Each argument has a local of its own, from `base` on. The last one, which is on top, is stored first.
-abbrev pub save : ℕ → List Kind → List BlockInsn
-save base [] = []
-save base (kind ∷ others) = save (base + 1) others ++ store kind base ∷ []
+-- ---- before the call
 
-abbrev pub loads : ℕ → List Kind → List BlockInsn
-loads base [] = []
-loads base (kind ∷ others) = load kind base ∷ loads (base + 1) others
+abbrev pub front : Mode → List Bool → ℕ → Option Clause → List Item
+front Release bools base None = []
+front Release bools base (Some clause) =
+    save base 0 clause.args ++ released bools base (length clause.args) clause (loads false base 0 clause.args)
+front Hold bools base None = lock Before
+front Hold bools base (Some clause) =
+    save base 0 clause.args ++ (lock Before ++ checked bools base (length clause.args + 2) clause (loads true base 0 clause.args))
 
--- ---- the parts of a block
+abbrev pub is_locked : Mode → Bool
+is_locked Hold = true
+is_locked Release = false
 
--- ldc_w conspec/State; monitorenter
-abbrev pub lock : List BlockInsn
-lock = Want LDC_W StateClass ∷ Plain MONITORENTER ∷ []
+abbrev pub call : Mode → Item
+call mode = item Call (roles.Call (is_locked mode))
 
--- bipush 77; invokestatic java/lang/System.exit (I)V; aconst_null; athrow
-abbrev pub stop : List BlockInsn
-stop = Byte (pos 77) ∷ Want INVOKESTATIC Exit ∷ Plain ACONST_NULL ∷ Plain ATHROW ∷ []
+-- ---- behind the call, where it returns
 
--- ldc_w conspec/State; monitorexit
-abbrev pub unlock : List BlockInsn
-unlock = Want LDC_W StateClass ∷ Plain MONITOREXIT ∷ []
+abbrev pub kept : Option Kind → ℕ
+kept None = 0
+kept (Some kind) = 1
 
--- the block of a denied call with such arguments, in a method whose locals end at `base`
-abbrev pub denial : ℕ → List Kind → Block
-denial base arguments = record { insns = save base arguments ++ (lock ++ (stop ++ (unlock ++ (loads base arguments ++ Call ∷ [])))) }
+abbrev pub behind : Mode → List Bool → ℕ → ℕ → Option Clause → List Item
+behind Release bools base at None = []
+behind Release bools base at (Some clause) =
+    keep false base clause.result ++ released bools base (at + kept clause.result) clause (give base clause.result)
+behind Hold bools base at None = unlock After false
+behind Hold bools base at (Some clause) =
+    keep true base clause.result ++ checked bools base (at + kept clause.result) clause (unlock After true ++ give base clause.result)
+
+-- ---- where the call throws
+
+abbrev pub rethrow : List Item
+rethrow = item (Plain ATHROW) roles.Rethrow ∷ []
+
+-- the handler, which begins at `at`
+abbrev pub handler : Mode → List Bool → ℕ → ℕ → Option Clause → List Item
+handler Release bools base at None = []
+handler Release bools base at (Some clause) = released bools base at clause rethrow
+handler Hold bools base at None = unlock Exceptional false ++ rethrow
+handler Hold bools base at (Some clause) = checked bools base at clause (unlock Exceptional true ++ rethrow)
+
+-- In mode hold what the call throws is caught always, else where a clause is for it.
+abbrev pub catches : Mode → Option Clause → Bool
+catches Hold clause = true
+catches Release None = false
+catches Release (Some clause) = true
+
+-- The handler stands behind a jump over it.
+abbrev pub leave : ℕ → Item
+leave end = item (Jump GOTO end) roles.Leave
+
+-- ---- the block
+
+-- what stands from the call on, which is at `at`
+abbrev pub called : Mode → List Bool → ℕ → ℕ → Clauses → List Item
+called mode bools base at clauses = call mode ∷ behind mode bools base (at + 1) clauses.after
+
+-- a block that catches, whose handler begins at `at`
+abbrev pub with_handler : Mode → List Bool → ℕ → ℕ → Clauses → List Item
+with_handler mode bools base at clauses =
+    if_reached (goes_on clauses.after) (leave (at + length (handler mode bools base at clauses.exceptional)) ∷ []) ++ handler mode bools base at clauses.exceptional
+
+abbrev pub caught : Mode → List Bool → ℕ → ℕ → Clauses → List Item
+caught mode bools base at clauses = if catches mode clauses.exceptional then with_handler mode bools base (at + 1) clauses else []
+
+-- what stands from the call on, with the handler
+abbrev pub from_call : Mode → List Bool → ℕ → ℕ → Clauses → List Item
+from_call mode bools base at clauses =
+    called mode bools base at clauses ++ caught mode bools base (at + length (called mode bools base at clauses)) clauses
+
+abbrev pub items : Mode → List Bool → ℕ → Clauses → List Item
+items mode bools base clauses =
+    front mode bools base clauses.before
+    ++ if_reached (goes_on clauses.before) (from_call mode bools base (length (front mode bools base clauses.before)) clauses)
+
+-- where the handler begins
+abbrev pub handler_place : Mode → List Bool → ℕ → Clauses → ℕ
+handler_place mode bools base clauses =
+    length (front mode bools base clauses.before)
+    + (length (called mode bools base (length (front mode bools base clauses.before)) clauses) + 1)
+
+abbrev pub handler_at : Mode → List Bool → ℕ → Clauses → Option ℕ
+handler_at mode bools base clauses = if catches mode clauses.exceptional then Some (handler_place mode bools base clauses) else None
+
+abbrev pub block_with : Mode → List Bool → ℕ → Clauses → Block
+block_with mode bools base clauses = record {
+  insns = map (λ (i : Item). i.insn) (items mode bools base clauses);
+  handler = handler_at mode bools base clauses;
+}
 
 -- ---- which calls have a block
 
--- the first clause of a method
-abbrev pub clause_of : Policy → ℕ → Option Clause
-clause_of policy method = find (λ (c : Clause). c.method == method) policy.clauses
+abbrev pub bools_of : Policy → List Bool
+bools_of policy = map (λ (v : Var). v.is_bool) policy.vars
 
-abbrev pub block : Policy → ℕ → ℕ → Option Block
-block policy method base = option_map (λ (c : Clause). denial base c.args) (clause_of policy method)
+-- the block of a method, where a clause names it, in a method whose own locals end at `base`
+abbrev pub block : Policy → Mode → ℕ → ℕ → Option Block
+block policy mode method base = if has_clauses policy method then Some (block_with mode (bools_of policy) base (clauses_of policy method)) else None
 
--- how many locals the block of a method uses
+-- The arguments are kept before a check of the call, and the result before one of the return.
 abbrev pub locals_used : Policy → ℕ → ℕ
-locals_used policy method = option_map_or (λ (c : Clause). length c.args) (clause_of policy method) 0
+locals_used policy method =
+    max (option_map_or (λ (c : Clause). length c.args) (clause_at policy method Before) 0) (option_map_or (λ (c : Clause). kept c.result) (clause_at policy method After) 0)
 
 -- whether an instruction has a block, by what its operand names
 abbrev pub has_block : Policy → Target → Bool
@@ -92,10 +170,14 @@ has_block policy (target.ApiMethod method) = has_clauses policy method
 has_block policy other = false
 
 -- its block
-abbrev pub site : Policy → ℕ → Target → Option Block
-site policy base (target.ApiMethod method) = block policy method base
-site policy base other = None
+abbrev pub site : Policy → Mode → ℕ → Target → Option Block
+site policy mode base (target.ApiMethod method) = block policy mode method base
+site policy mode base other = None
 
 abbrev pub site_locals : Policy → Target → ℕ
 site_locals policy (target.ApiMethod method) = locals_used policy method
 site_locals policy other = 0
+
+-- the plan of a policy, in a mode
+abbrev pub plan_of : Policy → Mode → Plan
+plan_of policy mode = record { has_block = has_block policy; locals = site_locals policy; block = site policy mode }

@@ -1,4 +1,5 @@
+pub mod Pushing
+pub mod Parts
 pub mod Blocks
-pub mod State
-pub mod Woven
-pub mod Outcome
+pub mod Denial
+pub mod Good

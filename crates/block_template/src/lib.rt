@@ -1,14 +1,9 @@
-//! The blocks that stand for calls that a policy has clauses for, and the class `conspec/State`. (docs/BLOCKS.md)
+//! The blocks that stand for calls that a policy has clauses for, in both modes. (docs/BLOCKS.md)
 //!
-//! So far a policy denies calls outright, and a block stops the program before the call.
+//! A block is made of parts, and a part of items: an instruction, and what is so before it. Instructions, types and notes are
+//! told of this one list.
 #![tactic(auto)]
 
-mod blocks;
-mod clauses;
-mod state;
-mod woven;
+mod item;
 
-pub use blocks::denial;
-pub use clauses::{block, has_block, locals_used, site, site_locals};
-pub use state::state_class;
-pub use woven::{Members, Woven, WovenCode};
+pub use item::{Item, Role};
