@@ -1,5 +1,6 @@
 -- The files of a program that was woven can be spelled.
-use Rattle.std.proofs.Common.{◌≡◌, ℕ, zero, suc, ◌+◌, ◌<◌, ◌≤◌, ◌^◌, Bool, true, false, List, [], ◌∷◌, ◌++◌, length, map, Option, Some, None, Ok, Err, refl, sym, ap, subst, ◌∙◌, append_assoc, append-nil, arith}
+use Rattle.std.proofs.Common.{◌≡◌, ℕ, zero, suc, ◌+◌, ◌<◌, ◌≤◌, ◌^◌, Bool, true, false, List, [], ◌∷◌, ◌++◌, length, map, Option, Some, None, Ok, Err, refl, sym, ap, subst, ◌∙◌, FitsSigned, append_assoc, append-nil, arith}
+use Rattle.std.specs.Int.{w32}
 use Rattle.std.specs.Prelude.{slice_get, if◌then◌else◌, IfOk}
 use Rattle.std.specs.List.{AllByRecursion, list_any}
 use Rattle.std.proofs.lemmas.List.{length-append, length-map}
@@ -29,7 +30,7 @@ use Rattle.offset_patch.specs.Splicing.{grown, wants_of, fronts_of, origins_of, 
 use Rattle.offset_patch.proofs.Lists.{all_append}
 use Rattle.offset_patch.proofs.PoolFits.{code_on, member_on, attrs_on, index_on, counted_on, each_on, read_on}
 use Rattle.offset_patch.proofs.EntryFits.{wants_grow, wants_fit}
-use Rattle.offset_patch.proofs.InsnFits.{wants_there, parts_fit, parts_some}
+use Rattle.offset_patch.proofs.InsnFits.{wants_there, wants_are, parts_fit, parts_some}
 use Rattle.offset_patch.proofs.CodeFits.{room_is, code_fits, code_named, pool_short}
 use Rattle.class_weaving.specs.State.{state_file}
 use Rattle.class_weaving.proofs.Sites.{refs_fit, refs_some}
@@ -72,7 +73,7 @@ put_fits kinds plan good class number pool method code w p h sound some e =
     let here = subst (λ (q : List Const). FitsCode q code) (sym more.1) (code_on pool more.0 code h) in
     subst (IsCode pool code) is (record {
       grown = more;
-      pool_fits = wants_fit (wants_of sites) pool p short;
+      pool_fits = wants_fit (wants_of sites) (wants_are sites fit) pool p short;
       code_fits = code_fits class number all method code locals sites new here one.1 two.1 each there;
       named = code_named class number all method code locals sites new two.1;
     })

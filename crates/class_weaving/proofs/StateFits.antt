@@ -1,22 +1,18 @@
 -- The class file of conspec/State can be spelled, and where the names of its variables stand.
 use Rattle.std.proofs.Common.{◌≡◌, ℕ, ◌+◌, ◌*◌, ◌<◌, ◌≤◌, Bool, true, false, List, [], ◌∷◌, ◌++◌, length, Some, refl, sym, ap, subst, ◌∙◌, FitsSigned, append_assoc, arith}
-use Rattle.std.specs.Prelude.{nat_lt, ◌&&◌, codes, slice_get, ⊤}
-use Rattle.std.specs.Fmt.{decimal}
+use Rattle.std.specs.Prelude.{codes, slice_get, ⊤}
 use Rattle.std.specs.Int.{w32}
-use Rattle.std.specs.List.{AllByRecursion, list_all}
-use Rattle.std.specs.Str.Parse.{AllDigits}
-use Rattle.std.proofs.lemmas.Bool.Decides.{nat_tests}
-use Rattle.std.proofs.lemmas.Fmt.{decimal_is_IsNumeral, length-decimal-le}
+use Rattle.std.specs.List.{AllByRecursion}
 use Rattle.std.proofs.lemmas.List.{length-append}
-use Rattle.std.proofs.lemmas.Str.Parse.{digit_from_value}
 use Rattle.byteorder.specs.Numbers.{length-bytes_high_first}
 use Rattle.class_codec.specs.declared.pool.Kind.TheVariants as kinds
 use Rattle.class_codec.specs.declared.tree.Const.{Const}
 use Rattle.class_codec.specs.declared.tree.Const.TheVariants as constants
 use Rattle.class_codec.specs.Pool.{is_one_of, names}
-use Rattle.class_codec.specs.Fits.{IsTextByte, FitsConst, FitsMember, HasSeconds, IsNamed, CanSpell}
+use Rattle.class_codec.specs.Fits.{FitsConst, FitsMember, HasSeconds, IsNamed, CanSpell}
 use Rattle.conspec_tree.specs.declared.types.Var.{Var}
 use Rattle.offset_patch.specs.Entries.{state_name, variable_name}
+use Rattle.offset_patch.proofs.EntryFits as entries
 use Rattle.class_weaving.specs.State.{head, values_from, variable_text, kind_text, field, fields_from, state_file}
 
 -- ---- where the variables stand
@@ -45,37 +41,12 @@ names_from front index (var ∷ vars) e =
 pub names_stand : (vars : List Var) → HasNames (head ++ values_from 0 vars) 0 vars
 names_stand vars = names_from head 0 vars refl
 
--- ---- texts
-
-abbrev is_text_byte : ℕ → Bool
-is_text_byte b = nat_lt 0 b && nat_lt b 240
-
-both : (a b : Bool) → (a && b) ≡ true → (a ≡ true) × (b ≡ true)
-both true true e = (refl, refl)
-both true false e = absurd cc
-both false b e = absurd cc
-
-text_fits : (bytes : List ℕ) → list_all is_text_byte bytes ≡ true → AllByRecursion IsTextByte bytes
-text_fits [] e = tt
-text_fits (b ∷ bytes) e =
-    let parts = both (is_text_byte b) (list_all is_text_byte bytes) e in
-    let ends = both (nat_lt 0 b) (nat_lt b 240) parts.0 in
-    let low = ends.0 in
-    let high = ends.1 in
-    ((grind (arith, nat_tests), grind (arith, nat_tests)), text_fits bytes parts.1)
-
-digits_fit : (bytes : List ℕ) → AllDigits 10 bytes → AllByRecursion IsTextByte bytes
-digits_fit [] h = tt
-digits_fit (b ∷ bytes) h =
-    let range = digit_from_value b h.0 in
-    ((omega (arith, range.0), omega (arith, range.1)), digits_fit bytes h.1)
-
 -- ---- the pool
 
 name_fits : (index : ℕ) → index < 16 → FitsConst (constants.Utf8 (variable_name index))
 name_fits index few =
-    let short : length (decimal index) ≤ 2 = length-decimal-le 2 index (omega arith) (omega arith) (omega arith) in
-    (omega arith, ((omega arith, omega arith), digits_fit (decimal index) (decimal_is_IsNumeral index (omega arith)).0.1))
+    let text = entries.variable_text index (omega arith) in
+    (text.few, text.each)
 
 values_fit : (index : ℕ) (vars : List Var) → index + length vars ≤ 16 → AllByRecursion (λ (v : Var). FitsSigned w32 v.first) vars → AllByRecursion FitsConst (values_from index vars)
 values_fit index [] few h = tt
@@ -99,14 +70,14 @@ module _ (rest : List Const) where
   head_fits h = (
     tt,
     (
-      (omega arith, text_fits state_name refl),
+      (omega arith, entries.text_bytes state_name refl),
       (
         omega arith,
         (
-          (omega arith, text_fits (codes "java/lang/Object") refl),
+          (omega arith, entries.text_bytes (codes "java/lang/Object") refl),
           (
             omega arith,
-            ((omega arith, text_fits (codes "ConstantValue") refl), ((omega arith, text_fits (codes "I") refl), ((omega arith, text_fits (codes "Z") refl), h))),
+            ((omega arith, entries.text_bytes (codes "ConstantValue") refl), ((omega arith, entries.text_bytes (codes "I") refl), ((omega arith, entries.text_bytes (codes "Z") refl), h))),
           ),
         ),
       ),
