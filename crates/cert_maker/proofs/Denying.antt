@@ -70,7 +70,8 @@ module _ (method : ℕ) where
   after_none [] all = refl
   after_none (c ∷ clauses) all = by (c.method == method) (after_none clauses all.1)
     where
-      by : (b : Bool) → find (at_phase After) clauses ≡ None → cond (b && is_phase After c.phase) (Some c) (find (at_phase After) clauses) ≡ None
+      by : (b : Bool) → find (at_phase After) clauses ≡ None
+          → cond (b && is_phase After c.phase) (Some c) (find (at_phase After) clauses) ≡ None
       by true later = ap (λ (p : Phase). cond (is_phase After p) (Some c) (find (at_phase After) clauses)) all.0.calls ∙ later
       by false later = later
 
@@ -79,7 +80,8 @@ module _ (policy : Policy) (denies : DeniesOnly policy) where
   locals_are method =
       let arguments : Option Clause → ℕ = λ o. option_map_or (λ (c : Clause). length c.args) o 0 in
       let results : Option Clause → ℕ = λ o. option_map_or (λ (c : Clause). kept c.result) o 0 in
-      ap (λ (o : Option Clause). max (arguments o) (results (clause_at policy method After))) (before_are method policy.clauses denies.clauses)
+      ap (λ (o : Option Clause). max (arguments o) (results (clause_at policy method After)))
+      (before_are method policy.clauses denies.clauses)
       ∙ ap (λ (o : Option Clause). max (arguments_used policy method) (results o)) (after_none method policy.clauses denies.clauses)
       ∙ most_left (arguments_used policy method)
     where
@@ -111,7 +113,8 @@ module _ (policy : Policy) (denies : DeniesOnly policy) where
 
     pub plan_is : released policy ≡ denying policy
     plan_is =
-        let plan : (Target → ℕ) → (ℕ → Target → Option Block) → Plan = λ locals block. record { has_block = has_block policy; locals = locals; block = block } in
+        let plan : (Target → ℕ) → (ℕ → Target → Option Block) → Plan =
+        λ locals block. record { has_block = has_block policy; locals = locals; block = block } in
         let locals : site_locals_of policy ≡ site_locals policy = fun_ext site_locals_are in
         let blocks : site_of policy Release ≡ site policy = fun_ext (λ base. fun_ext (sites_are base)) in
         ap (λ (l : Target → ℕ). plan l (site_of policy Release)) locals ∙ ap (plan (site_locals policy)) blocks
@@ -123,7 +126,8 @@ module _ (policy : Policy) (base : ℕ) where
   pub site_told : (ref : Target) → site policy base ref ≡ option_map (denial base) (arguments_of policy ref)
   site_told (target.ApiMethod method) = by (clause_of policy method)
     where
-      by : (o : Option Clause) → option_map (λ (c : Clause). denial base c.args) o ≡ option_map (denial base) (option_map (λ (c : Clause). c.args) o)
+      by : (o : Option Clause)
+          → option_map (λ (c : Clause). denial base c.args) o ≡ option_map (denial base) (option_map (λ (c : Clause). c.args) o)
       by None = refl
       by (Some c) = refl
   site_told target.None = refl
@@ -156,13 +160,15 @@ module _ (policy : Policy) (base : ℕ) where
       (Contains-append_right (filter_map want_of front) (filter_map want_of behind) Exit (1, omega arith, refl))
 
   -- The blocks of a method with one that is denied name the way out.
-  pub names_way_out : (refs : List Target) (i : ℕ) (ref : Target) (args : List Kind) → slice_get refs i ≡ Some ref → arguments_of policy ref ≡ Some args
-      → Contains (wants_of (map (site policy base) refs)) Exit
+  pub names_way_out : (refs : List Target) (i : ℕ) (ref : Target) (args : List Kind) → slice_get refs i ≡ Some ref
+      → arguments_of policy ref ≡ Some args → Contains (wants_of (map (site policy base) refs)) Exit
   names_way_out [] i ref args e told = absurd cc
   names_way_out (r ∷ refs) zero ref args e told =
       let same : ref ≡ r = cc in
-      let here : site policy base r ≡ Some (denial base args) = site_told r ∙ ap (option_map (denial base)) (ap (arguments_of policy) (sym same) ∙ told) in
+      let here : site policy base r ≡ Some (denial base args) =
+      site_told r ∙ ap (option_map (denial base)) (ap (arguments_of policy) (sym same) ∙ told) in
       Contains-append_left (block_wants (site policy base r)) (wants_of (map (site policy base) refs)) Exit
       (subst (λ (o : Option Block). Contains (block_wants o) Exit) (sym here) (denial_wants args))
   names_way_out (r ∷ refs) (suc i) ref args e told =
-      Contains-append_right (block_wants (site policy base r)) (wants_of (map (site policy base) refs)) Exit (names_way_out refs i ref args e told)
+      Contains-append_right (block_wants (site policy base r)) (wants_of (map (site policy base) refs)) Exit
+      (names_way_out refs i ref args e told)

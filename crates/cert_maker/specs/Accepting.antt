@@ -28,14 +28,16 @@ use Rattle.cert_maker.specs.Noting.{certificate_of}
 abbrev pub IsStopped : Program → Plan → Policy → Program → Typing → Type 0
 IsStopped old plan policy new typing =
     (own index i k : ℕ) (class : LinkedClass) (method : Method) (ref : Target) (args : List Kind) → slice_get old.classes own ≡ Some class
-    → slice_get class.methods index ≡ Some method → slice_get method.refs i ≡ Some ref → arguments_of policy ref ≡ Some args → length args + 6 ≤ k
-    → k < length args + length args + 9 → reached new typing own index (slice_index (fronts_of (sites_of plan method.max_locals method)) i + k) ≡ false
+    → slice_get class.methods index ≡ Some method → slice_get method.refs i ≡ Some ref → arguments_of policy ref ≡ Some args
+    → length args + 6 ≤ k → k < length args + length args + 9
+    → reached new typing own index (slice_index (fronts_of (sites_of plan method.max_locals method)) i + k) ≡ false
 
 -- Of a program whose classes stand as their files have them: where the types of the woven program are right, and no block
 -- goes on behind its way out, the woven program is accepted with the certificate that is made of them.
 abbrev pub WovenIsAccepted : Type 0
 WovenIsAccepted =
-    (old new : Program) (policy : Policy) (made : Woven) (typing : Typing) → DeniesOnly policy → AreStanding old → IsSound old → IsSound new → AreRightOperands old → IsFreeOfState old
-    → IsWoven old (released policy) policy.vars new → woven old (released policy) policy.vars ≡ Ok made
-    → IsTyped new typing → IsShaped new typing.frames → IsStopped old (released policy) policy new typing
+    (old new : Program) (policy : Policy) (made : Woven) (typing : Typing) → DeniesOnly policy → AreStanding old → IsSound old → IsSound new
+    → AreRightOperands old → IsFreeOfState old → IsWoven old (released policy) policy.vars new
+    → woven old (released policy) policy.vars ≡ Ok made → IsTyped new typing → IsShaped new typing.frames
+    → IsStopped old (released policy) policy new typing
     → IsAccepted new policy (certificate_of old.classes policy made.origins typing)

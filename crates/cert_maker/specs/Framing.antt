@@ -88,7 +88,8 @@ low size (Some frame) = if_low size frame
 
 abbrev pub frames_woven : Plan → Policy → Method → Frames → Frames
 frames_woven plan policy method frames =
-    parts_framed policy method.refs (map (λ (f : Option FrameType). option_map (frame_renamed (moved_in plan method)) (low method.max_stack f)) frames)
+    parts_framed policy method.refs
+    (map (λ (f : Option FrameType). option_map (frame_renamed (moved_in plan method)) (low method.max_stack f)) frames)
 
 -- ---- what is known of clauses
 

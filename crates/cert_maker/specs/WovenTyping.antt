@@ -29,21 +29,27 @@ pub record IsWovenOf (old : Program) (own index : ℕ) : Type 0 where
 
 -- the frames of the method, with those of its blocks
 abbrev pub frames_of_woven : Plan → Policy → Typing → (own index : ℕ) → LinkedClass → Method → Frames
-frames_of_woven plan policy typing own index class method = frames_woven plan policy method (frames_in class.methods (frames_told typing own) index)
+frames_of_woven plan policy typing own index class method =
+    frames_woven plan policy method (frames_in class.methods (frames_told typing own) index)
 
 -- The rules are met at each instruction, with the frames of the client's instructions and those of the blocks.
-pub record IsMetWoven (plan : Plan) (policy : Policy) (old new : Program) (typing : Typing) (own index : ℕ) (other : LinkedClass) (made : Method) : Type 0 where
+pub record IsMetWoven (plan : Plan) (policy : Policy) (old new : Program) (typing : Typing) (own index : ℕ) (other : LinkedClass)
+    (made : Method) : Type 0 where
   pub of : IsWovenOf old own index
-  pub met : (at : ℕ) → at < length made.insns → row_in new own other made (frames_of_woven plan policy typing own index of.class of.method) at ≡ None
+  pub met : (at : ℕ) → at < length made.insns
+      → row_in new own other made (frames_of_woven plan policy typing own index of.class of.method) at ≡ None
   -- what stands in a block behind the way out has no frame
-  pub stops : (i k : ℕ) (ref : Target) (args : List Kind) → slice_get of.method.refs i ≡ Some ref → arguments_of policy ref ≡ Some args → length args + 6 ≤ k
-      → k < length args + length args + 9
-      → frame_of (frames_of_woven plan policy typing own index of.class of.method) (slice_index (fronts_of (sites_of plan of.method.max_locals of.method)) i + k) ≡ None
+  pub stops : (i k : ℕ) (ref : Target) (args : List Kind) → slice_get of.method.refs i ≡ Some ref → arguments_of policy ref ≡ Some args
+      → length args + 6 ≤ k → k < length args + length args + 9
+      → frame_of (frames_of_woven plan policy typing own index of.class of.method)
+      (slice_index (fronts_of (sites_of plan of.method.max_locals of.method)) i + k)
+      ≡ None
 
 -- It is so for each method of the woven program.
 abbrev pub WovenIsTyped : Type 0
 WovenIsTyped =
-    (old new : Program) (policy : Policy) (typing : Typing) → DeniesOnly policy → IsSound old → AreRightOperands old → TellsArguments old.listing policy
-    → IsWoven old (released policy) policy.vars new → IsTyped old typing → IsShaped old typing.frames
-    → (own index : ℕ) (other : LinkedClass) (made : Method) → slice_get new.classes own ≡ Some other → slice_get other.methods index ≡ Some made
+    (old new : Program) (policy : Policy) (typing : Typing) → DeniesOnly policy → IsSound old → AreRightOperands old
+    → TellsArguments old.listing policy → IsWoven old (released policy) policy.vars new → IsTyped old typing → IsShaped old typing.frames
+    → (own index : ℕ) (other : LinkedClass) (made : Method) → slice_get new.classes own ≡ Some other
+    → slice_get other.methods index ≡ Some made
     → IsMetWoven (released policy) policy old new typing own index other made

@@ -22,18 +22,22 @@ use Rattle.class_weaving.specs.State.{state_file}
 -- ---- woven files
 
 module _ (plan : Plan) where
-  classes_counted : (before last : Woven) (classes : List LinkedClass) → classes_woven plan before classes ≡ Ok last → length last.files ≡ length before.files + length classes
+  classes_counted : (before last : Woven) (classes : List LinkedClass) → classes_woven plan before classes ≡ Ok last
+      → length last.files ≡ length before.files + length classes
   classes_counted before last [] e = ap (λ (w : Woven). length w.files) (sym (ok_is SpliceFault before last e)) ∙ omega arith
   classes_counted before last (class ∷ classes) e =
       let one = bind_ok (class_woven plan before class) (λ next. classes_woven plan next classes) last e in
-      let made = bind_ok (members_woven plan class (none_made class.file.pool) class.file.methods) (λ made. Ok (file_put before class made)) one.0 one.1 in
+      let members = members_woven plan class (none_made class.file.pool) class.file.methods in
+      let made = bind_ok members (λ made. Ok (file_put before class made)) one.0 one.1 in
       let file : ClassFile = file_with class.file made.0.entries made.0.items in
       let first : length one.0.files ≡ length before.files + 1 =
-      ap (λ (w : Woven). length w.files) (sym (ok_is SpliceFault (file_put before class made.0) one.0 made.2)) ∙ length-append before.files (file ∷ []) in
+      ap (λ (w : Woven). length w.files) (sym (ok_is SpliceFault (file_put before class made.0) one.0 made.2))
+      ∙ length-append before.files (file ∷ []) in
       classes_counted one.0 last classes one.2 ∙ omega (arith, first)
 
   -- One class is added.
-  pub files_counted : (vars : List Var) (program : Program) (made : Woven) → woven program plan vars ≡ Ok made → length made.files ≡ length program.classes + 1
+  pub files_counted : (vars : List Var) (program : Program) (made : Woven) → woven program plan vars ≡ Ok made
+      → length made.files ≡ length program.classes + 1
   files_counted vars program made e =
       let none : Woven = record { files = []; origins = [] } in
       let own = bind_ok (classes_woven plan none program.classes) (λ w. Ok (state_put vars w)) made e in
@@ -44,7 +48,9 @@ module _ (plan : Plan) where
 
 module _ (files : List ClassFile) (listing : Listing) (main : List ℕ) (side : Side) (program : Program) where
   pub assembled_of : linked files listing main side ≡ Ok program → assembled files listing main side ≡ Ok program
-  assembled_of e = (need_ok (not (nat_lt max_files (length files))) (faults.TooMany (length files)) (λ few. assembled files listing main side) program e).1
+  assembled_of e =
+      let fewer = not (nat_lt max_files (length files)) in
+      (need_ok fewer (faults.TooMany (length files)) (λ few. assembled files listing main side) program e).1
 
   pub linked_of : length files ≤ max_files → assembled files listing main side ≡ Ok program → linked files listing main side ≡ Ok program
   linked_of few e =
