@@ -14,7 +14,7 @@ fn components_stand_before_an_entry(rt: HostRuntime) -> Result<(), Fail> {
     let mut pool = List::new(alloc);
     pool.push(Const::Second)?;
     pool.push(text(alloc, b"exit")?)?;
-    let mut entries = Entries::new(alloc, pool);
+    let mut entries = Entries::new(pool);
     assert_eq!(&rt; entries.add(alloc, PoolWant::Exit)?, 6);
     assert_eq!(&rt; entries.add(alloc, PoolWant::Exit)?, 6);
     assert_eq!(&rt; entries.count(), 7);
