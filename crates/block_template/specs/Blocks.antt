@@ -1,5 +1,5 @@
 -- The block of a call: what is done before it, behind it where it returns, and where it throws.
-use Rattle.std.specs.Prelude.{ℕ, ◌+◌, ◌==◌, ◌&&◌, max, Bool, true, false, not, is_empty, List, [], ◌∷◌, ◌++◌, length, map, find, Option, Some, None, option_map}
+use Rattle.std.specs.Prelude.{ℕ, ◌+◌, ◌==◌, ◌&&◌, max, Bool, true, false, not, if◌then◌else◌, List, [], ◌∷◌, ◌++◌, length, map, find, Option, Some, None}
 use Rattle.std.specs.Option.{option_map_or}
 use Rattle.bytecode_model.specs.declared.program.Target.{Target}
 use Rattle.bytecode_model.specs.declared.program.Target.TheVariants as target
@@ -8,9 +8,9 @@ use Rattle.cert_format.specs.declared.certificate.Mode.TheVariants.{Hold, Releas
 use Rattle.conspec_tree.specs.declared.types.Kind.{Kind}
 use Rattle.conspec_tree.specs.declared.types.Phase.{Phase}
 use Rattle.conspec_tree.specs.declared.types.Phase.TheVariants.{Before, After, Exceptional}
-use Rattle.conspec_tree.specs.declared.types.Var.{Var}
 use Rattle.conspec_automaton.specs.declared.policy.Clause.{Clause}
 use Rattle.conspec_automaton.specs.declared.policy.Policy.{Policy}
+use Rattle.conspec_automaton.specs.Denying.{is_empty}
 use Rattle.conspec_automaton.specs.Next.{has_clauses}
 use Rattle.offset_patch.specs.declared.block.Block.{Block}
 use Rattle.offset_patch.specs.declared.block.BlockInsn.TheVariants.{Plain, Jump, Call}
@@ -18,6 +18,7 @@ use Rattle.offset_patch.specs.Plan.{Plan}
 use Rattle.insn_codec.specs.declared.opcodes.TheConstants.{GOTO, ATHROW}
 use Rattle.block_template.specs.declared.item.Item.{Item}
 use Rattle.block_template.specs.declared.item.Role.TheVariants as roles
+use Rattle.block_template.specs.Pushing.{bools_in}
 use Rattle.block_template.specs.Parts.{item, lock, unlock, save, loads, check, keep, give, if_reached}
 
 -- ---- the clauses of a method
@@ -135,14 +136,13 @@ items mode bools base clauses =
     front mode bools base clauses.before
     ++ if_reached (goes_on clauses.before) (from_call mode bools base (length (front mode bools base clauses.before)) clauses)
 
--- where the handler begins
-abbrev pub handler_place : Mode → List Bool → ℕ → Clauses → ℕ
-handler_place mode bools base clauses =
-    length (front mode bools base clauses.before)
-    + (length (called mode bools base (length (front mode bools base clauses.before)) clauses) + 1)
+-- where the handler begins, where the call is at `at`
+abbrev pub from_handler : Mode → List Bool → ℕ → ℕ → Clauses → Option ℕ
+from_handler mode bools base at clauses =
+    if catches mode clauses.exceptional then Some (at + length (called mode bools base at clauses) + 1) else None
 
 abbrev pub handler_at : Mode → List Bool → ℕ → Clauses → Option ℕ
-handler_at mode bools base clauses = if catches mode clauses.exceptional then Some (handler_place mode bools base clauses) else None
+handler_at mode bools base clauses = from_handler mode bools base (length (front mode bools base clauses.before)) clauses
 
 abbrev pub block_with : Mode → List Bool → ℕ → Clauses → Block
 block_with mode bools base clauses = record {
@@ -153,7 +153,7 @@ block_with mode bools base clauses = record {
 -- ---- which calls have a block
 
 abbrev pub bools_of : Policy → List Bool
-bools_of policy = map (λ (v : Var). v.is_bool) policy.vars
+bools_of policy = bools_in policy.vars
 
 -- the block of a method, where a clause names it, in a method whose own locals end at `base`
 abbrev pub block : Policy → Mode → ℕ → ℕ → Option Block
@@ -177,6 +177,11 @@ site policy mode base other = None
 abbrev pub site_locals : Policy → Target → ℕ
 site_locals policy (target.ApiMethod method) = locals_used policy method
 site_locals policy other = 0
+
+-- a policy, and how its blocks use the lock
+pub record Planned : Type 0 where
+  pub policy : Policy
+  pub mode : Mode
 
 -- the plan of a policy, in a mode
 abbrev pub plan_of : Policy → Mode → Plan

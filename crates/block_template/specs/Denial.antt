@@ -15,11 +15,11 @@ use Rattle.block_template.specs.Blocks.{block}
 use Rattle.block_template.specs.Pushing.{store, load}
 
 -- Each argument has a local of its own, from `base` on. The last one, which is on top, is stored first.
-unfoldable pub saved : ℕ → List Kind → List BlockInsn
+abbrev pub saved : ℕ → List Kind → List BlockInsn
 saved base [] = []
 saved base (kind ∷ others) = saved (base + 1) others ++ store kind base ∷ []
 
-unfoldable pub loaded : ℕ → List Kind → List BlockInsn
+abbrev pub loaded : ℕ → List Kind → List BlockInsn
 loaded base [] = []
 loaded base (kind ∷ others) = load kind base ∷ loaded (base + 1) others
 

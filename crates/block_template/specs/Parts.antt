@@ -8,7 +8,7 @@ use Rattle.conspec_tree.specs.declared.types.Update.TheVariants.{Set, Add}
 use Rattle.conspec_automaton.specs.declared.policy.Branch.{Branch}
 use Rattle.conspec_automaton.specs.declared.policy.Clause.{Clause}
 use Rattle.offset_patch.specs.declared.block.BlockInsn.{BlockInsn}
-use Rattle.offset_patch.specs.declared.block.BlockInsn.TheVariants.{Plain, Byte, Want, Jump, Call}
+use Rattle.offset_patch.specs.declared.block.BlockInsn.TheVariants.{Plain, Byte, Want, Jump}
 use Rattle.offset_patch.specs.declared.block.PoolWant.TheVariants.{StateClass, Exit}
 use Rattle.insn_codec.specs.declared.opcodes.TheConstants.{ACONST_NULL, LDC_W, IADD, GOTO, GETSTATIC, PUTSTATIC, INVOKESTATIC, ATHROW, MONITORENTER, MONITOREXIT}
 use Rattle.block_template.specs.declared.item.Item.{Item}
@@ -33,12 +33,12 @@ unlock phase checked =
 -- ---- arguments
 
 -- Each argument has a local of its own, from `base` on. The last one, which is on top, is stored first; `n` stand before these.
-unfoldable pub save : ℕ → ℕ → List Kind → List Item
+abbrev pub save : ℕ → ℕ → List Kind → List Item
 save base n [] = []
 save base n (kind ∷ others) = save base (n + 1) others ++ item (store kind (base + n)) (roles.Save (n + 1)) ∷ []
 
 -- They are loaded in their order.
-unfoldable pub loads : Bool → ℕ → ℕ → List Kind → List Item
+abbrev pub loads : Bool → ℕ → ℕ → List Kind → List Item
 loads locked base n [] = []
 loads locked base n (kind ∷ others) = item (load kind (base + n)) (roles.Load n locked) ∷ loads locked base (n + 1) others
 
@@ -52,7 +52,7 @@ ask bools base phase branch n next atom =
     ∷ item (Jump (negated atom.rel) next) (roles.Ask phase branch n 2)
     ∷ []
 
-unfoldable pub asks : List Bool → ℕ → Phase → ℕ → ℕ → ℕ → List Atom → List Item
+abbrev pub asks : List Bool → ℕ → Phase → ℕ → ℕ → ℕ → List Atom → List Item
 asks bools base phase branch n next [] = []
 asks bools base phase branch n next (atom ∷ atoms) = ask bools base phase branch n next atom ++ asks bools base phase branch (n + 1) next atoms
 
@@ -67,7 +67,7 @@ write bools phase branch n (Add var by) =
     ∷ item (Want PUTSTATIC (field bools var)) (roles.Update phase branch n 3)
     ∷ []
 
-unfoldable pub writes : List Bool → Phase → ℕ → ℕ → List Update → List Item
+abbrev pub writes : List Bool → Phase → ℕ → ℕ → List Update → List Item
 writes bools phase branch n [] = []
 writes bools phase branch n (update ∷ updates) = write bools phase branch n update ++ writes bools phase branch (n + 1) updates
 
@@ -75,7 +75,7 @@ abbrev pub update_size : Update → ℕ
 update_size (Set var value) = 2
 update_size (Add var by) = 4
 
-unfoldable pub updates_size : List Update → ℕ
+abbrev pub updates_size : List Update → ℕ
 updates_size [] = 0
 updates_size (update ∷ updates) = update_size update + updates_size updates
 
@@ -97,12 +97,12 @@ stop phase =
     ∷ []
 
 -- the branches from the one of number `n` on, which begins at `at`; where none is taken the program is stopped
-unfoldable pub branches : List Bool → ℕ → Phase → ℕ → ℕ → ℕ → List Branch → List Item
+abbrev pub branches : List Bool → ℕ → Phase → ℕ → ℕ → ℕ → List Branch → List Item
 branches bools base phase n at done [] = stop phase
 branches bools base phase n at done (branch ∷ others) =
     tried bools base phase n (at + branch_size branch) done branch ++ branches bools base phase (n + 1) (at + branch_size branch) done others
 
-unfoldable pub branches_size : List Branch → ℕ
+abbrev pub branches_size : List Branch → ℕ
 branches_size [] = 4
 branches_size (branch ∷ others) = branch_size branch + branches_size others
 

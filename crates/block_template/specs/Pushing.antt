@@ -1,5 +1,5 @@
 -- The instructions by which blocks push and store: numbers and locals, each in its shortest form.
-use Rattle.std.specs.Prelude.{ℕ, ℤ, pos, neg_ℤ, ◌+◌, nat_lt, nat_le, int_le, ◌&&◌, if◌then◌else◌, Bool, false, List, slice_get}
+use Rattle.std.specs.Prelude.{ℕ, ℤ, pos, neg_ℤ, ◌+◌, nat_lt, nat_le, int_le, ◌&&◌, if◌then◌else◌, Bool, false, List, map, slice_get}
 use Rattle.std.specs.Ordering.{int_eq}
 use Rattle.std.specs.Option.{option_map_or}
 use Rattle.conspec_tree.specs.declared.types.Base.{Base}
@@ -8,6 +8,7 @@ use Rattle.conspec_tree.specs.declared.types.Kind.{Kind}
 use Rattle.conspec_tree.specs.declared.types.Kind.TheVariants as kinds
 use Rattle.conspec_tree.specs.declared.types.Rel.{Rel}
 use Rattle.conspec_tree.specs.declared.types.Rel.TheVariants as relations
+use Rattle.conspec_tree.specs.declared.types.Var.{Var}
 use Rattle.offset_patch.specs.declared.block.BlockInsn.{BlockInsn}
 use Rattle.offset_patch.specs.declared.block.BlockInsn.TheVariants.{Plain, Byte, Short, Local, Want}
 use Rattle.offset_patch.specs.declared.block.PoolWant.{PoolWant}
@@ -71,6 +72,10 @@ push n =
     else Want LDC_W (Integer n)
 
 -- ---- variables, and what an atom compares
+
+-- which variables are bools
+abbrev pub bools_in : List Var → List Bool
+bools_in vars = map (λ (v : Var). v.is_bool) vars
 
 -- the field of the variable of this index, where these tell which variables are bools
 abbrev pub field : List Bool → ℕ → PoolWant

@@ -7,9 +7,14 @@ use offset_patch::BlockInsn;
 #[derive(Clone, Copy, Debug, PartialEq, Eq)]
 pub enum Role {
     /// So many arguments are not kept yet, and the next one is.
-    Save { left: u32 },
+    Save {
+        left: u32,
+    },
     /// The lock is to be taken for a check of this phase; `pushed`, its class is on top.
-    Lock { phase: Phase, pushed: bool },
+    Lock {
+        phase: Phase,
+        pushed: bool,
+    },
     /// The branches before this one fail and so many of its atoms hold; of the next atom's base and constant so many are
     /// pushed.
     Ask {
@@ -26,9 +31,15 @@ pub enum Role {
         done: u32,
     },
     /// All updates of the branch are made.
-    Taken { phase: Phase, branch: u32 },
+    Taken {
+        phase: Phase,
+        branch: u32,
+    },
     /// No branch is taken; so many instructions of the way out are done.
-    Stop { phase: Phase, done: u32 },
+    Stop {
+        phase: Phase,
+        done: u32,
+    },
     /// The lock is to be left; `pushed`, its class is on top. A check was made under it, or there was none to make.
     Unlock {
         phase: Phase,
@@ -36,11 +47,18 @@ pub enum Role {
         pushed: bool,
     },
     /// So many arguments stand on the stack again, and the next one is loaded; `locked`, the lock is held.
-    Load { loaded: u32, locked: bool },
+    Load {
+        loaded: u32,
+        locked: bool,
+    },
     /// The client's call is made; `locked`, the lock is held.
-    Call { locked: bool },
+    Call {
+        locked: bool,
+    },
     /// The call gave its result, which is kept; `locked`, the lock is held.
-    Keep { locked: bool },
+    Keep {
+        locked: bool,
+    },
     /// The kept result is given back.
     Give,
     /// The block is left behind its handler.

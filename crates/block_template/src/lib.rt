@@ -4,6 +4,17 @@
 //! told of this one list.
 #![tactic(auto)]
 
+mod blocks;
+mod checks;
+mod clauses;
 mod item;
+mod laws;
+mod numbers;
+mod parts;
+mod plan;
+mod pushing;
 
+pub use blocks::{block, items, locals_used};
 pub use item::{Item, Role};
+pub use laws::{denial_is_block, plans_are_good};
+pub use plan::PolicyPlan;
