@@ -1,11 +1,23 @@
-//! What a machine of linked programs is made of, as definitions: its states and steps, values and what instructions make of them,
-//! frames, monitors, handlers, and what calls take.
+//! The machine of linked programs, as a definition: its states and steps, every instruction of the subset, objects and arrays,
+//! calls of given and of built-in methods, threads, monitors and handlers, and the library's answers. (docs/MACHINE.md)
 //!
-//! The machine itself stands in guest_machine, over these. (docs/MACHINE.md)
+//! One guest instruction is one step, and so is one answer of the library; guest memory is sequentially consistent. What a step
+//! changes stands in specs/, in one case for each group of instructions; what it is made of in specs/Parts, Places, Calls,
+//! Monitors and Throwing.
 #![tactic(auto)]
 
+mod builtin;
 mod laws;
+mod laws_of_steps;
 mod machine;
 
-pub use laws::{handlers_cover, numbers_are_of_32_bits};
+pub use builtin::Builtin;
+pub use laws::{
+    handlers_cover, numbers_are_of_32_bits, other_threads_stay, sees_numbers_in_range,
+    sees_only_what_is_called, sees_the_first_call, what_each_step_keeps_holds_always,
+};
+pub use laws_of_steps::{
+    enabled_steps_are_made, fitting_answers_are_taken, frames_are_left, free_monitors_are_entered,
+    ready_calls_are_made, steps_are_enabled, what_is_ready_moves,
+};
 pub use machine::{Choice, End, Machine, Step};

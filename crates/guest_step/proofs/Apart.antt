@@ -17,9 +17,9 @@ use Rattle.guest_model.specs.declared.machine.Choice.TheVariants as choices
 use Rattle.guest_model.specs.declared.machine.Machine.{Machine}
 use Rattle.guest_model.specs.declared.machine.Step.{Step}
 use Rattle.guest_model.specs.Calls.{types_of}
-use Rattle.guest_machine.specs.Answering.{answer_fits, answered, answered_well, given, returned_by, thrown_by, thrown_by_library}
-use Rattle.guest_machine.specs.Changes.{Change, World, returned, world_of}
-use Rattle.guest_machine.specs.Stepping.{call_stepped, doing_stepped, is_on_null, null_thrown, stepped}
+use Rattle.guest_model.specs.Answering.{answer_fits, answered, answered_well, given, returned_by, thrown_by, thrown_by_library}
+use Rattle.guest_model.specs.Changes.{Change, World, returned, world_of}
+use Rattle.guest_model.specs.Stepping.{call_stepped, doing_stepped, is_on_null, null_thrown, stepped}
 use Rattle.guest_step.specs.declared.fault.StepFault.{StepFault}
 use Rattle.guest_step.specs.declared.fault.StepFault.TheVariants as faults
 use Rattle.guest_step.specs.Acts.{ActsIn, IsDone, doing_this}

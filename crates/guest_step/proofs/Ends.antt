@@ -28,10 +28,10 @@ use Rattle.guest_model.specs.declared.machine.Choice.TheVariants as choices
 use Rattle.guest_model.specs.declared.machine.End.TheVariants as ends
 use Rattle.guest_model.specs.declared.machine.Machine.{Machine}
 use Rattle.guest_model.specs.Calls.{types_of, types_read}
-use Rattle.guest_machine.specs.Answering.{answer_fits}
-use Rattle.guest_machine.specs.Calling.{is_ended}
-use Rattle.guest_machine.specs.Enabled.{MayStep, waits}
-use Rattle.guest_machine.specs.Stepping.{is_on_null}
+use Rattle.guest_model.specs.Answering.{answer_fits}
+use Rattle.guest_model.specs.Calling.{is_ended}
+use Rattle.guest_model.specs.Enabled.{MayStep, waits}
+use Rattle.guest_model.specs.Stepping.{is_on_null}
 use Rattle.guest_step.specs.Ending.{EndsWhereNoneIsEnabled, SomeIsEnabled, can_step, end_of, end_of_threads, have_ended, some_can_step}
 use Rattle.type_lattice.proofs.Arrays.{named_described}
 

@@ -14,8 +14,8 @@ use Rattle.bytecode_model.specs.Places.{class_place}
 use Rattle.bytecode_model.specs.Sound.{IsSoundClass}
 use Rattle.bytecode_model.proofs.Lists.{some_is}
 use Rattle.bytecode_model.proofs.Placing.{find_at, has_place, same_name}
-use Rattle.guest_machine.specs.Finding.{given_index}
-use Rattle.guest_machine.specs.Layout.{class_given}
+use Rattle.guest_model.specs.Finding.{given_index}
+use Rattle.guest_model.specs.Layout.{class_given}
 use Rattle.guest_model.specs.Places.{class_index}
 use Rattle.guest_step.specs.Ready.{IsReady}
 

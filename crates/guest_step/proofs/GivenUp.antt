@@ -4,7 +4,7 @@ use Rattle.std.specs.Prelude.{slice_get}
 use Rattle.std.specs.Option.{option_to_list}
 use Rattle.guest_heap.specs.declared.frame.Frame.{Frame}
 use Rattle.guest_heap.specs.declared.object.Monitor.{Monitor}
-use Rattle.guest_machine.specs.Changes.{locks_of}
+use Rattle.guest_model.specs.Changes.{locks_of}
 use Rattle.guest_model.specs.Monitors.{all_given_up}
 use Rattle.guest_step.specs.Acts.{lock_on_top}
 use Rattle.guest_step.proofs.Unwinding.{given_more}

@@ -18,8 +18,8 @@ use Rattle.guest_model.specs.declared.machine.Choice.{Choice}
 use Rattle.guest_model.specs.declared.machine.Choice.TheVariants as choices
 use Rattle.guest_model.specs.declared.machine.Machine.{Machine}
 use Rattle.guest_model.specs.Places.{insn_at}
-use Rattle.guest_machine.specs.Changes.{Change, world_of}
-use Rattle.guest_machine.specs.Stepping.{Acting, acts_on, frames_stepped, heap_in, heap_stepped, insn_stepped}
+use Rattle.guest_model.specs.Changes.{Change, world_of}
+use Rattle.guest_model.specs.Stepping.{Acting, acts_on, frames_stepped, heap_in, heap_stepped, insn_stepped}
 use Rattle.guest_step.specs.declared.fault.StepFault.{StepFault}
 use Rattle.guest_step.specs.declared.fault.StepFault.TheVariants as faults
 use Rattle.guest_step.specs.Acts.{ActsIn, IsDone, acting, thread_stepped, unseen}

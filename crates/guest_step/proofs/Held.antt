@@ -10,7 +10,7 @@ use Rattle.guest_heap.specs.declared.object.Monitor.{Monitor}
 use Rattle.guest_heap.specs.declared.value.Value.{Value}
 use Rattle.guest_frames.specs.Values.{are_one}
 use Rattle.guest_model.specs.Monitors.{entered, left, held_once_less, held_once_more}
-use Rattle.guest_machine.specs.Enabled.{is_held_by_other}
+use Rattle.guest_model.specs.Enabled.{is_held_by_other}
 use Rattle.guest_step.specs.Did.{Becomes}
 use Rattle.guest_step.specs.declared.fault.StepFault.{StepFault}
 use Rattle.guest_step.specs.declared.fault.StepFault.TheVariants as faults

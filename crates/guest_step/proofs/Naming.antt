@@ -15,7 +15,7 @@ use Rattle.std.proofs.lemmas.Slice.Eq.{bytes_eq-Decides}
 use Rattle.bytecode_model.specs.declared.program.LinkedClass.{LinkedClass}
 use Rattle.bytecode_model.proofs.Lists.{or_none}
 use Rattle.bytecode_model.proofs.Placing.{test_cases, same_name}
-use Rattle.guest_machine.specs.Finding.{declared_in}
+use Rattle.guest_model.specs.Finding.{declared_in}
 use Rattle.guest_step.specs.Methods.{named, method_in, Methods, HasMethods, AreMethods}
 
 apart : (name q k : List ℕ) → bytes_eq name q ≡ false → is_eq (slice_cmp nat_cmp name k) ≡ true → is_eq (slice_cmp nat_cmp q k) ≡ false

@@ -4,7 +4,7 @@ use Rattle.std.specs.Prelude.{slice_get}
 use Rattle.std.specs.Option.{option_and_then, option_map, option_or}
 use Rattle.bytecode_model.specs.declared.program.LinkedClass.{LinkedClass}
 use Rattle.bytecode_model.specs.declared.program.Program.{Program}
-use Rattle.guest_machine.specs.Finding.{declared_in, declared_up, given_index}
+use Rattle.guest_model.specs.Finding.{declared_in, declared_up, given_index}
 
 -- a class that does not declare it
 pub goes_up : (program : Program) (m n : ℕ) (name desc class : List ℕ) (index : ℕ) (of : LinkedClass) → m ≡ suc n → Some index ≡ given_index program class

@@ -12,7 +12,7 @@ use Rattle.bytecode_model.specs.declared.program.Program.{Program}
 use Rattle.bytecode_model.specs.Heads.{desc_of}
 use Rattle.bytecode_model.proofs.Lists.{some_is}
 use Rattle.guest_heap.specs.declared.value.Value.{Value}
-use Rattle.guest_machine.specs.Layout.{class_given, fields_of, fields_up, first_value, is_in_objects, own_fields}
+use Rattle.guest_model.specs.Layout.{class_given, fields_of, fields_up, first_value, is_in_objects, own_fields}
 use Rattle.guest_step.specs.Layout.{begins_of, counts_from, counts_of, own_count}
 
 -- ---- upwards

@@ -7,7 +7,7 @@ use Rattle.api_listing.specs.BuiltIn.{MethodRow, method_rows}
 use Rattle.std.proofs.lemmas.List.{append_assoc, reverse-append}
 use Rattle.api_listing.specs.Descriptor.{after_first, arguments_at, class_at, element_at, method_type, result_of, type_at, whole_type}
 use Rattle.guest_model.specs.Calls.{arity}
-use Rattle.guest_machine.specs.Builtins.{builtin_of_row}
+use Rattle.guest_model.specs.Builtins.{builtin_of_row}
 use Rattle.guest_step.specs.declared.builtins.TheConstants.{BUILTINS}
 use Rattle.guest_step.specs.declared.passing.TheConstants.{ARITIES}
 

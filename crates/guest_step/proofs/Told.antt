@@ -8,7 +8,7 @@ use Rattle.class_codec.specs.declared.tree.Member.{Member}
 use Rattle.bytecode_model.specs.declared.program.Program.{Program}
 use Rattle.bytecode_model.specs.Heads.{desc_of}
 use Rattle.guest_heap.specs.declared.value.Value.{Value}
-use Rattle.guest_machine.specs.Layout.{constant_bytes, two_bytes, value_of_constant, value_told}
+use Rattle.guest_model.specs.Layout.{constant_bytes, two_bytes, value_of_constant, value_told}
 use Rattle.guest_step.specs.Statics.{constant_told}
 
 module _ (pool : List Const) (told : Const → Option Value) where

@@ -1,8 +1,8 @@
 -- What an instruction comes to, said by other words.
 use Rattle.std.proofs.Common.{◌≡◌, List, Option, Ok, ap, ◌∙◌}
 use Rattle.guest_heap.specs.declared.object.Monitor.{Monitor}
-use Rattle.guest_machine.specs.Changes.{World}
-use Rattle.guest_machine.specs.Working.{Worked}
+use Rattle.guest_model.specs.Changes.{World}
+use Rattle.guest_model.specs.Working.{Worked}
 use Rattle.guest_step.specs.declared.outcome.Outcome.{Outcome}
 use Rattle.guest_step.specs.Works.{Works, Workplace, fitting, with_monitors}
 

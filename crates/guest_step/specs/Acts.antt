@@ -11,9 +11,9 @@ use Rattle.guest_heap.specs.declared.thread.Thread.{Thread}
 use Rattle.guest_heap.specs.declared.value.Value.{Value}
 use Rattle.guest_frames.specs.Stepping.{after, frame_stepped, moved_to}
 use Rattle.guest_model.specs.declared.machine.Machine.{Machine}
-use Rattle.guest_model.specs.Stepping.{running}
-use Rattle.guest_machine.specs.Changes.{Change, rests, world_of}
-use Rattle.guest_machine.specs.Stepping.{Acting}
+use Rattle.guest_model.specs.Parts.{running}
+use Rattle.guest_model.specs.Changes.{Change, rests, world_of}
+use Rattle.guest_model.specs.Stepping.{Acting}
 use Rattle.guest_step.specs.declared.fault.StepFault.{StepFault}
 use Rattle.guest_step.specs.declared.fault.StepFault.TheVariants as faults
 

@@ -8,7 +8,7 @@ use Rattle.bytecode_model.specs.Classes.{is_below, is_interface}
 use Rattle.bytecode_model.specs.SearchOrder.{Name}
 use Rattle.guest_heap.specs.declared.object.Object.{Object}
 use Rattle.guest_heap.specs.declared.value.Value.{Value}
-use Rattle.guest_machine.specs.Answering.{is_listed_class, is_no_object, is_of, takes_text}
+use Rattle.guest_model.specs.Answering.{is_listed_class, is_no_object, is_of, takes_text}
 
 -- what an answer gives that is no number fits a result of this class
 abbrev pub object_fits : Program → List Object → Name → Option Value → List Value → ApiAnswer → Bool

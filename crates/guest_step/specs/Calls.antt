@@ -10,13 +10,13 @@ use Rattle.guest_heap.specs.declared.value.Value.TheVariants as values
 use Rattle.guest_frames.specs.Stepping.{after, moved_to}
 use Rattle.guest_model.specs.declared.machine.Machine.{Machine}
 use Rattle.guest_model.specs.Calls.{Taken, arity}
-use Rattle.guest_model.specs.Stepping.{running}
-use Rattle.guest_machine.specs.declared.builtin.Builtin.{Builtin}
-use Rattle.guest_machine.specs.declared.builtin.Builtin.TheVariants as builtins
-use Rattle.guest_machine.specs.Builtins.{characters}
-use Rattle.guest_machine.specs.Calling.{Calling, aims, goes_past, joins, runs_object, starts}
-use Rattle.guest_machine.specs.Changes.{Change, world_of}
-use Rattle.guest_machine.specs.Seen.{string_of}
+use Rattle.guest_model.specs.Parts.{running}
+use Rattle.guest_model.specs.declared.builtin.Builtin.{Builtin}
+use Rattle.guest_model.specs.declared.builtin.Builtin.TheVariants as builtins
+use Rattle.guest_model.specs.Builtins.{characters}
+use Rattle.guest_model.specs.Calling.{Calling, aims, goes_past, joins, runs_object, starts}
+use Rattle.guest_model.specs.Changes.{Change, world_of}
+use Rattle.guest_model.specs.Seen.{string_of}
 use Rattle.guest_step.specs.declared.passing.Call.{Call}
 
 -- how many arguments the built-in method with this index takes

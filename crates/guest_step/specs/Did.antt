@@ -3,7 +3,7 @@ use Rattle.std.specs.Prelude.{◌≡◌, Option, Some, None, Result, Ok, Err, Is
 use Rattle.api_listing.specs.declared.events.Event.{Event}
 use Rattle.guest_heap.specs.declared.thread.Thread.{Thread}
 use Rattle.guest_model.specs.declared.machine.Machine.{Machine}
-use Rattle.guest_machine.specs.Changes.{Change, World}
+use Rattle.guest_model.specs.Changes.{Change, World}
 use Rattle.guest_step.specs.declared.fault.StepFault.{StepFault}
 use Rattle.guest_step.specs.declared.fault.StepFault.TheVariants as faults
 

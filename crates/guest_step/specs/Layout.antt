@@ -4,7 +4,7 @@ use Rattle.class_codec.specs.declared.tree.ClassFile.{ClassFile}
 use Rattle.class_codec.specs.declared.tree.Member.{Member}
 use Rattle.bytecode_model.specs.declared.program.LinkedClass.{LinkedClass}
 use Rattle.bytecode_model.specs.declared.program.Program.{Program}
-use Rattle.guest_machine.specs.Layout.{fields_of, is_in_objects}
+use Rattle.guest_model.specs.Layout.{fields_of, is_in_objects}
 
 -- of each field, and behind the last, how many of the fields before it are in objects, where n were before the first
 abbrev pub counts_from : ℕ → List Member → List ℕ

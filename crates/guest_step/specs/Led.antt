@@ -2,8 +2,8 @@
 use Rattle.std.specs.Prelude.{◌≡◌, List, slice_get, Some, None, Err}
 use Rattle.guest_heap.specs.declared.object.Object.{Object}
 use Rattle.guest_heap.specs.declared.object.Object.TheVariants as objects
-use Rattle.guest_model.specs.Stepping.{null_pointer}
-use Rattle.guest_machine.specs.Working.{ArrayAt, Worked}
+use Rattle.guest_model.specs.Parts.{null_pointer}
+use Rattle.guest_model.specs.Working.{ArrayAt, Worked}
 use Rattle.guest_step.specs.declared.work.arrays.Led.{Led}
 use Rattle.guest_step.specs.declared.work.arrays.Led.TheVariants as leads
 

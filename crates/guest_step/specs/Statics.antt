@@ -9,7 +9,7 @@ use Rattle.bytecode_model.specs.declared.program.Program.{Program}
 use Rattle.bytecode_model.specs.Operands.{place_of}
 use Rattle.guest_heap.specs.declared.value.Value.{Value}
 use Rattle.guest_heap.specs.declared.value.Value.TheVariants as values
-use Rattle.guest_machine.specs.Layout.{constant_bytes, starting_value, two_bytes}
+use Rattle.guest_model.specs.Layout.{constant_bytes, starting_value, two_bytes}
 
 -- what the fields of a class hold
 abbrev pub class_statics : Program → ClassFile → List Value

@@ -6,10 +6,10 @@ use Rattle.guest_heap.specs.declared.object.Object.{Object}
 use Rattle.guest_heap.specs.declared.value.Value.{Value}
 use Rattle.guest_heap.specs.Stack.{Operands}
 use Rattle.mon_base.specs.declared.memory.NoMemory.{NoMemory}
-use Rattle.guest_model.specs.Stepping.{bad_monitor, null_pointer}
-use Rattle.guest_machine.specs.Calling.{second_start}
-use Rattle.guest_machine.specs.Changes.{World}
-use Rattle.guest_machine.specs.Working.{Worked, bad_cast, bad_division, bad_item, bad_place, bad_size}
+use Rattle.guest_model.specs.Parts.{bad_monitor, null_pointer}
+use Rattle.guest_model.specs.Calling.{second_start}
+use Rattle.guest_model.specs.Changes.{World}
+use Rattle.guest_model.specs.Working.{Worked, bad_cast, bad_division, bad_item, bad_place, bad_size}
 use Rattle.guest_step.specs.declared.outcome.Comes.{Comes}
 use Rattle.guest_step.specs.declared.outcome.Comes.TheVariants as come
 use Rattle.guest_step.specs.declared.outcome.Outcome.{Outcome}

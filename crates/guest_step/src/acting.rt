@@ -3,8 +3,8 @@
 
 ghost use Rattle.std.specs.Prelude.{◌≡◌, option_and_then, slice_get};
 ghost use Rattle.guest_heap.specs.declared.frame.Frame.{Frame};
-ghost use Rattle.guest_machine.specs.Changes.{world_of};
-ghost use Rattle.guest_machine.specs.Stepping.{Acting, enters, leaves, throws_top};
+ghost use Rattle.guest_model.specs.Changes.{world_of};
+ghost use Rattle.guest_model.specs.Stepping.{Acting, enters, leaves, throws_top};
 ghost use Rattle.guest_model.specs.Monitors.{entered, left};
 ghost use Rattle.guest_step.specs.Acts.{ActsIn, acting, past};
 ghost use Rattle.guest_step.specs.Did.{Becomes};

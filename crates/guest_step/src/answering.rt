@@ -2,10 +2,10 @@
 
 ghost use Rattle.std.specs.Prelude.{◌≡◌, Some, length, option_map, IfOk};
 ghost use Rattle.guest_heap.specs.declared.value.Value.TheVariants as values;
-ghost use Rattle.guest_machine.specs.Answering.{answered, answered_well, returned_by, thrown_by_library};
-ghost use Rattle.guest_machine.specs.Changes.{with_object, world_of};
-ghost use Rattle.guest_machine.specs.Seen.{value_shown};
-ghost use Rattle.guest_machine.specs.Stepping.{call_stepped, is_on_null};
+ghost use Rattle.guest_model.specs.Answering.{answered, answered_well, returned_by, thrown_by_library};
+ghost use Rattle.guest_model.specs.Changes.{with_object, world_of};
+ghost use Rattle.guest_model.specs.Seen.{value_shown};
+ghost use Rattle.guest_model.specs.Stepping.{call_stepped, is_on_null};
 ghost use Rattle.guest_model.specs.Calls.{types_of};
 ghost use Rattle.guest_model.specs.Throwing.{bare_object};
 ghost use Rattle.guest_step.specs.Acts.{ActsIn};

@@ -2,9 +2,9 @@
 
 ghost use Rattle.std.specs.Prelude.{◌≡◌, ◌∷◌, [], ◌==◌, ◌<◌, ◌^◌, if◌then◌else◌, None, drop, length, IfOk, OnOk, OnErr};
 ghost use Rattle.std.specs.Option.{option_to_list};
-ghost use Rattle.guest_machine.specs.Changes.{ended_thread, frame_begun, frame_of, rests};
+ghost use Rattle.guest_model.specs.Changes.{ended_thread, frame_begun, frame_of, rests};
 ghost use Rattle.guest_model.specs.Calls.{arity};
-ghost use Rattle.guest_model.specs.Stepping.{main_argument, running};
+ghost use Rattle.guest_model.specs.Parts.{main_argument, running};
 
 use crate::frames::{frame_of, method_of};
 use crate::guest::Guest;

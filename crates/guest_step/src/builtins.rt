@@ -4,8 +4,8 @@ ghost use Rattle.std.specs.Prelude.{◌≡◌, ◌∷◌, [], ◌++◌, None, op
 ghost use Rattle.std.specs.Option.{option_or};
 ghost use Rattle.guest_heap.specs.declared.thread.Thread.{Thread};
 ghost use Rattle.guest_heap.specs.declared.value.Value.{Value};
-ghost use Rattle.guest_machine.specs.Builtins.{builtin_at, characters, continues};
-ghost use Rattle.guest_machine.specs.Calling.{
+ghost use Rattle.guest_model.specs.Builtins.{builtin_at, characters, continues};
+ghost use Rattle.guest_model.specs.Calling.{
   Calling,
   aimed_at,
   aims,
@@ -25,8 +25,8 @@ ghost use Rattle.guest_machine.specs.Calling.{
   thread_of_value,
   with_changed,
 };
-ghost use Rattle.guest_machine.specs.Changes.{ended_thread, world_of};
-ghost use Rattle.guest_model.specs.Stepping.{number_in};
+ghost use Rattle.guest_model.specs.Changes.{ended_thread, world_of};
+ghost use Rattle.guest_model.specs.Parts.{number_in};
 ghost use Rattle.guest_step.specs.Acts.{ActsIn};
 ghost use Rattle.guest_step.specs.Did.{Becomes};
 ghost use Rattle.guest_step.specs.Calls.{built_on, calling, gone_past, tells_length};
@@ -42,7 +42,7 @@ use crate::running::{run_object, run_of, target_of};
 use crate::seen::string_of;
 use api_listing::Event;
 use guest_heap::{Doing, Frames, Object, Thread, Value};
-use guest_machine::Builtin;
+use guest_model::Builtin;
 use guest_model::Machine;
 use insn_codec::How;
 use mon_base::{List, NoMemory};

@@ -5,7 +5,7 @@ ghost use Rattle.std.specs.Prelude.{◌≡◌, ◌∷◌, List, Some, option_map
 ghost use Rattle.std.specs.Option.{option_to_list};
 ghost use Rattle.bytecode_model.specs.SearchOrder.{Name};
 ghost use Rattle.guest_heap.specs.declared.object.Monitor.{Monitor};
-ghost use Rattle.guest_machine.specs.Calling.{
+ghost use Rattle.guest_model.specs.Calling.{
   Calling,
   call_throws,
   calls,
@@ -18,10 +18,10 @@ ghost use Rattle.guest_machine.specs.Calling.{
   lacking,
   waiting,
 };
-ghost use Rattle.guest_machine.specs.Changes.{ends_thread, enters_method, lock_taken, locks_of, world_of};
-ghost use Rattle.guest_machine.specs.Finding.{method_run};
-ghost use Rattle.guest_machine.specs.Kinds.{class_of_value};
-ghost use Rattle.guest_machine.specs.Stepping.{Acting};
+ghost use Rattle.guest_model.specs.Changes.{ends_thread, enters_method, lock_taken, locks_of, world_of};
+ghost use Rattle.guest_model.specs.Finding.{method_run};
+ghost use Rattle.guest_model.specs.Kinds.{class_of_value};
+ghost use Rattle.guest_model.specs.Stepping.{Acting};
 ghost use Rattle.guest_model.specs.Monitors.{all_given_up};
 ghost use Rattle.guest_step.specs.Acts.{ActsIn, acting};
 ghost use Rattle.guest_step.specs.Calls.{calling, entered_in, gone_past, waiting_in};

@@ -1,7 +1,7 @@
 //! The places of fields in objects, which are made once.
 
 ghost use Rattle.std.specs.Prelude.{◌≡◌, ◌+◌, length, IfOk, take, filter, option_copied, slice_get};
-ghost use Rattle.guest_machine.specs.Layout.{fields_of, is_in_objects};
+ghost use Rattle.guest_model.specs.Layout.{fields_of, is_in_objects};
 ghost use Rattle.guest_step.specs.Layout.{begins_of, counts_from, counts_of, own_count};
 ghost use Rattle.guest_step.specs.Ready.{IsReady};
 

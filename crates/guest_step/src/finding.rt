@@ -2,7 +2,7 @@
 //! invokespecial.)
 
 ghost use Rattle.std.specs.Prelude.{◌≡◌};
-ghost use Rattle.guest_machine.specs.Finding.{
+ghost use Rattle.guest_model.specs.Finding.{
   client_run,
   if_run,
   is_above,

@@ -5,7 +5,7 @@ ghost use Rattle.api_listing.specs.Descriptor.{class_spelled, element_spelled, t
 ghost use Rattle.api_listing.specs.Listing.{is_known};
 ghost use Rattle.bytecode_model.specs.Assigning.{reference_of};
 ghost use Rattle.bytecode_model.specs.Classes.{is_below, is_interface};
-ghost use Rattle.guest_machine.specs.Answering.{answer_fits, is_listed_class, is_no_object, is_of, result_class, takes_text};
+ghost use Rattle.guest_model.specs.Answering.{answer_fits, is_listed_class, is_no_object, is_of, result_class, takes_text};
 ghost use Rattle.guest_model.specs.Answers.{fits_number, is_number_of, may_throw};
 ghost use Rattle.guest_step.specs.Answering.{object_fits};
 

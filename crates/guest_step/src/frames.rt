@@ -27,7 +27,7 @@ ghost use Rattle.std.specs.Option.{option_to_list};
 ghost use Rattle.guest_heap.specs.declared.value.Value.TheVariants as values;
 ghost use Rattle.bytecode_model.specs.Heads.{is_synchronized};
 ghost use Rattle.guest_frames.specs.Stepping.{after, moved_to};
-ghost use Rattle.guest_machine.specs.Changes.{frame_of, lock_of};
+ghost use Rattle.guest_model.specs.Changes.{frame_of, lock_of};
 ghost use Rattle.guest_model.specs.Places.{method_at};
 ghost use Rattle.guest_step.specs.Acts.{CanGoOn};
 ghost use Rattle.guest_step.specs.Did.{Becomes};

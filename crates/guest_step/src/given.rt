@@ -1,8 +1,8 @@
 //! The given classes by their names, found in the index of all classes: a given class is none of the listing.
 
 ghost use Rattle.std.specs.Prelude.{◌≡◌, option_copied, slice_get};
-ghost use Rattle.guest_machine.specs.Finding.{given_index};
-ghost use Rattle.guest_machine.specs.Layout.{class_given};
+ghost use Rattle.guest_model.specs.Finding.{given_index};
+ghost use Rattle.guest_model.specs.Layout.{class_given};
 ghost use Rattle.guest_model.specs.Places.{class_index};
 ghost use Rattle.guest_step.specs.Ready.{IsReady};
 

@@ -5,8 +5,8 @@ ghost use Rattle.bytecode_model.specs.declared.program.LinkedClass.{LinkedClass}
 ghost use Rattle.bytecode_model.specs.Classes.{classes_of, is_below, is_interface};
 ghost use Rattle.bytecode_model.specs.Heads.{head_of};
 ghost use Rattle.bytecode_model.specs.SearchOrder.{is_one_of, search_order};
-ghost use Rattle.guest_machine.specs.Finding.{declared_in, given_index};
-ghost use Rattle.guest_machine.specs.Layout.{class_given, place_of_field};
+ghost use Rattle.guest_model.specs.Finding.{declared_in, given_index};
+ghost use Rattle.guest_model.specs.Layout.{class_given, place_of_field};
 ghost use Rattle.guest_model.specs.Calls.{name_at};
 ghost use Rattle.guest_model.specs.Places.{class_index, method_at};
 ghost use Rattle.guest_step.specs.Ready.{IsReady};

@@ -3,7 +3,7 @@
 ghost use Rattle.std.specs.Prelude.{◌≡◌, option_copied, IfOk};
 ghost use Rattle.bytecode_model.specs.Assigning.{class_name, named, reference_of};
 ghost use Rattle.guest_frames.specs.Values.{are_one, fits, is_null};
-ghost use Rattle.guest_machine.specs.Kinds.{
+ghost use Rattle.guest_model.specs.Kinds.{
   class_of_object,
   class_of_value,
   is_instance,
@@ -13,7 +13,7 @@ ghost use Rattle.guest_machine.specs.Kinds.{
   class_is,
   leaf_is,
 };
-ghost use Rattle.guest_machine.specs.Kinds.{component_is, array_is};
+ghost use Rattle.guest_model.specs.Kinds.{component_is, array_is};
 
 use crate::guest::Guest;
 use bytecode_model::is_array;

@@ -3,7 +3,7 @@
 
 ghost use Rattle.std.specs.Prelude.{◌≡◌, ◌++◌, ◌∷◌, [], if◌then◌else◌, reverse, IfOk, OnOk};
 ghost use Rattle.bytecode_model.specs.Heads.{desc_of};
-ghost use Rattle.guest_machine.specs.Layout.{fields_of, first_value, is_in_objects, is_of_references, new_of, own_fields};
+ghost use Rattle.guest_model.specs.Layout.{fields_of, first_value, is_in_objects, is_of_references, new_of, own_fields};
 
 use crate::guest::Guest;
 use bytecode_model::{has_flag, text_at};

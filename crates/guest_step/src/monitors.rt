@@ -7,8 +7,8 @@ ghost use Rattle.guest_heap.specs.declared.object.Monitor.{Monitor};
 ghost use Rattle.guest_frames.specs.Became.{Became};
 ghost use Rattle.guest_frames.specs.Values.{are_one};
 ghost use Rattle.guest_model.specs.Monitors.{all_given_up, entered, left};
-ghost use Rattle.guest_machine.specs.Changes.{lock_taken};
-ghost use Rattle.guest_machine.specs.Enabled.{is_held_by_other};
+ghost use Rattle.guest_model.specs.Changes.{lock_taken};
+ghost use Rattle.guest_model.specs.Enabled.{is_held_by_other};
 ghost use Rattle.guest_step.specs.Did.{Becomes};
 ghost use Rattle.guest_step.specs.Monitors.{entered_again, left_at};
 

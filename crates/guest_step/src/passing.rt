@@ -1,7 +1,7 @@
 //! What calls take from the operands.
 
 ghost use Rattle.std.specs.Prelude.{◌≡◌, length, reverse, take, option_map, Some, IfOk};
-ghost use Rattle.guest_machine.specs.Calling.{desc_named, is_static_call};
+ghost use Rattle.guest_model.specs.Calling.{desc_named, is_static_call};
 ghost use Rattle.guest_model.specs.Calls.{arity, taken, taken_instance, taken_static};
 ghost use Rattle.guest_step.specs.Calls.{arity_of_row, taken_from, told_of};
 

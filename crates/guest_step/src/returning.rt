@@ -1,9 +1,9 @@
 //! Returns: the caller goes on behind its call, or the thread rests. (The Java Virtual Machine Specification, section 2.6.4.)
 
 ghost use Rattle.std.specs.Prelude.{◌≡◌, drop};
-ghost use Rattle.guest_machine.specs.Changes.{world_of};
-ghost use Rattle.guest_machine.specs.Stepping.{Acting, returns};
-ghost use Rattle.guest_model.specs.Stepping.{result_of};
+ghost use Rattle.guest_model.specs.Changes.{world_of};
+ghost use Rattle.guest_model.specs.Stepping.{Acting, returns};
+ghost use Rattle.guest_model.specs.Parts.{result_of};
 ghost use Rattle.guest_step.specs.Acts.{ActsIn, acting, thread_returned};
 ghost use Rattle.guest_step.specs.Did.{Becomes};
 

@@ -2,9 +2,9 @@
 
 ghost use Rattle.std.specs.Prelude.{◌≡◌, false};
 ghost use Rattle.std.specs.Option.{option_map_or};
-ghost use Rattle.guest_machine.specs.Calling.{Calling, run_of, runs, runs_object, runs_target, target_in, target_of};
-ghost use Rattle.guest_machine.specs.Changes.{world_of};
-ghost use Rattle.guest_machine.specs.Kinds.{class_of_value, is_thread};
+ghost use Rattle.guest_model.specs.Calling.{Calling, run_of, runs, runs_object, runs_target, target_in, target_of};
+ghost use Rattle.guest_model.specs.Changes.{world_of};
+ghost use Rattle.guest_model.specs.Kinds.{class_of_value, is_thread};
 ghost use Rattle.guest_step.specs.Acts.{ActsIn};
 ghost use Rattle.guest_step.specs.Calls.{calling};
 

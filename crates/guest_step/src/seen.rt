@@ -1,7 +1,7 @@
 //! What the library sees of values, and the texts of objects. (docs/RECORDS.md)
 
 ghost use Rattle.std.specs.Prelude.{◌≡◌, IfOk};
-ghost use Rattle.guest_machine.specs.Seen.{literal_at, object_shown, string_of, text_in, value_shown, values_shown};
+ghost use Rattle.guest_model.specs.Seen.{literal_at, object_shown, string_of, text_in, value_shown, values_shown};
 
 use crate::guest::Guest;
 use crate::kinds::STRING;

@@ -4,8 +4,8 @@ ghost use Rattle.std.specs.Prelude.{◌≡◌, ◌∷◌, [], ◌++◌, IfOk, On
 ghost use Rattle.std.specs.Option.{option_to_list};
 ghost use Rattle.std.specs.List.{position_from};
 ghost use Rattle.mon_base.specs.declared.method.MethodId.{MethodId};
-ghost use Rattle.guest_machine.specs.Changes.{rests};
-ghost use Rattle.guest_machine.specs.Runs.{initialiser_of, initialisers, start_of};
+ghost use Rattle.guest_model.specs.Changes.{rests};
+ghost use Rattle.guest_model.specs.Runs.{initialiser_of, initialisers, start_of};
 ghost use Rattle.guest_model.specs.Runs.{first_heap, inner};
 ghost use Rattle.guest_model.specs.Throwing.{bare_object};
 ghost use Rattle.guest_step.specs.Start.{is_initialiser};

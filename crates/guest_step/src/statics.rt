@@ -3,7 +3,7 @@
 ghost use Rattle.std.specs.Prelude.{◌≡◌, bytes_eq, slice_get, option_copied, IfOk};
 ghost use Rattle.std.specs.List.{filter_map, position_from};
 ghost use Rattle.bytecode_model.specs.Operands.{place_of};
-ghost use Rattle.guest_machine.specs.Layout.{
+ghost use Rattle.guest_model.specs.Layout.{
   constant_bytes,
   first_value,
   is_of_references,

@@ -6,7 +6,7 @@ ghost use Rattle.insn_codec.specs.declared.insn.Insn.{Insn};
 ghost use Rattle.bytecode_model.specs.declared.program.Target.{Target};
 ghost use Rattle.guest_heap.specs.declared.thread.Doing.TheVariants as doings;
 ghost use Rattle.guest_frames.specs.Stepping.{frame_stepped};
-ghost use Rattle.guest_machine.specs.Stepping.{Acting, doing_stepped, frames_stepped, heap_in, heap_stepped, running_stepped, stepped};
+ghost use Rattle.guest_model.specs.Stepping.{Acting, doing_stepped, frames_stepped, heap_in, heap_stepped, running_stepped, stepped};
 ghost use Rattle.guest_model.specs.Places.{insn_at};
 ghost use Rattle.guest_step.specs.Acts.{ActsIn, acting, doing_this, thread_stepped, unseen};
 ghost use Rattle.guest_step.specs.Did.{Becomes, Did};

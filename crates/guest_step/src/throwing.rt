@@ -5,9 +5,9 @@ ghost use Rattle.std.specs.Option.{option_map_or};
 ghost use Rattle.bytecode_model.specs.Classes.{is_below};
 ghost use Rattle.bytecode_model.specs.declared.program.Handler.{Handler};
 ghost use Rattle.guest_frames.specs.Became.{Became};
-ghost use Rattle.guest_machine.specs.Changes.{throws_new, world_of};
+ghost use Rattle.guest_model.specs.Changes.{throws_new, world_of};
 ghost use Rattle.guest_model.specs.Monitors.{all_given_up};
-ghost use Rattle.guest_model.specs.Stepping.{thrown_thread};
+ghost use Rattle.guest_model.specs.Parts.{thrown_thread};
 ghost use Rattle.guest_model.specs.Throwing.{bare_object, catches, caught_in, handler_of, locks_left, unwound};
 ghost use Rattle.guest_step.specs.Acts.{ActsIn, lock_on_top};
 

@@ -2,7 +2,7 @@
 
 ghost use Rattle.std.specs.Prelude.{◌≡◌, [], option_map, IfOk};
 ghost use Rattle.insn_codec.specs.declared.shape.Heap.TheVariants as heap;
-ghost use Rattle.guest_machine.specs.Enabled.{
+ghost use Rattle.guest_model.specs.Enabled.{
   call_waits,
   heap_waits,
   lock_of_call,
@@ -22,7 +22,7 @@ use crate::monitors::is_held_by_other;
 use crate::passing::{arity_named, is_static_call};
 use bytecode_model::{Method, Target};
 use guest_heap::{Frame, Object, Stack, Value};
-use guest_machine::Builtin;
+use guest_model::Builtin;
 use guest_model::Machine;
 use insn_codec::How;
 use mon_base::{List, NoMemory};

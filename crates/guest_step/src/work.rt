@@ -1,7 +1,7 @@
 //! What instructions do to the heap, the static fields and the operands. (The Java Virtual Machine Specification, section 6.5.)
 
-ghost use Rattle.guest_machine.specs.Changes.{World};
-ghost use Rattle.guest_machine.specs.Working.{worked};
+ghost use Rattle.guest_model.specs.Changes.{World};
+ghost use Rattle.guest_model.specs.Working.{worked};
 ghost use Rattle.guest_step.specs.Works.{Works, at};
 
 mod arrays;

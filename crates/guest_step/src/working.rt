@@ -1,10 +1,10 @@
 //! Instructions that work on the heap or on static fields, or divide, in the frame of a thread.
 
 ghost use Rattle.std.specs.Prelude.{◌≡◌};
-ghost use Rattle.guest_machine.specs.Changes.{World, world_of};
-ghost use Rattle.guest_machine.specs.Stepping.{Acting, works};
-ghost use Rattle.guest_machine.specs.Working.{worked};
-ghost use Rattle.guest_model.specs.Stepping.{running};
+ghost use Rattle.guest_model.specs.Changes.{World, world_of};
+ghost use Rattle.guest_model.specs.Stepping.{Acting, works};
+ghost use Rattle.guest_model.specs.Working.{worked};
+ghost use Rattle.guest_model.specs.Parts.{running};
 ghost use Rattle.guest_step.specs.Acts.{ActsIn, acting};
 ghost use Rattle.guest_step.specs.InFrame.{WorksIn, at_after, inside};
 

@@ -5,9 +5,9 @@ ghost use Rattle.insn_codec.specs.declared.shape.One.TheVariants as one;
 ghost use Rattle.guest_frames.specs.Values.{made_of_one};
 ghost use Rattle.guest_heap.specs.declared.object.Monitor.{Monitor};
 ghost use Rattle.guest_heap.specs.declared.value.Value.{Value};
-ghost use Rattle.guest_machine.specs.Changes.{World};
+ghost use Rattle.guest_model.specs.Changes.{World};
 ghost use Rattle.bytecode_model.specs.Assigning.{reference_of};
-ghost use Rattle.guest_machine.specs.Working.{
+ghost use Rattle.guest_model.specs.Working.{
   ArrayAt,
   Worked,
   has_items,
@@ -19,7 +19,7 @@ ghost use Rattle.guest_machine.specs.Working.{
   on_array,
   on_items,
 };
-ghost use Rattle.guest_machine.specs.Working.{place_among, reads_item, writes_item};
+ghost use Rattle.guest_model.specs.Working.{place_among, reads_item, writes_item};
 ghost use Rattle.guest_step.specs.Led.{led, IsOf};
 ghost use Rattle.guest_step.specs.Works.{Works, at, comes, with_monitors};
 

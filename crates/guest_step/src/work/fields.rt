@@ -1,8 +1,8 @@
 //! Fields.
 
 ghost use Rattle.std.specs.Prelude.{◌≡◌, List, Ok, drop};
-ghost use Rattle.guest_machine.specs.Changes.{World};
-ghost use Rattle.guest_machine.specs.Working.{place_named, reads_field, writes_field};
+ghost use Rattle.guest_model.specs.Changes.{World};
+ghost use Rattle.guest_model.specs.Working.{place_named, reads_field, writes_field};
 ghost use Rattle.guest_heap.specs.declared.object.Monitor.{Monitor};
 ghost use Rattle.guest_heap.specs.declared.value.Value.{Value};
 ghost use Rattle.guest_step.specs.Works.{Works, at, comes, with_monitors};

@@ -3,9 +3,9 @@
 ghost use Rattle.std.specs.Prelude.{◌≡◌, ◌≢◌, ◌∷◌, List, Ok, drop, option_map, pos};
 ghost use Rattle.guest_heap.specs.declared.object.Object.{Object};
 ghost use Rattle.guest_heap.specs.declared.value.Value.{Value};
-ghost use Rattle.guest_machine.specs.Changes.{World};
-ghost use Rattle.guest_machine.specs.Working.{divides, quotient};
-ghost use Rattle.guest_model.specs.Stepping.{constant_value};
+ghost use Rattle.guest_model.specs.Changes.{World};
+ghost use Rattle.guest_model.specs.Working.{divides, quotient};
+ghost use Rattle.guest_model.specs.Parts.{constant_value};
 ghost use Rattle.guest_step.specs.Works.{Works, at, comes};
 
 use crate::guest::Guest;

@@ -7,9 +7,9 @@ ghost use Rattle.bytecode_model.specs.SearchOrder.{Name};
 ghost use Rattle.guest_heap.specs.declared.object.Monitor.{Monitor};
 ghost use Rattle.guest_heap.specs.declared.value.Value.{Value};
 ghost use Rattle.guest_heap.specs.declared.value.Value.TheVariants as values;
-ghost use Rattle.guest_machine.specs.Changes.{World, with_object};
-ghost use Rattle.guest_machine.specs.Layout.{first_value};
-ghost use Rattle.guest_machine.specs.Working.{casts, is_cast, makes_array, makes_object, name_named, tells_instance, truth};
+ghost use Rattle.guest_model.specs.Changes.{World, with_object};
+ghost use Rattle.guest_model.specs.Layout.{first_value};
+ghost use Rattle.guest_model.specs.Working.{casts, is_cast, makes_array, makes_object, name_named, tells_instance, truth};
 ghost use Rattle.guest_step.specs.Works.{Works, at, comes, with_monitors};
 
 use crate::guest::Guest;

@@ -3,8 +3,8 @@
 ghost use Rattle.std.specs.Prelude.{◌≡◌, ◌≤◌, List, drop, length, Ok};
 ghost use Rattle.guest_heap.specs.declared.object.Object.{Object};
 ghost use Rattle.guest_heap.specs.declared.value.Value.{Value};
-ghost use Rattle.guest_machine.specs.Changes.{World};
-ghost use Rattle.guest_machine.specs.Working.{number_operand, operand_of};
+ghost use Rattle.guest_model.specs.Changes.{World};
+ghost use Rattle.guest_model.specs.Working.{number_operand, operand_of};
 ghost use Rattle.guest_step.specs.Works.{Works, at, comes};
 
 use crate::kinds::fits;

@@ -4,8 +4,8 @@ ghost use Rattle.std.specs.Prelude.{◌≡◌, List, Ok};
 ghost use Rattle.guest_heap.specs.Stack.{Operands};
 ghost use Rattle.guest_heap.specs.declared.object.Monitor.{Monitor};
 ghost use Rattle.guest_heap.specs.declared.object.Object.{Object};
-ghost use Rattle.guest_machine.specs.Changes.{World};
-ghost use Rattle.guest_machine.specs.Working.{reads_static, writes_static};
+ghost use Rattle.guest_model.specs.Changes.{World};
+ghost use Rattle.guest_model.specs.Working.{reads_static, writes_static};
 ghost use Rattle.guest_step.specs.Works.{Works, at, comes, with_monitors};
 
 use crate::guest::Guest;

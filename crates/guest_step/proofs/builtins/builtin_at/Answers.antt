@@ -1,6 +1,6 @@
 use Rattle.std.proofs.Common.{None, Some, length, refl, sym}
 use Rattle.std.proofs.lemmas.Option.{slice_get_past, slice_get_read}
-use Rattle.guest_machine.specs.Builtins.{builtin_of_row}
+use Rattle.guest_model.specs.Builtins.{builtin_of_row}
 use Rattle.guest_step.specs.declared.builtins.TheConstants.{BUILTINS}
 use Rattle.guest_step.proofs.Passed.{builtins_are, row_got}
 use Rattle.guest_step.proofs.builtins.builtin_at.Goals as goal

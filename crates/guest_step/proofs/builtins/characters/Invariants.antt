@@ -1,5 +1,5 @@
 use Rattle.std.proofs.Common.{◌≡◌, ◌+◌, ◌≤◌, length}
-use Rattle.guest_machine.specs.Builtins.{characters}
+use Rattle.guest_model.specs.Builtins.{characters}
 use Rattle.guest_step.proofs.builtins.characters.Given as goal
 
 abbrev pub invariant-loop-left : goal.invariant-loop-left

@@ -1,5 +1,5 @@
 use Rattle.std.proofs.Common.{◌≡◌, length}
-use Rattle.guest_machine.specs.Changes.{locks_of}
+use Rattle.guest_model.specs.Changes.{locks_of}
 use Rattle.guest_model.specs.Monitors.{all_given_up}
 use Rattle.guest_step.proofs.calling.give_up_all.Given as goal
 

@@ -2,7 +2,7 @@ use Rattle.std.proofs.Common.{◌≡◌, Bool, Some, None, subst, sym, rules}
 use Rattle.std.specs.Prelude.{IfOk, slice_get}
 use Rattle.insn_codec.specs.Shapes.{shape_of}
 use Rattle.guest_model.specs.Places.{insn_at}
-use Rattle.guest_machine.specs.Stepping.{heap_in}
+use Rattle.guest_model.specs.Stepping.{heap_in}
 use Rattle.guest_step.proofs.NextWaits.{next_waits}
 use Rattle.guest_step.proofs.ending.waits.Goals as goal
 

@@ -1,6 +1,6 @@
 use Rattle.std.proofs.Common.{◌≡◌, map, take, length}
 use Rattle.bytecode_model.specs.declared.program.LinkedClass.{LinkedClass}
-use Rattle.guest_machine.specs.Layout.{fields_of}
+use Rattle.guest_model.specs.Layout.{fields_of}
 use Rattle.guest_step.proofs.fields.begins_of.Given as goal
 
 abbrev pub invariant-loop-class : goal.invariant-loop-class

@@ -1,7 +1,7 @@
 use Rattle.std.proofs.Common.{◌≡◌, ◌+◌, List, ℕ, length, take, sym, ap, arith, ◌∙◌}
 use Rattle.std.specs.Prelude.{filter, slice_index_or}
 use Rattle.class_codec.specs.declared.tree.Member.{Member}
-use Rattle.guest_machine.specs.Layout.{is_in_objects}
+use Rattle.guest_model.specs.Layout.{is_in_objects}
 use Rattle.guest_step.specs.Layout.{counts_from}
 use Rattle.guest_step.proofs.ObjectFields.{count_at, counts_length, none_before, take_past}
 use Rattle.guest_step.proofs.fields.count_before.Goals as goal

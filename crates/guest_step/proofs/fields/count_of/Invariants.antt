@@ -1,5 +1,5 @@
 use Rattle.std.proofs.Common.{◌≡◌, ◌+◌, ◌-◌, length}
-use Rattle.guest_machine.specs.Layout.{fields_up}
+use Rattle.guest_model.specs.Layout.{fields_up}
 use Rattle.guest_step.proofs.fields.count_of.Given as goal
 
 abbrev pub invariant-loop : goal.invariant-loop

@@ -1,6 +1,6 @@
 use Rattle.std.proofs.Common.{◌≡◌, ◌+◌, length}
 use Rattle.std.specs.Prelude.{filter}
-use Rattle.guest_machine.specs.Layout.{is_in_objects}
+use Rattle.guest_model.specs.Layout.{is_in_objects}
 use Rattle.guest_step.proofs.fields.own_count.Given as goal
 
 abbrev pub invariant-loop-left : goal.invariant-loop-left

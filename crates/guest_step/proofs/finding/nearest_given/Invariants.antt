@@ -1,5 +1,5 @@
 use Rattle.std.proofs.Common.{◌≡◌, ◌-◌, length}
-use Rattle.guest_machine.specs.Finding.{declared_up}
+use Rattle.guest_model.specs.Finding.{declared_up}
 use Rattle.guest_step.proofs.finding.nearest_given.Given as goal
 
 abbrev pub invariant-loop : goal.invariant-loop

@@ -1,5 +1,5 @@
 use Rattle.std.proofs.Common.{◌≡◌, length}
-use Rattle.guest_machine.specs.Kinds.{component_is}
+use Rattle.guest_model.specs.Kinds.{component_is}
 use Rattle.guest_step.proofs.kinds.component_is.Given as goal
 
 abbrev pub invariant-loop-from : goal.invariant-loop-from

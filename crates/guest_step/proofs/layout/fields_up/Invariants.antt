@@ -1,6 +1,6 @@
 use Rattle.std.proofs.Common.{◌≡◌, ◌++◌, ◌-◌, length}
 use Rattle.std.specs.Prelude.{reverse}
-use Rattle.guest_machine.specs.Layout.{fields_up}
+use Rattle.guest_model.specs.Layout.{fields_up}
 use Rattle.guest_step.proofs.layout.fields_up.Given as goal
 
 abbrev pub invariant-loop : goal.invariant-loop

@@ -2,7 +2,7 @@ use Rattle.std.proofs.Common.{◌≡◌, ◌++◌, length}
 use Rattle.std.specs.Prelude.{reverse, map, filter}
 use Rattle.class_codec.specs.declared.tree.Member.{Member}
 use Rattle.bytecode_model.specs.Heads.{desc_of}
-use Rattle.guest_machine.specs.Layout.{first_value, is_in_objects, own_fields}
+use Rattle.guest_model.specs.Layout.{first_value, is_in_objects, own_fields}
 use Rattle.guest_step.proofs.layout.push_own.Given as goal
 
 abbrev pub invariant-loop-member : goal.invariant-loop-member

@@ -1,6 +1,5 @@
-use Rattle.std.proofs.Common.{subst}
+use Rattle.std.proofs.Common.{subst, List}
 use Rattle.bytecode_model.specs.declared.program.Method.{Method}
-use Rattle.std.proofs.Common.{List}
 use Rattle.guest_step.specs.Methods.{HasMethods}
 use Rattle.guest_step.proofs.Naming.{methods_more}
 use Rattle.guest_step.proofs.methods.methods_of.Goals as goal

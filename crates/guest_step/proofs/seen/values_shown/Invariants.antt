@@ -1,5 +1,5 @@
 use Rattle.std.proofs.Common.{◌≡◌, map, take}
-use Rattle.guest_machine.specs.Seen.{value_shown}
+use Rattle.guest_model.specs.Seen.{value_shown}
 use Rattle.guest_step.proofs.seen.values_shown.Given as goal
 
 abbrev pub invariant-loop-value : goal.invariant-loop-value

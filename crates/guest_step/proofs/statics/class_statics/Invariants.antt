@@ -1,5 +1,5 @@
 use Rattle.std.proofs.Common.{◌≡◌, map, take}
-use Rattle.guest_machine.specs.Layout.{starting_value}
+use Rattle.guest_model.specs.Layout.{starting_value}
 use Rattle.guest_step.proofs.statics.class_statics.Given as goal
 
 abbrev pub invariant-loop-field : goal.invariant-loop-field

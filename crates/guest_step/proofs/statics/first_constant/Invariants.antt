@@ -1,7 +1,7 @@
 use Rattle.std.proofs.Common.{◌≡◌, length}
 use Rattle.std.specs.Prelude.{slice_get}
 use Rattle.std.specs.List.{filter_map}
-use Rattle.guest_machine.specs.Layout.{constant_bytes}
+use Rattle.guest_model.specs.Layout.{constant_bytes}
 use Rattle.guest_step.proofs.statics.first_constant.Given as goal
 
 abbrev pub invariant-loop-left : goal.invariant-loop-left

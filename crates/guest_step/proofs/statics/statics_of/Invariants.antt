@@ -1,6 +1,6 @@
 use Rattle.std.proofs.Common.{◌≡◌, map, take}
 use Rattle.bytecode_model.specs.declared.program.LinkedClass.{LinkedClass}
-use Rattle.guest_machine.specs.Layout.{starting_value}
+use Rattle.guest_model.specs.Layout.{starting_value}
 use Rattle.guest_step.proofs.statics.statics_of.Given as goal
 
 abbrev pub invariant-loop-class : goal.invariant-loop-class

@@ -2,7 +2,7 @@ use Rattle.std.proofs.Common.{ap, ◌∙◌}
 use Rattle.std.specs.Prelude.{slice_get}
 use Rattle.std.specs.Option.{option_and_then}
 use Rattle.bytecode_model.specs.declared.program.Program.{Program}
-use Rattle.guest_machine.specs.Finding.{declared_in}
+use Rattle.guest_model.specs.Finding.{declared_in}
 use Rattle.guest_step.specs.Methods.{Methods, method_in}
 use Rattle.guest_step.proofs.Naming.{methods_at}
 use Rattle.guest_step.proofs.guest.Guest.declared.Goals as goal

@@ -3,7 +3,7 @@ use Rattle.std.specs.Prelude.{filter}
 use Rattle.std.specs.Option.{option_map}
 use Rattle.class_codec.specs.declared.tree.Member.{Member}
 use Rattle.bytecode_model.specs.declared.program.LinkedClass.{LinkedClass}
-use Rattle.guest_machine.specs.Layout.{fields_of, is_in_objects, place_of_field}
+use Rattle.guest_model.specs.Layout.{fields_of, is_in_objects, place_of_field}
 use Rattle.guest_step.specs.Layout.{begins_of}
 use Rattle.guest_step.proofs.ObjectFields.{begin_is}
 use Rattle.guest_step.proofs.guest.Guest.place_of_field.Goals as goal

@@ -1,6 +1,6 @@
 use Rattle.std.proofs.Common.{drop}
-use Rattle.guest_machine.specs.Changes.{World}
-use Rattle.guest_machine.specs.Working.{length_told}
+use Rattle.guest_model.specs.Changes.{World}
+use Rattle.guest_model.specs.Working.{length_told}
 use Rattle.guest_step.specs.Works.{at, comes}
 use Rattle.guest_step.proofs.Works.{works_same}
 use Rattle.guest_step.proofs.work.arrays.tell_length.Goals as goal

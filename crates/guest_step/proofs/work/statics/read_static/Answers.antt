@@ -1,5 +1,5 @@
-use Rattle.guest_machine.specs.Changes.{World}
-use Rattle.guest_machine.specs.Working.{reads_static}
+use Rattle.guest_model.specs.Changes.{World}
+use Rattle.guest_model.specs.Working.{reads_static}
 use Rattle.guest_step.specs.Works.{at, comes}
 use Rattle.guest_step.proofs.Works.{works_same}
 use Rattle.guest_step.proofs.work.statics.read_static.Goals as goal
