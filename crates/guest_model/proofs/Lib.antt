@@ -24,3 +24,4 @@ mod Leaving
 mod Moving
 mod Calls
 mod Making
+mod Rows

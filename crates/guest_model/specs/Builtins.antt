@@ -1,6 +1,7 @@
 -- The methods that are built in, by their rows. (docs/MACHINE.md)
 use Rattle.std.specs.Prelude.{ℕ, ◌&&◌, ◌||◌, Bool, not, nat_le, nat_lt, codes, if◌then◌else◌, List, length, filter, slice_get, Option, option_map}
 use Rattle.api_listing.specs.BuiltIn.{MethodRow, method_rows, is_row, thread, runnable}
+use Rattle.guest_model.specs.Calls.{arity}
 use Rattle.guest_model.specs.declared.builtin.Builtin.{Builtin}
 use Rattle.guest_model.specs.declared.builtin.Builtin.TheVariants as builtins
 
@@ -17,6 +18,10 @@ builtin_of_row row =
 -- the method of this index in the table
 abbrev pub builtin_at : ℕ → Option Builtin
 builtin_at index = option_map builtin_of_row (slice_get method_rows index)
+
+-- how many arguments it takes
+abbrev pub arity_of_row : ℕ → Option ℕ
+arity_of_row index = option_map (λ (row : MethodRow). arity row.2) (slice_get method_rows index)
 
 -- whether a byte goes on with a character that another began
 abbrev pub continues : ℕ → Bool

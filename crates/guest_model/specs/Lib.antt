@@ -10,6 +10,7 @@ pub mod Finding
 pub mod Kinds
 pub mod Seen
 pub mod Builtins
+pub mod Exceptions
 pub mod Changes
 pub mod Working
 pub mod Calling
@@ -23,3 +24,4 @@ pub mod Standing
 pub mod First
 pub mod Moving
 pub mod Numbers
+pub mod Ready

@@ -7,11 +7,15 @@
 #![tactic(auto)]
 
 mod builtin;
+mod calls;
 mod laws;
 mod laws_of_steps;
 mod machine;
+mod objects;
+mod thrown;
 
-pub use builtin::Builtin;
+pub use builtin::{Builtin, builtin_at};
+pub use calls::{arity, arity_of_row, is_static_call};
 pub use laws::{
     handlers_cover, numbers_are_of_32_bits, other_threads_stay, sees_numbers_in_range,
     sees_only_what_is_called, sees_the_first_call, what_each_step_keeps_holds_always,
@@ -21,3 +25,5 @@ pub use laws_of_steps::{
     ready_calls_are_made, steps_are_enabled, what_is_ready_moves,
 };
 pub use machine::{Choice, End, Machine, Step};
+pub use objects::{STRING, class_of_value, first_value, is_of_references};
+pub use thrown::Thrown;

@@ -20,10 +20,11 @@ use Rattle.guest_model.specs.Calls.{types_of}
 use Rattle.guest_model.specs.Answering.{answer_fits, answered, answered_well, given, returned_by, thrown_by, thrown_by_library}
 use Rattle.guest_model.specs.Changes.{Change, World, returned, world_of}
 use Rattle.guest_model.specs.Stepping.{call_stepped, doing_stepped, is_on_null, null_thrown, stepped}
-use Rattle.guest_step.specs.declared.fault.StepFault.{StepFault}
-use Rattle.guest_step.specs.declared.fault.StepFault.TheVariants as faults
-use Rattle.guest_step.specs.Acts.{ActsIn, IsDone, doing_this}
-use Rattle.guest_step.specs.Did.{Did}
+use Rattle.guest_threads.specs.declared.fault.StepFault.{StepFault}
+use Rattle.guest_threads.specs.declared.fault.StepFault.TheVariants as faults
+use Rattle.guest_threads.specs.Acts.{ActsIn, IsDone}
+use Rattle.guest_step.specs.Turns.{doing_this}
+use Rattle.guest_threads.specs.Did.{Did}
 use Rattle.guest_step.proofs.Alike.{with_threads}
 use Rattle.guest_step.proofs.Putting.{did, has_place}
 

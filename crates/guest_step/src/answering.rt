@@ -1,30 +1,23 @@
 //! The library's answers to calls: which fit, and what they give. (docs/MACHINE.md)
 
-ghost use Rattle.std.specs.Prelude.{◌≡◌, Some, length, option_map, IfOk};
+ghost use Rattle.std.specs.Prelude.{IfOk, Some, length, option_map, ◌≡◌};
 ghost use Rattle.guest_heap.specs.declared.value.Value.TheVariants as values;
 ghost use Rattle.guest_model.specs.Answering.{answered, answered_well, returned_by, thrown_by_library};
+ghost use Rattle.guest_model.specs.Calls.{types_of};
 ghost use Rattle.guest_model.specs.Changes.{with_object, world_of};
 ghost use Rattle.guest_model.specs.Seen.{value_shown};
 ghost use Rattle.guest_model.specs.Stepping.{call_stepped, is_on_null};
-ghost use Rattle.guest_model.specs.Calls.{types_of};
 ghost use Rattle.guest_model.specs.Throwing.{bare_object};
-ghost use Rattle.guest_step.specs.Acts.{ActsIn};
+ghost use Rattle.guest_threads.specs.Acts.{ActsIn};
 
-use crate::fault::StepFault;
-use crate::fitting::answer_fits;
-use crate::guest::Guest;
-use crate::kinds::is_null;
-use crate::outcome::Thrown;
-use crate::returning::resume;
-use crate::seen::value_shown;
-use crate::throwing::throw_new;
 use api_listing::{ApiAnswer, ApiValue, Event, FieldType, FormFault, parse_descriptor};
+use guest_frames::is_null;
 use guest_heap::{Object, Thread, Value, new_object};
-use guest_model::{Choice, Machine};
+use guest_model::{Choice, Machine, Thrown};
+use guest_tables::{Guest, answer_fits, value_shown};
+use guest_threads::{StepFault, resume, throw_new};
 use mon_base::{Bytes, List, NoMemory};
 use std::alloc::Global;
-
-// ---- results
 
 /// The type of the result of a method of this descriptor.
 pub fn result_type(alloc: Global, desc: &[u8]) -> Result<Option<FieldType>, NoMemory>
@@ -36,8 +29,6 @@ pub fn result_type(alloc: Global, desc: &[u8]) -> Result<Option<FieldType>, NoMe
         Err(FormFault::Memory) => Err(NoMemory),
     }
 }
-
-// ---- going on
 
 /// The caller goes on with what is given, and the library sees the return.
 fn finish(
@@ -53,7 +44,7 @@ fn finish(
         (returned_by guest.now number thread.old method (world_of machine.now, value)) }
 {
     let shown = shown_if_any(alloc, guest, &machine.heap, value)?;
-    resume(alloc, guest, thread, value)?;
+    resume(alloc, guest.indexed(), thread, value)?;
     Ok(Some(Event::Return {
         thread: number,
         method,
@@ -119,7 +110,15 @@ fn throw_in_call(
         thread: number,
         method,
     };
-    throw_new(alloc, guest, machine, number, thread, class, Some(event))
+    throw_new(
+        alloc,
+        guest.indexed(),
+        machine,
+        number,
+        thread,
+        class,
+        Some(event),
+    )
 }
 
 /// The answer, which fits, is taken.
@@ -176,8 +175,6 @@ fn bare_object(alloc: Global, class: &Bytes) -> Result<Object, NoMemory>
         thread: None,
     })
 }
-
-// ---- steps in a call
 
 /// A thread in a call throws where the receiver is null, and else takes an answer that fits.
 pub fn step_in_call(

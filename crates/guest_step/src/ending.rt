@@ -1,22 +1,21 @@
 //! How a run ended.
 
-ghost use Rattle.std.specs.Prelude.{◌≡◌, ◌&&◌, false, not, slice_get, IfOk};
 ghost use Rattle.std.specs.Option.{option_map_or};
-ghost use Rattle.guest_heap.specs.declared.value.Value.{Value};
+ghost use Rattle.std.specs.Prelude.{IfOk, false, not, slice_get, ◌&&◌, ◌≡◌};
 ghost use Rattle.guest_frames.specs.Values.{is_null};
+ghost use Rattle.guest_heap.specs.declared.value.Value.{Value};
 ghost use Rattle.guest_model.specs.Enabled.{heap_waits, is_held_by_other, waits};
 ghost use Rattle.guest_step.specs.Ending.{can_step, end_of, have_ended, some_can_step};
 
 use crate::answering::is_on_null;
-use crate::builtins::is_ended;
-use crate::guest::Guest;
-use crate::kinds::is_null;
-use crate::monitors::is_held_by_other;
 use crate::stepping::{heap_in, insn_at};
 use crate::waiting::call_waits;
 use bytecode_model::Target;
+use guest_frames::is_null;
 use guest_heap::{Doing, Frame, Frames, Thread};
 use guest_model::{End, Machine};
+use guest_tables::Guest;
+use guest_threads::{is_ended, is_held_by_other};
 use insn_codec::{Heap, shape_of};
 use mon_base::NoMemory;
 use std::alloc::Global;

@@ -1,29 +1,16 @@
 //! What a call waits for: the monitor of a synchronized method, or the end of a thread. (docs/MACHINE.md)
 
-ghost use Rattle.std.specs.Prelude.{◌≡◌, [], option_map, IfOk};
-ghost use Rattle.insn_codec.specs.declared.shape.Heap.TheVariants as heap;
-ghost use Rattle.guest_model.specs.Enabled.{
-  call_waits,
-  heap_waits,
-  lock_of_call,
-  lock_wanted,
-  thread_awaited,
-  waits_for_monitor,
-  waits_for_thread,
-};
+ghost use Rattle.std.specs.Prelude.{IfOk, [], option_map, ◌≡◌};
 ghost use Rattle.guest_model.specs.Calls.{Taken, taken};
+ghost use Rattle.guest_model.specs.Enabled.{call_waits, heap_waits, lock_of_call, lock_wanted, thread_awaited, waits_for_monitor, waits_for_thread};
+ghost use Rattle.insn_codec.specs.declared.shape.Heap.TheVariants as heap;
 
-use crate::builtins::{builtin_at, has_ended, thread_of_value};
-use crate::finding::method_run;
-use crate::frames::{lock_of, method_of};
-use crate::guest::Guest;
-use crate::kinds::{class_of_value, is_null};
-use crate::monitors::is_held_by_other;
-use crate::passing::{arity_named, is_static_call};
 use bytecode_model::{Method, Target};
+use guest_frames::is_null;
 use guest_heap::{Frame, Object, Stack, Value};
-use guest_model::Builtin;
-use guest_model::Machine;
+use guest_model::{Builtin, Machine, builtin_at, class_of_value, is_static_call};
+use guest_tables::{Guest, arity_named, method_run};
+use guest_threads::{has_ended, is_held_by_other, lock_of, method_of, thread_of_value};
 use insn_codec::How;
 use mon_base::{List, NoMemory};
 use std::alloc::Global;
@@ -151,8 +138,8 @@ fn lock_wanted(guest: &Guest, to: (u32, u32), receiver: Option<Value>) -> Option
     ensures { result ≡ lock_wanted guest.now to receiver }
 {
     let (class, index) = to;
-    let method = method_of(guest, class, index)?;
-    lock_of(guest, class, method, receiver)
+    let method = method_of(guest.indexed(), class, index)?;
+    lock_of(guest.indexed(), class, method, receiver)
 }
 
 /// The thread that a built-in method waits for.

@@ -1,0 +1,4 @@
+pub mod GivenClasses
+mod Naming
+mod Nearest
+mod ObjectFields

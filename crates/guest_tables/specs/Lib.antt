@@ -1,0 +1,4 @@
+pub mod Answering
+pub mod Layout
+pub mod Methods
+pub mod Tables
