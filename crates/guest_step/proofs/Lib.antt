@@ -6,4 +6,5 @@ mod InFrame
 mod Called
 mod NextWaits
 mod Ends
+mod Asks
 mod Runs

@@ -1,6 +1,7 @@
-pub mod Built
-pub mod Ending
-pub mod InFrame
-pub mod Replaying
-pub mod Start
 pub mod Turns
+pub mod Built
+pub mod InFrame
+pub mod Start
+pub mod Ending
+pub mod Asking
+pub mod Replaying

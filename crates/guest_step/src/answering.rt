@@ -3,32 +3,20 @@
 ghost use Rattle.std.specs.Prelude.{IfOk, Some, length, option_map, ◌≡◌};
 ghost use Rattle.guest_heap.specs.declared.value.Value.TheVariants as values;
 ghost use Rattle.guest_model.specs.Answering.{answered, answered_well, returned_by, thrown_by_library};
-ghost use Rattle.guest_model.specs.Calls.{types_of};
 ghost use Rattle.guest_model.specs.Changes.{with_object, world_of};
 ghost use Rattle.guest_model.specs.Seen.{value_shown};
 ghost use Rattle.guest_model.specs.Stepping.{call_stepped, is_on_null};
 ghost use Rattle.guest_model.specs.Throwing.{bare_object};
 ghost use Rattle.guest_threads.specs.Acts.{ActsIn};
 
-use api_listing::{ApiAnswer, ApiValue, Event, FieldType, FormFault, parse_descriptor};
+use api_listing::{ApiAnswer, ApiValue, Event};
 use guest_frames::is_null;
 use guest_heap::{Object, Thread, Value, new_object};
 use guest_model::{Choice, Machine, Thrown};
-use guest_tables::{Guest, answer_fits, value_shown};
+use guest_tables::{Guest, fits_call, value_shown};
 use guest_threads::{StepFault, resume, throw_new};
 use mon_base::{Bytes, List, NoMemory};
 use std::alloc::Global;
-
-/// The type of the result of a method of this descriptor.
-pub fn result_type(alloc: Global, desc: &[u8]) -> Result<Option<FieldType>, NoMemory>
-    ensures { IfOk result (λ t. t ≡ (types_of desc.now).result) }
-{
-    match parse_descriptor(alloc, desc) {
-        Ok(types) => Ok(types.result),
-        Err(FormFault::NoForm) => Ok(None),
-        Err(FormFault::Memory) => Err(NoMemory),
-    }
-}
 
 /// The caller goes on with what is given, and the library sees the return.
 fn finish(
@@ -236,17 +224,8 @@ fn answer_call(
     ensures { ActsIn result machine.old machine.new thread.old thread.new
         (answered guest.now (world_of machine.old) number thread.old method receiver args.now answer.now) }
 {
-    let Some(listed) = guest
-        .program()
-        .listing
-        .methods
-        .as_slice()
-        .get(method as usize)
-    else {
-        return Err(StepFault::NotEnabled);
-    };
-    let of = result_type(alloc, listed.id.desc.as_slice())?;
-    if !answer_fits(alloc, guest, &machine.heap, &of, receiver, args, answer)? {
+    let fits = fits_call(alloc, guest, &machine.heap, method, receiver, args, answer)?;
+    if !fits {
         return Err(StepFault::NotEnabled);
     }
     take(

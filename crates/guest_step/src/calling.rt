@@ -17,7 +17,7 @@ use api_listing::Event;
 use bytecode_model::{Method, Target};
 use guest_heap::{Doing, Object, Thread, Value};
 use guest_model::{Machine, Thrown, builtin_at, class_of_value, is_static_call};
-use guest_tables::{Guest, arity_named, is_run, method_run, values_shown};
+use guest_tables::{Guest, is_run, method_run, values_shown};
 use guest_threads::{Call, StepFault, call_throws, end_thread, enter_method, pass, wait};
 use insn_codec::How;
 use mon_base::List;
@@ -256,7 +256,7 @@ pub fn call(
         (acting number thread.old thread.old.frames
         (λ (a : Acting). calls guest.now machine.old a.number a.thread a.frame a.below how target.now)) }
 {
-    let Some(count) = arity_named(alloc, guest, target)? else {
+    let Some(count) = guest.arity(target) else {
         return Err(StepFault::NotEnabled);
     };
     let Some(frame) = thread.frames.top() else {

@@ -3,6 +3,7 @@
 #![tactic(auto)]
 
 mod answering;
+mod asking;
 mod builtins;
 mod calling;
 mod ending;
@@ -14,6 +15,7 @@ mod waiting;
 mod work;
 mod working;
 
+pub use asking::{answer_fits, asks_what_the_rules_say, enabled};
 pub use ending::ended;
 pub use replaying::{ReplayFault, Replayed, ends_where_none_is_enabled, replay, replays_are_runs};
 pub use starting::start;

@@ -1,11 +1,14 @@
 -- The given classes among all classes: each has one place, behind those of the listing.
-use Rattle.std.proofs.Common.{◌≡◌, ℕ, suc, ◌+◌, ◌-◌, ◌<◌, ◌≤◌, Bool, true, false, cond, List, [], ◌∷◌, ◌++◌, length, map, Option, Some, None, refl, sym, ap, subst, ◌∙◌, arith, length-append}
+use Rattle.std.proofs.Common.{◌≡◌, ℕ, suc, ◌+◌, ◌-◌, ◌<◌, ◌≤◌, ◌&&◌, Bool, true, false, not, cond, List, [], ◌∷◌, ◌++◌, length, map, Option, Some, None, refl, sym, ap, subst, ◌∙◌, arith, length-append}
 use Rattle.std.specs.Prelude.{bytes_eq, slice_get}
 use Rattle.std.specs.List.{position_from, AllByRecursion}
-use Rattle.std.specs.Option.{option_or, option_map, option_and_then, is_some}
+use Rattle.std.specs.Option.{option_or, option_map, option_map_or, option_and_then, is_some}
 use Rattle.std.proofs.lemmas.List.{length-map}
+use Rattle.std.proofs.lemmas.Option.{slice_get-map}
 use Rattle.api_listing.specs.declared.types.ListedClass.{ListedClass}
+use Rattle.api_listing.specs.BuiltIn.{built_in_classes}
 use Rattle.api_listing.specs.Listing.{is_known}
+use Rattle.api_listing.specs.Nearest.{class_named}
 use Rattle.bytecode_model.specs.declared.program.LinkedClass.{LinkedClass}
 use Rattle.bytecode_model.specs.declared.program.Program.{Program}
 use Rattle.bytecode_model.specs.Classes.{classes_of}
@@ -14,10 +17,12 @@ use Rattle.bytecode_model.specs.Places.{class_place}
 use Rattle.bytecode_model.specs.Sound.{IsSoundClass}
 use Rattle.bytecode_model.proofs.Lists.{some_is}
 use Rattle.bytecode_model.proofs.Placing.{find_at, has_place, same_name}
+use Rattle.guest_model.specs.Answering.{is_listed_class}
 use Rattle.guest_model.specs.Finding.{given_index}
 use Rattle.guest_model.specs.Layout.{class_given}
 use Rattle.guest_model.specs.Places.{class_index}
 use Rattle.guest_model.specs.Ready.{IsReady}
+use Rattle.guest_tables.specs.Library.{is_fresh}
 
 -- ---- places in lists
 
@@ -160,3 +165,72 @@ index_few program r name p e =
 -- the class of the name stands at the index
 pub class_found : (program : Program) (name : List ℕ) (o : Option ℕ) → given_index program name ≡ o → class_given program name ≡ option_and_then (slice_get program.classes) o
 class_found program name o e = find_at (λ (c : LinkedClass). bytes_eq c.name name) program.classes ∙ ap (option_and_then (slice_get program.classes)) e
+
+-- ---- the listing
+
+-- a place below that of the given classes is one in the listing, and no other is
+pub listed_there : (program : Program) (name : List ℕ) (p : ℕ) → class_index program name ≡ Some p → p < length program.listing.classes → class_place program.listing.classes name ≡ Some p
+listed_there program name p e l = by (class_place program.listing.classes name) refl where
+  test = λ (c : ListedClass). bytes_eq c.name name
+  heads = map (λ (c : LinkedClass). head_of c.file) program.classes
+
+  parts : class_index program name ≡ option_or (class_place program.listing.classes name) (position_from test (length program.listing.classes) heads)
+  parts = behind_others test 0 (length program.listing.classes) program.listing.classes heads (omega arith)
+
+  by : (o : Option ℕ) → class_place program.listing.classes name ≡ o → o ≡ Some p
+  by (Some k) is = sym (parts ∙ ap (λ (o : Option ℕ). option_or o (position_from test (length program.listing.classes) heads)) is) ∙ e
+  by None is =
+      let behind = stands test (length program.listing.classes) heads p (sym (parts ∙ ap (λ (o : Option ℕ). option_or o (position_from test (length program.listing.classes) heads)) is) ∙ e) in
+      absurd (omega (arith, behind.1))
+
+pub listed_not : (program : Program) (name : List ℕ) (p : ℕ) → class_index program name ≡ Some p → length program.listing.classes ≤ p → class_place program.listing.classes name ≡ None
+listed_not program name p e l = by (class_place program.listing.classes name) refl where
+  test = λ (c : ListedClass). bytes_eq c.name name
+  heads = map (λ (c : LinkedClass). head_of c.file) program.classes
+
+  parts : class_index program name ≡ option_or (class_place program.listing.classes name) (position_from test (length program.listing.classes) heads)
+  parts = behind_others test 0 (length program.listing.classes) program.listing.classes heads (omega arith)
+
+  by : (o : Option ℕ) → class_place program.listing.classes name ≡ o → o ≡ None
+  by None is = refl
+  by (Some k) is =
+      let same : k ≡ p = some_is _ _ (sym (parts ∙ ap (λ (o : Option ℕ). option_or o (position_from test (length program.listing.classes) heads)) is) ∙ e) in
+      let within : k < 0 + length program.listing.classes = position_within test 0 program.listing.classes k is in
+      absurd (omega arith)
+
+pub listed_nowhere : (program : Program) (name : List ℕ) → class_index program name ≡ None → class_place program.listing.classes name ≡ None
+listed_nowhere program name e = by (class_place program.listing.classes name) refl where
+  test = λ (c : ListedClass). bytes_eq c.name name
+  heads = map (λ (c : LinkedClass). head_of c.file) program.classes
+
+  parts : class_index program name ≡ option_or (class_place program.listing.classes name) (position_from test (length program.listing.classes) heads)
+  parts = behind_others test 0 (length program.listing.classes) program.listing.classes heads (omega arith)
+
+  by : (o : Option ℕ) → class_place program.listing.classes name ≡ o → o ≡ None
+  by None is = refl
+  by (Some k) is = absurd cc
+
+-- ---- what a table tells of the listing
+
+tells_fresh : (classes : List ListedClass) (name : List ℕ) (o : Option ℕ) → class_place classes name ≡ o
+    → option_map_or (λ (b : Bool). b) (option_and_then (slice_get (map is_fresh classes)) o) false
+    ≡ (option_map_or (λ (c : ListedClass). not c.is_interface) (class_named classes name) false && not (is_known built_in_classes name))
+tells_fresh classes name None is =
+    ap (λ (o : Option ListedClass). option_map_or (λ (c : ListedClass). not c.is_interface) o false && not (is_known built_in_classes name))
+    (sym (find_at (λ (c : ListedClass). bytes_eq c.name name) classes ∙ ap (option_and_then (slice_get classes)) is))
+tells_fresh classes name (Some p) is =
+    let s = stands (λ (c : ListedClass). bytes_eq c.name name) 0 classes p is in
+    let zero_less : p - 0 ≡ p = omega arith in
+    let here : slice_get classes p ≡ Some s.0 = subst (λ (j : ℕ). slice_get classes j ≡ Some s.0) zero_less s.2 in
+    let same : s.0.name ≡ name = same_name _ _ s.3 in
+    let found : class_named classes name ≡ Some s.0 = find_at (λ (c : ListedClass). bytes_eq c.name name) classes ∙ ap (option_and_then (slice_get classes)) is ∙ here in
+    ap (λ (o : Option Bool). option_map_or (λ (b : Bool). b) o false) (slice_get-map is_fresh classes p ∙ ap (option_map is_fresh) here)
+    ∙ ap (λ (n : List ℕ). not s.0.is_interface && not (is_known built_in_classes n)) same
+    ∙ ap (λ (o : Option ListedClass). option_map_or (λ (c : ListedClass). not c.is_interface) o false && not (is_known built_in_classes name)) (sym found)
+
+pub fresh_is : (program : Program) (name : List ℕ) (p : ℕ) → class_place program.listing.classes name ≡ Some p
+    → option_map_or (λ (b : Bool). b) (slice_get (map is_fresh program.listing.classes) p) false ≡ is_listed_class program name
+fresh_is program name p is = tells_fresh program.listing.classes name (Some p) is
+
+pub fresh_not : (program : Program) (name : List ℕ) → class_place program.listing.classes name ≡ None → false ≡ is_listed_class program name
+fresh_not program name is = tells_fresh program.listing.classes name None is

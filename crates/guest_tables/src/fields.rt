@@ -1,14 +1,16 @@
 //! The places of fields in objects, which are made once.
 
 ghost use Rattle.std.specs.Prelude.{IfOk, filter, length, option_copied, slice_get, take, ◌+◌, ◌≡◌};
-ghost use Rattle.guest_model.specs.Layout.{fields_of, is_in_objects};
+ghost use Rattle.std.specs.Option.{option_map_or};
+ghost use Rattle.bytecode_model.specs.declared.program.LinkedClass.{LinkedClass};
+ghost use Rattle.guest_model.specs.Layout.{class_given, fields_of, is_in_objects};
 ghost use Rattle.guest_model.specs.Ready.{IsReady};
 ghost use Rattle.guest_tables.specs.Layout.{begins_of, counts_from, counts_of, own_count};
 
-use crate::given::class_given;
+use crate::given::{class_at, class_given, given_index};
 use crate::layout::is_in_objects;
 use bytecode_model::Program;
-use class_codec::{ClassFile, Member};
+use class_codec::Member;
 use mon_base::{List, NoMemory};
 use std::alloc::Global;
 use type_lattice::Indexed;
@@ -72,24 +74,45 @@ pub fn counts_of(alloc: Global, program: &Program) -> Result<List<List<u32>>, No
     Ok(counts)
 }
 
-/// How many fields a class has of its own in objects.
-fn own_count(file: &ClassFile) -> Result<u32, NoMemory>
-    ensures { IfOk result (λ count. count ≡ own_count file.now) }
+/// How many fields a class has of its own in objects: the count behind the last field.
+fn own_count(counts: &[u32], fields: &[Member]) -> u32
+    requires { counts.now ≡ counts_from 0 fields.now }
+    ensures { result ≡ length (filter is_in_objects fields.now) }
 {
-    let mut count = 0;
-    let mut left = file.fields.as_slice();
-    while let [member, rest @ ..] = left {
-        if is_in_objects(member) {
-            count = add(count, 1)?;
-        }
-        left = rest;
+    let last = fields.len();
+    counts[last]
+}
+
+/// The same of the given class with this index; 0 where there is none.
+fn own_count_at(program: &Program, counts: &List<List<u32>>, class: u32) -> u32
+    requires { counts.now ≡ counts_of program.now }
+    ensures { result ≡ option_map_or (λ (c : LinkedClass). own_count c.file) (slice_get program.now.classes class) 0 }
+{
+    let Some(of) = class_at(program, class) else {
+        return 0;
+    };
+    let Some(counts) = numbers_at(counts, class) else {
+        return 0;
+    };
+    own_count(counts.as_slice(), of.file.fields.as_slice())
+}
+
+/// The same of the given class with the name.
+fn own_count_of(program: &Indexed, counts: &List<List<u32>>, name: &[u8]) -> u32
+    requires ready { IsReady program.now }
+    requires counts { counts.now ≡ counts_of program.now }
+    ensures { result ≡ option_map_or (λ (c : LinkedClass). own_count c.file) (class_given program.now name.now) 0 }
+{
+    match given_index(program, name) {
+        Some(index) => own_count_at(program.program(), counts, index),
+        None => 0,
     }
-    Ok(count)
 }
 
 /// How many fields an object of the class has.
-fn count_of(program: &Indexed, name: &[u8]) -> Result<u32, NoMemory>
-    requires { IsReady program.now }
+fn count_of(program: &Indexed, counts: &List<List<u32>>, name: &[u8]) -> Result<u32, NoMemory>
+    requires ready { IsReady program.now }
+    requires counts { counts.now ≡ counts_of program.now }
     ensures { IfOk result (λ count. count ≡ length (fields_of program.now name.now)) }
 {
     let given = program.program().classes.len();
@@ -99,7 +122,7 @@ fn count_of(program: &Indexed, name: &[u8]) -> Result<u32, NoMemory>
         let Some(class) = class_given(program, at) else {
             return Ok(count);
         };
-        let own = own_count(&class.file)?;
+        let own = own_count_of(program, counts, at);
         let more = add(count, own)?;
         count = more;
         at = class.parent.as_slice();
@@ -108,13 +131,18 @@ fn count_of(program: &Indexed, name: &[u8]) -> Result<u32, NoMemory>
 }
 
 /// How many fields the objects of the superclass of each given class have.
-pub fn begins_of(alloc: Global, program: &Indexed) -> Result<List<u32>, NoMemory>
-    requires { IsReady program.now }
+pub fn begins_of(
+    alloc: Global,
+    program: &Indexed,
+    counts: &List<List<u32>>,
+) -> Result<List<u32>, NoMemory>
+    requires ready { IsReady program.now }
+    requires counts { counts.now ≡ counts_of program.now }
     ensures { IfOk result (λ begins. begins ≡ begins_of program.now) }
 {
     let mut begins = List::new(alloc);
     for class in program.program().classes.as_slice() {
-        begins.push(count_of(program, class.parent.as_slice())?)?;
+        begins.push(count_of(program, counts, class.parent.as_slice())?)?;
     }
     Ok(begins)
 }

@@ -1,6 +1,7 @@
 //! The given classes by their names, found in the index of all classes: a given class is none of the listing.
 
 ghost use Rattle.std.specs.Prelude.{option_copied, slice_get, ◌≡◌};
+ghost use Rattle.bytecode_model.specs.Places.{class_place};
 ghost use Rattle.guest_model.specs.Finding.{given_index};
 ghost use Rattle.guest_model.specs.Layout.{class_given};
 ghost use Rattle.guest_model.specs.Places.{class_index};
@@ -52,6 +53,17 @@ pub fn class_given<'a>(program: &'a Indexed, name: &[u8]) -> Option<&'a LinkedCl
 {
     match given_index(program, name) {
         Some(index) => class_at(program.program(), index),
+        None => None,
+    }
+}
+
+/// The place in the listing of the class with the name.
+pub fn listed_place(program: &Indexed, name: &[u8]) -> Option<usize>
+    ensures { result ≡ class_place program.now.listing.classes name.now }
+{
+    let listed = program.program().listing.classes.len();
+    match class_place(program, name) {
+        Some(place) => { if place < listed { Some(place) } else { None } }
         None => None,
     }
 }

@@ -1,22 +1,31 @@
 //! Linked programs that are ready to run, with tables that are made once.
 
 ghost use Rattle.std.specs.Prelude.{IfOk, OnOk, length, map, option_and_then, option_copied, option_map, slice_get, ◌++◌, ◌≡◌};
+ghost use Rattle.api_listing.specs.Listing.{is_known};
+ghost use Rattle.api_listing.specs.declared.types.ListedMethod.{ListedMethod};
+ghost use Rattle.bytecode_model.specs.declared.program.Method.{Method};
 ghost use Rattle.bytecode_model.specs.Classes.{classes_of, is_below, is_interface};
 ghost use Rattle.bytecode_model.specs.Heads.{head_of};
 ghost use Rattle.bytecode_model.specs.SearchOrder.{is_one_of, search_order};
 ghost use Rattle.bytecode_model.specs.declared.program.LinkedClass.{LinkedClass};
-ghost use Rattle.guest_model.specs.Calls.{name_at};
+ghost use Rattle.guest_model.specs.Answering.{is_listed_class};
+ghost use Rattle.guest_model.specs.Calling.{desc_named};
+ghost use Rattle.guest_model.specs.Calls.{arity, name_at};
 ghost use Rattle.guest_model.specs.Finding.{declared_in, given_index};
 ghost use Rattle.guest_model.specs.Layout.{class_given, place_of_field};
 ghost use Rattle.guest_model.specs.Places.{class_index, method_at};
 ghost use Rattle.guest_model.specs.Ready.{IsReady};
+ghost use Rattle.guest_tables.specs.Library.{gives};
 
+use crate::arities::{arities_of, count_at, counts_at};
 use crate::fields::{begins_of, count_before, counts_of, number_at, numbers_at};
-use crate::given::{class_given, class_index, given_index};
+use crate::given::{class_given, class_index, given_index, listed_place};
+use crate::library::{Gives, Library, gives_at, library_of, truth_at};
 use crate::methods::{Methods, method_in, methods_at, methods_of};
 use api_listing::ListedClass;
-use bytecode_model::{LinkedClass, Method, Program};
+use bytecode_model::{LinkedClass, Method, Program, Target};
 use class_index::{Classes, head_of, search_order};
+use guest_model::arity_of_row;
 use mon_base::{Bytes, List, NoMemory};
 use std::alloc::Global;
 use std::marker::Model;
@@ -33,6 +42,9 @@ pub struct Guest {
     begins: List<u32>,
     /// Of each field of each given class, and behind the last, how many of the fields before it are in objects.
     counts: List<List<u32>>,
+    /// How many arguments each method of each given class takes.
+    arities: List<List<u8>>,
+    library: Library,
 }
 
 impl Model for Guest {
@@ -43,7 +55,7 @@ impl Model for Guest {
 
     ghost view = { λ g. g.program };
 
-    ghost invariant = { λ g. IsGuest g.program g.classes g.methods g.begins g.counts };
+    ghost invariant = { λ g. IsGuest g.program g.classes g.methods g.begins g.counts g.arities g.library };
 }
 
 impl Guest {
@@ -55,14 +67,18 @@ impl Guest {
         let classes = classes_of(alloc, program.program())?;
         let classes = Classes::new(alloc, classes)?;
         let methods = methods_of(alloc, program.program())?;
-        let begins = begins_of(alloc, &program)?;
         let counts = counts_of(alloc, program.program())?;
+        let begins = begins_of(alloc, &program, &counts)?;
+        let arities = arities_of(alloc, program.program())?;
+        let library = library_of(alloc, &program.program().listing)?;
         Ok(Guest {
             program,
             classes,
             methods,
             begins,
             counts,
+            arities,
+            library,
         })
     }
 
@@ -143,6 +159,62 @@ impl Guest {
         ensures { option_copied result ≡ method_at self.now class method }
     {
         self.class(class)?.methods.as_slice().get(method as usize)
+    }
+
+    /// How many arguments the method takes that is named.
+    pub fn arity(&self, target: &Target) -> Option<u8>
+        ensures { result ≡ option_map arity (desc_named self.now target.now) }
+    {
+        match target {
+            Target::ApiMethod(index) => self.listed_arity(*index),
+            Target::Builtin(index) => arity_of_row(*index),
+            Target::Method { class, method } => self.given_arity(*class, *method),
+            Target::None
+            | Target::Field { .. }
+            | Target::ApiField(_)
+            | Target::ClassName(_)
+            | Target::Number(_)
+            | Target::Literal(_) => None,
+        }
+    }
+
+    /// The same of a listed method.
+    fn listed_arity(&self, index: u32) -> Option<u8>
+        ensures { result ≡ option_map (λ (m : ListedMethod). arity m.id.desc) (slice_get self.now.listing.methods index) }
+    {
+        count_at(&self.library.arities, index)
+    }
+
+    /// The same of a given one.
+    fn given_arity(&self, class: u32, method: u32) -> Option<u8>
+        ensures { result ≡ option_map (λ (m : Method). arity m.desc) (method_at self.now class method) }
+    {
+        let counts = counts_at(&self.arities, class)?;
+        count_at(counts, method)
+    }
+
+    /// What the listed method with this index gives.
+    pub fn gives(&self, method: u32) -> Option<&Gives>
+        ensures { option_copied result ≡ option_map (λ (m : ListedMethod). gives m.id.desc) (slice_get self.now.listing.methods method) }
+    {
+        gives_at(&self.library.gives, method)
+    }
+
+    /// Whether the class is one of the listing, or built in.
+    pub fn is_listed(&self, name: &[u8]) -> bool
+        ensures { result ≡ is_known self.now.listing.classes name.now }
+    {
+        listed_place(&self.program, name).is_some()
+    }
+
+    /// Whether an answer may make an object of the class: it is one of the listing, none of the built-in ones, and no interface.
+    pub fn is_fresh(&self, name: &[u8]) -> bool
+        ensures { result ≡ is_listed_class self.now name.now }
+    {
+        match listed_place(&self.program, name) {
+            Some(place) => truth_at(&self.library.fresh, place),
+            None => false,
+        }
     }
 
     /// Whether the class is of the other name, or one of its superclasses is.

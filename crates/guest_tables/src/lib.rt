@@ -10,13 +10,15 @@ mod given;
 mod guest;
 mod kinds;
 mod layout;
+mod library;
 mod methods;
 mod seen;
+mod spelling;
 
-pub use arities::arity_named;
 pub use finding::{client_run, is_run, method_run};
-pub use fitting::answer_fits;
+pub use fitting::fits_call;
 pub use guest::Guest;
 pub use kinds::{is_instance, is_thread, reference_of};
 pub use layout::new_of;
+pub use library::Gives;
 pub use seen::{characters, string_of, value_shown, values_shown};

@@ -32,11 +32,11 @@ fn position_of(monitors: &[Monitor], on: Value) -> Option<usize>
 }
 
 /// Whether another thread holds the monitor of the value.
-pub fn is_held_by_other(monitors: &[Monitor], thread: u32, on: Value) -> bool
+pub fn is_held_by_other(monitors: &[Monitor], thread: usize, on: Value) -> bool
     ensures { result ≡ is_held_by_other monitors.now thread on }
 {
     match place_of(monitors, on) {
-        Some(place) => monitors[place].owner != thread,
+        Some(place) => monitors[place].owner as usize != thread,
         None => false,
     }
 }

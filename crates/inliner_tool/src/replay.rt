@@ -76,7 +76,7 @@ fn steps_told(alloc: Global, program: Indexed, steps: &[Step]) -> Result<Bytes, 
 fn run_text(alloc: Global, guest: &Guest, count: u64, run: &Replayed) -> Result<Bytes, NoMemory>
     ensures { IfOk result (λ text. text ≡ run_text guest.now count run.now) }
 {
-    let end = end_told(ended(alloc, guest, &run.machine)?);
+    let end = end_told(ended(guest, &run.machine));
     events_text(
         alloc,
         &guest.program().listing,
