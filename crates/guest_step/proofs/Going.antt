@@ -1,21 +1,16 @@
 -- What a thread does, by what its next instruction is, and by what it does.
-use Rattle.std.proofs.Common.{◌≡◌, ℕ, Bool, true, false, cond, List, [], ◌∷◌, Option, Some, None, Result, Ok, Err, refl, sym, ap, ◌∙◌, subst}
-use Rattle.std.specs.Prelude.{IsSomeAnd, is_err, if◌then◌else◌, slice_get, option_map, option_and_then}
-use Rattle.std.specs.Option.{option_map_or, option_or}
-use Rattle.api_listing.specs.declared.events.Event.{Event}
+use Rattle.std.proofs.Common.{◌≡◌, ℕ, List, [], ◌∷◌, Option, Some, None, Result, Ok, Err, refl, sym, ap, ◌∙◌, subst}
+use Rattle.std.specs.Prelude.{IsSomeAnd, slice_get, option_map, option_and_then}
+use Rattle.std.specs.Option.{option_map_or}
 use Rattle.insn_codec.specs.declared.insn.Insn.{Insn}
 use Rattle.insn_codec.specs.declared.shape.Heap.{Heap}
 use Rattle.insn_codec.specs.Shapes.{shape_of}
 use Rattle.bytecode_model.specs.declared.program.Program.{Program}
 use Rattle.bytecode_model.specs.declared.program.Target.{Target}
 use Rattle.guest_heap.specs.declared.frame.Frame.{Frame}
-use Rattle.guest_heap.specs.declared.thread.Doing.{Doing}
 use Rattle.guest_heap.specs.declared.thread.Doing.TheVariants as doings
 use Rattle.guest_heap.specs.declared.thread.Thread.{Thread}
-use Rattle.guest_heap.specs.declared.value.Value.{Value}
-use Rattle.guest_frames.specs.Stepping.{after, frame_stepped}
-use Rattle.guest_model.specs.declared.machine.Choice.{Choice}
-use Rattle.guest_model.specs.declared.machine.Choice.TheVariants as choices
+use Rattle.guest_frames.specs.Stepping.{frame_stepped}
 use Rattle.guest_model.specs.declared.machine.Machine.{Machine}
 use Rattle.guest_model.specs.Places.{insn_at}
 use Rattle.guest_model.specs.Changes.{Change, world_of}

@@ -10,7 +10,7 @@ use Rattle.guest_heap.specs.declared.thread.Doing.TheVariants as doings
 use Rattle.guest_heap.specs.declared.thread.Thread.{Thread}
 use Rattle.guest_model.specs.declared.machine.Machine.{Machine}
 use Rattle.guest_model.specs.declared.machine.Step.{Step}
-use Rattle.guest_model.specs.Changes.{Change, World, applied, world_of}
+use Rattle.guest_model.specs.Changes.{Change, applied}
 use Rattle.guest_model.specs.Stepping.{changed, doing_stepped, stepped}
 use Rattle.guest_threads.specs.declared.fault.StepFault.{StepFault}
 use Rattle.guest_threads.specs.declared.fault.StepFault.TheVariants as faults

@@ -1,4 +1,4 @@
-use Rattle.std.proofs.Common.{sym, rules}
+use Rattle.std.proofs.Common.{rules}
 use Rattle.guest_threads.proofs.Held.{enters_there, entered_none}
 use Rattle.guest_threads.proofs.monitors.enter.Goals as goal
 

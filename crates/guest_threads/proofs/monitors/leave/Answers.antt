@@ -1,4 +1,4 @@
-use Rattle.std.proofs.Common.{rules, arith, refl}
+use Rattle.std.proofs.Common.{rules, refl}
 use Rattle.guest_threads.proofs.Held.{left_none, leaves_at, leaves_not}
 use Rattle.guest_threads.proofs.monitors.leave.Goals as goal
 
