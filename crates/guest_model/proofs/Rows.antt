@@ -7,7 +7,7 @@ use Rattle.api_listing.specs.Descriptor.{after_first, arguments_at, class_at, el
 use Rattle.guest_model.specs.Calls.{arity}
 use Rattle.guest_model.specs.Builtins.{builtin_of_row}
 use Rattle.guest_model.specs.declared.builtin.TheConstants.{BUILTINS}
-use Rattle.guest_model.specs.declared.calls.TheConstants.{ARITIES}
+use Rattle.guest_model.specs.declared.arities.TheConstants.{ARITIES}
 
 -- what is got from a table that has an item for each row
 pub row_got : {X : Type 0} (f : MethodRow → X) (table slice : List X) → map f method_rows ≡ table → slice ≡ table → (i : ℕ) (o : Option X)

@@ -6,16 +6,16 @@
 //! Monitors and Throwing.
 #![tactic(auto)]
 
+mod arities;
 mod builtin;
-mod calls;
 mod laws;
 mod laws_of_steps;
 mod machine;
 mod objects;
 mod thrown;
 
+pub use arities::{arity, arity_of_row, is_static_call};
 pub use builtin::{Builtin, builtin_at};
-pub use calls::{arity, arity_of_row, is_static_call};
 pub use laws::{
     handlers_cover, numbers_are_of_32_bits, other_threads_stay, sees_numbers_in_range,
     sees_only_what_is_called, sees_the_first_call, what_each_step_keeps_holds_always,

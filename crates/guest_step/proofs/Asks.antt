@@ -14,12 +14,13 @@ use Rattle.guest_heap.specs.declared.value.Value.{Value}
 use Rattle.guest_model.specs.declared.machine.Choice.{Choice}
 use Rattle.guest_model.specs.declared.machine.Choice.TheVariants as choices
 use Rattle.guest_model.specs.declared.machine.Machine.{Machine}
-use Rattle.guest_model.specs.Answering.{answer_fits}
+use Rattle.guest_model.specs.Answering.{answer_fits, answered, answered_well}
 use Rattle.guest_model.specs.Calls.{types_of}
-use Rattle.guest_model.specs.Changes.{Change}
+use Rattle.guest_model.specs.Changes.{Change, World}
 use Rattle.guest_model.specs.Enabled.{IsEnabled, MayStep}
 use Rattle.guest_model.specs.Stepping.{is_on_null}
 use Rattle.guest_tables.specs.declared.library.Gives.{Gives}
+use Rattle.guest_tables.specs.Answering.{method_takes}
 use Rattle.guest_tables.specs.Library.{gives}
 use Rattle.guest_step.specs.Asking.{EnabledAreSteps, FittingAreSteps, doing_takes, is_enabled, takes_answer}
 use Rattle.guest_step.specs.Ending.{can_step}
@@ -93,7 +94,15 @@ fitting_are_steps program machine number answer = (fits_enabled program machine 
 -- ---- taking one
 
 -- the answer is taken where it fits
-pub answered_so : (o : Option ListedMethod) (fits : ListedMethod → Bool) (change : Option Change) (b : Bool) → option_map_or fits o false ≡ b
+answered_so : (o : Option ListedMethod) (fits : ListedMethod → Bool) (change : Option Change) (b : Bool) → option_map_or fits o false ≡ b
     → option_and_then (λ (listed : ListedMethod). if fits listed then change else None) o ≡ (if b then change else None)
 answered_so None fits change b is = ap (λ (c : Bool). cond c change None) is
 answered_so (Some listed) fits change b is = ap (λ (c : Bool). cond c change None) is
+
+pub answered_is : (program : Program) (world : World) (number : ℕ) (thread : Thread) (method : ℕ) (receiver : Option Value) (arguments : List Value) (answer : ApiAnswer) (b : Bool)
+    → b ≡ method_takes program world.heap method receiver arguments answer
+    → answered program world number thread method receiver arguments answer ≡ (if b then answered_well program world number thread method receiver arguments answer else None)
+answered_is program world number thread method receiver arguments answer b is =
+    answered_so (slice_get program.listing.methods method) (λ (listed : ListedMethod). answer_fits program world.heap (types_of listed.id.desc).result receiver arguments answer)
+    (answered_well program world number thread method receiver arguments answer) b
+    (over program world.heap receiver arguments answer (slice_get program.listing.methods method) ∙ sym is)

@@ -2,7 +2,15 @@
 
 ghost use Rattle.std.specs.Prelude.{[], option_map, ◌≡◌};
 ghost use Rattle.guest_model.specs.Calls.{Taken, taken};
-ghost use Rattle.guest_model.specs.Enabled.{call_waits, heap_waits, lock_of_call, lock_wanted, thread_awaited, waits_for_monitor, waits_for_thread};
+ghost use Rattle.guest_model.specs.Enabled.{
+  call_waits,
+  heap_waits,
+  lock_of_call,
+  lock_wanted,
+  thread_awaited,
+  waits_for_monitor,
+  waits_for_thread,
+};
 ghost use Rattle.insn_codec.specs.declared.shape.Heap.TheVariants as heap;
 
 use bytecode_model::{Method, Target};

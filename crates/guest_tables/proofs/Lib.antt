@@ -2,3 +2,4 @@ pub mod GivenClasses
 mod Naming
 mod Nearest
 mod ObjectFields
+mod Told

@@ -2,7 +2,17 @@
 //! invokespecial.)
 
 ghost use Rattle.std.specs.Prelude.{◌≡◌};
-ghost use Rattle.guest_model.specs.Finding.{client_run, if_run, is_above, is_run, is_run_by_objects, method_itself, method_of_class, method_run, nearest_given};
+ghost use Rattle.guest_model.specs.Finding.{
+  client_run,
+  if_run,
+  is_above,
+  is_run,
+  is_run_by_objects,
+  method_itself,
+  method_of_class,
+  method_run,
+  nearest_given,
+};
 
 use crate::guest::Guest;
 use bytecode_model::{Method, has_flag, is_text};

@@ -189,8 +189,10 @@ impl Guest {
     fn given_arity(&self, class: u32, method: u32) -> Option<u8>
         ensures { result ≡ option_map (λ (m : Method). arity m.desc) (method_at self.now class method) }
     {
-        let counts = counts_at(&self.arities, class)?;
-        count_at(counts, method)
+        match counts_at(&self.arities, class) {
+            Some(counts) => count_at(counts, method),
+            None => None,
+        }
     }
 
     /// What the listed method with this index gives.
@@ -204,7 +206,10 @@ impl Guest {
     pub fn is_listed(&self, name: &[u8]) -> bool
         ensures { result ≡ is_known self.now.listing.classes name.now }
     {
-        listed_place(&self.program, name).is_some()
+        match listed_place(&self.program, name) {
+            Some(_) => true,
+            None => false,
+        }
     }
 
     /// Whether an answer may make an object of the class: it is one of the listing, none of the built-in ones, and no interface.

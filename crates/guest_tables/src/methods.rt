@@ -1,7 +1,23 @@
 //! The methods of the given classes by their names and descriptors, of which the first counts. The maps are made once.
 
 ghost use Rattle.std.specs.Option.{option_or};
-ghost use Rattle.std.specs.Prelude.{IfOk, List, None, OnOk, Some, bytes_eq, if◌then◌else◌, length, option_copied, slice_get, ℕ, ◌&&◌, ◌<◌, ◌^◌, ◌≡◌};
+ghost use Rattle.std.specs.Prelude.{
+  IfOk,
+  List,
+  None,
+  OnOk,
+  Some,
+  bytes_eq,
+  if◌then◌else◌,
+  length,
+  option_copied,
+  slice_get,
+  ℕ,
+  ◌&&◌,
+  ◌<◌,
+  ◌^◌,
+  ◌≡◌,
+};
 ghost use Rattle.guest_model.specs.Ready.{IsReady};
 ghost use Rattle.guest_tables.specs.Methods.{AreMethods, HasMethods, method_in, named};
 

@@ -1,7 +1,24 @@
 //! Frames that go on, and frames that begin.
 
 ghost use Rattle.std.specs.Option.{option_to_list};
-ghost use Rattle.std.specs.Prelude.{IfOk, IfSome, OnOk, Some, drop, length, nat_lt, not, option_copied, replicate, ◌++◌, ◌+◌, ◌-◌, ◌<◌, ◌^◌, ◌≡◌};
+ghost use Rattle.std.specs.Prelude.{
+  IfOk,
+  IfSome,
+  OnOk,
+  Some,
+  drop,
+  length,
+  nat_lt,
+  not,
+  option_copied,
+  replicate,
+  ◌++◌,
+  ◌+◌,
+  ◌-◌,
+  ◌<◌,
+  ◌^◌,
+  ◌≡◌,
+};
 ghost use Rattle.bytecode_model.specs.Heads.{is_synchronized};
 ghost use Rattle.guest_frames.specs.Stepping.{after, moved_to};
 ghost use Rattle.guest_heap.specs.declared.value.Value.TheVariants as values;

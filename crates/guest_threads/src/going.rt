@@ -61,7 +61,8 @@ pub fn call_throws(
     class: &[u8],
 ) -> Result<Option<Event>, StepFault>
     ensures { ActsIn result machine.old machine.new thread.old thread.new
-        (calling call.now thread.old thread.old.frames (λ (c : Calling). Some (call_throws program.now (world_of machine.old) c class.now))) }
+        (calling call.now thread.old thread.old.frames
+        (λ (c : Calling). Some (call_throws program.now (world_of machine.old) c class.now))) }
 {
     if thread.frames.top().is_none() {
         return Err(StepFault::NotEnabled);

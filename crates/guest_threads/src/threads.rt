@@ -2,7 +2,16 @@
 
 ghost use Rattle.std.specs.Prelude.{IfOk, [], option_map, ◌++◌, ◌∷◌, ◌≡◌};
 ghost use Rattle.guest_heap.specs.declared.thread.Thread.{Thread};
-ghost use Rattle.guest_model.specs.Calling.{aimed_at, begun_thread, has_ended, is_ended, started_as, thread_in, thread_of_value, with_changed};
+ghost use Rattle.guest_model.specs.Calling.{
+  aimed_at,
+  begun_thread,
+  has_ended,
+  is_ended,
+  started_as,
+  thread_in,
+  thread_of_value,
+  with_changed,
+};
 ghost use Rattle.guest_model.specs.Changes.{ended_thread};
 ghost use Rattle.guest_model.specs.Ready.{IsReady};
 ghost use Rattle.guest_threads.specs.Calls.{gone_past};

@@ -4,7 +4,19 @@ ghost use Rattle.std.specs.Prelude.{IfOk, IfSome, List, Ok, drop, ◌<◌, ◌�
 ghost use Rattle.guest_heap.specs.declared.object.Monitor.{Monitor};
 ghost use Rattle.guest_heap.specs.declared.value.Value.{Value};
 ghost use Rattle.guest_model.specs.Changes.{World};
-ghost use Rattle.guest_model.specs.Working.{ArrayAt, Worked, has_items, item_kind, kept, kept_number, length_told, on_array, on_items, place_among, reads_item};
+ghost use Rattle.guest_model.specs.Working.{
+  ArrayAt,
+  Worked,
+  has_items,
+  item_kind,
+  kept,
+  kept_number,
+  length_told,
+  on_array,
+  on_items,
+  place_among,
+  reads_item,
+};
 ghost use Rattle.guest_work.specs.Led.{IsOf, led};
 ghost use Rattle.guest_work.specs.Works.{Works, at, comes, with_monitors};
 

@@ -2,9 +2,9 @@ use Rattle.std.proofs.Common.{None, Some, length, refl, sym}
 use Rattle.std.proofs.lemmas.Option.{slice_get_past, slice_get_read}
 use Rattle.api_listing.specs.BuiltIn.{MethodRow}
 use Rattle.guest_model.specs.Calls.{arity}
-use Rattle.guest_model.specs.declared.calls.TheConstants.{ARITIES}
+use Rattle.guest_model.specs.declared.arities.TheConstants.{ARITIES}
 use Rattle.guest_model.proofs.Rows.{arities_are, row_got}
-use Rattle.guest_model.proofs.calls.arity_of_row.Goals as goal
+use Rattle.guest_model.proofs.arities.arity_of_row.Goals as goal
 
 pub returns-in-Some : goal.returns-in-Some
 returns-in-Some c =
