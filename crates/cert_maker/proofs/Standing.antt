@@ -44,7 +44,7 @@ use Rattle.block_logic.specs.Notes.{Here, row_fault, note_fault}
 use Rattle.block_logic.specs.Operands.{calls, loads_constant, pushes_state, is_state_name, is_variable, has_clause}
 use Rattle.block_logic.specs.Wanted.{handlers_of}
 use Rattle.bytecode_model.specs.Rules.{covers}
-use Rattle.guest_model.specs.Stepping.{is_exit}
+use Rattle.guest_model.specs.Parts.{is_exit}
 use Rattle.block_logic.proofs.ExitRows.{exit_at}
 use Rattle.class_weaving.specs.Outcome.{at_fronts, part_named, way_out_index}
 use Rattle.class_weaving.specs.Woven.{sites_of}

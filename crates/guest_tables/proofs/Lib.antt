@@ -1,0 +1,5 @@
+pub mod GivenClasses
+mod Naming
+mod Nearest
+mod ObjectFields
+mod Told
