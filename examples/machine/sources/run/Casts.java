@@ -33,20 +33,24 @@ public final class Casts {
         }
     }
 
-    private static int bit(boolean is) {
-        return is ? 1 : 0;
+    private static void put(boolean... are) {
+        int bits = 0;
+        for (boolean is : are) {
+            bits = 2 * bits + (is ? 1 : 0);
+        }
+        Out.put(bits);
     }
 
     private static void tell(Object o) {
-        Out.five(bit(o instanceof Object), bit(o instanceof Point), bit(o instanceof Dot), bit(o instanceof Small), bit(o instanceof String));
-        Out.five(bit(o instanceof Shape), bit(o instanceof Solid), bit(o instanceof Runnable), bit(o instanceof Thread), bit(o instanceof Class));
-        Out.five(bit(o instanceof Box), bit(o instanceof Kept), bit(o instanceof Throwable), bit(o instanceof RuntimeException), 0);
+        put(o instanceof Object, o instanceof Point, o instanceof Dot, o instanceof Small, o instanceof String);
+        put(o instanceof Shape, o instanceof Solid, o instanceof Runnable, o instanceof Thread, o instanceof Class);
+        put(o instanceof Box, o instanceof Kept, o instanceof Throwable, o instanceof RuntimeException);
     }
 
     private static void tellArrays(Object o) {
-        Out.five(bit(o instanceof int[]), bit(o instanceof byte[]), bit(o instanceof boolean[]), bit(o instanceof int[][]), bit(o instanceof Object[]));
-        Out.five(bit(o instanceof String[]), bit(o instanceof Point[]), bit(o instanceof Dot[]), bit(o instanceof Shape[]), bit(o instanceof Solid[]));
-        Out.five(bit(o instanceof Runnable[]), bit(o instanceof Object[][]), bit(o instanceof Runnable[][]), bit(o instanceof Shape[][]), bit(o instanceof Thread[]));
+        put(o instanceof int[], o instanceof byte[], o instanceof boolean[], o instanceof int[][], o instanceof Object[]);
+        put(o instanceof String[], o instanceof Point[], o instanceof Dot[], o instanceof Shape[], o instanceof Solid[]);
+        put(o instanceof Runnable[], o instanceof Object[][], o instanceof Runnable[][], o instanceof Shape[][], o instanceof Thread[]);
     }
 
     private static void cast(Object o) {
