@@ -1,5 +1,5 @@
 -- Notes are read exactly as they are spelled.
-use Rattle.std.proofs.Common.{◌≡◌, ℕ, ◌+◌, ◌<◌, Bool, true, false, eqb, List, [], ◌++◌, length, Result, Ok, refl, sym, ap, subst, ◌∙◌, FitsSigned, arith}
+use Rattle.std.proofs.Common.{◌≡◌, ℕ, ◌<◌, Bool, true, false, eqb, List, ◌++◌, length, Ok, refl, sym, ap, subst, ◌∙◌, FitsSigned, arith}
 use Rattle.std.specs.List.{flat_map, AllByRecursion}
 use Rattle.std.specs.Int.{w32}
 use Rattle.std.proofs.lemmas.Bool.{eqb-true}

@@ -1,5 +1,5 @@
 -- Which certificates can be spelled, and with how many variables.
-use Rattle.std.specs.Prelude.{◌≡◌, ℕ, ◌-◌, ◌<◌, ◌^◌, Bool, true, false, List, length, slice_get, Option, Some, None, FitsSigned, ⊤}
+use Rattle.std.specs.Prelude.{◌≡◌, ℕ, ◌-◌, Bool, true, false, List, length, slice_get, Option, Some, None, FitsSigned, ⊤}
 use Rattle.std.specs.List.{AllByRecursion, zip}
 use Rattle.std.specs.Int.{w32}
 use Rattle.mon_base.specs.Widths.{IsU1, IsU2, IsU4}

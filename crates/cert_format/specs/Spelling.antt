@@ -1,5 +1,5 @@
 -- The bytes of a certificate: the one spelling of each.
-use Rattle.std.specs.Prelude.{ℕ, ℤ, Bool, true, false, List, [], ◌++◌, length, Option, Some, None}
+use Rattle.std.specs.Prelude.{ℕ, ℤ, Bool, true, false, List, ◌++◌, length, Option, Some, None}
 use Rattle.std.specs.List.{flat_map, zip}
 use Rattle.std.specs.Int.{w32, cast_unsigned}
 use Rattle.mon_base.specs.Reading.{big_bytes}
