@@ -44,7 +44,27 @@ public final class Interfaces {
         }
     }
 
+    /** A class that leaves a method to those below it. */
+    abstract static class Half implements Both {
+        int half() {
+            return name().length() + size();
+        }
+    }
+
+    static class Whole extends Half {
+        public String name() {
+            return "whole";
+        }
+
+        public int size() {
+            return 7;
+        }
+    }
+
     public static void main(String[] words) {
+        Half half = new Whole();
+        Out.put(half.half() + half.size());
+        Out.say(half.name());
         Both[] all = {new Takes(), new Over(), new Runs()};
         for (Both one : all) {
             Named named = one;

@@ -29,6 +29,12 @@ public final class Joined {
         }
     }
 
+    static class Plain extends Thread {
+        Plain(Runnable target) {
+            super(target);
+        }
+    }
+
     static class Down implements Runnable {
         private final int depth;
 
@@ -63,6 +69,9 @@ public final class Joined {
             Out.five(number, adds.made, adds.number, sum, 0);
         }
         new Down(3).run();
+        Thread plain = new Plain(new Down(1));
+        plain.start();
+        plain.join();
         Thread twice = new Adds(1);
         twice.start();
         twice.join();
