@@ -168,47 +168,47 @@ class_found program name o e = find_at (λ (c : LinkedClass). bytes_eq c.name na
 
 -- ---- the listing
 
+parts : (program : Program) (name : List ℕ) → class_index program name
+    ≡ option_or (class_place program.listing.classes name)
+    (position_from (λ (c : ListedClass). bytes_eq c.name name) (length program.listing.classes) (map (λ (c : LinkedClass). head_of c.file) program.classes))
+parts program name =
+    behind_others (λ (c : ListedClass). bytes_eq c.name name) 0 (length program.listing.classes) program.listing.classes (map (λ (c : LinkedClass). head_of c.file) program.classes) (omega arith)
+
+-- the place of a class that is in the listing, or else that behind it
+placed : (program : Program) (name : List ℕ) (o : Option ℕ) → class_place program.listing.classes name ≡ o
+    → class_index program name
+    ≡ option_or o (position_from (λ (c : ListedClass). bytes_eq c.name name) (length program.listing.classes) (map (λ (c : LinkedClass). head_of c.file) program.classes))
+placed program name o is =
+    parts program name
+    ∙ ap (λ (p : Option ℕ). option_or p (position_from (λ (c : ListedClass). bytes_eq c.name name) (length program.listing.classes) (map (λ (c : LinkedClass). head_of c.file) program.classes))) is
+
 -- a place below that of the given classes is one in the listing, and no other is
 pub listed_there : (program : Program) (name : List ℕ) (p : ℕ) → class_index program name ≡ Some p → p < length program.listing.classes → class_place program.listing.classes name ≡ Some p
 listed_there program name p e l = by (class_place program.listing.classes name) refl where
-  test = λ (c : ListedClass). bytes_eq c.name name
-  heads = map (λ (c : LinkedClass). head_of c.file) program.classes
-
-  parts : class_index program name ≡ option_or (class_place program.listing.classes name) (position_from test (length program.listing.classes) heads)
-  parts = behind_others test 0 (length program.listing.classes) program.listing.classes heads (omega arith)
-
   by : (o : Option ℕ) → class_place program.listing.classes name ≡ o → o ≡ Some p
-  by (Some k) is = sym (parts ∙ ap (λ (o : Option ℕ). option_or o (position_from test (length program.listing.classes) heads)) is) ∙ e
+  by (Some k) is = sym (placed program name (Some k) is) ∙ e
   by None is =
-      let behind = stands test (length program.listing.classes) heads p (sym (parts ∙ ap (λ (o : Option ℕ). option_or o (position_from test (length program.listing.classes) heads)) is) ∙ e) in
-      absurd (omega (arith, behind.1))
+      let behind = stands (λ (c : ListedClass). bytes_eq c.name name) (length program.listing.classes) (map (λ (c : LinkedClass). head_of c.file) program.classes) p
+      (sym (placed program name None is) ∙ e) in
+      let above : length program.listing.classes ≤ p = behind.1 in
+      absurd (omega arith)
 
 pub listed_not : (program : Program) (name : List ℕ) (p : ℕ) → class_index program name ≡ Some p → length program.listing.classes ≤ p → class_place program.listing.classes name ≡ None
 listed_not program name p e l = by (class_place program.listing.classes name) refl where
-  test = λ (c : ListedClass). bytes_eq c.name name
-  heads = map (λ (c : LinkedClass). head_of c.file) program.classes
-
-  parts : class_index program name ≡ option_or (class_place program.listing.classes name) (position_from test (length program.listing.classes) heads)
-  parts = behind_others test 0 (length program.listing.classes) program.listing.classes heads (omega arith)
-
   by : (o : Option ℕ) → class_place program.listing.classes name ≡ o → o ≡ None
   by None is = refl
   by (Some k) is =
-      let same : k ≡ p = some_is _ _ (sym (parts ∙ ap (λ (o : Option ℕ). option_or o (position_from test (length program.listing.classes) heads)) is) ∙ e) in
-      let within : k < 0 + length program.listing.classes = position_within test 0 program.listing.classes k is in
+      let same : k ≡ p = some_is _ _ (sym (placed program name (Some k) is) ∙ e) in
+      let within : k < 0 + length program.listing.classes = position_within (λ (c : ListedClass). bytes_eq c.name name) 0 program.listing.classes k is in
       absurd (omega arith)
 
 pub listed_nowhere : (program : Program) (name : List ℕ) → class_index program name ≡ None → class_place program.listing.classes name ≡ None
 listed_nowhere program name e = by (class_place program.listing.classes name) refl where
-  test = λ (c : ListedClass). bytes_eq c.name name
-  heads = map (λ (c : LinkedClass). head_of c.file) program.classes
-
-  parts : class_index program name ≡ option_or (class_place program.listing.classes name) (position_from test (length program.listing.classes) heads)
-  parts = behind_others test 0 (length program.listing.classes) program.listing.classes heads (omega arith)
-
   by : (o : Option ℕ) → class_place program.listing.classes name ≡ o → o ≡ None
   by None is = refl
-  by (Some k) is = absurd cc
+  by (Some k) is =
+      let wrong : Some k ≡ None = sym (placed program name (Some k) is) ∙ e in
+      absurd cc
 
 -- ---- what a table tells of the listing
 

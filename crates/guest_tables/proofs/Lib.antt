@@ -1,5 +1,5 @@
 pub mod GivenClasses
-mod Naming
-mod Nearest
-mod ObjectFields
+pub mod Naming
+pub mod Nearest
+pub mod ObjectFields
 mod Told

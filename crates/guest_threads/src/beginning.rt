@@ -17,6 +17,7 @@ use type_lattice::Indexed;
 
 /// The argument of main: the array of no strings.
 fn main_argument(program: &Indexed) -> Value
+    requires { IsReady program.now }
     ensures { result ≡ main_argument program.now }
 {
     Value::Ref(program.program().listing.fields.len() as u32)
