@@ -46,7 +46,7 @@ use Rattle.block_template.specs.Flow.{
 }
 use Rattle.block_template.specs.Parts.{asks, branch_size, branches, branches_size, check, if_reached, item, lock, stop, tried, unlock, unreached, update_size, writes}
 use Rattle.block_template.specs.Pushing.{field, load, local, negated, push, push_base, store}
-use Rattle.block_template.proofs.Laying.{Laid, Leads, Run, entry, from, laid_entry, laid_got, laid_left, laid_right, more, nothing, joined}
+use Rattle.block_template.proofs.Laying.{Laid, Leads, Run, entry, from, laid_entry, laid_got, laid_left, laid_right, more, nothing, joined, upto}
 use Rattle.block_template.proofs.Sizes.{branches_length, tried_length}
 
 -- ---- what pushes and stores does not jump
@@ -112,6 +112,15 @@ module _ (mode : Mode) (bools : List Bool) (base : ℕ) (clauses : Clauses) (the
 
   pub join : {s m t : Role} (xs ys : List Item) → Led s xs m → Led m ys t → Led s (xs ++ ys) t
   join xs ys a b = joined Row role_of xs ys a b
+
+  pub begun : {s other t : Role} (xs : List Item) → s ≡ other → Led s xs t → Led other xs t
+  begun xs e a = from Row role_of xs e a
+
+  pub ended : {s t other : Role} (xs : List Item) → t ≡ other → Led s xs t → Led s xs other
+  ended xs e a = upto Row role_of xs e a
+
+  pub empty : (t : Role) → Led t [] t
+  empty t = nothing Row role_of t
 
   unreached_runs : (xs : List Item) (t : Role) → Run Row role_of (map unreached xs) t
   unreached_runs [] t = tt
