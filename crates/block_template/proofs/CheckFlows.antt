@@ -1,9 +1,9 @@
 -- A check flows as the graph tells.
-use Rattle.std.proofs.Common.{◌≡◌, ◌≢◌, ℕ, zero, suc, ◌+◌, Bool, true, false, List, [], ◌∷◌, ◌++◌, length, map, Option, Some, None, refl, ap, subst, sym, ◌∙◌, arith}
-use Rattle.std.specs.Prelude.{IfSome, ◌==◌, ℤ, pos, neg_ℤ, nat_lt, int_le, ◌&&◌, if◌then◌else◌, not, slice_get, option_map, option_and_then}
+use Rattle.std.proofs.Common.{◌≡◌, ◌≢◌, ℕ, ◌+◌, Bool, true, false, List, [], ◌∷◌, ◌++◌, length, map, Option, Some, None, refl, ap, subst, sym, ◌∙◌}
+use Rattle.std.specs.Prelude.{IfSome, ℤ, pos, neg_ℤ, nat_lt, int_le, ◌&&◌, if◌then◌else◌, not, slice_get, option_and_then}
 use Rattle.std.specs.Ordering.{int_eq}
 use Rattle.std.specs.Option.{option_map_or}
-use Rattle.insn_codec.specs.declared.opcodes.TheConstants.{ACONST_NULL, LDC_W, IADD, GOTO, GETSTATIC, PUTSTATIC, INVOKESTATIC, ATHROW, MONITORENTER, MONITOREXIT, ILOAD, ALOAD, ILOAD_0, ALOAD_0, ISTORE, ASTORE, ISTORE_0, ASTORE_0}
+use Rattle.insn_codec.specs.declared.opcodes.TheConstants.{GOTO, ILOAD, ALOAD, ILOAD_0, ALOAD_0, ISTORE, ASTORE, ISTORE_0, ASTORE_0}
 use Rattle.cert_format.specs.declared.certificate.Mode.{Mode}
 use Rattle.conspec_tree.specs.declared.types.Atom.{Atom}
 use Rattle.conspec_tree.specs.declared.types.Base.{Base}
@@ -14,38 +14,16 @@ use Rattle.conspec_tree.specs.declared.types.Phase.{Phase}
 use Rattle.conspec_tree.specs.declared.types.Update.{Update}
 use Rattle.conspec_tree.specs.declared.types.Update.TheVariants.{Set, Add}
 use Rattle.conspec_automaton.specs.declared.policy.Branch.{Branch}
-use Rattle.conspec_automaton.specs.declared.policy.Clause.{Clause}
 use Rattle.conspec_automaton.specs.Denying.{is_empty}
 use Rattle.offset_patch.specs.declared.block.BlockInsn.{BlockInsn}
-use Rattle.offset_patch.specs.declared.block.BlockInsn.TheVariants.{Plain, Byte, Short, Local, Want, Jump}
-use Rattle.offset_patch.specs.declared.block.PoolWant.TheVariants.{StateClass, Exit, Integer}
+use Rattle.offset_patch.specs.declared.block.BlockInsn.TheVariants.{Jump}
 use Rattle.block_template.specs.declared.item.Item.{Item}
 use Rattle.block_template.specs.declared.item.Role.{Role}
 use Rattle.block_template.specs.declared.item.Role.TheVariants as roles
-use Rattle.block_template.specs.Blocks.{Clauses, checked, goes_on}
-use Rattle.block_template.specs.Flow.{
-  IsLed,
-  ask_insn,
-  branch_at,
-  branches_in,
-  branches_of,
-  checked_in,
-  clause_in,
-  held,
-  insn_of,
-  jump_of,
-  jumps,
-  locked_for,
-  made,
-  next,
-  tries,
-  unlocked_in,
-  update_goes,
-  update_insn,
-  updated,
-}
-use Rattle.block_template.specs.Parts.{asks, branch_size, branches, branches_size, check, if_reached, item, lock, stop, tried, unlock, unreached, update_size, writes}
-use Rattle.block_template.specs.Pushing.{field, load, local, negated, push, push_base, store}
+use Rattle.block_template.specs.Blocks.{Clauses}
+use Rattle.block_template.specs.Flow.{IsLed, ask_insn, branch_at, branches_in, checked_in, clause_in, held, insn_of, jump_of, jumps, locked_for, made, next, tries, unlocked_in, update_goes, update_insn, updated}
+use Rattle.block_template.specs.Parts.{asks, branch_size, branches, branches_size, if_reached, item, lock, stop, tried, unlock, unreached, writes}
+use Rattle.block_template.specs.Pushing.{load, local, negated, push, push_base, store}
 use Rattle.block_template.proofs.Laying.{Laid, Leads, Run, entry, from, laid_entry, laid_got, laid_left, laid_right, more, nothing, joined, upto}
 use Rattle.block_template.proofs.Sizes.{branches_length, tried_length}
 
@@ -92,16 +70,16 @@ base_stays bools base bases.Result = local_stays ILOAD_0 ILOAD base
 abbrev pub role_of : Item → Role
 role_of i = i.role
 
-module _ (mode : Mode) (bools : List Bool) (base : ℕ) (clauses : Clauses) (there : ℕ → Role) where
+module _ (mode : Mode) (bools : List Bool) (base : ℕ) (clauses : Clauses) (end : ℕ) (there : ℕ → Role) where
   -- An item that is reached is led.
   abbrev pub Row : Item → Role → Type 0
-  Row i t = i.role ≢ roles.Unreached → IsLed mode bools base clauses there i t
+  Row i t = i.role ≢ roles.Unreached → IsLed mode bools base clauses end there i t
 
   abbrev pub Led : Role → List Item → Role → Type 0
   Led s part t = Leads Row role_of s part t
 
   -- one that does not jump
-  pub plain : (insn : BlockInsn) (role m : Role) → Stays insn → insn_of bools base clauses 0 role ≡ Some insn → next mode clauses role ≡ m → Row (item insn role) m
+  pub plain : (insn : BlockInsn) (role m : Role) → Stays insn → insn_of bools base clauses end 0 role ≡ Some insn → next mode clauses role ≡ m → Row (item insn role) m
   plain insn role m stays is goes reached = record { is = (0, is); passes = λ may. sym goes; lands = subst (λ (o : Option ℕ). IfSome o (λ place. there place ≡ jumps mode clauses role)) (sym stays) tt }
 
   pub go : {m t : Role} (i : Item) (xs : List Item) → Row i m → Led m xs t → Led i.role (i ∷ xs) t

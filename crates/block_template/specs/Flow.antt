@@ -20,7 +20,7 @@ use Rattle.block_template.specs.declared.item.Role.TheVariants as roles
 use Rattle.offset_patch.specs.declared.block.PoolWant.TheVariants.{StateClass, Exit}
 use Rattle.block_template.specs.Parts.{update_size}
 use Rattle.block_template.specs.Pushing.{store, load, push, field, push_base, negated}
-use Rattle.block_template.specs.Blocks.{Clauses, goes_on, handler_at, is_locked, items, kept}
+use Rattle.block_template.specs.Blocks.{Clauses, catches, goes_on, handler_at, is_locked, items}
 
 -- ---- a check
 
@@ -217,23 +217,23 @@ abbrev pub taking : Bool → BlockInsn
 taking false = Want LDC_W StateClass
 taking true = Plain MONITORENTER
 
--- the instruction of a role; a jump goes to the place `to`
-abbrev pub insn_of : List Bool → ℕ → Clauses → ℕ → Role → Option BlockInsn
-insn_of bools base clauses to (roles.Save zero) = None
-insn_of bools base clauses to (roles.Save (suc n)) = option_map (λ (k : Kind). store k (base + n)) (argument_at clauses n)
-insn_of bools base clauses to (roles.Lock phase pushed) = Some (taking pushed)
-insn_of bools base clauses to (roles.Ask phase branch atom pushed) = option_and_then (ask_insn bools base to pushed) (atom_at clauses phase branch atom)
-insn_of bools base clauses to (roles.Update phase branch update done) = option_and_then (update_insn bools done) (update_at clauses phase branch update)
-insn_of bools base clauses to (roles.Taken phase branch) = Some (Jump GOTO to)
-insn_of bools base clauses to (roles.Stop phase done) = stop_insn done
-insn_of bools base clauses to (roles.Unlock phase checked pushed) = Some (leaving pushed)
-insn_of bools base clauses to (roles.Load n locked) = option_map (λ (k : Kind). load k (base + n)) (argument_at clauses n)
-insn_of bools base clauses to (roles.Call locked) = Some Call
-insn_of bools base clauses to (roles.Keep locked) = option_map (λ (k : Kind). store k base) (result_in clauses)
-insn_of bools base clauses to roles.Give = option_map (λ (k : Kind). load k base) (result_in clauses)
-insn_of bools base clauses to roles.Leave = Some (Jump GOTO to)
-insn_of bools base clauses to roles.Rethrow = Some (Plain ATHROW)
-insn_of bools base clauses to roles.Unreached = None
+-- the instruction of a role, in a block that ends at `end`; what jumps within it goes to the place `to`
+abbrev pub insn_of : List Bool → ℕ → Clauses → ℕ → ℕ → Role → Option BlockInsn
+insn_of bools base clauses end to (roles.Save zero) = None
+insn_of bools base clauses end to (roles.Save (suc n)) = option_map (λ (k : Kind). store k (base + n)) (argument_at clauses n)
+insn_of bools base clauses end to (roles.Lock phase pushed) = Some (taking pushed)
+insn_of bools base clauses end to (roles.Ask phase branch atom pushed) = option_and_then (ask_insn bools base to pushed) (atom_at clauses phase branch atom)
+insn_of bools base clauses end to (roles.Update phase branch update done) = option_and_then (update_insn bools done) (update_at clauses phase branch update)
+insn_of bools base clauses end to (roles.Taken phase branch) = Some (Jump GOTO to)
+insn_of bools base clauses end to (roles.Stop phase done) = stop_insn done
+insn_of bools base clauses end to (roles.Unlock phase checked pushed) = Some (leaving pushed)
+insn_of bools base clauses end to (roles.Load n locked) = option_map (λ (k : Kind). load k (base + n)) (argument_at clauses n)
+insn_of bools base clauses end to (roles.Call locked) = Some Call
+insn_of bools base clauses end to (roles.Keep locked) = option_map (λ (k : Kind). store k base) (result_in clauses)
+insn_of bools base clauses end to roles.Give = option_map (λ (k : Kind). load k base) (result_in clauses)
+insn_of bools base clauses end to roles.Leave = Some (Jump GOTO end)
+insn_of bools base clauses end to roles.Rethrow = Some (Plain ATHROW)
+insn_of bools base clauses end to roles.Unreached = None
 
 -- ---- the block is that graph
 
@@ -261,10 +261,10 @@ jump_of (Local op slot wide) = None
 jump_of (Want op want) = None
 jump_of Call = None
 
--- An item is that of its role, and control goes from it as the graph tells, where `there` tells what is so at a place, and this is so
--- behind it.
-pub record IsLed (mode : Mode) (bools : List Bool) (base : ℕ) (clauses : Clauses) (there : ℕ → Role) (i : Item) (after : Role) : Type 0 where
-  pub is : (to : ℕ) × (insn_of bools base clauses to i.role ≡ Some i.insn)
+-- An item of a block that ends at `end` has the instruction of its role, and control goes from it as the graph tells: `there` tells
+-- what is so at each place of the block, and `after` is so behind the item.
+pub record IsLed (mode : Mode) (bools : List Bool) (base : ℕ) (clauses : Clauses) (end : ℕ) (there : ℕ → Role) (i : Item) (after : Role) : Type 0 where
+  pub is : (to : ℕ) × (insn_of bools base clauses end to i.role ≡ Some i.insn)
   pub passes : may_pass i.insn ≡ true → after ≡ next mode clauses i.role
   pub lands : IfSome (jump_of i.insn) (λ place. there place ≡ jumps mode clauses i.role)
 
@@ -278,8 +278,9 @@ pub record AreForPhases (clauses : Clauses) : Type 0 where
 pub record Flows (mode : Mode) (bools : List Bool) (base : ℕ) (clauses : Clauses) (items : List Item) (handler : Option ℕ) : Type 0 where
   pub begins : role_at items 0 ≡ entered mode clauses.before
   pub goes : (at : ℕ) (i : Item) → slice_get items at ≡ Some i → i.role ≢ roles.Unreached
-      → IsLed mode bools base clauses (role_at items) i (role_at items (at + 1))
-  pub catches : goes_on clauses.before ≡ true → IfSome handler (λ place. role_at items place ≡ thrown mode clauses.exceptional)
+      → IsLed mode bools base clauses (length items) (role_at items) i (role_at items (at + 1))
+  pub handles : is_some handler ≡ catches mode clauses.exceptional
+  pub caught : goes_on clauses.before ≡ true → IfSome handler (λ place. role_at items place ≡ thrown mode clauses.exceptional)
 
 -- So does each block.
 abbrev pub BlocksFlow : Type 0
