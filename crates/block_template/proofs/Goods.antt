@@ -39,7 +39,7 @@ use Rattle.block_template.specs.Good.{AreNumbers, HasNumbers, PlansAreGood}
 use Rattle.block_template.specs.Parts.{if_reached, unreached}
 use Rattle.block_template.specs.Pushing.{bools_in}
 use Rattle.block_template.specs.Room.{HasLocal, HasLocals, IsRoomy, IsShort}
-use Rattle.block_template.proofs.Insns.{AsksKnown, AsksNumber, IsKnown, IsOwn, MakesNumber, Names, names_rows, own_rows}
+use Rattle.block_template.proofs.Insns.{AsksKnown, AsksNumber, HasIndex, IsKnown, IsOwn, MakesNumber, Names, names_rows, number_of, own_rows}
 use Rattle.block_template.proofs.Policies.{Found, IsOf, clause_is, found_is, policy_roomy}
 use Rattle.block_template.proofs.Rows.{Tried, all_joined, front_each, rest_each}
 use Rattle.block_template.proofs.Sizes.{behind_short, caught_short, front_short, mapped_length, reached_length, rest, with_handler_length, handler_length}
@@ -138,7 +138,7 @@ handler_within mode bools base clauses = by (catches mode clauses.exceptional) r
 -- ---- the branches of a policy
 
 module _ (vars : List Var) (maxint : ℤ) (askable : Askable) where
-  number_fits : maxint ≤ℤ pos 1000000000 → (update : Update) → IsUpdateIn vars maxint update → MakesNumber update
+  number_fits : maxint ≤ℤ pos 1000000000 → (update : Update) → IsUpdateIn vars maxint update → FitsSigned w32 (number_of update)
   number_fits most (Set var value) is = ranged is.variable.is_bool is.fits
     where
       ranged : (b : Bool) → IsInRange maxint b value → FitsSigned w32 value
@@ -146,20 +146,38 @@ module _ (vars : List Var) (maxint : ℤ) (askable : Askable) where
       ranged false r = let low = r.low in let high = r.high in grind (arith, ints)
   number_fits most (Add var by) is = let low = is.fits.1.0 in let high = is.fits.1.1 in grind (arith, ints)
 
-  numbers_fit : maxint ≤ℤ pos 1000000000 → (updates : List Update) → AllByRecursion (IsUpdateIn vars maxint) updates → AllByRecursion MakesNumber updates
-  numbers_fit most [] all = tt
-  numbers_fit most (u ∷ updates) all = (number_fits most u all.0, numbers_fit most updates all.1)
+  update_fits : length vars ≤ 16 → maxint ≤ℤ pos 1000000000 → (update : Update) → IsUpdateIn vars maxint update → MakesNumber update
+  update_fits few most update is = record {
+    index = omega (arith, slice_get_within vars (variable_of update) is.variable is.there);
+    number = number_fits most update is;
+  }
 
-  asks_fit : (base : ℕ) (atoms : List Atom) → AllByRecursion (λ (a : Atom). HasLocal base a.base) atoms
-      → AllByRecursion (λ (a : Atom). FitsSigned w32 a.value) atoms → AllByRecursion (AsksNumber base) atoms
-  asks_fit base [] locals numbers = tt
-  asks_fit base (atom ∷ atoms) locals numbers = (record { local = locals.0; number = numbers.0 }, asks_fit base atoms locals.1 numbers.1)
+  updates_fit : length vars ≤ 16 → maxint ≤ℤ pos 1000000000 → (updates : List Update) → AllByRecursion (IsUpdateIn vars maxint) updates
+      → AllByRecursion MakesNumber updates
+  updates_fit few most [] all = tt
+  updates_fit few most (u ∷ updates) all = (update_fits few most u all.0, updates_fit few most updates all.1)
 
-  pub tried_fit : (base : ℕ) (branches : List Branch) → maxint ≤ℤ pos 1000000000 → AllByRecursion (IsBranchIn vars maxint askable) branches
-      → AllByRecursion (HasLocals base) branches → AllByRecursion AreNumbers branches → AllByRecursion (Tried (AsksNumber base) MakesNumber) branches
-  tried_fit base [] most are locals numbers = tt
-  tried_fit base (branch ∷ branches) most are locals numbers =
-      ((asks_fit base branch.atoms locals.0 numbers.0, numbers_fit most branch.updates are.0.updates), tried_fit base branches most are.1 locals.1 numbers.1)
+  index_fits : length vars ≤ 16 → (asks : Base) → IsBase (length vars) askable asks → HasIndex asks
+  index_fits few (bases.Var var) is = omega arith
+  index_fits few (bases.Arg i) is = tt
+  index_fits few bases.Result is = tt
+
+  asks_fit : length vars ≤ 16 → (base : ℕ) (atoms : List Atom) → AreAtoms (length vars) askable atoms
+      → AllByRecursion (λ (a : Atom). HasLocal base a.base) atoms → AllByRecursion (λ (a : Atom). FitsSigned w32 a.value) atoms
+      → AllByRecursion (AsksNumber base) atoms
+  asks_fit few base [] are locals numbers = tt
+  asks_fit few base (atom ∷ atoms) are locals numbers =
+      (record { local = locals.0; index = index_fits few atom.base are.0; number = numbers.0 }, asks_fit few base atoms are.1 locals.1 numbers.1)
+
+  pub tried_fit : (base : ℕ) (branches : List Branch) → length vars ≤ 16 → maxint ≤ℤ pos 1000000000
+      → AllByRecursion (IsBranchIn vars maxint askable) branches → AllByRecursion (HasLocals base) branches → AllByRecursion AreNumbers branches
+      → AllByRecursion (Tried (AsksNumber base) MakesNumber) branches
+  tried_fit base [] few most are locals numbers = tt
+  tried_fit base (branch ∷ branches) few most are locals numbers =
+      (
+        (asks_fit few base branch.atoms are.0.atoms locals.0 numbers.0, updates_fit few most branch.updates are.0.updates),
+        tried_fit base branches few most are.1 locals.1 numbers.1,
+      )
 
   -- the variables are there
 
@@ -204,7 +222,7 @@ all_fit : (policy : Policy) (base : ℕ) (phase : Phase) (o : Option Clause) →
     → IfSome o (λ c. AllByRecursion AreNumbers c.branches) → IfSome o (λ c. AllByRecursion (Tried (AsksNumber base) MakesNumber) c.branches)
 all_fit policy base phase None read is short numbers = tt
 all_fit policy base phase (Some c) read is short numbers =
-    tried_fit policy.vars policy.maxint (asked c.phase c.args c.result) base c.branches read.maxint_high is.fits.branches short.locals numbers
+    tried_fit policy.vars policy.maxint (asked c.phase c.args c.result) base c.branches read.few_vars read.maxint_high is.fits.branches short.locals numbers
 
 abbrev KnownIn : List Bool → Branch → Type 0
 KnownIn bools = Tried (λ atom. AsksKnown bools atom.base) (λ update. IsKnown bools (variable_of update))

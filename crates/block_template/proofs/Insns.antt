@@ -1,6 +1,6 @@
 -- The instructions of blocks are such, stay in their block, and name variables that are there.
 use Rattle.std.proofs.Common.{◌≡◌, ℕ, zero, suc, ◌+◌, ◌<◌, ◌≤◌, ◌^◌, ℤ, pos, neg_ℤ, Bool, true, false, List, ◌∷◌, Some, refl, arith, FitsSigned}
-use Rattle.std.specs.Prelude.{IfSome, ◌&&◌, if◌then◌else◌, int_le, nat_le, nat_lt, slice_get, ⊤}
+use Rattle.std.specs.Prelude.{IfSome, IsTrue, ◌&&◌, if◌then◌else◌, int_le, nat_le, nat_lt, slice_get, ⊤}
 use Rattle.std.specs.Int.{w8, w16, w32}
 use Rattle.std.specs.Ordering.{int_eq}
 use Rattle.std.specs.Option.{option_map_or}
@@ -8,10 +8,10 @@ use Rattle.std.proofs.lemmas.Bool.{and_parts}
 use Rattle.std.proofs.lemmas.Bool.Decides.{nat_tests}
 use Rattle.std.proofs.lemmas.Int.{ints}
 use Rattle.insn_codec.specs.declared.opcode.Operands.TheVariants as ops
-use Rattle.insn_codec.specs.declared.opcodes.TheConstants.{ICONST_M1, ICONST_0, ICONST_1, ICONST_2, ICONST_3, ICONST_4, ICONST_5, LDC_W, ILOAD, ALOAD, ILOAD_0, ALOAD_0, ISTORE, ASTORE, ISTORE_0, ASTORE_0}
+use Rattle.insn_codec.specs.declared.opcodes.TheConstants.{ICONST_M1, ICONST_0, ICONST_1, ICONST_2, ICONST_3, ICONST_4, ICONST_5, LDC_W, ILOAD, ALOAD, ILOAD_0, ALOAD_0, ISTORE, ASTORE, ISTORE_0, ASTORE_0, GETSTATIC, PUTSTATIC}
 use Rattle.insn_codec.specs.Opcodes.{opcode_at, operands_of}
 use Rattle.insn_codec.specs.Fits.{FitsSlot}
-use Rattle.mon_base.specs.Widths.{IsU1}
+use Rattle.mon_base.specs.Widths.{IsU1, IsU4}
 use Rattle.conspec_tree.specs.declared.types.Atom.{Atom}
 use Rattle.conspec_tree.specs.declared.types.Base.{Base}
 use Rattle.conspec_tree.specs.declared.types.Base.TheVariants as bases
@@ -25,10 +25,10 @@ use Rattle.conspec_tree.specs.Updates.{target}
 use Rattle.offset_patch.specs.declared.block.BlockInsn.{BlockInsn}
 use Rattle.offset_patch.specs.declared.block.BlockInsn.TheVariants.{Plain, Byte, Short, Want, Jump}
 use Rattle.offset_patch.specs.declared.block.PoolWant.TheVariants.{Integer}
-use Rattle.offset_patch.specs.Fits.{IsBlockInsn, JumpsWithin, calls_in}
+use Rattle.offset_patch.specs.Fits.{IsBlockInsn, JumpsWithin, calls_in, takes}
 use Rattle.offset_patch.specs.Plan.{NamesVariable}
 use Rattle.offset_patch.specs.Splicing.{want_of}
-use Rattle.block_template.specs.Pushing.{load, local, negated, push, push_base, store}
+use Rattle.block_template.specs.Pushing.{field, load, local, negated, push, push_base, store}
 use Rattle.block_template.specs.Room.{HasLocal}
 use Rattle.block_template.proofs.Rows.{Rows}
 
@@ -138,10 +138,20 @@ load_own : (count : ℕ) (kind : Kind) (slot : ℕ) → slot < 2 ^ 16 → IsOwn 
 load_own count kinds.Object slot few = load_object count slot few
 load_own count kind slot few = load_number count slot few
 
-base_own : (bools : List Bool) (base count : ℕ) (asks : Base) → HasLocal base asks → IsOwn count (push_base bools base asks)
-base_own bools base count (bases.Var var) has = record { fits = (refl, tt); stays = tt; once = λ insns. refl }
-base_own bools base count (bases.Arg i) has = load_number count (base + i) has
-base_own bools base count bases.Result has = load_number count base has
+-- an opcode that takes a field, and the field of a variable of this index
+variable : (bools : List Bool) (count op var : ℕ) → IsTrue (takes (field bools var) op) → IsU4 var → IsOwn count (Want op (field bools var))
+variable bools count op var is small = record { fits = (is, small); stays = tt; once = λ insns. refl }
+
+-- The index of a variable that is asked has 32 bits.
+abbrev pub HasIndex : Base → Type 0
+HasIndex (bases.Var var) = IsU4 var
+HasIndex (bases.Arg i) = ⊤
+HasIndex bases.Result = ⊤
+
+base_own : (bools : List Bool) (base count : ℕ) (asks : Base) → HasLocal base asks → HasIndex asks → IsOwn count (push_base bools base asks)
+base_own bools base count (bases.Var var) has small = variable bools count GETSTATIC var refl small
+base_own bools base count (bases.Arg i) has small = load_number count (base + i) has
+base_own bools base count bases.Result has small = load_number count base has
 
 jump : (count op place : ℕ) → IsU1 op → operands_of op ≡ ops.Branch → place ≤ count → IsOwn count (Jump op place)
 jump count op place small is within = record { fits = (small, is); stays = within; once = λ insns. refl }
@@ -160,12 +170,15 @@ abbrev pub number_of : Update → ℤ
 number_of (Set var value) = value
 number_of (Add var by) = by
 
+-- What an atom asks stands in a local, and its numbers have 32 bits.
 pub record AsksNumber (base : ℕ) (atom : Atom) : Type 0 where
   pub local : HasLocal base atom.base
+  pub index : HasIndex atom.base
   pub number : FitsSigned w32 atom.value
 
-abbrev pub MakesNumber : Update → Type 0
-MakesNumber update = FitsSigned w32 (number_of update)
+pub record MakesNumber (update : Update) : Type 0 where
+  pub index : IsU4 (target update)
+  pub number : FitsSigned w32 (number_of update)
 
 pub own_rows : (bools : List Bool) (base count : ℕ) → Rows (IsOwn count) (λ slot. slot < 2 ^ 16) (AsksNumber base) MakesNumber bools base count
 unfolding opcode_at
@@ -180,14 +193,14 @@ own_rows bools base count = record {
   sum = plain count _ (omega arith) refl;
   stores = store_own count;
   loads = load_own count;
-  bases = λ atom asks. base_own bools base count atom.base asks.local;
+  bases = λ atom asks. base_own bools base count atom.base asks.local asks.index;
   constants = λ atom asks. push_own count atom.value asks.number;
   tests = test_own count;
   leaves = λ place within. jump count _ place (omega arith) refl within;
-  sets = λ var value makes. (push_own count value makes, record { fits = (refl, tt); stays = tt; once = λ insns. refl });
+  sets = λ var value makes. (push_own count value makes.number, variable bools count PUTSTATIC var refl makes.index);
   adds = λ var by makes. (
-    record { fits = (refl, tt); stays = tt; once = λ insns. refl },
-    (push_own count by makes, record { fits = (refl, tt); stays = tt; once = λ insns. refl }),
+    variable bools count GETSTATIC var refl makes.index,
+    (push_own count by makes.number, variable bools count PUTSTATIC var refl makes.index),
   );
 }
 

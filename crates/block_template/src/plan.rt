@@ -3,7 +3,8 @@
 ghost use Rattle.std.specs.Prelude.{◌≡◌, ◌+◌, ◌<◌, ◌^◌, IfOk};
 ghost use Rattle.conspec_automaton.specs.Sound.{IsPolicy};
 ghost use Rattle.offset_patch.specs.Fits.{IsSite};
-ghost use Rattle.block_template.specs.Blocks.{plan_of};
+ghost use Rattle.offset_patch.specs.Plan.{IsGood};
+ghost use Rattle.block_template.specs.Blocks.{bools_of, plan_of};
 
 use crate::blocks::{block, locals_used};
 use crate::numbers::numbers_fit;
@@ -38,7 +39,9 @@ impl<'a> PolicyPlan<'a> {
     /// The plan of the policy.
     pub fn new(policy: &'a Policy, mode: Mode) -> PolicyPlan<'a>
         requires { IsPolicy policy.now }
-        ensures { result ≡ record { policy = policy.now; mode = mode } }
+        ensures is { result ≡ record { policy = policy.now; mode = mode } }
+        // It can be spliced.
+        ensures good { IsGood (bools_of policy.now) (plan_of policy.now mode) }
     {
         numbers_fit(policy);
         PolicyPlan { policy, mode }
