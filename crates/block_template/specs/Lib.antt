@@ -5,3 +5,5 @@ pub mod Denial
 pub mod Room
 pub mod Good
 pub mod Flow
+pub mod Frames
+pub mod Typed

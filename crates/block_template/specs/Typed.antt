@@ -1,0 +1,99 @@
+-- Each instruction of a block meets the rules of typing: the types before it are told by its role.
+use Rattle.std.specs.Prelude.{◌≡◌, ℕ, ◌+◌, ◌≤◌, ℤ, Bool, true, false, codes, List, [], ◌∷◌, length, map, Option, Some, is_some, IfSome}
+use Rattle.class_codec.specs.declared.tree.Const.{Const}
+use Rattle.cert_format.specs.declared.certificate.Mode.{Mode}
+use Rattle.cert_format.specs.declared.typing.FrameType.{FrameType}
+use Rattle.insn_codec.specs.declared.insn.Insn.{Insn}
+use Rattle.insn_codec.specs.declared.shape.Kind.{Kind as Operand}
+use Rattle.insn_codec.specs.declared.shape.Kind.TheVariants as operands
+use Rattle.bytecode_model.specs.declared.program.Method.{Method}
+use Rattle.bytecode_model.specs.declared.program.Target.TheVariants as target
+use Rattle.bytecode_model.specs.Makes.{topmost}
+use Rattle.bytecode_model.specs.Place.{Place, desc_referred, name_referred}
+use Rattle.bytecode_model.specs.Rules.{Depth, Operand as TakesOperands, Local, Made, goes_well}
+use Rattle.bytecode_model.specs.Wants.{Want, of_kind, all_met}
+use Rattle.conspec_tree.specs.declared.types.Kind.{Kind}
+use Rattle.conspec_tree.specs.declared.types.Kind.TheVariants as kinds
+use Rattle.conspec_tree.specs.declared.types.Phase.{Phase}
+use Rattle.conspec_tree.specs.declared.types.Var.{Var}
+use Rattle.conspec_automaton.specs.Sound.{IsClauseIn}
+use Rattle.offset_patch.specs.declared.block.BlockInsn.{BlockInsn}
+use Rattle.offset_patch.specs.declared.block.PoolWant.{PoolWant}
+use Rattle.offset_patch.specs.declared.block.PoolWant.TheVariants.{StateClass, StateField, Exit, Integer}
+use Rattle.offset_patch.specs.Entries.{variable_type}
+use Rattle.offset_patch.specs.Splicing.{is_call, operands_needed, put, want_of}
+use Rattle.block_template.specs.declared.item.Role.{Role}
+use Rattle.block_template.specs.Blocks.{Clauses, kept}
+use Rattle.block_template.specs.Flow.{AreForPhases, clause_in, insn_of, jump_of, jumps, may_pass, next, result_in}
+use Rattle.block_template.specs.Frames.{Around, argument_kinds, frame_at, kept_arguments, kept_types}
+
+-- ---- what is known of a call and its clauses
+
+-- what holds a value of a kind
+abbrev pub operand_of : Kind → Operand
+operand_of kinds.Object = operands.Reference
+operand_of kinds.Int = operands.Int
+operand_of kinds.Bool = operands.Int
+operand_of kinds.Byte = operands.Int
+operand_of kinds.Short = operands.Int
+operand_of kinds.Char = operands.Int
+
+abbrev pub holds : Kind → Want
+holds kind = of_kind (operand_of kind)
+
+-- The client's locals end at the base. What is kept is on top, and of its kind: the arguments before the call, and the result behind it.
+pub record FitsAround (clauses : Clauses) (around : Around) : Type 0 where
+  pub before : length around.before.locals ≤ around.base
+  pub after : length around.after.locals ≤ around.base
+  pub arguments : all_met (map holds (argument_kinds clauses)) (kept_types clauses around) ≡ true
+  pub result : IfSome (result_in clauses) (λ kind. all_met (holds kind ∷ []) (topmost 1 around.after.stack) ≡ true)
+
+-- Each clause is one of a policy with such variables.
+abbrev pub AreClausesIn : List Var → ℤ → Clauses → Type 0
+AreClausesIn vars maxint clauses = (phase : Phase) → IfSome (clause_in clauses phase) (IsClauseIn vars maxint)
+
+-- ---- what is known of a place
+
+-- A method has room for what the block pushes and keeps.
+pub record HasRoom (clauses : Clauses) (around : Around) (method : Method) : Type 0 where
+  pub before : length around.before.stack + operands_needed ≤ method.max_stack
+  pub after : length around.after.stack + operands_needed ≤ method.max_stack
+  pub arguments : around.base + kept_arguments clauses ≤ method.max_locals
+  pub result : around.base + kept (result_in clauses) ≤ method.max_locals
+
+-- The operand names what is wanted.
+abbrev pub Names : Place → PoolWant → Type 0
+Names place StateClass = (name : List ℕ) × (place.ref ≡ target.ClassName name)
+Names place (StateField var is_bool) = desc_referred place ≡ variable_type is_bool
+Names place Exit = (name_referred place ≡ codes "exit") × (desc_referred place ≡ codes "(I)V")
+Names place (Integer n) = place.ref ≡ target.Number n
+
+-- An instruction of a block stands at the place.
+pub record Stands (insn : BlockInsn) (place : Place) : Type 0 where
+  pub pool : List Const
+  pub fronts : List ℕ
+  pub begin : ℕ
+  pub own : Insn
+  pub is : place.insn ≡ put pool fronts begin own insn
+  pub names : IfSome (want_of insn) (Names place)
+
+-- ---- the law
+
+-- With these types the instruction meets the rules of its place, and what comes behind it takes what it leaves, as does what it jumps to.
+pub record IsTyped (mode : Mode) (clauses : Clauses) (around : Around) (role : Role) (insn : BlockInsn) (place : Place) : Type 0 where
+  pub types : FrameType
+  pub told : frame_at clauses around role ≡ Some types
+  pub depth : Depth place types ≡ true
+  pub operand : TakesOperands place types ≡ true
+  pub local : Local place types ≡ true
+  pub made : Made place types ≡ true
+  pub passes : may_pass insn ≡ true → IfSome (frame_at clauses around (next mode clauses role)) (λ to. goes_well place types to ≡ true)
+  pub lands : is_some (jump_of insn) ≡ true → IfSome (frame_at clauses around (jumps mode clauses role)) (λ to. goes_well place types to ≡ true)
+
+-- So it is of each role that has an instruction; the call itself is the client's.
+abbrev pub BlocksAreTyped : Type 0
+BlocksAreTyped =
+    (mode : Mode) (bools : List Bool) (vars : List Var) (maxint : ℤ) (clauses : Clauses) (around : Around) (end to : ℕ)
+    → AreForPhases clauses → AreClausesIn vars maxint clauses → FitsAround clauses around
+    → (role : Role) (insn : BlockInsn) → insn_of bools around.base clauses end to role ≡ Some insn → is_call insn ≡ false
+    → (place : Place) → Stands insn place → HasRoom clauses around place.method → IsTyped mode clauses around role insn place
