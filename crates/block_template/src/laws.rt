@@ -3,6 +3,7 @@
 ghost use Rattle.block_template.specs.Denial.{DenialIsBlock};
 ghost use Rattle.block_template.specs.Flow.{BlocksFlow};
 ghost use Rattle.block_template.specs.Good.{PlansAreGood};
+ghost use Rattle.block_template.specs.Typed.{BlocksAreTyped};
 
 /// In mode release a policy that denies calls outright stops the program before each call that it names.
 pub fn denial_is_block()
@@ -18,4 +19,10 @@ pub fn plans_are_good()
 /// stands behind it and where it jumps have the roles that the graph tells, and so have the block's front and its handler.
 pub fn blocks_flow()
     ensures { BlocksFlow }
+{}
+
+/// Each instruction of a block meets the rules of typing, with the types that its role tells of those before the call and behind
+/// it, in a method with room for them; what comes behind it takes what it leaves, and so does what it jumps to.
+pub fn blocks_are_typed()
+    ensures { BlocksAreTyped }
 {}
