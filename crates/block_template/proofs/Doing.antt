@@ -1,12 +1,11 @@
 -- What each instruction of a block does to the types.
-use Rattle.std.proofs.Common.{◌≡◌, ℕ, zero, suc, ◌+◌, ◌<◌, ℤ, pos, neg_ℤ, Bool, true, false, cond, List, [], ◌∷◌, map, Option, Some, refl, ap, subst, ◌∙◌, arith}
+use Rattle.std.proofs.Common.{◌≡◌, ℕ, zero, suc, ◌+◌, ◌<◌, ℤ, pos, neg_ℤ, Bool, true, false, cond, List, [], ◌∷◌, map, refl, ap, subst, ◌∙◌, arith}
 use Rattle.std.specs.Prelude.{◌==◌, ◌&&◌, bytes_eq, codes, nat_le, nat_lt, int_le}
 use Rattle.std.specs.Ordering.{int_eq}
 use Rattle.std.proofs.lemmas.Bool.{and_from, lt-ltb, ltb-true}
 use Rattle.api_listing.specs.BuiltIn.{throwable}
 use Rattle.cert_format.specs.declared.typing.VType.{VType}
 use Rattle.cert_format.specs.declared.typing.VType.TheVariants as types
-use Rattle.insn_codec.specs.declared.shape.Heap.{Heap}
 use Rattle.insn_codec.specs.declared.shape.Heap.TheVariants as heap
 use Rattle.insn_codec.specs.declared.shape.How.TheVariants as hows
 use Rattle.insn_codec.specs.declared.shape.Kind.{Kind as Operand}
@@ -37,11 +36,10 @@ use Rattle.insn_codec.specs.declared.opcodes.TheConstants.{
   ISTORE_0,
   ASTORE_0,
 }
-use Rattle.bytecode_model.specs.declared.program.Target.TheVariants as target
 use Rattle.bytecode_model.specs.Heads.{maker}
 use Rattle.bytecode_model.specs.Assigning.{assignable}
 use Rattle.bytecode_model.specs.Described.{arguments, result_type, type_described, types_at}
-use Rattle.bytecode_model.specs.Makes.{type_at, call_yields, constant_type, stores, when_made}
+use Rattle.bytecode_model.specs.Makes.{type_at, call_yields, constant_type, when_made}
 use Rattle.bytecode_model.specs.Place.{Place, calls_maker, desc_referred}
 use Rattle.bytecode_model.specs.Wants.{Want, all_met, of_kind, to_described}
 use Rattle.conspec_tree.specs.declared.types.Kind.{Kind}

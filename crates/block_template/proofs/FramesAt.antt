@@ -1,8 +1,7 @@
 -- The types before a call and behind it, at the roles of a block.
-use Rattle.std.proofs.Common.{◌≡◌, ◌≢◌, ℕ, zero, suc, ◌+◌, ◌-◌, ◌<◌, ◌≤◌, ℤ, Bool, true, false, cond, List, [], ◌∷◌, ◌++◌, length, map, drop, replicate, Option, Some, None, refl, sym, ap, subst, ◌∙◌, append-nil, arith, length-append}
+use Rattle.std.proofs.Common.{◌≡◌, ◌≢◌, ℕ, zero, suc, ◌+◌, ◌-◌, ◌<◌, ◌≤◌, Bool, true, false, cond, List, [], ◌∷◌, ◌++◌, length, map, drop, replicate, Option, Some, None, refl, sym, ap, subst, ◌∙◌, append-nil, arith, length-append}
 use Rattle.std.specs.Prelude.{◌==◌, IfSome, is_some, option_and_then, slice_get}
 use Rattle.std.specs.Option.{option_map_or}
-use Rattle.std.specs.List.{AllByRecursion}
 use Rattle.std.proofs.lemmas.Bool.{and_parts}
 use Rattle.std.proofs.lemmas.List.{length-map, length-replicate}
 use Rattle.std.proofs.lemmas.Option.{slice_get_within}
@@ -13,9 +12,7 @@ use Rattle.cert_format.specs.declared.typing.VType.{VType}
 use Rattle.cert_format.specs.declared.typing.VType.TheVariants as types
 use Rattle.insn_codec.specs.declared.shape.Kind.TheVariants as operands
 use Rattle.bytecode_model.specs.Makes.{below, topmost, type_at}
-use Rattle.bytecode_model.specs.Rules.{when_thrown}
 use Rattle.bytecode_model.specs.Wants.{all_met, of_kind}
-use Rattle.bytecode_model.proofs.Lists.{all_get}
 use Rattle.conspec_tree.specs.declared.types.Atom.{Atom}
 use Rattle.conspec_tree.specs.declared.types.Kind.{Kind}
 use Rattle.conspec_tree.specs.declared.types.Kind.TheVariants as kinds
@@ -27,9 +24,9 @@ use Rattle.conspec_automaton.specs.declared.policy.Clause.{Clause}
 use Rattle.block_template.specs.declared.item.Role.{Role}
 use Rattle.block_template.specs.declared.item.Role.TheVariants as roles
 use Rattle.block_template.specs.Blocks.{Clauses}
-use Rattle.block_template.specs.Flow.{argument_at, check_behind, checked_in, clause_in, held, keeps_result, loading, locked_for, made, result_in, saving, tries, unlocked_in}
+use Rattle.block_template.specs.Flow.{argument_at, check_behind, checked_in, held, keeps_result, loading, made, result_in, saving, tries, unlocked_in}
 use Rattle.block_template.specs.Frames.{Around, argument_kinds, frame, frame_at, kept_arguments, kept_types, padded, phase_frame, saved_locals, with_pushed}
-use Rattle.block_template.specs.Typed.{FitsAround, holds, operand_of}
+use Rattle.block_template.specs.Typed.{FitsAround, holds}
 use Rattle.block_template.proofs.Acting.{met_length}
 use Rattle.block_template.proofs.Types.{below_none, from_place, split_kept, split_top, stored_behind, stored_last, topmost_there, type_right}
 

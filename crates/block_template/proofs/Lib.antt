@@ -15,3 +15,4 @@ pub mod Acting
 pub mod Doing
 pub mod FramesAt
 pub mod RolesTyped
+pub mod CatchesTyped

@@ -4,18 +4,18 @@ use Rattle.std.specs.Prelude.{◌==◌, IfSome, codes, is_some, option_and_then,
 use Rattle.std.specs.Option.{option_map_or}
 use Rattle.std.proofs.lemmas.Bool.{false≢true}
 use Rattle.std.proofs.lemmas.List.{length-drop, length-map, length-replicate}
-use Rattle.std.proofs.lemmas.Option.{IfSome_then, slice_get_within}
+use Rattle.std.proofs.lemmas.Option.{IfSome_then}
 use Rattle.api_listing.specs.BuiltIn.{throwable}
 use Rattle.cert_format.specs.declared.certificate.Mode.{Mode}
 use Rattle.cert_format.specs.declared.typing.FrameType.{FrameType}
 use Rattle.cert_format.specs.declared.typing.VType.{VType}
 use Rattle.cert_format.specs.declared.typing.VType.TheVariants as types
-use Rattle.insn_codec.specs.declared.opcodes.TheConstants.{ACONST_NULL, LDC_W, IADD, GOTO, GETSTATIC, PUTSTATIC, INVOKESTATIC, ATHROW}
+use Rattle.insn_codec.specs.declared.opcodes.TheConstants.{ACONST_NULL, IADD, GOTO, GETSTATIC, PUTSTATIC, INVOKESTATIC, ATHROW}
 use Rattle.bytecode_model.specs.declared.program.Method.{Method}
 use Rattle.bytecode_model.specs.declared.program.Program.{Program}
 use Rattle.bytecode_model.specs.Makes.{below, topmost, type_at}
 use Rattle.bytecode_model.specs.Place.{Place}
-use Rattle.bytecode_model.specs.Rules.{goes_well, locals_fit, when_thrown}
+use Rattle.bytecode_model.specs.Rules.{locals_fit, when_thrown}
 use Rattle.bytecode_model.proofs.Lists.{all_get, some_is}
 use Rattle.conspec_tree.specs.declared.types.Atom.{Atom}
 use Rattle.conspec_tree.specs.declared.types.Base.{Base}
@@ -38,35 +38,8 @@ use Rattle.offset_patch.specs.Splicing.{is_call}
 use Rattle.block_template.specs.declared.item.Role.{Role}
 use Rattle.block_template.specs.declared.item.Role.TheVariants as roles
 use Rattle.block_template.specs.Blocks.{Clauses, kept}
-use Rattle.block_template.specs.Flow.{
-  AreForPhases,
-  argument_at,
-  ask_insn,
-  atom_at,
-  branch_at,
-  branches_in,
-  branches_of,
-  clause_in,
-  held,
-  insn_of,
-  jump_of,
-  jumps,
-  keeps_result,
-  kept_by,
-  leaving,
-  locked_for,
-  may_pass,
-  next,
-  result_in,
-  stop_insn,
-  taking,
-  tries,
-  update_at,
-  update_goes,
-  update_insn,
-  updated,
-}
-use Rattle.block_template.specs.Frames.{Around, argument_kinds, class_pushed, frame, frame_at, kept_arguments, kept_types, padded, phase_frame, saved_locals, with_pushed}
+use Rattle.block_template.specs.Flow.{AreForPhases, argument_at, ask_insn, atom_at, branch_at, branches_in, branches_of, clause_in, held, insn_of, jump_of, jumps, keeps_result, kept_by, leaving, locked_for, may_pass, next, result_in, stop_insn, taking, tries, update_goes, update_insn, updated}
+use Rattle.block_template.specs.Frames.{Around, class_pushed, frame, frame_at, kept_arguments, kept_types, padded, phase_frame, saved_locals, with_pushed}
 use Rattle.block_template.specs.Pushing.{field, load as loads, negated, push, push_base, store}
 use Rattle.block_template.specs.Typed.{AreClausesIn, BlocksAreTyped, FitsAround, HasRoom, IsTyped, Stands, holds}
 use Rattle.block_template.proofs.Acting.{Acts, alone, goes}
@@ -154,11 +127,21 @@ module _ (mode : Mode) (bools : List Bool) (vars : List Var) (maxint : ℤ) (cla
 
     phase_few : (phase : Phase) → length (pf phase).locals ≤ method.max_locals
     phase_few Before =
-        omega (arith, room.arguments, at.padded_length clauses around fits around.before.locals fits.before, at.kept_length clauses around fits,
-        length-append (padded base around.before.locals) (kept_types clauses around))
+        omega (
+          arith,
+          room.arguments,
+          at.padded_length clauses around fits around.before.locals fits.before,
+          at.kept_length clauses around fits,
+          length-append (padded base around.before.locals) (kept_types clauses around),
+        )
     phase_few After =
-        omega (arith, room.result, at.padded_length clauses around fits around.after.locals fits.after, result_few (keeps_result clauses) refl,
-        length-append (padded base around.after.locals) (cond (keeps_result clauses) (topmost 1 around.after.stack) []))
+        omega (
+          arith,
+          room.result,
+          at.padded_length clauses around fits around.after.locals fits.after,
+          result_few (keeps_result clauses) refl,
+          length-append (padded base around.after.locals) (cond (keeps_result clauses) (topmost 1 around.after.stack) []),
+        )
     phase_few Exceptional = omega (arith, some_locals, at.padded_length clauses around fits around.before.locals fits.before, length-map (padded base around.before.locals) when_thrown)
 
   -- ---- locals
@@ -168,9 +151,16 @@ module _ (mode : Mode) (bools : List Bool) (vars : List Var) (maxint : ℤ) (cla
 
   saved_length : (left : ℕ) → left ≤ kept_arguments clauses → length (saved_locals clauses around left) ≡ base + kept_arguments clauses
   saved_length left le =
-      omega (arith, le, at.padded_length clauses around fits around.before.locals fits.before, at.kept_length clauses around fits,
-      length-append (padded base around.before.locals) (replicate left types.Top ++ drop left (kept_types clauses around)),
-      length-append (replicate left types.Top) (drop left (kept_types clauses around)), length-replicate left types.Top, length-drop left (kept_types clauses around))
+      omega (
+        arith,
+        le,
+        at.padded_length clauses around fits around.before.locals fits.before,
+        at.kept_length clauses around fits,
+        length-append (padded base around.before.locals) (replicate left types.Top ++ drop left (kept_types clauses around)),
+        length-append (replicate left types.Top) (drop left (kept_types clauses around)),
+        length-replicate left types.Top,
+        length-drop left (kept_types clauses around),
+      )
 
   result_local : (t : VType) → type_at (padded base around.after.locals ++ t ∷ []) base ≡ t
   result_local t =
@@ -218,9 +208,10 @@ module _ (mode : Mode) (bools : List Bool) (vars : List Var) (maxint : ℤ) (cla
       let split : ◌≡◌ {A = Option FrameType} (Some (frame locals (stack ++ (low ++ ts)))) (Some (frame locals ((stack ++ low) ++ ts))) =
       ap (λ (s : List VType). Some (frame locals s)) (sym (append_assoc stack low ts)) in
       let taken : (r : Role) → Arrives phase (low ++ us) r → Takes place.program ((stack ++ low) ++ us) (type_at locals) r =
-      λ r a. IfSome_then (frame_at clauses around r) a (λ f e.
-      (ap (λ (x : FrameType). x.stack) e ∙ sym (append_assoc stack low us),
-      subst (λ (x : FrameType). locals_fit place.program (type_at locals) 0 x.locals ≡ true) (sym e) (fit locals place.program))) in
+      λ r a. IfSome_then (frame_at clauses around r) a (λ f e. (
+        ap (λ (x : FrameType). x.stack) e ∙ sym (append_assoc stack low us),
+        subst (λ (x : FrameType). locals_fit place.program (type_at locals) 0 x.locals ≡ true) (sym e) (fit locals place.program),
+      )) in
       step role insn place locals (stack ++ low) ts us (type_at locals) (told ∙ split) acts
       (omega (arith, phase_high place.method room phase, few, length-append stack low, length-append (stack ++ low) us, length-append low us))
       (phase_few place.method room phase) (λ e. taken (next mode clauses role) (passes e)) (λ e. taken (jumps mode clauses role) (lands e))

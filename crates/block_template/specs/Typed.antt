@@ -1,20 +1,28 @@
 -- Each instruction of a block meets the rules of typing: the types before it are told by its role.
-use Rattle.std.specs.Prelude.{◌≡◌, ℕ, ◌+◌, ◌≤◌, ℤ, Bool, true, false, codes, List, [], ◌∷◌, length, map, Option, Some, is_some, IfSome}
+use Rattle.std.specs.Prelude.{◌≡◌, ℕ, ◌+◌, ◌≤◌, ℤ, Bool, true, false, codes, List, [], ◌∷◌, length, map, Some, None, is_some, IfSome}
 use Rattle.class_codec.specs.declared.tree.Const.{Const}
 use Rattle.cert_format.specs.declared.certificate.Mode.{Mode}
 use Rattle.cert_format.specs.declared.typing.FrameType.{FrameType}
+use Rattle.cert_format.specs.declared.typing.VType.{VType}
+use Rattle.insn_codec.specs.declared.shape.Heap.TheVariants as heap
+use Rattle.insn_codec.specs.declared.shape.How.{How}
 use Rattle.insn_codec.specs.declared.insn.Insn.{Insn}
 use Rattle.insn_codec.specs.declared.shape.Kind.{Kind as Operand}
 use Rattle.insn_codec.specs.declared.shape.Kind.TheVariants as operands
+use Rattle.insn_codec.specs.declared.shape.Shape.TheVariants as shapes
+use Rattle.insn_codec.specs.Shapes.{shape_of}
+use Rattle.bytecode_model.specs.declared.program.Handler.{Handler}
 use Rattle.bytecode_model.specs.declared.program.Method.{Method}
+use Rattle.bytecode_model.specs.declared.program.Program.{Program}
 use Rattle.bytecode_model.specs.declared.program.Target.TheVariants as target
-use Rattle.bytecode_model.specs.Makes.{topmost}
+use Rattle.bytecode_model.specs.Makes.{local_after, stack_after, topmost, type_at}
 use Rattle.bytecode_model.specs.Place.{Place, desc_referred, name_referred}
-use Rattle.bytecode_model.specs.Rules.{Depth, Operand as TakesOperands, Local, Made, goes_well}
-use Rattle.bytecode_model.specs.Wants.{Want, of_kind, all_met}
+use Rattle.bytecode_model.specs.Rules.{Depth, Operand as TakesOperands, Local, Made, catches_well, goes_well, local_caught, locals_fit, taken}
+use Rattle.bytecode_model.specs.Wants.{Want, all_met, of_kind, takes}
 use Rattle.conspec_tree.specs.declared.types.Kind.{Kind}
 use Rattle.conspec_tree.specs.declared.types.Kind.TheVariants as kinds
 use Rattle.conspec_tree.specs.declared.types.Phase.{Phase}
+use Rattle.conspec_tree.specs.declared.types.Phase.TheVariants.{Before, After, Exceptional}
 use Rattle.conspec_tree.specs.declared.types.Var.{Var}
 use Rattle.conspec_automaton.specs.Sound.{IsClauseIn}
 use Rattle.offset_patch.specs.declared.block.BlockInsn.{BlockInsn}
@@ -23,8 +31,9 @@ use Rattle.offset_patch.specs.declared.block.PoolWant.TheVariants.{StateClass, S
 use Rattle.offset_patch.specs.Entries.{variable_type}
 use Rattle.offset_patch.specs.Splicing.{is_call, operands_needed, put, want_of}
 use Rattle.block_template.specs.declared.item.Role.{Role}
+use Rattle.block_template.specs.declared.item.Role.TheVariants as roles
 use Rattle.block_template.specs.Blocks.{Clauses, kept}
-use Rattle.block_template.specs.Flow.{AreForPhases, clause_in, insn_of, jump_of, jumps, may_pass, next, result_in}
+use Rattle.block_template.specs.Flow.{AreForPhases, clause_in, insn_of, jump_of, jumps, may_pass, next, result_in, returned, thrown}
 use Rattle.block_template.specs.Frames.{Around, argument_kinds, frame_at, kept_arguments, kept_types}
 
 -- ---- what is known of a call and its clauses
@@ -97,3 +106,59 @@ BlocksAreTyped =
     → AreForPhases clauses → AreClausesIn vars maxint clauses → FitsAround clauses around
     → (role : Role) (insn : BlockInsn) → insn_of bools around.base clauses end to role ≡ Some insn → is_call insn ≡ false
     → (place : Place) → Stands insn place → HasRoom clauses around place.method → IsTyped mode clauses around role insn place
+
+-- ---- what the client catches
+
+-- the client's locals, at a role: those before the call, or behind it
+abbrev pub phase_locals : Around → Phase → List VType
+phase_locals around Before = around.before.locals
+phase_locals around After = around.after.locals
+phase_locals around Exceptional = around.before.locals
+
+abbrev pub client_locals : Around → Role → List VType
+client_locals around (roles.Save left) = around.before.locals
+client_locals around (roles.Lock phase pushed) = phase_locals around phase
+client_locals around (roles.Ask phase branch atom pushed) = phase_locals around phase
+client_locals around (roles.Update phase branch update done) = phase_locals around phase
+client_locals around (roles.Taken phase branch) = phase_locals around phase
+client_locals around (roles.Stop phase done) = phase_locals around phase
+client_locals around (roles.Unlock phase checked pushed) = phase_locals around phase
+client_locals around (roles.Load n locked) = around.before.locals
+client_locals around (roles.Call locked) = around.before.locals
+client_locals around (roles.Keep locked) = around.after.locals
+client_locals around roles.Give = around.after.locals
+client_locals around roles.Leave = around.after.locals
+client_locals around roles.Rethrow = around.before.locals
+client_locals around roles.Unreached = []
+
+-- What takes the client's locals where they are caught takes those of each instruction of the block.
+abbrev pub CatchesAreTyped : Type 0
+CatchesAreTyped =
+    (program : Program) (clauses : Clauses) (around : Around) (role : Role) (types : FrameType) (to : List VType) → frame_at clauses around role ≡ Some types
+    → locals_fit program (local_caught (client_locals around role)) 0 to ≡ true → locals_fit program (local_caught types.locals) 0 to ≡ true
+
+-- ---- the call
+
+-- The call itself, of which the types behind are those that it leaves.
+pub record IsCallOf (around : Around) (place : Place) : Type 0 where
+  pub how : How
+  pub call : shape_of place.insn ≡ shapes.Heap (heap.Call how)
+  pub stack : around.after.stack ≡ stack_after place around.before.locals (length (takes place)) around.before.stack
+  pub locals : (j : ℕ) → type_at around.after.locals j ≡ local_after place around.before.locals (taken place around.before) j
+
+-- It meets the rules in its block as it did before; what comes where it returns takes what it leaves, and what comes where it throws
+-- takes what is caught of it.
+pub record CallIsTyped (mode : Mode) (clauses : Clauses) (around : Around) (locked : Bool) (place : Place) : Type 0 where
+  pub types : FrameType
+  pub told : frame_at clauses around (roles.Call locked) ≡ Some types
+  pub depth : Depth place around.before ≡ true → Depth place types ≡ true
+  pub operand : TakesOperands place around.before ≡ true → TakesOperands place types ≡ true
+  pub local : Local place types ≡ true
+  pub made : Made place around.before ≡ true → Made place types ≡ true
+  pub returns : IfSome (frame_at clauses around (returned mode clauses.after)) (λ to. goes_well place types to ≡ true)
+  pub throws : (handler : Handler) → handler.class ≡ None → IfSome (frame_at clauses around (thrown mode clauses.exceptional)) (λ to. catches_well place types handler to ≡ true)
+
+abbrev pub CallsAreTyped : Type 0
+CallsAreTyped =
+    (mode : Mode) (clauses : Clauses) (around : Around) (locked : Bool) → FitsAround clauses around
+    → (place : Place) → IsCallOf around place → HasRoom clauses around place.method → CallIsTyped mode clauses around locked place

@@ -3,7 +3,7 @@
 ghost use Rattle.block_template.specs.Denial.{DenialIsBlock};
 ghost use Rattle.block_template.specs.Flow.{BlocksFlow};
 ghost use Rattle.block_template.specs.Good.{PlansAreGood};
-ghost use Rattle.block_template.specs.Typed.{BlocksAreTyped};
+ghost use Rattle.block_template.specs.Typed.{BlocksAreTyped, CallsAreTyped, CatchesAreTyped};
 
 /// In mode release a policy that denies calls outright stops the program before each call that it names.
 pub fn denial_is_block()
@@ -25,4 +25,14 @@ pub fn blocks_flow()
 /// it, in a method with room for them; what comes behind it takes what it leaves, and so does what it jumps to.
 pub fn blocks_are_typed()
     ensures { BlocksAreTyped }
+{}
+
+/// What takes the client's locals as they are caught before the call, or behind it, takes those of each instruction of a block.
+pub fn catches_are_typed()
+    ensures { CatchesAreTyped }
+{}
+
+/// The call itself meets the rules in its block where it did without, and what comes where it returns or throws takes what it leaves.
+pub fn calls_are_typed()
+    ensures { CallsAreTyped }
 {}
