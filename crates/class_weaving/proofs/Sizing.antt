@@ -56,19 +56,15 @@ first_of xs ys = find-append is_unfit xs ys
 room_first : (class : List ℕ) (number : ℕ) (pool : List Const) (m : Method) (code : Code) (locals : ℕ) (sites : List (Option Block)) (coded : Spliced Code)
     → nat_le (code.max_locals + locals) 65535 ≡ false
     → fault_of (room class number code locals >>= λ fits. coded) ≡ first_unfit (method_sizes class number pool m code locals sites)
-room_first class number pool m code locals sites coded = by (nat_le (code.max_stack + operands_needed) 65535) (nat_le (code.max_locals + locals) 65535)
+room_first class number pool m code locals sites coded =
+    by (faults.Overflow class number sizes.Stack (pos (code.max_stack + operands_needed))) (faults.Overflow class number sizes.Locals (pos (code.max_locals + locals)))
+    (nat_le (code.max_stack + operands_needed) 65535) (nat_le (code.max_locals + locals) 65535)
   where
-    abbrev stack : SpliceFault
-    stack = faults.Overflow class number sizes.Stack (pos (code.max_stack + operands_needed))
-
-    abbrev slots : SpliceFault
-    slots = faults.Overflow class number sizes.Locals (pos (code.max_locals + locals))
-
-    by : (a b : Bool) {later : Option SpliceFault} → b ≡ false
+    by : (stack slots : SpliceFault) (a b : Bool) {later : Option SpliceFault} → b ≡ false
         → fault_of ((need a stack >>= λ fits. need b slots) >>= λ fits. coded) ≡ cond (not a) (Some stack) (cond (not b) (Some slots) later)
-    by false b none = refl
-    by true false none = refl
-    by true true none = absurd cc
+    by stack slots false b none = refl
+    by stack slots true false none = refl
+    by stack slots true true none = absurd cc
 
 module _ (kinds : List Bool) (plan : Plan) (good : IsGood kinds plan) (class : List ℕ) (number : ℕ) (pool : List Const) (m : Method) (code : Code) where
   abbrev by_blocks : Bool → Spliced WovenCode
