@@ -206,6 +206,20 @@ module _ (vars : List Var) (maxint : ℤ) (askable : Askable) where
   tried_known [] are = tt
   tried_known (branch ∷ branches) are = ((asks_known branch.atoms are.0.atoms, makes_known branch.updates are.0.updates), tried_known branches are.1)
 
+-- what the variables are at first
+
+firsts_of : (maxint : ℤ) (vars : List Var) → maxint ≤ℤ pos 1000000000 → AllByRecursion (λ (v : Var). IsInRange maxint v.is_bool v.first) vars
+    → AllByRecursion (λ (v : Var). FitsSigned w32 v.first) vars
+firsts_of maxint [] most are = tt
+firsts_of maxint (v ∷ vars) most are = (ranged v.is_bool are.0, firsts_of maxint vars most are.1)
+  where
+    ranged : (b : Bool) → IsInRange maxint b v.first → FitsSigned w32 v.first
+    ranged true r = let low = r.low in let high = r.high in grind (arith, ints)
+    ranged false r = let low = r.low in let high = r.high in grind (arith, ints)
+
+pub firsts_fit : (policy : Policy) → IsPolicy policy → AllByRecursion (λ (v : Var). FitsSigned w32 v.first) policy.vars
+firsts_fit policy read = firsts_of policy.maxint policy.vars read.maxint_high read.vars
+
 -- ---- the clauses of a method
 
 numbers_there : (policy : Policy) (method : ℕ) (phase : Phase) → HasNumbers policy → IfSome (clause_at policy method phase) (λ c. AllByRecursion AreNumbers c.branches)
