@@ -6,3 +6,7 @@ pub mod Rows
 pub mod Insns
 pub mod Goods
 pub mod Denials
+pub mod Laying
+pub mod CheckFlows
+pub mod PartFlows
+pub mod BlockFlows

@@ -103,7 +103,7 @@ check_length bools base at clause = branches_length bools base clause.phase 0 at
 
 -- ---- what stands before the call, behind it, and in the handler
 
-keep_length : (locked : Bool) (base : ℕ) (kind : Option Kind) → length (keep locked base kind) ≡ kept kind
+pub keep_length : (locked : Bool) (base : ℕ) (kind : Option Kind) → length (keep locked base kind) ≡ kept kind
 keep_length locked base None = refl
 keep_length locked base (Some kind) = refl
 

@@ -4,3 +4,4 @@ pub mod Blocks
 pub mod Denial
 pub mod Room
 pub mod Good
+pub mod Flow

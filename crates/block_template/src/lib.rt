@@ -16,5 +16,5 @@ mod pushing;
 
 pub use blocks::{block, items, locals_used};
 pub use item::{Item, Role};
-pub use laws::{denial_is_block, plans_are_good};
+pub use laws::{blocks_flow, denial_is_block, plans_are_good};
 pub use plan::PolicyPlan;

@@ -1,13 +1,17 @@
 //! Small programs that are woven, against bytes that were worked out by hand. Sizes that do not fit are told in tests/faults,
 //! through the built program.
 
+ghost use Rattle.std.specs.Prelude.{◌<◌, ◌^◌, IfOk, length};
+ghost use Rattle.conspec_automaton.specs.Sound.{IsPolicy};
+
 use super::pools::text;
-use block_template::Woven;
+use api_listing::Listing;
 use bytecode_model::{Origin, Side};
 use class_codec::{Attr, ClassFile, Code, Const, Member, decode, encode};
 use class_linking::link;
-use conspec_automaton::{build, denies_only};
-use conspec_tree::{Kind, Phase, PolicyTree, TreeClause};
+use class_weaving::Woven;
+use conspec_automaton::{Policy, build};
+use conspec_parse::parse;
 use inline_release::inline;
 use listing_text::read;
 use mon_base::{Bytes, List};
@@ -18,30 +22,20 @@ use std::test::Fail;
 const LISTING: &[u8] = b"class api/Net extends java/lang/Object\nstatic api/Net send ()V\n\
     static api/Net put (II)I\n";
 
-/// The clause that denies each call of a method.
-fn denial(alloc: Global, method: u32, args: List<Kind>, kind: Option<Kind>) -> TreeClause {
-    TreeClause {
-        method,
-        phase: Phase::Before,
-        args,
-        result: kind,
-        guards: List::new(alloc),
-    }
-}
+/// It denies both methods of the listing.
+const POLICY: &[u8] = b"MAXINT 1 SCOPE Session SECURITY STATE \
+    BEFORE void api.Net.send() PERFORM BEFORE int api.Net.put(int a, int b) PERFORM";
 
-/// The policy that denies both methods of the listing.
-fn denials(alloc: Global) -> Result<PolicyTree, Fail> {
-    let mut args = List::new(alloc);
-    args.push(Kind::Int)?;
-    args.push(Kind::Int)?;
-    let mut clauses = List::new(alloc);
-    clauses.push(denial(alloc, 0, List::new(alloc), None))?;
-    clauses.push(denial(alloc, 1, args, Some(Kind::Int)))?;
-    Ok(PolicyTree {
-        maxint: 1,
-        vars: List::new(alloc),
-        clauses,
-    })
+/// The policy.
+fn denials(alloc: Global, listing: &Listing) -> Result<Policy, Fail>
+    requires { length listing.now.methods < 2 ^ 32 }
+    ensures { IfOk result IsPolicy }
+{
+    let Ok(tree) = parse(alloc, POLICY, listing) else {
+        return Err("the policy".into());
+    };
+    let policy = build(alloc, &tree)?;
+    Ok(policy)
 }
 
 /// The pool of a class `a/S` under Object with `main`: `send` is the method 13, and what follows begins at 14.
@@ -106,11 +100,7 @@ fn woven(alloc: Global, class: ClassFile) -> Result<Woven, Fail> {
     let Ok(listing) = read(alloc, LISTING) else {
         return Err("the listing".into());
     };
-    let tree = denials(alloc)?;
-    if !denies_only(&tree) {
-        return Err("the policy".into());
-    }
-    let policy = build(alloc, &tree)?;
+    let policy = denials(alloc, &listing)?;
     let bytes = encode(alloc, &class)?;
     let Ok(class) = decode(alloc, bytes.as_slice()) else {
         return Err("the class".into());
