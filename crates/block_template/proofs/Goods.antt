@@ -173,11 +173,10 @@ module _ (vars : List Var) (maxint : ℤ) (askable : Askable) where
       → AllByRecursion (IsBranchIn vars maxint askable) branches → AllByRecursion (HasLocals base) branches → AllByRecursion AreNumbers branches
       → AllByRecursion (Tried (AsksNumber base) MakesNumber) branches
   tried_fit base [] few most are locals numbers = tt
-  tried_fit base (branch ∷ branches) few most are locals numbers =
-      (
-        (asks_fit few base branch.atoms are.0.atoms locals.0 numbers.0, updates_fit few most branch.updates are.0.updates),
-        tried_fit base branches few most are.1 locals.1 numbers.1,
-      )
+  tried_fit base (branch ∷ branches) few most are locals numbers = (
+    (asks_fit few base branch.atoms are.0.atoms locals.0 numbers.0, updates_fit few most branch.updates are.0.updates),
+    tried_fit base branches few most are.1 locals.1 numbers.1,
+  )
 
   -- the variables are there
 
