@@ -56,8 +56,11 @@ class ClassFile:
     def interface(self, name):
         self.interfaces.append(self.type(name))
 
-    def field(self, flags, name, desc):
-        self.fields.append(u2(flags) + u2(self.text(name)) + u2(self.text(desc)) + u2(0))
+    def field(self, flags, name, desc, constant=None):
+        """`constant` is the index of what a ConstantValue names."""
+        told = b"" if constant is None else u2(self.text("ConstantValue")) + u4(2) + u2(constant)
+        head = u2(flags) + u2(self.text(name)) + u2(self.text(desc))
+        self.fields.append(head + u2(1 if told else 0) + told)
 
     def bare(self, flags, name, desc):
         """A method without code."""

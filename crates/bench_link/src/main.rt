@@ -1,5 +1,6 @@
 //! Links a chain of classes, each below the one before, with a listing. The words are how many classes, how many
-//! listed methods, and `link`; without `link` the files and the listing are read and nothing is linked.
+//! listed methods, `link` or `read`, and `named`: with `read`, or without it, the files and the listing are read and
+//! nothing is linked; with `named` each class of the chain names an interface, which is the last of so many files.
 #![tactic(auto)]
 
 ghost use Rattle.std.specs.Prelude.{IfOk};
@@ -39,6 +40,7 @@ struct Sizes {
     classes: u32,
     methods: u32,
     links: bool,
+    names_interface: bool,
 }
 
 fn main(rt: HostRuntime) -> ExitCode {
@@ -56,6 +58,7 @@ fn sizes_of<R: Env + AllocGlobal>(rt: &R) -> Sizes {
         classes: 3,
         methods: 2,
         links: true,
+        names_interface: false,
     };
     if let Ok(arguments) = env::args(rt) {
         for (place, word) in arguments.skip(1).enumerate() {
@@ -65,7 +68,8 @@ fn sizes_of<R: Env + AllocGlobal>(rt: &R) -> Sizes {
                     sizes.methods = count_of(word.as_bytes());
                     sizes.links = false;
                 }
-                _ => sizes.links = true,
+                2 => sizes.links = word.as_bytes().starts_with(b"link".as_slice()),
+                _ => sizes.names_interface = true,
             }
         }
     }
@@ -81,7 +85,7 @@ fn count_of(word: &[u8]) -> u32 {
 }
 
 fn run(alloc: Global, sizes: &Sizes) -> Result<(), Fault> {
-    let files = chain_of(alloc, sizes.classes)?;
+    let files = chain_of(alloc, sizes)?;
     let listing = listing_of(alloc, sizes.methods)?;
     if !sizes.links {
         return Ok(());
@@ -94,12 +98,12 @@ fn run(alloc: Global, sizes: &Sizes) -> Result<(), Fault> {
 }
 
 /// The classes of a chain.
-fn chain_of(alloc: Global, count: u32) -> Result<List<ClassFile>, Fault>
+fn chain_of(alloc: Global, sizes: &Sizes) -> Result<List<ClassFile>, Fault>
     ensures { IfOk result (AllByRecursion CanSpell) }
 {
     let mut files = List::new(alloc);
-    for number in 0..count {
-        let bytes = class_of(alloc, number)?;
+    for number in 0..sizes.classes {
+        let bytes = class_of(alloc, number, sizes)?;
         let file = file_of(alloc, bytes.as_slice())?;
         files.push(file)?;
     }
@@ -115,15 +119,26 @@ fn file_of(alloc: Global, bytes: &[u8]) -> Result<ClassFile, Fault>
     }
 }
 
-/// The bytes of a class of the chain.
-fn class_of(alloc: Global, number: u32) -> Result<Bytes, NoMemory> {
+/// The bytes of a class of the chain, or of the interface that each of them names.
+fn class_of(alloc: Global, number: u32, sizes: &Sizes) -> Result<Bytes, NoMemory> {
     let mut out = Bytes::new(alloc);
     if number == 0 {
         put_top(&mut out)?;
+    } else if sizes.names_interface && number == sizes.classes.saturating_sub(1) {
+        put_interface(&mut out)?;
     } else {
-        put_class(&mut out, number)?;
+        put_class(&mut out, number, sizes.names_interface)?;
     }
     Ok(out)
+}
+
+/// The interface `b/I0000`, which is below Runnable.
+fn put_interface(out: &mut Bytes) -> Result<(), NoMemory> {
+    out.extend(b"\xca\xfe\xba\xbe\x00\x00\x00\x31\x00\x07\
+        \x01\x00\x07b/I0000\x07\x00\x01\x01\x00\x10java/lang/Object\x07\x00\x03\
+        \x01\x00\x12java/lang/Runnable\x07\x00\x05\
+        \x06\x01\x00\x02\x00\x04\x00\x01\x00\x06\x00\x00\x00\x00\x00\x00"
+        .as_slice())
 }
 
 /// The class `b/C0000`, with `main` and `m0000`, which return.
@@ -143,8 +158,10 @@ fn put_top(out: &mut Bytes) -> Result<(), NoMemory> {
 
 /// A class below the one before: a static method that calls, in its own class, the static methods of the class two
 /// above and of the top, twice, and an instance method.
-fn put_class(out: &mut Bytes, number: u32) -> Result<(), NoMemory> {
-    out.extend(b"\xca\xfe\xba\xbe\x00\x00\x00\x31\x00\x0f\x01\x00\x07b/C".as_slice())?;
+fn put_class(out: &mut Bytes, number: u32, names_interface: bool) -> Result<(), NoMemory> {
+    out.extend(b"\xca\xfe\xba\xbe\x00\x00\x00\x31\x00".as_slice())?;
+    out.push(if names_interface { 0x11 } else { 0x0f })?;
+    out.extend(b"\x01\x00\x07b/C".as_slice())?;
     put_digits(out, number)?;
     out.extend(b"\x07\x00\x01\x01\x00\x07b/C".as_slice())?;
     put_digits(out, number.saturating_sub(1))?;
@@ -157,11 +174,23 @@ fn put_class(out: &mut Bytes, number: u32) -> Result<(), NoMemory> {
     out.extend(
         b"\x0c\x00\x09\x00\x08\x0a\x00\x02\x00\x0a\x01\x00\x05m0000\x0c\x00\x0c\x00\x08\x0a\x00\x02\x00\x0d".as_slice(),
     )?;
+    put_interfaces(out, names_interface)?;
     put_methods(out)
 }
 
+/// The last constants, and what is above the class.
+fn put_interfaces(out: &mut Bytes, names_interface: bool) -> Result<(), NoMemory> {
+    if names_interface {
+        out.extend(
+            b"\x01\x00\x07b/I0000\x07\x00\x0f\x00\x21\x00\x02\x00\x04\x00\x01\x00\x10".as_slice(),
+        )
+    } else {
+        out.extend(b"\x00\x21\x00\x02\x00\x04\x00\x00".as_slice())
+    }
+}
+
 fn put_methods(out: &mut Bytes) -> Result<(), NoMemory> {
-    out.extend(b"\x00\x21\x00\x02\x00\x04\x00\x00\x00\x00\x00\x02\
+    out.extend(b"\x00\x00\x00\x02\
         \x00\x09\x00\x05\x00\x08\x00\x01\
         \x00\x07\x00\x00\x00\x19\x00\x00\x00\x00\x00\x00\x00\x0d\
         \xb8\x00\x0b\xb8\x00\x0e\xb8\x00\x0b\xb8\x00\x0e\xb1\x00\x00\x00\x00\

@@ -5,7 +5,7 @@ use Rattle.std.specs.List.{list_any}
 use Rattle.std.specs.Option.{option_map_or}
 use Rattle.std.proofs.lemmas.Bool.{ne_eqb}
 use Rattle.api_listing.specs.BuiltIn.{MethodRow, is_row, method_rows}
-use Rattle.guest_model.specs.Stepping.{is_exit}
+use Rattle.guest_model.specs.Parts.{is_exit}
 
 abbrev way_out : MethodRow → Bool
 way_out row = is_row (codes "java/lang/System") (codes "exit") (codes "(I)V") row

@@ -10,7 +10,7 @@ use Rattle.bytecode_model.specs.declared.program.Target.{Target}
 use Rattle.bytecode_model.specs.declared.program.Target.TheVariants as target
 use Rattle.conspec_automaton.specs.declared.policy.Policy.{Policy}
 use Rattle.conspec_automaton.specs.Next.{has_clauses}
-use Rattle.guest_model.specs.Stepping.{is_exit}
+use Rattle.guest_model.specs.Parts.{is_exit}
 
 -- the class that holds the policy's variables, and whose monitor is the lock
 abbrev pub state_name : List ℕ

@@ -1,7 +1,7 @@
 //! What the rules of the notes ask of an instruction and of what its operand names.
 
 ghost use Rattle.std.specs.Prelude.{◌≡◌};
-ghost use Rattle.guest_model.specs.Stepping.{is_exit};
+ghost use Rattle.guest_model.specs.Parts.{is_exit};
 ghost use Rattle.block_logic.specs.Operands.{calls, enters, has_clause, is_state, is_state_name, is_variable, is_way_out, leaves};
 ghost use Rattle.block_logic.specs.Operands.{loads_constant, pushes, pushes_null, pushes_state, throws, writes_static};
 

@@ -13,12 +13,9 @@ use Rattle.cert_format.specs.declared.note.Note.TheVariants as notes
 use Rattle.cert_format.specs.declared.note.Site.{Site}
 use Rattle.conspec_automaton.specs.declared.policy.Policy.{Policy}
 use Rattle.conspec_automaton.specs.Next.{has_clauses}
-use Rattle.block_logic.specs.Notes.{Here, first_broken, client_fault, free_fault, row_fault, told_fault, taking_fault, stop_fault}
-use Rattle.block_logic.specs.Operands.{calls, has_clause, is_way_out, pushes_state}
+use Rattle.block_logic.specs.Notes.{Here, first_broken, client_fault, free_fault, row_fault, told_fault, taking_fault, stop_fault, next_meet, handlers_meet, takes_for_denied, is_on_way}
+use Rattle.block_logic.specs.Operands.{calls, has_clause, is_way_out, pushes_state, is_variable, leaves, writes_static, enters}
 use Rattle.block_logic.specs.declared.wanted.Wanted.TheVariants as wanted
-use Rattle.block_logic.specs.Notes.{next_meet, handlers_meet}
-use Rattle.block_logic.specs.Operands.{is_variable, leaves, writes_static, enters}
-use Rattle.block_logic.specs.Notes.{takes_for_denied, is_on_way}
 
 -- the second of two rules is kept, and so is the first
 second_kept : (a b : Bool) (m n : ℕ) (later : Option ℕ) → cond a (cond b later (Some n)) (Some m) ≡ None → b ≡ true

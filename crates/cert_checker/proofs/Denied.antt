@@ -10,8 +10,7 @@ use Rattle.conspec_automaton.specs.declared.policy.Clause.{Clause}
 use Rattle.conspec_automaton.specs.declared.policy.Policy.{Policy}
 use Rattle.conspec_automaton.specs.Next.{Values, clause_of, has_clause, initial, next, next_by}
 use Rattle.conspec_automaton.specs.Obeys.{Follows, Obeys, after, is_return, spoken}
-use Rattle.guest_model.specs.First.{goes_on, is_done}
-use Rattle.guest_machine.specs.First.{SeesFirstCall}
+use Rattle.guest_model.specs.First.{goes_on, is_done, SeesFirstCall}
 use Rattle.cert_checker.specs.Denied.{DisobeysAtOnce}
 
 -- Where the first event is refused, no list that begins with it is accepted.

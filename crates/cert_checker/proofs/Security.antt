@@ -26,9 +26,8 @@ use Rattle.cert_format.specs.declared.certificate.Mode.{Mode}
 use Rattle.cert_format.specs.declared.certificate.Mode.TheVariants as modes
 use Rattle.conspec_automaton.specs.Obeys.{Obeys, spoken}
 use Rattle.guest_model.specs.Places.{method_at, insn_in}
-use Rattle.guest_model.specs.Standing.{HasInsns, IsCalled, method_of as method_seen}
-use Rattle.guest_machine.specs.Runs.{trace}
-use Rattle.guest_machine.specs.Standing.{IsClosed, SeesOnlyCalled}
+use Rattle.guest_model.specs.Standing.{HasInsns, IsCalled, method_of as method_seen, IsClosed, SeesOnlyCalled}
+use Rattle.guest_model.specs.Runs.{trace}
 use Rattle.block_logic.specs.Accepted.{IsAccepted, note_fault_at, notes_in, notes_told, reached_fault}
 use Rattle.block_logic.specs.Notes.{Here, note_fault, told_fault}
 use Rattle.cert_checker.specs.Secure.{Secure}

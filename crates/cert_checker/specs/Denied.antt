@@ -6,7 +6,7 @@ use Rattle.cert_format.specs.declared.certificate.Mode.{Mode}
 use Rattle.conspec_automaton.specs.declared.policy.Policy.{Policy}
 use Rattle.conspec_automaton.specs.Next.{next, initial}
 use Rattle.guest_model.specs.First.{BeginsWithCall}
-use Rattle.guest_machine.specs.Runs.{initialisers}
+use Rattle.guest_model.specs.Runs.{initialisers}
 use Rattle.cert_checker.specs.Secure.{Secure}
 
 -- The policy refuses that the method is called first, without arguments.

@@ -5,7 +5,7 @@ use Rattle.cert_format.specs.declared.certificate.Mode.{Mode}
 use Rattle.conspec_automaton.specs.declared.policy.Policy.{Policy}
 use Rattle.conspec_automaton.specs.Obeys.{Obeys}
 use Rattle.guest_model.specs.declared.machine.Step.{Step}
-use Rattle.guest_machine.specs.Runs.{trace}
+use Rattle.guest_model.specs.Runs.{trace}
 
 -- For every list of guest steps the events obey, as the mode promises.
 abbrev pub Secure : Mode → Program → Policy → Type 0

@@ -17,7 +17,7 @@ use bytecode_model::{LinkedClass, Method, Program};
 use cert_format::{Certificate, Mode};
 use code_typing::{check_typing, typed_is_closed};
 use conspec_automaton::Policy;
-use guest_machine::sees_only_what_is_called;
+use guest_model::sees_only_what_is_called;
 use type_lattice::Indexed;
 
 /// The answer yes.

@@ -2,7 +2,7 @@
 
 ghost use Rattle.cert_checker.specs.Denied.{DisobeysAtOnce};
 
-use guest_machine::sees_the_first_call;
+use guest_model::sees_the_first_call;
 
 /// The promise is not empty: a program whose `main` begins with a call that its policy refuses does not obey.
 pub fn denied_call_disobeys()

@@ -27,13 +27,17 @@ use Rattle.bytecode_model.specs.Shape.{has_code, coded, IsShaped}
 use Rattle.bytecode_model.specs.Typed.{IsTyped, frames_in, frames_told, list_at, reached}
 use Rattle.code_typing.proofs.Closed.{goes_on, caught}
 use Rattle.conspec_automaton.specs.declared.policy.Policy.{Policy}
+use Rattle.conspec_automaton.specs.Denying.{DeniesOnly}
 use Rattle.bytecode_model.specs.declared.origin.Origin.{Origin}
+use Rattle.offset_patch.specs.Plan.{Plan}
 use Rattle.offset_patch.specs.Splicing.{fronts_of}
-use Rattle.block_template.specs.declared.woven.Woven.{Woven}
-use Rattle.block_template.specs.Outcome.{Each, IsWovenMethod, IsWovenClass, IsWoven, IsFreeTarget, IsFreeOfState}
-use Rattle.block_template.specs.Woven.{sites_of, woven}
+use Rattle.block_template.specs.Denial.{DenialIsBlock}
+use Rattle.class_weaving.specs.declared.woven.Woven.{Woven}
+use Rattle.class_weaving.specs.Outcome.{Each, IsWovenMethod, IsWovenClass, IsWoven, IsFreeTarget, IsFreeOfState}
+use Rattle.class_weaving.specs.Woven.{sites_of, woven}
 use Rattle.bytecode_model.specs.Named.{IsRightOperand, AreRightOperands}
 use Rattle.cert_maker.proofs.Body.{IsStanding, same_length}
+use Rattle.cert_maker.proofs.Denying.{denying, plan_is}
 use Rattle.cert_maker.proofs.Woven.{slice_there}
 use Rattle.cert_maker.specs.Accepting.{IsStopped, WovenIsAccepted}
 use Rattle.cert_maker.specs.Noting.{method_notes, class_notes, notes_of, certificate_of}
@@ -45,26 +49,26 @@ use Rattle.cert_maker.proofs.Told.{method_origins, methods_origins, program_told
 -- ---- what was woven of what
 
 -- a class of the woven program is that of a class, or conspec/State
-class_of : (policy : Policy) (olds news : List LinkedClass) (state : LinkedClass) → Each (IsWovenClass policy) olds news → (own : ℕ) (x : LinkedClass) → slice_get (news ++ state ∷ []) own ≡ Some x
-    → ((class : LinkedClass) × (slice_get olds own ≡ Some class) × IsWovenClass policy class x) ⊎ (x ≡ state)
-class_of policy [] [] state each zero x e = inr cc
-class_of policy [] [] state each (suc own) x e = absurd cc
-class_of policy [] (y ∷ news) state each own x e = absurd each
-class_of policy (class ∷ olds) [] state each own x e = absurd each
-class_of policy (class ∷ olds) (y ∷ news) state each zero x e =
+class_of : (plan : Plan) (count : ℕ) (olds news : List LinkedClass) (state : LinkedClass) → Each (IsWovenClass plan count) olds news → (own : ℕ) (x : LinkedClass) → slice_get (news ++ state ∷ []) own ≡ Some x
+    → ((class : LinkedClass) × (slice_get olds own ≡ Some class) × IsWovenClass plan count class x) ⊎ (x ≡ state)
+class_of plan count [] [] state each zero x e = inr cc
+class_of plan count [] [] state each (suc own) x e = absurd cc
+class_of plan count [] (y ∷ news) state each own x e = absurd each
+class_of plan count (class ∷ olds) [] state each own x e = absurd each
+class_of plan count (class ∷ olds) (y ∷ news) state each zero x e =
     let same : y ≡ x = cc in
-    inl (class, refl, subst (IsWovenClass policy class) same each.0)
-class_of policy (class ∷ olds) (y ∷ news) state each (suc own) x e = class_of policy olds news state each.1 own x e
+    inl (class, refl, subst (IsWovenClass plan count class) same each.0)
+class_of plan count (class ∷ olds) (y ∷ news) state each (suc own) x e = class_of plan count olds news state each.1 own x e
 
-method_of : (policy : Policy) (pool : List Const) (olds news : List Method) → Each (IsWovenMethod policy pool) olds news → (index : ℕ) (x : Method) → slice_get news index ≡ Some x
-    → (m : Method) × (slice_get olds index ≡ Some m) × IsWovenMethod policy pool m x
-method_of policy pool [] [] each index x e = absurd cc
-method_of policy pool [] (y ∷ news) each index x e = absurd each
-method_of policy pool (m ∷ olds) [] each index x e = absurd each
-method_of policy pool (m ∷ olds) (y ∷ news) each zero x e =
+method_of : (plan : Plan) (count : ℕ) (pool : List Const) (olds news : List Method) → Each (IsWovenMethod plan count pool) olds news → (index : ℕ) (x : Method) → slice_get news index ≡ Some x
+    → (m : Method) × (slice_get olds index ≡ Some m) × IsWovenMethod plan count pool m x
+method_of plan count pool [] [] each index x e = absurd cc
+method_of plan count pool [] (y ∷ news) each index x e = absurd each
+method_of plan count pool (m ∷ olds) [] each index x e = absurd each
+method_of plan count pool (m ∷ olds) (y ∷ news) each zero x e =
     let same : y ≡ x = cc in
-    (m, refl, subst (IsWovenMethod policy pool m) same each.0)
-method_of policy pool (m ∷ olds) (y ∷ news) each (suc index) x e = method_of policy pool olds news each.1 index x e
+    (m, refl, subst (IsWovenMethod plan count pool m) same each.0)
+method_of plan count pool (m ∷ olds) (y ∷ news) each (suc index) x e = method_of plan count pool olds news each.1 index x e
 
 -- ---- what names nothing of conspec/State
 
@@ -87,12 +91,12 @@ free_name (target.Number n) free = refl
 free_name (target.Literal i) free = refl
 
 -- the classes of the program have other names, and keep them
-other_class : (policy : Policy) (olds news more : List LinkedClass) → Each (IsWovenClass policy) olds news → AllByRecursion (λ (c : LinkedClass). c.name ≢ state_name) olds → (own : ℕ)
+other_class : (plan : Plan) (count : ℕ) (olds news more : List LinkedClass) → Each (IsWovenClass plan count) olds news → AllByRecursion (λ (c : LinkedClass). c.name ≢ state_name) olds → (own : ℕ)
     → own < length olds → is_state (news ++ more) own ≡ false
-other_class policy [] news more each free own lt = absurd (omega (arith, lt))
-other_class policy (class ∷ olds) [] more each free own lt = absurd each
-other_class policy (class ∷ olds) (x ∷ news) more each free zero lt = ap (λ (name : List ℕ). bytes_eq name state_name) each.0.name ∙ other_name class.name free.0
-other_class policy (class ∷ olds) (x ∷ news) more each free (suc own) lt = other_class policy olds news more each.1 free.1 own (omega (arith, lt))
+other_class plan count [] news more each free own lt = absurd (omega (arith, lt))
+other_class plan count (class ∷ olds) [] more each free own lt = absurd each
+other_class plan count (class ∷ olds) (x ∷ news) more each free zero lt = ap (λ (name : List ℕ). bytes_eq name state_name) each.0.name ∙ other_name class.name free.0
+other_class plan count (class ∷ olds) (x ∷ news) more each free (suc own) lt = other_class plan count olds news more each.1 free.1 own (omega (arith, lt))
 
 free_field : (classes : List LinkedClass) (count : ℕ) (ref : Target) → ((of index : ℕ) → ref ≡ target.Field of index → of < count) → ((own : ℕ) → own < count → is_state classes own ≡ false)
     → is_variable classes ref ≡ false
@@ -109,8 +113,8 @@ free_field classes count (target.Literal i) within free = refl
 -- ---- a program
 
 module _ (old new : Program) (policy : Policy) (made : Woven) (typing : Typing) (of : AllByRecursion IsOfFile old.classes) (sound : IsSound old) (right : AreRightOperands old)
-    (free : IsFreeOfState old) (is : IsWoven old policy new) (weaves : woven old policy ≡ Ok made) (typed : IsTyped new typing) (shaped : IsShaped new typing.frames)
-    (stopped : IsStopped old policy new typing) where
+    (free : IsFreeOfState old) (is : IsWoven old (denying policy) policy.vars new) (weaves : woven old (denying policy) policy.vars ≡ Ok made) (typed : IsTyped new typing) (shaped : IsShaped new typing.frames)
+    (stopped : IsStopped old (denying policy) policy new typing) (denies : DeniesOnly policy) where
   abbrev certificate : Certificate
   certificate = certificate_of old.classes policy made.origins typing
 
@@ -123,13 +127,13 @@ module _ (old new : Program) (policy : Policy) (made : Woven) (typing : Typing) 
   pub notes_shaped : IsShaped new certificate.notes
   notes_shaped =
       ap (λ (os : List (List (List Origin))). map (map length) (notes_of policy old.classes os typing.frames)) told_is
-      ∙ classes_shaped policy old.classes is.own is.state is.last is.classes sound.classes typing.frames frames_shaped ∙ ap (map class_sizes) (sym is.are)
+      ∙ classes_shaped policy (length old.classes) old.classes is.own is.state is.last is.classes sound.classes typing.frames frames_shaped ∙ ap (map class_sizes) (sym is.are)
 
   -- ---- a method
 
   module _ (own index : ℕ) (class other : LinkedClass) (method woven : Method) (class_there : slice_get old.classes own ≡ Some class) (other_there : slice_get new.classes own ≡ Some other)
-      (of_class : IsWovenClass policy class other) (method_there : slice_get class.methods index ≡ Some method) (woven_there : slice_get other.methods index ≡ Some woven)
-      (of_method : IsWovenMethod policy other.file.pool method woven) where
+      (of_class : IsWovenClass (denying policy) (length old.classes) class other) (method_there : slice_get class.methods index ≡ Some method) (woven_there : slice_get other.methods index ≡ Some woven)
+      (of_method : IsWovenMethod (denying policy) (length old.classes) other.file.pool method woven) where
     abbrev frames : List (Option FrameType)
     frames = frames_in other.methods (frames_told typing own) index
 
@@ -137,7 +141,7 @@ module _ (old new : Program) (policy : Policy) (made : Woven) (typing : Typing) 
     sound_class = all_get IsSoundClass old.classes own class sound.classes class_there
 
     body : IsStanding policy other.file.pool method woven
-    body = record { of_method = of_method; sound = all_get IsSoundMethod class.methods index method sound_class.methods method_there }
+    body = record { state = length old.classes; of_method = of_method; sound = all_get IsSoundMethod class.methods index method sound_class.methods method_there }
 
     at_is : method_at new own index ≡ Some woven
     at_is = ap (option_and_then (λ (c : LinkedClass). slice_get c.methods index)) other_there ∙ woven_there
@@ -159,6 +163,7 @@ module _ (old new : Program) (policy : Policy) (made : Woven) (typing : Typing) 
 
       ready : IsReady new.classes policy method woven frames
       ready = record {
+        denies = denies;
         unnamed = λ i ref e.
             let in_class = all_get (λ (c : LinkedClass). AllByRecursion (λ (m : Method). AllByRecursion IsFreeTarget m.refs) c.methods) old.classes own class free.operands class_there in
             let in_method = all_get (λ (m : Method). AllByRecursion IsFreeTarget m.refs) class.methods index method in_class method_there in
@@ -166,7 +171,7 @@ module _ (old new : Program) (policy : Policy) (made : Woven) (typing : Typing) 
         untouched = λ i ref e.
             let operand = (right_at i ref e).1 in
             free_field new.classes (length old.classes) ref operand.field
-            (λ k lt. ap (λ (cs : List LinkedClass). is_state cs k) is.are ∙ other_class policy old.classes is.own (is.state ∷ []) is.classes free.classes k lt);
+            (λ k lt. ap (λ (cs : List LinkedClass). is_state cs k) is.are ∙ other_class (denying policy) (length old.classes) old.classes is.own (is.state ∷ []) is.classes free.classes k lt);
         few = λ i listed e.
             let call = (right_at i (target.ApiMethod listed) e).1.listed listed refl in
             omega (arith, sound.listed.methods, slice_get_within old.listing.methods listed call.method call.there);
@@ -175,17 +180,17 @@ module _ (old new : Program) (policy : Policy) (made : Woven) (typing : Typing) 
         next = λ at insn there e to c. of_reached to (goes_on new typing typed own index at woven insn at_is there (to_reached at e) to c);
         caught = λ at insn handler there e c from to. of_reached handler.at (caught new typing typed own index at woven insn handler at_is there (to_reached at e) c from to);
         stopped = λ i k ref args e has_block past within.
-            elim (cases_Bool (is_some (frame_of frames (slice_index (fronts_of (sites_of policy method.max_locals method)) i + k)))) [
+            elim (cases_Bool (is_some (frame_of frames (slice_index (fronts_of (sites_of (denying policy) method.max_locals method)) i + k)))) [
               | inl there ↦
                   absurd (false≢true (sym (stopped own index i k class method ref args class_there method_there e has_block past within)
-                  ∙ to_reached (slice_index (fronts_of (sites_of policy method.max_locals method)) i + k) there))
+                  ∙ to_reached (slice_index (fronts_of (sites_of (denying policy) method.max_locals method)) i + k) there))
               | inr none ↦ none
             ];
       }
 
       notes_are : notes_in other.methods (notes_told certificate own) index ≡ told new.classes policy other.file.pool method woven body frames ready
       notes_are =
-          let same = coded_stay policy other.file.pool class.methods other.methods of_class.methods sound_class.methods index in
+          let same = coded_stay policy (length old.classes) other.file.pool class.methods other.methods of_class.methods sound_class.methods index in
           let old_has : has_code method ≡ true = code_stays policy other.file.pool method woven body ∙ has in
           ap (λ (os : List (List (List Origin))). list_at (list_at (notes_of policy old.classes os typing.frames) own) (length (coded (take index other.methods)))) told_is
           ∙ ap (λ (ns : List (List Note)). list_at ns (length (coded (take index other.methods)))) (class_noted policy old.classes typing.frames own class class_there)
@@ -227,18 +232,18 @@ module _ (old new : Program) (policy : Policy) (made : Woven) (typing : Typing) 
   pub no_fault : (own index at : ℕ) → note_fault_at new policy certificate own index at ≡ None
   no_fault own index at = by (slice_get new.classes own) refl
     where
-      in_class : (class other : LinkedClass) → slice_get old.classes own ≡ Some class → slice_get new.classes own ≡ Some other → IsWovenClass policy class other → (o : Option Method)
+      in_class : (class other : LinkedClass) → slice_get old.classes own ≡ Some class → slice_get new.classes own ≡ Some other → IsWovenClass (denying policy) (length old.classes) class other → (o : Option Method)
           → slice_get other.methods index ≡ o
           → option_and_then (λ (m : Method). reached_fault new policy (frames_in other.methods (frames_told typing own) index) (notes_in other.methods (notes_told certificate own) index) m at) o ≡ None
       in_class class other there other_there of_class None e = refl
       in_class class other there other_there of_class (Some woven) e =
-          let m = method_of policy other.file.pool class.methods other.methods of_class.methods index woven e in
+          let m = method_of (denying policy) (length old.classes) other.file.pool class.methods other.methods of_class.methods index woven e in
           method_passes own index class other m.0 woven there other_there of_class m.1 e m.2 at
 
       by : (o : Option LinkedClass) → slice_get new.classes own ≡ o → option_and_then (λ (c : LinkedClass). fault_in_class new policy certificate own c index at) o ≡ None
       by None e = refl
       by (Some other) e =
-          elim (class_of policy old.classes is.own is.state is.classes own other (ap (λ (cs : List LinkedClass). slice_get cs own) (sym is.are) ∙ e)) [
+          elim (class_of (denying policy) (length old.classes) old.classes is.own is.state is.classes own other (ap (λ (cs : List LinkedClass). slice_get cs own) (sym is.are) ∙ e)) [
             | inl found ↦ in_class found.0 other found.1 e found.2 (slice_get other.methods index) refl
             | inr same ↦
                 let none : other.methods ≡ [] = ap (λ (c : LinkedClass). c.methods) same ∙ is.last.methods in
@@ -248,6 +253,8 @@ module _ (old new : Program) (policy : Policy) (made : Woven) (typing : Typing) 
   pub all_conditions : IsAccepted new policy certificate
   all_conditions = record { frames = shaped; notes = notes_shaped; typed = typed; noted = no_fault }
 
-pub accepted : WovenIsAccepted
-accepted old new policy made typing standing sound sound_new right free is weaves typed shaped stopped =
-    all_conditions old new policy made typing (classes_of_files old standing) sound right free is weaves typed shaped stopped
+pub accepted : DenialIsBlock → WovenIsAccepted
+accepted denial_is old new policy made typing denies standing sound sound_new right free is weaves typed shaped stopped =
+    let same = plan_is policy denies denial_is in
+    all_conditions old new policy made typing (classes_of_files old standing) sound right free (subst (λ (plan : Plan). IsWoven old plan policy.vars new) same is)
+    (subst (λ (plan : Plan). woven old plan policy.vars ≡ Ok made) same weaves) typed shaped (subst (λ (plan : Plan). IsStopped old plan policy new typing) same stopped) denies

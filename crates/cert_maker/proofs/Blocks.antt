@@ -20,8 +20,8 @@ use Rattle.bytecode_model.specs.Described.{Descriptor, type_described}
 use Rattle.bytecode_model.specs.Wants.{all_met, of_kind, to_described}
 use Rattle.offset_patch.specs.declared.block.BlockInsn.TheVariants.{Plain, Local}
 use Rattle.offset_patch.specs.Splicing.{put}
-use Rattle.block_template.specs.Blocks.{local, store}
-use Rattle.block_template.specs.Outcome.{part_named}
+use Rattle.block_template.specs.Pushing.{local, store}
+use Rattle.class_weaving.specs.Outcome.{part_named}
 use Rattle.bytecode_model.specs.declared.program.Target.{Target}
 use Rattle.bytecode_model.specs.declared.program.Target.TheVariants as target
 use Rattle.cert_maker.specs.Framing.{IsOfKind, AreOfKinds}
@@ -39,8 +39,8 @@ pub record IsStore (insn : Insn) (named : Target) (kind : Kind) (slot : ℕ) : T
   pub next : (at : ℕ) → successors at insn ≡ (at + 1) ∷ []
   pub none : named ≡ target.None
 
-module _ (pool : List Const) (fronts : List ℕ) (begin : ℕ) (own : Insn) (ref : Target) where
-  numbers : (slot : ℕ) → slot < 4 → IsStore (put pool fronts begin own (Plain (59 + slot))) (part_named ref (Plain (59 + slot))) kinds.Int slot
+module _ (pool : List Const) (fronts : List ℕ) (begin : ℕ) (own : Insn) (state : ℕ) (ref : Target) where
+  numbers : (slot : ℕ) → slot < 4 → IsStore (put pool fronts begin own (Plain (59 + slot))) (part_named state ref (Plain (59 + slot))) kinds.Int slot
   unfolding opcode_at
   numbers zero lt = record { shape = refl; next = λ at. refl; none = refl }
   numbers (suc zero) lt = record { shape = refl; next = λ at. refl; none = refl }
@@ -48,7 +48,7 @@ module _ (pool : List Const) (fronts : List ℕ) (begin : ℕ) (own : Insn) (ref
   numbers (suc (suc (suc zero))) lt = record { shape = refl; next = λ at. refl; none = refl }
   numbers (suc (suc (suc (suc slot)))) lt = absurd (omega arith)
 
-  references : (slot : ℕ) → slot < 4 → IsStore (put pool fronts begin own (Plain (75 + slot))) (part_named ref (Plain (75 + slot))) kinds.Object slot
+  references : (slot : ℕ) → slot < 4 → IsStore (put pool fronts begin own (Plain (75 + slot))) (part_named state ref (Plain (75 + slot))) kinds.Object slot
   unfolding opcode_at
   references zero lt = record { shape = refl; next = λ at. refl; none = refl }
   references (suc zero) lt = record { shape = refl; next = λ at. refl; none = refl }
@@ -57,19 +57,19 @@ module _ (pool : List Const) (fronts : List ℕ) (begin : ℕ) (own : Insn) (ref
   references (suc (suc (suc (suc slot)))) lt = absurd (omega arith)
 
   short_or_long : (b : Bool) (slot short op : ℕ) (kind : Kind) → nat_lt slot 4 ≡ b
-      → (slot < 4 → IsStore (put pool fronts begin own (Plain (short + slot))) (part_named ref (Plain (short + slot))) kind slot)
-      → IsStore (put pool fronts begin own (Local op slot (nat_le 256 slot))) (part_named ref (Local op slot (nat_le 256 slot))) kind slot
-      → IsStore (put pool fronts begin own (cond b (Plain (short + slot)) (Local op slot (nat_le 256 slot)))) (part_named ref (cond b (Plain (short + slot)) (Local op slot (nat_le 256 slot)))) kind slot
+      → (slot < 4 → IsStore (put pool fronts begin own (Plain (short + slot))) (part_named state ref (Plain (short + slot))) kind slot)
+      → IsStore (put pool fronts begin own (Local op slot (nat_le 256 slot))) (part_named state ref (Local op slot (nat_le 256 slot))) kind slot
+      → IsStore (put pool fronts begin own (cond b (Plain (short + slot)) (Local op slot (nat_le 256 slot)))) (part_named state ref (cond b (Plain (short + slot)) (Local op slot (nat_le 256 slot)))) kind slot
   short_or_long true slot short op kind e f g = f (ltb-true _ _ e)
   short_or_long false slot short op kind e f g = g
 
-  number_is : (kind : Kind) (slot : ℕ) → held kind ≡ operands.Int → IsStore (put pool fronts begin own (local 0x3B 0x36 slot)) (part_named ref (local 0x3B 0x36 slot)) kind slot
+  number_is : (kind : Kind) (slot : ℕ) → held kind ≡ operands.Int → IsStore (put pool fronts begin own (local 0x3B 0x36 slot)) (part_named state ref (local 0x3B 0x36 slot)) kind slot
   unfolding opcode_at
   number_is kind slot e =
       let is = short_or_long (nat_lt slot 4) slot 59 54 kinds.Int refl (numbers slot) (record { shape = refl; next = λ at. refl; none = refl }) in
       record { shape = is.shape ∙ ap (λ (k : Operand). shapes.Store k slot) (sym e); next = is.next; none = is.none }
 
-  pub store_is : (kind : Kind) (slot : ℕ) → IsStore (put pool fronts begin own (store kind slot)) (part_named ref (store kind slot)) kind slot
+  pub store_is : (kind : Kind) (slot : ℕ) → IsStore (put pool fronts begin own (store kind slot)) (part_named state ref (store kind slot)) kind slot
   unfolding opcode_at
   store_is kinds.Object slot = short_or_long (nat_lt slot 4) slot 75 58 kinds.Object refl (references slot) (record { shape = refl; next = λ at. refl; none = refl })
   store_is kinds.Int slot = number_is kinds.Int slot refl

@@ -1,6 +1,6 @@
 -- A method and what is woven of it: where its instructions stand.
-use Rattle.std.proofs.Common.{◌≡◌, ℕ, zero, suc, ◌+◌, ◌-◌, ◌<◌, ◌≤◌, Bool, true, false, cond, List, [], ◌∷◌, length, map, Option, Some, None, refl, sym, ap, subst, ◌∙◌, inl, inr, arith}
-use Rattle.std.specs.Prelude.{max, nat_lt, slice_get, slice_index, option_map}
+use Rattle.std.proofs.Common.{◌≡◌, ℕ, zero, suc, ◌+◌, ◌-◌, ◌<◌, ◌≤◌, Bool, true, false, cond, List, [], ◌∷◌, ◌++◌, length, map, Option, Some, None, refl, sym, ap, subst, ◌∙◌, inl, inr, arith}
+use Rattle.std.specs.Prelude.{max, nat_lt, slice_get, slice_index, option_map, Contains}
 use Rattle.std.specs.Option.{option_map_or}
 use Rattle.std.proofs.lemmas.Bool.{cases_Bool, ltb-true, lt-ltb}
 use Rattle.std.proofs.lemmas.Bool.Decides.{nat_tests}
@@ -8,6 +8,7 @@ use Rattle.std.proofs.lemmas.Option.{slice_get_within}
 use Rattle.class_codec.specs.declared.tree.Const.{Const}
 use Rattle.class_codec.specs.Pool.{reference_at}
 use Rattle.insn_codec.specs.declared.insn.Insn.{Insn}
+use Rattle.bytecode_model.specs.declared.program.Handler.{Handler}
 use Rattle.bytecode_model.specs.declared.program.LinkedClass.{LinkedClass}
 use Rattle.bytecode_model.specs.declared.program.Method.{Method}
 use Rattle.bytecode_model.specs.declared.program.Program.{Program}
@@ -20,26 +21,32 @@ use Rattle.conspec_automaton.specs.declared.policy.Clause.{Clause}
 use Rattle.conspec_automaton.specs.declared.policy.Policy.{Policy}
 use Rattle.offset_patch.specs.declared.block.Block.{Block}
 use Rattle.offset_patch.specs.declared.block.BlockInsn.{BlockInsn}
-use Rattle.offset_patch.specs.Splicing.{fronts_of, put, parts_from, spliced, operands_needed}
-use Rattle.block_template.specs.Blocks.{clause_of, site_locals}
-use Rattle.block_template.specs.Outcome.{at_fronts, part_named, parts_named, IsWovenMethod, IsWovenClass}
-use Rattle.block_template.specs.Woven.{is_woven, sites_of, most_locals, locals_of}
+use Rattle.offset_patch.specs.declared.block.PoolWant.{PoolWant}
+use Rattle.offset_patch.specs.declared.block.PoolWant.TheVariants.{Exit}
+use Rattle.offset_patch.specs.Entries.{place_in}
+use Rattle.offset_patch.specs.Splicing.{fronts_of, put, parts_from, spliced, wants_of, operands_needed}
+use Rattle.block_template.specs.Denial.{clause_of}
+use Rattle.class_weaving.specs.Outcome.{at_fronts, handlers_with, part_named, parts_named, wants_woven, way_out, IsWovenMethod, IsWovenClass}
+use Rattle.class_weaving.specs.Woven.{is_woven, sites_of, most_locals, locals_of}
 use Rattle.bytecode_model.specs.Named.{IsRightOperand}
 use Rattle.cert_maker.specs.Framing.{arguments_of, moved_in, TellsArguments}
+use Rattle.cert_maker.proofs.Denying.{catch_nothing, denying, names_way_out, site_locals}
 use Rattle.cert_maker.proofs.Larger.{IsLarger}
 use Rattle.cert_maker.proofs.Parts.{some_is, part, part_some, before, total, front_is, before_end, before_grows, named_at, insn_at, insns_many}
 use Rattle.cert_maker.proofs.Unwoven.{AreAlone, all_alone, insns_alone, named_alone, handlers_same, front_alone}
 
 -- A method and what is woven of it, whose blocks name constants of the pool.
 pub record IsStanding (policy : Policy) (pool : List Const) (method made : Method) : Type 0 where
-  pub of_method : IsWovenMethod policy pool method made
+  -- the index of conspec/State
+  pub state : ℕ
+  pub of_method : IsWovenMethod (denying policy) state pool method made
   pub sound : IsSoundMethod method
 
 -- A method of a linked program, and what it is in the woven one.
 pub record IsWovenBody (policy : Policy) (old new : Program) (class other : LinkedClass) (method made : Method) : Type 0 where
   pub standing : IsStanding policy other.file.pool method made
   pub larger : IsLarger old new
-  pub of_class : IsWovenClass policy class other
+  pub of_class : IsWovenClass (denying policy) standing.state class other
   pub right : (at : ℕ) (insn : Insn) (ref : Target) → slice_get method.insns at ≡ Some insn → slice_get method.refs at ≡ Some ref → IsRightOperand old class insn ref
   pub references : (at : ℕ) (insn : Insn) → slice_get method.insns at ≡ Some insn → reference_at other.file.pool (index_of insn) ≡ reference_at class.file.pool (index_of insn)
   pub tells : TellsArguments old.listing policy
@@ -52,12 +59,12 @@ max_left a b = omega arith
 max_right : (a b c : ℕ) → c ≤ b → c ≤ max a b
 max_right a b c le = omega (arith, le)
 
-pub most_there : (policy : Policy) (refs : List Target) (i : ℕ) (ref : Target) → slice_get refs i ≡ Some ref → site_locals policy ref ≤ most_locals policy refs
+pub most_there : (policy : Policy) (refs : List Target) (i : ℕ) (ref : Target) → slice_get refs i ≡ Some ref → site_locals policy ref ≤ most_locals (denying policy) refs
 most_there policy [] i ref e = absurd cc
 most_there policy (r ∷ refs) zero ref e =
     let same : r ≡ ref = cc in
-    rw same (max_left (site_locals policy ref) (most_locals policy refs))
-most_there policy (r ∷ refs) (suc i) ref e = max_right (site_locals policy r) (most_locals policy refs) (site_locals policy ref) (most_there policy refs i ref e)
+    rw same (max_left (site_locals policy ref) (most_locals (denying policy) refs))
+most_there policy (r ∷ refs) (suc i) ref e = max_right (site_locals policy r) (most_locals (denying policy) refs) (site_locals policy ref) (most_there policy refs i ref e)
 
 pub locals_told : (policy : Policy) (ref : Target) (args : List Kind) → arguments_of policy ref ≡ Some args → site_locals policy ref ≡ length args
 locals_told policy (target.ApiMethod method) args e = by (clause_of policy method) e
@@ -89,7 +96,7 @@ module _ (policy : Policy) (pool : List Const) (method made : Method) (body : Is
   refs = method.refs
 
   abbrev pub sites : List (Option Block)
-  sites = sites_of policy method.max_locals method
+  sites = sites_of (denying policy) method.max_locals method
 
   abbrev pub fronts : List ℕ
   fronts = fronts_of sites
@@ -98,7 +105,7 @@ module _ (policy : Policy) (pool : List Const) (method made : Method) (body : Is
   n = length method.insns
 
   abbrev pub moved : ℕ → ℕ
-  moved at = moved_in policy method at
+  moved at = moved_in (denying policy) method at
 
   abbrev pub front : ℕ → ℕ
   front i = before policy base refs i
@@ -108,30 +115,30 @@ module _ (policy : Policy) (pool : List Const) (method made : Method) (body : Is
 
   -- ---- the code
 
-  is_alone : is_woven policy method ≡ false → AreAlone policy base refs
+  is_alone : is_woven (denying policy) method ≡ false → AreAlone policy base refs
   is_alone fails = all_alone policy base refs fails
 
-  insns_of : (b : Bool) → is_woven policy method ≡ b
+  insns_of : (b : Bool) → is_woven (denying policy) method ≡ b
       → cond b (spliced pool method.insns sites) method.insns ≡ parts_from pool fronts 0 method.insns sites
   insns_of true e = refl
   insns_of false e = sym (insns_alone policy base pool method.insns refs (is_alone e) (sym same_length) body.sound.targets)
 
   pub insns_are : made.insns ≡ parts_from pool fronts 0 method.insns sites
-  insns_are = body.of_method.insns ∙ insns_of (is_woven policy method) refl
+  insns_are = body.of_method.insns ∙ insns_of (is_woven (denying policy) method) refl
 
-  refs_of : (b : Bool) → is_woven policy method ≡ b → cond b (parts_named refs sites) refs ≡ parts_named refs sites
+  refs_of : (b : Bool) → is_woven (denying policy) method ≡ b → cond b (parts_named body.state refs sites) refs ≡ parts_named body.state refs sites
   refs_of true e = refl
-  refs_of false e = sym (named_alone policy base refs (is_alone e))
+  refs_of false e = sym (named_alone policy base body.state refs (is_alone e))
 
-  pub refs_are : made.refs ≡ parts_named refs sites
-  refs_are = body.of_method.refs ∙ refs_of (is_woven policy method) refl
+  pub refs_are : made.refs ≡ parts_named body.state refs sites
+  refs_are = body.of_method.refs ∙ refs_of (is_woven (denying policy) method) refl
 
-  handlers_of : (b : Bool) → is_woven policy method ≡ b → cond b (map (at_fronts fronts) method.handlers) method.handlers ≡ map (at_fronts fronts) method.handlers
-  handlers_of true e = refl
+  handlers_of : (b : Bool) → is_woven (denying policy) method ≡ b → cond b (handlers_with sites method.handlers) method.handlers ≡ map (at_fronts fronts) method.handlers
+  handlers_of true e = ap (λ (own : List Handler). own ++ map (at_fronts fronts) method.handlers) (catch_nothing policy base 0 refs)
   handlers_of false e = sym (handlers_same policy base fronts n (λ i le. front_alone policy base refs (is_alone e) i (omega (arith, le, same_length))) method.handlers body.sound.handlers)
 
   pub handlers_are : made.handlers ≡ map (at_fronts fronts) method.handlers
-  handlers_are = body.of_method.handlers ∙ handlers_of (is_woven policy method) refl
+  handlers_are = body.of_method.handlers ∙ handlers_of (is_woven (denying policy) method) refl
 
   -- ---- sizes
 
@@ -140,15 +147,15 @@ module _ (policy : Policy) (pool : List Const) (method made : Method) (body : Is
   more_of false x k = omega arith
 
   pub stack_more : method.max_stack ≤ made.max_stack
-  stack_more = subst (λ (m : ℕ). method.max_stack ≤ m) (sym body.of_method.max_stack) (more_of (is_woven policy method) method.max_stack operands_needed)
+  stack_more = subst (λ (m : ℕ). method.max_stack ≤ m) (sym body.of_method.max_stack) (more_of (is_woven (denying policy) method) method.max_stack operands_needed)
 
   pub locals_more : method.max_locals ≤ made.max_locals
-  locals_more = subst (λ (m : ℕ). method.max_locals ≤ m) (sym body.of_method.max_locals) (more_of (is_woven policy method) method.max_locals (locals_of policy method))
+  locals_more = subst (λ (m : ℕ). method.max_locals ≤ m) (sym body.of_method.max_locals) (more_of (is_woven (denying policy) method) method.max_locals (locals_of (denying policy) method))
 
   -- An instruction with a block is in a method that is woven.
-  pub woven_at : (i : ℕ) (ref : Target) (args : List Kind) → slice_get refs i ≡ Some ref → arguments_of policy ref ≡ Some args → is_woven policy method ≡ true
+  pub woven_at : (i : ℕ) (ref : Target) (args : List Kind) → slice_get refs i ≡ Some ref → arguments_of policy ref ≡ Some args → is_woven (denying policy) method ≡ true
   woven_at i ref args e told =
-      elim (cases_Bool (is_woven policy method)) [
+      elim (cases_Bool (is_woven (denying policy) method)) [
         | inl is ↦ is
         | inr fails ↦
             let none : arguments_of policy ref ≡ None = alone_at policy base refs (is_alone fails) i ref e in
@@ -156,13 +163,19 @@ module _ (policy : Policy) (pool : List Const) (method made : Method) (body : Is
             absurd cc
       ]
 
-  pub stack_three : is_woven policy method ≡ true → made.max_stack ≡ method.max_stack + 3
+  -- The way out is that of the pool that the blocks name.
+  pub way_out_there : (i : ℕ) (ref : Target) (args : List Kind) → slice_get refs i ≡ Some ref → arguments_of policy ref ≡ Some args → reference_at pool (place_in pool Exit) ≡ Some way_out
+  way_out_there i ref args e told =
+      let wants : wants_woven (denying policy) method ≡ wants_of sites = ap (λ (b : Bool). cond b (wants_of sites) []) (woven_at i ref args e told) in
+      body.of_method.out (subst (λ (ws : List PoolWant). Contains ws Exit) (sym wants) (names_way_out policy base refs i ref args e told))
+
+  pub stack_three : is_woven (denying policy) method ≡ true → made.max_stack ≡ method.max_stack + 3
   stack_three is = body.of_method.max_stack ∙ ap (λ (b : Bool). cond b (method.max_stack + operands_needed) method.max_stack) is
 
   pub slots : (i : ℕ) (ref : Target) (args : List Kind) → slice_get refs i ≡ Some ref → arguments_of policy ref ≡ Some args → method.max_locals + length args ≤ made.max_locals
   slots i ref args e told =
-      let is : made.max_locals ≡ method.max_locals + locals_of policy method =
-      body.of_method.max_locals ∙ ap (λ (b : Bool). cond b (method.max_locals + locals_of policy method) method.max_locals) (woven_at i ref args e told) in
+      let is : made.max_locals ≡ method.max_locals + locals_of (denying policy) method =
+      body.of_method.max_locals ∙ ap (λ (b : Bool). cond b (method.max_locals + locals_of (denying policy) method) method.max_locals) (woven_at i ref args e told) in
       omega (arith, is, most_there policy refs i ref e, locals_told policy ref args told)
 
   -- ---- where instructions stand
@@ -244,10 +257,10 @@ module _ (policy : Policy) (pool : List Const) (method made : Method) (body : Is
       ∙ ap (option_map (put pool fronts (front i) insn)) g
 
   pub ref_there : (i k : ℕ) (ref : Target) (b : BlockInsn) → slice_get refs i ≡ Some ref → slice_get (part policy base ref) k ≡ Some b
-      → slice_get made.refs (front i + k) ≡ Some (part_named ref b)
+      → slice_get made.refs (front i + k) ≡ Some (part_named body.state ref b)
   ref_there i k ref b f g =
-      ap (λ (xs : List Target). slice_get xs (front i + k)) refs_are ∙ named_at policy base refs i k ref f (slice_get_within (part policy base ref) k b g)
-      ∙ ap (option_map (part_named ref)) g
+      ap (λ (xs : List Target). slice_get xs (front i + k)) refs_are ∙ named_at policy base body.state refs i k ref f (slice_get_within (part policy base ref) k b g)
+      ∙ ap (option_map (part_named body.state ref)) g
 
   pub made_long : length made.insns ≡ total policy base refs
   made_long = ap length insns_are ∙ insns_many policy base pool fronts 0 method.insns refs (sym same_length)

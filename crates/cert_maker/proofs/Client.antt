@@ -28,11 +28,12 @@ use Rattle.bytecode_model.specs.Rules.{Frames, frame_of, stack_fits, locals_fit,
 use Rattle.bytecode_model.specs.Typed.{row_in, place_at}
 use Rattle.bytecode_model.specs.Wants.{takes}
 use Rattle.offset_patch.specs.Splicing.{aimed}
-use Rattle.block_template.specs.Outcome.{at_fronts}
+use Rattle.class_weaving.specs.Outcome.{at_fronts}
 use Rattle.cert_maker.specs.Framing.{arguments_of, moved_in, without, part_framed, low, frames_woven}
 use Rattle.cert_maker.specs.Renaming.{renamed, frame_renamed}
 use Rattle.cert_maker.proofs.Aiming.{has_shape, opcode_stays, index_stays, successors_moved}
 use Rattle.cert_maker.proofs.Body.{IsWovenBody, fronts, same_length, handlers_are, stack_more, locals_more, fronts_are, moved_is, front_of, moved_next, moved_once}
+use Rattle.cert_maker.proofs.Denying.{denying}
 use Rattle.cert_maker.proofs.Kept.{IsKept, and_kept}
 use Rattle.cert_maker.proofs.Larger.{assigns_kept, below_kept}
 use Rattle.cert_maker.proofs.Parts.{part, part_some, before, before_grows, before_next, frame_at}
@@ -81,13 +82,13 @@ module _ (policy : Policy) (old new : Program) (own : ℕ) (class other : Linked
   fr i = before policy method.max_locals method.refs i
 
   abbrev pub mv : ℕ → ℕ
-  mv at = moved_in policy method at
+  mv at = moved_in (denying policy) method at
 
   abbrev pub fs : List ℕ
   fs = fronts policy other.file.pool method made body.standing
 
   abbrev pub woven : Frames
-  woven = frames_woven policy method frames
+  woven = frames_woven (denying policy) policy method frames
 
   abbrev pub client : ℕ → Insn → Place
   client i insn = place_at old own class method i insn

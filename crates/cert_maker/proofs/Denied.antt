@@ -33,13 +33,14 @@ use Rattle.offset_patch.specs.declared.block.BlockInsn.{BlockInsn}
 use Rattle.offset_patch.specs.declared.block.BlockInsn.TheVariants.{Plain, Byte, Want as Wanted}
 use Rattle.offset_patch.specs.declared.block.PoolWant.TheVariants.{StateClass, Exit}
 use Rattle.offset_patch.specs.Splicing.{aimed, put}
-use Rattle.block_template.specs.Blocks.{store, denial, clause_of}
-use Rattle.block_template.specs.Outcome.{part_named, way_out_index}
+use Rattle.block_template.specs.Denial.{clause_of, denial}
+use Rattle.block_template.specs.Pushing.{store}
+use Rattle.class_weaving.specs.Outcome.{part_named, way_out_index}
 use Rattle.bytecode_model.specs.Named.{IsListedCall}
 use Rattle.cert_maker.specs.Framing.{arguments_of, without, with, block_framed, part_framed, AreOfKinds}
 use Rattle.cert_maker.specs.Renaming.{renamed, frame_renamed}
 use Rattle.cert_maker.proofs.Blocks.{held, store_is, all_held, held_at}
-use Rattle.cert_maker.proofs.Body.{IsWovenBody, stack_three, slots, woven_at, moved_is, insn_there, ref_there}
+use Rattle.cert_maker.proofs.Body.{IsWovenBody, stack_three, slots, way_out_there, woven_at, moved_is, insn_there, ref_there}
 use Rattle.cert_maker.proofs.Client.{fr, mv, fs, woven, here, row_here, at_front, renewed_low, frame_in, caught_kept, entry_there}
 use Rattle.cert_maker.proofs.Parts.{part, part_denied, denial_length, some_is}
 use Rattle.cert_maker.proofs.Passing.{Passes, row_met}
@@ -261,7 +262,7 @@ module _ (policy : Policy) (old new : Program) (own : ℕ) (class other : Linked
       stands k b e = ap (λ (xs : List BlockInsn). slice_get xs k) (part_denied policy base ref args has) ∙ e
 
       -- a row that is met at a place where this stands, with this frame
-      met_at : (k : ℕ) (b : BlockInsn) (r : Target) (now : FrameType) → k < m + m + 9 → slice_get (denial base args).insns k ≡ Some b → part_named ref b ≡ r
+      met_at : (k : ℕ) (b : BlockInsn) (r : Target) (now : FrameType) → k < m + m + 9 → slice_get (denial base args).insns k ≡ Some b → part_named body.standing.state ref b ≡ r
           → slice_get (block_framed m frame) k ≡ Some (Some now)
           → Passes all (spot k (put other.file.pool (fs policy old new own class other method made body frames told met) start insn b) r) now
           → row_in new own other made all (start + k) ≡ None
@@ -303,7 +304,7 @@ module _ (policy : Policy) (old new : Program) (own : ℕ) (class other : Linked
           let slot : ℕ = base + (m - 1 - k) in
           let b : BlockInsn = store a.kind slot in
           let x : Insn = put other.file.pool aims start insn b in
-          let is = store_is other.file.pool aims start insn ref a.kind slot in
+          let is = store_is other.file.pool aims start insn body.standing.state ref a.kind slot in
           let at : length frame.stack - 1 - k ≡ length f.stack - length args + (m - 1 - k) = omega (arith, frame_height, lt, many) in
           let t : VType = renamed (mv policy old new own class other method made body frames told met) a.type in
           let type_there : slice_get frame.stack (length frame.stack - 1 - k) ≡ Some t =
@@ -374,7 +375,7 @@ module _ (policy : Policy) (old new : Program) (own : ℕ) (class other : Linked
           met_at (m + 3) (Wanted 0xB8 Exit) (target.Builtin way_out_index) (with types.Int bare) (omega arith) (behind_at base args 3) refl (framed_at m frame 3)
           (goes_next (m + 3) (omega arith) (insns.Pool 184 (place_in other.file.pool Exit)) (target.Builtin way_out_index) (with types.Int bare) bare
           (exits new own other made (start + (m + 3)) bare bare_locals bare_height (place_in other.file.pool Exit) way_out_index
-          (body.standing.of_method.out (woven_at policy other.file.pool method made body.standing i ref args names has)))
+          (way_out_there policy other.file.pool method made body.standing i ref args names has))
           refl (later 3 (with types.Int bare) (omega arith)) refl (omega arith)
           (next_place 3 (Some bare) (framed_at m frame 4)))
 
@@ -400,7 +401,7 @@ module _ (policy : Policy) (old new : Program) (own : ℕ) (class other : Linked
           let b = slice_there (part policy base ref) k (omega (arith, lt, long)) in
           let no : ((start + k) == 0) ≡ false = ne_eqb (start + k) 0 (λ e. absurd (omega (arith, e, le))) in
           let x : Insn = put other.file.pool aims start insn b.0 in
-          row_here policy old new own class other method made body frames told met (start + k) x (part_named ref b.0) None
+          row_here policy old new own class other method made body frames told met (start + k) x (part_named body.standing.state ref b.0) None
           (insn_there policy other.file.pool method made body.standing i k insn ref b.0 there names b.1)
           (ref_there policy other.file.pool method made body.standing i k ref b.0 names b.1)
           (frame_place k None lt (unreached_at m frame k le lt))

@@ -14,10 +14,11 @@ use Rattle.bytecode_model.specs.Classes.{classes_of, is_below, is_interface}
 use Rattle.bytecode_model.specs.Heads.{head_of}
 use Rattle.cert_format.specs.declared.typing.VType.{VType}
 use Rattle.cert_format.specs.declared.typing.VType.TheVariants as types
-use Rattle.conspec_automaton.specs.declared.policy.Policy.{Policy}
+use Rattle.conspec_tree.specs.declared.types.Var.{Var}
+use Rattle.offset_patch.specs.Plan.{Plan}
 use Rattle.bytecode_model.specs.Arrays.{is_array}
 use Rattle.bytecode_model.specs.Assigning.{class_fits, named, reference_of, leaf_fits, component_fits, array_fits, name_fits, assignable}
-use Rattle.block_template.specs.Outcome.{Each, IsWovenClass, IsWoven}
+use Rattle.class_weaving.specs.Outcome.{Each, IsWovenClass, IsWoven}
 use Rattle.cert_maker.specs.Renaming.{renamed}
 use Rattle.cert_maker.proofs.Kept.{or_kept, and_kept}
 
@@ -162,15 +163,15 @@ module _ (old new : Program) (larger : IsLarger old new) where
 
 -- ---- woven programs
 
-same_heads : (policy : Policy) (old own : List LinkedClass) → Each (IsWovenClass policy) old own
+same_heads : (plan : Plan) (state : ℕ) (old own : List LinkedClass) → Each (IsWovenClass plan state) old own
     → map (λ (c : LinkedClass). head_of c.file) own ≡ map (λ (c : LinkedClass). head_of c.file) old
-same_heads policy [] [] each = refl
-same_heads policy [] (y ∷ own) each = absurd each
-same_heads policy (x ∷ old) [] each = absurd each
-same_heads policy (x ∷ old) (y ∷ own) each = rw (each.0.head, same_heads policy old own each.1) refl
+same_heads plan state [] [] each = refl
+same_heads plan state [] (y ∷ own) each = absurd each
+same_heads plan state (x ∷ old) [] each = absurd each
+same_heads plan state (x ∷ old) (y ∷ own) each = rw (each.0.head, same_heads plan state old own each.1) refl
 
-pub woven_larger : (old new : Program) (policy : Policy) → IsWoven old policy new → IsLarger old new
-woven_larger old new policy woven =
+pub woven_larger : (old new : Program) (plan : Plan) (vars : List Var) → IsWoven old plan vars new → IsLarger old new
+woven_larger old new plan vars woven =
     let heads : List LinkedClass → List ListedClass = λ classes. map (λ (c : LinkedClass). head_of c.file) classes in
     record {
       more = head_of woven.state.file ∷ [];
@@ -178,6 +179,6 @@ woven_larger old new policy woven =
           ap (λ (cs : List ListedClass). cs ++ heads new.classes) (ap (λ l. l.classes) woven.listing)
           ∙ ap (λ (cs : List LinkedClass). old.listing.classes ++ heads cs) woven.are
           ∙ ap (λ (hs : List ListedClass). old.listing.classes ++ hs)
-          (map-append (λ (c : LinkedClass). head_of c.file) woven.own (woven.state ∷ []) ∙ ap (λ (hs : List ListedClass). hs ++ head_of woven.state.file ∷ []) (same_heads policy old.classes woven.own woven.classes))
+          (map-append (λ (c : LinkedClass). head_of c.file) woven.own (woven.state ∷ []) ∙ ap (λ (hs : List ListedClass). hs ++ head_of woven.state.file ∷ []) (same_heads plan (length old.classes) old.classes woven.own woven.classes))
           ∙ sym (append_assoc old.listing.classes (heads old.classes) (head_of woven.state.file ∷ []));
     }

@@ -2,6 +2,7 @@ pub mod Kept
 pub mod Taking
 pub mod Yielding
 pub mod Rows
+pub mod Denying
 pub mod Parts
 pub mod Larger
 pub mod Stacks

@@ -16,8 +16,8 @@ use Rattle.bytecode_model.specs.Heads.{is_abstract}
 use Rattle.bytecode_model.specs.Shape.{has_code}
 use Rattle.bytecode_model.specs.Standing.{AreStanding, IsAllowed, IsClassAt, IsStanding, IsOfMember as StandsFor}
 use Rattle.bytecode_model.proofs.Lists.{all_get}
-use Rattle.block_template.specs.Outcome.{Each}
-use Rattle.block_template.specs.Woven.{first_code}
+use Rattle.class_weaving.specs.Outcome.{Each}
+use Rattle.class_weaving.specs.Woven.{first_code}
 
 -- ---- a method
 

@@ -14,7 +14,8 @@ use Rattle.offset_patch.specs.declared.block.BlockInsn.TheVariants.{Plain, Local
 use Rattle.bytecode_model.specs.declared.origin.Origin.{Origin}
 use Rattle.bytecode_model.specs.declared.origin.Origin.TheVariants as origins
 use Rattle.offset_patch.specs.Splicing.{origin_of, part_origins}
-use Rattle.block_template.specs.Blocks.{local, store, site}
+use Rattle.block_template.specs.Pushing.{local, store}
+use Rattle.cert_maker.proofs.Denying.{site}
 use Rattle.cert_maker.proofs.Parts.{get_left, get_right, part, before, total}
 
 numbered_at : {A B : Type 0} (f : ℕ × A → B) (from : ℕ) (xs : List A) (k : ℕ) (x : A) → slice_get xs k ≡ Some x → slice_get (map f (enumerate_from from xs)) k ≡ Some (f (from + k, x))

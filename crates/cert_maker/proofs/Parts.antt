@@ -11,17 +11,17 @@ use Rattle.class_codec.specs.declared.tree.Const.{Const}
 use Rattle.cert_format.specs.declared.typing.FrameType.{FrameType}
 use Rattle.insn_codec.specs.declared.insn.Insn.{Insn}
 use Rattle.bytecode_model.specs.declared.program.Target.{Target}
-use Rattle.bytecode_model.specs.declared.program.Target.TheVariants as target
 use Rattle.conspec_tree.specs.declared.types.Kind.{Kind}
-use Rattle.conspec_automaton.specs.declared.policy.Clause.{Clause}
 use Rattle.conspec_automaton.specs.declared.policy.Policy.{Policy}
 use Rattle.bytecode_model.specs.Rules.{Frames}
 use Rattle.offset_patch.specs.declared.block.BlockInsn.{BlockInsn}
 use Rattle.offset_patch.specs.declared.block.BlockInsn.TheVariants.{Call}
 use Rattle.offset_patch.specs.Splicing.{part_of, fronts_from, put, parts_from}
-use Rattle.block_template.specs.Blocks.{store, save, loads, lock, stop, unlock, denial, clause_of, site}
-use Rattle.block_template.specs.Outcome.{part_named, parts_named}
+use Rattle.block_template.specs.Denial.{denial, loaded, locked, saved, stopped, unlocked}
+use Rattle.block_template.specs.Pushing.{store}
+use Rattle.class_weaving.specs.Outcome.{part_named, parts_named}
 use Rattle.cert_maker.specs.Framing.{arguments_of, without, stopping, block_framed, part_framed, parts_framed}
+use Rattle.cert_maker.proofs.Denying.{site, site_told}
 
 -- ---- lists
 
@@ -43,19 +43,19 @@ some_is x y e = cc
 
 -- ---- blocks
 
-pub saved_length : (base : ℕ) (kinds : List Kind) → length (save base kinds) ≡ length kinds
+pub saved_length : (base : ℕ) (kinds : List Kind) → length (saved base kinds) ≡ length kinds
 saved_length base [] = refl
-saved_length base (kind ∷ kinds) = omega (arith, length-append (save (base + 1) kinds) (store kind base ∷ []), saved_length (base + 1) kinds)
+saved_length base (kind ∷ kinds) = omega (arith, length-append (saved (base + 1) kinds) (store kind base ∷ []), saved_length (base + 1) kinds)
 
-loads_length : (base : ℕ) (kinds : List Kind) → length (loads base kinds) ≡ length kinds
-loads_length base [] = refl
-loads_length base (kind ∷ kinds) = omega (arith, loads_length (base + 1) kinds)
+loaded_length : (base : ℕ) (kinds : List Kind) → length (loaded base kinds) ≡ length kinds
+loaded_length base [] = refl
+loaded_length base (kind ∷ kinds) = omega (arith, loaded_length (base + 1) kinds)
 
 pub denial_length : (base : ℕ) (kinds : List Kind) → length (denial base kinds).insns ≡ length kinds + length kinds + 9
 denial_length base kinds =
-    let tail : List BlockInsn = loads base kinds ++ Call ∷ [] in
-    let a : length tail ≡ length kinds + 1 = omega (arith, length-append (loads base kinds) (Call ∷ []), loads_length base kinds) in
-    omega (arith, a, length-append (save base kinds) (lock ++ (stop ++ (unlock ++ tail))), saved_length base kinds)
+    let tail : List BlockInsn = loaded base kinds ++ Call ∷ [] in
+    let a : length tail ≡ length kinds + 1 = omega (arith, length-append (loaded base kinds) (Call ∷ []), loaded_length base kinds) in
+    omega (arith, a, length-append (saved base kinds) (locked ++ (stopped ++ (unlocked ++ tail))), saved_length base kinds)
 
 framed_length : (n : ℕ) (frame : FrameType) → length (block_framed n frame) ≡ n + n + 9
 framed_length n frame =
@@ -70,27 +70,11 @@ module _ (policy : Policy) (base : ℕ) where
   abbrev pub part : Target → List BlockInsn
   part ref = part_of (site policy base ref)
 
-  -- The site of an instruction tells the kinds of the arguments.
-  pub site_told : (ref : Target) → site policy base ref ≡ option_map (denial base) (arguments_of policy ref)
-  site_told (target.ApiMethod method) = by (clause_of policy method)
-    where
-      by : (o : Option Clause) → option_map (λ (c : Clause). denial base c.args) o ≡ option_map (denial base) (option_map (λ (c : Clause). c.args) o)
-      by None = refl
-      by (Some c) = refl
-  site_told target.None = refl
-  site_told (target.Builtin i) = refl
-  site_told (target.Method c m) = refl
-  site_told (target.Field c f) = refl
-  site_told (target.ApiField i) = refl
-  site_told (target.ClassName name) = refl
-  site_told (target.Number n) = refl
-  site_told (target.Literal i) = refl
-
   pub part_alone : (ref : Target) → arguments_of policy ref ≡ None → part ref ≡ Call ∷ []
-  part_alone ref e = ap part_of (site_told ref ∙ ap (option_map (denial base)) e)
+  part_alone ref e = ap part_of (site_told policy base ref ∙ ap (option_map (denial base)) e)
 
   pub part_denied : (ref : Target) (args : List Kind) → arguments_of policy ref ≡ Some args → part ref ≡ (denial base args).insns
-  part_denied ref args e = ap part_of (site_told ref ∙ ap (option_map (denial base)) e)
+  part_denied ref args e = ap part_of (site_told policy base ref ∙ ap (option_map (denial base)) e)
 
   pub framed_as_long : (ref : Target) (frame : Option FrameType) → length (part_framed (arguments_of policy ref) frame) ≡ length (part ref)
   framed_as_long ref frame = by (arguments_of policy ref) refl frame
@@ -173,19 +157,19 @@ module _ (policy : Policy) (base : ℕ) where
   shifted : (a b c : ℕ) → (a + b) + c ≡ a + (b + c)
   shifted a b c = omega arith
 
-  pub named_at : (refs : List Target) (i k : ℕ) (ref : Target) → slice_get refs i ≡ Some ref → k < length (part ref)
-      → slice_get (parts_named refs (map (site policy base) refs)) (before refs i + k) ≡ option_map (part_named ref) (slice_get (part ref) k)
-  named_at [] i k ref e lt = absurd cc
-  named_at (r ∷ refs) zero k ref e lt =
+  pub named_at : (state : ℕ) (refs : List Target) (i k : ℕ) (ref : Target) → slice_get refs i ≡ Some ref → k < length (part ref)
+      → slice_get (parts_named state refs (map (site policy base) refs)) (before refs i + k) ≡ option_map (part_named state ref) (slice_get (part ref) k)
+  named_at state [] i k ref e lt = absurd cc
+  named_at state (r ∷ refs) zero k ref e lt =
       let same : r ≡ ref = cc in
       let at : 0 + k ≡ k = omega arith in
-      rw (same, at) (get_left (map (part_named ref) (part ref)) (parts_named refs (map (site policy base) refs)) k (omega (arith, lt, length-map (part ref) (part_named ref)))
-      ∙ slice_get-map (part_named ref) (part ref) k)
-  named_at (r ∷ refs) (suc i) k ref e lt =
-      let here : List Target = map (part_named r) (part r) in
-      let len : length here ≡ length (part r) = length-map (part r) (part_named r) in
+      rw (same, at) (get_left (map (part_named state ref) (part ref)) (parts_named state refs (map (site policy base) refs)) k (omega (arith, lt, length-map (part ref) (part_named state ref)))
+      ∙ slice_get-map (part_named state ref) (part ref) k)
+  named_at state (r ∷ refs) (suc i) k ref e lt =
+      let here : List Target = map (part_named state r) (part r) in
+      let len : length here ≡ length (part r) = length-map (part r) (part_named state r) in
       let at : before (r ∷ refs) (suc i) + k ≡ length here + (before refs i + k) = omega (arith, len) in
-      rw at (get_right here (parts_named refs (map (site policy base) refs)) (before refs i + k) ∙ named_at refs i k ref e lt)
+      rw at (get_right here (parts_named state refs (map (site policy base) refs)) (before refs i + k) ∙ named_at state refs i k ref e lt)
 
   pub insn_at : (pool : List Const) (fronts : List ℕ) (begin : ℕ) (own : List Insn) (refs : List Target) (i k : ℕ) (insn : Insn) (ref : Target)
       → slice_get own i ≡ Some insn → slice_get refs i ≡ Some ref → k < length (part ref)

@@ -11,7 +11,8 @@ use Rattle.conspec_tree.specs.declared.types.Kind.{Kind}
 use Rattle.bytecode_model.specs.Rules.{Frames}
 use Rattle.offset_patch.specs.declared.block.BlockInsn.{BlockInsn}
 use Rattle.offset_patch.specs.declared.block.BlockInsn.TheVariants.{Call}
-use Rattle.block_template.specs.Blocks.{store, save, loads, lock, stop, unlock, denial}
+use Rattle.block_template.specs.Denial.{denial, loaded, locked, saved, stopped, unlocked}
+use Rattle.block_template.specs.Pushing.{store}
 use Rattle.cert_maker.specs.Framing.{without, stopping, block_framed}
 use Rattle.cert_maker.proofs.Parts.{get_left, get_right, saved_length}
 
@@ -19,7 +20,7 @@ use Rattle.cert_maker.proofs.Parts.{get_left, get_right, saved_length}
 
 -- The last argument is stored first.
 pub saved_at : (base : ℕ) (kinds : List Kind) (k : ℕ) (kind : Kind) → k < length kinds → slice_get kinds (length kinds - 1 - k) ≡ Some kind
-    → slice_get (save base kinds) k ≡ Some (store kind (base + (length kinds - 1 - k)))
+    → slice_get (saved base kinds) k ≡ Some (store kind (base + (length kinds - 1 - k)))
 saved_at base [] k kind lt e = absurd (omega arith)
 saved_at base (first ∷ kinds) k kind lt e =
     elim (cases_Bool (nat_lt k (length kinds))) [
@@ -28,7 +29,7 @@ saved_at base (first ∷ kinds) k kind lt e =
           let at : length (first ∷ kinds) - 1 - k ≡ suc (length kinds - 1 - k) = omega (arith, less) in
           let there : slice_get kinds (length kinds - 1 - k) ≡ Some kind = rw at at e in
           let slot : (base + 1) + (length kinds - 1 - k) ≡ base + (length (first ∷ kinds) - 1 - k) = omega (arith, less) in
-          get_left (save (base + 1) kinds) (store first base ∷ []) k (omega (arith, less, saved_length (base + 1) kinds))
+          get_left (saved (base + 1) kinds) (store first base ∷ []) k (omega (arith, less, saved_length (base + 1) kinds))
           ∙ saved_at (base + 1) kinds k kind less there ∙ ap (λ n. Some (store kind n)) slot
       | inr fails ↦
           let same : k ≡ length kinds = grind (arith, nat_tests) in
@@ -37,23 +38,23 @@ saved_at base (first ∷ kinds) k kind lt e =
           let there : slice_get (first ∷ kinds) 0 ≡ Some kind = rw at at e in
           cc in
           let slot : base ≡ base + (length (first ∷ kinds) - 1 - k) = omega (arith, same) in
-          let k_is : k ≡ length (save (base + 1) kinds) + 0 = omega (arith, same, saved_length (base + 1) kinds) in
-          ap (slice_get (save base (first ∷ kinds))) k_is ∙ get_right (save (base + 1) kinds) (store first base ∷ []) 0
+          let k_is : k ≡ length (saved (base + 1) kinds) + 0 = omega (arith, same, saved_length (base + 1) kinds) in
+          ap (slice_get (saved base (first ∷ kinds))) k_is ∙ get_right (saved (base + 1) kinds) (store first base ∷ []) 0
           ∙ ap (λ (x : Kind). Some (store x base)) kind_is ∙ ap (λ n. Some (store kind n)) slot
     ]
 
 module _ (base : ℕ) (kinds : List Kind) where
   abbrev pub behind_saves : List BlockInsn
-  behind_saves = lock ++ (stop ++ (unlock ++ (loads base kinds ++ Call ∷ [])))
+  behind_saves = locked ++ (stopped ++ (unlocked ++ (loaded base kinds ++ Call ∷ [])))
 
   pub store_at : (k : ℕ) (kind : Kind) → k < length kinds → slice_get kinds (length kinds - 1 - k) ≡ Some kind
       → slice_get (denial base kinds).insns k ≡ Some (store kind (base + (length kinds - 1 - k)))
-  store_at k kind lt e = get_left (save base kinds) behind_saves k (omega (arith, lt, saved_length base kinds)) ∙ saved_at base kinds k kind lt e
+  store_at k kind lt e = get_left (saved base kinds) behind_saves k (omega (arith, lt, saved_length base kinds)) ∙ saved_at base kinds k kind lt e
 
   pub behind_at : (r : ℕ) → slice_get (denial base kinds).insns (length kinds + r) ≡ slice_get behind_saves r
   behind_at r =
-      let n : length kinds + r ≡ length (save base kinds) + r = omega (arith, saved_length base kinds) in
-      ap (slice_get (denial base kinds).insns) n ∙ get_right (save base kinds) behind_saves r
+      let n : length kinds + r ≡ length (saved base kinds) + r = omega (arith, saved_length base kinds) in
+      ap (slice_get (denial base kinds).insns) n ∙ get_right (saved base kinds) behind_saves r
 
 -- ---- the frames
 

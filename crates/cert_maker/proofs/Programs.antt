@@ -17,17 +17,21 @@ use Rattle.bytecode_model.specs.Sound.{IsSound, IsSoundClass, IsSoundMethod}
 use Rattle.class_codec.specs.Pool.{reference_at}
 use Rattle.conspec_automaton.specs.declared.policy.Policy.{Policy}
 use Rattle.bytecode_model.specs.Rules.{Frames, frame_of}
-use Rattle.bytecode_model.specs.Shape.{has_code, coded}
+use Rattle.bytecode_model.specs.Shape.{IsShaped, has_code, coded}
 use Rattle.bytecode_model.specs.Typed.{IsTyped, row_in, row_of_method, list_at, frames_in, frames_told}
-use Rattle.block_template.specs.Outcome.{Each, IsWovenMethod, IsWovenClass, IsWoven}
+use Rattle.class_weaving.specs.Outcome.{Each, IsWovenMethod, IsWovenClass, IsWoven}
 use Rattle.bytecode_model.specs.Named.{AreRightOperands}
 use Rattle.conspec_tree.specs.declared.types.Kind.{Kind}
-use Rattle.block_template.specs.Woven.{sites_of}
+use Rattle.conspec_tree.specs.declared.types.Var.{Var}
+use Rattle.class_weaving.specs.Woven.{sites_of}
+use Rattle.offset_patch.specs.Plan.{Plan}
 use Rattle.offset_patch.specs.Splicing.{fronts_of}
+use Rattle.block_template.specs.Denial.{DenialIsBlock}
 use Rattle.cert_maker.specs.Framing.{TellsArguments, arguments_of, moved_in, part_framed, low, frames_woven}
 use Rattle.cert_maker.specs.Renaming.{frame_renamed}
-use Rattle.cert_maker.specs.WovenTyping.{WovenIsTyped}
+use Rattle.cert_maker.specs.WovenTyping.{IsMetWoven, WovenIsTyped}
 use Rattle.cert_maker.proofs.Body.{IsWovenBody, made_long, same_length}
+use Rattle.cert_maker.proofs.Denying.{denying, plan_is}
 use Rattle.cert_maker.proofs.Larger.{woven_larger}
 use Rattle.cert_maker.proofs.Longer.{reference_longer}
 use Rattle.cert_maker.proofs.Parts.{get_left, get_right, part, part_denied, before, total, front_is, frame_at, denial_length}
@@ -50,19 +54,19 @@ each_back Belong (x ∷ xs) (z ∷ ys) (suc i) y e f = each_back Belong xs ys i 
 -- ---- the class and the method
 
 -- what a class of the woven program is: one of the old ones, or conspec/State
-pub record IsWovenPair (policy : Policy) (old : Program) (own : ℕ) (other : LinkedClass) : Type 0 where
+pub record IsWovenPair (plan : Plan) (old : Program) (own : ℕ) (other : LinkedClass) : Type 0 where
   pub class : LinkedClass
   pub there : slice_get old.classes own ≡ Some class
-  pub woven : IsWovenClass policy class other
+  pub woven : IsWovenClass plan (length old.classes) class other
 
-pub pair_of : (policy : Policy) (old new : Program) → IsWoven old policy new → (own : ℕ) (other : LinkedClass) (index : ℕ) (made : Method) → slice_get new.classes own ≡ Some other
-    → slice_get other.methods index ≡ Some made → IsWovenPair policy old own other
-pair_of policy old new woven own other index made e f =
+pub pair_of : (plan : Plan) (vars : List Var) (old new : Program) → IsWoven old plan vars new → (own : ℕ) (other : LinkedClass) (index : ℕ) (made : Method) → slice_get new.classes own ≡ Some other
+    → slice_get other.methods index ≡ Some made → IsWovenPair plan old own other
+pair_of plan vars old new woven own other index made e f =
     let at : slice_get (woven.own ++ woven.state ∷ []) own ≡ Some other = ap (λ (cs : List LinkedClass). slice_get cs own) (sym woven.are) ∙ e in
     elim (cases_Bool (nat_lt own (length woven.own))) [
       | inl is ↦
           let there : slice_get woven.own own ≡ Some other = sym (get_left woven.own (woven.state ∷ []) own (ltb-true _ _ is)) ∙ at in
-          let h = each_back (IsWovenClass policy) old.classes woven.own own other woven.classes there in
+          let h = each_back (IsWovenClass plan (length old.classes)) old.classes woven.own own other woven.classes there in
           record { class = h.0; there = h.1; woven = h.2 }
       | inr fails ↦
           let past : length woven.own ≤ own = grind (arith, nat_tests) in
@@ -144,15 +148,15 @@ rows_met program typing own index c m typed e f at =
 
 stopped : (policy : Policy) (method : Method) (frames : Frames) → IsSoundMethod method → length frames ≡ length method.insns → (i k : ℕ) (ref : Target) (args : List Kind)
     → slice_get method.refs i ≡ Some ref → arguments_of policy ref ≡ Some args → length args + 6 ≤ k → k < length args + length args + 9
-    → frame_of (frames_woven policy method frames) (slice_index (fronts_of (sites_of policy method.max_locals method)) i + k) ≡ None
+    → frame_of (frames_woven (denying policy) policy method frames) (slice_index (fronts_of (sites_of (denying policy) method.max_locals method)) i + k) ≡ None
 stopped policy method frames sound told i k ref args g has le lt =
     let base : ℕ = method.max_locals in
     let inside : i < length method.refs = slice_get_within method.refs i ref g in
     let x = slice_there frames i (omega (arith, inside, told, sound.refs)) in
-    let renew : Option FrameType → Option FrameType = λ f. option_map (frame_renamed (moved_in policy method)) (low method.max_stack f) in
-    let at : slice_index (fronts_of (sites_of policy base method)) i ≡ before policy base method.refs i = front_is policy base method.refs 0 i (omega (arith, inside)) ∙ omega arith in
+    let renew : Option FrameType → Option FrameType = λ f. option_map (frame_renamed (moved_in (denying policy) method)) (low method.max_stack f) in
+    let at : slice_index (fronts_of (sites_of (denying policy) base method)) i ≡ before policy base method.refs i = front_is policy base method.refs 0 i (omega (arith, inside)) ∙ omega arith in
     let long : length (part policy base ref) ≡ length args + length args + 9 = ap length (part_denied policy base ref args has) ∙ denial_length base args in
-    ap (λ (n : ℕ). frame_of (frames_woven policy method frames) (n + k)) at
+    ap (λ (n : ℕ). frame_of (frames_woven (denying policy) policy method frames) (n + k)) at
     ∙ ap (λ (o : Option (Option FrameType)). option_map_or (λ (f : Option FrameType). f) o None)
     (frame_at policy base method.refs (map renew frames) i k ref (renew x.0) g (slice_get-map renew frames i ∙ ap (option_map renew) x.1) (omega (arith, lt, long))
     ∙ ap (λ (o : Option (List Kind)). slice_get (part_framed o (renew x.0)) k) has)
@@ -170,16 +174,16 @@ stopped policy method frames sound told i k ref args g has le lt =
 -- ---- the law
 
 -- a method without instructions has no parts
-pub body_of : (old new : Program) (policy : Policy) → IsSound old → AreRightOperands old → TellsArguments old.listing policy → IsWoven old policy new
+pub body_of : (old new : Program) (policy : Policy) → IsSound old → AreRightOperands old → TellsArguments old.listing policy → IsWoven old (denying policy) policy.vars new
     → (own index : ℕ) (class other : LinkedClass) (method made : Method) → slice_get old.classes own ≡ Some class → slice_get class.methods index ≡ Some method
-    → IsWovenClass policy class other → IsWovenMethod policy other.file.pool method made → IsWovenBody policy old new class other method made
+    → IsWovenClass (denying policy) (length old.classes) class other → IsWovenMethod (denying policy) (length old.classes) other.file.pool method made → IsWovenBody policy old new class other method made
 body_of old new policy sound right tells woven own index class other method made e f of_class of_method =
     let sound_class : IsSoundClass class = all_get IsSoundClass old.classes own class sound.classes e in
     let sound_method : IsSoundMethod method = all_get IsSoundMethod class.methods index method sound_class.methods f in
     record {
-      larger = woven_larger old new policy woven;
+      larger = woven_larger old new (denying policy) policy.vars woven;
       of_class = of_class;
-      standing = record { of_method = of_method; sound = sound_method };
+      standing = record { state = length old.classes; of_method = of_method; sound = sound_method };
       right = λ at insn ref g h. right own index at class method insn ref e f g h;
       references = λ at insn g.
           let r = slice_there method.refs at (omega (arith, sound_method.refs, slice_get_within method.insns at insn g)) in
@@ -188,10 +192,13 @@ body_of old new policy sound right tells woven own index class other method made
       tells = tells;
     }
 
-pub woven_typed : WovenIsTyped
-woven_typed old new policy typing sound right tells woven typed shaped own index other made e f =
-    let pair = pair_of policy old new woven own other index made e f in
-    let back = each_back (IsWovenMethod policy other.file.pool) pair.class.methods other.methods index made pair.woven.methods f in
+denied_typed : (old new : Program) (policy : Policy) (typing : Typing) → IsSound old → AreRightOperands old → TellsArguments old.listing policy → IsWoven old (denying policy) policy.vars new
+    → IsTyped old typing → IsShaped old typing.frames
+    → (own index : ℕ) (other : LinkedClass) (made : Method) → slice_get new.classes own ≡ Some other → slice_get other.methods index ≡ Some made
+    → IsMetWoven (denying policy) policy old new typing own index other made
+denied_typed old new policy typing sound right tells woven typed shaped own index other made e f =
+    let pair = pair_of (denying policy) policy.vars old new woven own other index made e f in
+    let back = each_back (IsWovenMethod (denying policy) (length old.classes) other.file.pool) pair.class.methods other.methods index made pair.woven.methods f in
     let body = body_of old new policy sound right tells woven own index pair.class other back.0 made pair.there back.1 pair.woven back.2 in
     record {
       of = record { class = pair.class; class_there = pair.there; method = back.0; method_there = back.1 };
@@ -225,3 +232,10 @@ woven_typed old new policy typing sound right tells woven typed shaped own index
                 nothing_of policy method.max_locals method.refs (omega (arith, empty, same_length policy other.file.pool method made body.standing)),
               ))
         ]
+
+-- So it is of the policy's own plan, which this is.
+pub woven_typed : DenialIsBlock → WovenIsTyped
+woven_typed denial_is old new policy typing denies sound right tells woven typed shaped own index other made e f =
+    let same = plan_is policy denies denial_is in
+    subst (λ (plan : Plan). IsMetWoven plan policy old new typing own index other made) (sym same)
+    (denied_typed old new policy typing sound right tells (subst (λ (plan : Plan). IsWoven old plan policy.vars new) same woven) typed shaped own index other made e f)

@@ -13,8 +13,9 @@ use Rattle.bytecode_model.specs.Shape.{has_code, coded}
 use Rattle.bytecode_model.specs.Typed.{list_at}
 use Rattle.conspec_automaton.specs.declared.policy.Policy.{Policy}
 use Rattle.bytecode_model.specs.declared.origin.Origin.{Origin}
-use Rattle.block_template.specs.Outcome.{Each, IsWovenMethod, IsWovenClass, IsState}
+use Rattle.class_weaving.specs.Outcome.{Each, IsWovenMethod, IsWovenClass, IsState}
 use Rattle.cert_maker.proofs.Body.{IsStanding, same_length, made_long}
+use Rattle.cert_maker.proofs.Denying.{denying}
 use Rattle.cert_maker.proofs.Parts.{total, part_some}
 use Rattle.cert_maker.specs.Noting.{method_notes, class_notes, notes_of}
 use Rattle.cert_maker.proofs.Noted.{notes_many}
@@ -49,8 +50,8 @@ module _ (policy : Policy) (pool : List Const) (method made : Method) (body : Is
 
 -- ---- the methods of a class
 
-module _ (policy : Policy) (pool : List Const) where
-  methods_shaped : (olds news : List Method) → Each (IsWovenMethod policy pool) olds news → AllByRecursion IsSoundMethod olds → (frames : List Frames) → map length frames ≡ map size (coded news)
+module _ (policy : Policy) (state : ℕ) (pool : List Const) where
+  methods_shaped : (olds news : List Method) → Each (IsWovenMethod (denying policy) state pool) olds news → AllByRecursion IsSoundMethod olds → (frames : List Frames) → map length frames ≡ map size (coded news)
       → map length (class_notes policy olds (methods_origins policy olds) frames) ≡ map size (coded news)
   methods_shaped [] [] each sound frames e = refl
   methods_shaped [] (x ∷ news) each sound frames e = absurd each
@@ -58,7 +59,7 @@ module _ (policy : Policy) (pool : List Const) where
   methods_shaped (m ∷ olds) (x ∷ news) each sound frames e = by (has_code m) refl frames e (methods_shaped olds news each.1 sound.1)
     where
       body : IsStanding policy pool m x
-      body = record { of_method = each.0; sound = sound.0 }
+      body = record { state = state; of_method = each.0; sound = sound.0 }
 
       by : (b : Bool) → has_code m ≡ b → (frames : List Frames) → map length frames ≡ map size (coded (x ∷ news))
           → ((later : List Frames) → map length later ≡ map size (coded news) → map length (class_notes policy olds (methods_origins policy olds) later) ≡ map size (coded news))
@@ -82,7 +83,7 @@ module _ (policy : Policy) (pool : List Const) where
           rw (has, other, first, last) refl
 
   -- As many methods with code stand before a method.
-  pub coded_stay : (olds news : List Method) → Each (IsWovenMethod policy pool) olds news → AllByRecursion IsSoundMethod olds → (index : ℕ)
+  pub coded_stay : (olds news : List Method) → Each (IsWovenMethod (denying policy) state pool) olds news → AllByRecursion IsSoundMethod olds → (index : ℕ)
       → length (coded (take index olds)) ≡ length (coded (take index news))
   coded_stay olds news each sound zero = refl
   coded_stay [] [] each sound (suc index) = refl
@@ -92,10 +93,10 @@ module _ (policy : Policy) (pool : List Const) where
     where
       by : (b : Bool) → has_code m ≡ b → length (coded (take index olds)) ≡ length (coded (take index news)) → length (coded (m ∷ take index olds)) ≡ length (coded (x ∷ take index news))
       by true has later =
-          let other : has_code x ≡ true = sym (code_stays policy pool m x (record { of_method = each.0; sound = sound.0 })) ∙ has in
+          let other : has_code x ≡ true = sym (code_stays policy pool m x (record { state = state; of_method = each.0; sound = sound.0 })) ∙ has in
           rw (has, other) (ap suc later)
       by false none later =
-          let other : has_code x ≡ false = sym (code_stays policy pool m x (record { of_method = each.0; sound = sound.0 })) ∙ none in
+          let other : has_code x ≡ false = sym (code_stays policy pool m x (record { state = state; of_method = each.0; sound = sound.0 })) ∙ none in
           rw (none, other) later
 
 -- the method of an index has as many frames as instructions
@@ -177,16 +178,16 @@ module _ (policy : Policy) where
       rw same refl
   class_noted (x ∷ classes) frames (suc own) class there = class_noted classes (drop 1 frames) own class there ∙ ap (class_notes policy class.methods (methods_origins policy class.methods)) (sym (behind_is policy frames own))
 
-  pub classes_shaped : (olds news : List LinkedClass) (state : LinkedClass) → IsState policy state → Each (IsWovenClass policy) olds news → AllByRecursion IsSoundClass olds
+  pub classes_shaped : (count : ℕ) (olds news : List LinkedClass) (state : LinkedClass) → IsState policy.vars state → Each (IsWovenClass (denying policy) count) olds news → AllByRecursion IsSoundClass olds
       → (frames : List (List Frames)) → map (map length) frames ≡ map class_sizes (news ++ state ∷ [])
       → map (map length) (notes_of policy olds (told_of policy olds) frames) ≡ map class_sizes (news ++ state ∷ [])
-  classes_shaped [] [] state is each sound frames e = ap (λ (methods : List Method). map size (coded methods) ∷ []) (sym is.methods)
-  classes_shaped [] (x ∷ news) state is each sound frames e = absurd each
-  classes_shaped (class ∷ olds) [] state is each sound frames e = absurd each
-  classes_shaped (class ∷ olds) (x ∷ news) state is each sound [] e = absurd cc
-  classes_shaped (class ∷ olds) (x ∷ news) state is each sound (f ∷ frames) e =
+  classes_shaped count [] [] state is each sound frames e = ap (λ (methods : List Method). map size (coded methods) ∷ []) (sym is.methods)
+  classes_shaped count [] (x ∷ news) state is each sound frames e = absurd each
+  classes_shaped count (class ∷ olds) [] state is each sound frames e = absurd each
+  classes_shaped count (class ∷ olds) (x ∷ news) state is each sound [] e = absurd cc
+  classes_shaped count (class ∷ olds) (x ∷ news) state is each sound (f ∷ frames) e =
       let here : map length f ≡ class_sizes x = cc in
       let rest : map (map length) frames ≡ map class_sizes (news ++ state ∷ []) = cc in
-      let first = methods_shaped policy x.file.pool class.methods x.methods each.0.methods sound.0.methods f here in
-      let last = classes_shaped olds news state is each.1 sound.1 frames rest in
+      let first = methods_shaped policy count x.file.pool class.methods x.methods each.0.methods sound.0.methods f here in
+      let last = classes_shaped count olds news state is each.1 sound.1 frames rest in
       rw (first, last) refl

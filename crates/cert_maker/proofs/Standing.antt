@@ -29,27 +29,31 @@ use Rattle.bytecode_model.specs.Rules.{frame_of}
 use Rattle.conspec_tree.specs.declared.types.Kind.{Kind}
 use Rattle.conspec_automaton.specs.declared.policy.Clause.{Clause}
 use Rattle.conspec_automaton.specs.declared.policy.Policy.{Policy}
+use Rattle.conspec_automaton.specs.Denying.{DeniesOnly}
 use Rattle.conspec_automaton.specs.Next.{has_clauses}
 use Rattle.offset_patch.specs.declared.block.BlockInsn.{BlockInsn}
 use Rattle.offset_patch.specs.declared.block.BlockInsn.TheVariants.{Plain, Byte, Call, Want}
 use Rattle.offset_patch.specs.declared.block.PoolWant.TheVariants.{StateClass, Exit}
 use Rattle.bytecode_model.specs.declared.origin.Origin.TheVariants as origins
 use Rattle.offset_patch.specs.Splicing.{aimed, put, fronts_of, origin_of}
-use Rattle.block_template.specs.Blocks.{clause_of, store, denial, locals_used}
+use Rattle.block_template.specs.Blocks.{locals_used}
+use Rattle.block_template.specs.Denial.{clause_of, denial}
+use Rattle.block_template.specs.Pushing.{store}
 use Rattle.block_logic.specs.declared.wanted.Wanted.TheVariants as wanted
 use Rattle.block_logic.specs.Notes.{Here, row_fault, note_fault}
 use Rattle.block_logic.specs.Operands.{calls, loads_constant, pushes_state, is_state_name, is_variable, has_clause}
 use Rattle.block_logic.specs.Wanted.{handlers_of}
 use Rattle.bytecode_model.specs.Rules.{covers}
-use Rattle.guest_model.specs.Stepping.{is_exit}
+use Rattle.guest_model.specs.Parts.{is_exit}
 use Rattle.block_logic.proofs.ExitRows.{exit_at}
-use Rattle.block_template.specs.Outcome.{at_fronts, part_named, way_out_index}
-use Rattle.block_template.specs.Woven.{sites_of}
+use Rattle.class_weaving.specs.Outcome.{at_fronts, part_named, way_out_index}
+use Rattle.class_weaving.specs.Woven.{sites_of}
 use Rattle.cert_maker.specs.Framing.{arguments_of}
 use Rattle.cert_maker.proofs.Aiming.{successors_moved}
 use Rattle.cert_maker.proofs.Blocks.{store_is}
 use Rattle.cert_maker.proofs.Body.{IsStanding, fronts, front, moved, same_length, handlers_are, fronts_are, moved_is, front_of, moved_next, moved_past, insn_there, ref_there, made_long}
 use Rattle.cert_maker.proofs.Denied.{denied}
+use Rattle.cert_maker.proofs.Denying.{denying, locals_are}
 use Rattle.cert_maker.proofs.Parts.{part, part_alone, part_denied, before_next, Located, locate, denial_length}
 use Rattle.cert_maker.proofs.Places.{store_at, behind_at}
 use Rattle.cert_maker.proofs.Woven.{slice_there}
@@ -118,9 +122,10 @@ exit_is = sym (exit_at 7)
 
 -- ---- what is known of a method
 
--- Its operands name nothing of conspec/State; where control goes from a place with a frame is a place with a frame; and no
+-- The policy denies calls outright. The operands name nothing of conspec/State; where control goes from a place with a frame is a place with a frame; and no
 -- place of a block behind the way out has one.
 pub record IsReady (classes : List LinkedClass) (policy : Policy) (method made : Method) (frames : List (Option FrameType)) : Type 0 where
+  pub denies : DeniesOnly policy
   pub unnamed : (i : ℕ) (ref : Target) → slice_get method.refs i ≡ Some ref → is_state_name ref ≡ false
   pub untouched : (i : ℕ) (ref : Target) → slice_get method.refs i ≡ Some ref → is_variable classes ref ≡ false
   pub few : (i index : ℕ) → slice_get method.refs i ≡ Some (target.ApiMethod index) → index ≤ 65535
@@ -130,7 +135,7 @@ pub record IsReady (classes : List LinkedClass) (policy : Policy) (method made :
   pub caught : (at : ℕ) (insn : Insn) (handler : Handler) → slice_get made.insns at ≡ Some insn → is_some (frame_of frames at) ≡ true → Contains made.handlers handler
       → handler.from ≤ at → at < handler.to → is_some (frame_of frames handler.at) ≡ true
   pub stopped : (i k : ℕ) (ref : Target) (args : List Kind) → slice_get method.refs i ≡ Some ref → arguments_of policy ref ≡ Some args → length args + 6 ≤ k
-      → k < length args + length args + 9 → is_some (frame_of frames (slice_index (fronts_of (sites_of policy method.max_locals method)) i + k)) ≡ false
+      → k < length args + length args + 9 → is_some (frame_of frames (slice_index (fronts_of (sites_of (denying policy) method.max_locals method)) i + k)) ≡ false
 
 module _ (classes : List LinkedClass) (policy : Policy) (pool : List Const) (method made : Method) (body : IsStanding policy pool method made) (frames : List (Option FrameType))
     (ready : IsReady classes policy method made frames) where
@@ -185,7 +190,7 @@ module _ (classes : List LinkedClass) (policy : Policy) (pool : List Const) (met
     few = omega (arith, ready.few i index names_method)
 
     used : locals_used policy index ≡ m
-    used = ap (λ (o : Option Clause). option_map_or (λ (c : Clause). length c.args) o 0) (denied policy ref args has).of ∙ ap length (denied policy ref args has).kinds
+    used = locals_are policy ready.denies index ∙ ap (λ (o : Option Clause). option_map_or (λ (c : Clause). length c.args) o 0) (denied policy ref args has).of ∙ ap length (denied policy ref args has).kinds
 
     has_clauses_there : has_clauses policy index ≡ true
     has_clauses_there = some_any (λ (c : Clause). c.method == index) policy.clauses (denied policy ref args has).clause (denied policy ref args has).of
@@ -316,7 +321,7 @@ module _ (classes : List LinkedClass) (policy : Policy) (pool : List Const) (met
     placed b = put pool aims (start i) insn b
 
     abbrev spot : ℕ → BlockInsn → Here
-    spot k b = record { at = start i + k; insn = placed b; ref = part_named ref b }
+    spot k b = record { at = start i + k; insn = placed b; ref = part_named body.state ref b }
 
     insn_is : (k : ℕ) (b : BlockInsn) → slice_get (denial base args).insns k ≡ Some b → slice_get made.insns (start i + k) ≡ Some (placed b)
     insn_is k b e = insn_there policy pool method made body i k insn ref b there names (stands i ref args names has k b e)
@@ -331,7 +336,7 @@ module _ (classes : List LinkedClass) (policy : Policy) (pool : List Const) (met
     passes_at : (k : ℕ) (b : BlockInsn) (note : Note) → slice_get (denial base args).insns k ≡ Some b → slice_get told (start i + k) ≡ Some note
         → row_fault classes policy told made (spot k b) note ≡ None → note_fault classes policy told made (start i + k) ≡ None
     passes_at k b note e noted row =
-        row_at classes policy told made (start i + k) (placed b) (part_named ref b) note (insn_is k b e)
+        row_at classes policy told made (start i + k) (placed b) (part_named body.state ref b) note (insn_is k b e)
         (ref_there policy pool method made body i k ref b names (stands i ref args names has k b e)) noted row
 
     store_passes : (k : ℕ) → k < count → Reached (start i + k) → note_fault classes policy told made (start i + k) ≡ None
@@ -340,13 +345,13 @@ module _ (classes : List LinkedClass) (policy : Policy) (pool : List Const) (met
         let slot : ℕ = base + (count - 1 - k) in
         let b : BlockInsn = store kind.0 slot in
         let e = store_at base args k kind.0 lt kind.1 in
-        let is = store_is pool aims (start i) insn ref kind.0 slot in
+        let is = store_is pool aims (start i) insn body.state ref kind.0 slot in
         let at : start i + (k + 1) ≡ start i + k + 1 = omega arith in
         let free : IsFree (start i + k + 1) =
         subst IsFree at (free_first i ref args names has (k + 1) (omega (arith, lt)) (arrives k (k + 1) b e (is.next (start i + k)) refl reached)) in
         passes_at k b Free e (free_first i ref args names has k (omega (arith, lt)) reached)
-        (client_passes classes policy told made (spot k b) (ap (λ (s : Shape). pushes_state s (part_named ref b)) is.shape) (ap (is_variable classes) is.none)
-        (ap (λ (s : Shape). calls s && has_clause policy (part_named ref b)) is.shape)
+        (client_passes classes policy told made (spot k b) (ap (λ (s : Shape). pushes_state s (part_named body.state ref b)) is.shape) (ap (is_variable classes) is.none)
+        (ap (λ (s : Shape). calls s && has_clause policy (part_named body.state ref b)) is.shape)
         (subst (AllByRecursion IsFree) (sym (is.next (start i + k))) (free, tt)) (free_handlers (start i + k) (placed b) (insn_is k b e) reached))
 
     -- ---- the lock is taken, and the program is stopped

@@ -26,7 +26,7 @@ use Rattle.bytecode_model.specs.Makes.{type_at, call_yields, yields, yields_of, 
 use Rattle.bytecode_model.specs.Place.{Place, name_referred, desc_referred, calls_maker}
 use Rattle.bytecode_model.specs.Rules.{stack_fits, locals_fit, taken, Depth, Operand, Local, Made, made_well, uses_local, goes_well}
 use Rattle.bytecode_model.specs.Wants.{Want, takes, takes_of, all_met, of_kind, to_described, returns_well}
-use Rattle.block_template.specs.Outcome.{way_out}
+use Rattle.class_weaving.specs.Outcome.{way_out}
 use Rattle.cert_maker.specs.Framing.{with}
 use Rattle.cert_maker.proofs.Stacks.{stack_itself, locals_are, top_none, below_none, top_last, below_last, below_twice, top_below}
 

@@ -14,9 +14,10 @@ use Rattle.conspec_automaton.specs.declared.policy.Clause.{Clause}
 use Rattle.conspec_automaton.specs.declared.policy.Policy.{Policy}
 use Rattle.offset_patch.specs.declared.block.BlockInsn.{BlockInsn}
 use Rattle.offset_patch.specs.Splicing.{fronts_of, aimed, put, parts_from}
-use Rattle.block_template.specs.Blocks.{has_block, site}
-use Rattle.block_template.specs.Outcome.{at_fronts, part_named, parts_named}
+use Rattle.block_template.specs.Blocks.{has_block}
+use Rattle.class_weaving.specs.Outcome.{at_fronts, part_named, parts_named}
 use Rattle.cert_maker.specs.Framing.{arguments_of}
+use Rattle.cert_maker.proofs.Denying.{site}
 use Rattle.cert_maker.proofs.Parts.{part, part_alone, before, front_is}
 
 -- ---- which calls have no block
@@ -71,11 +72,11 @@ module _ (policy : Policy) (base : ℕ) where
       ap (λ (b : List BlockInsn). map (put pool fronts begin x) b ++ parts_from pool fronts (begin + length (part policy base ref)) own (map (site policy base) refs)) (part_alone policy base ref a.0)
       ∙ ap (λ (xs : List Insn). aimed fronts x ∷ xs) (parts_alone pool fronts (begin + length (part policy base ref)) own refs a.1 (omega arith))
 
-  pub named_alone : (refs : List Target) → AreAlone refs → parts_named refs (map (site policy base) refs) ≡ refs
-  named_alone [] a = refl
-  named_alone (ref ∷ refs) a =
-      ap (λ (b : List BlockInsn). map (part_named ref) b ++ parts_named refs (map (site policy base) refs)) (part_alone policy base ref a.0)
-      ∙ ap (λ (rs : List Target). ref ∷ rs) (named_alone refs a.1)
+  pub named_alone : (state : ℕ) (refs : List Target) → AreAlone refs → parts_named state refs (map (site policy base) refs) ≡ refs
+  named_alone state [] a = refl
+  named_alone state (ref ∷ refs) a =
+      ap (λ (b : List BlockInsn). map (part_named state ref) b ++ parts_named state refs (map (site policy base) refs)) (part_alone policy base ref a.0)
+      ∙ ap (λ (rs : List Target). ref ∷ rs) (named_alone state refs a.1)
 
   -- ---- targets and handlers stay
 

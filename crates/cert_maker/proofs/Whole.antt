@@ -18,7 +18,7 @@ use Rattle.bytecode_model.specs.Typed.{row_in, place_at}
 use Rattle.offset_patch.specs.declared.block.BlockInsn.{BlockInsn}
 use Rattle.offset_patch.specs.declared.block.BlockInsn.TheVariants.{Call}
 use Rattle.offset_patch.specs.Splicing.{aimed, put}
-use Rattle.block_template.specs.Outcome.{part_named}
+use Rattle.class_weaving.specs.Outcome.{part_named}
 use Rattle.cert_maker.specs.Framing.{arguments_of, part_framed}
 use Rattle.cert_maker.specs.Renaming.{frame_renamed}
 use Rattle.cert_maker.proofs.Body.{IsWovenBody, same_length, moved_is, insn_there, ref_there, made_long, least}
@@ -79,7 +79,7 @@ module _ (policy : Policy) (old new : Program) (own : ℕ) (class other : Linked
         let b = slice_there (part policy method.max_locals ref) k less in
         let no : ((start i + k) == 0) ≡ false = ne_eqb (start i + k) 0 (λ e. not_first e) in
         row_here policy old new own class other method made body frames told met (start i + k)
-        (put other.file.pool (fs policy old new own class other method made body frames told met) (start i) insn b.0) (part_named ref b.0) None
+        (put other.file.pool (fs policy old new own class other method made body frames told met) (start i) insn b.0) (part_named body.standing.state ref b.0) None
         (insn_there policy other.file.pool method made body.standing i k insn ref b.0 there names b.1)
         (ref_there policy other.file.pool method made body.standing i k ref b.0 names b.1)
         none

@@ -25,8 +25,9 @@ use Rattle.offset_patch.specs.declared.block.BlockInsn.{BlockInsn}
 use Rattle.offset_patch.specs.declared.block.BlockInsn.TheVariants.{Want, Call}
 use Rattle.offset_patch.specs.declared.block.PoolWant.TheVariants.{StateClass}
 use Rattle.offset_patch.specs.Splicing.{aimed, put}
-use Rattle.block_template.specs.Blocks.{store, denial}
-use Rattle.block_template.specs.Outcome.{part_named}
+use Rattle.block_template.specs.Denial.{denial}
+use Rattle.block_template.specs.Pushing.{store}
+use Rattle.class_weaving.specs.Outcome.{part_named}
 use Rattle.cert_maker.specs.Framing.{arguments_of}
 use Rattle.cert_maker.proofs.Aiming.{has_shape}
 use Rattle.cert_maker.proofs.Blocks.{store_is}
@@ -139,11 +140,11 @@ module _ (policy : Policy) (old new : Program) (class other : LinkedClass) (meth
       let b : BlockInsn = store last.0 (b0 + (length (kind ∷ args) - 1 - 0)) in
       let first : slice_get (part policy b0 ref) 0 ≡ Some b =
       ap (λ (xs : List BlockInsn). slice_get xs 0) (part_denied policy b0 ref (kind ∷ args) told) ∙ store_at b0 (kind ∷ args) 0 last.0 (omega arith) last.1 in
-      let is = store_is other.file.pool (fronts policy other.file.pool method made body.standing) (front policy other.file.pool method made body.standing i) insn ref last.0 (b0 + (length (kind ∷ args) - 1 - 0)) in
+      let is = store_is other.file.pool (fronts policy other.file.pool method made body.standing) (front policy other.file.pool method made body.standing i) insn body.standing.state ref last.0 (b0 + (length (kind ∷ args) - 1 - 0)) in
       ap (λ (o : Option Insn). new_in o (slice_get made.refs (front policy other.file.pool method made body.standing i + 0))) (insn_there policy other.file.pool method made body.standing i 0 insn ref b e f first)
       ∙ ap (λ (o : Option Target). new_in (Some (put other.file.pool (fronts policy other.file.pool method made body.standing) (front policy other.file.pool method made body.standing i) insn b)) o)
       (ref_there policy other.file.pool method made body.standing i 0 ref b f first)
-      ∙ made_nothing _ (part_named ref b) (ap class_of is.none)
+      ∙ made_nothing _ (part_named body.standing.state ref b) (ap class_of is.none)
 
   client_makes : (i : ℕ) (insn : Insn) (ref : Target) → slice_get method.insns i ≡ Some insn → slice_get method.refs i ≡ Some ref
       → arguments_of policy ref ≡ None → new_at made (front policy other.file.pool method made body.standing i + 0) ≡ made_by (shape_of insn) ref

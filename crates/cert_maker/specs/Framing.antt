@@ -1,8 +1,9 @@
--- The frames of a method with its blocks.
+-- The frames of a method with its blocks, which are those of denied calls.
 use Rattle.std.specs.Prelude.{◌≡◌, ℕ, ◌+◌, ◌-◌, nat_lt, nat_le, if◌then◌else◌, codes, List, [], ◌∷◌, ◌++◌, length, map, replicate, slice_get, slice_index, Option, Some, None, option_map, ⊤}
 use Rattle.std.specs.List.{range_with_len}
 use Rattle.api_listing.specs.declared.types.Listing.{Listing}
 use Rattle.api_listing.specs.declared.types.ListedMethod.{ListedMethod}
+use Rattle.cert_format.specs.declared.certificate.Mode.TheVariants.{Release}
 use Rattle.cert_format.specs.declared.typing.FrameType.{FrameType}
 use Rattle.cert_format.specs.declared.typing.VType.{VType}
 use Rattle.cert_format.specs.declared.typing.VType.TheVariants as types
@@ -16,10 +17,16 @@ use Rattle.conspec_automaton.specs.declared.policy.Policy.{Policy}
 use Rattle.bytecode_model.specs.Described.{Descriptor, arguments, type_described}
 use Rattle.bytecode_model.specs.Makes.{below}
 use Rattle.bytecode_model.specs.Rules.{Frames}
-use Rattle.block_template.specs.Blocks.{clause_of}
+use Rattle.offset_patch.specs.Plan.{Plan}
 use Rattle.offset_patch.specs.Splicing.{fronts_of}
-use Rattle.block_template.specs.Woven.{sites_of}
+use Rattle.block_template.specs.Blocks.{plan_of}
+use Rattle.block_template.specs.Denial.{clause_of}
+use Rattle.class_weaving.specs.Woven.{sites_of}
 use Rattle.cert_maker.specs.Renaming.{frame_renamed}
+
+-- the plan of a policy in mode release
+abbrev pub released : Policy → Plan
+released policy = plan_of policy Release
 
 -- ---- where instructions stand
 
@@ -27,10 +34,10 @@ use Rattle.cert_maker.specs.Renaming.{frame_renamed}
 abbrev pub moved_by : List ℕ → ℕ → ℕ → ℕ
 moved_by fronts count at = if nat_lt at count then slice_index fronts at else at + (slice_index fronts count - count)
 
-abbrev pub moved_in : Policy → Method → ℕ → ℕ
-moved_in policy method at = moved_by (fronts_of (sites_of policy method.max_locals method)) (length method.insns) at
+abbrev pub moved_in : Plan → Method → ℕ → ℕ
+moved_in plan method at = moved_by (fronts_of (sites_of plan method.max_locals method)) (length method.insns) at
 
--- ---- the frames of a block
+-- ---- the frames of the block of a denied call
 
 -- the frame without the n topmost operands, and with one more
 abbrev pub without : ℕ → FrameType → FrameType
@@ -56,7 +63,7 @@ block_framed n frame = map (λ k. Some (without k frame)) (range_with_len 0 n) +
 
 -- ---- the frames of a method
 
--- the kinds of the arguments of a call that has a block
+-- the kinds of the arguments of a call that is denied
 abbrev pub arguments_of : Policy → Target → Option (List Kind)
 arguments_of policy (target.ApiMethod method) = option_map (λ (c : Clause). c.args) (clause_of policy method)
 arguments_of policy other = None
@@ -79,9 +86,10 @@ abbrev pub low : ℕ → Option FrameType → Option FrameType
 low size None = None
 low size (Some frame) = if_low size frame
 
-abbrev pub frames_woven : Policy → Method → Frames → Frames
-frames_woven policy method frames =
-    parts_framed policy method.refs (map (λ (f : Option FrameType). option_map (frame_renamed (moved_in policy method)) (low method.max_stack f)) frames)
+abbrev pub frames_woven : Plan → Policy → Method → Frames → Frames
+frames_woven plan policy method frames =
+    parts_framed policy method.refs
+    (map (λ (f : Option FrameType). option_map (frame_renamed (moved_in plan method)) (low method.max_stack f)) frames)
 
 -- ---- what is known of clauses
 

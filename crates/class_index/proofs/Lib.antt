@@ -1,3 +1,4 @@
+pub mod Aside
 pub mod Declaring
 pub mod Leaving
 pub mod Owning

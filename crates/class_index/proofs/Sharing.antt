@@ -2,12 +2,14 @@
 use Rattle.std.proofs.Common.{◌≡◌, ℕ, zero, suc, ◌+◌, ◌-◌, ◌<◌, ◌≤◌, Bool, true, false, cond, List, [], ◌∷◌, ◌++◌, length, Option, Some, None, refl, sym, ap, subst, ◌∙◌, arith}
 use denote.Ref.{Bor}
 use Rattle.std.specs.Prelude.{bytes_eq, slice_get, IfSome}
-use Rattle.std.specs.List.{filter}
+use Rattle.std.specs.List.{filter, list_all}
 use Rattle.std.specs.Option.{option_or, option_copied}
 use Rattle.std.specs.BTreeSet.{BTreeSet}
 use Rattle.std.proofs.lemmas.List.{length-append, length-map}
+use Rattle.std.proofs.lemmas.List.Elements.{filter-append}
 use Rattle.api_listing.specs.declared.types.ListedClass.{ListedClass}
 use Rattle.api_listing.specs.Nearest.{class_named, interfaces_of, names_of, upwards}
+use Rattle.api_listing.specs.Seen.{has_name}
 use Rattle.bytecode_model.specs.Places.{place_in}
 use Rattle.bytecode_model.specs.SearchOrder.{interfaces_from, search_order}
 use Rattle.bytecode_model.proofs.Lists.{some_is}
@@ -15,7 +17,8 @@ use Rattle.bytecode_model.proofs.Placing.{same_name}
 use Rattle.bytecode_model.proofs.Upwards.{up_from}
 use Rattle.class_index.specs.declared.library.Above.{Above}
 use Rattle.class_index.specs.declared.library.Shared.{Shared}
-use Rattle.class_index.specs.Library.{may_own, owners_up, IsShared, AreShared}
+use Rattle.class_index.specs.Library.{may_own, owners_up, AreQuiet, IsShared, AreShared}
+use Rattle.class_index.proofs.Aside.{quiet_aside}
 
 -- ---- lists
 
@@ -37,17 +40,21 @@ module _ (owners : BTreeSet (List ℕ)) (classes : List ListedClass) where
 
   -- ---- a step, and a way of steps
 
-  -- a class that owns nothing and names no interfaces has above it what its superclass has
-  pub step_up : (name : List ℕ) (c : ListedClass) → class_named classes name ≡ Some c → c.interfaces ≡ [] → may_own owners c.name ≡ false
+  -- a class that owns nothing and whose interfaces are quiet has above it what its superclass has
+  pub step_up : (quiet : BTreeSet (List ℕ)) → AreQuiet owners classes quiet → (name : List ℕ) (c : ListedClass) → class_named classes name ≡ Some c
+      → list_all (has_name quiet) c.interfaces ≡ true → may_own owners c.name ≡ false
       → (n : ℕ) → owners_up owners classes (n + 1) name ≡ owners_up owners classes n c.parent
-  step_up name c some plain foreign n =
+  step_up quiet are name c some plain foreign n =
       let more : n + 1 ≡ suc n = omega arith in
       let above : List ListedClass = upwards n classes c.parent in
       let up : upwards (n + 1) classes name ≡ c ∷ above = ap (λ (k : ℕ). upwards k classes name) more ∙ ap (λ (o : Option ListedClass). up_from classes o n) some in
-      let rest : List (List ℕ) = order_of above in
-      ap (λ (l : List ListedClass). filter (may_own owners) (order_of l)) up
-      ∙ ap (λ (own : List (List ℕ)). filter (may_own owners) ((c.name ∷ names_of above) ++ interfaces_from classes (own ++ interfaces_of above))) plain
-      ∙ ap (λ (b : Bool). cond b (c.name ∷ filter (may_own owners) rest) (filter (may_own owners) rest)) foreign
+      let own : List (List ℕ) → List (List ℕ) = filter (may_own owners) in
+      let below : List (List ℕ) = interfaces_from classes (c.interfaces ++ interfaces_of above) in
+      ap (λ (l : List ListedClass). own (order_of l)) up
+      ∙ ap (λ (b : Bool). cond b (c.name ∷ own (names_of above ++ below)) (own (names_of above ++ below))) foreign
+      ∙ filter-append (may_own owners) (names_of above) below
+      ∙ ap (λ (rest : List (List ℕ)). own (names_of above) ++ rest) (quiet_aside owners classes quiet are c.interfaces (interfaces_of above) plain)
+      ∙ sym (filter-append (may_own owners) (names_of above) (interfaces_from classes (interfaces_of above)))
 
   -- from the class so many steps lead to the other
   abbrev pub LeadsTo : List ℕ → ℕ → List ℕ → Type 0
@@ -121,15 +128,19 @@ module _ (owners : BTreeSet (List ℕ)) (classes : List ListedClass) where
       }
 
   -- one class more
-  pub with_shared : (old new : Shared) (name : List ℕ) (above : Above) → AreShared owners classes old → new.lists ≡ old.lists → IsShared owners classes old.lists name above
+  pub with_shared : (old new : Shared) (name : List ℕ) (above : Above) → AreShared owners classes old → new.lists ≡ old.lists → new.quiet ≡ old.quiet → IsShared owners classes old.lists name above
       → ((q : List ℕ) → place_in new.places q ≡ option_or (place_in old.places q) (cond (bytes_eq name q) (Some above) None)) → AreShared owners classes new
-  with_shared old new name above known lists here puts q a found =
-      subst (λ (l : List (List (List ℕ))). IsShared owners classes l q a) (sym lists) (by (place_in old.places q) (bytes_eq name q) refl refl (sym (puts q) ∙ found)) where
-        by : (o : Option Above) (b : Bool) → place_in old.places q ≡ o → bytes_eq name q ≡ b → option_or o (cond b (Some above) None) ≡ Some a → IsShared owners classes old.lists q a
-        by (Some m) b was same e = known q a (was ∙ ap Some (some_is m a e))
-        by None true was same e =
+  with_shared old new name above shared lists quiet here puts =
+      record {
+        known = λ q a found.
+            subst (λ (l : List (List (List ℕ))). IsShared owners classes l q a) (sym lists) (by q a (place_in old.places q) (bytes_eq name q) refl refl (sym (puts q) ∙ found));
+        quiet = subst (λ (set : BTreeSet (List ℕ)). AreQuiet owners classes set) (sym quiet) shared.quiet;
+      } where
+        by : (q : List ℕ) (a : Above) (o : Option Above) (b : Bool) → place_in old.places q ≡ o → bytes_eq name q ≡ b → option_or o (cond b (Some above) None) ≡ Some a → IsShared owners classes old.lists q a
+        by q a (Some m) b was same e = shared.known q a (was ∙ ap Some (some_is m a e))
+        by q a None true was same e =
             subst (λ (k : Above). IsShared owners classes old.lists q k) (some_is above a e) (subst (λ (x : List ℕ). IsShared owners classes old.lists x above) (same_name name q same) here)
-        by None false was same e = absurd cc
+        by q a None false was same e = absurd cc
 
 -- what is said of the list of a place is said of the one that is read there
 pub read_there : (r : Option (Bor (List (List ℕ)))) (found : Option (List (List ℕ))) (P : List (List ℕ) → Type 0) → option_copied r ≡ found → ((names : List (List ℕ)) → found ≡ Some names → P names)

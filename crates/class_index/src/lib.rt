@@ -13,6 +13,7 @@ mod library;
 mod literals;
 mod near;
 mod places;
+mod quiet;
 mod search;
 
 pub use classes::Classes;

@@ -1,13 +1,15 @@
 //! The classes above a class that may have methods of the library. Their list is made once for all given classes from
-//! which the way up leads to one class by nothing but steps: by classes that may have none, and name no interfaces.
+//! which the way up leads to one class by nothing but steps: by classes that may have none, and whose interfaces are
+//! quiet.
 
 ghost use Rattle.std.specs.Prelude.{◌≡◌, ◌+◌, ◌++◌, ◌∷◌, [], ℕ, List, length, IfOk, IfSome, OnOk};
 ghost use Rattle.std.specs.List.{filter};
 ghost use Rattle.bytecode_model.specs.SearchOrder.{search_order};
-ghost use Rattle.class_index.specs.Library.{may_own, owners_up, AreShared, IsShared, Owners};
+ghost use Rattle.class_index.specs.Library.{may_own, owners_up, AreQuiet, AreShared, IsShared, Owners};
 
 use crate::classes::Classes;
 use crate::places::add_place;
+use crate::quiet::{are_among, may_own, quiet_of};
 use crate::search::{add_names, search_order};
 use api_listing::ListedClass;
 use mon_base::{Bytes, List, NoMemory};
@@ -21,11 +23,12 @@ pub struct Above {
     pub height: usize,
 }
 
-/// Lists of classes, and which of them is that of a class.
+/// Lists of classes, which of them is that of a class, and interfaces that are quiet.
 #[derive(Drop)]
 pub struct Shared {
     pub places: BTreeMap<Bytes, Above>,
     pub lists: List<List<Bytes>>,
+    pub quiet: BTreeSet<Bytes>,
 }
 
 /// The lists of these classes, each made once.
@@ -40,6 +43,7 @@ pub fn shared_of(
     let mut shared = Shared {
         places: BTreeMap::new(alloc),
         lists: List::new(alloc),
+        quiet: quiet_of(alloc, classes, owners, given)?,
     };
     for class in given {
         add_class(alloc, classes, owners, &mut shared, &class.name)?;
@@ -58,7 +62,7 @@ fn add_class(
     requires { AreShared owners.now classes.now shared.old }
     ensures { OnOk result (AreShared owners.now classes.now shared.new) }
 {
-    let Some((end, steps)) = end_of(classes, owners, &shared.places, name) else {
+    let Some((end, steps)) = end_of(classes, owners, shared, name) else {
         return Ok(());
     };
     let Some(above) = above_of(alloc, classes, owners, shared, end)? else {
@@ -83,18 +87,19 @@ fn add_class(
 fn end_of<'a>(
     classes: &'a Classes,
     owners: &BTreeSet<Bytes>,
-    places: &BTreeMap<Bytes, Above>,
+    shared: &Shared,
     name: &'a Bytes,
 ) -> Option<(&'a Bytes, usize)>
+    requires { AreQuiet owners.now classes.now shared.now.quiet }
     ensures { IfSome result (λ end. (n : ℕ) → owners_up owners.now classes.now (n + end.1) name.now
         ≡ owners_up owners.now classes.now n end.0.now) }
 {
     let mut at = name;
     for steps in 0..classes.len() {
-        if places.contains_key(at) {
+        if shared.places.contains_key(at) {
             return Some((at, steps));
         }
-        let Some(parent) = step_from(classes, owners, at) else {
+        let Some(parent) = step_from(classes, owners, &shared.quiet, at) else {
             return Some((at, steps));
         };
         at = parent;
@@ -102,13 +107,19 @@ fn end_of<'a>(
     None
 }
 
-/// The superclass, where the class may have no method of the library and names no interfaces.
-fn step_from<'a>(classes: &'a Classes, owners: &BTreeSet<Bytes>, name: &Bytes) -> Option<&'a Bytes>
+/// The superclass, where the class may have no method of the library and its interfaces are quiet.
+fn step_from<'a>(
+    classes: &'a Classes,
+    owners: &BTreeSet<Bytes>,
+    quiet: &BTreeSet<Bytes>,
+    name: &Bytes,
+) -> Option<&'a Bytes>
+    requires { AreQuiet owners.now classes.now quiet.now }
     ensures { IfSome result (λ parent. (n : ℕ) → owners_up owners.now classes.now (n + 1) name.now
         ≡ owners_up owners.now classes.now n parent.now) }
 {
     let class = classes.named(name)?;
-    if class.interfaces.is_empty() && !may_own(owners, &class.name) {
+    if are_among(quiet, class.interfaces.as_slice()) && !may_own(owners, &class.name) {
         Some(&class.parent)
     } else {
         None
@@ -162,7 +173,7 @@ fn add_steps(
     let place = above.place;
     for _ in 0..steps {
         add_place(alloc, &mut shared.places, at, Above { place, height })?;
-        let Some(parent) = step_from(classes, owners, at) else {
+        let Some(parent) = step_from(classes, owners, &shared.quiet, at) else {
             return Ok(());
         };
         let Some(less) = height.checked_sub(1) else {
@@ -236,10 +247,4 @@ fn add_owner(
         some.push(name.copy(alloc)?)?;
     }
     Ok(())
-}
-
-fn may_own(owners: &BTreeSet<Bytes>, name: &Bytes) -> bool
-    ensures { result ≡ may_own owners.now name.now }
-{
-    owners.contains(name) || name.as_slice().starts_with(b"java/lang/".as_slice())
 }

@@ -15,7 +15,7 @@ use Rattle.class_linking.specs.Operands as operands
 use Rattle.class_linking.specs.Linking.{code_told, read_of}
 
 pub operand_told : {X : Type 0} (told : LinkFault) (class : List ℕ) (method at : ℕ) (fault : OperandFault) (linked : Result X OperandFault)
-    → Tells faults.Memory told (operands.told class method at fault) → Fails operand.Memory fault linked → Fails faults.Memory told (operands.told_at class method at linked)
+    → Tells faults.Memory told (operands.operand_fault_told class method at fault) → Fails operand.Memory fault linked → Fails faults.Memory told (operands.told_at class method at linked)
 operand_told told class method at operand.Wrong linked h e = tells faults.Memory told _ (operands.told_at class method at linked) h (ap (operands.told_at class method at) (e (λ same. cc)))
 operand_told told class method at (operand.Missing name) linked h e = tells faults.Memory told _ (operands.told_at class method at linked) h (ap (operands.told_at class method at) (e (λ same. cc)))
 operand_told told class method at operand.Memory linked h e = tells_memory faults.Memory told (operands.told_at class method at linked) h

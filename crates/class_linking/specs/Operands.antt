@@ -102,14 +102,14 @@ operand_linked files listing pool insn =
     else (ok_or (slice_get pool (index_of insn)) operand.Wrong >>= used files listing pool (use_of insn))
 
 -- An operand that its instruction does not take is told by its place, and one that has no target by its name.
-abbrev pub told : List ℕ → ℕ → ℕ → OperandFault → LinkFault
-told class method at operand.Wrong = faults.Operand class method at
-told class method at (operand.Missing name) = faults.Unresolved class name
-told class method at operand.Memory = faults.Memory
+abbrev pub operand_fault_told : List ℕ → ℕ → ℕ → OperandFault → LinkFault
+operand_fault_told class method at operand.Wrong = faults.Operand class method at
+operand_fault_told class method at (operand.Missing name) = faults.Unresolved class name
+operand_fault_told class method at operand.Memory = faults.Memory
 
 abbrev pub told_at : {X : Type 0} → List ℕ → ℕ → ℕ → Result X OperandFault → Linked X
 told_at class method at (Ok x) = Ok x
-told_at class method at (Err fault) = Err (told class method at fault)
+told_at class method at (Err fault) = Err (operand_fault_told class method at fault)
 
 -- the operand of the instruction of this index
 abbrev pub operand_at : List ClassFile → Listing → List ℕ → List Const → ℕ → ℕ → Insn → Linked Target

@@ -10,7 +10,7 @@ ghost use Rattle.bytecode_model.specs.Starts.{index_at, insn_at};
 ghost use Rattle.class_linking.specs.Handlers.{caught, handler_linked, handlers_linked};
 
 use crate::fault::LinkFault;
-use crate::operands::{class_linked, told};
+use crate::operands::{class_linked, operand_fault_told};
 use bytecode_model::{Handler, copy_class, next_place};
 use class_codec::{Const, TableEntry};
 use class_index::Index;
@@ -184,6 +184,6 @@ fn caught(
             let name = copy_class(alloc, pool, constant)?;
             Ok(Some(name))
         }
-        Err(fault) => Err(told(alloc, class, method, at, fault)),
+        Err(fault) => Err(operand_fault_told(alloc, class, method, at, fault)),
     }
 }

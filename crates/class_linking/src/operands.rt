@@ -12,7 +12,7 @@ ghost use Rattle.bytecode_model.specs.Operands.{element_is_known};
 ghost use Rattle.class_linking.specs.Operands.{field_linked, call_linked, loaded, typed, field_used, called, used};
 ghost use Rattle.bytecode_model.specs.Operands.{known_in};
 ghost use Rattle.bytecode_model.specs.Operands.{index_of};
-ghost use Rattle.class_linking.specs.Operands.{operand_linked, told, told_at, operands_linked, operand_at};
+ghost use Rattle.class_linking.specs.Operands.{operand_fault_told, operand_linked, told_at, operands_linked, operand_at};
 
 use crate::fault::LinkFault;
 use crate::operand_fault::OperandFault;
@@ -61,13 +61,19 @@ fn operand_at(
 {
     match operand_linked(alloc, index, pool, insn) {
         Ok(target) => Ok(target),
-        Err(fault) => Err(told(alloc, class, method, at, fault)),
+        Err(fault) => Err(operand_fault_told(alloc, class, method, at, fault)),
     }
 }
 
 /// The fault of an operand as one of linking.
-pub fn told(alloc: Global, class: &Bytes, method: u32, at: u32, fault: OperandFault) -> LinkFault
-    ensures { Tells LinkFault.Memory result (told class.now method at fault) }
+pub fn operand_fault_told(
+    alloc: Global,
+    class: &Bytes,
+    method: u32,
+    at: u32,
+    fault: OperandFault,
+) -> LinkFault
+    ensures { Tells LinkFault.Memory result (operand_fault_told class.now method at fault) }
 {
     match class.copy(alloc) {
         Ok(class) => match fault {

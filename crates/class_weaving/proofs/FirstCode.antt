@@ -6,7 +6,7 @@ use Rattle.class_codec.specs.declared.tree.Attr.TheVariants as attributes
 use Rattle.class_codec.specs.declared.tree.Code.{Code}
 use Rattle.class_codec.specs.declared.tree.Const.{Const}
 use Rattle.class_codec.specs.Fits.{FitsAttr}
-use Rattle.block_template.specs.Woven.{first_code}
+use Rattle.class_weaving.specs.Woven.{first_code}
 
 pub first_fits : (pool : List Const) (attrs : List Attr) (code : Code) → AllByRecursion (FitsAttr pool true) attrs → first_code attrs ≡ Some code → FitsAttr pool true (attributes.Code code)
 first_fits pool [] code h e = absurd cc

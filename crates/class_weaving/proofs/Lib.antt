@@ -1,4 +1,5 @@
 pub mod FirstCode
+pub mod Sites
 pub mod StateFits
 pub mod Spells
 pub mod Sizing

@@ -1,5 +1,6 @@
 -- The files of a program that was woven can be spelled.
-use Rattle.std.proofs.Common.{◌≡◌, ℕ, zero, suc, ◌+◌, ◌<◌, ◌≤◌, ◌^◌, Bool, true, false, List, [], ◌∷◌, ◌++◌, length, map, Option, Some, None, Ok, Err, refl, sym, ap, subst, ◌∙◌, append_assoc, append-nil, arith}
+use Rattle.std.proofs.Common.{◌≡◌, ℕ, zero, suc, ◌+◌, ◌<◌, ◌≤◌, ◌^◌, Bool, true, false, List, [], ◌∷◌, ◌++◌, length, map, Option, Some, None, Ok, Err, refl, sym, ap, subst, ◌∙◌, FitsSigned, append_assoc, append-nil, arith}
+use Rattle.std.specs.Int.{w32}
 use Rattle.std.specs.Prelude.{slice_get, if◌then◌else◌, IfOk}
 use Rattle.std.specs.List.{AllByRecursion, list_any}
 use Rattle.std.proofs.lemmas.List.{length-append, length-map}
@@ -18,8 +19,8 @@ use Rattle.bytecode_model.specs.declared.program.Method.{Method}
 use Rattle.bytecode_model.specs.declared.program.Program.{Program}
 use Rattle.bytecode_model.specs.declared.program.Target.{Target}
 use Rattle.bytecode_model.specs.Sound.{IsSoundMethod, IsSoundClass, IsSound}
-use Rattle.conspec_automaton.specs.declared.policy.Policy.{Policy}
-use Rattle.conspec_automaton.specs.Denying.{DeniesOnly}
+use Rattle.offset_patch.specs.Plan.{Plan, IsGood}
+use Rattle.conspec_tree.specs.declared.types.Var.{Var}
 use Rattle.offset_patch.specs.declared.fault.SpliceFault.{SpliceFault}
 use Rattle.mon_base.specs.Answer.{Answers}
 use Rattle.offset_patch.specs.declared.fault.SpliceFault.TheVariants as faults
@@ -29,27 +30,18 @@ use Rattle.offset_patch.specs.Splicing.{grown, wants_of, fronts_of, origins_of, 
 use Rattle.offset_patch.proofs.Lists.{all_append}
 use Rattle.offset_patch.proofs.PoolFits.{code_on, member_on, attrs_on, index_on, counted_on, each_on, read_on}
 use Rattle.offset_patch.proofs.EntryFits.{wants_grow, wants_fit}
-use Rattle.offset_patch.proofs.InsnFits.{wants_there, parts_fit, parts_some}
+use Rattle.offset_patch.proofs.InsnFits.{wants_there, wants_are, parts_fit, parts_some}
 use Rattle.offset_patch.proofs.CodeFits.{room_is, code_fits, code_named, pool_short}
-use Rattle.block_template.specs.Blocks.{has_block, site}
-use Rattle.block_template.specs.State.{state_class}
-use Rattle.block_template.proofs.BlockFits.{site_fits}
-use Rattle.block_template.proofs.StateFits.{state_fits}
-use Rattle.block_template.specs.declared.woven.WovenCode.{WovenCode}
-use Rattle.block_template.specs.declared.woven.Members.{Members}
-use Rattle.block_template.specs.declared.woven.Woven.{Woven}
-use Rattle.block_template.proofs.FirstCode.{first_fits}
-use Rattle.block_template.specs.Woven.{folded, is_woven, sites_of, most_locals, locals_of, clients_from, blocks_put, code_woven, first_code, attr_with, member_with, bare_put, code_put, body_woven, member_woven, members_woven, none_made, file_with, file_put, class_woven, classes_woven, state_put, woven}
+use Rattle.class_weaving.specs.State.{state_file}
+use Rattle.class_weaving.proofs.Sites.{refs_fit, refs_some}
+use Rattle.class_weaving.proofs.StateFits.{state_fits}
+use Rattle.class_weaving.specs.declared.woven.WovenCode.{WovenCode}
+use Rattle.class_weaving.specs.declared.woven.Members.{Members}
+use Rattle.class_weaving.specs.declared.woven.Woven.{Woven}
+use Rattle.class_weaving.proofs.FirstCode.{first_fits}
+use Rattle.class_weaving.specs.Woven.{folded, is_woven, sites_of, most_locals, locals_of, clients_from, blocks_put, code_woven, first_code, attr_with, member_with, bare_put, code_put, body_woven, member_woven, members_woven, none_made, file_with, file_put, class_woven, classes_woven, state_put, woven}
 
 -- ---- the code of a method
-
-pub refs_fit : (policy : Policy) (base : ℕ) (refs : List Target) → base + most_locals policy refs < 2 ^ 16 → AllByRecursion IsSite (map (site policy base) refs)
-refs_fit policy base [] few = tt
-refs_fit policy base (ref ∷ refs) few = (site_fits policy base ref (omega arith), refs_fit policy base refs (omega arith))
-
-refs_some : (p : Target → Bool) (refs : List Target) → list_any p refs ≡ true → 1 ≤ length refs
-refs_some p [] e = absurd cc
-refs_some p (ref ∷ refs) e = omega arith
 
 -- What was made of a code: the pool grew, and both can be spelled.
 record IsCode (pool : List Const) (code : Code) (w : WovenCode) : Type 0 where
@@ -58,11 +50,11 @@ record IsCode (pool : List Const) (code : Code) (w : WovenCode) : Type 0 where
   code_fits : FitsCode w.entries w.code
   named : w.code.name ≡ code.name
 
-put_fits : (policy : Policy) (class : List ℕ) (number : ℕ) (pool : List Const) (method : Method) (code : Code) (w : WovenCode) → FitsPool pool → FitsCode pool code → IsSoundMethod method
-    → is_woven policy method ≡ true → blocks_put policy class number pool method code (sites_of policy code.max_locals method) ≡ Ok w → IsCode pool code w
-put_fits policy class number pool method code w p h sound some e =
-    let locals = locals_of policy method in
-    let sites = sites_of policy code.max_locals method in
+put_fits : (kinds : List Bool) (plan : Plan) (good : IsGood kinds plan) (class : List ℕ) (number : ℕ) (pool : List Const) (method : Method) (code : Code) (w : WovenCode) → FitsPool pool → FitsCode pool code → IsSoundMethod method
+    → is_woven plan method ≡ true → blocks_put plan class number pool method code (sites_of plan code.max_locals method) ≡ Ok w → IsCode pool code w
+put_fits kinds plan good class number pool method code w p h sound some e =
+    let locals = locals_of plan method in
+    let sites = sites_of plan code.max_locals method in
     let all = grown pool sites in
     let made : Code → WovenCode = λ new. record { code = new; entries = all; origins = origins_of sites } in
     let one = bind_ok (room class number code locals) (λ fits. code_spliced class number all method code locals sites >>= λ new. Ok (made new)) w e in
@@ -71,29 +63,29 @@ put_fits policy class number pool method code w p h sound some e =
     let is : made new ≡ w = ok_is SpliceFault (made new) w two.2 in
     let roomy = room_is class number code locals one.1 in
     let short = pool_short class number all method code locals sites new two.1 in
-    let fit = refs_fit policy code.max_locals method.refs (omega (arith, roomy.1)) in
+    let fit = refs_fit kinds plan good code.max_locals method.refs (omega (arith, roomy.1)) in
     let more = wants_grow (wants_of sites) pool in
-    let refs = refs_some (has_block policy) method.refs some in
-    let count : length sites ≡ length method.refs = length-map method.refs (site policy code.max_locals) in
+    let refs = refs_some plan.has_block method.refs some in
+    let count : length sites ≡ length method.refs = length-map method.refs (plan.block code.max_locals) in
     let same = sound.refs in
     let each = parts_fit all (fronts_of sites) 0 method.insns sites short sound.insns fit (wants_there sites pool) in
     let there = parts_some all (fronts_of sites) 0 method.insns sites fit (omega arith) (omega arith) in
     let here = subst (λ (q : List Const). FitsCode q code) (sym more.1) (code_on pool more.0 code h) in
     subst (IsCode pool code) is (record {
       grown = more;
-      pool_fits = wants_fit (wants_of sites) pool p short;
+      pool_fits = wants_fit (wants_of sites) (wants_are sites fit) pool p short;
       code_fits = code_fits class number all method code locals sites new here one.1 two.1 each there;
       named = code_named class number all method code locals sites new two.1;
     })
 
-woven_fits : (policy : Policy) (class : List ℕ) (number : ℕ) (pool : List Const) (method : Method) (code : Code) (w : WovenCode) → FitsPool pool → FitsCode pool code → IsSoundMethod method
-    → code_woven policy class number pool method code ≡ Ok w → IsCode pool code w
-woven_fits policy class number pool method code w p h sound = by (is_woven policy method) refl
+woven_fits : (kinds : List Bool) (plan : Plan) (good : IsGood kinds plan) (class : List ℕ) (number : ℕ) (pool : List Const) (method : Method) (code : Code) (w : WovenCode) → FitsPool pool → FitsCode pool code → IsSoundMethod method
+    → code_woven plan class number pool method code ≡ Ok w → IsCode pool code w
+woven_fits kinds plan good class number pool method code w p h sound = by (is_woven plan method) refl
   where
-    by : (b : Bool) → is_woven policy method ≡ b
-        → (if b then blocks_put policy class number pool method code (sites_of policy code.max_locals method)
+    by : (b : Bool) → is_woven plan method ≡ b
+        → (if b then blocks_put plan class number pool method code (sites_of plan code.max_locals method)
         else Ok (record { code = code; entries = pool; origins = clients_from 0 method.insns })) ≡ Ok w → IsCode pool code w
-    by true some e = put_fits policy class number pool method code w p h sound some e
+    by true some e = put_fits kinds plan good class number pool method code w p h sound some e
     by false none e =
         let same : WovenCode = record { code = code; entries = pool; origins = clients_from 0 method.insns } in
         subst (IsCode pool code) (ok_is SpliceFault same w e) (record { grown = ([], sym (append-nil pool)); pool_fits = p; code_fits = h; named = refl })
@@ -123,12 +115,12 @@ bare_fits pool made member m h =
     let here = subst (λ (q : List Const). FitsMember q true member) (sym m.grown.1) (member_on pool m.grown.0 true member h) in
     record { grown = m.grown; fits = m.fits; items = all_append (FitsMember made.entries true) made.items (member ∷ []) m.items (here, tt) }
 
-coded_fits : (policy : Policy) (class : List ℕ) (pool : List Const) (made : Members) (member : Member) (method : Method) (code : Code) (w : WovenCode) → IsMade pool made → FitsMember pool true member
-    → IsSoundMethod method → first_code member.attrs ≡ Some code → code_woven policy class made.number made.entries method code ≡ Ok w → IsMade pool (code_put made member w)
-coded_fits policy class pool made member method code w m h sound first e =
+coded_fits : (kinds : List Bool) (plan : Plan) (good : IsGood kinds plan) (class : List ℕ) (pool : List Const) (made : Members) (member : Member) (method : Method) (code : Code) (w : WovenCode) → IsMade pool made → FitsMember pool true member
+    → IsSoundMethod method → first_code member.attrs ≡ Some code → code_woven plan class made.number made.entries method code ≡ Ok w → IsMade pool (code_put made member w)
+coded_fits kinds plan good class pool made member method code w m h sound first e =
     let here = subst (λ (q : List Const). FitsMember q true member) (sym m.grown.1) (member_on pool m.grown.0 true member h) in
     let old = first_fits made.entries member.attrs code here.attrs.each first in
-    let c = woven_fits policy class made.number made.entries method code w m.fits old.1 sound e in
+    let c = woven_fits kinds plan good class made.number made.entries method code w m.fits old.1 sound e in
     let more = c.grown.0 in
     let on = λ (x : Member) (f : FitsMember made.entries true x). subst (λ (q : List Const). FitsMember q true x) (sym c.grown.1) (member_on made.entries more true x f) in
     let read : is_read_as_code w.entries true w.code.name ≡ true =
@@ -148,33 +140,33 @@ all_at P (y ∷ xs) zero x h e =
     subst P is h.0
 all_at P (y ∷ xs) (suc i) x h e = all_at P xs i x h.1 e
 
-body_fits : (policy : Policy) (class : List ℕ) (pool : List Const) (made next : Members) (member : Member) (methods : List Method) → IsMade pool made → FitsMember pool true member
+body_fits : (kinds : List Bool) (plan : Plan) (good : IsGood kinds plan) (class : List ℕ) (pool : List Const) (made next : Members) (member : Member) (methods : List Method) → IsMade pool made → FitsMember pool true member
     → AllByRecursion IsSoundMethod methods → (m : Option Method) (c : Option Code) → slice_get methods made.number ≡ m → first_code member.attrs ≡ c
-    → body_woven policy class made member m c ≡ Ok next → IsMade pool next × (length next.items ≡ length made.items + 1)
-body_fits policy class pool made next member methods i h sound (Some method) (Some code) m c e =
-    let one = bind_ok (code_woven policy class made.number made.entries method code) (λ w. Ok (code_put made member w)) next e in
+    → body_woven plan class made member m c ≡ Ok next → IsMade pool next × (length next.items ≡ length made.items + 1)
+body_fits kinds plan good class pool made next member methods i h sound (Some method) (Some code) m c e =
+    let one = bind_ok (code_woven plan class made.number made.entries method code) (λ w. Ok (code_put made member w)) next e in
     let is : code_put made member one.0 ≡ next = ok_is SpliceFault (code_put made member one.0) next one.2 in
     let P : Members → Type 0 = λ x. IsMade pool x × (length x.items ≡ length made.items + 1) in
-    subst P is (coded_fits policy class pool made member method code one.0 i h (all_at IsSoundMethod methods made.number method sound m) c one.1, length-append made.items (member_with member one.0.code ∷ []))
-body_fits policy class pool made next member methods i h sound None c m d e =
+    subst P is (coded_fits kinds plan good class pool made member method code one.0 i h (all_at IsSoundMethod methods made.number method sound m) c one.1, length-append made.items (member_with member one.0.code ∷ []))
+body_fits kinds plan good class pool made next member methods i h sound None c m d e =
     let is : bare_put made member ≡ next = ok_is SpliceFault (bare_put made member) next e in
     let P : Members → Type 0 = λ x. IsMade pool x × (length x.items ≡ length made.items + 1) in
     subst P is (bare_fits pool made member i h, length-append made.items (member ∷ []))
-body_fits policy class pool made next member methods i h sound (Some method) None m d e =
+body_fits kinds plan good class pool made next member methods i h sound (Some method) None m d e =
     let is : bare_put made member ≡ next = ok_is SpliceFault (bare_put made member) next e in
     let P : Members → Type 0 = λ x. IsMade pool x × (length x.items ≡ length made.items + 1) in
     subst P is (bare_fits pool made member i h, length-append made.items (member ∷ []))
 
-members_fit : (policy : Policy) (class : LinkedClass) (pool : List Const) (made last : Members) (members : List Member) → AllByRecursion IsSoundMethod class.methods → IsMade pool made
-    → AllByRecursion (FitsMember pool true) members → folded (member_woven policy class) made members ≡ Ok last → IsMade pool last × (length last.items ≡ length made.items + length members)
-members_fit policy class pool made last [] sound i h e =
+members_fit : (kinds : List Bool) (plan : Plan) (good : IsGood kinds plan) (class : LinkedClass) (pool : List Const) (made last : Members) (members : List Member) → AllByRecursion IsSoundMethod class.methods → IsMade pool made
+    → AllByRecursion (FitsMember pool true) members → folded (member_woven plan class) made members ≡ Ok last → IsMade pool last × (length last.items ≡ length made.items + length members)
+members_fit kinds plan good class pool made last [] sound i h e =
     let is : made ≡ last = ok_is SpliceFault made last e in
     let P : Members → Type 0 = λ x. IsMade pool x × (length x.items ≡ length made.items + 0) in
     subst P is (i, omega arith)
-members_fit policy class pool made last (member ∷ members) sound i h e =
-    let one = bind_ok (member_woven policy class made member) (λ next. folded (member_woven policy class) next members) last e in
-    let here = body_fits policy class.name pool made one.0 member class.methods i h.0 sound (slice_get class.methods made.number) (first_code member.attrs) refl refl one.1 in
-    let later = members_fit policy class pool one.0 last members sound here.0 h.1 one.2 in
+members_fit kinds plan good class pool made last (member ∷ members) sound i h e =
+    let one = bind_ok (member_woven plan class made member) (λ next. folded (member_woven plan class) next members) last e in
+    let here = body_fits kinds plan good class.name pool made one.0 member class.methods i h.0 sound (slice_get class.methods made.number) (first_code member.attrs) refl refl one.1 in
+    let later = members_fit kinds plan good class pool one.0 last members sound here.0 h.1 one.2 in
     (later.0, omega (arith, here.1, later.1))
 
 -- ---- classes
@@ -200,29 +192,31 @@ file_fits file made h m count =
 none_fits : (pool : List Const) → FitsPool pool → IsMade pool (none_made pool)
 none_fits pool p = record { grown = ([], sym (append-nil pool)); fits = p; items = tt }
 
-classes_fit : (policy : Policy) (made last : Woven) (classes : List LinkedClass) → AllByRecursion IsSoundClass classes → AllByRecursion CanSpell made.files
-    → folded (class_woven policy) made classes ≡ Ok last → AllByRecursion CanSpell last.files
-classes_fit policy made last [] sound h e = subst (λ (x : Woven). AllByRecursion CanSpell x.files) (ok_is SpliceFault made last e) h
-classes_fit policy made last (class ∷ classes) sound h e =
-    let one = bind_ok (class_woven policy made class) (λ next. folded (class_woven policy) next classes) last e in
-    let two = bind_ok (members_woven policy class (none_made class.file.pool) class.file.methods) (λ done. Ok (file_put made class done)) one.0 one.1 in
+classes_fit : (kinds : List Bool) (plan : Plan) (good : IsGood kinds plan) (made last : Woven) (classes : List LinkedClass) → AllByRecursion IsSoundClass classes → AllByRecursion CanSpell made.files
+    → folded (class_woven plan) made classes ≡ Ok last → AllByRecursion CanSpell last.files
+classes_fit kinds plan good made last [] sound h e = subst (λ (x : Woven). AllByRecursion CanSpell x.files) (ok_is SpliceFault made last e) h
+classes_fit kinds plan good made last (class ∷ classes) sound h e =
+    let one = bind_ok (class_woven plan made class) (λ next. folded (class_woven plan) next classes) last e in
+    let two = bind_ok (members_woven plan class (none_made class.file.pool) class.file.methods) (λ done. Ok (file_put made class done)) one.0 one.1 in
     let fits = sound.0.fits in
-    let all = members_fit policy class class.file.pool (none_made class.file.pool) two.0 class.file.methods sound.0.methods (none_fits class.file.pool fits.pool) fits.methods.each two.1 in
+    let all = members_fit kinds plan good class class.file.pool (none_made class.file.pool) two.0 class.file.methods sound.0.methods (none_fits class.file.pool fits.pool) fits.methods.each two.1 in
     let file = file_fits class.file two.0 fits all.0 (all.1 ∙ omega arith) in
     let is : file_put made class two.0 ≡ one.0 = ok_is SpliceFault (file_put made class two.0) one.0 two.2 in
     let here : AllByRecursion CanSpell (file_put made class two.0).files = all_append CanSpell made.files (file_with class.file two.0.entries two.0.items ∷ []) h (file, tt) in
-    classes_fit policy one.0 last classes sound.1 (subst (λ (x : Woven). AllByRecursion CanSpell x.files) is here) one.2
+    classes_fit kinds plan good one.0 last classes sound.1 (subst (λ (x : Woven). AllByRecursion CanSpell x.files) is here) one.2
 
 -- ---- the program
 
-pub woven_spells : (program : Program) (policy : Policy) (w : Woven) → IsSound program → DeniesOnly policy → woven program policy ≡ Ok w → AllByRecursion CanSpell w.files
-woven_spells program policy w sound denies e =
+pub woven_spells : (program : Program) (plan : Plan) (vars : List Var) (w : Woven) → IsSound program → IsGood (map (λ (v : Var). v.is_bool) vars) plan → length vars ≤ 16
+    → AllByRecursion (λ (v : Var). FitsSigned w32 v.first) vars → woven program plan vars ≡ Ok w → AllByRecursion CanSpell w.files
+woven_spells program plan vars w sound good few firsts e =
     let none : Woven = record { files = []; origins = [] } in
-    let one = bind_ok (classes_woven policy none program.classes) (λ made. Ok (state_put policy made)) w e in
-    let is : state_put policy one.0 ≡ w = ok_is SpliceFault (state_put policy one.0) w one.2 in
-    let all = classes_fit policy none one.0 program.classes sound.classes tt one.1 in
-    subst (λ (x : Woven). AllByRecursion CanSpell x.files) is (all_append CanSpell one.0.files (state_class policy ∷ []) all (state_fits policy.vars denies.vars, tt))
+    let one = bind_ok (classes_woven plan none program.classes) (λ made. Ok (state_put vars made)) w e in
+    let is : state_put vars one.0 ≡ w = ok_is SpliceFault (state_put vars one.0) w one.2 in
+    let all = classes_fit (map (λ (v : Var). v.is_bool) vars) plan good none one.0 program.classes sound.classes tt one.1 in
+    subst (λ (x : Woven). AllByRecursion CanSpell x.files) is (all_append CanSpell one.0.files (state_file vars ∷ []) all (state_fits vars few firsts, tt))
 
-pub spells_if : (program : Program) (policy : Policy) (r : Spliced Woven) → IsSound program → DeniesOnly policy → Answers faults.Memory r (woven program policy) → IfOk r (λ w. AllByRecursion CanSpell w.files)
-spells_if program policy (Ok w) sound denies told = woven_spells program policy w sound denies told
-spells_if program policy (Err e) sound denies told = tt
+pub spells_if : (program : Program) (plan : Plan) (vars : List Var) (r : Spliced Woven) → IsSound program → IsGood (map (λ (v : Var). v.is_bool) vars) plan → length vars ≤ 16
+    → Answers faults.Memory r (woven program plan vars) → AllByRecursion (λ (v : Var). FitsSigned w32 v.first) vars → IfOk r (λ w. AllByRecursion CanSpell w.files)
+spells_if program plan vars (Ok w) sound good few told firsts = woven_spells program plan vars w sound good few firsts told
+spells_if program plan vars (Err e) sound good few told firsts = tt

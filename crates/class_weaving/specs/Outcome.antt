@@ -157,7 +157,7 @@ pub record IsWovenMethod (plan : Plan) (state : ℕ) (pool : List Const) (old ne
   pub handlers : new.handlers ≡ handlers_woven plan old
   pub refs : new.refs ≡ refs_woven plan state old
   -- where a block stops the program, the pool's way out is that
-  pub out : Contains wants.Exit (wants_woven plan old) → reference_at pool (place_in pool wants.Exit) ≡ Some way_out
+  pub out : Contains (wants_woven plan old) wants.Exit → reference_at pool (place_in pool wants.Exit) ≡ Some way_out
 
 -- The blocks name constants of the new file, which has all of the old one, each in its place, and behind them what the
 -- blocks name that was not there, in the order of use. All else of the file is as it was, but the code of its methods.

@@ -1,6 +1,6 @@
 -- The sizes of what a program is woven to, in the order in which they are told: the classes in theirs, and the methods of
 -- each in theirs. Nothing is woven for them.
-use Rattle.std.specs.Prelude.{◌≡◌, ℕ, ◌+◌, if◌then◌else◌, List, [], ◌∷◌, ◌++◌, slice_get, Option, Some, None}
+use Rattle.std.specs.Prelude.{◌≡◌, ℕ, ◌+◌, if◌then◌else◌, List, [], ◌∷◌, ◌++◌, map, slice_get, Option, Some, None}
 use Rattle.class_codec.specs.declared.tree.Code.{Code}
 use Rattle.class_codec.specs.declared.tree.Const.{Const}
 use Rattle.class_codec.specs.declared.tree.Member.{Member}
@@ -10,7 +10,7 @@ use Rattle.bytecode_model.specs.declared.program.Program.{Program}
 use Rattle.bytecode_model.specs.Sound.{IsSound}
 use Rattle.offset_patch.specs.declared.fault.SpliceFault.{SpliceFault}
 use Rattle.offset_patch.specs.Fault.{fault_of}
-use Rattle.offset_patch.specs.Plan.{Plan}
+use Rattle.offset_patch.specs.Plan.{Plan, IsGood}
 use Rattle.conspec_tree.specs.declared.types.Var.{Var}
 use Rattle.offset_patch.specs.Sizes.{method_sizes, first_unfit}
 use Rattle.offset_patch.specs.Splicing.{grown}
@@ -47,6 +47,8 @@ classes_sizes plan (class ∷ classes) = members_sizes plan class 0 class.file.p
 abbrev pub program_sizes : Program → Plan → List SpliceFault
 program_sizes program plan = classes_sizes plan program.classes
 
--- Weaving is a fault exactly where a size does not fit, and then it is the first of these.
+-- Weaving by a good plan is a fault exactly where a size does not fit, and then it is the first of these.
 abbrev pub SizesDecide : Type 0
-SizesDecide = (program : Program) (plan : Plan) (vars : List Var) → IsSound program → fault_of (woven program plan vars) ≡ first_unfit (program_sizes program plan)
+SizesDecide =
+    (program : Program) (plan : Plan) (vars : List Var) → IsSound program → IsGood (map (λ (v : Var). v.is_bool) vars) plan
+    → fault_of (woven program plan vars) ≡ first_unfit (program_sizes program plan)

@@ -104,7 +104,7 @@ fn class_woven<P: Planner>(
 {
     let none = Members {
         number: 0,
-        entries: Entries::new(alloc, copy_list(alloc, &class.file.pool)?),
+        entries: Entries::new(copy_list(alloc, &class.file.pool)?),
         items: List::new(alloc),
         origins: List::new(alloc),
     };

@@ -61,7 +61,7 @@ fn number_of(value: Value) -> i32
 }
 
 /// Whether a value is null.
-fn is_null(value: Value) -> bool
+pub fn is_null(value: Value) -> bool
     ensures { result ≡ is_null value }
 {
     match value {
@@ -71,7 +71,7 @@ fn is_null(value: Value) -> bool
 }
 
 /// Whether two references are of one object.
-fn are_one(x: Value, y: Value) -> bool
+pub fn are_one(x: Value, y: Value) -> bool
     ensures { result ≡ are_one x y }
 {
     match x {

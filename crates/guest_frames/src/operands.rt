@@ -43,7 +43,7 @@ pub fn effect(shape: Shape, locals: &mut List<Value>, stack: &mut Stack) -> bool
 }
 
 /// Whether the value is a number, or else a reference or null.
-fn fits(kind: Kind, value: Value) -> bool
+pub fn fits(kind: Kind, value: Value) -> bool
     ensures { result ≡ fits kind value }
 {
     let is_number = match value {

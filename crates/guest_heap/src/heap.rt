@@ -8,33 +8,34 @@ use crate::value::Value;
 use mon_base::{List, NoMemory};
 
 /// The field of an object, or the item of an array. It takes no memory.
-pub fn get(heap: &List<Object>, at: u32, place: u32) -> Value
+pub fn get(heap: &List<Object>, at: u32, place: usize) -> Value
     requires { HasPlace heap.now at place }
     ensures { result ≡ value_at heap.now at place }
 {
-    places(&heap.as_slice()[at as usize])[place as usize]
+    places(&heap.as_slice()[at as usize])[place]
 }
 
 /// Writes the field of an object, or the item of an array. It takes no memory.
-pub fn put(heap: &mut List<Object>, at: u32, place: u32, value: Value)
+pub fn put(heap: &mut List<Object>, at: u32, place: usize, value: Value)
     requires { HasPlace heap.old at place }
     ensures { heap.new ≡ with_value_at heap.old at place value }
 {
     put_in(heap.item_mut(at as usize), place, value);
 }
 
-fn put_in(object: &mut Object, place: u32, value: Value)
+fn put_in(object: &mut Object, place: usize, value: Value)
     requires { place < length (places_of object.old) }
     ensures { object.new ≡ with_value place value object.old }
 {
     match object {
-        Object::Plain { fields, .. } => *fields.item_mut(place as usize) = value,
-        Object::Array { items, .. } => *items.item_mut(place as usize) = value,
+        Object::Plain { fields, .. } => *fields.item_mut(place) = value,
+        Object::Array { items, .. } => *items.item_mut(place) = value,
         Object::Text(_) => {}
     }
 }
 
-fn places(object: &Object) -> &[Value]
+/// The fields of an object, or the items of an array.
+pub fn places(object: &Object) -> &[Value]
     ensures { result.now ≡ places_of object.now }
 {
     match object {

@@ -4,3 +4,24 @@ pub mod Arithmetic
 pub mod Numbers
 pub mod Insns
 pub mod Catching
+pub mod Always
+pub mod Staying
+mod Going
+mod Throwing
+mod Calling
+mod Stepping
+pub mod Standing
+pub mod Words
+mod Comings
+mod Passing
+mod Answers
+mod InRange
+mod Linked
+mod There
+mod Enabled
+mod Working
+mod Leaving
+mod Moving
+mod Calls
+mod Making
+mod Rows

@@ -1,6 +1,17 @@
-//! What holds of the parts of a step.
+//! What holds of every run.
 
-ghost use Rattle.guest_model.specs.Numbers.{AnswersAreWords, OneMakesWords, TwoMakeWords};
+ghost use Rattle.bytecode_model.specs.declared.program.Program.{Program};
+ghost use Rattle.std.specs.Prelude.{Bool, List};
+ghost use Rattle.api_listing.specs.declared.events.Event.{Event};
+ghost use Rattle.bytecode_model.specs.Sound.{IsSound};
+ghost use Rattle.bytecode_model.specs.Standing.{AreLiterals};
+ghost use Rattle.bytecode_model.specs.Targets.{AreNamed};
+ghost use Rattle.guest_model.specs.declared.machine.Machine.{Machine};
+ghost use Rattle.guest_model.specs.Standing.{Places, HasInsns, IsClosed, SeesOnlyCalled};
+ghost use Rattle.guest_model.specs.Always.{IsKeptBySteps, HoldsAlways};
+ghost use Rattle.guest_model.specs.First.{SeesFirstCall, GoesOnBehindFirstCall};
+ghost use Rattle.guest_model.specs.Numbers.{SeesInRange, AnswersAreWords, OneMakesWords, TwoMakeWords};
+ghost use Rattle.guest_model.specs.Staying.{OtherThreadsStay};
 ghost use Rattle.guest_model.specs.Throwing.{HandlersCover};
 
 /// What instructions make of numbers of 32 bits is of 32 bits, and so is a number that the library may give.
@@ -13,4 +24,35 @@ pub fn numbers_are_of_32_bits()
 /// A handler that is found covers the instruction at which the frame stands.
 pub fn handlers_cover()
     ensures cover { HandlersCover }
+{}
+
+/// What holds at the start, of the machine and of what the library saw, and is kept by each change that a step makes, holds
+/// after every list of steps.
+pub fn what_each_step_keeps_holds_always()
+    ensures holds { (program : Program) (holds : Machine → List Event → Bool) → IsKeptBySteps program holds → HoldsAlways program holds }
+{}
+
+/// A step leaves each thread that was there as it was, but its own.
+pub fn other_threads_stay()
+    ensures stay { OtherThreadsStay }
+{}
+
+/// Where control begins in a set of places and does not leave it, the library sees only calls of methods that are called at
+/// a place of the set, and the returns from these, whatever the steps are.
+pub fn sees_only_what_is_called()
+    ensures sees { (program : Program) (reached : Places) → HasInsns program → IsClosed program reached → SeesOnlyCalled program reached }
+{}
+
+/// Whatever the steps of a linked program are, a call passes as many arguments as its method takes, each number of 32 bits; and
+/// a method without a result returns nothing, one whose result is a number one in the range of its type.
+pub fn sees_numbers_in_range()
+    ensures sees { (program : Program) → IsSound program → AreNamed program → AreLiterals program → SeesInRange program }
+{}
+
+/// The machine moves: where no class has an initialiser and the first instruction of `main` calls a static method of the
+/// library that takes and gives nothing, the library sees the call in the first step, and its return in the next; `main`
+/// then goes on behind its call.
+pub fn sees_the_first_call()
+    ensures sees { SeesFirstCall }
+    ensures goes { GoesOnBehindFirstCall }
 {}

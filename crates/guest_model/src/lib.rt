@@ -1,11 +1,29 @@
-//! What a machine of linked programs is made of, as definitions: its states and steps, values and what instructions make of them,
-//! frames, monitors, handlers, and what calls take.
+//! The machine of linked programs, as a definition: its states and steps, every instruction of the subset, objects and arrays,
+//! calls of given and of built-in methods, threads, monitors and handlers, and the library's answers. (docs/MACHINE.md)
 //!
-//! The machine itself stands in guest_machine, over these. (docs/MACHINE.md)
+//! One guest instruction is one step, and so is one answer of the library; guest memory is sequentially consistent. What a step
+//! changes stands in specs/, in one case for each group of instructions; what it is made of in specs/Parts, Places, Calls,
+//! Monitors and Throwing.
 #![tactic(auto)]
 
+mod arities;
+mod builtin;
 mod laws;
+mod laws_of_steps;
 mod machine;
+mod objects;
+mod thrown;
 
-pub use laws::{handlers_cover, numbers_are_of_32_bits};
+pub use arities::{arity, arity_of_row, is_static_call};
+pub use builtin::{Builtin, builtin_at};
+pub use laws::{
+    handlers_cover, numbers_are_of_32_bits, other_threads_stay, sees_numbers_in_range,
+    sees_only_what_is_called, sees_the_first_call, what_each_step_keeps_holds_always,
+};
+pub use laws_of_steps::{
+    enabled_steps_are_made, fitting_answers_are_taken, frames_are_left, free_monitors_are_entered,
+    ready_calls_are_made, steps_are_enabled, what_is_ready_moves,
+};
 pub use machine::{Choice, End, Machine, Step};
+pub use objects::{STRING, class_of_value, first_value, is_of_references};
+pub use thrown::Thrown;

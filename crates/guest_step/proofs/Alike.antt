@@ -1,5 +1,5 @@
 -- What a thread does while another stands in its place among the threads: the same, where that has ended exactly where it has.
-use Rattle.std.proofs.Common.{◌≡◌, ℕ, zero, suc, Bool, true, false, cond, List, [], ◌∷◌, ◌++◌, length, Option, Some, None, refl, sym, ap, ◌∙◌}
+use Rattle.std.proofs.Common.{◌≡◌, ℕ, zero, suc, Bool, true, false, cond, List, [], ◌∷◌, length, Option, Some, None, refl, sym, ap, ◌∙◌}
 use Rattle.std.specs.Prelude.{slice_get, slice_set, option_map, option_and_then}
 use Rattle.std.specs.Option.{option_map_or, option_or}
 use Rattle.std.proofs.lemmas.List.{length-set}
@@ -23,13 +23,13 @@ use Rattle.guest_model.specs.declared.machine.Choice.TheVariants as choices
 use Rattle.guest_model.specs.declared.machine.Machine.{Machine}
 use Rattle.guest_model.specs.Calls.{Taken, arity, taken}
 use Rattle.guest_model.specs.Places.{insn_at}
-use Rattle.guest_model.specs.Stepping.{null_pointer}
-use Rattle.guest_machine.specs.declared.builtin.Builtin.{Builtin}
-use Rattle.guest_machine.specs.declared.builtin.Builtin.TheVariants as builtins
-use Rattle.guest_machine.specs.Builtins.{builtin_at}
-use Rattle.guest_machine.specs.Calling.{Calling, begun_thread, built_in, call_throws, calls, calls_named, desc_named, goes_past, has_ended, is_ended, is_static_call, joined, joins, run_of, started, started_as, starts, target_of, thread_of_value, with_begun, with_changed}
-use Rattle.guest_machine.specs.Changes.{Change, with_heap, world_of}
-use Rattle.guest_machine.specs.Stepping.{Acting, acts_on, doing_stepped, frames_stepped, heap_in, heap_stepped, insn_stepped}
+use Rattle.guest_model.specs.Parts.{null_pointer}
+use Rattle.guest_model.specs.declared.builtin.Builtin.{Builtin}
+use Rattle.guest_model.specs.declared.builtin.Builtin.TheVariants as builtins
+use Rattle.guest_model.specs.Builtins.{builtin_at}
+use Rattle.guest_model.specs.Calling.{Calling, begun_thread, built_in, call_throws, calls, calls_named, desc_named, goes_past, has_ended, is_ended, is_static_call, joined, joins, run_of, started, started_as, starts, target_of, thread_of_value, with_begun, with_changed}
+use Rattle.guest_model.specs.Changes.{Change, with_heap, world_of}
+use Rattle.guest_model.specs.Stepping.{Acting, acts_on, doing_stepped, frames_stepped, heap_in, heap_stepped}
 
 and_then_ext : {A B : Type 0} (f g : A → Option B) (o : Option A) → ((x : A) → f x ≡ g x) → option_and_then f o ≡ option_and_then g o
 and_then_ext f g None same = refl

@@ -1,6 +1,6 @@
 -- A thread whose doing stands apart while it acts.
-use Rattle.std.proofs.Common.{◌≡◌, ℕ, ◌<◌, Bool, true, false, cond, List, [], ◌∷◌, length, Option, Some, None, Result, Ok, Err, refl, sym, ap, ◌∙◌, subst}
-use Rattle.std.specs.Prelude.{IsSomeAnd, is_err, if◌then◌else◌, slice_get, slice_set, option_map, option_and_then}
+use Rattle.std.proofs.Common.{◌≡◌, ℕ, ◌<◌, cond, List, [], ◌∷◌, length, Option, Some, None, Result, Ok, Err, refl, sym, ap, ◌∙◌, subst}
+use Rattle.std.specs.Prelude.{IsSomeAnd, is_err, if◌then◌else◌, slice_get, slice_set, option_and_then}
 use Rattle.std.specs.Option.{option_map_or}
 use Rattle.api_listing.specs.declared.events.ApiAnswer.{ApiAnswer}
 use Rattle.api_listing.specs.declared.events.Event.{Event}
@@ -17,13 +17,14 @@ use Rattle.guest_model.specs.declared.machine.Choice.TheVariants as choices
 use Rattle.guest_model.specs.declared.machine.Machine.{Machine}
 use Rattle.guest_model.specs.declared.machine.Step.{Step}
 use Rattle.guest_model.specs.Calls.{types_of}
-use Rattle.guest_machine.specs.Answering.{answer_fits, answered, answered_well, given, returned_by, thrown_by, thrown_by_library}
-use Rattle.guest_machine.specs.Changes.{Change, World, returned, world_of}
-use Rattle.guest_machine.specs.Stepping.{call_stepped, doing_stepped, is_on_null, null_thrown, stepped}
-use Rattle.guest_step.specs.declared.fault.StepFault.{StepFault}
-use Rattle.guest_step.specs.declared.fault.StepFault.TheVariants as faults
-use Rattle.guest_step.specs.Acts.{ActsIn, IsDone, doing_this}
-use Rattle.guest_step.specs.Did.{Did}
+use Rattle.guest_model.specs.Answering.{answer_fits, answered_well, given, returned_by, thrown_by, thrown_by_library}
+use Rattle.guest_model.specs.Changes.{Change, World, returned, world_of}
+use Rattle.guest_model.specs.Stepping.{call_stepped, doing_stepped, is_on_null, stepped}
+use Rattle.guest_threads.specs.declared.fault.StepFault.{StepFault}
+use Rattle.guest_threads.specs.declared.fault.StepFault.TheVariants as faults
+use Rattle.guest_threads.specs.Acts.{ActsIn, IsDone}
+use Rattle.guest_step.specs.Turns.{doing_this}
+use Rattle.guest_threads.specs.Did.{Did}
 use Rattle.guest_step.proofs.Alike.{with_threads}
 use Rattle.guest_step.proofs.Putting.{did, has_place}
 

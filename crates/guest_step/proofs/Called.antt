@@ -12,13 +12,13 @@ use Rattle.guest_heap.specs.declared.thread.Thread.{Thread}
 use Rattle.guest_heap.specs.declared.value.Value.{Value}
 use Rattle.guest_model.specs.declared.machine.Machine.{Machine}
 use Rattle.guest_model.specs.Calls.{Taken, arity, taken}
-use Rattle.guest_machine.specs.Calling.{Calling, calls, calls_named, desc_named, is_static_call}
-use Rattle.guest_machine.specs.Changes.{Change}
-use Rattle.guest_machine.specs.Stepping.{Acting}
-use Rattle.guest_step.specs.Acts.{ActsIn, acting}
-use Rattle.guest_step.specs.Calls.{calling, taken_from}
-use Rattle.guest_step.specs.declared.fault.StepFault.{StepFault}
-use Rattle.guest_step.specs.declared.passing.Call.{Call}
+use Rattle.guest_model.specs.Calling.{Calling, calls, calls_named, desc_named, is_static_call}
+use Rattle.guest_model.specs.Changes.{Change}
+use Rattle.guest_model.specs.Stepping.{Acting}
+use Rattle.guest_threads.specs.Acts.{ActsIn, acting}
+use Rattle.guest_threads.specs.Calls.{calling, taken_from}
+use Rattle.guest_threads.specs.declared.fault.StepFault.{StepFault}
+use Rattle.guest_threads.specs.declared.passing.Call.{Call}
 
 inside : {X : Type 0} (x y : X) → Some x ≡ Some y → x ≡ y
 inside {X = X} x y e = ap (λ (o : Option X). option_map_or (λ (z : X). z) o x) e

@@ -28,10 +28,10 @@ use Rattle.guest_model.specs.declared.machine.Choice.TheVariants as choices
 use Rattle.guest_model.specs.declared.machine.End.TheVariants as ends
 use Rattle.guest_model.specs.declared.machine.Machine.{Machine}
 use Rattle.guest_model.specs.Calls.{types_of, types_read}
-use Rattle.guest_machine.specs.Answering.{answer_fits}
-use Rattle.guest_machine.specs.Calling.{is_ended}
-use Rattle.guest_machine.specs.Enabled.{MayStep, waits}
-use Rattle.guest_machine.specs.Stepping.{is_on_null}
+use Rattle.guest_model.specs.Answering.{answer_fits}
+use Rattle.guest_model.specs.Calling.{is_ended}
+use Rattle.guest_model.specs.Enabled.{MayStep, waits}
+use Rattle.guest_model.specs.Stepping.{is_on_null}
 use Rattle.guest_step.specs.Ending.{EndsWhereNoneIsEnabled, SomeIsEnabled, can_step, end_of, end_of_threads, have_ended, some_can_step}
 use Rattle.type_lattice.proofs.Arrays.{named_described}
 
@@ -99,7 +99,7 @@ module _ (program : Program) (machine : Machine) (number : ℕ) (frames : List F
   in_call method receiver arguments true is can = (choices.Plain, is)
   in_call method receiver arguments false is can = takes_some method receiver arguments (slice_get program.listing.methods method) refl is can
 
-  can_may : (doing : Doing) → can_step program machine number frames doing ≡ true → MaySome doing
+  pub can_may : (doing : Doing) → can_step program machine number frames doing ≡ true → MaySome doing
   can_may doings.Running can = (choices.Plain, not_so (waits program machine number frames) can)
   can_may (doings.InCall method receiver arguments) can = in_call method receiver arguments (is_on_null receiver) refl can
   can_may doings.Ended can = absurd cc
@@ -112,7 +112,7 @@ module _ (program : Program) (machine : Machine) (number : ℕ) (frames : List F
   or_right true b is = refl
   or_right false b is = is
 
-  may_can : (doing : Doing) (choice : Choice) → MayStep program machine number frames doing choice → can_step program machine number frames doing ≡ true
+  pub may_can : (doing : Doing) (choice : Choice) → MayStep program machine number frames doing choice → can_step program machine number frames doing ≡ true
   may_can doings.Running choices.Plain may = so_not (waits program machine number frames) may
   may_can doings.Running (choices.Answer answer) may = absurd may
   may_can (doings.InCall method receiver arguments) choices.Plain may = rw may refl

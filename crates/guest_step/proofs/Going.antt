@@ -1,29 +1,25 @@
 -- What a thread does, by what its next instruction is, and by what it does.
-use Rattle.std.proofs.Common.{◌≡◌, ℕ, Bool, true, false, cond, List, [], ◌∷◌, Option, Some, None, Result, Ok, Err, refl, sym, ap, ◌∙◌, subst}
-use Rattle.std.specs.Prelude.{IsSomeAnd, is_err, if◌then◌else◌, slice_get, option_map, option_and_then}
-use Rattle.std.specs.Option.{option_map_or, option_or}
-use Rattle.api_listing.specs.declared.events.Event.{Event}
+use Rattle.std.proofs.Common.{◌≡◌, ℕ, List, [], ◌∷◌, Option, Some, None, Result, Ok, Err, refl, sym, ap, ◌∙◌, subst}
+use Rattle.std.specs.Prelude.{IsSomeAnd, slice_get, option_map, option_and_then}
+use Rattle.std.specs.Option.{option_map_or}
 use Rattle.insn_codec.specs.declared.insn.Insn.{Insn}
 use Rattle.insn_codec.specs.declared.shape.Heap.{Heap}
 use Rattle.insn_codec.specs.Shapes.{shape_of}
 use Rattle.bytecode_model.specs.declared.program.Program.{Program}
 use Rattle.bytecode_model.specs.declared.program.Target.{Target}
 use Rattle.guest_heap.specs.declared.frame.Frame.{Frame}
-use Rattle.guest_heap.specs.declared.thread.Doing.{Doing}
 use Rattle.guest_heap.specs.declared.thread.Doing.TheVariants as doings
 use Rattle.guest_heap.specs.declared.thread.Thread.{Thread}
-use Rattle.guest_heap.specs.declared.value.Value.{Value}
-use Rattle.guest_frames.specs.Stepping.{after, frame_stepped}
-use Rattle.guest_model.specs.declared.machine.Choice.{Choice}
-use Rattle.guest_model.specs.declared.machine.Choice.TheVariants as choices
+use Rattle.guest_frames.specs.Stepping.{frame_stepped}
 use Rattle.guest_model.specs.declared.machine.Machine.{Machine}
 use Rattle.guest_model.specs.Places.{insn_at}
-use Rattle.guest_machine.specs.Changes.{Change, world_of}
-use Rattle.guest_machine.specs.Stepping.{Acting, acts_on, frames_stepped, heap_in, heap_stepped, insn_stepped}
-use Rattle.guest_step.specs.declared.fault.StepFault.{StepFault}
-use Rattle.guest_step.specs.declared.fault.StepFault.TheVariants as faults
-use Rattle.guest_step.specs.Acts.{ActsIn, IsDone, acting, thread_stepped, unseen}
-use Rattle.guest_step.specs.Did.{Becomes}
+use Rattle.guest_model.specs.Changes.{Change, world_of}
+use Rattle.guest_model.specs.Stepping.{Acting, acts_on, frames_stepped, heap_in, heap_stepped, insn_stepped}
+use Rattle.guest_threads.specs.declared.fault.StepFault.{StepFault}
+use Rattle.guest_threads.specs.declared.fault.StepFault.TheVariants as faults
+use Rattle.guest_threads.specs.Acts.{ActsIn, IsDone, acting}
+use Rattle.guest_step.specs.Turns.{thread_stepped, unseen}
+use Rattle.guest_threads.specs.Did.{Becomes}
 
 -- the change of a thread alone
 abbrev pub alone : Machine → Thread → Change

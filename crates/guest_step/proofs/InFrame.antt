@@ -13,18 +13,19 @@ use Rattle.guest_heap.specs.Stack.{Operands}
 use Rattle.guest_frames.specs.Stepping.{after, moved_to}
 use Rattle.guest_heap.specs.declared.thread.Thread.{Thread}
 use Rattle.guest_model.specs.declared.machine.Machine.{Machine}
-use Rattle.guest_model.specs.Stepping.{running}
-use Rattle.guest_machine.specs.Changes.{Change, World, goes, throws_new, world_of}
-use Rattle.guest_machine.specs.Stepping.{Acting, comes_to, works}
-use Rattle.guest_machine.specs.Working.{Worked, worked}
-use Rattle.guest_step.specs.declared.outcome.Outcome.{Outcome}
-use Rattle.guest_step.specs.declared.outcome.Outcome.TheVariants as outcomes
-use Rattle.guest_step.specs.declared.fault.StepFault.{StepFault}
-use Rattle.guest_step.specs.declared.fault.StepFault.TheVariants as faults
-use Rattle.guest_step.specs.declared.outcome.Thrown.{Thrown}
-use Rattle.guest_step.specs.Acts.{ActsIn, IsDone, acting}
+use Rattle.guest_model.specs.Parts.{running}
+use Rattle.guest_model.specs.Changes.{Change, World, goes, throws_new, world_of}
+use Rattle.guest_model.specs.Stepping.{Acting, comes_to, works}
+use Rattle.guest_model.specs.Working.{Worked, worked}
+use Rattle.guest_work.specs.declared.outcome.Outcome.{Outcome}
+use Rattle.guest_work.specs.declared.outcome.Outcome.TheVariants as outcomes
+use Rattle.guest_threads.specs.declared.fault.StepFault.{StepFault}
+use Rattle.guest_threads.specs.declared.fault.StepFault.TheVariants as faults
+use Rattle.guest_model.specs.declared.thrown.Thrown.{Thrown}
+use Rattle.guest_threads.specs.Acts.{ActsIn, IsDone, acting}
 use Rattle.guest_step.specs.InFrame.{Inside, WorksIn, at_after, gone, inside}
-use Rattle.guest_step.specs.Works.{Works, Workplace, at, fitting, name_of}
+use Rattle.guest_work.specs.Works.{Works, Workplace, at, fitting}
+use Rattle.guest_model.specs.Exceptions.{name_of}
 
 module _ (frame : Frame) where
   -- it goes on

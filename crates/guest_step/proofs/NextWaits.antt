@@ -10,8 +10,8 @@ use Rattle.bytecode_model.specs.declared.program.Target.{Target}
 use Rattle.guest_heap.specs.declared.frame.Frame.{Frame}
 use Rattle.guest_model.specs.declared.machine.Machine.{Machine}
 use Rattle.guest_model.specs.Places.{insn_at}
-use Rattle.guest_machine.specs.Enabled.{heap_waits, waits}
-use Rattle.guest_machine.specs.Stepping.{heap_in}
+use Rattle.guest_model.specs.Enabled.{heap_waits, waits}
+use Rattle.guest_model.specs.Stepping.{heap_in}
 
 pub next_waits : (program : Program) (machine : Machine) (number : ℕ) (frames : List Frame) (f : Frame) (insn : Insn) (ref : Target) (o : Option Heap)
     → slice_get frames 0 ≡ Some f → insn_at program f ≡ Some (insn, ref) → heap_in (shape_of insn) ≡ o

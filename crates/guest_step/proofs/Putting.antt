@@ -10,14 +10,14 @@ use Rattle.guest_heap.specs.declared.thread.Doing.TheVariants as doings
 use Rattle.guest_heap.specs.declared.thread.Thread.{Thread}
 use Rattle.guest_model.specs.declared.machine.Machine.{Machine}
 use Rattle.guest_model.specs.declared.machine.Step.{Step}
-use Rattle.guest_machine.specs.Changes.{Change, World, applied, world_of}
-use Rattle.guest_machine.specs.Stepping.{changed, doing_stepped, stepped}
-use Rattle.guest_step.specs.declared.fault.StepFault.{StepFault}
-use Rattle.guest_step.specs.declared.fault.StepFault.TheVariants as faults
-use Rattle.guest_step.specs.Acts.{ActsIn, IsDone, with_begun}
-use Rattle.guest_step.specs.Did.{Did}
+use Rattle.guest_model.specs.Changes.{Change, applied}
+use Rattle.guest_model.specs.Stepping.{changed, doing_stepped, stepped}
+use Rattle.guest_threads.specs.declared.fault.StepFault.{StepFault}
+use Rattle.guest_threads.specs.declared.fault.StepFault.TheVariants as faults
+use Rattle.guest_threads.specs.Acts.{ActsIn, IsDone, with_begun}
+use Rattle.guest_threads.specs.Did.{Did}
 use Rattle.guest_step.proofs.Alike.{doing_alike, with_threads}
-use Rattle.guest_step.proofs.Held.{set_same}
+use Rattle.guest_threads.proofs.Held.{set_same}
 
 set_set : {X : Type 0} (xs : List X) (n : ℕ) (x y : X) → slice_set (slice_set xs n x) n y ≡ slice_set xs n y
 set_set [] n x y = refl

@@ -7,8 +7,8 @@ use Rattle.api_listing.specs.declared.events.Event.{Event}
 use Rattle.bytecode_model.specs.declared.program.Program.{Program}
 use Rattle.guest_model.specs.declared.machine.Machine.{Machine}
 use Rattle.guest_model.specs.declared.machine.Step.{Step}
-use Rattle.guest_machine.specs.Runs.{exec_from, start_of, trace_from}
-use Rattle.guest_machine.specs.Stepping.{stepped}
+use Rattle.guest_model.specs.Runs.{exec_from, start_of, trace_from}
+use Rattle.guest_model.specs.Stepping.{stepped}
 use Rattle.guest_step.specs.declared.replaying.Replayed.{Replayed}
 use Rattle.guest_step.specs.declared.replaying.ReplayFault.{ReplayFault}
 use Rattle.guest_step.specs.declared.replaying.ReplayFault.TheVariants as faults

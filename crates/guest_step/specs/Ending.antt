@@ -11,9 +11,9 @@ use Rattle.guest_model.specs.declared.machine.End.{End}
 use Rattle.guest_model.specs.declared.machine.End.TheVariants as ends
 use Rattle.guest_model.specs.declared.machine.Machine.{Machine}
 use Rattle.guest_model.specs.declared.machine.Step.{Step}
-use Rattle.guest_machine.specs.Calling.{is_ended}
-use Rattle.guest_machine.specs.Enabled.{IsEnabled, waits}
-use Rattle.guest_machine.specs.Stepping.{is_on_null}
+use Rattle.guest_model.specs.Calling.{is_ended}
+use Rattle.guest_model.specs.Enabled.{IsEnabled, waits}
+use Rattle.guest_model.specs.Stepping.{is_on_null}
 
 -- ---- who can make a step
 

@@ -7,11 +7,11 @@ use Rattle.guest_heap.specs.declared.object.Monitor.{Monitor}
 use Rattle.guest_heap.specs.declared.object.Object.{Object}
 use Rattle.guest_heap.specs.declared.value.Value.{Value}
 use Rattle.guest_frames.specs.Stepping.{after}
-use Rattle.guest_machine.specs.Changes.{World}
-use Rattle.guest_machine.specs.Working.{Worked}
-use Rattle.guest_step.specs.declared.outcome.Outcome.{Outcome}
-use Rattle.guest_step.specs.declared.outcome.Outcome.TheVariants as outcomes
-use Rattle.guest_step.specs.Works.{name_of}
+use Rattle.guest_model.specs.Changes.{World}
+use Rattle.guest_model.specs.Working.{Worked}
+use Rattle.guest_work.specs.declared.outcome.Outcome.{Outcome}
+use Rattle.guest_work.specs.declared.outcome.Outcome.TheVariants as outcomes
+use Rattle.guest_model.specs.Exceptions.{name_of}
 
 -- the heap, the static fields, and a frame
 pub record Inside : Type 0 where

@@ -1,43 +1,22 @@
 //! The library's answers to calls: which fit, and what they give. (docs/MACHINE.md)
 
-ghost use Rattle.std.specs.Prelude.{◌≡◌, Some, length, option_map, IfOk};
+ghost use Rattle.std.specs.Prelude.{IfOk, Some, length, option_map, ◌≡◌};
 ghost use Rattle.guest_heap.specs.declared.value.Value.TheVariants as values;
-ghost use Rattle.guest_machine.specs.Answering.{answered, answered_well, returned_by, thrown_by_library};
-ghost use Rattle.guest_machine.specs.Changes.{with_object, world_of};
-ghost use Rattle.guest_machine.specs.Seen.{value_shown};
-ghost use Rattle.guest_machine.specs.Stepping.{call_stepped, is_on_null};
-ghost use Rattle.guest_model.specs.Calls.{types_of};
+ghost use Rattle.guest_model.specs.Answering.{answered, answered_well, returned_by, thrown_by_library};
+ghost use Rattle.guest_model.specs.Changes.{with_object, world_of};
+ghost use Rattle.guest_model.specs.Seen.{value_shown};
+ghost use Rattle.guest_model.specs.Stepping.{call_stepped, is_on_null};
 ghost use Rattle.guest_model.specs.Throwing.{bare_object};
-ghost use Rattle.guest_step.specs.Acts.{ActsIn};
+ghost use Rattle.guest_threads.specs.Acts.{ActsIn};
 
-use crate::fault::StepFault;
-use crate::fitting::answer_fits;
-use crate::guest::Guest;
-use crate::kinds::is_null;
-use crate::outcome::Thrown;
-use crate::returning::resume;
-use crate::seen::value_shown;
-use crate::throwing::throw_new;
-use api_listing::{ApiAnswer, ApiValue, Event, FieldType, FormFault, parse_descriptor};
+use api_listing::{ApiAnswer, ApiValue, Event};
+use guest_frames::is_null;
 use guest_heap::{Object, Thread, Value, new_object};
-use guest_model::{Choice, Machine};
+use guest_model::{Choice, Machine, Thrown};
+use guest_tables::{Guest, fits_call, value_shown};
+use guest_threads::{StepFault, resume, throw_new};
 use mon_base::{Bytes, List, NoMemory};
 use std::alloc::Global;
-
-// ---- results
-
-/// The type of the result of a method of this descriptor.
-pub fn result_type(alloc: Global, desc: &[u8]) -> Result<Option<FieldType>, NoMemory>
-    ensures { IfOk result (λ t. t ≡ (types_of desc.now).result) }
-{
-    match parse_descriptor(alloc, desc) {
-        Ok(types) => Ok(types.result),
-        Err(FormFault::NoForm) => Ok(None),
-        Err(FormFault::Memory) => Err(NoMemory),
-    }
-}
-
-// ---- going on
 
 /// The caller goes on with what is given, and the library sees the return.
 fn finish(
@@ -53,7 +32,7 @@ fn finish(
         (returned_by guest.now number thread.old method (world_of machine.now, value)) }
 {
     let shown = shown_if_any(alloc, guest, &machine.heap, value)?;
-    resume(alloc, guest, thread, value)?;
+    resume(alloc, guest.indexed(), thread, value)?;
     Ok(Some(Event::Return {
         thread: number,
         method,
@@ -119,7 +98,15 @@ fn throw_in_call(
         thread: number,
         method,
     };
-    throw_new(alloc, guest, machine, number, thread, class, Some(event))
+    throw_new(
+        alloc,
+        guest.indexed(),
+        machine,
+        number,
+        thread,
+        class,
+        Some(event),
+    )
 }
 
 /// The answer, which fits, is taken.
@@ -176,8 +163,6 @@ fn bare_object(alloc: Global, class: &Bytes) -> Result<Object, NoMemory>
         thread: None,
     })
 }
-
-// ---- steps in a call
 
 /// A thread in a call throws where the receiver is null, and else takes an answer that fits.
 pub fn step_in_call(
@@ -239,17 +224,8 @@ fn answer_call(
     ensures { ActsIn result machine.old machine.new thread.old thread.new
         (answered guest.now (world_of machine.old) number thread.old method receiver args.now answer.now) }
 {
-    let Some(listed) = guest
-        .program()
-        .listing
-        .methods
-        .as_slice()
-        .get(method as usize)
-    else {
-        return Err(StepFault::NotEnabled);
-    };
-    let of = result_type(alloc, listed.id.desc.as_slice())?;
-    if !answer_fits(alloc, guest, &machine.heap, &of, receiver, args, answer)? {
+    let fits = fits_call(alloc, guest, &machine.heap, method, receiver, args, answer)?;
+    if !fits {
         return Err(StepFault::NotEnabled);
     }
     take(

@@ -1,40 +1,37 @@
 //! How a run ended.
 
-ghost use Rattle.std.specs.Prelude.{◌≡◌, ◌&&◌, false, not, slice_get, IfOk};
 ghost use Rattle.std.specs.Option.{option_map_or};
-ghost use Rattle.guest_heap.specs.declared.value.Value.{Value};
+ghost use Rattle.std.specs.Prelude.{false, not, slice_get, ◌&&◌, ◌≡◌};
 ghost use Rattle.guest_frames.specs.Values.{is_null};
-ghost use Rattle.guest_machine.specs.Enabled.{heap_waits, is_held_by_other, waits};
+ghost use Rattle.guest_heap.specs.declared.value.Value.{Value};
+ghost use Rattle.guest_model.specs.Enabled.{heap_waits, is_held_by_other, waits};
 ghost use Rattle.guest_step.specs.Ending.{can_step, end_of, have_ended, some_can_step};
 
 use crate::answering::is_on_null;
-use crate::builtins::is_ended;
-use crate::guest::Guest;
-use crate::kinds::is_null;
-use crate::monitors::is_held_by_other;
 use crate::stepping::{heap_in, insn_at};
 use crate::waiting::call_waits;
 use bytecode_model::Target;
+use guest_frames::is_null;
 use guest_heap::{Doing, Frame, Frames, Thread};
 use guest_model::{End, Machine};
+use guest_tables::Guest;
+use guest_threads::{is_ended, is_held_by_other};
 use insn_codec::{Heap, shape_of};
-use mon_base::NoMemory;
-use std::alloc::Global;
 
-/// How the run ended; nothing while a thread can make a step.
-pub fn ended(alloc: Global, guest: &Guest, machine: &Machine) -> Result<Option<End>, NoMemory>
-    ensures { IfOk result (λ end. end ≡ end_of guest.now machine.now) }
+/// How the run ended; nothing while a thread can make a step. It takes no memory.
+pub fn ended(guest: &Guest, machine: &Machine) -> Option<End>
+    ensures { result ≡ end_of guest.now machine.now }
 {
     if let Some(value) = machine.stopped {
-        return Ok(Some(End::Stopped(value)));
+        return Some(End::Stopped(value));
     }
     if have_ended(machine.threads.as_slice()) {
-        return Ok(Some(End::Finished));
+        return Some(End::Finished);
     }
-    if some_can_step(alloc, guest, machine)? {
-        return Ok(None);
+    if some_can_step(guest, machine) {
+        return None;
     }
-    Ok(Some(End::Deadlock))
+    Some(End::Deadlock)
 }
 
 /// Whether each of the threads has ended.
@@ -45,82 +42,69 @@ fn have_ended(threads: &[Thread]) -> bool
 }
 
 /// Whether some thread can make a step.
-fn some_can_step(alloc: Global, guest: &Guest, machine: &Machine) -> Result<bool, NoMemory>
-    ensures { IfOk result (λ some. some ≡ some_can_step guest.now machine.now 0 machine.now.threads) }
+fn some_can_step(guest: &Guest, machine: &Machine) -> bool
+    ensures { result ≡ some_can_step guest.now machine.now 0 machine.now.threads }
 {
-    let mut number: u32 = 0;
+    let mut number = 0;
     let mut left = machine.threads.as_slice();
     while let [thread, rest @ ..] = left {
-        if can_step(alloc, guest, machine, number, thread)? {
-            return Ok(true);
+        if can_step(guest, machine, number, thread) {
+            return true;
         }
-        number = number.checked_add(1).ok_or(NoMemory)?;
+        number += 1;
         left = rest;
     }
-    Ok(false)
+    false
 }
 
 /// Whether the thread of this number can make a step.
-fn can_step(
-    alloc: Global,
-    guest: &Guest,
-    machine: &Machine,
-    number: u32,
-    thread: &Thread,
-) -> Result<bool, NoMemory>
-    ensures { IfOk result (λ can. can ≡ can_step guest.now machine.now number thread.now.frames thread.now.doing) }
+pub fn can_step(guest: &Guest, machine: &Machine, number: usize, thread: &Thread) -> bool
+    ensures { result ≡ can_step guest.now machine.now number thread.now.frames thread.now.doing }
 {
     match &thread.doing {
-        Doing::Running => Ok(!waits(alloc, guest, machine, number, &thread.frames)?),
+        Doing::Running => !waits(guest, machine, number, &thread.frames),
         Doing::InCall {
             method,
             receiver,
             ..
         } => {
             let methods = guest.program().listing.methods.as_slice();
-            Ok(is_on_null(*receiver) || methods.get(*method as usize).is_some())
+            is_on_null(*receiver) || methods.get(*method as usize).is_some()
         }
-        Doing::Ended => Ok(false),
+        Doing::Ended => false,
     }
 }
 
 /// Whether the next instruction of a thread with these frames waits.
-fn waits(
-    alloc: Global,
-    guest: &Guest,
-    machine: &Machine,
-    number: u32,
-    frames: &Frames,
-) -> Result<bool, NoMemory>
-    ensures { IfOk result (λ it. it ≡ waits guest.now machine.now number frames.now) }
+fn waits(guest: &Guest, machine: &Machine, number: usize, frames: &Frames) -> bool
+    ensures { result ≡ waits guest.now machine.now number frames.now }
 {
     let Some(frame) = frames.top() else {
-        return Ok(false);
+        return false;
     };
     let Some((insn, target)) = insn_at(guest, frame) else {
-        return Ok(false);
+        return false;
     };
     match heap_in(shape_of(insn)) {
-        Some(what) => heap_waits(alloc, guest, machine, number, frame, what, target),
-        None => Ok(false),
+        Some(what) => heap_waits(guest, machine, number, frame, what, target),
+        None => false,
     }
 }
 
 /// Whether an instruction that works on more than its frame waits.
 fn heap_waits(
-    alloc: Global,
     guest: &Guest,
     machine: &Machine,
-    number: u32,
+    number: usize,
     frame: &Frame,
     what: Heap,
     target: &Target,
-) -> Result<bool, NoMemory>
-    ensures { IfOk result (λ it. it ≡ heap_waits guest.now machine.now number frame.now what target.now) }
+) -> bool
+    ensures { result ≡ heap_waits guest.now machine.now number frame.now what target.now }
 {
     match what {
-        Heap::Call(how) => call_waits(alloc, guest, machine, number, frame, how, target),
-        Heap::Enter => Ok(enter_waits(machine, number, frame)),
+        Heap::Call(how) => call_waits(guest, machine, number, frame, how, target),
+        Heap::Enter => enter_waits(machine, number, frame),
         Heap::Exit
         | Heap::Throw
         | Heap::Return(_)
@@ -137,12 +121,12 @@ fn heap_waits(
         | Heap::NewArrayOf
         | Heap::Length
         | Heap::Cast
-        | Heap::IsInstance => Ok(false),
+        | Heap::IsInstance => false,
     }
 }
 
 /// Whether the monitor of what is on top is held by another thread.
-fn enter_waits(machine: &Machine, number: u32, frame: &Frame) -> bool
+fn enter_waits(machine: &Machine, number: usize, frame: &Frame) -> bool
     ensures { result ≡ option_map_or (λ (on : Value). not (is_null on) && is_held_by_other machine.now.monitors number on)
         (slice_get frame.now.stack.items 0) false }
 {

@@ -1,17 +1,17 @@
 //! The steps of a run, made one after the other from the start.
 
-ghost use Rattle.std.specs.Prelude.{◌≡◌, IfOk};
-ghost use Rattle.guest_step.specs.declared.replaying.ReplayFault.TheVariants as faults;
+ghost use Rattle.std.specs.Prelude.{◌≡◌};
 ghost use Rattle.guest_step.specs.Ending.{EndsWhereNoneIsEnabled};
 ghost use Rattle.guest_step.specs.Replaying.{ReplaysAreRuns, after_step, replayed};
+ghost use Rattle.guest_step.specs.declared.replaying.ReplayFault.TheVariants as faults;
 ghost use Rattle.mon_base.specs.Answer.{Answers};
 
-use crate::fault::StepFault;
-use crate::guest::Guest;
 use crate::starting::start;
 use crate::stepping::step;
 use api_listing::Event;
 use guest_model::{Machine, Step};
+use guest_tables::Guest;
+use guest_threads::StepFault;
 use mon_base::{List, NoMemory};
 use std::alloc::Global;
 use thiserror::Error;

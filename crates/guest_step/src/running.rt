@@ -1,22 +1,18 @@
 //! What objects run: the `run` of their class, and that of the target of a Thread. (docs/MACHINE.md)
 
-ghost use Rattle.std.specs.Prelude.{◌≡◌, false};
 ghost use Rattle.std.specs.Option.{option_map_or};
-ghost use Rattle.guest_machine.specs.Calling.{Calling, run_of, runs, runs_object, runs_target, target_in, target_of};
-ghost use Rattle.guest_machine.specs.Changes.{world_of};
-ghost use Rattle.guest_machine.specs.Kinds.{class_of_value, is_thread};
-ghost use Rattle.guest_step.specs.Acts.{ActsIn};
-ghost use Rattle.guest_step.specs.Calls.{calling};
+ghost use Rattle.std.specs.Prelude.{false, ◌≡◌};
+ghost use Rattle.guest_model.specs.Calling.{Calling, run_of, runs, runs_object, runs_target};
+ghost use Rattle.guest_model.specs.Changes.{world_of};
+ghost use Rattle.guest_model.specs.Kinds.{class_of_value, is_thread};
+ghost use Rattle.guest_threads.specs.Acts.{ActsIn};
+ghost use Rattle.guest_threads.specs.Calls.{calling};
 
-use crate::calling::{enter_method, go_past};
-use crate::fault::StepFault;
-use crate::finding::client_run;
-use crate::guest::Guest;
-use crate::kinds::{class_of_value, is_thread};
-use crate::passing::Call;
 use api_listing::Event;
 use guest_heap::{Object, Thread, Value};
-use guest_model::Machine;
+use guest_model::{Machine, class_of_value};
+use guest_tables::{Guest, client_run, is_thread};
+use guest_threads::{Call, StepFault, enter_method, go_past, target_of};
 use insn_codec::How;
 use mon_base::List;
 use std::alloc::Global;
@@ -31,29 +27,6 @@ pub fn run_of(guest: &Guest, heap: &List<Object>, on: Value) -> Option<((u32, u3
             None => None,
         },
         None => None,
-    }
-}
-
-/// The target of a Thread; null of what is none.
-pub fn target_of(heap: &List<Object>, on: Value) -> Value
-    ensures { result ≡ target_of heap.now on }
-{
-    match on {
-        Value::Ref(at) => match heap.as_slice().get(at as usize) {
-            Some(object) => target_in(object),
-            None => Value::Null,
-        },
-        Value::Int(_) | Value::Null | Value::Class(_) | Value::Lit(_) => Value::Null,
-    }
-}
-
-/// The target in an object; null in what is no Thread.
-fn target_in(object: &Object) -> Value
-    ensures { result ≡ target_in object.now }
-{
-    match object {
-        Object::Plain { target, .. } => *target,
-        Object::Array { .. } | Object::Text(_) => Value::Null,
     }
 }
 
@@ -80,7 +53,16 @@ fn call_run(
         (calling call.now thread.old thread.old.frames (λ (c : Calling). runs guest.now (world_of machine.old) c run)) }
 {
     match run {
-        Some((to, on)) => enter_method(alloc, guest, machine, thread, call, to, Some(on), &[]),
+        Some((to, on)) => enter_method(
+            alloc,
+            guest.indexed(),
+            machine,
+            thread,
+            call,
+            to,
+            Some(on),
+            &[],
+        ),
         None => go_past(machine, thread, call, None),
     }
 }

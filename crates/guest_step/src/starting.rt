@@ -1,22 +1,20 @@
 //! The machine before the first step.
 
-ghost use Rattle.std.specs.Prelude.{◌≡◌, ◌∷◌, [], ◌++◌, IfOk, OnOk, map};
-ghost use Rattle.std.specs.Option.{option_to_list};
 ghost use Rattle.std.specs.List.{position_from};
-ghost use Rattle.mon_base.specs.declared.method.MethodId.{MethodId};
-ghost use Rattle.guest_machine.specs.Changes.{rests};
-ghost use Rattle.guest_machine.specs.Runs.{initialiser_of, initialisers, start_of};
-ghost use Rattle.guest_model.specs.Runs.{first_heap, inner};
+ghost use Rattle.std.specs.Option.{option_to_list};
+ghost use Rattle.std.specs.Prelude.{IfOk, OnOk, [], map, ◌++◌, ◌∷◌, ◌≡◌};
+ghost use Rattle.guest_model.specs.Changes.{rests};
+ghost use Rattle.guest_model.specs.Runs.{first_heap, initialiser_of, initialisers, inner, start_of};
 ghost use Rattle.guest_model.specs.Throwing.{bare_object};
 ghost use Rattle.guest_step.specs.Start.{is_initialiser};
+ghost use Rattle.mon_base.specs.declared.method.MethodId.{MethodId};
 
-use crate::beginning::rest;
-use crate::guest::Guest;
-use crate::statics::statics_of;
-use crate::throwing::push_object;
 use bytecode_model::{LinkedClass, Method};
 use guest_heap::{Doing, Frames, Object, Thread};
 use guest_model::Machine;
+use guest_tables::Guest;
+use guest_threads::{push_object, rest};
+use guest_work::statics_of;
 use mon_base::{Bytes, List, MethodId, NoMemory};
 use std::alloc::Global;
 
@@ -28,7 +26,7 @@ pub fn start(alloc: Global, guest: &Guest) -> Result<Machine, NoMemory>
     threads.push(first_thread(alloc, guest)?)?;
     Ok(Machine {
         heap: first_heap(alloc, guest)?,
-        statics: statics_of(alloc, guest)?,
+        statics: statics_of(alloc, guest.program())?,
         monitors: List::new(alloc),
         threads,
         stopped: None,
@@ -47,7 +45,7 @@ fn first_thread(alloc: Global, guest: &Guest) -> Result<Thread, NoMemory>
         to_begin,
         doing: Doing::Running,
     };
-    rest(alloc, guest, &mut thread)?;
+    rest(alloc, guest.indexed(), &mut thread)?;
     Ok(thread)
 }
 

@@ -1,28 +1,27 @@
 //! Steps.
 
-ghost use Rattle.std.specs.Prelude.{◌≡◌, if◌then◌else◌, option_map};
 ghost use Rattle.std.specs.Borrow.{Bor};
-ghost use Rattle.insn_codec.specs.declared.insn.Insn.{Insn};
+ghost use Rattle.std.specs.Prelude.{if◌then◌else◌, option_map, ◌≡◌};
 ghost use Rattle.bytecode_model.specs.declared.program.Target.{Target};
-ghost use Rattle.guest_heap.specs.declared.thread.Doing.TheVariants as doings;
 ghost use Rattle.guest_frames.specs.Stepping.{frame_stepped};
-ghost use Rattle.guest_machine.specs.Stepping.{Acting, doing_stepped, frames_stepped, heap_in, heap_stepped, running_stepped, stepped};
+ghost use Rattle.guest_heap.specs.declared.thread.Doing.TheVariants as doings;
 ghost use Rattle.guest_model.specs.Places.{insn_at};
-ghost use Rattle.guest_step.specs.Acts.{ActsIn, acting, doing_this, thread_stepped, unseen};
-ghost use Rattle.guest_step.specs.Did.{Becomes, Did};
+ghost use Rattle.guest_model.specs.Stepping.{Acting, doing_stepped, frames_stepped, heap_in, heap_stepped, running_stepped, stepped};
+ghost use Rattle.guest_step.specs.Turns.{doing_this, thread_stepped, unseen};
+ghost use Rattle.guest_threads.specs.Acts.{ActsIn, acting};
+ghost use Rattle.guest_threads.specs.Did.{Becomes, Did};
+ghost use Rattle.insn_codec.specs.declared.insn.Insn.{Insn};
 
-use crate::acting::{enter_top, leave_top, throw_top};
 use crate::answering::step_in_call;
 use crate::calling::call;
-use crate::fault::StepFault;
-use crate::guest::Guest;
-use crate::returning::return_from;
 use crate::working::run_work;
 use api_listing::Event;
 use bytecode_model::Target;
 use guest_frames::local_step;
 use guest_heap::{Doing, Frame, Frames, Thread};
 use guest_model::{Choice, Machine, Step};
+use guest_tables::Guest;
+use guest_threads::{StepFault, enter_top, leave_top, return_from, throw_top};
 use insn_codec::{Heap, Insn, Shape, shape_of};
 use mon_base::List;
 use std::alloc::Global;
@@ -245,10 +244,10 @@ fn run_heap(
         (λ (a : Acting). heap_stepped guest.now machine.old a what target.now)) }
 {
     match what {
-        Heap::Throw => throw_top(alloc, guest, machine, number, thread),
-        Heap::Enter => enter_top(alloc, guest, machine, number, thread),
-        Heap::Exit => leave_top(alloc, guest, machine, number, thread),
-        Heap::Return(kind) => return_from(alloc, guest, machine, number, thread, kind),
+        Heap::Throw => throw_top(alloc, guest.indexed(), machine, number, thread),
+        Heap::Enter => enter_top(alloc, guest.indexed(), machine, number, thread),
+        Heap::Exit => leave_top(alloc, guest.indexed(), machine, number, thread),
+        Heap::Return(kind) => return_from(alloc, guest.indexed(), machine, number, thread, kind),
         Heap::Call(how) => call(alloc, guest, machine, number, thread, how, target),
         Heap::Constant
         | Heap::ReadItem(_)

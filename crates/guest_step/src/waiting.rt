@@ -1,8 +1,8 @@
 //! What a call waits for: the monitor of a synchronized method, or the end of a thread. (docs/MACHINE.md)
 
-ghost use Rattle.std.specs.Prelude.{◌≡◌, [], option_map, IfOk};
-ghost use Rattle.insn_codec.specs.declared.shape.Heap.TheVariants as heap;
-ghost use Rattle.guest_machine.specs.Enabled.{
+ghost use Rattle.std.specs.Prelude.{[], option_map, ◌≡◌};
+ghost use Rattle.guest_model.specs.Calls.{Taken, taken};
+ghost use Rattle.guest_model.specs.Enabled.{
   call_waits,
   heap_waits,
   lock_of_call,
@@ -11,42 +11,35 @@ ghost use Rattle.guest_machine.specs.Enabled.{
   waits_for_monitor,
   waits_for_thread,
 };
-ghost use Rattle.guest_model.specs.Calls.{Taken, taken};
+ghost use Rattle.insn_codec.specs.declared.shape.Heap.TheVariants as heap;
 
-use crate::builtins::{builtin_at, has_ended, thread_of_value};
-use crate::finding::method_run;
-use crate::frames::{lock_of, method_of};
-use crate::guest::Guest;
-use crate::kinds::{class_of_value, is_null};
-use crate::monitors::is_held_by_other;
-use crate::passing::{arity_named, is_static_call};
 use bytecode_model::{Method, Target};
+use guest_frames::is_null;
 use guest_heap::{Frame, Object, Stack, Value};
-use guest_machine::Builtin;
-use guest_model::Machine;
+use guest_model::{Builtin, Machine, builtin_at, class_of_value, is_static_call};
+use guest_tables::{Guest, method_run};
+use guest_threads::{has_ended, is_held_by_other, lock_of, method_of, thread_of_value};
 use insn_codec::How;
-use mon_base::{List, NoMemory};
-use std::alloc::Global;
+use mon_base::List;
 
 /// Whether the call that comes next in the frame waits.
 pub fn call_waits(
-    alloc: Global,
     guest: &Guest,
     machine: &Machine,
-    number: u32,
+    number: usize,
     frame: &Frame,
     how: How,
     target: &Target,
-) -> Result<bool, NoMemory>
-    ensures { IfOk result (λ it. it ≡ heap_waits guest.now machine.now number frame.now (heap.Call how) target.now) }
+) -> bool
+    ensures { result ≡ heap_waits guest.now machine.now number frame.now (heap.Call how) target.now }
 {
-    let Some(count) = arity_named(alloc, guest, target)? else {
-        return Ok(false);
+    let Some(count) = guest.arity(target) else {
+        return false;
     };
     let Some(receiver) = receiver_of(&frame.stack, is_static_call(how), count) else {
-        return Ok(false);
+        return false;
     };
-    Ok(target_waits(guest, machine, number, frame.class, how, target, receiver))
+    target_waits(guest, machine, number, frame.class, how, target, receiver)
 }
 
 /// The receiver of a call with so many arguments, where what it takes is there.
@@ -67,7 +60,7 @@ fn receiver_of(stack: &Stack, is_static: bool, count: u8) -> Option<Option<Value
 fn target_waits(
     guest: &Guest,
     machine: &Machine,
-    number: u32,
+    number: usize,
     own: u32,
     how: How,
     target: &Target,
@@ -104,7 +97,7 @@ fn target_waits(
 }
 
 /// Whether another thread holds the monitor that is wanted.
-fn waits_for_monitor(machine: &Machine, number: u32, wanted: Option<Value>) -> bool
+fn waits_for_monitor(machine: &Machine, number: usize, wanted: Option<Value>) -> bool
     ensures { result ≡ waits_for_monitor machine.now number wanted }
 {
     match wanted {
@@ -151,8 +144,8 @@ fn lock_wanted(guest: &Guest, to: (u32, u32), receiver: Option<Value>) -> Option
     ensures { result ≡ lock_wanted guest.now to receiver }
 {
     let (class, index) = to;
-    let method = method_of(guest, class, index)?;
-    lock_of(guest, class, method, receiver)
+    let method = method_of(guest.indexed(), class, index)?;
+    lock_of(guest.indexed(), class, method, receiver)
 }
 
 /// The thread that a built-in method waits for.

@@ -1,21 +1,21 @@
 //! What instructions do to the heap, the static fields and the operands. (The Java Virtual Machine Specification, section 6.5.)
 
-ghost use Rattle.guest_machine.specs.Changes.{World};
-ghost use Rattle.guest_machine.specs.Working.{worked};
-ghost use Rattle.guest_step.specs.Works.{Works, at};
+ghost use Rattle.guest_model.specs.Changes.{World};
+ghost use Rattle.guest_model.specs.Working.{worked};
+ghost use Rattle.guest_work.specs.Works.{Works, at};
 
 mod arrays;
 mod fields;
 mod numbers;
 mod objects;
-mod operands;
-mod places;
-mod statics;
 
-use crate::guest::Guest;
-use crate::outcome::Outcome;
 use bytecode_model::Target;
 use guest_heap::{Object, Stack, Value};
+use guest_tables::Guest;
+use guest_work::{
+    Outcome, divide, make_numbers, make_references, read_item, read_static, tell_length,
+    write_static,
+};
 use insn_codec::Heap;
 use mon_base::{List, NoMemory};
 use std::alloc::Global;
@@ -36,17 +36,17 @@ pub fn work(
 {
     match what {
         Heap::Constant => Ok(numbers::constant(guest, target, stack)),
-        Heap::ReadItem(item) => Ok(arrays::read_item(item, heap, stack)),
+        Heap::ReadItem(item) => Ok(read_item(item, heap, stack)),
         Heap::WriteItem(item) => arrays::write_item(alloc, guest, item, heap, stack),
-        Heap::Divide { remainder } => Ok(numbers::divide(remainder, stack)),
-        Heap::ReadStatic => Ok(statics::read_static(guest, target, statics, stack)),
-        Heap::WriteStatic => Ok(statics::write_static(target, statics, stack)),
+        Heap::Divide { remainder } => Ok(divide(remainder, stack)),
+        Heap::ReadStatic => Ok(read_static(guest.program(), target, statics, stack)),
+        Heap::WriteStatic => Ok(write_static(target, statics, stack)),
         Heap::ReadField => Ok(fields::read_field(guest, target, heap, stack)),
         Heap::WriteField => Ok(fields::write_field(guest, target, heap, stack)),
         Heap::New => objects::make_object(alloc, guest, target, heap, stack),
-        Heap::NewArray(kind) => objects::make_numbers(alloc, kind, heap, stack),
-        Heap::NewArrayOf => objects::make_references(alloc, target, heap, stack),
-        Heap::Length => arrays::tell_length(heap, stack),
+        Heap::NewArray(kind) => make_numbers(alloc, kind, heap, stack),
+        Heap::NewArrayOf => make_references(alloc, target, heap, stack),
+        Heap::Length => tell_length(heap, stack),
         Heap::Cast => objects::cast(alloc, guest, target, heap, stack),
         Heap::IsInstance => objects::tell_instance(alloc, guest, target, heap, stack),
         Heap::Call(_) | Heap::Throw | Heap::Enter | Heap::Exit | Heap::Return(_) => Ok(None),

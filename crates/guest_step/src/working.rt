@@ -1,22 +1,21 @@
 //! Instructions that work on the heap or on static fields, or divide, in the frame of a thread.
 
 ghost use Rattle.std.specs.Prelude.{◌≡◌};
-ghost use Rattle.guest_machine.specs.Changes.{World, world_of};
-ghost use Rattle.guest_machine.specs.Stepping.{Acting, works};
-ghost use Rattle.guest_machine.specs.Working.{worked};
-ghost use Rattle.guest_model.specs.Stepping.{running};
-ghost use Rattle.guest_step.specs.Acts.{ActsIn, acting};
+ghost use Rattle.guest_model.specs.Changes.{World, world_of};
+ghost use Rattle.guest_model.specs.Parts.{running};
+ghost use Rattle.guest_model.specs.Stepping.{Acting, works};
+ghost use Rattle.guest_model.specs.Working.{worked};
 ghost use Rattle.guest_step.specs.InFrame.{WorksIn, at_after, inside};
+ghost use Rattle.guest_threads.specs.Acts.{ActsIn, acting};
 
-use crate::fault::StepFault;
-use crate::guest::Guest;
-use crate::outcome::Outcome;
-use crate::throwing::throw_new;
 use crate::work::work;
 use api_listing::Event;
 use bytecode_model::Target;
 use guest_heap::{Doing, Frame, Object, Thread, Value};
 use guest_model::Machine;
+use guest_tables::Guest;
+use guest_threads::{StepFault, throw_new};
+use guest_work::Outcome;
 use insn_codec::Heap;
 use mon_base::{List, NoMemory};
 use std::alloc::Global;
@@ -53,7 +52,15 @@ pub fn run_work(
             Ok(None)
         }
         Some(Outcome::Throws(thrown)) => {
-            throw_new(alloc, guest, machine, number, thread, thrown.name(), None)
+            throw_new(
+                alloc,
+                guest.indexed(),
+                machine,
+                number,
+                thread,
+                thrown.name(),
+                None,
+            )
         }
     }
 }

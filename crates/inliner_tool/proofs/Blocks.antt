@@ -11,14 +11,16 @@ use Rattle.block_logic.specs.Accepted.{IsAccepted}
 use Rattle.cert_checker.specs.Acceptance.{verdict}
 use Rattle.cert_checker.specs.Secure.{Secure}
 use Rattle.cert_format.specs.declared.certificate.Certificate.{Certificate}
+use Rattle.cert_format.specs.declared.certificate.Mode.TheVariants.{Release}
 use Rattle.cert_format.specs.declared.typing.Typing.{Typing}
 use Rattle.cert_maker.specs.Noting.{certificate_of}
 use Rattle.bytecode_model.specs.Typed.{IsTyped}
 use Rattle.conspec_automaton.specs.declared.policy.Policy.{Policy}
 use Rattle.conspec_automaton.specs.Building.{built}
-use Rattle.block_template.specs.declared.woven.Woven.{Woven}
-use Rattle.block_template.specs.Outcome.{IsWoven}
-use Rattle.block_template.specs.Woven.{woven}
+use Rattle.block_template.specs.Blocks.{plan_of}
+use Rattle.class_weaving.specs.declared.woven.Woven.{Woven}
+use Rattle.class_weaving.specs.Outcome.{IsWoven}
+use Rattle.class_weaving.specs.Woven.{woven}
 use Rattle.input_files.specs.declared.inline_inputs.InlineInputs.{InlineInputs}
 use Rattle.inliner_tool.specs.declared.refusal.Refusal.{Refusal}
 use Rattle.inliner_tool.specs.declared.refusal.Refusal.TheVariants as refusals
@@ -54,8 +56,8 @@ same_program r a b e f =
     cc
 
 module _ (named : NamedInline) (inputs : InlineInputs) (client : Program) (made : Woven) (links : original inputs.listing inputs.classes named.main ≡ Ok client)
-    (remade : (new : Program) × ((linked made.files inputs.listing named.main Inlined ≡ Ok new) × IsWoven client (built inputs.policy) new)) where
-  whole : (ready : Ready) → woven client (built inputs.policy) ≡ Ok made → IsRewoven named.main named.folder inputs.listing (built inputs.policy) made.files ready → IsPlanned named inputs ready
+    (remade : (new : Program) × ((linked made.files inputs.listing named.main Inlined ≡ Ok new) × IsWoven client (plan_of (built inputs.policy) Release) (built inputs.policy).vars new)) where
+  whole : (ready : Ready) → woven client (plan_of (built inputs.policy) Release) (built inputs.policy).vars ≡ Ok made → IsRewoven named.main named.folder inputs.listing (built inputs.policy) made.files ready → IsPlanned named inputs ready
   whole ready is rewoven = record {
     client = client;
     links = links;
@@ -63,19 +65,19 @@ module _ (named : NamedInline) (inputs : InlineInputs) (client : Program) (made 
     woven = is;
     rewoven = rewoven;
     blocks =
-        subst (λ (p : Program). IsWoven client (built inputs.policy) p)
+        subst (λ (p : Program). IsWoven client (plan_of (built inputs.policy) Release) (built inputs.policy).vars p)
         (same_program (linked made.files inputs.listing named.main Inlined) remade.0 rewoven.program remade.1.0 rewoven.links) remade.1.1;
   }
 
-  each : (r : Step Ready) → woven client (built inputs.policy) ≡ Ok made
+  each : (r : Step Ready) → woven client (plan_of (built inputs.policy) Release) (built inputs.policy).vars ≡ Ok made
       → IfOk r (λ ready. IsRewoven named.main named.folder inputs.listing (built inputs.policy) made.files ready) → IfOk r (λ ready. IsPlanned named inputs ready)
   each (Ok ready) is rewoven = whole ready is rewoven
   each (Err refusal) is rewoven = tt
 
-  pub planned : (policy : Policy) (r : Step Ready) → policy ≡ built inputs.policy → client.listing ≡ inputs.listing → woven client policy ≡ Ok made
+  pub planned : (policy : Policy) (r : Step Ready) → policy ≡ built inputs.policy → client.listing ≡ inputs.listing → woven client (plan_of policy Release) policy.vars ≡ Ok made
       → IfOk r (λ ready. IsRewoven named.main named.folder client.listing policy made.files ready) → IfOk r (λ ready. IsPlanned named inputs ready)
   planned policy r automaton listing is rewoven =
-      each r (subst (λ (p : Policy). woven client p ≡ Ok made) automaton is)
+      each r (subst (λ (p : Policy). woven client (plan_of p Release) p.vars ≡ Ok made) automaton is)
       (subst (λ (l : Listing). IfOk r (λ ready. IsRewoven named.main named.folder l (built inputs.policy) made.files ready)) listing
       (subst (λ (p : Policy). IfOk r (λ ready. IsRewoven named.main named.folder client.listing p made.files ready)) automaton rewoven))
 

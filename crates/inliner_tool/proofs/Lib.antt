@@ -4,5 +4,6 @@ pub mod Replying
 pub mod Decision
 pub mod RunDecision
 pub mod Told
+mod Counting
 mod Blocks
 mod Expected

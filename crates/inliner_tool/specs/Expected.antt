@@ -10,7 +10,7 @@ use Rattle.cert_maker.specs.Noting.{certificate_of}
 use Rattle.bytecode_model.specs.Shape.{IsShaped}
 use Rattle.bytecode_model.specs.Typed.{IsTyped}
 use Rattle.conspec_automaton.specs.declared.policy.Policy.{Policy}
-use Rattle.block_template.specs.declared.woven.Woven.{Woven}
+use Rattle.class_weaving.specs.declared.woven.Woven.{Woven}
 use Rattle.type_infer.specs.Untyped.{IsUntypedAt, IsLeast}
 use Rattle.bytecode_model.specs.Order.{IsInOrder}
 

@@ -9,8 +9,6 @@ use Rattle.class_linking.specs.declared.fault.LinkFault.{LinkFault}
 use Rattle.class_linking.specs.declared.fault.LinkFault.TheVariants as links
 use Rattle.cert_checker.specs.declared.fault.CheckFault.{CheckFault}
 use Rattle.cert_checker.specs.declared.fault.CheckFault.TheVariants as checks
-use Rattle.cert_format.specs.declared.fault.CertForm.{CertForm}
-use Rattle.cert_format.specs.declared.fault.CertForm.TheVariants as forms
 use Rattle.class_codec.specs.declared.fault.ClassFault.{ClassFault}
 use Rattle.class_codec.specs.declared.fault.ClassFault.TheVariants as classes
 use Rattle.conspec_parse.specs.declared.fault.PolicyFault.{PolicyFault}
@@ -57,10 +55,6 @@ policy_report (policies.Twice at) = report 186 (Count at ∷ [])
 policy_report (policies.Limit at) = report 187 (Count at ∷ [])
 policy_report (policies.Builtin at) = report 188 (Count at ∷ [])
 policy_report policies.Memory = no_report
-
-abbrev pub form_report : CertForm → Report
-form_report (forms.Form at) = report 241 (Count at ∷ [])
-form_report forms.Memory = no_report
 
 abbrev pub record_report : RecordFault → Report
 record_report (records.Line line) = report 261 (Count line ∷ [])

@@ -11,6 +11,7 @@ use Rattle.block_logic.specs.Accepted.{IsAccepted}
 use Rattle.cert_checker.specs.Acceptance.{verdict}
 use Rattle.cert_checker.specs.Secure.{Secure}
 use Rattle.cert_format.specs.declared.certificate.Certificate.{Certificate}
+use Rattle.cert_format.specs.declared.certificate.Mode.TheVariants.{Release}
 use Rattle.cert_format.specs.declared.typing.Typing.{Typing}
 use Rattle.cert_format.specs.Spelling.{spell_certificate}
 use Rattle.cert_maker.specs.Noting.{certificate_of}
@@ -20,9 +21,10 @@ use Rattle.conspec_automaton.specs.declared.policy.Policy.{Policy}
 use Rattle.conspec_automaton.specs.Building.{built}
 use Rattle.conspec_automaton.specs.Denying.{denies_only}
 use Rattle.conspec_tree.specs.declared.types.PolicyTree.{PolicyTree}
-use Rattle.block_template.specs.declared.woven.Woven.{Woven}
-use Rattle.block_template.specs.Outcome.{IsWoven}
-use Rattle.block_template.specs.Woven.{woven}
+use Rattle.block_template.specs.Blocks.{plan_of}
+use Rattle.class_weaving.specs.declared.woven.Woven.{Woven}
+use Rattle.class_weaving.specs.Outcome.{IsWoven}
+use Rattle.class_weaving.specs.Woven.{woven}
 use Rattle.offset_patch.specs.declared.fault.SpliceFault.{SpliceFault}
 use Rattle.offset_patch.specs.declared.fault.SpliceFault.TheVariants as splices
 use Rattle.input_files.specs.declared.inline_inputs.InlineInputs.{InlineInputs}
@@ -87,7 +89,7 @@ pub record Remakes (main folder : List ℕ) (client : Program) (policy : Policy)
 
 -- The program is woven, where it and the policy are of the form that is built so far.
 abbrev pub Weaves : List ℕ → List ℕ → Program → Policy → Step Ready → Type 0
-Weaves main folder client policy = Then (Equals (weave_step (woven client policy))) (Remakes main folder client policy)
+Weaves main folder client policy = Then (Equals (weave_step (woven client (plan_of policy Release) policy.vars))) (Remakes main folder client policy)
 
 abbrev pub Denying : NamedInline → PolicyTree → Program → Step Ready → Type 0
 Denying named policy client = Then (Equals (denying named.weaving policy client)) (Weaves named.main named.folder client)
@@ -125,6 +127,6 @@ pub record IsPlanned (named : NamedInline) (inputs : InlineInputs) (ready : Read
   pub client : Program
   pub links : original inputs.listing inputs.classes named.main ≡ Ok client
   pub made : Woven
-  pub woven : woven client (built inputs.policy) ≡ Ok made
+  pub woven : woven client (plan_of (built inputs.policy) Release) (built inputs.policy).vars ≡ Ok made
   pub rewoven : IsRewoven named.main named.folder inputs.listing (built inputs.policy) made.files ready
-  pub blocks : IsWoven client (built inputs.policy) rewoven.program
+  pub blocks : IsWoven client (plan_of (built inputs.policy) Release) (built inputs.policy).vars rewoven.program

@@ -10,7 +10,6 @@ ghost use Rattle.inliner_tool.specs.Numbers.{
   code_report,
   condition_name,
   event_report,
-  form_report,
   input_report,
   length_report,
   link_report,
@@ -28,7 +27,6 @@ ghost use Rattle.inliner_tool.specs.Numbers.{
 
 use answer_text::{Field, Report};
 use cert_checker::CheckFault;
-use cert_format::CertForm;
 use class_codec::ClassFault;
 use class_linking::LinkFault;
 use conspec_parse::PolicyFault;
@@ -87,16 +85,6 @@ pub fn policy_report(alloc: Global, fault: PolicyFault) -> Result<Report, NoMemo
         PolicyFault::Limit { at } => Report::new(alloc, 187, [Field::Count(at)]),
         PolicyFault::Builtin { at } => Report::new(alloc, 188, [Field::Count(at)]),
         PolicyFault::Memory => Report::new(alloc, 0, []),
-    }
-}
-
-/// Why bytes are no certificate.
-pub fn form_report(alloc: Global, fault: CertForm) -> Result<Report, NoMemory>
-    ensures { IfOk result (λ r. r ≡ form_report fault) }
-{
-    match fault {
-        CertForm::Form { at } => Report::new(alloc, 241, [Field::Count(at)]),
-        CertForm::Memory => Report::new(alloc, 0, []),
     }
 }
 

@@ -3,7 +3,7 @@
 ghost use Rattle.std.specs.Prelude.{◌≡◌, ◌≤◌, IfOk};
 ghost use Rattle.command_words.specs.ReplayWords.{replay_named};
 ghost use Rattle.command_words.specs.Words.{Replay};
-ghost use Rattle.guest_step.specs.Ready.{IsReady};
+ghost use Rattle.guest_model.specs.Ready.{IsReady};
 ghost use Rattle.inliner_tool.specs.Programs.{Equals, UnlessMemory};
 ghost use Rattle.inliner_tool.specs.Replay.{Tells, end_told, run_text, steps_told};
 ghost use Rattle.inliner_tool.specs.ReplayDecision.{ReplayDecides};
@@ -18,7 +18,8 @@ use bytecode_model::Side;
 use command_words::ReplayWords;
 use event_record::{EndLine, events_text};
 use guest_model::{End, Step};
-use guest_step::{Guest, ReplayFault, Replayed, ended, replay};
+use guest_step::{ReplayFault, Replayed, ended, replay};
+use guest_tables::Guest;
 use input_files::{ReplayInputs, read_replay};
 use mon_base::{Bytes, NoMemory};
 use mon_store::Store;
@@ -75,7 +76,7 @@ fn steps_told(alloc: Global, program: Indexed, steps: &[Step]) -> Result<Bytes, 
 fn run_text(alloc: Global, guest: &Guest, count: u64, run: &Replayed) -> Result<Bytes, NoMemory>
     ensures { IfOk result (λ text. text ≡ run_text guest.now count run.now) }
 {
-    let end = end_told(ended(alloc, guest, &run.machine)?);
+    let end = end_told(ended(guest, &run.machine));
     events_text(
         alloc,
         &guest.program().listing,

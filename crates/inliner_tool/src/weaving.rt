@@ -32,28 +32,34 @@ ghost use Rattle.inliner_tool.specs.Expected.{IsExpected};
 ghost use Rattle.output_files.specs.Outputs.{outputs_of};
 ghost use Rattle.type_infer.specs.Untyped.{IsLeast};
 ghost use Rattle.bytecode_model.specs.Order.{IsInOrder};
-ghost use Rattle.block_template.specs.Woven.{woven};
+ghost use Rattle.block_template.specs.Blocks.{plan_of};
+ghost use Rattle.cert_format.specs.declared.certificate.Mode.TheVariants.{Release};
+ghost use Rattle.class_weaving.specs.Woven.{woven};
+ghost use Rattle.conspec_automaton.specs.Sound.{IsPolicy};
+ghost use Rattle.conspec_tree.specs.Tree.{IsPolicyTree};
 
 use crate::programs::{linked, program_of, types_of};
 use crate::refusal::Refusal;
-use block_template::Woven;
+use block_template::plans_are_good;
 use built_form::is_built_client;
 use bytecode_model::{Program, Side};
 use cert_checker::{Accepted, check};
 use cert_format::{CertLong, Certificate};
 use cert_maker::{make, policy_tells_arguments, woven_is_accepted, woven_is_typed};
 use class_linking::{linked_is_in_order, linked_operands_are_right, linked_programs_are_named};
+use class_weaving::Woven;
 use command_words::{InlineWords, Weaving};
 use conspec_automaton::{Policy, build, denies_only};
 use conspec_parse::kinds_are_told;
 use conspec_tree::PolicyTree;
-use inline_release::{inline, original_is_free, woven_files_link};
+use inline_release::inline;
 use input_files::InlineInputs;
 use mon_base::{Bytes, List};
 use mon_store::Output;
 use offset_patch::SpliceFault;
 use std::alloc::Global;
 use type_lattice::Indexed;
+use woven_linking::{original_is_free, woven_files_link};
 
 /// What is to be written, and what is said of it.
 #[derive(Debug, Drop, PartialEq, Eq)]
@@ -81,6 +87,7 @@ pub fn plan(alloc: Global, inputs: InlineInputs, words: &InlineWords) -> Result<
     types_of(alloc, &client)?;
     let policy = denying(alloc, words.weaving, &policy, &client)?;
     let made = woven(alloc, &client, &policy)?;
+    plans_are_good();
     woven_files_link();
     original_is_free();
     linked_is_in_order();
@@ -107,8 +114,10 @@ fn denying(
     policy: &PolicyTree,
     program: &Indexed,
 ) -> Result<Policy, Refusal>
+    requires { IsPolicyTree program.now.listing policy.now }
     ensures is { UnlessMemory (Equals (denying weaving policy.now program.now)) result }
     ensures built { IfOk result (λ made. made ≡ built policy.now) }
+    ensures sound { IfOk result IsPolicy }
     ensures denies { IfOk result DeniesOnly }
 {
     if !lets_go(weaving) || !is_built_client(program.program()) || !denies_only(policy) {
@@ -127,9 +136,9 @@ fn lets_go(weaving: Weaving) -> bool
 /// The woven files.
 fn woven(alloc: Global, client: &Indexed, policy: &Policy) -> Result<Woven, Refusal>
     requires sound { IsSound client.now }
-    requires denies { DeniesOnly policy.now }
-    ensures is { UnlessMemory (Equals (weave_step (woven client.now policy.now))) result }
-    ensures exact { IfOk result (λ made. woven client.now policy.now ≡ Ok made) }
+    requires policy { IsPolicy policy.now }
+    ensures is { UnlessMemory (Equals (weave_step (woven client.now (plan_of policy.now Release) policy.now.vars))) result }
+    ensures exact { IfOk result (λ made. woven client.now (plan_of policy.now Release) policy.now.vars ≡ Ok made) }
     ensures fits { IfOk result (λ made. AllByRecursion CanSpell made.files) }
 {
     let client = client.program();

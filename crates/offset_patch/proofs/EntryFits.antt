@@ -1,9 +1,13 @@
 -- Entries that blocks name can be spelled in the pool to which they were added, if it is not too long.
-use Rattle.std.proofs.Common.{◌≡◌, cond, ℕ, suc, ◌+◌, ◌<◌, ◌≤◌, ◌^◌, Bool, true, false, List, [], ◌∷◌, ◌++◌, length, Option, Some, None, refl, sym, ap, subst, ◌∙◌, append_assoc, append-nil, arith}
-use Rattle.std.specs.Prelude.{slice_get, nat_lt, ◌&&◌, codes}
+use Rattle.std.proofs.Common.{◌≡◌, cond, ℕ, zero, suc, ◌+◌, ◌<◌, ◌≤◌, ◌^◌, Bool, true, false, List, [], ◌∷◌, ◌++◌, length, map, Option, Some, None, refl, sym, ap, subst, ◌∙◌, append_assoc, append-nil, arith}
+use Rattle.std.specs.Prelude.{slice_get, slice_index, nat_lt, ◌&&◌, codes}
 use Rattle.std.specs.List.{AllByRecursion, list_all, position_from}
 use Rattle.std.proofs.lemmas.Bool.Decides.{nat_tests}
 use Rattle.std.proofs.lemmas.List.{length-append}
+use Rattle.std.proofs.lemmas.Fmt.{length-decimal-le, decimal_digit, decimal-digits_of, IsAscii-decimal}
+use Rattle.std.specs.Fmt.{decimal}
+use Rattle.std.specs.Int.Digits.{digits_of}
+use Rattle.std.specs.Str.{IsAscii}
 use Rattle.std.proofs.lemmas.Option.{slice_get_within}
 use Rattle.class_codec.specs.declared.pool.Kind.{Kind}
 use Rattle.class_codec.specs.declared.pool.Kind.TheVariants as kinds
@@ -13,10 +17,11 @@ use Rattle.class_codec.specs.Pool.{is_of, is_one_of, names}
 use Rattle.class_codec.specs.Fits.{IsTextByte, FitsConst, is_second, takes_two, HasSeconds, IsNamed, FitsPool}
 use Rattle.offset_patch.specs.declared.block.PoolWant.{PoolWant}
 use Rattle.offset_patch.specs.declared.block.PoolWant.TheVariants as wants
-use Rattle.offset_patch.specs.Entries.{same, Placed, placed, place_of, entry, text, class, name_and_type, method, wanted, with_wants}
+use Rattle.offset_patch.specs.Entries.{same, Placed, placed, place_of, entry, text, class, name_and_type, field, method, state_name, variable_name, variable_type, wanted, with_wants}
+use Rattle.offset_patch.specs.Fits.{IsWant}
 use Rattle.offset_patch.proofs.Lists.{all_append}
 use Rattle.offset_patch.proofs.PoolFits.{names_on, named_on, each_on}
-use Rattle.offset_patch.proofs.Steady.{IsSteady, steady_text, steady_class_at, steady_name_and_type, steady_name_and_type_at, steady_method_at, steady_wanted}
+use Rattle.offset_patch.proofs.Steady.{IsSteady, steady_text, steady_class_at, steady_name_and_type, steady_name_and_type_at, steady_field_at, steady_method_at, steady_wanted}
 
 -- ---- texts
 
@@ -188,16 +193,66 @@ method_fits owner name desc s t u pool p short =
     let few_j = within kinds.NameAndType two j told_j in
     entry_fits two (constants.Method i j) second (record { fits = (omega arith, omega arith); one = refl; narrow = refl; named = (told_i, told_j) }) short
 
--- ---- what blocks want
+field_fits : (owner name desc : List ℕ) → IsText owner → IsText name → IsText desc → (pool : List Const) → FitsPool pool → length (field owner name desc pool).0 ≤ 65535
+    → FitsPool (field owner name desc pool).0
+field_fits owner name desc s t u pool p short =
+    let one = (class owner pool).0 in
+    let i = (class owner pool).1 in
+    let two = (name_and_type name desc one).0 in
+    let j = (name_and_type name desc one).1 in
+    let less2 = longer (entry (constants.Field i j)) (steady_field_at i j) two in
+    let less1 = longer (name_and_type name desc) (steady_name_and_type name desc) one in
+    let first = class_fits owner s pool p (omega arith) in
+    let second = member_fits name desc t u one first (omega arith) in
+    let told_i = kept kinds.Class (name_and_type name desc) (steady_name_and_type name desc) one i (class_named owner pool) in
+    let told_j = member_named name desc one in
+    let few_i = within kinds.Class two i told_i in
+    let few_j = within kinds.NameAndType two j told_j in
+    entry_fits two (constants.Field i j) second (record { fits = (omega arith, omega arith); one = refl; narrow = refl; named = (told_i, told_j) }) short
+
+-- ---- what blocks name
 
 known : (bytes : List ℕ) → length bytes < 2 ^ 16 → list_all is_text_byte bytes ≡ true → IsText bytes
 known bytes few e = record { few = few; each = text_bytes bytes e }
 
-wanted_fits : (want : PoolWant) (pool : List Const) → FitsPool pool → length (wanted want pool).0 ≤ 65535 → FitsPool (wanted want pool).0
-wanted_fits wants.StateClass pool p short = class_fits (codes "conspec/State") (known (codes "conspec/State") (omega arith) refl) pool p short
-wanted_fits wants.Exit pool p short =
+shown : (ds : List ℕ) → ((i : ℕ) → slice_index (map (λ (d : ℕ). 48 + d) ds) i < 128) → AllByRecursion IsTextByte (map (λ (d : ℕ). 48 + d) ds)
+shown [] h = tt
+shown (d ∷ ds) h =
+    let low = h 0 in
+    ((omega arith, omega (arith, low)), shown ds (λ i. h (suc i)))
+
+decimal_text : (n : ℕ) → n < 2 ^ 32 → AllByRecursion IsTextByte (decimal n)
+decimal_text zero few =
+    let Texts : List ℕ → Type 0 = AllByRecursion IsTextByte in
+    subst Texts (sym (decimal_digit 0 (omega arith))) ((omega arith, omega arith), tt)
+decimal_text (suc n) few =
+    let Texts : List ℕ → Type 0 = AllByRecursion IsTextByte in
+    let is : decimal (suc n) ≡ map (λ (d : ℕ). 48 + d) (digits_of 10 (suc n)) = decimal-digits_of (suc n) (omega arith) (omega arith) in
+    let ascii : IsAscii (decimal (suc n)) = IsAscii-decimal (suc n) (omega arith) in
+    subst Texts (sym is) (shown (digits_of 10 (suc n)) (subst IsAscii is ascii))
+
+-- the name of a variable can be spelled
+pub variable_text : (n : ℕ) → n < 2 ^ 32 → IsText (variable_name n)
+variable_text n few =
+    let len = length-decimal-le 10 n (omega arith) (omega arith) (omega arith) in
+    record { few = omega (arith, len); each = ((omega arith, omega arith), decimal_text n few) }
+
+type_text : (is_bool : Bool) → IsText (variable_type is_bool)
+type_text true = known (codes "Z") (omega arith) refl
+type_text false = known (codes "I") (omega arith) refl
+
+-- ---- what blocks want
+
+state_text : IsText state_name
+state_text = known state_name (omega arith) refl
+
+wanted_fits : (want : PoolWant) → IsWant want → (pool : List Const) → FitsPool pool → length (wanted want pool).0 ≤ 65535 → FitsPool (wanted want pool).0
+wanted_fits wants.StateClass w pool p short = class_fits state_name state_text pool p short
+wanted_fits (wants.StateField var is_bool) w pool p short = field_fits state_name (variable_name var) (variable_type is_bool) state_text (variable_text var w) (type_text is_bool) pool p short
+wanted_fits wants.Exit w pool p short =
     method_fits (codes "java/lang/System") (codes "exit") (codes "(I)V") (known (codes "java/lang/System") (omega arith) refl) (known (codes "exit") (omega arith) refl)
     (known (codes "(I)V") (omega arith) refl) pool p short
+wanted_fits (wants.Integer n) w pool p short = entry_fits pool (constants.Integer n) p (record { fits = w; one = refl; narrow = refl; named = tt }) short
 
 -- wants only add behind
 pub wants_grow : (wants : List PoolWant) (pool : List Const) → (more : List Const) × (with_wants pool wants ≡ pool ++ more)
@@ -207,12 +262,12 @@ wants_grow (want ∷ others) pool =
     let rest = wants_grow others (wanted want pool).0 in
     (one.0 ++ rest.0, rest.1 ∙ ap (λ (p : List Const). p ++ rest.0) one.1 ∙ append_assoc pool one.0 rest.0)
 
-pub wants_fit : (wants : List PoolWant) (pool : List Const) → FitsPool pool → length (with_wants pool wants) ≤ 65535 → FitsPool (with_wants pool wants)
-wants_fit [] pool p short = p
-wants_fit (want ∷ others) pool p short =
+pub wants_fit : (wants : List PoolWant) → AllByRecursion IsWant wants → (pool : List Const) → FitsPool pool → length (with_wants pool wants) ≤ 65535 → FitsPool (with_wants pool wants)
+wants_fit [] w pool p short = p
+wants_fit (want ∷ others) w pool p short =
     let rest = wants_grow others (wanted want pool).0 in
     let less : length (wanted want pool).0 ≤ 65535 = omega (arith, ap length rest.1, length-append (wanted want pool).0 rest.0) in
-    wants_fit others (wanted want pool).0 (wanted_fits want pool p less) short
+    wants_fit others w.1 (wanted want pool).0 (wanted_fits want w.0 pool p less) short
 
 -- ---- places
 
@@ -229,6 +284,11 @@ entry_few c pool = by (place_of c pool) refl
 -- an entry stands within the pool
 pub place_few : (want : PoolWant) (pool : List Const) → (wanted want pool).1 < length (wanted want pool).0
 place_few wants.StateClass pool = entry_few (constants.Class (text (codes "conspec/State") pool).1) (text (codes "conspec/State") pool).0
+place_few (wants.StateField var is_bool) pool =
+    let one = class state_name pool in
+    let two = name_and_type (variable_name var) (variable_type is_bool) one.0 in
+    entry_few (constants.Field one.1 two.1) two.0
+place_few (wants.Integer n) pool = entry_few (constants.Integer n) pool
 place_few wants.Exit pool =
     let one = class (codes "java/lang/System") pool in
     let two = name_and_type (codes "exit") (codes "(I)V") one.0 in

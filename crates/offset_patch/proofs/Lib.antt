@@ -4,6 +4,10 @@ pub mod Pieces
 pub mod PoolFits
 pub mod Measure
 pub mod Putting
+pub mod Finding
+pub mod Texts
+pub mod Lining
+pub mod Calling
 pub mod EntryFits
 pub mod InsnFits
 pub mod CodeFits

@@ -10,6 +10,12 @@ front_is (y ∷ ys) x long e =
     let all : take (length (y ∷ ys) - 1) ys ≡ ys = take_all (length (y ∷ ys) - 1) ys (omega arith) in
     rw (e, all) refl
 
+pub first_is : {X : Type 0} (xs : List X) (x : X) → 1 ≤ length xs → xs ≡ get_or xs 0 x ∷ take (length xs - 1) (drop 1 xs)
+first_is [] x long = absurd (omega arith)
+first_is (y ∷ ys) x long =
+    let all : take (length (y ∷ ys) - 1) ys ≡ ys = take_all (length (y ∷ ys) - 1) ys (omega arith) in
+    ap (λ zs. y ∷ zs) (sym all)
+
 pub none_left : {X : Type 0} (xs : List X) → length xs < 1 → xs ≡ []
 none_left [] short = refl
 none_left (x ∷ xs) short = absurd (omega arith)

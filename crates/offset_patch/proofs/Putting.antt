@@ -1,10 +1,9 @@
 -- What holds of the parts as they are put, and of the code that they make.
-use Rattle.std.proofs.Common.{◌≡◌, ℕ, ◌+◌, ◌<◌, ◌≤◌, ◌^◌, Bool, true, false, cond, List, [], ◌∷◌, ◌++◌, length, Option, Some, None, Result, Ok, Err, refl, sym, ap, subst, ◌∙◌, map, arith}
+use Rattle.std.proofs.Common.{◌≡◌, ℕ, ◌+◌, ◌<◌, ◌^◌, Bool, true, false, List, [], ◌∷◌, length, Option, Some, None, Result, Ok, Err, refl, sym, ap, subst, ◌∙◌, arith}
 use Rattle.std.specs.Prelude.{⊤, nat_le, pos, IsErr}
 use Rattle.std.specs.Result.{IsErrAnd}
-use Rattle.std.specs.List.{AllByRecursion, filter_map, position_from}
+use Rattle.std.specs.List.{AllByRecursion, filter_map}
 use Rattle.std.proofs.lemmas.Bool.Decides.{nat_tests}
-use Rattle.std.proofs.lemmas.List.{length-append, length-map}
 use Rattle.mon_base.specs.Reading.{◌>>=◌, need}
 use Rattle.class_codec.specs.declared.tree.Code.{Code}
 use Rattle.class_codec.specs.declared.tree.Const.{Const}
@@ -21,60 +20,17 @@ use Rattle.bytecode_model.specs.declared.program.Method.{Method}
 use Rattle.offset_patch.specs.declared.block.Block.{Block}
 use Rattle.offset_patch.specs.declared.block.BlockInsn.{BlockInsn}
 use Rattle.offset_patch.specs.declared.block.BlockInsn.TheVariants.{Plain, Byte, Short, Local, Want, Jump, Call}
-use Rattle.offset_patch.specs.declared.constants.Added.{Added}
 use Rattle.offset_patch.specs.declared.fault.Size.TheVariants as sizes
 use Rattle.offset_patch.specs.declared.fault.SpliceFault.{SpliceFault}
 use Rattle.offset_patch.specs.declared.fault.SpliceFault.TheVariants as faults
-use Rattle.offset_patch.specs.Added.{const_of, with_added}
-use Rattle.offset_patch.specs.Entries.{Placed, entry, text, class, name_and_type, IsThere}
+use Rattle.offset_patch.specs.Entries.{IsThere}
 use Rattle.mon_base.specs.Answer.{Fails, Answers}
 use Rattle.offset_patch.specs.Fault.{Spliced, IsCounted, fitted, code_fitted}
 use Rattle.offset_patch.specs.Fits.{IsSite, JumpsWithin}
 use Rattle.offset_patch.specs.Length.{length_of}
-use Rattle.offset_patch.specs.Splicing.{part_of, want_of, block_wants, wants_of, CanStand, fronts_of, parts_from, spliced, code_with, bytes_spliced, code_spliced}
-use Rattle.offset_patch.proofs.EntryFits.{entry_few}
+use Rattle.offset_patch.specs.Splicing.{part_of, want_of, block_wants, wants_of, CanStand, fronts_of, catching, parts_from, spliced, code_with, bytes_spliced, code_spliced}
 use Rattle.offset_patch.proofs.InsnFits.{split_all}
 use Rattle.offset_patch.proofs.Measure.{length_is}
-use Rattle.offset_patch.proofs.Steady.{steady_text, steady_name_and_type}
-
--- ---- places in a pool with what is added
-
--- the first that passes stands in the list
-position_within : {X : Type 0} (p : X → Bool) (from : ℕ) (xs : List X) (at : ℕ) → position_from p from xs ≡ Some at → at < from + length xs
-position_within p from [] at e = absurd cc
-position_within p from (x ∷ xs) at e = by (p x) (position_within p (from + 1) xs at) e
-  where
-    by : (b : Bool) → (position_from p (from + 1) xs ≡ Some at → at < from + 1 + length xs) → cond b (Some from) (position_from p (from + 1) xs) ≡ Some at → at < from + length (x ∷ xs)
-    by true others f =
-        let is : from ≡ at = cc in
-        omega (arith, is)
-    by false others f = omega (arith, others f)
-
-pub place_within : {X : Type 0} (p : X → Bool) (xs : List X) (found : Option ℕ) (at : ℕ) → found ≡ position_from p 0 xs → found ≡ Some at → at ≤ length xs
-place_within p xs found at e is = omega (arith, position_within p 0 xs at (sym e ∙ is))
-
-added_count : (pool : List Const) (added : List Added) → length (with_added pool added) ≡ length pool + length added
-added_count pool added = length-append pool (map const_of added) ∙ ap (λ (n : ℕ). length pool + n) (length-map added const_of)
-
--- an entry that was looked for stands there
-pub found_below : (c : Const) (p pool : List Const) (added : List Added) (at : ℕ) → entry c p ≡ (with_added pool added, at) → at < length pool + length added
-found_below c p pool added at e =
-    let place : (entry c p).1 ≡ at = ap (λ (z : Placed). z.1) e in
-    let count : length (entry c p).0 ≡ length (with_added pool added) = ap (λ (z : Placed). length z.0) e in
-    omega (arith, entry_few c p, place, count, added_count pool added)
-
--- and the pool only grows
-longer : (f : List Const → Placed) (pool : List Const) (old new : List Added) (at : ℕ) → (xs : List Const) × ((f (with_added pool old)).0 ≡ with_added pool old ++ xs)
-    → f (with_added pool old) ≡ (with_added pool new, at) → length old ≤ length new
-longer f pool old new at grows e =
-    let count : length (f (with_added pool old)).0 ≡ length (with_added pool new) = ap (λ (z : Placed). length z.0) e in
-    omega (arith, count, ap length grows.1, length-append (with_added pool old) grows.0, added_count pool old, added_count pool new)
-
-pub text_longer : (bytes : List ℕ) (pool : List Const) (old new : List Added) (at : ℕ) → text bytes (with_added pool old) ≡ (with_added pool new, at) → length old ≤ length new
-text_longer bytes pool old new at e = longer (text bytes) pool old new at ((steady_text bytes).grows (with_added pool old)) e
-
-pub member_longer : (name desc : List ℕ) (pool : List Const) (old new : List Added) (at : ℕ) → name_and_type name desc (with_added pool old) ≡ (with_added pool new, at) → length old ≤ length new
-member_longer name desc pool old new at e = longer (name_and_type name desc) pool old new at ((steady_name_and_type name desc).grows (with_added pool old)) e
 
 -- ---- parts
 
@@ -195,12 +151,12 @@ module _ (class : List ℕ) (number : ℕ) (pool : List Const) (method : Method)
     where
       by : (b : Bool) → need b (faults.Overflow class number sizes.Length (pos (len_from 0 insns_of))) ≡ Err fault
           → (code_fitted class number (need b (codes.Length (len_from 0 insns_of)) >>= λ short. reach_from (starts_of insns_of) 0 insns_of >>= λ held. Ok (spelling insns_of))
-          >>= λ bytes. Ok (code_with code locals (fronts_of sites) method.handlers insns_of bytes)) ≡ Err fault
+          >>= λ bytes. Ok (code_with pool method code locals sites insns_of bytes)) ≡ Err fault
       by true e = absurd cc
       by false e = cc
 
   -- the fault of a length that does not fit is that of the code
-  pub too_long : (fault : SpliceFault) → fitted class number sizes.Entries (length code.table) ≡ Ok tt → fitted class number sizes.Pool (length pool) ≡ Ok tt
+  pub too_long : (fault : SpliceFault) → fitted class number sizes.Entries (length code.table + catching sites) ≡ Ok tt → fitted class number sizes.Pool (length pool) ≡ Ok tt
       → Fails faults.Memory fault (fitted class number sizes.Length (length_of method.insns sites)) → Fails faults.Memory fault (code_spliced class number pool method code locals sites)
   too_long fault rows count told is_told =
       let e = long_code fault (ap (fitted class number sizes.Length) (sym (length_is pool method.insns sites)) ∙ told is_told) in

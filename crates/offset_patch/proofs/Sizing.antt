@@ -30,7 +30,7 @@ use Rattle.offset_patch.specs.Fault.{Spliced, fault_of, fitted, code_fitted}
 use Rattle.offset_patch.specs.Fits.{JumpsWithin}
 use Rattle.offset_patch.specs.Length.{size_in, part_end, length_of}
 use Rattle.offset_patch.specs.Sizes.{byte_fronts_from, own_offset, item_offset, part_offsets, offsets_from, offsets_of, method_sizes, holds, is_unfit, first_unfit}
-use Rattle.offset_patch.specs.Splicing.{part_of, aimed, put, fronts_from, fronts_of, parts_from, spliced, grown, operands_needed, room, code_with, bytes_spliced, code_spliced}
+use Rattle.offset_patch.specs.Splicing.{part_of, aimed, put, fronts_from, fronts_of, parts_from, spliced, grown, catching, operands_needed, room, code_with, bytes_spliced, code_spliced}
 use Rattle.offset_patch.proofs.Measure.{put_size, part_len, len_append, length_is}
 
 -- A jump of the block stays in it.
@@ -294,11 +294,11 @@ pub method_law : (class : List ℕ) (number : ℕ) (pool : List Const) (method :
 method_law class number pool method code locals sites s e =
     let all = grown pool sites in
     let insns = spliced all method.insns sites in
-    let made : List ℕ → Code = λ bytes. code_with code locals (fronts_of sites) method.handlers insns bytes in
+    let made : List ℕ → Code = λ bytes. code_with all method code locals sites insns bytes in
     let last = bytes_spliced class number all method code locals sites in
     let stack = code.max_stack + operands_needed in
     let slots = code.max_locals + locals in
-    let rows = length code.table in
+    let rows = length code.table + catching sites in
     let coded = code_spliced class number all method code locals sites in
     let or_fault : Size → ℕ → Option SpliceFault → Option SpliceFault = λ what value rest.
     cond (is_unfit (faults.Overflow class number what (pos value))) (Some (faults.Overflow class number what (pos value))) rest in

@@ -1,14 +1,14 @@
 -- An entry that was added stays where it is: what is added later stands behind it.
-use Rattle.std.proofs.Common.{◌≡◌, cond, ℕ, ◌+◌, Bool, true, false, List, [], ◌∷◌, ◌++◌, length, Option, Some, None, option_map, map, refl, sym, ap, subst, ◌∙◌, append_assoc, append-nil, zero-add, arith}
+use Rattle.std.proofs.Common.{◌≡◌, cond, ℕ, ℤ, ◌+◌, Bool, true, false, List, [], ◌∷◌, ◌++◌, length, Option, Some, None, refl, sym, ap, subst, ◌∙◌, append_assoc, append-nil, zero-add, arith}
 use Rattle.std.specs.Prelude.{bytes_eq, ◌==◌, codes}
+use Rattle.std.specs.Ordering.{int_eq}
 use Rattle.std.specs.List.{position_from}
+use Rattle.std.proofs.lemmas.Bool.Decides.{Decides-int_eq}
 use Rattle.class_codec.specs.declared.tree.Const.{Const}
 use Rattle.class_codec.specs.declared.tree.Const.TheVariants as constants
 use Rattle.offset_patch.specs.declared.block.PoolWant.{PoolWant}
-use Rattle.offset_patch.specs.declared.constants.Added.{Added}
-use Rattle.offset_patch.specs.Added.{const_of, with_added}
 use Rattle.offset_patch.specs.declared.block.PoolWant.TheVariants as wants
-use Rattle.offset_patch.specs.Entries.{same, Placed, placed, place_of, entry, text, class, name_and_type, method, wanted, IsKept}
+use Rattle.offset_patch.specs.Entries.{same, Placed, placed, place_of, entry, text, class, name_and_type, field, method, state_name, variable_name, variable_type, wanted}
 
 -- the first that passes stays the first
 pub place_stays : {X : Type 0} (p : X → Bool) (at : ℕ) (xs ys : List X) (i : ℕ) → position_from p at xs ≡ Some i → position_from p at (xs ++ ys) ≡ Some i
@@ -131,6 +131,9 @@ module _ (f : List Const → Placed) (g : ℕ → List Const → Placed) (first 
 same_number : (n : ℕ) → (n == n) ≡ true
 same_number n = grind arith
 
+same_integer : (n : ℤ) → int_eq n n ≡ true
+same_integer n = (Decides-int_eq n n).1 refl
+
 same_bytes : (xs : List ℕ) → bytes_eq xs xs ≡ true
 same_bytes [] = refl
 same_bytes (x ∷ xs) = rw (same_number x) (same_bytes xs)
@@ -147,6 +150,9 @@ steady_class name = steady_then (text name) (λ j. entry (constants.Class j)) (s
 pub steady_name_and_type_at : (i j : ℕ) → IsSteady (entry (constants.NameAndType i j))
 steady_name_and_type_at i j = steady_entry (constants.NameAndType i j) (rw (same_number i, same_number j) refl)
 
+pub steady_field_at : (i j : ℕ) → IsSteady (entry (constants.Field i j))
+steady_field_at i j = steady_entry (constants.Field i j) (rw (same_number i, same_number j) refl)
+
 pub steady_method_at : (i j : ℕ) → IsSteady (entry (constants.Method i j))
 steady_method_at i j = steady_entry (constants.Method i j) (rw (same_number i, same_number j) refl)
 
@@ -155,81 +161,21 @@ steady_name_and_type name desc =
     steady_then (text name) (λ i p. entry (constants.NameAndType i (text desc p).1) (text desc p).0) (steady_text name)
     (λ i. steady_then (text desc) (λ j. entry (constants.NameAndType i j)) (steady_text desc) (steady_name_and_type_at i))
 
+pub steady_field : (owner name desc : List ℕ) → IsSteady (field owner name desc)
+steady_field owner name desc =
+    steady_then (class owner) (λ i p. entry (constants.Field i (name_and_type name desc p).1) (name_and_type name desc p).0) (steady_class owner)
+    (λ i. steady_then (name_and_type name desc) (λ j. entry (constants.Field i j)) (steady_name_and_type name desc) (steady_field_at i))
+
 pub steady_method : (owner name desc : List ℕ) → IsSteady (method owner name desc)
 steady_method owner name desc =
     steady_then (class owner) (λ i p. entry (constants.Method i (name_and_type name desc p).1) (name_and_type name desc p).0) (steady_class owner)
     (λ i. steady_then (name_and_type name desc) (λ j. entry (constants.Method i j)) (steady_name_and_type name desc) (steady_method_at i))
 
+steady_integer : (n : ℤ) → IsSteady (entry (constants.Integer n))
+steady_integer n = steady_entry (constants.Integer n) (same_integer n)
+
 pub steady_wanted : (want : PoolWant) → IsSteady (wanted want)
 steady_wanted wants.StateClass = steady_class (codes "conspec/State")
+steady_wanted (wants.StateField var is_bool) = steady_field state_name (variable_name var) (variable_type is_bool)
+steady_wanted (wants.Integer n) = steady_integer n
 steady_wanted wants.Exit = steady_method (codes "java/lang/System") (codes "exit") (codes "(I)V")
-
--- ---- what is kept of an entry
-
--- it is where it was found
-pub kept_new : (want : PoolWant) (old new : List Const) (at : ℕ) → wanted want old ≡ (new, at) → wanted want new ≡ (new, at)
-kept_new want old new at e = subst (λ (z : Placed). wanted want z.0 ≡ z) e ((steady_wanted want).settles old)
-
--- and stays there when another is added
-pub kept_on : (want other : PoolWant) (kept : Option ℕ) (old new : List Const) (at : ℕ) → wanted other old ≡ (new, at) → IsKept want kept old → IsKept want kept new
-kept_on want other None old new at e k = tt
-kept_on want other (Some i) old new at e k =
-    let more = (steady_wanted other).grows old in
-    let is : new ≡ old ++ more.0 = sym (ap (λ (z : Placed). z.0) e) ∙ more.1 in
-    subst (λ (z : List Const). wanted want z ≡ (z, i)) (sym is) ((steady_wanted want).stays old more.0 i k)
-
--- ---- places in a pool with what is added behind it
-
-place_map : {X Y : Type 0} (f : X → Y) (p : Y → Bool) (at : ℕ) (xs : List X) → position_from p at (map f xs) ≡ position_from (λ x. p (f x)) at xs
-place_map f p at [] = refl
-place_map f p at (x ∷ xs) = ap (λ (o : Option ℕ). cond (p (f x)) (Some at) o) (place_map f p (at + 1) xs)
-
-place_behind_none : {X : Type 0} (p : X → Bool) (at : ℕ) (xs ys : List X) → position_from p at xs ≡ None → position_from p at (xs ++ ys) ≡ position_from p (at + length xs) ys
-place_behind_none p at [] ys e =
-    let n : at ≡ at + 0 = omega arith in
-    ap (λ (k : ℕ). position_from p k ys) n
-place_behind_none p at (x ∷ xs) ys e = by (p x) (place_behind_none p (at + 1) xs ys) e
-  where
-    by : (b : Bool) → (position_from p (at + 1) xs ≡ None → position_from p (at + 1) (xs ++ ys) ≡ position_from p (at + 1 + length xs) ys)
-        → cond b (Some at) (position_from p (at + 1) xs) ≡ None → cond b (Some at) (position_from p (at + 1) (xs ++ ys)) ≡ position_from p (at + length (x ∷ xs)) ys
-    by true others f = absurd cc
-    by false others f =
-        let n : at + 1 + length xs ≡ at + length (x ∷ xs) = omega arith in
-        others f ∙ ap (λ (k : ℕ). position_from p k ys) n
-
-place_further : {X : Type 0} (p : X → Bool) (k at : ℕ) (xs : List X) → position_from p (k + at) xs ≡ option_map (λ (i : ℕ). k + i) (position_from p at xs)
-place_further p k at [] = refl
-place_further p k at (x ∷ xs) = by (p x) (place_further p k (at + 1) xs)
-  where
-    by : (b : Bool) → position_from p (k + (at + 1)) xs ≡ option_map (λ (i : ℕ). k + i) (position_from p (at + 1) xs)
-        → cond b (Some (k + at)) (position_from p (k + at + 1) xs) ≡ option_map (λ (i : ℕ). k + i) (cond b (Some at) (position_from p (at + 1) xs))
-    by true others = refl
-    by false others =
-        let n : k + at + 1 ≡ k + (at + 1) = omega arith in
-        ap (λ (j : ℕ). position_from p j xs) n ∙ others
-
--- a constant that stands in the pool
-pub place_before : (c : Const) (pool : List Const) (added : List Added) (i : ℕ) → place_of c pool ≡ Some i → place_of c (with_added pool added) ≡ Some i
-place_before c pool added i e = place_stays (same c) 0 pool (map const_of added) i e
-
--- one that stands behind it, or is not there
-pub place_after : (c : Const) (pool : List Const) (added : List Added) (o : Option ℕ) → place_of c pool ≡ None
-    → o ≡ position_from (λ other. same c (const_of other)) 0 added → place_of c (with_added pool added) ≡ option_map (λ (i : ℕ). length pool + i) o
-place_after c pool added o none is =
-    let behind : place_of c (with_added pool added) ≡ position_from (same c) (0 + length pool) (map const_of added) = place_behind_none (same c) 0 pool (map const_of added) none in
-    let n : 0 + length pool ≡ length pool + 0 = omega arith in
-    behind ∙ ap (λ (k : ℕ). position_from (same c) k (map const_of added)) n ∙ place_further (same c) (length pool) 0 (map const_of added)
-    ∙ ap (option_map (λ (i : ℕ). length pool + i)) (place_map const_of (same c) 0 added ∙ sym is)
-
-pub entry_there : (c : Const) (pool : List Const) (i : ℕ) → Some i ≡ place_of c pool → entry c pool ≡ (pool, i)
-entry_there c pool i e = entry_at c pool i (sym e)
-
--- both of what is kept, once the entry v was added
-pub kept_after : (w v u : PoolWant) (kept taken : Option ℕ) (items slice : List Const) (old new : List Added) (at : ℕ) → w ≡ v → slice ≡ items
-    → wanted w (with_added slice old) ≡ (with_added slice new, at) → taken ≡ kept → IsKept u kept (with_added items old)
-    → (wanted v (with_added items new) ≡ (with_added items new, at)) × IsKept u taken (with_added items new)
-kept_after w v u kept taken items slice old new at is same_items e t k =
-    let e1 : wanted w (with_added items old) ≡ (with_added items new, at) = subst (λ (xs : List Const). wanted w (with_added xs old) ≡ (with_added xs new, at)) same_items e in
-    let e2 : wanted v (with_added items old) ≡ (with_added items new, at) = subst (λ (x : PoolWant). wanted x (with_added items old) ≡ (with_added items new, at)) is e1 in
-    let on = kept_on u v kept (with_added items old) (with_added items new) at e2 k in
-    (kept_new v (with_added items old) (with_added items new) at e2, subst (λ (o : Option ℕ). IsKept u o (with_added items new)) (sym t) on)

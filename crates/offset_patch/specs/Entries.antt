@@ -1,6 +1,6 @@
 -- The entries of a constant pool that blocks name. An entry that is there is used, the first of several; a new one stands
 -- at the end, behind the entries that it names itself, in the order in which it names them.
-use Rattle.std.specs.Prelude.{◌≡◌, ℕ, ℤ, ◌==◌, ◌&&◌, Bool, true, false, bytes_eq, codes, List, [], ◌∷◌, ◌++◌, length, Option, Some, None}
+use Rattle.std.specs.Prelude.{◌≡◌, ℕ, ◌==◌, ◌&&◌, Bool, true, false, bytes_eq, codes, List, [], ◌∷◌, ◌++◌, length, Option, Some, None}
 use Rattle.std.specs.Fmt.{decimal}
 use Rattle.std.specs.Ordering.{int_eq}
 use Rattle.std.specs.List.{position_from}
@@ -90,11 +90,6 @@ with_wants pool (want ∷ wants) = with_wants (wanted want pool).0 wants
 -- the place of an entry that is there
 abbrev pub place_in : List Const → PoolWant → ℕ
 place_in pool want = (wanted want pool).1
-
--- What is kept of an entry: where it is.
-abbrev pub IsKept : PoolWant → Option ℕ → List Const → Type 0
-IsKept want None pool = Unit {0}
-IsKept want (Some at) pool = wanted want pool ≡ (pool, at)
 
 -- The entry is there: it is found without a change.
 pub record IsThere (pool : List Const) (want : PoolWant) : Type 0 where

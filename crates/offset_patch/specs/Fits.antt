@@ -5,7 +5,7 @@ use Rattle.std.specs.Int.{w8, w16, w32}
 use Rattle.insn_codec.specs.declared.opcode.Operands.TheVariants as ops
 use Rattle.insn_codec.specs.Opcodes.{operands_of}
 use Rattle.insn_codec.specs.declared.opcodes.TheConstants.{LDC_W, GETSTATIC, PUTSTATIC, INVOKESTATIC}
-use Rattle.mon_base.specs.Widths.{IsU1}
+use Rattle.mon_base.specs.Widths.{IsU1, IsU4}
 use Rattle.insn_codec.specs.Fits.{FitsSlot}
 use Rattle.offset_patch.specs.declared.block.Block.{Block}
 use Rattle.offset_patch.specs.declared.block.BlockInsn.{BlockInsn}
@@ -20,11 +20,11 @@ takes (StateField var is_bool) op = (op == GETSTATIC) || (op == PUTSTATIC)
 takes Exit op = op == INVOKESTATIC
 takes (Integer n) op = op == LDC_W
 
--- A number has 32 bits.
+-- A number has 32 bits, and so has a variable's index.
 abbrev pub IsWant : PoolWant → Type 0
 IsWant (Integer n) = FitsSigned w32 n
 IsWant StateClass = ⊤
-IsWant (StateField var is_bool) = ⊤
+IsWant (StateField var is_bool) = IsU4 var
 IsWant Exit = ⊤
 
 -- The opcode takes such operands.

@@ -1,6 +1,8 @@
 -- The line numbers of a code with blocks: each line begins at the front of the instruction at which it began.
 -- (The Java Virtual Machine Specification, section 4.7.8.)
-use Rattle.std.specs.Prelude.{ℕ, ◌*◌, ◌+◌, ◌==◌, bytes_eq, codes, List, [], ◌∷◌, ◌++◌, length, take, slice_index, if◌then◌else◌, Option, Some, None, option_map, option_and_then}
+use Rattle.std.specs.Prelude.{ℕ, ◌*◌, ◌+◌, ◌-◌, ◌^◌, ◌==◌, nat_lt, Bool, true, false, bytes_eq, codes, List, [], ◌∷◌, ◌++◌, length, slice_index, if◌then◌else◌, Option, Some, None, option_map, option_and_then}
+use Rattle.std.specs.Ordering.{nat_cmp}
+use Rattle.std.specs.BTreeMap.{BTreeMap, get}
 use Rattle.std.specs.List.{flat_map, filter_map, position_from}
 use Rattle.byteorder.specs.Endian.{big_bytes, big_number}
 use Rattle.class_codec.specs.declared.tree.Const.{Const}
@@ -58,8 +60,20 @@ attr_kept pool moved attr =
     if bytes_eq (text_at pool attr.name) (codes "LineNumberTable") then option_map (λ bytes. record { name = attr.name; bytes = bytes }) (table_moved moved attr.bytes)
     else None
 
+-- whether attributes have at most so many bytes, each with its name and length
+abbrev pub are_within : ℕ → List Other → Bool
+are_within room [] = true
+are_within room (attr ∷ attrs) = if nat_lt room (6 + length attr.bytes) then false else are_within (room - (6 + length attr.bytes)) attrs
+
+abbrev pub each_kept : List Const → (ℕ → Option ℕ) → List Other → List Other
+each_kept pool moved attrs = filter_map (attr_kept pool moved) attrs
+
+-- Line numbers are so few that four bytes count the code's attribute, or are all dropped.
+abbrev pub few_attrs : List Other → List Other
+few_attrs attrs = if are_within (2 ^ 31) attrs then attrs else []
+
 abbrev pub attrs_kept : List Const → (ℕ → Option ℕ) → List Other → List Other
-attrs_kept pool moved attrs = filter_map (attr_kept pool moved) attrs
+attrs_kept pool moved attrs = few_attrs (each_kept pool moved attrs)
 
 -- ---- positions
 
@@ -67,3 +81,7 @@ attrs_kept pool moved attrs = filter_map (attr_kept pool moved) attrs
 -- instructions, `news` those of the code with blocks.
 abbrev pub start_moved : List ℕ → List ℕ → List ℕ → ℕ → Option ℕ
 start_moved olds fronts news start = option_map (λ index. slice_index news (slice_index fronts index)) (position_from (λ old. old == start) 0 olds)
+
+-- the same, from a map
+abbrev pub moved_in : BTreeMap ℕ ℕ → ℕ → Option ℕ
+moved_in moves start = get nat_cmp moves start

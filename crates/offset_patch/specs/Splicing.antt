@@ -1,6 +1,6 @@
 -- Blocks in the code of a method: each stands in the place of the instruction that it is for, and what goes to that
 -- instruction goes to the front of its block.
-use Rattle.std.specs.Prelude.{ℕ, zero, suc, ◌+◌, ◌≤◌, ⊤, Bool, is_some, List, [], ◌∷◌, ◌++◌, length, map, take, slice_index, Option, Some, None, option_and_then, Ok}
+use Rattle.std.specs.Prelude.{ℕ, zero, suc, ◌+◌, ◌≤◌, ⊤, Bool, true, false, is_some, List, [], ◌∷◌, ◌++◌, length, map, take, slice_index, Option, Some, None, option_and_then, Ok}
 use Rattle.std.specs.List.{flat_map, filter_map, list_any, enumerate_from}
 use Rattle.mon_base.specs.Reading.{◌>>=◌}
 use Rattle.class_codec.specs.declared.tree.Code.{Code}
@@ -114,6 +114,10 @@ abbrev pub grown : List Const → List (Option Block) → List Const
 grown pool sites = with_wants pool (wants_of sites)
 
 -- ---- the exception table
+
+abbrev pub is_call : BlockInsn → Bool
+is_call Call = true
+is_call other = false
 
 -- the place of the client's instruction in its part
 unfoldable pub call_place : List BlockInsn → ℕ

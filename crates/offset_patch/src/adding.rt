@@ -1,123 +1,149 @@
-//! Constants are added behind a pool, each behind those that it names.
+//! The entries that blocks name, each behind those that it names itself.
 
-ghost use Rattle.std.specs.Prelude.{◌≡◌, ◌+◌, ◌<◌, ◌≤◌, IfOk, length};
-ghost use Rattle.offset_patch.specs.Added.{const_of, with_added, NamesBelow, AreNamed};
-ghost use Rattle.offset_patch.specs.Entries.{entry, place_of, text, class, name_and_type, method, wanted};
+ghost use Rattle.std.specs.Prelude.{◌≡◌, ◌+◌, ◌<◌, ◌≤◌, IfOk, OnOk, length};
+ghost use Rattle.offset_patch.specs.Added.{with_added};
+ghost use Rattle.offset_patch.specs.Entries.{text, class, name_and_type, field, method, variable_name, variable_type, wanted};
+ghost use Rattle.offset_patch.specs.Growth.{IsGrowth};
 
 use crate::block::PoolWant;
-use crate::constants::{Added, place_among, place_behind};
+use crate::constants::Added;
+use crate::growth::{Growth, entry};
 use class_codec::Const;
-use mon_base::{Bytes, List, NoMemory};
+use mon_base::{Bytes, NoMemory, push_count};
 use std::alloc::Global;
+
+/// The class that has a field for each variable.
+const STATE: &[u8] = b"conspec/State";
+
+/// The method that ends the program: its class, its name and its descriptor.
+const SYSTEM: &[u8] = b"java/lang/System";
+
+const EXIT: &[u8] = b"exit";
+
+const EXIT_TYPE: &[u8] = b"(I)V";
+
+/// The types of variables.
+const BOOL: &[u8] = b"Z";
+
+const INT: &[u8] = b"I";
 
 /// Sees to it that the entry is there that a block names, and tells where.
 pub fn wanted(
     alloc: Global,
     pool: &[Const],
-    added: &mut List<Added>,
+    growth: &mut Growth,
     want: PoolWant,
 ) -> Result<u64, NoMemory>
-    ensures is { IfOk result (λ at. wanted want (with_added pool.now added.old) ≡ (with_added pool.now added.new, at)) }
-    ensures names { AreNamed pool.now added.old → AreNamed pool.now added.new }
+    requires good { IsGrowth pool.now growth.old }
+    ensures is { IfOk result (λ at. wanted want (with_added pool.now growth.old.added) ≡ (with_added pool.now growth.new.added, at)) }
+    ensures good { OnOk result (IsGrowth pool.now growth.new) }
 {
     match want {
-        PoolWant::StateClass => class(alloc, pool, added, "conspec/State"),
-        PoolWant::Exit => method(alloc, pool, added, "java/lang/System", "exit", "(I)V"),
+        PoolWant::StateClass => class(alloc, pool, growth, STATE),
+        PoolWant::StateField { var, is_bool } => {
+            let name = variable_name(alloc, var)?;
+            field(
+                alloc,
+                pool,
+                growth,
+                STATE,
+                name.as_slice(),
+                variable_type(is_bool),
+            )
+        }
+        PoolWant::Exit => method(alloc, pool, growth, SYSTEM, EXIT, EXIT_TYPE),
+        PoolWant::Integer(n) => entry(alloc, pool, growth, Added::Integer(n)),
     }
+}
+
+/// The name of the variable of this index.
+fn variable_name(alloc: Global, index: u32) -> Result<Bytes, NoMemory>
+    ensures { IfOk result (λ name. name ≡ variable_name index) }
+{
+    let mut name = Bytes::from_slice(alloc, b"v")?;
+    push_count(&mut name, u64::from(index))?;
+    Ok(name)
+}
+
+/// The type of a variable.
+fn variable_type(is_bool: bool) -> &'static [u8]
+    ensures { result.now ≡ variable_type is_bool }
+{
+    if is_bool { BOOL } else { INT }
+}
+
+fn field(
+    alloc: Global,
+    pool: &[Const],
+    growth: &mut Growth,
+    owner: &[u8],
+    name: &[u8],
+    desc: &[u8],
+) -> Result<u64, NoMemory>
+    requires good { IsGrowth pool.now growth.old }
+    ensures is { IfOk result (λ at. field owner.now name.now desc.now (with_added pool.now growth.old.added)
+        ≡ (with_added pool.now growth.new.added, at)) }
+    ensures good { OnOk result (IsGrowth pool.now growth.new) }
+{
+    let owner = class(alloc, pool, growth, owner)?;
+    let member = name_and_type(alloc, pool, growth, name, desc)?;
+    entry(alloc, pool, growth, Added::Field(owner, member))
 }
 
 fn method(
     alloc: Global,
     pool: &[Const],
-    added: &mut List<Added>,
-    owner: &str,
-    name: &str,
-    desc: &str,
+    growth: &mut Growth,
+    owner: &[u8],
+    name: &[u8],
+    desc: &[u8],
 ) -> Result<u64, NoMemory>
-    ensures is { IfOk result (λ at. method owner.now name.now desc.now (with_added pool.now added.old)
-        ≡ (with_added pool.now added.new, at)) }
-    ensures names { AreNamed pool.now added.old → AreNamed pool.now added.new }
+    requires good { IsGrowth pool.now growth.old }
+    ensures is { IfOk result (λ at. method owner.now name.now desc.now (with_added pool.now growth.old.added)
+        ≡ (with_added pool.now growth.new.added, at)) }
+    ensures good { OnOk result (IsGrowth pool.now growth.new) }
 {
-    let owner = class(alloc, pool, added, owner)?;
-    let member = name_and_type(alloc, pool, added, name, desc)?;
-    entry(pool, added, Added::Method(owner, member))
+    let owner = class(alloc, pool, growth, owner)?;
+    let member = name_and_type(alloc, pool, growth, name, desc)?;
+    entry(alloc, pool, growth, Added::Method(owner, member))
 }
 
 fn name_and_type(
     alloc: Global,
     pool: &[Const],
-    added: &mut List<Added>,
-    name: &str,
-    desc: &str,
+    growth: &mut Growth,
+    name: &[u8],
+    desc: &[u8],
 ) -> Result<u64, NoMemory>
-    ensures is { IfOk result (λ at. name_and_type name.now desc.now (with_added pool.now added.old) ≡ (with_added pool.now added.new, at)) }
-    ensures names { AreNamed pool.now added.old → AreNamed pool.now added.new }
+    requires good { IsGrowth pool.now growth.old }
+    ensures is { IfOk result (λ at. name_and_type name.now desc.now (with_added pool.now growth.old.added)
+        ≡ (with_added pool.now growth.new.added, at)) }
+    ensures good { OnOk result (IsGrowth pool.now growth.new) }
+    ensures below { IfOk result (λ at. at < length pool.now + length growth.new.added) }
+    ensures more { OnOk result (length growth.old.added ≤ length growth.new.added) }
 {
-    let name = text(alloc, pool, added, name)?;
-    let desc = text(alloc, pool, added, desc)?;
-    entry(pool, added, Added::NameAndType(name, desc))
+    let name = text(alloc, pool, growth, name)?;
+    let desc = text(alloc, pool, growth, desc)?;
+    entry(alloc, pool, growth, Added::NameAndType(name, desc))
 }
 
-fn class(
-    alloc: Global,
-    pool: &[Const],
-    added: &mut List<Added>,
-    name: &str,
-) -> Result<u64, NoMemory>
-    ensures is { IfOk result (λ at. class name.now (with_added pool.now added.old) ≡ (with_added pool.now added.new, at)) }
-    ensures names { AreNamed pool.now added.old → AreNamed pool.now added.new }
+fn class(alloc: Global, pool: &[Const], growth: &mut Growth, name: &[u8]) -> Result<u64, NoMemory>
+    requires good { IsGrowth pool.now growth.old }
+    ensures is { IfOk result (λ at. class name.now (with_added pool.now growth.old.added) ≡ (with_added pool.now growth.new.added, at)) }
+    ensures good { OnOk result (IsGrowth pool.now growth.new) }
+    ensures below { IfOk result (λ at. at < length pool.now + length growth.new.added) }
 {
-    let name = text(alloc, pool, added, name)?;
-    entry(pool, added, Added::Class(name))
+    let name = text(alloc, pool, growth, name)?;
+    entry(alloc, pool, growth, Added::Class(name))
 }
 
-fn text(
-    alloc: Global,
-    pool: &[Const],
-    added: &mut List<Added>,
-    bytes: &str,
-) -> Result<u64, NoMemory>
-    ensures is { IfOk result (λ at. text bytes.now (with_added pool.now added.old) ≡ (with_added pool.now added.new, at)) }
-    ensures names { AreNamed pool.now added.old → AreNamed pool.now added.new }
+fn text(alloc: Global, pool: &[Const], growth: &mut Growth, bytes: &[u8]) -> Result<u64, NoMemory>
+    requires good { IsGrowth pool.now growth.old }
+    ensures is { IfOk result (λ at. text bytes.now (with_added pool.now growth.old.added) ≡ (with_added pool.now growth.new.added, at)) }
+    ensures good { OnOk result (IsGrowth pool.now growth.new) }
+    ensures below { IfOk result (λ at. at < length pool.now + length growth.new.added) }
+    ensures more { OnOk result (length growth.old.added ≤ length growth.new.added) }
 {
-    let bytes = Bytes::from_slice(alloc, bytes.as_bytes())?;
-    entry(pool, added, Added::Text(bytes))
-}
-
-/// Sees to it that the constant is there, and tells where the first one stands.
-fn entry(pool: &[Const], added: &mut List<Added>, wanted: Added) -> Result<u64, NoMemory>
-    ensures is { IfOk result (λ at. entry (const_of wanted) (with_added pool.now added.old) ≡ (with_added pool.now added.new, at)) }
-    ensures names { NamesBelow (length pool.now + length added.old) wanted → AreNamed pool.now added.old → AreNamed pool.now added.new }
-{
-    match place(pool, added.as_slice(), &wanted) {
-        Some(at) => Ok(at),
-        None => {
-            let at = behind(pool, added.as_slice(), added.len());
-            added.push(wanted)?;
-            Ok(at)
-        }
-    }
-}
-
-/// The place of the first constant that is equal.
-fn place(pool: &[Const], added: &[Added], wanted: &Added) -> Option<u64>
-    ensures { result ≡ place_of (const_of wanted.now) (with_added pool.now added.now) }
-{
-    if let Some(at) = place_among(pool, wanted) {
-        return Some(at as u64);
-    }
-    match place_behind(added, wanted) {
-        Some(at) => Some(behind(pool, added, at)),
-        None => None,
-    }
-}
-
-/// The place of what is added behind the pool.
-fn behind(pool: &[Const], added: &[Added], at: usize) -> u64
-    requires { at ≤ length added.now }
-    ensures { result ≡ length pool.now + at }
-{
-    let count = added.len();
-    prove!(at <= count);
-    pool.len() as u64 + at as u64
+    let bytes = Bytes::from_slice(alloc, bytes)?;
+    entry(alloc, pool, growth, Added::Text(bytes))
 }

@@ -1,13 +1,17 @@
 //! The constant pool of a class, with the entries that blocks name.
 
-ghost use Rattle.std.specs.Prelude.{◌≡◌, ◌<◌, ◌^◌, IfOk, IfSome, OnOk, length};
+ghost use Rattle.std.specs.Prelude.{◌≡◌, ◌<◌, ◌^◌, IfOk, OnOk, length};
 ghost use Rattle.std.specs.List.{AllByRecursion};
+ghost use Rattle.bytecode_model.specs.Heads.{text_at};
 ghost use Rattle.offset_patch.specs.Added.{const_of, with_added, NamesBelow};
 ghost use Rattle.offset_patch.specs.Entries.{wanted, place_in, IsThere};
+ghost use Rattle.offset_patch.specs.Growth.{added_in, text_among};
 
 use crate::adding::wanted;
 use crate::block::PoolWant;
 use crate::constants::Added;
+use crate::growth::{Growth, growth_of};
+use bytecode_model::text_at;
 use class_codec::Const;
 use mon_base::{List, NoMemory};
 use std::alloc::Global;
@@ -15,41 +19,34 @@ use std::marker::Model;
 
 /// The constant pool of a class, with what is added behind it. A contract sees the list of all the constants.
 ///
-/// Where an entry that a block names stands is kept, so the pool is gone over once for each of these and no more.
+/// Where the first of each constant stands is kept in an ordered map, which is made once an entry is asked for. So the
+/// pool is gone over once, and an entry is found in few steps whatever the number of blocks and of what they name.
 #[derive(Drop)]
 pub struct Entries {
     items: List<Const>,
-    added: List<Added>,
-    state_class: Option<u64>,
-    exit: Option<u64>,
+    growth: Option<Growth>,
 }
 
 impl Model for Entries {
-    ghost use Rattle.std.specs.Prelude.{List};
+    ghost use Rattle.std.specs.Prelude.{List, IfSome};
     ghost use Rattle.class_codec.specs.declared.tree.Const.{Const};
-    ghost use Rattle.offset_patch.specs.declared.block.PoolWant.TheVariants as wants;
-    ghost use Rattle.offset_patch.specs.Added.{with_added, AreNamed};
-    ghost use Rattle.offset_patch.specs.Entries.{IsKept};
+    ghost use Rattle.offset_patch.specs.Growth.{with_growth, IsGrowth};
 
     ghost Value = { List Const };
 
-    ghost view = { λ e. with_added e.items e.added };
+    ghost view = { λ e. with_growth e.items e.growth };
 
-    ghost invariant = { λ e. IsKept wants.StateClass e.state_class (with_added e.items e.added)
-        × IsKept wants.Exit e.exit (with_added e.items e.added)
-        × AreNamed e.items e.added };
+    ghost invariant = { λ e. IfSome e.growth (IsGrowth e.items) };
 }
 
 impl Entries {
     /// The constants of a pool.
-    pub fn new(alloc: Global, items: List<Const>) -> Entries
+    pub fn new(items: List<Const>) -> Entries
         ensures { result ≡ items }
     {
         Entries {
             items,
-            added: List::new(alloc),
-            state_class: None,
-            exit: None,
+            growth: None,
         }
     }
 
@@ -58,40 +55,18 @@ impl Entries {
         ensures is { result ≡ length self.now }
         ensures bound { result < 2 ^ 63 }
     {
-        self.items.as_slice().len() as u64 + self.added.as_slice().len() as u64
+        self.items.as_slice().len() as u64 + added_in(&self.growth).len() as u64
     }
 
     /// Sees to it that the entry is there, and tells where.
     pub fn add(&mut self, alloc: Global, want: PoolWant) -> Result<u64, NoMemory>
         ensures { IfOk result (λ at. wanted want self.old ≡ (self.new, at)) }
     {
-        if let Some(place) = self.place_of(want) {
-            return Ok(place);
-        }
-        let state_class = self.state_class.take();
-        let exit = self.exit.take();
-        let place = wanted(alloc, self.items.as_slice(), &mut self.added, want)?;
-        match want {
-            PoolWant::StateClass => {
-                self.state_class = Some(place);
-                self.exit = exit;
-            }
-            PoolWant::Exit => {
-                self.state_class = state_class;
-                self.exit = Some(place);
-            }
-        }
+        let kept = self.growth.take();
+        let mut growth = growth_of(alloc, self.items.as_slice(), kept)?;
+        let place = wanted(alloc, self.items.as_slice(), &mut growth, want)?;
+        self.growth = Some(growth);
         Ok(place)
-    }
-
-    /// Where the entry stands, if that is kept.
-    fn place_of(&self, want: PoolWant) -> Option<u64>
-        ensures { IfSome result (λ at. wanted want self.now ≡ (self.now, at)) }
-    {
-        match want {
-            PoolWant::StateClass => self.state_class,
-            PoolWant::Exit => self.exit,
-        }
     }
 
     /// The place of an entry that is there, of few.
@@ -105,20 +80,47 @@ impl Entries {
         Ok(place as u16)
     }
 
+    /// The text that the index names, or none.
+    pub fn text_at(&self, index: u16) -> &[u8]
+        ensures { result.now ≡ text_at self.now index }
+    {
+        let items = self.items.as_slice();
+        if (index as usize) < items.len() {
+            text_at(items, index)
+        } else {
+            text_among(added_in(&self.growth), index as usize - items.len())
+        }
+    }
+
     /// The constants, of which there are few.
     pub fn into_list(self, alloc: Global) -> Result<List<Const>, NoMemory>
         requires { length self < 2 ^ 16 }
         ensures { IfOk result (λ items. items ≡ self) }
     {
-        let Entries {
-            items,
-            added,
-            state_class,
-            exit,
-        } = self;
+        let Entries { items, growth } = self;
         let mut items = items;
-        put_added(alloc, &mut items, added.as_slice())?;
+        put_added(alloc, &mut items, added_in(&growth))?;
         Ok(items)
+    }
+}
+
+/// What is added.
+fn added_in(growth: &Option<Growth>) -> &[Added]
+    ensures { result.now ≡ added_in growth.now }
+{
+    match growth {
+        Some(growth) => growth.added.as_slice(),
+        None => &[],
+    }
+}
+
+/// The text in this place among what is added, or none.
+fn text_among(added: &[Added], place: usize) -> &[u8]
+    ensures { result.now ≡ text_among added.now place }
+{
+    match added.get(place) {
+        Some(Added::Text(text)) => text.as_slice(),
+        _ => b"".as_slice(),
     }
 }
 
@@ -141,6 +143,8 @@ fn constant(alloc: Global, added: &Added) -> Result<Const, NoMemory>
         Added::Text(text) => Ok(Const::Utf8(text.copy(alloc)?)),
         Added::Class(name) => Ok(Const::Class(*name as u16)),
         Added::NameAndType(name, desc) => Ok(Const::NameAndType(*name as u16, *desc as u16)),
+        Added::Field(class, member) => Ok(Const::Field(*class as u16, *member as u16)),
         Added::Method(class, member) => Ok(Const::Method(*class as u16, *member as u16)),
+        Added::Integer(n) => Ok(Const::Integer(*n)),
     }
 }

@@ -1,8 +1,10 @@
 //! Blocks of instructions in the code of a method.
 //!
 //! A block stands in the place of an instruction, which it holds; what goes to that instruction goes to the block's
-//! front. Entries that blocks name are found in the constant pool of the class, or are added to it. Sizes that do not fit
-//! are told in a fixed order. (docs/BLOCKS.md)
+//! front, and a line that began there begins at that front. A block may catch what its instruction throws: its entry
+//! of the exception table stands before the client's. Entries that blocks name are found in the constant pool of the
+//! class, or are added to it. Sizes that do not fit are told in a fixed order. Which instructions have a block tells a
+//! [`Planner`]. (docs/BLOCKS.md)
 #![tactic(auto)]
 
 mod adding;
@@ -11,7 +13,9 @@ mod constants;
 mod entries;
 mod fault;
 mod fronts;
+mod growth;
 mod length;
+mod lines;
 mod plan;
 mod sizes;
 mod splicing;

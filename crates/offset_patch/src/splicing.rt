@@ -18,8 +18,9 @@ use crate::entries::Entries;
 use crate::fault::{Size, SpliceFault};
 use crate::fronts::{aimed, fronts, part_of};
 use crate::length::length_of;
+use crate::lines::attrs_spliced;
 use crate::sizes::{OPERANDS, fitted};
-use crate::tables::table_moved;
+use crate::tables::{catching, table_spliced};
 use bytecode_model::{Handler, Method};
 use class_codec::Code;
 use insn_codec::{CodeOverflow, Insn, starts, write_code};
@@ -49,7 +50,7 @@ pub fn splice(
     ensures few { OnOk result (length entries.new < 2 ^ 16) }
 {
     add_wants(alloc, entries, sites)?;
-    let rows = code.table.as_slice().len() as u64;
+    let rows = code.table.as_slice().len() as u64 + catching(sites);
     fitted(alloc, class, number, Size::Entries, rows)?;
     fitted(alloc, class, number, Size::Pool, entries.count())?;
     let length = length_of(method.insns.as_slice(), sites);
@@ -77,6 +78,7 @@ fn code_put(
     locals: u16,
     sites: &[Option<Block>],
 ) -> Result<Code, SpliceFault>
+    requires few { length method.now.insns < 2 ^ 16 }
     requires insns { AllByRecursion IsInsn method.now.insns }
     requires each { length sites.now ≡ length method.now.insns }
     requires sites { AllByRecursion IsSite sites.now }
@@ -98,12 +100,21 @@ fn code_put(
     )?;
     let bytes = written(alloc, class, number, insns.as_slice())?;
     let starts = starts(alloc, insns.as_slice())?;
-    let table = table_moved(
+    let table = table_spliced(
         alloc,
         starts.as_slice(),
         fronts.as_slice(),
+        sites,
         method.handlers.as_slice(),
         code.table.as_slice(),
+    )?;
+    let attrs = attrs_spliced(
+        alloc,
+        entries,
+        method.insns.as_slice(),
+        fronts.as_slice(),
+        starts.as_slice(),
+        code.attrs.as_slice(),
     )?;
     Ok(Code {
         name: code.name,
@@ -111,7 +122,7 @@ fn code_put(
         max_locals: code.max_locals + locals,
         code: bytes,
         table,
-        attrs: List::new(alloc),
+        attrs,
     })
 }
 

@@ -1,27 +1,11 @@
 //! What flows from an instruction to those to which control can go from it.
 
-ghost use Rattle.std.specs.Prelude.{◌≡◌, ◌≤◌, ℕ, Some, ◌∷◌, length, option_copied, Contains, IfOk, IsTrue, OnOk};
+ghost use Rattle.std.specs.Prelude.{◌≡◌, ℕ, ◌∷◌, option_copied, Contains, IfOk, IsTrue, OnOk};
 ghost use Rattle.insn_codec.specs.Control.{jump_targets, successors};
-ghost use Rattle.bytecode_model.specs.Order.{IsInOrder};
-ghost use Rattle.code_typing.specs.Order.{IsAloneMet};
 ghost use Rattle.bytecode_model.specs.Rules.{Frames, covers};
 ghost use Rattle.bytecode_model.specs.declared.program.Handler.{Handler};
-ghost use Rattle.type_infer.specs.Solving.{
-  AreFound,
-  Grows,
-  IsDone,
-  IsKept,
-  IsOfHeight,
-  IsRaisedBy,
-  IsReady,
-  IsSent,
-  RowIsMet,
-  StaysFound,
-  left_by,
-  next_of,
-  place_of,
-  thrown_to,
-};
+ghost use Rattle.type_infer.specs.Sending.{HasEach, KeepsOld, RaisesLeft, RaisesThrown, StandsIn};
+ghost use Rattle.type_infer.specs.Solving.{AreFound, Grows, IsDone, IsReady, IsSent, RowIsMet, StaysFound, left_by, next_of, thrown_to};
 
 use crate::body::Body;
 use crate::joining::joined;
@@ -49,10 +33,8 @@ fn left(
 ) -> Result<Option<Told>, NoMemory>
     requires program { to.now.program ≡ place.now.program }
     requires method { to.now.method ≡ place.now.method }
-    ensures kept { IfOk result (λ told. IsInOrder place.now.program → IsKept place.now.program (option_copied old.entry) told) }
-    ensures raised { IfOk result (λ told. IsInOrder place.now.program → IsAloneMet place.now frame.now
-        → IsOfHeight (option_copied old.entry) (length (left_by place.now frame.now).operands)
-        → IsRaisedBy to.now (option_copied old.entry) (left_by place.now frame.now) told) }
+    ensures kept { IfOk result (KeepsOld place.now (option_copied old.entry)) }
+    ensures raised { IfOk result (RaisesLeft place.now frame.now to.now (option_copied old.entry)) }
 {
     let locals = locals_after(alloc, place, frame)?;
     let stack = stack_after(alloc, place, frame)?;
@@ -69,10 +51,8 @@ fn sent(
 ) -> Result<Option<Told>, NoMemory>
     requires program { to.now.program ≡ place.now.program }
     requires method { to.now.method ≡ place.now.method }
-    ensures kept { IfOk result (λ told. IsInOrder place.now.program → IsKept place.now.program (option_copied old.entry) told) }
-    ensures raised { IfOk result (λ told. IsInOrder place.now.program → IsAloneMet place.now frame.now
-        → IsOfHeight (option_copied old.entry) (length (left_by place.now frame.now).operands)
-        → IsRaisedBy to.now (option_copied old.entry) (left_by place.now frame.now) told) }
+    ensures kept { IfOk result (KeepsOld place.now (option_copied old.entry)) }
+    ensures raised { IfOk result (RaisesLeft place.now frame.now to.now (option_copied old.entry)) }
 {
     assignable_is_an_order();
     rows_follow_the_order();
@@ -99,10 +79,8 @@ fn caught(
 ) -> Result<Option<Told>, NoMemory>
     requires program { to.now.program ≡ place.now.program }
     requires method { to.now.method ≡ place.now.method }
-    ensures kept { IfOk result (λ told. IsInOrder place.now.program → IsKept place.now.program (option_copied old.entry) told) }
-    ensures raised { IfOk result (λ told. IsInOrder place.now.program
-        → length frame.now.locals ≤ place.now.method.max_locals → 1 ≤ place.now.method.max_stack → IsOfHeight (option_copied old.entry) 1
-        → IsRaisedBy to.now (option_copied old.entry) (thrown_to handler.now place.now frame.now) told) }
+    ensures kept { IfOk result (KeepsOld place.now (option_copied old.entry)) }
+    ensures raised { IfOk result (RaisesThrown handler.now place.now frame.now to.now (option_copied old.entry)) }
 {
     let locals = locals_thrown(alloc, frame.locals.as_slice())?;
     let stack = stack_thrown(alloc, handler)?;
@@ -120,10 +98,8 @@ fn thrown(
 ) -> Result<Option<Told>, NoMemory>
     requires program { to.now.program ≡ place.now.program }
     requires method { to.now.method ≡ place.now.method }
-    ensures kept { IfOk result (λ told. IsInOrder place.now.program → IsKept place.now.program (option_copied old.entry) told) }
-    ensures raised { IfOk result (λ told. IsInOrder place.now.program
-        → length frame.now.locals ≤ place.now.method.max_locals → 1 ≤ place.now.method.max_stack → IsOfHeight (option_copied old.entry) 1
-        → IsRaisedBy to.now (option_copied old.entry) (thrown_to handler.now place.now frame.now) told) }
+    ensures kept { IfOk result (KeepsOld place.now (option_copied old.entry)) }
+    ensures raised { IfOk result (RaisesThrown handler.now place.now frame.now to.now (option_copied old.entry)) }
 {
     assignable_is_an_order();
     rows_follow_the_order();
@@ -147,11 +123,8 @@ fn send(
     place: &PlaceRef,
     to: u32,
 ) -> Result<(), NoMemory>
-    requires place { place_of body.now place.now.at ≡ Some place.now }
-    requires frames { length work.old.frames ≡ length body.now.method.insns }
-    requires marks { length work.old.marks ≡ length body.now.method.insns }
-    ensures frames { length work.new.frames ≡ length body.now.method.insns }
-    ensures marks { length work.new.marks ≡ length body.now.method.insns }
+    requires { StandsIn body.now place.now work.old }
+    ensures each { HasEach body.now work.new }
     ensures grows { OnOk result (IsReady body.now → Grows body.now.program work.old work.new) }
     ensures found { OnOk result (IsReady body.now → Contains (successors place.now.at place.now.insn) to
         → StaysFound body.now place.now.at work.old work.new) }
@@ -179,11 +152,8 @@ fn send_all(
     place: &PlaceRef,
     targets: &[u32],
 ) -> Result<(), NoMemory>
-    requires place { place_of body.now place.now.at ≡ Some place.now }
-    requires frames { length work.old.frames ≡ length body.now.method.insns }
-    requires marks { length work.old.marks ≡ length body.now.method.insns }
-    ensures frames { length work.new.frames ≡ length body.now.method.insns }
-    ensures marks { length work.new.marks ≡ length body.now.method.insns }
+    requires { StandsIn body.now place.now work.old }
+    ensures each { HasEach body.now work.new }
     ensures grows { OnOk result (IsReady body.now → Grows body.now.program work.old work.new) }
     ensures found { OnOk result (IsReady body.now
         → ((to : ℕ) → Contains targets.now to → Contains (successors place.now.at place.now.insn) to)
@@ -209,11 +179,8 @@ fn send_each(
     first: u32,
     others: &[u32],
 ) -> Result<(), NoMemory>
-    requires place { place_of body.now place.now.at ≡ Some place.now }
-    requires frames { length work.old.frames ≡ length body.now.method.insns }
-    requires marks { length work.old.marks ≡ length body.now.method.insns }
-    ensures frames { length work.new.frames ≡ length body.now.method.insns }
-    ensures marks { length work.new.marks ≡ length body.now.method.insns }
+    requires { StandsIn body.now place.now work.old }
+    ensures each { HasEach body.now work.new }
     ensures grows { OnOk result (IsReady body.now → Grows body.now.program work.old work.new) }
     ensures found { OnOk result (IsReady body.now
         → ((to : ℕ) → Contains (first ∷ others.now) to → Contains (successors place.now.at place.now.insn) to)
@@ -235,11 +202,8 @@ fn send_to_targets(
     work: &mut Work,
     place: &PlaceRef,
 ) -> Result<(), NoMemory>
-    requires place { place_of body.now place.now.at ≡ Some place.now }
-    requires frames { length work.old.frames ≡ length body.now.method.insns }
-    requires marks { length work.old.marks ≡ length body.now.method.insns }
-    ensures frames { length work.new.frames ≡ length body.now.method.insns }
-    ensures marks { length work.new.marks ≡ length body.now.method.insns }
+    requires { StandsIn body.now place.now work.old }
+    ensures each { HasEach body.now work.new }
     ensures grows { OnOk result (IsReady body.now → Grows body.now.program work.old work.new) }
     ensures found { OnOk result (IsReady body.now → StaysFound body.now place.now.at work.old work.new) }
     ensures sent { OnOk result (IsReady body.now → (to : ℕ) → Contains (jump_targets place.now.insn) to
@@ -261,11 +225,8 @@ fn send_to_targets(
 
 /// Sends what the instruction leaves to the next, where control can go on to it.
 fn send_on(alloc: Global, body: &Body, work: &mut Work, place: &PlaceRef) -> Result<(), NoMemory>
-    requires place { place_of body.now place.now.at ≡ Some place.now }
-    requires frames { length work.old.frames ≡ length body.now.method.insns }
-    requires marks { length work.old.marks ≡ length body.now.method.insns }
-    ensures frames { length work.new.frames ≡ length body.now.method.insns }
-    ensures marks { length work.new.marks ≡ length body.now.method.insns }
+    requires { StandsIn body.now place.now work.old }
+    ensures each { HasEach body.now work.new }
     ensures grows { OnOk result (IsReady body.now → Grows body.now.program work.old work.new) }
     ensures found { OnOk result (IsReady body.now → StaysFound body.now place.now.at work.old work.new) }
     ensures sent { OnOk result (IsReady body.now → (to : ℕ) → Contains (next_of place.now.at place.now.insn) to
@@ -289,11 +250,8 @@ fn throw(
     place: &PlaceRef,
     handler: &Handler,
 ) -> Result<(), NoMemory>
-    requires place { place_of body.now place.now.at ≡ Some place.now }
-    requires frames { length work.old.frames ≡ length body.now.method.insns }
-    requires marks { length work.old.marks ≡ length body.now.method.insns }
-    ensures frames { length work.new.frames ≡ length body.now.method.insns }
-    ensures marks { length work.new.marks ≡ length body.now.method.insns }
+    requires { StandsIn body.now place.now work.old }
+    ensures each { HasEach body.now work.new }
     ensures grows { OnOk result (IsReady body.now → Grows body.now.program work.old work.new) }
     ensures found { OnOk result (IsReady body.now → Contains body.now.method.handlers handler.now
         → StaysFound body.now place.now.at work.old work.new) }
@@ -323,11 +281,8 @@ fn throw_to_handlers(
     work: &mut Work,
     place: &PlaceRef,
 ) -> Result<(), NoMemory>
-    requires place { place_of body.now place.now.at ≡ Some place.now }
-    requires frames { length work.old.frames ≡ length body.now.method.insns }
-    requires marks { length work.old.marks ≡ length body.now.method.insns }
-    ensures frames { length work.new.frames ≡ length body.now.method.insns }
-    ensures marks { length work.new.marks ≡ length body.now.method.insns }
+    requires { StandsIn body.now place.now work.old }
+    ensures each { HasEach body.now work.new }
     ensures grows { OnOk result (IsReady body.now → Grows body.now.program work.old work.new) }
     ensures found { OnOk result (IsReady body.now → StaysFound body.now place.now.at work.old work.new) }
     ensures sent { OnOk result (IsReady body.now
@@ -346,10 +301,8 @@ fn throw_to_handlers(
 /// Looks at an instruction: where its frame meets the rules that ask nothing of other instructions, what it leaves and
 /// what it throws flow on.
 pub fn look_at(alloc: Global, body: &Body, work: &mut Work, at: u32) -> Result<(), NoMemory>
-    requires frames { length work.old.frames ≡ length body.now.method.insns }
-    requires marks { length work.old.marks ≡ length body.now.method.insns }
-    ensures frames { length work.new.frames ≡ length body.now.method.insns }
-    ensures marks { length work.new.marks ≡ length body.now.method.insns }
+    requires { HasEach body.now work.old }
+    ensures each { HasEach body.now work.new }
     ensures grows { OnOk result (IsReady body.now → Grows body.now.program work.old work.new) }
     ensures found { OnOk result (IsReady body.now → StaysFound body.now at work.old work.new) }
     ensures done { OnOk result (IsReady body.now → (above : Frames) → RowIsMet body.now above at → AreFound body.now above work.old

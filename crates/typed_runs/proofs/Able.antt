@@ -20,9 +20,9 @@ use Rattle.guest_heap.specs.declared.thread.Thread.{Thread}
 use Rattle.guest_model.specs.declared.machine.Machine.{Machine}
 use Rattle.guest_model.specs.Places.{insn_at}
 use Rattle.guest_model.proofs.Options.{some_and}
-use Rattle.guest_machine.specs.Changes.{world_of}
-use Rattle.guest_machine.specs.Moving.{CanDo, CanDoNext, CanRun, CanWork, HasOne, IsObject, IsReference}
-use Rattle.guest_machine.specs.Stepping.{Acting, heap_in}
+use Rattle.guest_model.specs.Changes.{world_of}
+use Rattle.guest_model.specs.Moving.{CanDo, CanDoNext, CanRun, CanWork, HasOne, IsObject, IsReference}
+use Rattle.guest_model.specs.Stepping.{Acting, heap_in}
 use Rattle.typed_runs.specs.Frames.{AreWaiting, IsReady, stands_at}
 use Rattle.typed_runs.specs.Machines.{CanBegin, MachineFits}
 use Rattle.typed_runs.specs.Programs.{IsTypedProgram}

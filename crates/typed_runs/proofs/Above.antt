@@ -23,7 +23,7 @@ use Rattle.bytecode_model.specs.SearchOrder.{Name, interfaces_above, interfaces_
 use Rattle.bytecode_model.proofs.Ending.{unnamed_up}
 use Rattle.bytecode_model.proofs.Upwards.{named_behind, named_passes, same_of}
 use Rattle.type_lattice.proofs.Orders.{Fit, equal, top, interface, under, array_second, fits, seen}
-use Rattle.guest_machine.specs.Layout.{class_given}
+use Rattle.guest_model.specs.Layout.{class_given}
 use Rattle.typed_runs.specs.Programs.{IsTypedProgram}
 use Rattle.typed_runs.proofs.Listed.{all_both, all_from, all_mapped, all_more, any_cases, any_of, built_in_known, find_none, given_apart, given_found, given_head, given_unlisted, is_closed, known_not_given, listed_closed, object_built_in, runnable_built_in}
 

@@ -38,18 +38,17 @@ use Rattle.guest_model.specs.Answers.{may_throw}
 use Rattle.guest_model.specs.Calls.{Taken}
 use Rattle.guest_model.specs.Monitors.{all_given_up, entered, left}
 use Rattle.guest_model.specs.Places.{insn_at}
-use Rattle.guest_frames.specs.Stepping.{after, moved_to}
-use Rattle.guest_model.specs.Stepping.{bad_monitor, null_pointer}
-use Rattle.guest_frames.specs.Stepping.{frame_stepped}
+use Rattle.guest_frames.specs.Stepping.{after, moved_to, frame_stepped}
+use Rattle.guest_model.specs.Parts.{bad_monitor, null_pointer}
 use Rattle.guest_frames.specs.Values.{is_null}
 use Rattle.guest_model.proofs.Options.{IfThere, if_either, if_mapped, if_none, if_some, if_then}
-use Rattle.guest_machine.specs.Calling.{calls}
-use Rattle.guest_machine.specs.Changes.{Change, World, goes, returned, with_monitors, world_of}
-use Rattle.guest_machine.specs.Enabled.{passed_by}
-use Rattle.guest_machine.specs.Kinds.{class_of_value}
-use Rattle.guest_machine.specs.Moving.{IsReadyToCall}
-use Rattle.guest_machine.specs.Stepping.{Acting, acts_on, acts_throwing, comes_to, enters, heap_in, heap_stepped, insn_stepped, leaves, left_with, returns, throws_top, works as works_on}
-use Rattle.guest_machine.specs.Working.{Worked, worked}
+use Rattle.guest_model.specs.Calling.{calls}
+use Rattle.guest_model.specs.Changes.{Change, World, goes, returned, with_monitors, world_of}
+use Rattle.guest_model.specs.Enabled.{passed_by}
+use Rattle.guest_model.specs.Kinds.{class_of_value}
+use Rattle.guest_model.specs.Moving.{IsReadyToCall}
+use Rattle.guest_model.specs.Stepping.{Acting, acts_on, acts_throwing, comes_to, enters, heap_in, heap_stepped, insn_stepped, leaves, left_with, returns, throws_top, works as works_on}
+use Rattle.guest_model.specs.Working.{Worked, worked}
 use Rattle.typed_runs.specs.Fitting.{fits_type, is_of}
 use Rattle.typed_runs.specs.Frames.{AreWaiting, IsReady, stands_at}
 use Rattle.typed_runs.specs.Machines.{CanBegin, MachineFits}

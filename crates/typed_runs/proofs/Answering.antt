@@ -30,9 +30,9 @@ use Rattle.guest_heap.specs.declared.value.Value.TheVariants as values
 use Rattle.guest_model.specs.Answers.{fits_number, is_number_of}
 use Rattle.guest_model.specs.Throwing.{bare_object}
 use Rattle.guest_frames.specs.Values.{is_null}
-use Rattle.guest_machine.specs.Answering.{answer_fits, given, is_listed_class, is_no_object, is_of as is_of_result, of_class as of_result, result_class, takes_text, thrown_by}
-use Rattle.guest_machine.specs.Changes.{World, with_object}
-use Rattle.guest_machine.specs.Kinds.{class_of_object, class_of_value, is_instance, string}
+use Rattle.guest_model.specs.Answering.{answer_fits, given, is_listed_class, is_no_object, is_of as is_of_result, of_class as of_result, result_class, takes_text, thrown_by}
+use Rattle.guest_model.specs.Changes.{World, with_object}
+use Rattle.guest_model.specs.Kinds.{class_of_object, class_of_value, is_instance, string}
 use Rattle.guest_model.proofs.Options.{all_get}
 use Rattle.typed_runs.specs.Fitting.{ObjectFits, fits_made, is_of, is_there}
 use Rattle.typed_runs.specs.Programs.{IsTypedProgram}

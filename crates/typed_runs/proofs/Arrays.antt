@@ -21,9 +21,9 @@ use Rattle.type_lattice.proofs.Arrays.{component_itself}
 use Rattle.type_lattice.proofs.Orders.{top, interface, under, Leaf, same, classes, itself, seen, fits, array_equal, leaf_seen, at_leaf, named_apart, never_both}
 use Rattle.guest_heap.specs.declared.object.Object.{Object}
 use Rattle.guest_heap.specs.declared.value.Value.{Value}
-use Rattle.guest_machine.specs.Kinds.{class_of_value, implements, class_is, leaf_is, component_is, array_is, is_kind_of, is_instance}
-use Rattle.guest_machine.specs.Layout.{is_of_references}
-use Rattle.guest_machine.specs.Working.{has_items}
+use Rattle.guest_model.specs.Kinds.{class_of_value, implements, class_is, leaf_is, component_is, array_is, is_kind_of, is_instance}
+use Rattle.guest_model.specs.Layout.{is_of_references}
+use Rattle.guest_model.specs.Working.{has_items}
 use Rattle.typed_runs.specs.Fitting.{is_of}
 use Rattle.typed_runs.proofs.Types.{held, holds_at}
 

@@ -29,14 +29,13 @@ use Rattle.guest_heap.specs.declared.object.Object.{Object}
 use Rattle.guest_heap.specs.declared.object.Object.TheVariants as objects
 use Rattle.guest_heap.specs.declared.value.Value.{Value}
 use Rattle.guest_heap.specs.declared.value.Value.TheVariants as values
-use Rattle.guest_model.specs.Runs.{first_heap, inner}
-use Rattle.guest_model.specs.Stepping.{main_argument}
+use Rattle.guest_model.specs.Runs.{first_heap, inner, initialiser_of, initialisers, start_of}
+use Rattle.guest_model.specs.Parts.{main_argument}
 use Rattle.guest_model.specs.Throwing.{bare_object}
 use Rattle.guest_model.proofs.Options.{all_append, and_then_of, map_of, some_and, some_is}
-use Rattle.guest_machine.specs.Finding.{Given, declared_in}
-use Rattle.guest_machine.specs.Kinds.{class_of_object, class_of_value}
-use Rattle.guest_machine.specs.Layout.{constant_bytes, first_value, is_of_references, starting_value, statics_of, two_bytes, value_of_constant, value_told}
-use Rattle.guest_machine.specs.Runs.{initialiser_of, initialisers, start_of}
+use Rattle.guest_model.specs.Finding.{Given, declared_in}
+use Rattle.guest_model.specs.Kinds.{class_of_object, class_of_value}
+use Rattle.guest_model.specs.Layout.{constant_bytes, first_value, is_of_references, starting_value, statics_of, two_bytes, value_of_constant, value_told}
 use Rattle.typed_runs.specs.Fitting.{ObjectFits, StaticsFit, fits_made, static_types}
 use Rattle.typed_runs.specs.Machines.{BeginsRight, CanBegin, MachineFits}
 use Rattle.typed_runs.specs.Programs.{IsTypedProgram}

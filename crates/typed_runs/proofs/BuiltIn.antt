@@ -31,17 +31,17 @@ use Rattle.guest_heap.specs.declared.thread.Thread.{Thread}
 use Rattle.guest_heap.specs.declared.value.Value.{Value}
 use Rattle.guest_heap.specs.declared.value.Value.TheVariants as values
 use Rattle.guest_model.specs.declared.machine.Machine.{Machine}
-use Rattle.guest_model.specs.Stepping.{number_in}
+use Rattle.guest_model.specs.Parts.{number_in}
 use Rattle.guest_model.proofs.Options.{IfThere, if_either, if_none, if_some, if_then, map_of, some_and, some_is}
-use Rattle.guest_machine.specs.declared.builtin.Builtin.{Builtin}
-use Rattle.guest_machine.specs.declared.builtin.Builtin.TheVariants as builtins
-use Rattle.guest_machine.specs.Builtins.{builtin_at, builtin_of_row, characters}
-use Rattle.guest_machine.specs.Calling.{Calling, aimed_at, aims, begun_thread, built_in, goes_past, has_ended, joined, joins, on_receiver, run_of, runs, runs_object, runs_target, second_start, started, started_as, starts, stopped_by, target_of, thread_of_value, with_begun, with_changed}
-use Rattle.guest_machine.specs.Changes.{Change, World, with_heap, world_of}
-use Rattle.guest_machine.specs.Finding.{Given}
-use Rattle.guest_machine.specs.Kinds.{class_of_object}
-use Rattle.guest_machine.specs.Moving.{HasOne, IsNumber, IsObject, IsOnObject, IsReadyToRun, IsReference}
-use Rattle.guest_machine.specs.Seen.{string_of}
+use Rattle.guest_model.specs.declared.builtin.Builtin.{Builtin}
+use Rattle.guest_model.specs.declared.builtin.Builtin.TheVariants as builtins
+use Rattle.guest_model.specs.Builtins.{builtin_at, builtin_of_row, characters}
+use Rattle.guest_model.specs.Calling.{Calling, aimed_at, aims, begun_thread, built_in, goes_past, has_ended, joined, joins, on_receiver, run_of, runs, runs_object, runs_target, second_start, started, started_as, starts, stopped_by, target_of, thread_of_value, with_begun, with_changed}
+use Rattle.guest_model.specs.Changes.{Change, World, with_heap, world_of}
+use Rattle.guest_model.specs.Finding.{Given}
+use Rattle.guest_model.specs.Kinds.{class_of_object}
+use Rattle.guest_model.specs.Moving.{HasOne, IsNumber, IsObject, IsOnObject, IsReadyToRun, IsReference}
+use Rattle.guest_model.specs.Seen.{string_of}
 use Rattle.typed_runs.specs.Fitting.{ObjectFits, fits_made}
 use Rattle.typed_runs.specs.Frames.{AreWaiting, IsReady, stands_at}
 use Rattle.typed_runs.specs.Machines.{CanBegin, MachineFits, ThreadFits}

@@ -24,14 +24,14 @@ use Rattle.guest_model.specs.declared.machine.Choice.{Choice}
 use Rattle.guest_model.specs.declared.machine.Choice.TheVariants as choices
 use Rattle.guest_model.specs.Answers.{may_throw}
 use Rattle.guest_model.specs.Calls.{types_of, types_read}
-use Rattle.guest_model.specs.Stepping.{null_pointer}
+use Rattle.guest_model.specs.Parts.{null_pointer}
 use Rattle.guest_model.specs.Throwing.{bare_object}
 use Rattle.guest_model.proofs.Options.{and_then_of, map_of, some_is}
-use Rattle.guest_machine.specs.Answering.{answer_fits, answered, answered_well, given, returned_by, thrown_by, thrown_by_library}
-use Rattle.guest_machine.specs.Changes.{Change, World, with_object}
-use Rattle.guest_machine.specs.Moving.{CanTake, HasRoom}
-use Rattle.guest_machine.specs.Seen.{value_shown}
-use Rattle.guest_machine.specs.Stepping.{call_stepped, is_on_null, null_thrown}
+use Rattle.guest_model.specs.Answering.{answer_fits, answered, answered_well, given, returned_by, thrown_by, thrown_by_library}
+use Rattle.guest_model.specs.Changes.{Change, World, with_object}
+use Rattle.guest_model.specs.Moving.{CanTake, HasRoom}
+use Rattle.guest_model.specs.Seen.{value_shown}
+use Rattle.guest_model.specs.Stepping.{call_stepped, is_on_null, null_thrown}
 use Rattle.typed_runs.specs.Fitting.{is_there}
 use Rattle.typed_runs.specs.Frames.{AreWaiting}
 use Rattle.typed_runs.specs.Machines.{BeginsRight, CanBegin}

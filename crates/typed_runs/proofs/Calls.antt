@@ -33,13 +33,13 @@ use Rattle.guest_heap.specs.declared.value.Value.{Value}
 use Rattle.guest_model.specs.declared.machine.Machine.{Machine}
 use Rattle.guest_model.specs.Places.{method_at}
 use Rattle.guest_frames.specs.Stepping.{after, moved_to}
-use Rattle.guest_model.specs.Stepping.{null_pointer, running}
+use Rattle.guest_model.specs.Parts.{null_pointer, running}
 use Rattle.guest_frames.specs.Values.{is_null}
 use Rattle.guest_model.proofs.Options.{IfThere, if_mapped, if_none, if_some, if_then}
-use Rattle.guest_machine.specs.Calling.{Calling, begun_thread, call_throws, goes_past, lacked, lacking, on_receiver, run_of, runs, runs_target, target_of, waiting}
-use Rattle.guest_machine.specs.Changes.{Change, World, ended_thread, ends_thread, enters_method, frame_of, goes, lock_of, lock_taken, with_monitors, world_of}
-use Rattle.guest_machine.specs.Finding.{Given, client_run, is_run}
-use Rattle.guest_machine.specs.Kinds.{class_of_value, is_thread}
+use Rattle.guest_model.specs.Calling.{Calling, begun_thread, call_throws, goes_past, lacked, lacking, on_receiver, run_of, runs, runs_target, target_of, waiting}
+use Rattle.guest_model.specs.Changes.{Change, World, ended_thread, ends_thread, enters_method, frame_of, goes, lock_of, lock_taken, with_monitors, world_of}
+use Rattle.guest_model.specs.Finding.{Given, client_run, is_run}
+use Rattle.guest_model.specs.Kinds.{class_of_value, is_thread}
 use Rattle.typed_runs.specs.Fitting.{fits_made, fits_type, is_of}
 use Rattle.typed_runs.specs.Frames.{AreRunning, AreWaiting, IsReady, stands_at}
 use Rattle.typed_runs.specs.Machines.{CanBegin, MachineFits, ThreadFits}

@@ -21,10 +21,10 @@ use Rattle.guest_model.specs.declared.machine.Machine.{Machine}
 use Rattle.guest_model.specs.Calls.{Taken, arity, taken}
 use Rattle.guest_model.specs.Places.{method_at}
 use Rattle.guest_model.proofs.Options.{IfThere, and_then_of, if_some, some_and}
-use Rattle.guest_machine.specs.Calling.{calls, calls_given, calls_named, desc_named, is_static_call}
-use Rattle.guest_machine.specs.Changes.{Change}
-use Rattle.guest_machine.specs.Enabled.{passed_by}
-use Rattle.guest_machine.specs.Moving.{IsReadyToCall}
+use Rattle.guest_model.specs.Calling.{calls, calls_given, calls_named, desc_named, is_static_call}
+use Rattle.guest_model.specs.Changes.{Change}
+use Rattle.guest_model.specs.Enabled.{passed_by}
+use Rattle.guest_model.specs.Moving.{IsReadyToCall}
 use Rattle.typed_runs.specs.Frames.{AreWaiting, IsReady, stands_at}
 use Rattle.typed_runs.specs.Machines.{CanBegin, MachineFits}
 use Rattle.typed_runs.specs.Programs.{IsTypedProgram}

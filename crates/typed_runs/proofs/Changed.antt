@@ -21,9 +21,9 @@ use Rattle.guest_heap.specs.declared.object.Object.{Object}
 use Rattle.guest_heap.specs.declared.thread.Thread.{Thread}
 use Rattle.guest_model.specs.Answers.{may_throw}
 use Rattle.guest_model.specs.Calls.{types_of}
-use Rattle.guest_machine.specs.Changes.{Change, World, ended_thread, goes, with_event}
-use Rattle.guest_machine.specs.Numbers.{is_of_numbers}
-use Rattle.guest_machine.specs.Working.{Worked}
+use Rattle.guest_model.specs.Changes.{Change, World, ended_thread, goes, with_event}
+use Rattle.guest_model.specs.Numbers.{is_of_numbers}
+use Rattle.guest_model.specs.Working.{Worked}
 use Rattle.typed_runs.specs.Fitting.{fits_type, HeapFits, StaticsFit}
 use Rattle.typed_runs.specs.Frames.{AreRunning}
 use Rattle.typed_runs.specs.Growing.{Grows}

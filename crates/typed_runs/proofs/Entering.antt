@@ -25,11 +25,11 @@ use Rattle.guest_heap.specs.declared.object.Object.{Object}
 use Rattle.guest_heap.specs.declared.value.Value.{Value}
 use Rattle.guest_heap.specs.declared.value.Value.TheVariants as values
 use Rattle.guest_model.specs.Calls.{arity}
-use Rattle.guest_model.specs.Stepping.{main_argument}
+use Rattle.guest_model.specs.Parts.{main_argument}
 use Rattle.guest_frames.specs.Values.{is_null}
 use Rattle.guest_model.proofs.Options.{and_then_of}
-use Rattle.guest_machine.specs.Changes.{frame_begun, frame_of, rests}
-use Rattle.guest_machine.specs.Finding.{Given}
+use Rattle.guest_model.specs.Changes.{frame_begun, frame_of, rests}
+use Rattle.guest_model.specs.Finding.{Given}
 use Rattle.typed_runs.specs.Fitting.{fits_made, fits_type}
 use Rattle.typed_runs.specs.Frames.{AreRunning, AreWaiting}
 use Rattle.typed_runs.specs.Machines.{BeginsRight, CanBegin, ThreadFits}

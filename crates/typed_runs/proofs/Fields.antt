@@ -43,10 +43,10 @@ use Rattle.guest_heap.specs.Heap.{with_value_at}
 use Rattle.guest_model.proofs.Options.{some_and}
 use Rattle.guest_model.specs.Runs.{inner}
 use Rattle.guest_frames.specs.Values.{is_null}
-use Rattle.guest_machine.specs.Changes.{World, with_heap, with_statics}
-use Rattle.guest_machine.specs.Layout.{place_of_field}
-use Rattle.guest_machine.specs.Moving.{HasOne, HasPlaceAt, HasTwo, IsAny, IsNullOr, NamesField, NamesOwnStatic}
-use Rattle.guest_machine.specs.Working.{Worked, on_object, place_named, reads_static, worked}
+use Rattle.guest_model.specs.Changes.{World, with_heap, with_statics}
+use Rattle.guest_model.specs.Layout.{place_of_field}
+use Rattle.guest_model.specs.Moving.{HasOne, HasPlaceAt, HasTwo, IsAny, IsNullOr, NamesField, NamesOwnStatic}
+use Rattle.guest_model.specs.Working.{Worked, on_object, place_named, reads_static, worked}
 use Rattle.typed_runs.specs.Fitting.{HeapFits, ObjectFits, StaticsFit, field_types, fits_made, is_just, is_of, static_types}
 use Rattle.typed_runs.specs.Frames.{IsReady}
 use Rattle.typed_runs.specs.Machines.{BeginsRight}

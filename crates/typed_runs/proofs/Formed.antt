@@ -28,8 +28,8 @@ use Rattle.conspec_automaton.specs.Range.{is_between}
 use Rattle.guest_model.specs.Answers.{is_number_of, fits_number}
 use Rattle.guest_model.specs.Calls.{types_of}
 use Rattle.guest_model.proofs.Options.{all_get, find_is, map_of}
-use Rattle.guest_machine.specs.Numbers.{IsWordSeen, IsReturned, IsInRange, SeesInRange, is_of_numbers, is_primitive}
-use Rattle.guest_machine.specs.Runs.{trace}
+use Rattle.guest_model.specs.Numbers.{IsWordSeen, IsReturned, IsInRange, SeesInRange, is_of_numbers, is_primitive}
+use Rattle.guest_model.specs.Runs.{trace}
 use Rattle.typed_runs.specs.Formed.{SeesWellFormed, TellsTypes}
 use Rattle.typed_runs.proofs.Called.{there_and}
 use Rattle.typed_runs.proofs.Changed.{ArePassedNumbers, PassesNumbers}

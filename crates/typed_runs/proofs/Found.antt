@@ -22,7 +22,7 @@ use Rattle.bytecode_model.proofs.Lists.{some_is}
 use Rattle.bytecode_model.proofs.Upwards.{is_up, one_named, of_same, same_of, up_from}
 use Rattle.guest_model.specs.Places.{method_at}
 use Rattle.guest_model.proofs.Options.{and_then_of, map_of}
-use Rattle.guest_machine.specs.Finding.{Given, declared_in, declared_up, given_index, if_run, is_above, is_run_by_objects, method_itself, method_of_class, nearest_given}
+use Rattle.guest_model.specs.Finding.{Given, declared_in, declared_up, given_index, if_run, is_above, is_run_by_objects, method_itself, method_of_class, nearest_given}
 use Rattle.typed_runs.specs.Programs.{IsTypedProgram}
 use Rattle.typed_runs.proofs.Above.{below_fits}
 use Rattle.typed_runs.proofs.Listed.{count, given_head, given_name, given_parent, up_below}

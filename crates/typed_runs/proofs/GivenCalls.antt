@@ -35,11 +35,11 @@ use Rattle.guest_heap.specs.declared.value.Value.{Value}
 use Rattle.guest_model.specs.declared.machine.Machine.{Machine}
 use Rattle.guest_frames.specs.Values.{is_null}
 use Rattle.guest_model.proofs.Options.{if_then}
-use Rattle.guest_machine.specs.Calling.{Calling, calls_given, enters_of, enters_on, lacked, on_receiver, waiting}
-use Rattle.guest_machine.specs.Changes.{Change, World, enters_method}
-use Rattle.guest_machine.specs.Finding.{Given, method_of_class, method_run}
-use Rattle.guest_machine.specs.Kinds.{class_of_value}
-use Rattle.guest_machine.specs.Moving.{IsReceived}
+use Rattle.guest_model.specs.Calling.{Calling, calls_given, enters_of, enters_on, lacked, on_receiver, waiting}
+use Rattle.guest_model.specs.Changes.{Change, World, enters_method}
+use Rattle.guest_model.specs.Finding.{Given, method_of_class, method_run}
+use Rattle.guest_model.specs.Kinds.{class_of_value}
+use Rattle.guest_model.specs.Moving.{IsReceived}
 use Rattle.typed_runs.specs.Fitting.{fits_made, fits_type, is_of}
 use Rattle.typed_runs.specs.Frames.{AreWaiting, IsReady}
 use Rattle.typed_runs.specs.Machines.{CanBegin, MachineFits}

@@ -34,8 +34,7 @@ use Rattle.code_typing.proofs.Moving.{effect_typed}
 use Rattle.guest_heap.specs.declared.frame.Frame.{Frame}
 use Rattle.guest_heap.specs.declared.object.Object.{Object}
 use Rattle.guest_heap.specs.declared.value.Value.{Value}
-use Rattle.guest_frames.specs.Stepping.{fitted, moved_to}
-use Rattle.guest_frames.specs.Stepping.{frame_stepped}
+use Rattle.guest_frames.specs.Stepping.{fitted, moved_to, frame_stepped}
 use Rattle.guest_frames.specs.Values.{values_moved, values_seen}
 use Rattle.typed_runs.specs.Fitting.{fits_type}
 use Rattle.typed_runs.specs.Frames.{AreRunning, AreWaiting, IsReady, Stands, stands_at}

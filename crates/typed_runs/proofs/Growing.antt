@@ -27,10 +27,10 @@ use Rattle.guest_heap.specs.declared.value.Value.{Value}
 use Rattle.guest_heap.specs.declared.value.Value.TheVariants as values
 use Rattle.guest_model.proofs.Options.{all_set}
 use Rattle.guest_model.specs.Runs.{inner}
-use Rattle.guest_model.specs.Stepping.{main_argument}
+use Rattle.guest_model.specs.Parts.{main_argument}
 use Rattle.guest_frames.specs.Values.{is_null, is_number}
-use Rattle.guest_machine.specs.Calling.{with_changed}
-use Rattle.guest_machine.specs.Kinds.{class_of_object, class_of_value}
+use Rattle.guest_model.specs.Calling.{with_changed}
+use Rattle.guest_model.specs.Kinds.{class_of_object, class_of_value}
 use Rattle.typed_runs.specs.Fitting.{HeapFits, ObjectFits, StaticsFit, field_types, fits_made, fits_type, is_just, is_of, is_there, static_types}
 use Rattle.typed_runs.specs.Frames.{AreRunning, AreWaiting, IsReady, IsWaiting}
 use Rattle.typed_runs.specs.Growing.{Grows}

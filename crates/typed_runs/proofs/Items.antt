@@ -33,10 +33,10 @@ use Rattle.guest_heap.specs.declared.value.Value.TheVariants as values
 use Rattle.guest_heap.specs.Heap.{with_value_at}
 use Rattle.guest_model.proofs.Options.{all_set}
 use Rattle.guest_frames.specs.Values.{fits, is_null, is_number, is_reference}
-use Rattle.guest_machine.specs.Changes.{World, with_heap}
-use Rattle.guest_machine.specs.Kinds.{is_instance}
-use Rattle.guest_machine.specs.Moving.{HasItems, IsArray, IsNullOr}
-use Rattle.guest_machine.specs.Working.{ArrayAt, Worked, bad_item, bad_place, has_items, item_kind, item_read, item_written, kept, kept_number, may_hold, on_array, on_items, place_among}
+use Rattle.guest_model.specs.Changes.{World, with_heap}
+use Rattle.guest_model.specs.Kinds.{is_instance}
+use Rattle.guest_model.specs.Moving.{HasItems, IsArray, IsNullOr}
+use Rattle.guest_model.specs.Working.{ArrayAt, Worked, bad_item, bad_place, has_items, item_kind, item_read, item_written, kept, kept_number, may_hold, on_array, on_items, place_among}
 use Rattle.typed_runs.specs.Fitting.{HeapFits, ObjectFits, StaticsFit, fits_made}
 use Rattle.typed_runs.specs.Frames.{IsReady}
 use Rattle.typed_runs.specs.Programs.{IsTypedProgram}

@@ -39,9 +39,9 @@ use Rattle.guest_model.specs.declared.machine.Machine.{Machine}
 use Rattle.guest_model.specs.Calls.{types_of, types_read}
 use Rattle.guest_frames.specs.Values.{is_null, is_number}
 use Rattle.guest_model.proofs.Options.{all_append, some_and, some_is}
-use Rattle.guest_machine.specs.Calling.{calls_library, waiting}
-use Rattle.guest_machine.specs.Numbers.{is_of_numbers, is_primitive}
-use Rattle.guest_machine.specs.Seen.{value_shown, values_shown}
+use Rattle.guest_model.specs.Calling.{calls_library, waiting}
+use Rattle.guest_model.specs.Numbers.{is_of_numbers, is_primitive}
+use Rattle.guest_model.specs.Seen.{value_shown, values_shown}
 use Rattle.typed_runs.specs.Fitting.{fits_made, fits_type, is_of, is_there}
 use Rattle.typed_runs.specs.Frames.{AreWaiting, IsReady}
 use Rattle.typed_runs.specs.Machines.{CanBegin, MachineFits}

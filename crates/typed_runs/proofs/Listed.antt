@@ -20,7 +20,7 @@ use Rattle.bytecode_model.specs.SearchOrder.{Name}
 use Rattle.bytecode_model.specs.Sound.{IsSoundClass}
 use Rattle.bytecode_model.proofs.Lists.{some_is, all_get}
 use Rattle.bytecode_model.proofs.Upwards.{is_up, up_from, one_named, named_behind, named_passes, named_so, same_of, of_same}
-use Rattle.guest_machine.specs.Layout.{class_given}
+use Rattle.guest_model.specs.Layout.{class_given}
 use Rattle.typed_runs.specs.Programs.{IsTypedProgram}
 
 -- ---- lists and tests

@@ -23,7 +23,7 @@ use Rattle.guest_heap.specs.declared.object.Object.TheVariants as objects
 use Rattle.guest_heap.specs.declared.value.Value.{Value}
 use Rattle.guest_heap.specs.declared.value.Value.TheVariants as values
 use Rattle.guest_frames.specs.Values.{is_null}
-use Rattle.guest_machine.specs.Kinds.{class_of_object, class_of_value, string}
+use Rattle.guest_model.specs.Kinds.{class_of_object, class_of_value, string}
 use Rattle.typed_runs.specs.Fitting.{HeapFits, ObjectFits, field_types, fits_made}
 use Rattle.typed_runs.specs.Programs.{IsTypedProgram}
 use Rattle.typed_runs.proofs.Above.{good_interface, interface_is, under_given}

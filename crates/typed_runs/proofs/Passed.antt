@@ -45,10 +45,10 @@ use Rattle.guest_heap.specs.declared.object.Object.{Object}
 use Rattle.guest_heap.specs.declared.value.Value.{Value}
 use Rattle.guest_model.specs.Calls.{Taken, arity, taken as taken_by_call, types_of, types_read}
 use Rattle.guest_model.specs.Places.{method_at}
-use Rattle.guest_machine.specs.Calling.{desc_named, is_static_call}
+use Rattle.guest_model.specs.Calling.{desc_named, is_static_call}
 use Rattle.guest_model.proofs.Options.{some_and}
-use Rattle.guest_machine.specs.Enabled.{passed_by}
-use Rattle.guest_machine.specs.Moving.{IsObject}
+use Rattle.guest_model.specs.Enabled.{passed_by}
+use Rattle.guest_model.specs.Moving.{IsObject}
 use Rattle.typed_runs.specs.Fitting.{fits_made, fits_type}
 use Rattle.typed_runs.specs.Frames.{IsReady, stands_at}
 use Rattle.typed_runs.specs.Programs.{IsTypedProgram}

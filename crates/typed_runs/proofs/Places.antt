@@ -25,7 +25,7 @@ use Rattle.bytecode_model.specs.SearchOrder.{Name}
 use Rattle.bytecode_model.proofs.Upwards.{is_up, one_named, up_from, same_of}
 use Rattle.guest_heap.specs.declared.object.Object.{Object}
 use Rattle.guest_heap.specs.declared.value.Value.TheVariants as values
-use Rattle.guest_machine.specs.Layout.{class_given, fields_of, fields_up, first_value, is_in_objects, new_of, own_fields, place_of_field}
+use Rattle.guest_model.specs.Layout.{class_given, fields_of, fields_up, first_value, is_in_objects, new_of, own_fields, place_of_field}
 use Rattle.typed_runs.specs.Fitting.{ObjectFits, field_types, fits_made, own_types, types_up}
 use Rattle.typed_runs.specs.Programs.{IsTypedProgram}
 use Rattle.typed_runs.proofs.Above.{given_below, given_heads, heads_are}

@@ -31,10 +31,10 @@ use Rattle.guest_heap.specs.declared.object.Object.{Object}
 use Rattle.guest_heap.specs.declared.thread.Thread.{Thread}
 use Rattle.guest_heap.specs.declared.value.Value.{Value}
 use Rattle.guest_frames.specs.Stepping.{after, moved_to}
-use Rattle.guest_model.specs.Stepping.{result_of}
+use Rattle.guest_model.specs.Parts.{result_of}
 use Rattle.guest_frames.specs.Values.{fits}
-use Rattle.guest_machine.specs.Changes.{Change, World, goes, rests_now, returned, with_event}
-use Rattle.guest_machine.specs.Moving.{CanReturn, HasOne, HasRoom, IsNumber, IsReference}
+use Rattle.guest_model.specs.Changes.{Change, World, goes, rests_now, returned, with_event}
+use Rattle.guest_model.specs.Moving.{CanReturn, HasOne, HasRoom, IsNumber, IsReference}
 use Rattle.typed_runs.specs.Fitting.{fits_made, fits_type}
 use Rattle.typed_runs.specs.Frames.{AreRunning, AreWaiting, IsReady, IsWaiting, stands_at}
 use Rattle.typed_runs.specs.Machines.{BeginsRight, CanBegin}

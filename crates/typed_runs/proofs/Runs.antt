@@ -17,11 +17,11 @@ use Rattle.guest_model.specs.declared.machine.Choice.TheVariants as choices
 use Rattle.guest_model.specs.declared.machine.Machine.{Machine}
 use Rattle.guest_model.specs.declared.machine.Step.{Step}
 use Rattle.guest_model.proofs.Options.{IfThere, all_append, all_get, all_set, and_then_of, if_none}
-use Rattle.guest_machine.specs.Changes.{Change, applied, world_of}
-use Rattle.guest_machine.specs.Enabled.{IsEnabled, MayStep}
-use Rattle.guest_machine.specs.Moving.{CanRun, EnabledIsMade, IsAble}
-use Rattle.guest_machine.specs.Runs.{exec_from, seen, start_of, stepped_or_same, trace, trace_from}
-use Rattle.guest_machine.specs.Stepping.{changed, doing_stepped, frames_stepped, stepped}
+use Rattle.guest_model.specs.Changes.{Change, applied, world_of}
+use Rattle.guest_model.specs.Enabled.{IsEnabled, MayStep}
+use Rattle.guest_model.specs.Moving.{CanRun, EnabledIsMade, IsAble}
+use Rattle.guest_model.specs.Runs.{exec_from, seen, start_of, stepped_or_same, trace, trace_from}
+use Rattle.guest_model.specs.Stepping.{changed, doing_stepped, frames_stepped, stepped}
 use Rattle.typed_runs.specs.Frames.{AreRunning}
 use Rattle.typed_runs.specs.Machines.{FramesFit, MachineFits, ThreadFits}
 use Rattle.typed_runs.specs.Programs.{IsTypedProgram}

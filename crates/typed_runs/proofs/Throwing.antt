@@ -29,12 +29,12 @@ use Rattle.guest_heap.specs.declared.value.Value.TheVariants as values
 use Rattle.guest_model.specs.Answers.{may_throw}
 use Rattle.guest_model.specs.Places.{method_at}
 use Rattle.guest_frames.specs.Stepping.{moved_to}
-use Rattle.guest_model.specs.Stepping.{thrown_thread}
+use Rattle.guest_model.specs.Parts.{thrown_thread}
 use Rattle.guest_model.specs.Throwing.{bare_object, catches, caught_in, handler_of, unwound}
 use Rattle.guest_frames.specs.Values.{is_null}
 use Rattle.guest_model.proofs.Options.{and_then_of, find_is, some_is}
-use Rattle.guest_machine.specs.Changes.{World, throws, throws_new}
-use Rattle.guest_machine.specs.Finding.{Given}
+use Rattle.guest_model.specs.Changes.{World, throws, throws_new}
+use Rattle.guest_model.specs.Finding.{Given}
 use Rattle.typed_runs.specs.Fitting.{fits_type, is_of}
 use Rattle.typed_runs.specs.Frames.{AreRunning, AreWaiting, LocalsFit, Stands}
 use Rattle.typed_runs.specs.Growing.{Grows}

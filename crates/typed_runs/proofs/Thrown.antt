@@ -20,12 +20,12 @@ use Rattle.guest_heap.specs.declared.object.Object.{Object}
 use Rattle.guest_heap.specs.declared.value.Value.{Value}
 use Rattle.guest_heap.specs.declared.value.Value.TheVariants as values
 use Rattle.guest_model.specs.Answers.{may_throw}
-use Rattle.guest_model.specs.Stepping.{bad_monitor, null_pointer}
+use Rattle.guest_model.specs.Parts.{bad_monitor, null_pointer}
 use Rattle.guest_model.specs.Throwing.{bare_object}
-use Rattle.guest_machine.specs.Calling.{second_start}
-use Rattle.guest_machine.specs.Kinds.{class_of_object, class_of_value}
-use Rattle.guest_machine.specs.Layout.{class_given}
-use Rattle.guest_machine.specs.Working.{bad_cast, bad_division, bad_item, bad_place, bad_size}
+use Rattle.guest_model.specs.Calling.{second_start}
+use Rattle.guest_model.specs.Kinds.{class_of_object, class_of_value}
+use Rattle.guest_model.specs.Layout.{class_given}
+use Rattle.guest_model.specs.Working.{bad_cast, bad_division, bad_item, bad_place, bad_size}
 use Rattle.typed_runs.specs.Fitting.{HeapFits, ObjectFits, field_types, fits_made, is_of, types_up}
 use Rattle.typed_runs.specs.Programs.{IsTypedProgram}
 use Rattle.typed_runs.proofs.Above.{below_fits}

@@ -30,8 +30,8 @@ use Rattle.guest_heap.specs.declared.object.Object.{Object}
 use Rattle.guest_heap.specs.declared.value.Value.{Value}
 use Rattle.guest_heap.specs.declared.value.Value.TheVariants as values
 use Rattle.guest_frames.specs.Values.{is_null, is_number, is_reference, values_moved}
-use Rattle.guest_machine.specs.Kinds.{class_of_object, class_of_value}
-use Rattle.guest_machine.specs.Moving.{IsNumber, IsObject, IsOf, IsReference}
+use Rattle.guest_model.specs.Kinds.{class_of_object, class_of_value}
+use Rattle.guest_model.specs.Moving.{IsNumber, IsObject, IsOf, IsReference}
 use Rattle.typed_runs.specs.Fitting.{fits_made, fits_type, is_just, is_of}
 
 -- ---- what may be there

@@ -14,9 +14,9 @@ use Rattle.bytecode_model.specs.Rules.{taken}
 use Rattle.bytecode_model.specs.Uses.{UsesAreShaped}
 use Rattle.bytecode_model.specs.Wants.{takes, takes_of}
 use Rattle.guest_heap.specs.declared.frame.Frame.{Frame}
-use Rattle.guest_machine.specs.Changes.{World}
-use Rattle.guest_machine.specs.Moving.{HasRoomFor, IsReadyFor, pushed_by, taken_by}
-use Rattle.guest_machine.specs.Working.{worked}
+use Rattle.guest_model.specs.Changes.{World}
+use Rattle.guest_model.specs.Moving.{HasRoomFor, IsReadyFor, pushed_by, taken_by}
+use Rattle.guest_model.specs.Working.{worked}
 use Rattle.typed_runs.specs.Fitting.{HeapFits, StaticsFit, fits_type}
 use Rattle.typed_runs.specs.Frames.{IsReady, stands_at}
 use Rattle.typed_runs.specs.Machines.{BeginsRight}

@@ -37,13 +37,13 @@ use Rattle.guest_heap.specs.declared.object.Object.TheVariants as objects
 use Rattle.guest_heap.specs.declared.value.Value.{Value}
 use Rattle.guest_heap.specs.declared.value.Value.TheVariants as values
 use Rattle.guest_model.specs.Places.{class_index}
-use Rattle.guest_model.specs.Stepping.{constant_value}
+use Rattle.guest_model.specs.Parts.{constant_value}
 use Rattle.guest_frames.specs.Values.{is_number, is_reference}
-use Rattle.guest_machine.specs.Changes.{World, with_object}
-use Rattle.guest_machine.specs.Kinds.{class_of_object, class_of_value, is_instance, string}
-use Rattle.guest_machine.specs.Layout.{first_value, new_of}
-use Rattle.guest_machine.specs.Moving.{IsReadyFor}
-use Rattle.guest_machine.specs.Working.{Worked, array_made, bad_cast, is_cast, quotient, truth, worked}
+use Rattle.guest_model.specs.Changes.{World, with_object}
+use Rattle.guest_model.specs.Kinds.{class_of_object, class_of_value, is_instance, string}
+use Rattle.guest_model.specs.Layout.{first_value, new_of}
+use Rattle.guest_model.specs.Moving.{IsReadyFor}
+use Rattle.guest_model.specs.Working.{Worked, array_made, bad_cast, is_cast, quotient, truth, worked}
 use Rattle.typed_runs.specs.Fitting.{HeapFits, ObjectFits, StaticsFit, fits_made, fits_type}
 use Rattle.typed_runs.specs.Frames.{IsReady, stands_at}
 use Rattle.typed_runs.specs.Programs.{IsTypedProgram}

@@ -21,8 +21,8 @@ use Rattle.guest_heap.specs.declared.object.Object.{Object}
 use Rattle.guest_heap.specs.declared.object.Object.TheVariants as objects
 use Rattle.guest_heap.specs.declared.value.Value.{Value}
 use Rattle.guest_frames.specs.Values.{is_null, is_number}
-use Rattle.guest_machine.specs.Kinds.{class_of_value}
-use Rattle.guest_machine.specs.Layout.{class_given, is_in_objects}
+use Rattle.guest_model.specs.Kinds.{class_of_value}
+use Rattle.guest_model.specs.Layout.{class_given, is_in_objects}
 
 -- ---- values
 

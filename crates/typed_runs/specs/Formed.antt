@@ -16,7 +16,7 @@ use Rattle.conspec_automaton.specs.Building.{built}
 use Rattle.conspec_automaton.specs.Events.{IsWellFormed}
 use Rattle.guest_model.specs.declared.machine.Step.{Step}
 use Rattle.guest_model.specs.Calls.{types_of}
-use Rattle.guest_machine.specs.Runs.{trace}
+use Rattle.guest_model.specs.Runs.{trace}
 use Rattle.typed_runs.specs.Programs.{IsTypedProgram}
 
 -- The clause tells the kinds of the arguments and of the result of its method.

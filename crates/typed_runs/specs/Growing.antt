@@ -1,7 +1,7 @@
 -- How a heap grows: objects come, none goes, and each keeps its class.
 use Rattle.std.specs.Prelude.{◌≡◌, ℕ, List, slice_get, Some, option_map}
 use Rattle.guest_heap.specs.declared.object.Object.{Object}
-use Rattle.guest_machine.specs.Kinds.{class_of_object}
+use Rattle.guest_model.specs.Kinds.{class_of_object}
 
 abbrev pub Grows : List Object → List Object → Type 0
 Grows heap new =

@@ -19,8 +19,8 @@ use Rattle.guest_heap.specs.declared.value.Value.TheVariants as values
 use Rattle.guest_model.specs.declared.machine.Machine.{Machine}
 use Rattle.guest_model.specs.Places.{method_at}
 use Rattle.guest_model.specs.Runs.{inner}
-use Rattle.guest_model.specs.Stepping.{main_argument}
-use Rattle.guest_machine.specs.Finding.{Given}
+use Rattle.guest_model.specs.Parts.{main_argument}
+use Rattle.guest_model.specs.Finding.{Given}
 use Rattle.typed_runs.specs.Fitting.{is_just, is_there, HeapFits, StaticsFit}
 use Rattle.typed_runs.specs.Frames.{AreRunning, AreWaiting}
 

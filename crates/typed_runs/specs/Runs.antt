@@ -3,9 +3,9 @@ use Rattle.std.specs.Prelude.{List, IsSome}
 use Rattle.cert_format.specs.declared.typing.Typing.{Typing}
 use Rattle.bytecode_model.specs.declared.program.Program.{Program}
 use Rattle.guest_model.specs.declared.machine.Step.{Step}
-use Rattle.guest_machine.specs.Enabled.{IsEnabled}
-use Rattle.guest_machine.specs.Runs.{exec}
-use Rattle.guest_machine.specs.Stepping.{stepped}
+use Rattle.guest_model.specs.Enabled.{IsEnabled}
+use Rattle.guest_model.specs.Runs.{exec}
+use Rattle.guest_model.specs.Stepping.{stepped}
 use Rattle.typed_runs.specs.Machines.{MachineFits}
 use Rattle.typed_runs.specs.Programs.{IsTypedProgram}
 

@@ -4,7 +4,7 @@ ghost use Rattle.typed_runs.specs.Formed.{PoliciesTellTypes, SeesWellFormed};
 ghost use Rattle.typed_runs.specs.Runs.{RunsFit, NeverStuck};
 
 use bytecode_model::uses_are_shaped;
-use guest_machine::{enabled_steps_are_made, sees_numbers_in_range};
+use guest_model::{enabled_steps_are_made, sees_numbers_in_range};
 
 /// After every list of steps the machine is as the typing says, so that no operand is missing and none is of a wrong kind;
 /// and each step that is enabled by the rules is made.

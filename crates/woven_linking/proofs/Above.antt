@@ -12,7 +12,7 @@ use Rattle.api_listing.specs.Listing.{is_known}
 use Rattle.api_listing.specs.Nearest.{class_named, upwards, names_of, interfaces_of}
 use Rattle.bytecode_model.specs.Conditions.{stays_within, runs_in_circle}
 use Rattle.bytecode_model.specs.SearchOrder.{Name, is_one_of, interfaces_above, with_name, with_above, reached, search_order}
-use Rattle.bytecode_model.proofs.Lists.{or_none}
+use Rattle.bytecode_model.proofs.Lists.{all_append, or_none}
 use Rattle.bytecode_model.proofs.Placing.{test_cases, same_name}
 
 -- ---- names
@@ -226,3 +226,57 @@ module _ (classes : List ListedClass) (s : ListedClass) (parents : AllByRecursio
         let two : begin us ≡ names_of us ++ reached (length (interfaces_of us) + length (interfaces_of classes)) (classes ++ s ∷ []) [] (interfaces_of us) =
         ap (λ (xs : List Name). names_of us ++ reached (length (interfaces_of us) + length xs) (classes ++ s ∷ []) [] (interfaces_of us)) interfaces_same in
         one ∙ two ∙ ap (λ (xs : List Name). names_of us ++ xs) (reached_same (length (interfaces_of us) + length (interfaces_of classes)) [] (interfaces_of us))
+
+-- ---- the names in which is searched
+
+-- The names that the class says are such names.
+abbrev pub SaysOnly : (Name → Type 0) → ListedClass → Type 0
+SaysOnly P c = P c.name × AllByRecursion P c.interfaces
+
+module _ (P : Name → Type 0) (classes : List ListedClass) (say : AllByRecursion (SaysOnly P) classes) where
+  upwards_say : (n : ℕ) (name : Name) → AllByRecursion (SaysOnly P) (upwards n classes name)
+  upwards_say zero name = tt
+  upwards_say (suc n) name = by (class_named classes name) refl (λ parent. upwards_say n parent) where
+    by : (o : Option ListedClass) → class_named classes name ≡ o → ((parent : Name) → AllByRecursion (SaysOnly P) (upwards n classes parent))
+        → AllByRecursion (SaysOnly P) (option_map_or (λ (c : ListedClass). c ∷ upwards n classes c.parent) o [])
+    by None is later = tt
+    by (Some c) is later = ((found_fits (has_name name) (SaysOnly P) classes c say is).0, later c.parent)
+
+  names_say : (cs : List ListedClass) → AllByRecursion (SaysOnly P) cs → AllByRecursion P (names_of cs)
+  names_say [] h = tt
+  names_say (c ∷ cs) h = (h.0.0, names_say cs h.1)
+
+  interfaces_say : (cs : List ListedClass) → AllByRecursion (SaysOnly P) cs → AllByRecursion P (interfaces_of cs)
+  interfaces_say [] h = tt
+  interfaces_say (c ∷ cs) h = all_append P c.interfaces (interfaces_of cs) h.0.1 (interfaces_say cs h.1)
+
+  above_say : (name : Name) → AllByRecursion P (interfaces_above classes name)
+  above_say name = by (class_named classes name) refl where
+    by : (o : Option ListedClass) → class_named classes name ≡ o → AllByRecursion P (option_map_or (λ (c : ListedClass). c.interfaces) o [])
+    by None is = tt
+    by (Some c) is = (found_fits (has_name name) (SaysOnly P) classes c say is).0.1
+
+  name_says : (found : List Name) (name : Name) → AllByRecursion P found → P name → AllByRecursion P (with_name found name)
+  name_says found name h p = by (is_one_of found name) where
+    by : (b : Bool) → AllByRecursion P (if b then found else found ++ name ∷ [])
+    by true = h
+    by false = all_append P found (name ∷ []) h (p, tt)
+
+  waiting_say : (found : List Name) (name : Name) (waiting : List Name) → AllByRecursion P waiting → AllByRecursion P (with_above classes found name waiting)
+  waiting_say found name waiting h = by (is_one_of found name) where
+    by : (b : Bool) → AllByRecursion P (if b then waiting else waiting ++ interfaces_above classes name)
+    by true = h
+    by false = all_append P waiting (interfaces_above classes name) h (above_say name)
+
+  reached_say : (n : ℕ) (found waiting : List Name) → AllByRecursion P found → AllByRecursion P waiting → AllByRecursion P (reached n classes found waiting)
+  reached_say zero found waiting f w = f
+  reached_say (suc n) found [] f w = f
+  reached_say (suc n) found (name ∷ waiting) f w =
+      reached_say n (with_name found name) (with_above classes found name waiting) (name_says found name f w.0) (waiting_say found name waiting w.1)
+
+  pub search_says : (name : Name) → AllByRecursion P (search_order classes name)
+  search_says name =
+      let up = upwards (length classes) classes name in
+      let above = upwards_say (length classes) name in
+      let n = length (interfaces_of up) + length (interfaces_of classes) in
+      all_append P (names_of up) (reached n classes [] (interfaces_of up)) (names_say up above) (reached_say n [] (interfaces_of up) tt (interfaces_say up above))

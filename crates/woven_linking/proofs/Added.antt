@@ -1,11 +1,11 @@
 -- What is known, searched, declared and written down in a program stays the same with conspec/State behind its classes.
-use Rattle.std.proofs.Common.{◌≡◌, ◌≢◌, ℕ, suc, ◌+◌, Bool, true, false, ◌||◌, ◌&&◌, List, [], ◌∷◌, ◌++◌, length, Option, Some, None, Ok, refl, sym, ap, subst, ◌∙◌, append_assoc}
-use Rattle.std.specs.Prelude.{bytes_eq, not}
+use Rattle.std.proofs.Common.{◌≡◌, ◌≢◌, ℕ, suc, ◌+◌, Bool, true, false, ◌||◌, ◌&&◌, List, [], ◌∷◌, ◌++◌, length, map, Option, Some, None, Ok, refl, sym, ap, subst, ◌∙◌, append_assoc, append-nil, arith}
+use Rattle.std.specs.Prelude.{◌<◌, ◌≤◌, ◌^◌, bytes_eq, not, slice_get, if◌then◌else◌}
 use Rattle.std.specs.List.{AllByRecursion, list_all}
 use Rattle.std.specs.Option.{option_map_or, option_or}
 use Rattle.std.proofs.lemmas.Bool.{false≢true}
-use Rattle.std.proofs.lemmas.List.{length-append}
-use Rattle.std.proofs.lemmas.List.Folds.{list_any-append}
+use Rattle.std.proofs.lemmas.List.{length-append, length-map}
+use Rattle.std.proofs.lemmas.List.Folds.{find-append, list_any-append}
 use Rattle.class_codec.specs.declared.tree.ClassFile.{ClassFile}
 use Rattle.class_codec.specs.declared.tree.Const.{Const}
 use Rattle.class_codec.specs.declared.tree.Member.{Member}
@@ -15,7 +15,7 @@ use Rattle.api_listing.specs.declared.types.ListedMethod.{ListedMethod}
 use Rattle.api_listing.specs.declared.types.Listing.{Listing}
 use Rattle.api_listing.specs.BuiltIn.{object, class_rows, built_in_classes, method_rows, is_method}
 use Rattle.api_listing.specs.Listing.{is_known, has_method}
-use Rattle.api_listing.specs.Nearest.{class_named}
+use Rattle.api_listing.specs.Nearest.{class_named, upwards, names_of, interfaces_of}
 use Rattle.api_listing.specs.Words.{is_class_name}
 use Rattle.bytecode_model.specs.declared.members.Found.{Found}
 use Rattle.bytecode_model.specs.declared.members.MemberKind.{MemberKind}
@@ -24,21 +24,27 @@ use Rattle.bytecode_model.specs.declared.program.Side.TheVariants as sides
 use Rattle.bytecode_model.specs.declared.program.Target.TheVariants as target
 use Rattle.bytecode_model.specs.Conditions.{stays_within, runs_in_circle, stands_below, is_good_interface, has_supers, is_super, is_above}
 use Rattle.class_linking.specs.ClassConditions.{classes_linked}
-use Rattle.bytecode_model.specs.Heads.{head_of, heads_of, all_classes}
-use Rattle.bytecode_model.specs.Members.{Declared, members_from, file_members, given_from, listed_from, listed_fields_from, rows_from, methods_declared, fields_declared, first_of, first_found, method_of}
-use Rattle.bytecode_model.specs.SearchOrder.{Name, search_order}
+use Rattle.bytecode_model.specs.Heads.{class_at, head_of, heads_of, all_classes}
+use Rattle.bytecode_model.specs.Members.{Declared, members_from, members_of, file_members, given_from, listed_from, listed_fields_from, rows_from, methods_declared, fields_declared, first_of, first_found, in_class, method_of, field_of}
+use Rattle.bytecode_model.specs.SearchOrder.{Name, interfaces_from, search_order}
 use Rattle.class_index.proofs.Declaring.{first_of-append}
-use Rattle.bytecode_model.proofs.Lists.{all_append, not_true}
+use Rattle.bytecode_model.proofs.Lists.{all_append, not_true, or_none}
 use Rattle.bytecode_model.proofs.Placing.{same_name}
-use Rattle.offset_patch.specs.Entries.{state_name}
-use Rattle.block_template.specs.Outcome.{Each, way_out, way_out_index}
-use Rattle.inline_release.proofs.Above.{has_name, find_none, found_fits, other_name, and_both, Ends, ordered, climbs, leaves, order_same}
-use Rattle.inline_release.proofs.Free.{class_free}
-use Rattle.inline_release.proofs.Kept.{IsKept}
-use Rattle.inline_release.proofs.Listed.{IsListed, nameless}
-use Rattle.inline_release.proofs.Named.{IsAdded}
-use Rattle.inline_release.proofs.Same.{bare_state, state_methods, state_fields, state_strings, heads_kept, given_kept, literals_kept}
-use Rattle.inline_release.proofs.Standing.{or_left, or_right, state_head, state_says, state_head_name, state_head_alone, IsGood, all_good, none_taken, classes_stand}
+use Rattle.conspec_tree.specs.declared.types.Var.{Var}
+use Rattle.mon_base.specs.declared.method.MethodId.{MethodId}
+use Rattle.offset_patch.specs.Entries.{state_name, variable_name, variable_type}
+use Rattle.class_weaving.specs.State.{state_file}
+use Rattle.woven_linking.proofs.Variables.{variable_found}
+use Rattle.std.proofs.lemmas.Slice.Eq.{bytes_eq-Decides}
+use Rattle.std.proofs.lemmas.Option.{slice_get_within}
+use Rattle.class_weaving.specs.Outcome.{Each, way_out, way_out_index}
+use Rattle.woven_linking.proofs.Above.{SaysOnly, has_name, find_none, found_fits, other_name, and_both, Ends, ordered, climbs, leaves, order_same, search_says}
+use Rattle.woven_linking.proofs.Free.{IsFree, class_free}
+use Rattle.woven_linking.proofs.Kept.{IsKept}
+use Rattle.woven_linking.proofs.Listed.{IsListed, nameless}
+use Rattle.woven_linking.proofs.Named.{IsAdded}
+use Rattle.woven_linking.proofs.Same.{state_methods, state_strings, heads_kept, given_kept, literals_kept}
+use Rattle.woven_linking.proofs.Standing.{or_left, or_right, state_head, state_says, state_head_name, state_head_alone, IsGoodClass, all_good, none_taken, classes_stand}
 
 heads_append : (files : List ClassFile) (s : ClassFile) → heads_of (files ++ s ∷ []) ≡ heads_of files ++ head_of s ∷ []
 heads_append [] s = refl
@@ -97,18 +103,18 @@ row_out = refl
 
 -- ---- who declares the way out
 
-none_of : (kind : MemberKind) (name : Name) (pool : List Const) (class i : ℕ) (ms : List Member) → bytes_eq name way_out.class ≡ false → first_of (members_from kind name pool class i ms) way_out ≡ None
-none_of kind name pool class i [] other = refl
-none_of kind name pool class i (m ∷ ms) other = rw other (none_of kind name pool class (i + 1) ms other)
+none_of : (kind : MemberKind) (name : Name) (pool : List Const) (class i : ℕ) (ms : List Member) (id : MethodId) → bytes_eq name id.class ≡ false → first_of (members_from kind name pool class i ms) id ≡ None
+none_of kind name pool class i [] id other = refl
+none_of kind name pool class i (m ∷ ms) id other = rw other (none_of kind name pool class (i + 1) ms id other)
 
-none_given : (class : ℕ) (files : List ClassFile) → is_known (heads_of files) way_out.class ≡ false → first_of (given_from members.Method class files) way_out ≡ None
-none_given class [] none = refl
-none_given class (file ∷ files) none =
+none_given : (kind : MemberKind) (class : ℕ) (files : List ClassFile) (id : MethodId) → is_known (heads_of files) id.class ≡ false → first_of (given_from kind class files) id ≡ None
+none_given kind class [] id none = refl
+none_given kind class (file ∷ files) id none =
     let c = (head_of file).name in
-    let both = or_none (bytes_eq c way_out.class) (is_known (heads_of files) way_out.class) none in
-    first_of-append (file_members members.Method class file) (given_from members.Method (class + 1) files) way_out
-    ∙ ap (λ (o : Option Found). option_or o (first_of (given_from members.Method (class + 1) files) way_out)) (none_of members.Method c file.pool class 0 file.methods both.0)
-    ∙ none_given (class + 1) files both.1 where
+    let both = or_none (bytes_eq c id.class) (is_known (heads_of files) id.class) none in
+    first_of-append (file_members kind class file) (given_from kind (class + 1) files) id
+    ∙ ap (λ (o : Option Found). option_or o (first_of (given_from kind (class + 1) files) id)) (none_of kind c file.pool class 0 (members_of kind file) id both.0)
+    ∙ none_given kind (class + 1) files id both.1 where
       or_none : (a b : Bool) → (a || b) ≡ false → (a ≡ false) × (b ≡ false)
       or_none true b e = absurd (false≢true (sym e))
       or_none false b e = (refl, e)
@@ -121,9 +127,51 @@ none_listed i (m ∷ ms) e = by (is_method way_out.class way_out.name way_out.de
   by true is e rest = absurd (false≢true (sym e))
   by false is e rest = rw is (rest e)
 
+-- ---- look-ups
+
+-- two ways to look in classes of these names find the same
+found_same : (look other : MethodId → Option Found) (id : MethodId) (P : Name → Type 0) → ((name : Name) → P name → other (in_class id name) ≡ look (in_class id name)) → (names : List Name) → AllByRecursion P names
+    → first_found other id names ≡ first_found look id names
+found_same look other id P same [] h = refl
+found_same look other id P same (name ∷ names) h =
+    ap (λ (o : Option Found). option_or o (first_found other id names)) (same name h.0) ∙ ap (option_or (look (in_class id name))) (found_same look other id P same names h.1)
+
+-- no class has the name, and it stands above none
+both_say : (name : Name) (classes : List ListedClass) → is_known classes name ≡ false → AllByRecursion (λ (c : ListedClass). AllByRecursion (λ other. other ≢ name) c.interfaces) classes
+    → AllByRecursion (SaysOnly (λ other. other ≢ name)) classes
+both_say name [] none h = tt
+both_say name (c ∷ classes) none h =
+    let one = by (bytes_eq c.name name) refl none in
+    ((one.0, h.0), both_say name classes one.1 h.1)
+  where
+    by : (b : Bool) → bytes_eq c.name name ≡ b → (b || is_known classes name) ≡ false → (c.name ≢ name) × (is_known classes name ≡ false)
+    by true e f = absurd (false≢true (sym f))
+    by false e f = (λ same. false≢true (sym e ∙ (bytes_eq-Decides c.name name).1 same), f)
+
+no_interface : list_all (λ (c : ListedClass). list_all (λ name. not (bytes_eq name state_name)) c.interfaces) built_in_classes ≡ true
+unfolding class_rows
+no_interface = refl
+
+each_other : (names : List Name) → list_all (λ name. not (bytes_eq name state_name)) names ≡ true → AllByRecursion (λ name. name ≢ state_name) names
+each_other [] e = tt
+each_other (name ∷ names) e =
+    let both = and_both (not (bytes_eq name state_name)) (list_all (λ other. not (bytes_eq other state_name)) names) e in
+    (λ same. false≢true (sym (not_true (bytes_eq name state_name) both.0) ∙ (bytes_eq-Decides name state_name).1 same), each_other names both.1)
+
+interfaces_other : (classes : List ListedClass) → list_all (λ (c : ListedClass). list_all (λ name. not (bytes_eq name state_name)) c.interfaces) classes ≡ true
+    → AllByRecursion (λ (c : ListedClass). AllByRecursion (λ name. name ≢ state_name) c.interfaces) classes
+interfaces_other [] e = tt
+interfaces_other (c ∷ classes) e =
+    let both = and_both (list_all (λ name. not (bytes_eq name state_name)) c.interfaces) (list_all (λ (d : ListedClass). list_all (λ name. not (bytes_eq name state_name)) d.interfaces) classes) e in
+    (each_other c.interfaces both.0, interfaces_other classes both.1)
+
+indices_other : (pool : List Const) (is : List ℕ) → IsFree pool → AllByRecursion (λ name. name ≢ state_name) (map (class_at pool) is)
+indices_other pool [] free = tt
+indices_other pool (i ∷ is) free = (class_free pool i free, indices_other pool is free)
+
 -- ---- the program
 
-module _ (listing : Listing) (l : IsListed listing) (olds news : List ClassFile) (fits : AllByRecursion CanSpell olds) (kept : Each IsKept olds news)
+module _ (vars : List Var) (few_vars : length vars ≤ 16) (listing : Listing) (l : IsListed listing) (olds news : List ClassFile) (fits : AllByRecursion CanSpell olds) (kept : Each IsKept olds news)
     (good : classes_linked sides.Original (heads_of olds) listing.classes olds ≡ Ok tt) where
   abbrev heads : List ListedClass
   heads = heads_of olds
@@ -132,15 +180,15 @@ module _ (listing : Listing) (l : IsListed listing) (olds news : List ClassFile)
   all = all_classes listing olds
 
   abbrev new_files : List ClassFile
-  new_files = news ++ bare_state ∷ []
+  new_files = news ++ state_file vars ∷ []
 
   new_heads : heads_of new_files ≡ heads ++ state_head ∷ []
-  new_heads = heads_append news bare_state ∙ ap (λ (xs : List ListedClass). xs ++ head_of bare_state ∷ []) (heads_kept olds news fits kept) ∙ ap (λ (h : ListedClass). heads ++ h ∷ []) state_says
+  new_heads = heads_append news (state_file vars) ∙ ap (λ (xs : List ListedClass). xs ++ head_of (state_file vars) ∷ []) (heads_kept olds news fits kept) ∙ ap (λ (h : ListedClass). heads ++ h ∷ []) (state_says vars)
 
   new_classes : all_classes listing new_files ≡ all ++ state_head ∷ []
   new_classes = ap (λ (xs : List ListedClass). listing.classes ++ xs) new_heads ∙ sym (append_assoc listing.classes heads (state_head ∷ []))
 
-  goods : AllByRecursion (IsGood heads) olds
+  goods : AllByRecursion (IsGoodClass heads) olds
   goods = all_good heads listing.classes olds good
 
   -- no given class has a name that is listed
@@ -152,7 +200,7 @@ module _ (listing : Listing) (l : IsListed listing) (olds news : List ClassFile)
 
   -- ---- the way up
 
-  heads_as : (P : ListedClass → Type 0) → ((file : ClassFile) → IsGood heads file → P (head_of file)) → (files : List ClassFile) → AllByRecursion (IsGood heads) files → AllByRecursion P (heads_of files)
+  heads_as : (P : ListedClass → Type 0) → ((file : ClassFile) → IsGoodClass heads file → P (head_of file)) → (files : List ClassFile) → AllByRecursion (IsGoodClass heads) files → AllByRecursion P (heads_of files)
   heads_as P f [] h = tt
   heads_as P f (file ∷ files) h = (f file h.0, heads_as P f files h.1)
 
@@ -218,10 +266,87 @@ module _ (listing : Listing) (l : IsListed listing) (olds news : List ClassFile)
   -- ---- what is declared
 
   methods : methods_declared new_files listing ≡ methods_declared olds listing
-  methods = ap (λ (xs : List Declared). xs ++ (listed_from 0 listing.methods ++ rows_from 0 method_rows)) (given_kept members.Method bare_state state_methods 0 olds news fits kept)
+  methods =
+      let given = given_kept members.Method (state_file vars) 0 olds news fits kept ∙ ap (λ (xs : List Declared). given_from members.Method 0 olds ++ xs) (state_methods vars (0 + length olds)) ∙ append-nil (given_from members.Method 0 olds) in
+      ap (λ (xs : List Declared). xs ++ (listed_from 0 listing.methods ++ rows_from 0 method_rows)) given
 
-  fields : fields_declared new_files listing ≡ fields_declared olds listing
-  fields = ap (λ (xs : List Declared). xs ++ listed_fields_from 0 listing.fields) (given_kept members.Field bare_state state_fields 0 olds news fits kept)
+  -- what is looked for among the fields: those of the files, of conspec/State and of the listing
+  field_looked : (id : MethodId) → first_of (fields_declared new_files listing) id
+      ≡ option_or (option_or (first_of (given_from members.Field 0 olds) id) (first_of (file_members members.Field (0 + length olds) (state_file vars)) id)) (first_of (listed_fields_from 0 listing.fields) id)
+  field_looked id =
+      let own = given_from members.Field 0 olds in
+      let more = file_members members.Field (0 + length olds) (state_file vars) in
+      let listed = listed_fields_from 0 listing.fields in
+      ap (λ (xs : List Declared). first_of (xs ++ listed) id) (given_kept members.Field (state_file vars) 0 olds news fits kept) ∙ first_of-append (own ++ more) listed id
+      ∙ ap (λ (o : Option Found). option_or o (first_of listed id)) (first_of-append own more id)
+
+  state_class_name : class_at (state_file vars).pool (state_file vars).this_class ≡ state_name
+  state_class_name = ap (λ (c : ListedClass). c.name) (state_says vars) ∙ state_head_name
+
+  looks_same : (id : MethodId) (name : Name) → name ≢ state_name → first_of (fields_declared new_files listing) (in_class id name) ≡ first_of (fields_declared olds listing) (in_class id name)
+  looks_same id name other =
+      let it = in_class id name in
+      let own = first_of (given_from members.Field 0 olds) it in
+      let listed = first_of (listed_fields_from 0 listing.fields) it in
+      let differs : bytes_eq (class_at (state_file vars).pool (state_file vars).this_class) name ≡ false = ap (λ (x : Name). bytes_eq x name) state_class_name ∙ other_name state_name name (λ e. other (sym e)) in
+      let none = none_of members.Field (class_at (state_file vars).pool (state_file vars).this_class) (state_file vars).pool (0 + length olds) 0 (state_file vars).fields it differs in
+      field_looked it ∙ ap (λ (o : Option Found). option_or (option_or own o) listed) none ∙ ap (λ (o : Option Found). option_or o listed) (or_none own)
+      ∙ sym (first_of-append (given_from members.Field 0 olds) (listed_fields_from 0 listing.fields) it)
+
+  heads_own : is_known heads state_name ≡ false
+  heads_own = none_named state_name heads (heads_as (λ (c : ListedClass). c.name ≢ state_name) (λ file g. class_free file.pool file.this_class g.free) olds goods)
+
+  all_own : is_known all state_name ≡ false
+  all_own = list_any-append (has_name state_name) listing.classes heads ∙ both_false (is_known listing.classes state_name) (is_known heads state_name) l.free heads_own where
+    both_false : (a b : Bool) → a ≡ false → b ≡ false → (a || b) ≡ false
+    both_false true b e f = e
+    both_false false b e f = f
+
+  all_say : AllByRecursion (SaysOnly (λ name. name ≢ state_name)) all
+  all_say =
+      let listed : AllByRecursion (λ (c : ListedClass). AllByRecursion (λ name. name ≢ state_name) c.interfaces) listing.classes =
+      subst (AllByRecursion (λ (c : ListedClass). AllByRecursion (λ name. name ≢ state_name) c.interfaces)) (sym l.classes)
+      (all_append (λ (c : ListedClass). AllByRecursion (λ name. name ≢ state_name) c.interfaces) built_in_classes l.others (interfaces_other built_in_classes no_interface) l.others_say) in
+      let given = heads_as (λ (c : ListedClass). AllByRecursion (λ name. name ≢ state_name) c.interfaces) (λ file g. indices_other file.pool file.interfaces g.free) olds goods in
+      both_say state_name all all_own (all_append (λ (c : ListedClass). AllByRecursion (λ name. name ≢ state_name) c.interfaces) listing.classes heads listed given)
+
+  fields : (id : MethodId) → id.class ≢ state_name → field_of new_files listing id ≡ field_of olds listing id
+  fields id other =
+      let names = search_order all id.class in
+      ap (first_found (first_of (fields_declared new_files listing)) id) (order id.class other)
+      ∙ found_same (first_of (fields_declared olds listing)) (first_of (fields_declared new_files listing)) id (λ name. name ≢ state_name) (looks_same id) names (search_says (λ name. name ≢ state_name) all all_say id.class)
+
+  -- conspec/State is the first class in which its own fields are looked for
+  state_first : (names : List Name) × (search_order (all_classes listing new_files) state_name ≡ state_name ∷ names)
+  state_first =
+      let more = all ++ state_head ∷ [] in
+      let count : length more ≡ suc (length all) = omega (arith, length-append all (state_head ∷ [])) in
+      let alone : class_named (state_head ∷ []) state_name ≡ Some state_head = ap (λ (name : Name). if bytes_eq name state_name then Some state_head else None) state_head_name in
+      let found : class_named more state_name ≡ Some state_head =
+      find-append (has_name state_name) all (state_head ∷ []) ∙ ap (λ (o : Option ListedClass). option_or o (class_named (state_head ∷ []) state_name)) (find_none (has_name state_name) all all_own) ∙ alone in
+      let above = upwards (length all) more state_head.parent in
+      let up : upwards (length more) more state_name ≡ state_head ∷ above =
+      ap (λ (n : ℕ). upwards n more state_name) count ∙ ap (λ (o : Option ListedClass). option_map_or (λ (c : ListedClass). c ∷ upwards (length all) more c.parent) o []) found in
+      let begin : List ListedClass → List Name = λ cs. names_of cs ++ interfaces_from more (interfaces_of cs) in
+      let rest = names_of above ++ interfaces_from more (interfaces_of (state_head ∷ above)) in
+      (rest, ap (λ (cs : List ListedClass). search_order cs state_name) new_classes ∙ ap begin up ∙ ap (λ (name : Name). name ∷ rest) state_head_name)
+
+  variables : (var : ℕ) (is_bool : Bool) → slice_get (map (λ (v : Var). v.is_bool) vars) var ≡ Some is_bool
+      → field_of new_files listing (record { class = state_name; name = variable_name var; desc = variable_type is_bool }) ≡ Some (record { target = target.Field (length olds) var; is_static = true })
+  variables var is_bool e =
+      let id : MethodId = record { class = state_name; name = variable_name var; desc = variable_type is_bool } in
+      let look = first_of (fields_declared new_files listing) in
+      let within = slice_get_within (map (λ (v : Var). v.is_bool) vars) var is_bool e in
+      let few : var < 2 ^ 64 = omega (arith, within, length-map vars (λ (v : Var). v.is_bool)) in
+      let listed = first_of (listed_fields_from 0 listing.fields) id in
+      let at : 0 + length olds ≡ length olds = omega arith in
+      let own : look id ≡ Some (record { target = target.Field (length olds) var; is_static = true }) =
+      field_looked id
+      ∙ ap (λ (o : Option Found). option_or (option_or o (first_of (file_members members.Field (0 + length olds) (state_file vars)) id)) listed) (none_given members.Field 0 olds id heads_own)
+      ∙ ap (λ (n : ℕ). option_or (first_of (file_members members.Field n (state_file vars)) id) listed) at
+      ∙ ap (λ (o : Option Found). option_or o listed) (variable_found vars (length olds) var is_bool few e) in
+      let first = state_first in
+      ap (first_found look id) first.1 ∙ ap (λ (o : Option Found). option_or o (first_found look id first.0)) own
 
   out : method_of new_files listing way_out ≡ Some (record { target = target.Builtin way_out_index; is_static = true })
   out =
@@ -230,7 +355,7 @@ module _ (listing : Listing) (l : IsListed listing) (olds news : List ClassFile)
       let listed = first_of (listed_from 0 listing.methods ++ rows_from 0 method_rows) way_out in
       let declared : look way_out ≡ Some (record { target = target.Builtin way_out_index; is_static = true }) =
       first_of-append (given_from members.Method 0 olds) (listed_from 0 listing.methods ++ rows_from 0 method_rows) way_out
-      ∙ ap (λ (o : Option Found). option_or o listed) (none_given 0 olds system)
+      ∙ ap (λ (o : Option Found). option_or o listed) (none_given members.Method 0 olds way_out system)
       ∙ first_of-append (listed_from 0 listing.methods) (rows_from 0 method_rows) way_out
       ∙ ap (λ (o : Option Found). option_or o (first_of (rows_from 0 method_rows) way_out)) (none_listed 0 listing.methods l.out) ∙ row_out in
       let first = system_first (l.others ++ heads) in
@@ -238,7 +363,7 @@ module _ (listing : Listing) (l : IsListed listing) (olds news : List ClassFile)
       ∙ ap (first_found look way_out) (order way_out.class system_other ∙ ap (λ (xs : List ListedClass). search_order xs way_out.class) split ∙ first.1)
       ∙ ap (λ (o : Option Found). option_or o (first_found look way_out first.0)) declared
 
-  pub is_added : IsAdded olds new_files listing
+  pub is_added : IsAdded (map (λ (v : Var). v.is_bool) vars) olds new_files listing
   is_added = record {
     known = λ name e. ap (λ (xs : List ListedClass). is_known xs name) new_classes ∙ list_any-append (has_name name) all (state_head ∷ []) ∙ or_left (is_known all name) (is_known (state_head ∷ []) name) e;
     state = ap (λ (xs : List ListedClass). is_known xs state_name) new_classes ∙ list_any-append (has_name state_name) all (state_head ∷ [])
@@ -246,13 +371,13 @@ module _ (listing : Listing) (l : IsListed listing) (olds news : List ClassFile)
     order = order;
     methods = methods;
     fields = fields;
-    literals = literals_kept bare_state state_strings olds news fits kept;
+    variables = variables;
+    literals = literals_kept (state_file vars) (state_strings vars) olds news fits kept;
     out = out;
   }
 
   -- the classes of the new files
   pub new_stand : classes_linked sides.Inlined (heads_of new_files) listing.classes new_files ≡ Ok tt
   new_stand =
-      let own : is_known heads state_name ≡ false = none_named state_name heads (heads_as (λ (c : ListedClass). c.name ≢ state_name) (λ file g. class_free file.pool file.this_class g.free) olds goods) in
       ap (λ (xs : List ListedClass). classes_linked sides.Inlined xs listing.classes new_files) new_heads
-      ∙ classes_stand heads below_other listing.classes olds news fits kept good l.free own (taken object (built_in object built_in_object))
+      ∙ classes_stand vars heads below_other listing.classes olds news fits kept good l.free heads_own (taken object (built_in object built_in_object))

@@ -20,19 +20,19 @@ use Rattle.insn_codec.specs.Writing.{held_by_2, held_by_4, near, far, all_far, r
 use Rattle.insn_codec.proofs.CodeLaws.{spelled_code}
 use Rattle.bytecode_model.specs.declared.program.Method.{Method}
 use Rattle.bytecode_model.specs.Sound.{IsSoundMethod}
-use Rattle.conspec_automaton.specs.declared.policy.Policy.{Policy}
+use Rattle.offset_patch.specs.Fits.{IsSite}
+use Rattle.offset_patch.specs.Plan.{Plan, IsGood}
 use Rattle.offset_patch.specs.declared.block.Block.{Block}
 use Rattle.offset_patch.specs.declared.fault.Size.TheVariants as sizes
 use Rattle.offset_patch.specs.declared.fault.SpliceFault.{SpliceFault}
 use Rattle.offset_patch.specs.Fault.{fitted, code_fitted}
-use Rattle.offset_patch.specs.Splicing.{grown, fronts_of, origins_of, room, spliced, code_with, code_spliced, table_moved}
+use Rattle.offset_patch.specs.Splicing.{grown, fronts_of, origins_of, catching, operands_needed, room, spliced, table_spliced, code_with, bytes_spliced, code_spliced}
 use Rattle.offset_patch.proofs.CodeFits.{room_is, pool_short}
 use Rattle.offset_patch.proofs.InsnFits.{wants_there, parts_fit}
-use Rattle.block_template.specs.Blocks.{site}
-use Rattle.block_template.specs.declared.woven.WovenCode.{WovenCode}
-use Rattle.block_template.specs.Woven.{sites_of, locals_of, blocks_put}
-use Rattle.inline_release.proofs.Aims.{sites_part, spliced_aims, spliced_ends}
-use Rattle.inline_release.proofs.Spells.{refs_fit}
+use Rattle.class_weaving.specs.declared.woven.WovenCode.{WovenCode}
+use Rattle.class_weaving.specs.Woven.{sites_of, locals_of, blocks_put}
+use Rattle.woven_linking.proofs.Aims.{LastAlone, spliced_aims, spliced_ends}
+use Rattle.class_weaving.proofs.Sites.{refs_fit}
 
 -- ---- offsets
 
@@ -110,7 +110,7 @@ pub record IsMadeOf (pool : List Const) (method : Method) (code : Code) (locals 
   pub bytes : List ℕ
   pub short : length pool ≤ 65535
   pub written : written (spliced pool method.insns sites) ≡ Ok bytes
-  pub is : code_with code locals (fronts_of sites) method.handlers (spliced pool method.insns sites) bytes ≡ new
+  pub is : code_with pool method code locals sites (spliced pool method.insns sites) bytes ≡ new
 
 code_is : (class : List ℕ) (method : ℕ) (r : Result (List ℕ) CodeOverflow) (bytes : List ℕ) → code_fitted class method r ≡ Ok bytes → r ≡ Ok bytes
 code_is class method (Ok x) bytes e = ap Ok (ok_is SpliceFault x bytes e)
@@ -122,9 +122,10 @@ made_of : (class : List ℕ) (number : ℕ) (pool : List Const) (method : Method
     → code_spliced class number pool method code locals sites ≡ Ok new → IsMadeOf pool method code locals sites new
 made_of class number pool method code locals sites new e =
     let insns = spliced pool method.insns sites in
-    let made : List ℕ → Code = λ bytes. code_with code locals (fronts_of sites) method.handlers insns bytes in
-    let one = bind_ok (fitted class number sizes.Entries (length code.table)) (λ entries. fitted class number sizes.Pool (length pool) >>= λ count. code_fitted class number (written insns) >>= λ bytes. Ok (made bytes)) new e in
-    let two = bind_ok (fitted class number sizes.Pool (length pool)) (λ count. code_fitted class number (written insns) >>= λ bytes. Ok (made bytes)) new one.2 in
+    let made : List ℕ → Code = λ bytes. code_with pool method code locals sites insns bytes in
+    let last = bytes_spliced class number pool method code locals sites in
+    let one = bind_ok (fitted class number sizes.Entries (length code.table + catching sites)) (λ entries. fitted class number sizes.Pool (length pool) >>= λ count. last) new e in
+    let two = bind_ok (fitted class number sizes.Pool (length pool)) (λ count. last) new one.2 in
     let three = bind_ok (code_fitted class number (written insns)) (λ bytes. Ok (made bytes)) new two.2 in
     record {
       bytes = three.0;
@@ -133,19 +134,21 @@ made_of class number pool method code locals sites new e =
       is = ok_is SpliceFault (made three.0) new three.2;
     }
 
--- What is read of a code that was woven.
-pub record IsRead (policy : Policy) (pool : List Const) (method : Method) (code : Code) (w : WovenCode) : Type 0 where
-  pub entries : w.entries ≡ grown pool (sites_of policy code.max_locals method)
-  pub insns : code_of w.code.code ≡ Ok (spliced w.entries method.insns (sites_of policy code.max_locals method))
-  pub table : w.code.table ≡ table_moved (starts_of (spliced w.entries method.insns (sites_of policy code.max_locals method))) (fronts_of (sites_of policy code.max_locals method)) method.handlers code.table
-  pub max_stack : w.code.max_stack ≡ code.max_stack + 3
-  pub max_locals : w.code.max_locals ≡ code.max_locals + locals_of policy method
+-- What is read of a code that was woven with these blocks.
+pub record IsRead (pool : List Const) (method : Method) (code : Code) (locals : ℕ) (sites : List (Option Block)) (w : WovenCode) : Type 0 where
+  pub fits : AllByRecursion IsSite sites
+  pub entries : w.entries ≡ grown pool sites
+  pub insns : code_of w.code.code ≡ Ok (spliced w.entries method.insns sites)
+  pub table : w.code.table ≡ table_spliced (starts_of (spliced w.entries method.insns sites)) sites method.handlers code.table
+  pub max_stack : w.code.max_stack ≡ code.max_stack + operands_needed
+  pub max_locals : w.code.max_locals ≡ code.max_locals + locals
 
-pub put_reads : (policy : Policy) (class : List ℕ) (number : ℕ) (pool : List Const) (method : Method) (code : Code) (w : WovenCode) → IsSoundMethod method
-    → blocks_put policy class number pool method code (sites_of policy code.max_locals method) ≡ Ok w → IsRead policy pool method code w
-put_reads policy class number pool method code w sound e =
-    let locals = locals_of policy method in
-    let sites = sites_of policy code.max_locals method in
+pub put_reads : (kinds : List Bool) (plan : Plan) → IsGood kinds plan → (class : List ℕ) (number : ℕ) (pool : List Const) (method : Method) (code : Code) (w : WovenCode) → IsSoundMethod method
+    → LastAlone (sites_of plan code.max_locals method) → blocks_put plan class number pool method code (sites_of plan code.max_locals method) ≡ Ok w
+    → IsRead pool method code (locals_of plan method) (sites_of plan code.max_locals method) w
+put_reads kinds plan good class number pool method code w sound last e =
+    let locals = locals_of plan method in
+    let sites = sites_of plan code.max_locals method in
     let all = grown pool sites in
     let made : Code → WovenCode = λ new. record { code = new; entries = all; origins = origins_of sites } in
     let one = bind_ok (room class number code locals) (λ fits. code_spliced class number all method code locals sites >>= λ new. Ok (made new)) w e in
@@ -154,14 +157,14 @@ put_reads policy class number pool method code w sound e =
     let is : made new ≡ w = ok_is SpliceFault (made new) w two.2 in
     let roomy = room_is class number code locals one.1 in
     let h = made_of class number all method code locals sites new two.1 in
-    let fit = refs_fit policy code.max_locals method.refs (omega (arith, roomy.1)) in
-    let count : length sites ≡ length method.insns = length-map method.refs (site policy code.max_locals) ∙ sound.refs in
+    let fit = refs_fit kinds plan good code.max_locals method.refs (omega (arith, roomy.1)) in
+    let count : length sites ≡ length method.insns = length-map method.refs (plan.block code.max_locals) ∙ sound.refs in
     let each = parts_fit all (fronts_of sites) 0 method.insns sites h.short sound.insns fit (wants_there sites pool) in
-    let part = sites_part policy code.max_locals method.refs in
-    let reads = written_reads (spliced all method.insns sites) h.bytes each (spliced_aims all method.insns sites count sound.targets part)
-    (spliced_ends all method.insns sites count sound.ends part) h.written in
+    let reads = written_reads (spliced all method.insns sites) h.bytes each (spliced_aims all method.insns sites count sound.targets last fit)
+    (spliced_ends all method.insns sites count sound.ends last fit) h.written in
     let there : code_of new.code ≡ Ok (spliced all method.insns sites) = ap (λ (c : Code). code_of c.code) (sym h.is) ∙ reads in
-    subst (IsRead policy pool method code) is (record {
+    subst (IsRead pool method code locals sites) is (record {
+      fits = fit;
       entries = refl;
       insns = there;
       table = ap (λ (c : Code). c.table) (sym h.is);

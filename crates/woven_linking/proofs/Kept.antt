@@ -17,19 +17,20 @@ use Rattle.bytecode_model.specs.declared.program.Method.{Method}
 use Rattle.bytecode_model.specs.declared.program.Program.{Program}
 use Rattle.bytecode_model.specs.Conditions.{codes_of, code_in}
 use Rattle.bytecode_model.proofs.Lists.{all_append}
-use Rattle.conspec_automaton.specs.declared.policy.Policy.{Policy}
+use Rattle.offset_patch.specs.Plan.{Plan}
 use Rattle.offset_patch.specs.declared.block.Block.{Block}
 use Rattle.offset_patch.specs.declared.block.PoolWant.{PoolWant}
 use Rattle.offset_patch.specs.declared.block.PoolWant.TheVariants as wants
 use Rattle.offset_patch.specs.declared.fault.SpliceFault.{SpliceFault}
-use Rattle.offset_patch.specs.Entries.{placed, place_of, entry, text, class, name_and_type, method, wanted, with_wants}
+use Rattle.offset_patch.specs.Entries.{placed, place_of, entry, text, class, name_and_type, state_name, variable_name, variable_type, wanted, with_wants}
 use Rattle.offset_patch.specs.Splicing.{wants_of, grown, origins_of, room, code_spliced}
-use Rattle.block_template.specs.State.{state_class}
-use Rattle.block_template.specs.declared.woven.WovenCode.{WovenCode}
-use Rattle.block_template.specs.declared.woven.Members.{Members}
-use Rattle.block_template.specs.declared.woven.Woven.{Woven}
-use Rattle.block_template.specs.Woven.{folded, is_woven, sites_of, locals_of, clients_from, blocks_put, code_woven, first_code, attr_with, member_with, bare_put, code_put, body_woven, member_woven, members_woven, none_made, file_with, file_put, class_woven, classes_woven, state_put, woven}
-use Rattle.block_template.specs.Outcome.{Each, IsWovenAttr, IsWovenMember}
+use Rattle.class_weaving.specs.State.{state_file}
+use Rattle.conspec_tree.specs.declared.types.Var.{Var}
+use Rattle.class_weaving.specs.declared.woven.WovenCode.{WovenCode}
+use Rattle.class_weaving.specs.declared.woven.Members.{Members}
+use Rattle.class_weaving.specs.declared.woven.Woven.{Woven}
+use Rattle.class_weaving.specs.Woven.{folded, is_woven, sites_of, locals_of, clients_from, blocks_put, code_woven, first_code, attr_with, member_with, bare_put, code_put, body_woven, member_woven, members_woven, none_made, file_with, file_put, class_woven, classes_woven, state_put, woven}
+use Rattle.class_weaving.specs.Outcome.{Each, IsWovenAttr, IsWovenMember}
 
 -- ---- a pool that grew
 
@@ -73,15 +74,19 @@ member_longer name desc pool =
     let two = text desc one.0 in
     longer_then pool two.0 (name_and_type name desc pool).0 (longer_then pool one.0 two.0 (text_longer name pool) (text_longer desc one.0)) (entry_longer (constants.NameAndType one.1 two.1) tt two.0)
 
-method_longer : (owner name desc : List ℕ) (pool : List Const) → IsLonger pool (method owner name desc pool).0
-method_longer owner name desc pool =
+-- what has a member of a class
+of_longer : (c : ℕ → ℕ → Const) → ((i j : ℕ) → IsPlain (c i j)) → (owner name desc : List ℕ) (pool : List Const)
+    → IsLonger pool (entry (c (class owner pool).1 (name_and_type name desc (class owner pool).0).1) (name_and_type name desc (class owner pool).0).0).0
+of_longer c plain owner name desc pool =
     let one = class owner pool in
     let two = name_and_type name desc one.0 in
-    longer_then pool two.0 (method owner name desc pool).0 (longer_then pool one.0 two.0 (class_longer owner pool) (member_longer name desc one.0)) (entry_longer (constants.Method one.1 two.1) tt two.0)
+    longer_then pool two.0 (entry (c one.1 two.1) two.0).0 (longer_then pool one.0 two.0 (class_longer owner pool) (member_longer name desc one.0)) (entry_longer (c one.1 two.1) (plain one.1 two.1) two.0)
 
 wanted_longer : (want : PoolWant) (pool : List Const) → IsLonger pool (wanted want pool).0
-wanted_longer wants.StateClass pool = class_longer (codes "conspec/State") pool
-wanted_longer wants.Exit pool = method_longer (codes "java/lang/System") (codes "exit") (codes "(I)V") pool
+wanted_longer wants.StateClass pool = class_longer state_name pool
+wanted_longer (wants.StateField var is_bool) pool = of_longer constants.Field (λ i j. tt) state_name (variable_name var) (variable_type is_bool) pool
+wanted_longer wants.Exit pool = of_longer constants.Method (λ i j. tt) (codes "java/lang/System") (codes "exit") (codes "(I)V") pool
+wanted_longer (wants.Integer n) pool = entry_longer (constants.Integer n) tt pool
 
 wants_longer : (wants : List PoolWant) (pool : List Const) → IsLonger pool (with_wants pool wants)
 wants_longer [] pool = same_pool pool
@@ -135,14 +140,14 @@ pub record IsNext (made next : Members) (member : Member) : Type 0 where
   pub items : next.items ≡ made.items ++ item ∷ []
   pub kept : IsKeptMember member item
 
-code_longer : (policy : Policy) (class : List ℕ) (number : ℕ) (pool : List Const) (m : Method) (code : Code) (w : WovenCode) → code_woven policy class number pool m code ≡ Ok w → IsLonger pool w.entries
-code_longer policy class number pool m code w e = by (is_woven policy m) e where
+code_longer : (plan : Plan) (class : List ℕ) (number : ℕ) (pool : List Const) (m : Method) (code : Code) (w : WovenCode) → code_woven plan class number pool m code ≡ Ok w → IsLonger pool w.entries
+code_longer plan class number pool m code w e = by (is_woven plan m) e where
   sites : List (Option Block)
-  sites = sites_of policy code.max_locals m
+  sites = sites_of plan code.max_locals m
 
-  by : (b : Bool) → (if b then blocks_put policy class number pool m code sites else Ok (record { code = code; entries = pool; origins = clients_from 0 m.insns })) ≡ Ok w → IsLonger pool w.entries
+  by : (b : Bool) → (if b then blocks_put plan class number pool m code sites else Ok (record { code = code; entries = pool; origins = clients_from 0 m.insns })) ≡ Ok w → IsLonger pool w.entries
   by true e =
-      let locals = locals_of policy m in
+      let locals = locals_of plan m in
       let made : Code → WovenCode = λ new. record { code = new; entries = grown pool sites; origins = origins_of sites } in
       let one = bind_ok (room class number code locals) (λ fits. code_spliced class number (grown pool sites) m code locals sites >>= λ new. Ok (made new)) w e in
       let two = bind_ok (code_spliced class number (grown pool sites) m code locals sites) (λ new. Ok (made new)) w one.2 in
@@ -155,17 +160,17 @@ bare_next : (made next : Members) (member : Member) → bare_put made member ≡
 bare_next made next member is =
     subst (λ (x : Members). IsNext made x member) is (record { longer = same_pool made.entries; item = member; items = refl; kept = same_member member })
 
-body_next : (policy : Policy) (class : List ℕ) (made next : Members) (member : Member) (m : Option Method) (c : Option Code) → body_woven policy class made member m c ≡ Ok next → IsNext made next member
-body_next policy class made next member (Some m) (Some code) e =
-    let one = bind_ok (code_woven policy class made.number made.entries m code) (λ w. Ok (code_put made member w)) next e in
+body_next : (plan : Plan) (class : List ℕ) (made next : Members) (member : Member) (m : Option Method) (c : Option Code) → body_woven plan class made member m c ≡ Ok next → IsNext made next member
+body_next plan class made next member (Some m) (Some code) e =
+    let one = bind_ok (code_woven plan class made.number made.entries m code) (λ w. Ok (code_put made member w)) next e in
     subst (λ (x : Members). IsNext made x member) (ok_is SpliceFault (code_put made member one.0) next one.2) (record {
-      longer = code_longer policy class made.number made.entries m code one.0 one.1;
+      longer = code_longer plan class made.number made.entries m code one.0 one.1;
       item = member_with member one.0.code;
       items = refl;
       kept = with_kept member one.0.code;
     })
-body_next policy class made next member None c e = bare_next made next member (ok_is SpliceFault (bare_put made member) next e)
-body_next policy class made next member (Some m) None e = bare_next made next member (ok_is SpliceFault (bare_put made member) next e)
+body_next plan class made next member None c e = bare_next made next member (ok_is SpliceFault (bare_put made member) next e)
+body_next plan class made next member (Some m) None e = bare_next made next member (ok_is SpliceFault (bare_put made member) next e)
 
 -- ---- a file
 
@@ -184,14 +189,14 @@ record AreKept (made last : Members) (members : List Member) : Type 0 where
   are : last.items ≡ made.items ++ items
   kept : Each IsKeptMember members items
 
-members_kept : (policy : Policy) (class : LinkedClass) (members : List Member) (made last : Members) → folded (member_woven policy class) made members ≡ Ok last → AreKept made last members
-members_kept policy class [] made last e =
+members_kept : (plan : Plan) (class : LinkedClass) (members : List Member) (made last : Members) → folded (member_woven plan class) made members ≡ Ok last → AreKept made last members
+members_kept plan class [] made last e =
     subst (λ (x : Members). AreKept made x []) (ok_is SpliceFault made last e) (record { longer = same_pool made.entries; items = []; are = sym (append-nil made.items); kept = tt })
-members_kept policy class (member ∷ members) made last e =
-    let one = bind_ok (member_woven policy class made member) (λ next. folded (member_woven policy class) next members) last e in
+members_kept plan class (member ∷ members) made last e =
+    let one = bind_ok (member_woven plan class made member) (λ next. folded (member_woven plan class) next members) last e in
     let next = one.0 in
-    let first = body_next policy class.name made next member (slice_get class.methods made.number) (first_code member.attrs) one.1 in
-    let rest = members_kept policy class members next last one.2 in
+    let first = body_next plan class.name made next member (slice_get class.methods made.number) (first_code member.attrs) one.1 in
+    let rest = members_kept plan class members next last one.2 in
     record {
       longer = longer_then made.entries next.entries last.entries first.longer rest.longer;
       items = first.item ∷ rest.items;
@@ -200,14 +205,14 @@ members_kept policy class (member ∷ members) made last e =
     }
 
 -- What a class was woven to.
-pub record IsFileOf (policy : Policy) (class : LinkedClass) (file : ClassFile) : Type 0 where
+pub record IsFileOf (plan : Plan) (class : LinkedClass) (file : ClassFile) : Type 0 where
   pub made : Members
-  pub all : members_woven policy class (none_made class.file.pool) class.file.methods ≡ Ok made
+  pub all : members_woven plan class (none_made class.file.pool) class.file.methods ≡ Ok made
   pub is : file_with class.file made.entries made.items ≡ file
 
-pub file_kept : (policy : Policy) (class : LinkedClass) (file : ClassFile) → IsFileOf policy class file → IsKept class.file file
-file_kept policy class file w =
-    let k = members_kept policy class class.file.methods (none_made class.file.pool) w.made w.all in
+pub file_kept : (plan : Plan) (class : LinkedClass) (file : ClassFile) → IsFileOf plan class file → IsKept class.file file
+file_kept plan class file w =
+    let k = members_kept plan class class.file.methods (none_made class.file.pool) w.made w.all in
     subst (IsKept class.file) w.is (record {
       longer = k.longer;
       flags = refl;
@@ -219,30 +224,30 @@ file_kept policy class file w =
     })
 
 -- all but the pool and the methods
-pub file_is : (policy : Policy) (class : LinkedClass) (file : ClassFile) → IsFileOf policy class file → file ≡ file_with class.file file.pool file.methods
-file_is policy class file w = subst (λ (f : ClassFile). f ≡ file_with class.file f.pool f.methods) w.is refl
+pub file_is : (plan : Plan) (class : LinkedClass) (file : ClassFile) → IsFileOf plan class file → file ≡ file_with class.file file.pool file.methods
+file_is plan class file w = subst (λ (f : ClassFile). f ≡ file_with class.file f.pool f.methods) w.is refl
 
 -- ---- the files that are made
 
-classes_made : (policy : Policy) (made last : Woven) (classes : List LinkedClass) → folded (class_woven policy) made classes ≡ Ok last
-    → (files : List ClassFile) × (last.files ≡ made.files ++ files) × Each (IsFileOf policy) classes files
-classes_made policy made last [] e = ([], ap (λ (w : Woven). w.files) (sym (ok_is SpliceFault made last e)) ∙ sym (append-nil made.files), tt)
-classes_made policy made last (class ∷ classes) e =
-    let one = bind_ok (class_woven policy made class) (λ next. folded (class_woven policy) next classes) last e in
-    let two = bind_ok (members_woven policy class (none_made class.file.pool) class.file.methods) (λ done. Ok (file_put made class done)) one.0 one.1 in
+classes_made : (plan : Plan) (made last : Woven) (classes : List LinkedClass) → folded (class_woven plan) made classes ≡ Ok last
+    → (files : List ClassFile) × (last.files ≡ made.files ++ files) × Each (IsFileOf plan) classes files
+classes_made plan made last [] e = ([], ap (λ (w : Woven). w.files) (sym (ok_is SpliceFault made last e)) ∙ sym (append-nil made.files), tt)
+classes_made plan made last (class ∷ classes) e =
+    let one = bind_ok (class_woven plan made class) (λ next. folded (class_woven plan) next classes) last e in
+    let two = bind_ok (members_woven plan class (none_made class.file.pool) class.file.methods) (λ done. Ok (file_put made class done)) one.0 one.1 in
     let file = file_with class.file two.0.entries two.0.items in
     let put : one.0.files ≡ made.files ++ file ∷ [] = ap (λ (w : Woven). w.files) (sym (ok_is SpliceFault (file_put made class two.0) one.0 two.2)) in
-    let later = classes_made policy one.0 last classes one.2 in (
+    let later = classes_made plan one.0 last classes one.2 in (
       file ∷ later.0,
       later.1 ∙ ap (λ (xs : List ClassFile). xs ++ later.0) put ∙ append_assoc made.files (file ∷ []) later.0,
       (record { made = two.0; all = two.1; is = refl }, later.2),
     )
 
-pub files_made : (policy : Policy) (old : Program) (made : Woven) → woven old policy ≡ Ok made
-    → (files : List ClassFile) × (made.files ≡ files ++ state_class policy ∷ []) × Each (IsFileOf policy) old.classes files
-files_made policy old made e =
+pub files_made : (plan : Plan) (vars : List Var) (old : Program) (made : Woven) → woven old plan vars ≡ Ok made
+    → (files : List ClassFile) × (made.files ≡ files ++ state_file vars ∷ []) × Each (IsFileOf plan) old.classes files
+files_made plan vars old made e =
     let none : Woven = record { files = []; origins = [] } in
-    let one = bind_ok (classes_woven policy none old.classes) (λ w. Ok (state_put policy w)) made e in
-    let all = classes_made policy none one.0 old.classes one.1 in
-    let put : made.files ≡ one.0.files ++ state_class policy ∷ [] = ap (λ (w : Woven). w.files) (sym (ok_is SpliceFault (state_put policy one.0) made one.2)) in
-    (all.0, put ∙ ap (λ (xs : List ClassFile). xs ++ state_class policy ∷ []) all.1, all.2)
+    let one = bind_ok (classes_woven plan none old.classes) (λ w. Ok (state_put vars w)) made e in
+    let all = classes_made plan none one.0 old.classes one.1 in
+    let put : made.files ≡ one.0.files ++ state_file vars ∷ [] = ap (λ (w : Woven). w.files) (sym (ok_is SpliceFault (state_put vars one.0) made one.2)) in
+    (all.0, put ∙ ap (λ (xs : List ClassFile). xs ++ state_file vars ∷ []) all.1, all.2)

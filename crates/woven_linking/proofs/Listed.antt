@@ -18,8 +18,8 @@ use Rattle.bytecode_model.proofs.Lists.{not_true}
 use Rattle.bytecode_model.proofs.Names.{same_id}
 use Rattle.bytecode_model.proofs.Placing.{test_cases}
 use Rattle.offset_patch.specs.Entries.{state_name}
-use Rattle.block_template.specs.Outcome.{way_out}
-use Rattle.inline_release.proofs.Above.{has_name, ordered}
+use Rattle.class_weaving.specs.Outcome.{way_out}
+use Rattle.woven_linking.proofs.Above.{and_both, has_name, ordered}
 
 pub record IsListed (listing : Listing) : Type 0 where
   pub others : List ListedClass
@@ -27,6 +27,8 @@ pub record IsListed (listing : Listing) : Type 0 where
   pub placed : ordered built_in_classes others ≡ true
   pub named : AllByRecursion (λ (c : ListedClass). c.name ≢ []) others
   pub free : is_known listing.classes state_name ≡ false
+  -- none says the name of the tool's own class
+  pub others_say : AllByRecursion (λ (c : ListedClass). AllByRecursion (λ name. name ≢ state_name) c.interfaces) others
   pub out : has_method listing.methods way_out ≡ false
 
 and_left : (a b : Bool) → (a && b) ≡ true → a ≡ true
@@ -68,6 +70,37 @@ module _ (listing : Listing) (said : List Declaration) (named : AreNamed listing
       ap (λ (xs : List ListedClass). built_in_classes ++ xs) (filter_map-append class_declared before (Field id class ∷ []) ∙ append-nil (filter_map class_declared before)) in
       subst (λ (xs : List ListedClass). ordered xs (filter_map class_declared after) ≡ true) same
       (placed_from (before ++ Field id class ∷ []) after (split ∙ sym (append_assoc before (Field id class ∷ []) after)))
+
+-- ---- and below interfaces before it
+
+module _ (listing : Listing) (said : List Declaration) (named : AreNamed listing said) (none : is_known (built_in_classes ++ filter_map class_declared said) state_name ≡ false) where
+  -- what is known is another name
+  known_other : (before after : List Declaration) → said ≡ before ++ after → (names : List (List ℕ)) → list_all (is_known (built_in_classes ++ filter_map class_declared before)) names ≡ true
+      → AllByRecursion (λ name. name ≢ state_name) names
+  known_other before after split [] e = tt
+  known_other before after split (name ∷ names) e =
+      let some = built_in_classes ++ filter_map class_declared before in
+      let later = filter_map class_declared after in
+      let all : built_in_classes ++ filter_map class_declared said ≡ some ++ later =
+      ap (λ (xs : List Declaration). built_in_classes ++ filter_map class_declared xs) split ∙ ap (λ (xs : List ListedClass). built_in_classes ++ xs) (filter_map-append class_declared before after)
+      ∙ sym (append_assoc built_in_classes (filter_map class_declared before) later) in
+      let free : (is_known some state_name || is_known later state_name) ≡ false = sym (list_any-append (has_name state_name) some later) ∙ ap (λ (xs : List ListedClass). is_known xs state_name) (sym all) ∙ none in
+      let both = and_both (is_known some name) (list_all (is_known some) names) e in (
+        λ same. false≢true (sym (or_left_none (is_known some state_name) (is_known later state_name) free) ∙ ap (is_known some) (sym same) ∙ both.0),
+        known_other before after split names both.1,
+      ) where
+        or_left_none : (a b : Bool) → (a || b) ≡ false → a ≡ false
+        or_left_none true b e = e
+        or_left_none false b e = refl
+
+  say_from : (before after : List Declaration) → said ≡ before ++ after → AllByRecursion (λ (c : ListedClass). AllByRecursion (λ name. name ≢ state_name) c.interfaces) (filter_map class_declared after)
+  say_from before [] split = tt
+  say_from before (Class c ∷ after) split =
+      let known = is_known (built_in_classes ++ filter_map class_declared before) in
+      let here = and_both (known c.parent) (list_all known c.interfaces) (named before after (Class c) split) in
+      (known_other before (Class c ∷ after) split c.interfaces here.1, say_from (before ++ Class c ∷ []) after (split ∙ sym (append_assoc before (Class c ∷ []) after)))
+  say_from before (Method m types ∷ after) split = say_from (before ++ Method m types ∷ []) after (split ∙ sym (append_assoc before (Method m types ∷ []) after))
+  say_from before (Field id class ∷ after) split = say_from (before ++ Field id class ∷ []) after (split ∙ sym (append_assoc before (Field id class ∷ []) after))
 
 -- ---- names
 
@@ -117,12 +150,14 @@ pub listed : (text : List ℕ) (listing : Listing) → SpellsListing text listin
 listed text listing h =
     let others = filter_map class_declared h.said in
     let are : listing.classes ≡ built_in_classes ++ others = ap (λ (l : Listing). l.classes) h.listed in
+    let none : is_known (built_in_classes ++ others) state_name ≡ false = list_any-append (has_name state_name) built_in_classes others
+    ∙ or_false (is_known built_in_classes state_name) (is_known others state_name) built_in_free (free_from h.said h.once [] h.said refl) in
     record {
       others = others;
       classes = are;
       placed = subst (λ (xs : List ListedClass). ordered xs others ≡ true) (append-nil built_in_classes) (placed_from listing h.said h.named [] h.said refl);
       named = named_from (filter says_something h.lines) h.said h.spelled;
-      free = ap (λ (xs : List ListedClass). is_known xs state_name) are ∙ list_any-append (has_name state_name) built_in_classes others
-          ∙ or_false (is_known built_in_classes state_name) (is_known others state_name) built_in_free (free_from h.said h.once [] h.said refl);
+      free = ap (λ (xs : List ListedClass). is_known xs state_name) are ∙ none;
+      others_say = say_from listing h.said h.named none [] h.said refl;
       out = ap (λ (l : Listing). has_method l.methods way_out) h.listed ∙ out_from h.said h.once [] h.said refl;
     }

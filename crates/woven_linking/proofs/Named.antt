@@ -1,6 +1,7 @@
--- What operands name: a client's the same as before, and a block's the class conspec/State and the way out.
+-- What operands name: a client's the same as before, and a block's what it wants.
 use Rattle.std.proofs.Common.{◌≡◌, ◌≢◌, ℕ, ◌+◌, Bool, true, false, List, [], ◌∷◌, length, map, Option, Some, Result, Ok, Err, refl, sym, ap, subst, ◌∙◌}
-use Rattle.std.specs.Prelude.{slice_get, if◌then◌else◌, ◌&&◌, ok_or, is_ok}
+use Rattle.std.specs.Prelude.{ℤ, ◌==◌, ◌||◌, IsTrue, slice_get, if◌then◌else◌, ◌&&◌, ok_or, is_ok}
+use Rattle.std.proofs.lemmas.Bool.{eqb-true}
 use Rattle.std.specs.Bool.{beq}
 use Rattle.std.specs.List.{AllByRecursion, filter_map}
 use Rattle.mon_base.specs.Reading.{◌>>=◌, need}
@@ -28,37 +29,41 @@ use Rattle.bytecode_model.specs.declared.operand.Use.TheVariants as uses
 use Rattle.bytecode_model.specs.declared.program.Target.{Target}
 use Rattle.bytecode_model.specs.declared.program.Target.TheVariants as target
 use Rattle.bytecode_model.specs.Heads.{all_classes, text_at}
-use Rattle.bytecode_model.specs.Members.{methods_declared, fields_declared, method_of, field_of}
+use Rattle.bytecode_model.specs.Members.{methods_declared, method_of, field_of}
 use Rattle.bytecode_model.specs.Arrays.{is_array}
 use Rattle.bytecode_model.specs.Operands.{known_in, literals_of, element_is_known, id_at, use_of, index_of}
-use Rattle.class_linking.specs.Operands.{array_linked, class_linked, field_fits, field_linked, call_linked, used, is_nothing, operand_linked, told_at}
+use Rattle.class_linking.specs.Operands.{array_linked, class_linked, field_fits, field_linked, call_linked, loaded, used, is_nothing, operand_linked, told_at}
 use Rattle.bytecode_model.specs.SearchOrder.{search_order}
-use Rattle.bytecode_model.proofs.Lists.{all_get}
+use Rattle.bytecode_model.proofs.Lists.{all_append, all_get}
 use Rattle.offset_patch.specs.declared.block.Block.{Block}
 use Rattle.offset_patch.specs.declared.block.BlockInsn.{BlockInsn}
 use Rattle.offset_patch.specs.declared.block.BlockInsn.TheVariants.{Plain, Byte, Short, Local, Want, Jump, Call}
 use Rattle.offset_patch.specs.declared.block.PoolWant.{PoolWant}
 use Rattle.offset_patch.specs.declared.block.PoolWant.TheVariants as wants
-use Rattle.offset_patch.specs.Entries.{state_name, place_in, IsThere}
+use Rattle.offset_patch.specs.Entries.{state_name, variable_name, variable_type, place_in, IsThere}
 use Rattle.offset_patch.specs.Splicing.{part_of, aimed, put, parts_from, want_of, block_wants, wants_of}
-use Rattle.offset_patch.proofs.InsnFits.{split_all}
+use Rattle.offset_patch.proofs.InsnFits.{split_all, site_part}
 use Rattle.offset_patch.proofs.PoolFits.{get_on}
-use Rattle.block_template.specs.Outcome.{Each, way_out, way_out_index, want_named, part_named, parts_named}
-use Rattle.inline_release.proofs.Aims.{IsStill, opcode_for, EndsInCall}
-use Rattle.inline_release.proofs.Free.{IsFree, class_free}
-use Rattle.inline_release.proofs.Kept.{IsLonger}
-use Rattle.inline_release.proofs.Pairs.{each_append}
-use Rattle.inline_release.proofs.Same.{text_longer}
-use Rattle.inline_release.proofs.Texts.{id_on}
-use Rattle.inline_release.proofs.Wanted.{name_told, id_told, state_there, exit_there}
+use Rattle.class_weaving.specs.Outcome.{Each, way_out, way_out_index, want_named, part_named, parts_named}
+use Rattle.offset_patch.specs.Fits.{takes, IsBlockInsn, IsSite}
+use Rattle.offset_patch.specs.Plan.{Plan, IsGood, NamesVariable}
+use Rattle.insn_codec.specs.declared.opcodes.TheConstants.{LDC_W, GETSTATIC, PUTSTATIC, INVOKESTATIC}
+use Rattle.woven_linking.proofs.Free.{IsFree, class_free}
+use Rattle.woven_linking.proofs.Kept.{IsLonger}
+use Rattle.woven_linking.proofs.Pairs.{each_append}
+use Rattle.woven_linking.proofs.Same.{text_longer}
+use Rattle.woven_linking.proofs.Texts.{id_on}
+use Rattle.woven_linking.proofs.Wanted.{name_told, id_told, state_there, field_there, exit_there, number_there}
 
 -- What of others is as it is of the files, and what they have beside it.
-pub record IsAdded (files others : List ClassFile) (listing : Listing) : Type 0 where
+pub record IsAdded (kinds : List Bool) (files others : List ClassFile) (listing : Listing) : Type 0 where
   pub known : (name : List ℕ) → known_in files listing name ≡ true → known_in others listing name ≡ true
   pub state : known_in others listing state_name ≡ true
   pub order : (name : List ℕ) → name ≢ state_name → search_order (all_classes listing others) name ≡ search_order (all_classes listing files) name
   pub methods : methods_declared others listing ≡ methods_declared files listing
-  pub fields : fields_declared others listing ≡ fields_declared files listing
+  pub fields : (id : MethodId) → id.class ≢ state_name → field_of others listing id ≡ field_of files listing id
+  pub variables : (var : ℕ) (is_bool : Bool) → slice_get kinds var ≡ Some is_bool
+      → field_of others listing (record { class = state_name; name = variable_name var; desc = variable_type is_bool }) ≡ Some (record { target = target.Field (length files) var; is_static = true })
   pub literals : literals_of others ≡ literals_of files
   pub out : method_of others listing way_out ≡ Some (record { target = target.Builtin way_out_index; is_static = true })
 
@@ -70,7 +75,7 @@ and_still : (a b c : Bool) → (b ≡ true → c ≡ true) → (a && b) ≡ true
 and_still true b c f e = f e
 and_still false b c f e = e
 
-module _ (files others : List ClassFile) (listing : Listing) (added : IsAdded files others listing) where
+module _ (kinds : List Bool) (files others : List ClassFile) (listing : Listing) (added : IsAdded kinds files others listing) where
   -- ---- classes, fields and methods
 
   element_still : (e : Element) → element_is_known (known_in files listing) e ≡ true → element_is_known (known_in others listing) e ≡ true
@@ -92,9 +97,6 @@ module _ (files others : List ClassFile) (listing : Listing) (added : IsAdded fi
   method_same : (id : MethodId) → id.class ≢ state_name → method_of others listing id ≡ method_of files listing id
   method_same id other = rw (added.methods, added.order id.class other) refl
 
-  field_same : (id : MethodId) → id.class ≢ state_name → field_of others listing id ≡ field_of files listing id
-  field_same id other = rw (added.fields, added.order id.class other) refl
-
   call_same : (static : Bool) (id : MethodId) → id.class ≢ state_name → call_linked others listing static id ≡ call_linked files listing static id
   call_same static id other =
       ap (λ (o : Option Found). need (is_ok (method_type id.desc)) operand.Wrong >>= λ described. ok_or o (operand.Missing id.name) >>= λ found. need (beq found.is_static static) (operand.Missing id.name) >>= λ fits. Ok found.target)
@@ -103,7 +105,7 @@ module _ (files others : List ClassFile) (listing : Listing) (added : IsAdded fi
   access_same : (static writes : Bool) (id : MethodId) → id.class ≢ state_name → field_linked others listing static writes id ≡ field_linked files listing static writes id
   access_same static writes id other =
       ap (λ (o : Option Found). need (is_ok (whole_type id.desc)) operand.Wrong >>= λ described. ok_or o (operand.Missing id.name) >>= λ found. need (field_fits static writes found) (operand.Missing id.name) >>= λ fits. Ok found.target)
-      (field_same id other)
+      (added.fields id other)
 
   -- ---- a client's operand
 
@@ -165,18 +167,24 @@ module _ (files others : List ClassFile) (listing : Listing) (added : IsAdded fi
     abbrev Names : Insn → Target → Type 0
     Names x t = operand_linked others listing pool x ≡ Ok t
 
-    lock_named : IsThere pool wants.StateClass → Names (insns.Pool 0x13 (place_in pool wants.StateClass)) (target.ClassName state_name)
+    -- by an opcode that a constant is loaded by
+    loads : (place : ℕ) (c : Const) (t : Target) → slice_get pool place ≡ Some c → loaded others listing pool c ≡ Ok t → Names (insns.Pool LDC_W place) t
+    loads place c t there is = ap (λ (o : Option Const). ok_or o operand.Wrong >>= used others listing pool uses.Load) there ∙ is
+
+    lock_named : IsThere pool wants.StateClass → Names (insns.Pool LDC_W (place_in pool wants.StateClass)) (target.ClassName state_name)
     lock_named there =
         let c = state_there pool there in
         let named : class_linked false (known_in others listing) state_name ≡ Ok (target.ClassName state_name) = rw added.state refl in
-        ap (λ (o : Option Const). ok_or o operand.Wrong >>= used others listing pool uses.Load) c.there
-        ∙ ap (class_linked false (known_in others listing)) (name_told pool c.at state_name c.named) ∙ named
+        loads (place_in pool wants.StateClass) (constants.Class c.at) (target.ClassName state_name) c.there (ap (class_linked false (known_in others listing)) (name_told pool c.at state_name c.named) ∙ named)
+
+    number_named : (n : ℤ) → IsThere pool (wants.Integer n) → Names (insns.Pool LDC_W (place_in pool (wants.Integer n))) (target.Number n)
+    number_named n there = loads (place_in pool (wants.Integer n)) (constants.Integer n) (target.Number n) (number_there pool n there) refl
 
     way_out_described : is_ok (method_type way_out.desc) ≡ true
     unfolding method_type descriptors.after_first descriptors.arguments_at descriptors.type_at descriptors.element_at descriptors.result_of
     way_out_described = refl
 
-    stop_named : IsThere pool wants.Exit → Names (insns.Pool 0xB8 (place_in pool wants.Exit)) (target.Builtin way_out_index)
+    stop_named : IsThere pool wants.Exit → Names (insns.Pool INVOKESTATIC (place_in pool wants.Exit)) (target.Builtin way_out_index)
     stop_named there =
         let m = exit_there pool there in
         let found : call_linked others listing true way_out ≡ Ok (target.Builtin way_out_index) =
@@ -184,36 +192,86 @@ module _ (files others : List ClassFile) (listing : Listing) (added : IsAdded fi
         added.out
         ∙ ap (λ (b : Bool). need b operand.Wrong >>= λ described. Ok (target.Builtin way_out_index)) way_out_described in
         ap (λ (o : Option Const). ok_or o operand.Wrong >>= used others listing pool (uses.Call true false)) m.there
-        ∙ ap (call_linked others listing true) (id_told pool (place_in pool wants.Exit) way_out.class way_out.name way_out.desc m) ∙ found
+        ∙ ap (call_linked others listing true) (id_told constants.Method pool (place_in pool wants.Exit) way_out.class way_out.name way_out.desc m) ∙ found
 
-    wanted_named : (want : PoolWant) → IsThere pool want → Names (insns.Pool (opcode_for want) (place_in pool want)) (want_named want)
-    wanted_named wants.StateClass there = lock_named there
-    wanted_named wants.Exit there = stop_named there
+    type_described : (is_bool : Bool) → is_ok (whole_type (variable_type is_bool)) ≡ true
+    unfolding whole_type descriptors.type_at descriptors.element_at
+    type_described true = refl
+    type_described false = refl
 
-    part_is_named : (begin : ℕ) (own : Insn) (t : Target) (part : List BlockInsn) → Names own t → AllByRecursion IsStill part → AllByRecursion (IsThere pool) (filter_map want_of part)
-        → Each Names (map (put pool fronts begin own) part) (map (part_named t) part)
-    part_is_named begin own t [] h still w = tt
-    part_is_named begin own t (Plain op ∷ part) h still w = (refl, part_is_named begin own t part h still.1 w)
-    part_is_named begin own t (Byte n ∷ part) h still w = (refl, part_is_named begin own t part h still.1 w)
-    part_is_named begin own t (Short n ∷ part) h still w = (refl, part_is_named begin own t part h still.1 w)
-    part_is_named begin own t (Local op slot wide ∷ part) h still w = (refl, part_is_named begin own t part h still.1 w)
-    part_is_named begin own t (Want op want ∷ part) h still w =
-        let here : Names (insns.Pool op (place_in pool want)) (want_named want) = subst (λ (n : ℕ). Names (insns.Pool n (place_in pool want)) (want_named want)) (sym still.0) (wanted_named want w.0) in
-        (here, part_is_named begin own t part h still.1 w.1)
-    part_is_named begin own t (Jump op place ∷ part) h still w = absurd still.0
-    part_is_named begin own t (Call ∷ part) h still w = (aimed_same own ∙ h, part_is_named begin own t part h still.1 w)
+    -- a variable is read, and it is written
+    variable_linked : (writes : Bool) (var : ℕ) (is_bool : Bool) → slice_get kinds var ≡ Some is_bool
+        → field_linked others listing true writes (record { class = state_name; name = variable_name var; desc = variable_type is_bool }) ≡ Ok (target.Field (length files) var)
+    variable_linked writes var is_bool e =
+        let missing = operand.Missing (variable_name var) in
+        ap (λ (o : Option Found). need (is_ok (whole_type (variable_type is_bool))) operand.Wrong >>= λ described. ok_or o missing >>= λ found. need (field_fits true writes found) missing >>= λ fits. Ok found.target)
+        (added.variables var is_bool e)
+        ∙ ap (λ (b : Bool). need b operand.Wrong >>= λ described. need (field_fits true writes (record { target = target.Field (length files) var; is_static = true })) missing >>= λ fits. Ok (target.Field (length files) var))
+        (type_described is_bool) ∙ by writes
+      where
+        by : (w : Bool) → (need (field_fits true w (record { target = target.Field (length files) var; is_static = true })) (operand.Missing (variable_name var)) >>= λ fits. Ok (target.Field (length files) var))
+            ≡ Ok (target.Field (length files) var)
+        by true = refl
+        by false = refl
 
-    pub parts_are_named : (begin : ℕ) (own : List Insn) (ts : List Target) (sites : List (Option Block)) → Each Names own ts → AllByRecursion EndsInCall sites → AllByRecursion (IsThere pool) (wants_of sites)
-        → Each Names (parts_from pool fronts begin own sites) (parts_named ts sites)
-    parts_are_named begin [] [] sites h part w = tt
-    parts_are_named begin [] (t ∷ ts) sites h part w = absurd h
-    parts_are_named begin (x ∷ own) [] sites h part w = absurd h
-    parts_are_named begin (x ∷ own) (t ∷ ts) [] h part w = tt
-    parts_are_named begin (x ∷ own) (t ∷ ts) (site ∷ sites) h part w =
+    variable_named : (var : ℕ) (is_bool : Bool) → slice_get kinds var ≡ Some is_bool → IsThere pool (wants.StateField var is_bool)
+        → Names (insns.Pool GETSTATIC (place_in pool (wants.StateField var is_bool))) (target.Field (length files) var)
+        × Names (insns.Pool PUTSTATIC (place_in pool (wants.StateField var is_bool))) (target.Field (length files) var)
+    variable_named var is_bool e there =
+        let f = field_there pool var is_bool there in
+        let id = id_told constants.Field pool (place_in pool (wants.StateField var is_bool)) state_name (variable_name var) (variable_type is_bool) f in (
+          ap (λ (o : Option Const). ok_or o operand.Wrong >>= used others listing pool (uses.Field true false)) f.there ∙ ap (field_linked others listing true false) id ∙ variable_linked false var is_bool e,
+          ap (λ (o : Option Const). ok_or o operand.Wrong >>= used others listing pool (uses.Field true true)) f.there ∙ ap (field_linked others listing true true) id ∙ variable_linked true var is_bool e,
+        )
+
+    -- the opcode is the one that is meant
+    by_opcode : (op code place : ℕ) (t : Target) → (op == code) ≡ true → Names (insns.Pool code place) t → Names (insns.Pool op place) t
+    by_opcode op code place t e h = subst (λ (n : ℕ). Names (insns.Pool n place) t) (sym (eqb-true op code e)) h
+
+    wanted_named : (op : ℕ) (want : PoolWant) → IsTrue (takes want op) → NamesVariable kinds want → IsThere pool want → Names (insns.Pool op (place_in pool want)) (want_named (length files) want)
+    wanted_named op wants.StateClass is n there = by_opcode op LDC_W (place_in pool wants.StateClass) (target.ClassName state_name) is (lock_named there)
+    wanted_named op wants.Exit is n there = by_opcode op INVOKESTATIC (place_in pool wants.Exit) (target.Builtin way_out_index) is (stop_named there)
+    wanted_named op (wants.Integer k) is n there = by_opcode op LDC_W (place_in pool (wants.Integer k)) (target.Number k) is (number_named k there)
+    wanted_named op (wants.StateField var is_bool) is n there = by (op == GETSTATIC) refl is where
+      both : Names (insns.Pool GETSTATIC (place_in pool (wants.StateField var is_bool))) (target.Field (length files) var)
+          × Names (insns.Pool PUTSTATIC (place_in pool (wants.StateField var is_bool))) (target.Field (length files) var)
+      both = variable_named var is_bool n there
+
+      by : (b : Bool) → (op == GETSTATIC) ≡ b → (b || (op == PUTSTATIC)) ≡ true → Names (insns.Pool op (place_in pool (wants.StateField var is_bool))) (target.Field (length files) var)
+      by true e f = by_opcode op GETSTATIC (place_in pool (wants.StateField var is_bool)) (target.Field (length files) var) e both.0
+      by false e f = by_opcode op PUTSTATIC (place_in pool (wants.StateField var is_bool)) (target.Field (length files) var) f both.1
+
+    part_is_named : (begin : ℕ) (own : Insn) (t : Target) (part : List BlockInsn) → Names own t → AllByRecursion IsBlockInsn part → AllByRecursion (NamesVariable kinds) (filter_map want_of part)
+        → AllByRecursion (IsThere pool) (filter_map want_of part) → Each Names (map (put pool fronts begin own) part) (map (part_named (length files) t) part)
+    part_is_named begin own t [] h fits n w = tt
+    part_is_named begin own t (Plain op ∷ part) h fits n w = (refl, part_is_named begin own t part h fits.1 n w)
+    part_is_named begin own t (Byte k ∷ part) h fits n w = (refl, part_is_named begin own t part h fits.1 n w)
+    part_is_named begin own t (Short k ∷ part) h fits n w = (refl, part_is_named begin own t part h fits.1 n w)
+    part_is_named begin own t (Local op slot wide ∷ part) h fits n w = (refl, part_is_named begin own t part h fits.1 n w)
+    part_is_named begin own t (Want op want ∷ part) h fits n w = (wanted_named op want fits.0.0 n.0 w.0, part_is_named begin own t part h fits.1 n.1 w.1)
+    part_is_named begin own t (Jump op place ∷ part) h fits n w = (refl, part_is_named begin own t part h fits.1 n w)
+    part_is_named begin own t (Call ∷ part) h fits n w = (aimed_same own ∙ h, part_is_named begin own t part h fits.1 n w)
+
+    pub parts_are_named : (begin : ℕ) (own : List Insn) (ts : List Target) (sites : List (Option Block)) → Each Names own ts → AllByRecursion IsSite sites
+        → AllByRecursion (NamesVariable kinds) (wants_of sites) → AllByRecursion (IsThere pool) (wants_of sites)
+        → Each Names (parts_from pool fronts begin own sites) (parts_named (length files) ts sites)
+    parts_are_named begin [] [] sites h fits n w = tt
+    parts_are_named begin [] (t ∷ ts) sites h fits n w = absurd h
+    parts_are_named begin (x ∷ own) [] sites h fits n w = absurd h
+    parts_are_named begin (x ∷ own) (t ∷ ts) [] h fits n w = tt
+    parts_are_named begin (x ∷ own) (t ∷ ts) (site ∷ sites) h fits n w =
+        let named = split_all (NamesVariable kinds) (block_wants site) (wants_of sites) n in
         let there = split_all (IsThere pool) (block_wants site) (wants_of sites) w in
         let after = begin + length (part_of site) in
-        each_append Names (map (put pool fronts begin x) (part_of site)) (parts_from pool fronts after own sites) (map (part_named t) (part_of site)) (parts_named ts sites)
-        (part_is_named begin x t (part_of site) h.0 part.0.still there.0) (parts_are_named after own ts sites h.1 part.1 there.1)
+        each_append Names (map (put pool fronts begin x) (part_of site)) (parts_from pool fronts after own sites) (map (part_named (length files) t) (part_of site)) (parts_named (length files) ts sites)
+        (part_is_named begin x t (part_of site) h.0 (site_part site fits.0) named.0 there.0) (parts_are_named after own ts sites h.1 fits.1 named.1 there.1)
+
+-- ---- the variables that blocks name
+
+pub sites_name : (kinds : List Bool) (plan : Plan) → IsGood kinds plan → (base : ℕ) (refs : List Target) → AllByRecursion (NamesVariable kinds) (wants_of (map (plan.block base) refs))
+sites_name kinds plan good base [] = tt
+sites_name kinds plan good base (ref ∷ refs) =
+    all_append (NamesVariable kinds) (block_wants (plan.block base ref)) (wants_of (map (plan.block base) refs)) (good.names base ref) (sites_name kinds plan good base refs)
 
 -- ---- where an operand is told
 

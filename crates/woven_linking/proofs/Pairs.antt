@@ -4,7 +4,7 @@ use Rattle.mon_base.specs.Reading.{◌>>=◌}
 use Rattle.mon_base.proofs.Reading.{bind_ok, ok_is}
 use Rattle.class_linking.specs.declared.fault.LinkFault.{LinkFault}
 use Rattle.class_linking.specs.Fault.{Linked, linked_from}
-use Rattle.block_template.specs.Outcome.{Each}
+use Rattle.class_weaving.specs.Outcome.{Each}
 
 pub each_as : {X Y : Type 0} (P Q : X → Y → Type 0) → ((x : X) (y : Y) → P x y → Q x y) → (xs : List X) (ys : List Y) → Each P xs ys → Each Q xs ys
 each_as P Q f [] [] h = tt

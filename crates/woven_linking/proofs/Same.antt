@@ -1,5 +1,5 @@
 -- What class files say and declare stays the same where they are kept.
-use Rattle.std.proofs.Common.{◌≡◌, ℕ, ◌+◌, Bool, true, false, List, [], ◌∷◌, ◌++◌, map, Option, Some, None, refl, sym, ap, subst, ◌∙◌, append-nil}
+use Rattle.std.proofs.Common.{◌≡◌, ℕ, ◌+◌, Bool, true, false, List, [], ◌∷◌, ◌++◌, length, map, Option, Some, None, refl, sym, ap, subst, ◌∙◌, append_assoc, append-nil, arith}
 use Rattle.std.specs.Prelude.{bytes_eq, if◌then◌else◌}
 use Rattle.std.specs.List.{AllByRecursion, filter_map, flat_map, fold}
 use Rattle.std.proofs.lemmas.List.Elements.{filter_map-append}
@@ -18,10 +18,11 @@ use Rattle.bytecode_model.specs.Members.{Declared, member_declared, members_from
 use Rattle.bytecode_model.specs.Operands.{text_of_string, strings_in, literals_of}
 use Rattle.class_linking.specs.Linking.{static_main, main_from}
 use Rattle.bytecode_model.specs.SearchOrder.{Name, with_name}
-use Rattle.block_template.specs.State.{state_file}
-use Rattle.block_template.specs.Outcome.{Each}
-use Rattle.inline_release.proofs.Kept.{IsLonger, IsPlain, IsKeptMember, same_member, IsKept}
-use Rattle.inline_release.proofs.Texts.{utf8_on, text_on, class_on}
+use Rattle.conspec_tree.specs.declared.types.Var.{Var}
+use Rattle.class_weaving.specs.State.{values_from, state_file}
+use Rattle.class_weaving.specs.Outcome.{Each}
+use Rattle.woven_linking.proofs.Kept.{IsLonger, IsPlain, IsKeptMember, same_member, IsKept}
+use Rattle.woven_linking.proofs.Texts.{utf8_on, text_on, class_on}
 
 -- ---- names
 
@@ -88,13 +89,21 @@ file_declares members.Field class old new fits k =
     ∙ all_declared members.Field (class_at old.pool old.this_class) old.pool new.pool k.longer false class 0 old.fields new.fields fits.fields.each
     (subst (Each IsKeptMember old.fields) (sym k.fields) (same_members old.fields))
 
--- and behind the files stands one more, which declares nothing
-pub given_kept : (kind : MemberKind) (s : ClassFile) → ((class : ℕ) → file_members kind class s ≡ []) → (class : ℕ) (olds news : List ClassFile) → AllByRecursion CanSpell olds → Each IsKept olds news
-    → given_from kind class (news ++ s ∷ []) ≡ given_from kind class olds
-given_kept kind s none class [] [] fits k = ap (λ (xs : List Declared). xs ++ []) (none class)
-given_kept kind s none class [] (new ∷ news) fits k = absurd k
-given_kept kind s none class (old ∷ olds) [] fits k = absurd k
-given_kept kind s none class (old ∷ olds) (new ∷ news) fits k = rw (file_declares kind class old new fits.0 k.0, given_kept kind s none (class + 1) olds news fits.1 k.1) refl
+-- and behind the files stands one more
+pub given_kept : (kind : MemberKind) (s : ClassFile) (class : ℕ) (olds news : List ClassFile) → AllByRecursion CanSpell olds → Each IsKept olds news
+    → given_from kind class (news ++ s ∷ []) ≡ given_from kind class olds ++ file_members kind (class + length olds) s
+given_kept kind s class [] [] fits k =
+    let n : class ≡ class + 0 = omega arith in
+    append-nil (file_members kind class s) ∙ ap (λ (i : ℕ). file_members kind i s) n
+given_kept kind s class [] (new ∷ news) fits k = absurd k
+given_kept kind s class (old ∷ olds) [] fits k = absurd k
+given_kept kind s class (old ∷ olds) (new ∷ news) fits k =
+    let here = file_members kind class old in
+    let later = given_from kind (class + 1) olds in
+    let n : class + 1 + length olds ≡ class + length (old ∷ olds) = omega arith in
+    let rest = given_kept kind s (class + 1) olds news fits.1 k.1 ∙ ap (λ (i : ℕ). later ++ file_members kind i s) n in
+    ap (λ (xs : List Declared). xs ++ given_from kind (class + 1) (news ++ s ∷ [])) (file_declares kind class old new fits.0 k.0) ∙ ap (λ (xs : List Declared). here ++ xs) rest
+    ∙ sym (append_assoc here later (file_members kind (class + length (old ∷ olds)) s))
 
 -- ---- literals
 
@@ -158,16 +167,16 @@ main_kept s main begin class (old ∷ olds) (new ∷ news) fits k e =
       by true e rest = e
       by false e rest = rest e
 
--- ---- conspec/State without variables
+-- ---- conspec/State
 
-abbrev pub bare_state : ClassFile
-bare_state = state_file []
+pub state_methods : (vars : List Var) (class : ℕ) → file_members members.Method class (state_file vars) ≡ []
+state_methods vars class = refl
 
-pub state_methods : (class : ℕ) → file_members members.Method class bare_state ≡ []
-state_methods class = refl
+values_plain : (index : ℕ) (vars : List Var) → AllByRecursion IsPlain (values_from index vars)
+values_plain index [] = tt
+values_plain index (var ∷ vars) = (tt, (tt, values_plain (index + 1) vars))
 
-pub state_fields : (class : ℕ) → file_members members.Field class bare_state ≡ []
-state_fields class = refl
-
-pub state_strings : strings_in bare_state ≡ []
-state_strings = refl
+pub state_strings : (vars : List Var) → strings_in (state_file vars) ≡ []
+state_strings vars =
+    let pool = (state_file vars).pool in
+    no_strings pool pool (tt, (tt, (tt, (tt, (tt, (tt, (tt, (tt, values_plain 0 vars))))))))

@@ -26,11 +26,13 @@ use Rattle.class_linking.specs.ClassConditions.{class_linked, classes_linked}
 use Rattle.bytecode_model.specs.Heads.{head_of, heads_of}
 use Rattle.bytecode_model.proofs.Lists.{not_true}
 use Rattle.offset_patch.specs.Entries.{state_name}
-use Rattle.block_template.specs.Outcome.{Each}
-use Rattle.inline_release.proofs.Above.{and_both, has_name, find_none, other_name, no_circle}
-use Rattle.inline_release.proofs.Free.{IsFree, class_free}
-use Rattle.inline_release.proofs.Kept.{IsKept}
-use Rattle.inline_release.proofs.Same.{bare_state, head_kept}
+use Rattle.class_weaving.specs.Outcome.{Each}
+use Rattle.woven_linking.proofs.Above.{and_both, has_name, find_none, other_name, no_circle}
+use Rattle.woven_linking.proofs.Free.{IsFree, class_free}
+use Rattle.woven_linking.proofs.Kept.{IsKept}
+use Rattle.conspec_tree.specs.declared.types.Var.{Var}
+use Rattle.class_weaving.specs.State.{state_file}
+use Rattle.woven_linking.proofs.Same.{head_kept}
 
 -- ---- tests
 
@@ -59,9 +61,9 @@ need_is false fault e = absurd cc
 pub state_head : ListedClass
 state_head = record { name = state_name; parent = object; interfaces = []; is_interface = false }
 
-pub state_says : head_of bare_state ≡ state_head
+pub state_says : (vars : List Var) → head_of (state_file vars) ≡ state_head
 unfolding class_name_at utf8_at state_head
-state_says = refl
+state_says vars = refl
 
 pub state_head_name : state_head.name ≡ state_name
 unfolding state_head
@@ -74,12 +76,12 @@ state_head_alone = refl
 -- ---- the conditions of a class
 
 -- What holds of a class of a compiler's file, beside that its name is new.
-pub record IsGood (heads : List ListedClass) (file : ClassFile) : Type 0 where
+pub record IsGoodClass (heads : List ListedClass) (file : ClassFile) : Type 0 where
   pub named : is_class_name (head_of file).name ≡ true
   pub free : IsFree file.pool
   pub supers : has_supers heads (head_of file) file.fields ≡ true
 
-one_good : (heads : List ListedClass) (taken : Bool) (file : ClassFile) → class_linked sides.Original heads taken (head_of file) file ≡ Ok tt → IsGood heads file × (taken ≡ false)
+one_good : (heads : List ListedClass) (taken : Bool) (file : ClassFile) → class_linked sides.Original heads taken (head_of file) file ≡ Ok tt → IsGoodClass heads file × (taken ≡ false)
 one_good heads taken file e =
     let c = head_of file in
     let last = need (has_supers heads c file.fields) (faults.SuperLeftOut c.name) in
@@ -91,13 +93,13 @@ one_good heads taken file e =
 module _ (heads : List ListedClass) where
   -- of a first class and the others
   first_good : (taken : List ListedClass) (file : ClassFile) (files : List ClassFile) → classes_linked sides.Original heads taken (file ∷ files) ≡ Ok tt
-      → IsGood heads file × (is_known taken (head_of file).name ≡ false) × (classes_linked sides.Original heads (head_of file ∷ taken) files ≡ Ok tt)
+      → IsGoodClass heads file × (is_known taken (head_of file).name ≡ false) × (classes_linked sides.Original heads (head_of file ∷ taken) files ≡ Ok tt)
   first_good taken file files e =
       let a = bind_ok (class_linked sides.Original heads (is_known taken (head_of file).name) (head_of file) file) (λ _. classes_linked sides.Original heads (head_of file ∷ taken) files) tt e in
       let one = one_good heads (is_known taken (head_of file).name) file a.1 in
       (one.0, one.1, a.2)
 
-  pub all_good : (taken : List ListedClass) (files : List ClassFile) → classes_linked sides.Original heads taken files ≡ Ok tt → AllByRecursion (IsGood heads) files
+  pub all_good : (taken : List ListedClass) (files : List ClassFile) → classes_linked sides.Original heads taken files ≡ Ok tt → AllByRecursion (IsGoodClass heads) files
   all_good taken [] e = tt
   all_good taken (file ∷ files) e =
       let a = first_good taken file files e in
@@ -114,7 +116,7 @@ module _ (heads : List ListedClass) where
 
 -- ---- with one class more
 
-module _ (heads : List ListedClass) (parents : AllByRecursion (λ (c : ListedClass). c.parent ≢ state_head.name) heads) where
+module _ (vars : List Var) (heads : List ListedClass) (parents : AllByRecursion (λ (c : ListedClass). c.parent ≢ state_head.name) heads) where
   known_still : (name : List ℕ) → is_known heads name ≡ true → is_known (heads ++ state_head ∷ []) name ≡ true
   known_still name e = list_any-append (has_name name) heads (state_head ∷ []) ∙ or_left (is_known heads name) (is_known (state_head ∷ []) name) e
 
@@ -146,7 +148,7 @@ module _ (heads : List ListedClass) (parents : AllByRecursion (λ (c : ListedCla
       (and_holds (list_all (is_above all) c.interfaces) (not (runs_in_circle all c.name)) (above_still c.interfaces d.0) (ap not circle))) a.1
 
   -- conspec/State stands below Object, which is not given
-  state_supers : is_known heads state_head.name ≡ false → is_known heads object ≡ false → has_supers (heads ++ state_head ∷ []) state_head bare_state.fields ≡ true
+  state_supers : is_known heads state_head.name ≡ false → is_known heads object ≡ false → has_supers (heads ++ state_head ∷ []) state_head (state_file vars).fields ≡ true
   unfolding state_head
   state_supers own above =
       let all = heads ++ state_head ∷ [] in
@@ -165,7 +167,7 @@ module _ (heads : List ListedClass) (parents : AllByRecursion (λ (c : ListedCla
   unfolding state_head
   named_state = refl
 
-  one_still : (taken : List ListedClass) (old new : ClassFile) → CanSpell old → IsKept old new → IsGood heads old → is_known taken (head_of old).name ≡ false
+  one_still : (taken : List ListedClass) (old new : ClassFile) → CanSpell old → IsKept old new → IsGoodClass heads old → is_known taken (head_of old).name ≡ false
       → class_linked sides.Inlined (heads ++ state_head ∷ []) (is_known taken (head_of new).name) (head_of new) new ≡ Ok tt
   one_still taken old new fits kept good once =
       let all = heads ++ state_head ∷ [] in
@@ -177,19 +179,19 @@ module _ (heads : List ListedClass) (parents : AllByRecursion (λ (c : ListedCla
       ∙ ap (λ (b : Bool). need (not b) (faults.Twice c.name) >>= λ once. need (has_supers all c new.fields) (faults.SuperLeftOut c.name)) once
       ∙ ap (λ (fields : List Member). need (has_supers all c fields) (faults.SuperLeftOut c.name)) kept.fields ∙ ap (λ (b : Bool). need b (faults.SuperLeftOut c.name)) supers
 
-  state_stands : (taken : List ListedClass) → is_known taken state_head.name ≡ false → has_supers (heads ++ state_head ∷ []) state_head bare_state.fields ≡ true
-      → class_linked sides.Inlined (heads ++ state_head ∷ []) (is_known taken (head_of bare_state).name) (head_of bare_state) bare_state ≡ Ok tt
+  state_stands : (taken : List ListedClass) → is_known taken state_head.name ≡ false → has_supers (heads ++ state_head ∷ []) state_head (state_file vars).fields ≡ true
+      → class_linked sides.Inlined (heads ++ state_head ∷ []) (is_known taken (head_of (state_file vars)).name) (head_of (state_file vars)) (state_file vars) ≡ Ok tt
   state_stands taken free supers =
       let all = heads ++ state_head ∷ [] in
       let c = state_head in
-      ap (λ (x : ListedClass). class_linked sides.Inlined all (is_known taken x.name) x bare_state) state_says
-      ∙ ap (λ (b : Bool). need b (faults.Name c.name) >>= λ named. need (not (is_known taken c.name)) (faults.Twice c.name) >>= λ once. need (has_supers all c bare_state.fields) (faults.SuperLeftOut c.name)) named_state
-      ∙ ap (λ (b : Bool). need (not b) (faults.Twice c.name) >>= λ once. need (has_supers all c bare_state.fields) (faults.SuperLeftOut c.name)) free
+      ap (λ (x : ListedClass). class_linked sides.Inlined all (is_known taken x.name) x (state_file vars)) (state_says vars)
+      ∙ ap (λ (b : Bool). need b (faults.Name c.name) >>= λ named. need (not (is_known taken c.name)) (faults.Twice c.name) >>= λ once. need (has_supers all c (state_file vars).fields) (faults.SuperLeftOut c.name)) named_state
+      ∙ ap (λ (b : Bool). need (not b) (faults.Twice c.name) >>= λ once. need (has_supers all c (state_file vars).fields) (faults.SuperLeftOut c.name)) free
       ∙ ap (λ (b : Bool). need b (faults.SuperLeftOut c.name)) supers
 
   stand : (taken : List ListedClass) (olds news : List ClassFile) → AllByRecursion CanSpell olds → Each IsKept olds news → classes_linked sides.Original heads taken olds ≡ Ok tt
-      → is_known taken state_head.name ≡ false → has_supers (heads ++ state_head ∷ []) state_head bare_state.fields ≡ true
-      → classes_linked sides.Inlined (heads ++ state_head ∷ []) taken (news ++ bare_state ∷ []) ≡ Ok tt
+      → is_known taken state_head.name ≡ false → has_supers (heads ++ state_head ∷ []) state_head (state_file vars).fields ≡ true
+      → classes_linked sides.Inlined (heads ++ state_head ∷ []) taken (news ++ (state_file vars) ∷ []) ≡ Ok tt
   stand taken [] [] fits kept e free supers =
       ap (λ (r : Linked (Unit {0})). r >>= λ _. Ok tt) (state_stands taken free supers)
   stand taken [] (new ∷ news) fits kept e free supers = absurd kept
@@ -201,11 +203,11 @@ module _ (heads : List ListedClass) (parents : AllByRecursion (λ (c : ListedCla
       let other : bytes_eq (head_of old).name state_head.name ≡ false = other_name (head_of old).name state_head.name (λ same. class_free old.pool old.this_class a.0.free (same ∙ state_head_name)) in
       let free' : is_known (head_of old ∷ taken) state_head.name ≡ false = ap (λ (b : Bool). b || is_known taken state_head.name) other ∙ free in
       let rest = stand (head_of old ∷ taken) olds news fits.1 kept.1 a.2 free' supers in
-      ap (λ (r : Linked (Unit {0})). r >>= λ _. classes_linked sides.Inlined all (head_of new ∷ taken) (news ++ bare_state ∷ [])) one
-      ∙ ap (λ (h : ListedClass). classes_linked sides.Inlined all (h ∷ taken) (news ++ bare_state ∷ [])) (head_kept old new fits.0 kept.0) ∙ rest
+      ap (λ (r : Linked (Unit {0})). r >>= λ _. classes_linked sides.Inlined all (head_of new ∷ taken) (news ++ (state_file vars) ∷ [])) one
+      ∙ ap (λ (h : ListedClass). classes_linked sides.Inlined all (h ∷ taken) (news ++ (state_file vars) ∷ [])) (head_kept old new fits.0 kept.0) ∙ rest
 
   pub classes_stand : (listed : List ListedClass) (olds news : List ClassFile) → AllByRecursion CanSpell olds → Each IsKept olds news → classes_linked sides.Original heads listed olds ≡ Ok tt
       → is_known listed state_name ≡ false → is_known heads state_name ≡ false → is_known heads object ≡ false
-      → classes_linked sides.Inlined (heads ++ state_head ∷ []) listed (news ++ bare_state ∷ []) ≡ Ok tt
+      → classes_linked sides.Inlined (heads ++ state_head ∷ []) listed (news ++ (state_file vars) ∷ []) ≡ Ok tt
   classes_stand listed olds news fits kept e free own above =
       stand listed olds news fits kept e (ap (is_known listed) state_head_name ∙ free) (state_supers (ap (is_known heads) state_head_name ∙ own) above)

@@ -1,7 +1,7 @@
 -- What becomes of a method: its member before and after weaving, and what each links to.
-use Rattle.std.proofs.Common.{◌≡◌, ℕ, ◌+◌, Bool, true, false, List, [], ◌∷◌, ◌++◌, length, map, Option, Some, None, Result, Ok, Err, refl, sym, ap, subst, ◌∙◌, append-nil}
+use Rattle.std.proofs.Common.{◌≡◌, ℕ, ◌+◌, Bool, true, false, List, [], ◌∷◌, ◌++◌, length, map, Option, Some, None, Result, Ok, Err, refl, sym, ap, subst, ◌∙◌, append-nil, arith}
 use Rattle.std.specs.Prelude.{slice_get, bytes_eq, ◌&&◌, if◌then◌else◌, not}
-use Rattle.std.specs.List.{AllByRecursion, filter_map}
+use Rattle.std.specs.List.{AllByRecursion, Contains, filter_map}
 use Rattle.mon_base.specs.Reading.{◌>>=◌, need}
 use Rattle.mon_base.proofs.Reading.{bind_ok, ok_is, need_ok}
 use Rattle.class_codec.specs.declared.tree.Attr.{Attr}
@@ -28,7 +28,7 @@ use Rattle.bytecode_model.specs.SearchOrder.{Name}
 use Rattle.class_linking.specs.Handlers.{handlers_linked}
 use Rattle.class_linking.specs.Linking.{bare, with_code, read_of, code_linked, body_linked, method_linked}
 use Rattle.bytecode_model.specs.Sound.{IsSoundMethod}
-use Rattle.conspec_automaton.specs.declared.policy.Policy.{Policy}
+use Rattle.offset_patch.specs.Plan.{Plan, IsGood}
 use Rattle.offset_patch.specs.declared.block.Block.{Block}
 use Rattle.offset_patch.specs.declared.block.BlockInsn.{BlockInsn}
 use Rattle.offset_patch.specs.declared.block.BlockInsn.TheVariants.{Plain, Byte, Short, Local, Want, Jump, Call}
@@ -39,27 +39,26 @@ use Rattle.offset_patch.specs.Splicing.{part_of, fronts_of, put, parts_from, spl
 use Rattle.offset_patch.proofs.EntryFits.{wants_grow}
 use Rattle.offset_patch.proofs.InsnFits.{split_all, wants_there}
 use Rattle.offset_patch.proofs.Steady.{steady_wanted}
-use Rattle.block_template.specs.declared.woven.WovenCode.{WovenCode}
-use Rattle.block_template.specs.declared.woven.Members.{Members}
-use Rattle.block_template.specs.Woven.{is_woven, sites_of, locals_of, clients_from, blocks_put, code_woven, first_code, attr_with, member_with, bare_put, code_put, body_woven}
-use Rattle.block_template.specs.Outcome.{Each, way_out, at_fronts, wants_woven, insns_woven, stack_woven, locals_woven, handlers_woven, parts_named, refs_woven, IsWovenMethod}
-use Rattle.inline_release.proofs.Again.{put_reads}
-use Rattle.inline_release.proofs.Aims.{sites_part, spliced_below, spliced_within}
-use Rattle.inline_release.proofs.Free.{IsFree, class_free}
-use Rattle.inline_release.proofs.Kept.{IsLonger, IsKeptMember, same_member, with_kept}
-use Rattle.inline_release.proofs.Named.{IsAdded, operand_still, parts_are_named, told_ok, ok_told}
-use Rattle.inline_release.proofs.Pairs.{each_as, each_linked, linked_each}
-use Rattle.inline_release.proofs.Same.{name_kept, desc_kept}
-use Rattle.block_template.proofs.FirstCode.{first_fits}
-use Rattle.inline_release.proofs.Tables.{IsHandlerOf, handlers_of, of_handlers, handlers_kept, handlers_moved}
-use Rattle.inline_release.proofs.Wanted.{exit_there, reference_told, there_on, exit_wanted}
-use Rattle.std.proofs.lemmas.Bool.{false≢true}
+use Rattle.class_weaving.specs.declared.woven.WovenCode.{WovenCode}
+use Rattle.class_weaving.specs.declared.woven.Members.{Members}
+use Rattle.class_weaving.specs.Woven.{is_woven, sites_of, locals_of, clients_from, blocks_put, code_woven, first_code, attr_with, member_with, bare_put, code_put, body_woven}
+use Rattle.class_weaving.specs.Outcome.{Each, way_out, at_fronts, own_handlers, handlers_with, wants_woven, insns_woven, stack_woven, locals_woven, handlers_woven, parts_named, refs_woven, IsWovenMethod}
+use Rattle.woven_linking.proofs.Again.{put_reads}
+use Rattle.woven_linking.proofs.Aims.{GoesOn, last_alone, spliced_below, spliced_count, spliced_within}
+use Rattle.woven_linking.proofs.Calls.{call_goes}
+use Rattle.woven_linking.proofs.Free.{IsFree, class_free}
+use Rattle.woven_linking.proofs.Kept.{IsLonger, IsKeptMember, same_member, with_kept}
+use Rattle.woven_linking.proofs.Named.{IsAdded, operand_still, parts_are_named, sites_name, told_ok, ok_told}
+use Rattle.woven_linking.proofs.Pairs.{each_as, each_append, each_linked, linked_each}
+use Rattle.woven_linking.proofs.Same.{name_kept, desc_kept}
+use Rattle.class_weaving.proofs.FirstCode.{first_fits}
+use Rattle.woven_linking.proofs.Tables.{IsHandlerOf, handlers_of, of_handlers, sites_caught, handlers_kept, handlers_moved}
+use Rattle.woven_linking.proofs.Wanted.{exit_there, reference_told, there_on, all_of}
 use Rattle.std.proofs.lemmas.List.{length-map}
 use Rattle.class_codec.specs.declared.tree.TableEntry.{TableEntry}
 use Rattle.class_codec.specs.Fits.{FitsPool, FitsTableEntry}
 use Rattle.class_codec.specs.Pool.{reference_at}
-use Rattle.block_template.specs.Blocks.{site}
-use Rattle.offset_patch.specs.Splicing.{table_moved}
+use Rattle.offset_patch.specs.Splicing.{operands_needed, own_entries, table_moved, table_spliced}
 use Rattle.offset_patch.specs.declared.block.PoolWant.TheVariants as wants
 use Rattle.offset_patch.proofs.PoolFits.{each_on}
 
@@ -159,7 +158,7 @@ conditions_of files listing file at member m e =
 
 -- ---- one member
 
-module _ (policy : Policy) (file new : ClassFile) (files others : List ClassFile) (listing : Listing) (added : IsAdded files others listing)
+module _ (kinds : List Bool) (plan : Plan) (good : IsGood kinds plan) (file new : ClassFile) (files others : List ClassFile) (listing : Listing) (added : IsAdded kinds files others listing)
     (p : FitsPool file.pool) (free : IsFree file.pool) (longer : IsLonger file.pool new.pool) (named : (head_of new).name ≡ (head_of file).name) where
   allowed_kept : (member item : Member) → FitsMember file.pool true member → IsKeptMember member item → is_allowed new.pool item ≡ is_allowed file.pool member
   allowed_kept member item fits kept =
@@ -188,8 +187,8 @@ module _ (policy : Policy) (file new : ClassFile) (files others : List ClassFile
     pub items : next.items ≡ made.items ++ item ∷ []
     pub number : next.number ≡ made.number + 1
     pub more : (xs : List Const) × (next.entries ≡ made.entries ++ xs)
-    pub wanted : next.entries ≡ with_wants made.entries (wants_woven policy m)
-    pub is : (ys : List Const) → new.pool ≡ next.entries ++ ys → (at : ℕ) → (other : Method) × (method_linked others listing new at item ≡ Ok other) × IsWovenMethod policy new.pool m other
+    pub wanted : next.entries ≡ with_wants made.entries (wants_woven plan m)
+    pub is : (ys : List Const) → new.pool ≡ next.entries ++ ys → (at : ℕ) → (other : Method) × (method_linked others listing new at item ≡ Ok other) × IsWovenMethod plan (length files) new.pool m other
 
   bare_step : (made : Members) (member : Member) (m : Method) → FitsMember file.pool true member → method_linked files listing file made.number member ≡ Ok m → first_code member.attrs ≡ None
       → bare file member ≡ m → IsStep made (bare_put made member) m
@@ -198,10 +197,10 @@ module _ (policy : Policy) (file new : ClassFile) (files others : List ClassFile
     items = refl;
     number = refl;
     more = ([], sym (append-nil made.entries));
-    wanted = ap (λ (x : Method). with_wants made.entries (wants_woven policy x)) is;
+    wanted = ap (λ (x : Method). with_wants made.entries (wants_woven plan x)) is;
     is = λ ys grown at.
         let body : body_linked others listing new at member (first_code member.attrs) ≡ Ok (bare new member) = ap (body_linked others listing new at member) none in
-        let same : IsWovenMethod policy new.pool (bare file member) (bare new member) = record {
+        let same : IsWovenMethod plan (length files) new.pool (bare file member) (bare new member) = record {
           flags = refl;
           name = name_kept file.pool new.pool member member true longer fits (same_member member);
           desc = desc_kept file.pool new.pool member member true longer fits (same_member member);
@@ -210,9 +209,9 @@ module _ (policy : Policy) (file new : ClassFile) (files others : List ClassFile
           insns = refl;
           handlers = refl;
           refs = refl;
-          out = λ e. absurd (false≢true e);
+          out = λ c. absurd (omega (arith, c.1));
         } in
-        (bare new member, links at made.number member member m (bare new member) fits (same_member member) linked body, subst (λ (x : Method). IsWovenMethod policy new.pool x (bare new member)) is same);
+        (bare new member, links at made.number member member m (bare new member) fits (same_member member) linked body, subst (λ (x : Method). IsWovenMethod plan (length files) new.pool x (bare new member)) is same);
   }
 
   abbrev Names : Insn → Target → Type 0
@@ -221,37 +220,39 @@ module _ (policy : Policy) (file new : ClassFile) (files others : List ClassFile
   -- what a code was woven to
   record IsWovenCode (pool : List Const) (m : Method) (code : Code) (w : WovenCode) : Type 0 where
     more : (xs : List Const) × (w.entries ≡ pool ++ xs)
-    wanted : w.entries ≡ with_wants pool (wants_woven policy m)
-    insns : (ys : List Const) → new.pool ≡ w.entries ++ ys → code_of w.code.code ≡ Ok (insns_woven policy new.pool m)
-    max_stack : w.code.max_stack ≡ stack_woven policy m
-    max_locals : w.code.max_locals ≡ locals_woven policy m
-    refs : (ys : List Const) → new.pool ≡ w.entries ++ ys → Each Names (insns_woven policy new.pool m) (refs_woven policy m)
-    handlers : (ys : List Const) → new.pool ≡ w.entries ++ ys → Each (IsHandlerOf others listing new.pool (starts_of (insns_woven policy new.pool m))) w.code.table (handlers_woven policy m)
-    out : (ys : List Const) → new.pool ≡ w.entries ++ ys → is_woven policy m ≡ true → reference_at new.pool (place_in new.pool wants.Exit) ≡ Some way_out
+    wanted : w.entries ≡ with_wants pool (wants_woven plan m)
+    insns : (ys : List Const) → new.pool ≡ w.entries ++ ys → code_of w.code.code ≡ Ok (insns_woven plan new.pool m)
+    max_stack : w.code.max_stack ≡ stack_woven plan m
+    max_locals : w.code.max_locals ≡ locals_woven plan m
+    refs : (ys : List Const) → new.pool ≡ w.entries ++ ys → Each Names (insns_woven plan new.pool m) (refs_woven plan (length files) m)
+    handlers : (ys : List Const) → new.pool ≡ w.entries ++ ys → Each (IsHandlerOf others listing new.pool (starts_of (insns_woven plan new.pool m))) w.code.table (handlers_woven plan m)
+    out : (ys : List Const) → new.pool ≡ w.entries ++ ys → Contains (wants_woven plan m) wants.Exit → reference_at new.pool (place_in new.pool wants.Exit) ≡ Some way_out
 
   woven_is : (class : List ℕ) (number : ℕ) (pool : List Const) (m : Method) (member : Member) (code : Code) (w : WovenCode) → IsSoundMethod m → IsCoded files listing file member code m
-      → AllByRecursion (FitsTableEntry file.pool) code.table → code_woven policy class number pool m code ≡ Ok w → IsWovenCode pool m code w
-  woven_is class number pool m member code w sound old fits = by (is_woven policy m) refl
+      → AllByRecursion (FitsTableEntry file.pool) code.table → code_woven plan class number pool m code ≡ Ok w → IsWovenCode pool m code w
+  woven_is class number pool m member code w sound old fits = by (is_woven plan m) refl
     where
       refs_still : Each Names m.insns m.refs
-      refs_still = each_as (λ (x : Insn) (t : Target). operand_linked files listing file.pool x ≡ Ok t) Names (operand_still files others listing added file.pool new.pool p free longer) m.insns m.refs old.refs
+      refs_still = each_as (λ (x : Insn) (t : Target). operand_linked files listing file.pool x ≡ Ok t) Names (operand_still kinds files others listing added file.pool new.pool p free longer) m.insns m.refs old.refs
 
-      by : (b : Bool) → is_woven policy m ≡ b
-          → (if b then blocks_put policy class number pool m code (sites_of policy code.max_locals m) else Ok (record { code = code; entries = pool; origins = clients_from 0 m.insns })) ≡ Ok w
+      by : (b : Bool) → is_woven plan m ≡ b
+          → (if b then blocks_put plan class number pool m code (sites_of plan code.max_locals m) else Ok (record { code = code; entries = pool; origins = clients_from 0 m.insns })) ≡ Ok w
           → IsWovenCode pool m code w
       by true some e =
-          let h = put_reads policy class number pool m code w sound e in
-          let sites = sites_of policy code.max_locals m in
+          let sites = sites_of plan code.max_locals m in
+          let calls = each_as (λ (x : Insn) (t : Target). operand_linked files listing file.pool x ≡ Ok t) GoesOn (call_goes files listing file.pool) m.insns m.refs old.refs in
+          let h = put_reads kinds plan good class number pool m code w sound (last_alone kinds plan good code.max_locals m.insns m.refs sound.ends calls) e in
           let fronts = fronts_of sites in
           let xs = spliced new.pool m.insns sites in
           let more = wants_grow (wants_of sites) pool in
-          let same : sites_of policy m.max_locals m ≡ sites = ap (λ (n : ℕ). sites_of policy n m) old.max_locals in
-          let insns_is : insns_woven policy new.pool m ≡ xs =
-          ap (λ (b : Bool). if b then spliced new.pool m.insns (sites_of policy m.max_locals m) else m.insns) some ∙ ap (spliced new.pool m.insns) same in
-          let refs_is : refs_woven policy m ≡ parts_named m.refs sites =
-          ap (λ (b : Bool). if b then parts_named m.refs (sites_of policy m.max_locals m) else m.refs) some ∙ ap (parts_named m.refs) same in
-          let handlers_is : handlers_woven policy m ≡ map (at_fronts fronts) m.handlers =
-          ap (λ (b : Bool). if b then map (at_fronts (fronts_of (sites_of policy m.max_locals m))) m.handlers else m.handlers) some ∙ ap (λ (q : List (Option Block)). map (at_fronts (fronts_of q)) m.handlers) same in
+          let same : sites_of plan m.max_locals m ≡ sites = ap (λ (n : ℕ). sites_of plan n m) old.max_locals in
+          let insns_is : insns_woven plan new.pool m ≡ xs =
+          ap (λ (b : Bool). if b then spliced new.pool m.insns (sites_of plan m.max_locals m) else m.insns) some ∙ ap (spliced new.pool m.insns) same in
+          let refs_is : refs_woven plan (length files) m ≡ parts_named (length files) m.refs sites =
+          ap (λ (b : Bool). if b then parts_named (length files) m.refs (sites_of plan m.max_locals m) else m.refs) some ∙ ap (parts_named (length files) m.refs) same in
+          let handlers_is : handlers_woven plan m ≡ handlers_with sites m.handlers =
+          ap (λ (b : Bool). if b then handlers_with (sites_of plan m.max_locals m) m.handlers else m.handlers) some ∙ ap (λ (q : List (Option Block)). handlers_with q m.handlers) same in
+          let wants_is : wants_woven plan m ≡ wants_of sites = ap (λ (b : Bool). if b then wants_of (sites_of plan m.max_locals m) else []) some ∙ ap wants_of same in
           let there : (ys : List Const) → new.pool ≡ w.entries ++ ys → AllByRecursion (IsThere new.pool) (wants_of sites) = λ ys grown.
           let all = each_on (IsThere (grown_by sites)) (IsThere (grown_by sites ++ ys)) (λ want. there_on want (grown_by sites) ys) (wants_of sites) (wants_there sites pool) in
           subst (λ (q : List Const). AllByRecursion (IsThere q) (wants_of sites)) (sym (grown ∙ ap (λ (q : List Const). q ++ ys) h.entries)) all in
@@ -259,29 +260,32 @@ module _ (policy : Policy) (file new : ClassFile) (files others : List ClassFile
           let one : spliced w.entries m.insns sites ≡ spliced (w.entries ++ ys) m.insns sites =
           subst (λ (q : List Const). spliced q m.insns sites ≡ spliced (q ++ ys) m.insns sites) (sym h.entries) (spliced_on pool ys m.insns sites) in
           one ∙ ap (λ (q : List Const). spliced q m.insns sites) (sym grown) in
-          let count : length sites ≡ length m.insns = length-map m.refs (site policy code.max_locals) ∙ sound.refs in
-          let parts = sites_part policy code.max_locals m.refs in
+          let count : length sites ≡ length m.insns = length-map m.refs (plan.block code.max_locals) ∙ sound.refs in
           record {
             more = (more.0, h.entries ∙ more.1);
             wanted = h.entries ∙ ap (λ (q : List (Option Block)). with_wants pool (wants_of q)) (sym same)
-                ∙ ap (λ (b : Bool). with_wants pool (if b then wants_of (sites_of policy m.max_locals m) else [])) (sym some);
+                ∙ ap (λ (b : Bool). with_wants pool (if b then wants_of (sites_of plan m.max_locals m) else [])) (sym some);
             insns = λ ys grown. h.insns ∙ ap Ok (spliced_same ys grown ∙ sym insns_is);
-            max_stack = h.max_stack ∙ ap (λ (n : ℕ). n + 3) (sym old.max_stack) ∙ sym (ap (λ (b : Bool). if b then m.max_stack + 3 else m.max_stack) some);
-            max_locals = h.max_locals ∙ ap (λ (n : ℕ). n + locals_of policy m) (sym old.max_locals) ∙ sym (ap (λ (b : Bool). if b then m.max_locals + locals_of policy m else m.max_locals) some);
+            max_stack = h.max_stack ∙ ap (λ (n : ℕ). n + operands_needed) (sym old.max_stack) ∙ sym (ap (λ (b : Bool). if b then m.max_stack + operands_needed else m.max_stack) some);
+            max_locals = h.max_locals ∙ ap (λ (n : ℕ). n + locals_of plan m) (sym old.max_locals) ∙ sym (ap (λ (b : Bool). if b then m.max_locals + locals_of plan m else m.max_locals) some);
             refs = λ ys grown.
-                let all = parts_are_named files others listing added new.pool fronts 0 m.insns m.refs sites refs_still parts (there ys grown) in
-                subst (λ (q : List Insn). Each Names q (refs_woven policy m)) (sym insns_is) (subst (Each Names xs) (sym refs_is) all);
+                let all = parts_are_named kinds files others listing added new.pool fronts 0 m.insns m.refs sites refs_still h.fits (sites_name kinds plan good code.max_locals m.refs) (there ys grown) in
+                subst (λ (q : List Insn). Each Names q (refs_woven plan (length files) m)) (sym insns_is) (subst (Each Names xs) (sym refs_is) all);
             handlers = λ ys grown.
-                let below = spliced_below new.pool m.insns sites count parts in
+                let below = spliced_below new.pool m.insns sites count h.fits in
                 let within = spliced_within new.pool m.insns sites count in
-                let all = handlers_moved files others listing added file.pool new.pool p longer (starts_of m.insns) fronts (length m.insns) xs below within code.table m.handlers sound.handlers fits old.handlers in
-                let table : w.code.table ≡ table_moved (starts_of xs) fronts m.handlers code.table = h.table ∙ ap (λ (q : List Insn). table_moved (starts_of q) fronts m.handlers code.table) (spliced_same ys grown) in
-                let one : Each (IsHandlerOf others listing new.pool (starts_of xs)) w.code.table (handlers_woven policy m) =
-                subst (λ (t : List TableEntry). Each (IsHandlerOf others listing new.pool (starts_of xs)) t (handlers_woven policy m)) (sym table)
-                (subst (Each (IsHandlerOf others listing new.pool (starts_of xs)) (table_moved (starts_of xs) fronts m.handlers code.table)) (sym handlers_is) all) in
-                subst (λ (q : List Insn). Each (IsHandlerOf others listing new.pool (starts_of q)) w.code.table (handlers_woven policy m)) (sym insns_is) one;
-            out = λ ys grown is.
-                let exit = exit_there new.pool (exit_wanted new.pool policy code.max_locals m.refs some (there ys grown)) in
+                let starts = starts_of xs in
+                let Handled : TableEntry → Handler → Type 0 = IsHandlerOf others listing new.pool starts in
+                let moved = handlers_moved kinds files others listing added file.pool new.pool p longer (starts_of m.insns) fronts (length m.insns) xs below within code.table m.handlers sound.handlers fits old.handlers in
+                let own = sites_caught others listing new.pool xs 0 sites h.fits (omega (arith, spliced_count new.pool m.insns sites count)) in
+                let all = each_append Handled (own_entries starts 0 sites) (table_moved starts fronts m.handlers code.table) (own_handlers 0 sites) (map (at_fronts fronts) m.handlers) own moved in
+                let table : w.code.table ≡ table_spliced starts sites m.handlers code.table = h.table ∙ ap (λ (q : List Insn). table_spliced (starts_of q) sites m.handlers code.table) (spliced_same ys grown) in
+                let one : Each Handled w.code.table (handlers_woven plan m) =
+                subst (λ (t : List TableEntry). Each Handled t (handlers_woven plan m)) (sym table) (subst (Each Handled (table_spliced starts sites m.handlers code.table)) (sym handlers_is) all) in
+                subst (λ (q : List Insn). Each (IsHandlerOf others listing new.pool (starts_of q)) w.code.table (handlers_woven plan m)) (sym insns_is) one;
+            out = λ ys grown wanted.
+                let among : Contains (wants_of sites) wants.Exit = subst (λ (ws : List PoolWant). Contains ws wants.Exit) wants_is wanted in
+                let exit = exit_there new.pool (all_of (IsThere new.pool) (wants_of sites) wants.Exit (there ys grown) among) in
                 reference_told new.pool (place_in new.pool wants.Exit) way_out.class way_out.name way_out.desc exit;
           }
         where
@@ -289,26 +293,28 @@ module _ (policy : Policy) (file new : ClassFile) (files others : List ClassFile
           grown_by sites = grown pool sites
       by false none e =
           let same : WovenCode = record { code = code; entries = pool; origins = clients_from 0 m.insns } in
-          let insns_is : insns_woven policy new.pool m ≡ m.insns = ap (λ (b : Bool). if b then spliced new.pool m.insns (sites_of policy m.max_locals m) else m.insns) none in
-          let refs_is : refs_woven policy m ≡ m.refs = ap (λ (b : Bool). if b then parts_named m.refs (sites_of policy m.max_locals m) else m.refs) none in
-          let handlers_is : handlers_woven policy m ≡ m.handlers = ap (λ (b : Bool). if b then map (at_fronts (fronts_of (sites_of policy m.max_locals m))) m.handlers else m.handlers) none in
+          let insns_is : insns_woven plan new.pool m ≡ m.insns = ap (λ (b : Bool). if b then spliced new.pool m.insns (sites_of plan m.max_locals m) else m.insns) none in
+          let refs_is : refs_woven plan (length files) m ≡ m.refs = ap (λ (b : Bool). if b then parts_named (length files) m.refs (sites_of plan m.max_locals m) else m.refs) none in
+          let handlers_is : handlers_woven plan m ≡ m.handlers = ap (λ (b : Bool). if b then handlers_with (sites_of plan m.max_locals m) m.handlers else m.handlers) none in
           subst (IsWovenCode pool m code) (ok_is SpliceFault same w e) (record {
             more = ([], sym (append-nil pool));
-            wanted = ap (λ (b : Bool). with_wants pool (if b then wants_of (sites_of policy m.max_locals m) else [])) (sym none);
+            wanted = ap (λ (b : Bool). with_wants pool (if b then wants_of (sites_of plan m.max_locals m) else [])) (sym none);
             insns = λ ys grown. old.insns ∙ ap Ok (sym insns_is);
-            max_stack = sym old.max_stack ∙ sym (ap (λ (b : Bool). if b then m.max_stack + 3 else m.max_stack) none);
-            max_locals = sym old.max_locals ∙ sym (ap (λ (b : Bool). if b then m.max_locals + locals_of policy m else m.max_locals) none);
-            refs = λ ys grown. subst (λ (q : List Insn). Each Names q (refs_woven policy m)) (sym insns_is) (subst (Each Names m.insns) (sym refs_is) refs_still);
+            max_stack = sym old.max_stack ∙ sym (ap (λ (b : Bool). if b then m.max_stack + operands_needed else m.max_stack) none);
+            max_locals = sym old.max_locals ∙ sym (ap (λ (b : Bool). if b then m.max_locals + locals_of plan m else m.max_locals) none);
+            refs = λ ys grown. subst (λ (q : List Insn). Each Names q (refs_woven plan (length files) m)) (sym insns_is) (subst (Each Names m.insns) (sym refs_is) refs_still);
             handlers = λ ys grown.
-                let all = handlers_kept files others listing added file.pool new.pool p longer (starts_of m.insns) code.table m.handlers fits old.handlers in
-                subst (λ (q : List Insn). Each (IsHandlerOf others listing new.pool (starts_of q)) code.table (handlers_woven policy m)) (sym insns_is)
+                let all = handlers_kept kinds files others listing added file.pool new.pool p longer (starts_of m.insns) code.table m.handlers fits old.handlers in
+                subst (λ (q : List Insn). Each (IsHandlerOf others listing new.pool (starts_of q)) code.table (handlers_woven plan m)) (sym insns_is)
                 (subst (Each (IsHandlerOf others listing new.pool (starts_of m.insns)) code.table) (sym handlers_is) all);
-            out = λ ys grown is. absurd (false≢true (sym none ∙ is));
+            out = λ ys grown wanted.
+                let nothing : wants_woven plan m ≡ [] = ap (λ (b : Bool). if b then wants_of (sites_of plan m.max_locals m) else []) none in
+                absurd (omega (arith, ap length nothing, wanted.1));
           })
 
   coded_step : (class : List ℕ) (made : Members) (member : Member) (m : Method) (code : Code) (w : WovenCode) → FitsMember file.pool true member → IsSoundMethod m
       → method_linked files listing file made.number member ≡ Ok m → first_code member.attrs ≡ Some code → IsCoded files listing file member code m
-      → code_woven policy class made.number made.entries m code ≡ Ok w → IsStep made (code_put made member w) m
+      → code_woven plan class made.number made.entries m code ≡ Ok w → IsStep made (code_put made member w) m
   coded_step class made member m code w fits sound linked first old e =
       let entries = (first_fits file.pool member.attrs code fits.attrs.each first).1.table.each in
       let h = woven_is class made.number made.entries m member code w sound old entries e in
@@ -322,9 +328,9 @@ module _ (policy : Policy) (file new : ClassFile) (files others : List ClassFile
             let item = member_with member w.code in
             let kept = with_kept member w.code in
             let name = (head_of new).name in
-            let insns = insns_woven policy new.pool m in
-            let refs = refs_woven policy m in
-            let handlers = handlers_woven policy m in
+            let insns = insns_woven plan new.pool m in
+            let refs = refs_woven plan (length files) m in
+            let handlers = handlers_woven plan m in
             let other = with_code new item w.code insns refs handlers in
             let operands : operands_linked others listing name new.pool at insns ≡ Ok refs =
             linked_each (operand_at others listing name new.pool at) Names (λ i x t. ok_told name at i (operand_linked others listing new.pool x) t) 0 insns refs (h.refs ys grown) in
@@ -360,13 +366,13 @@ module _ (policy : Policy) (file new : ClassFile) (files others : List ClassFile
           ∙ ap (λ (r : Result (List Target) LinkFault). r >>= λ ts. ending insns ts) b ∙ ap (λ (r : Result (List Handler) LinkFault). r >>= λ hs. Ok (with_code new item code insns refs hs)) c
 
   pub one_step : (class : List ℕ) (made next : Members) (member : Member) (m : Method) → FitsMember file.pool true member → IsSoundMethod m
-      → method_linked files listing file made.number member ≡ Ok m → body_woven policy class made member (Some m) (first_code member.attrs) ≡ Ok next → IsStep made next m
+      → method_linked files listing file made.number member ≡ Ok m → body_woven plan class made member (Some m) (first_code member.attrs) ≡ Ok next → IsStep made next m
   one_step class made next member m fits sound linked = by (first_code member.attrs) refl (conditions_of files listing file made.number member m linked).2
     where
-      by : (c : Option Code) → first_code member.attrs ≡ c → body_linked files listing file made.number member c ≡ Ok m → body_woven policy class made member (Some m) c ≡ Ok next → IsStep made next m
+      by : (c : Option Code) → first_code member.attrs ≡ c → body_linked files listing file made.number member c ≡ Ok m → body_woven plan class made member (Some m) c ≡ Ok next → IsStep made next m
       by None none body e =
           subst (λ (x : Members). IsStep made x m) (ok_is SpliceFault (bare_put made member) next e) (bare_step made member m fits linked none (ok_is LinkFault (bare file member) m body))
       by (Some code) first body e =
-          let one = bind_ok (code_woven policy class made.number made.entries m code) (λ w. Ok (code_put made member w)) next e in
+          let one = bind_ok (code_woven plan class made.number made.entries m code) (λ w. Ok (code_put made member w)) next e in
           let old = coded files listing file made.number member code m body in
           subst (λ (x : Members). IsStep made x m) (ok_is SpliceFault (code_put made member one.0) next one.2) (coded_step class made member m code one.0 fits sound linked first old one.1)

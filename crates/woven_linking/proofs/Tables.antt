@@ -1,6 +1,6 @@
 -- The exception table of a code with blocks links to the handlers at their fronts.
-use Rattle.std.proofs.Common.{◌≡◌, ℕ, zero, suc, ◌+◌, ◌<◌, ◌≤◌, Bool, true, false, List, [], ◌∷◌, length, map, Option, Some, None, Result, Ok, refl, ap, subst, ◌∙◌, zero-add, arith}
-use Rattle.std.specs.Prelude.{slice_index, nat_lt, ◌==◌, ◌||◌, if◌then◌else◌, option_and_then, ok_or}
+use Rattle.std.proofs.Common.{◌≡◌, ℕ, zero, suc, ◌+◌, ◌<◌, ◌≤◌, Bool, true, false, List, [], ◌∷◌, ◌++◌, length, map, Option, Some, None, Result, Ok, refl, ap, subst, ◌∙◌, zero-add, arith}
+use Rattle.std.specs.Prelude.{IfSome, slice_index, nat_lt, ◌==◌, ◌||◌, if◌then◌else◌, option_and_then, ok_or}
 use Rattle.std.specs.List.{AllByRecursion, position_from}
 use Rattle.std.proofs.lemmas.Bool.Decides.{nat_tests}
 use Rattle.mon_base.specs.Reading.{◌>>=◌}
@@ -26,12 +26,16 @@ use Rattle.bytecode_model.specs.Heads.{class_at}
 use Rattle.class_linking.specs.Operands.{class_linked, told_at}
 use Rattle.bytecode_model.specs.Operands.{known_in}
 use Rattle.bytecode_model.specs.Sound.{IsWithin}
-use Rattle.offset_patch.specs.Splicing.{table_moved}
-use Rattle.block_template.specs.Outcome.{Each, at_fronts}
-use Rattle.inline_release.proofs.Kept.{IsLonger}
-use Rattle.inline_release.proofs.Named.{IsAdded, class_still, told_ok}
-use Rattle.inline_release.proofs.Pairs.{each_linked, linked_each}
-use Rattle.inline_release.proofs.Same.{class_longer}
+use Rattle.offset_patch.specs.declared.block.Block.{Block}
+use Rattle.offset_patch.specs.declared.block.BlockInsn.{BlockInsn}
+use Rattle.offset_patch.specs.declared.block.BlockInsn.TheVariants.{Plain, Byte, Short, Local, Want, Jump, Call}
+use Rattle.offset_patch.specs.Fits.{calls_in, IsSite}
+use Rattle.offset_patch.specs.Splicing.{part_of, count_of, call_place, caught_by, site_entries, own_entries, table_moved}
+use Rattle.class_weaving.specs.Outcome.{Each, at_fronts, handlers_by, site_handlers, own_handlers}
+use Rattle.woven_linking.proofs.Kept.{IsLonger}
+use Rattle.woven_linking.proofs.Named.{IsAdded, class_still, told_ok}
+use Rattle.woven_linking.proofs.Pairs.{each_append, each_linked, linked_each}
+use Rattle.woven_linking.proofs.Same.{class_longer}
 
 -- ---- where instructions begin
 
@@ -146,9 +150,48 @@ module _ (files : List ClassFile) (listing : Listing) (class : List ℕ) (pool :
   of_handlers entries hs e =
       linked_each (λ i. handler_linked files listing class pool method end starts) (IsHandlerOf files listing pool starts) (λ at. of_handler) 0 entries hs e
 
+-- ---- the handlers of blocks
+
+call_within : (part : List BlockInsn) → 1 ≤ calls_in part → call_place part < length part
+unfolding call_place
+call_within [] h = absurd (omega arith)
+call_within (Plain op ∷ part) h = omega (arith, call_within part h)
+call_within (Byte n ∷ part) h = omega (arith, call_within part h)
+call_within (Short n ∷ part) h = omega (arith, call_within part h)
+call_within (Local op slot wide ∷ part) h = omega (arith, call_within part h)
+call_within (Want op want ∷ part) h = omega (arith, call_within part h)
+call_within (Jump op place ∷ part) h = omega (arith, call_within part h)
+call_within (Call ∷ part) h = omega arith
+
+module _ (files : List ClassFile) (listing : Listing) (pool : List Const) (xs : List Insn) where
+  site_caught : (begin : ℕ) (site : Option Block) → IsSite site → begin + length (part_of site) ≤ length xs
+      → Each (IsHandlerOf files listing pool (starts_of xs)) (site_entries (starts_of xs) begin site) (site_handlers begin site)
+  site_caught begin None h few = tt
+  site_caught begin (Some block) h few = by block.handler h.catches where
+    by : (o : Option ℕ) → IfSome o (λ place. place < length block.insns) → Each (IsHandlerOf files listing pool (starts_of xs)) (caught_by (starts_of xs) begin block.insns o) (handlers_by begin block.insns o)
+    by None c = tt
+    by (Some place) c =
+        let call = call_within block.insns (omega (arith, h.once)) in (
+          record {
+            from = insn_again xs (begin + call_place block.insns) (omega (arith, few, call));
+            to = there_again xs (begin + call_place block.insns + 1) (omega (arith, few, call));
+            at = insn_again xs (begin + place) (omega (arith, few, c));
+            class = refl;
+          },
+          tt,
+        )
+
+  pub sites_caught : (begin : ℕ) (sites : List (Option Block)) → AllByRecursion IsSite sites → begin + count_of sites ≤ length xs
+      → Each (IsHandlerOf files listing pool (starts_of xs)) (own_entries (starts_of xs) begin sites) (own_handlers begin sites)
+  sites_caught begin [] h few = tt
+  sites_caught begin (site ∷ sites) h few =
+      let after = begin + length (part_of site) in
+      each_append (IsHandlerOf files listing pool (starts_of xs)) (site_entries (starts_of xs) begin site) (own_entries (starts_of xs) after sites) (site_handlers begin site) (own_handlers after sites)
+      (site_caught begin site h.0 (omega (arith, few))) (sites_caught after sites h.1 (omega (arith, few)))
+
 -- ---- what was moved
 
-module _ (files others : List ClassFile) (listing : Listing) (added : IsAdded files others listing) (pool new : List Const) (p : FitsPool pool) (longer : IsLonger pool new) where
+module _ (types : List Bool) (files others : List ClassFile) (listing : Listing) (added : IsAdded types files others listing) (pool new : List Const) (p : FitsPool pool) (longer : IsLonger pool new) where
   class_kept : (entry : TableEntry) (c : Option (List ℕ)) → FitsTableEntry pool entry → IsCaught files listing pool entry.class c → IsCaught others listing new entry.class c
   class_kept entry c fits e = by (entry.class == 0) fits.named e
     where
@@ -160,7 +203,7 @@ module _ (files others : List ClassFile) (listing : Listing) (added : IsAdded fi
           let name = class_at pool entry.class in
           let same : class_at new entry.class ≡ name = class_longer pool new entry.class longer p named in
           let a = bind_ok (class_linked true (known_in files listing) name) (λ (t : Target). Ok (Some name)) c f in
-          let still = class_still files others listing added true name a.0 a.1 in
+          let still = class_still types files others listing added true name a.0 a.1 in
           rw (same, still) a.2
 
   -- of the same code

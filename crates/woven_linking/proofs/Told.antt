@@ -18,45 +18,44 @@ use Rattle.bytecode_model.specs.declared.program.Side.TheVariants as sides
 use Rattle.class_linking.specs.Fault.{linked_from}
 use Rattle.class_linking.specs.Linking.{body_linked, method_linked}
 use Rattle.bytecode_model.specs.Sound.{IsSoundMethod, IsSoundClass}
-use Rattle.conspec_automaton.specs.declared.policy.Policy.{Policy}
+use Rattle.offset_patch.specs.Plan.{Plan}
 use Rattle.offset_patch.specs.declared.block.Block.{Block}
 use Rattle.offset_patch.specs.declared.block.BlockInsn.{BlockInsn}
 use Rattle.offset_patch.specs.declared.block.BlockInsn.TheVariants.{Plain, Byte, Short, Local, Want, Jump, Call}
 use Rattle.bytecode_model.specs.declared.origin.Origin.{Origin}
 use Rattle.offset_patch.specs.declared.fault.SpliceFault.{SpliceFault}
 use Rattle.offset_patch.specs.Splicing.{part_of, fronts_from, aimed, put, parts_from, spliced, grown, origin_of, part_origins, origins_of, room, code_spliced}
-use Rattle.block_template.specs.Blocks.{site}
-use Rattle.block_template.specs.declared.woven.WovenCode.{WovenCode}
-use Rattle.block_template.specs.declared.woven.Members.{Members}
-use Rattle.block_template.specs.declared.woven.Woven.{Woven}
-use Rattle.block_template.specs.Woven.{folded, is_woven, sites_of, locals_of, clients_from, blocks_put, code_woven, first_code, bare_put, code_put, body_woven, member_woven, members_woven, none_made, file_with, file_put, class_woven, classes_woven, state_put}
-use Rattle.block_template.specs.Outcome.{Each, insns_woven}
-use Rattle.inline_release.specs.Origins.{fronts_in, insn_woven, IsOfBlock, IsFrom, AreFrom, MethodIsFrom, with_code, ClassIsFrom, ClassesAreFrom, OriginsAreTrue}
-use Rattle.inline_release.proofs.Pairs.{each_append, first_linked}
-use Rattle.inline_release.proofs.Steps.{conditions_of, coded}
-use Rattle.inline_release.proofs.Whole.{get_behind, IsOf, program_of}
-use Rattle.block_template.specs.State.{state_class}
+use Rattle.class_weaving.specs.declared.woven.WovenCode.{WovenCode}
+use Rattle.class_weaving.specs.declared.woven.Members.{Members}
+use Rattle.class_weaving.specs.declared.woven.Woven.{Woven}
+use Rattle.class_weaving.specs.Woven.{folded, is_woven, sites_of, locals_of, clients_from, blocks_put, code_woven, first_code, bare_put, code_put, body_woven, member_woven, members_woven, none_made, file_with, file_put, class_woven, classes_woven, state_put}
+use Rattle.class_weaving.specs.Outcome.{Each, insns_woven}
+use Rattle.woven_linking.specs.Origins.{fronts_in, insn_woven, IsOfBlock, IsFrom, AreFrom, MethodIsFrom, with_code, ClassIsFrom, ClassesAreFrom, OriginsAreTrue}
+use Rattle.woven_linking.proofs.Pairs.{each_append, first_linked}
+use Rattle.woven_linking.proofs.Steps.{conditions_of, coded}
+use Rattle.woven_linking.proofs.Whole.{get_behind, IsOf, program_of}
+use Rattle.class_weaving.specs.State.{state_file}
 
 -- ---- the parts of a method
 
-module _ (policy : Policy) (pool : List Const) (m : Method) where
-  tell_append : (at : ℕ) (xs ys : List Insn) (a b : List Origin) → AreFrom policy pool m at xs a → AreFrom policy pool m (at + length xs) ys b → AreFrom policy pool m at (xs ++ ys) (a ++ b)
+module _ (plan : Plan) (pool : List Const) (m : Method) where
+  tell_append : (at : ℕ) (xs ys : List Insn) (a b : List Origin) → AreFrom plan pool m at xs a → AreFrom plan pool m (at + length xs) ys b → AreFrom plan pool m at (xs ++ ys) (a ++ b)
   tell_append at [] ys [] b t u =
       let n : at + 0 ≡ at = omega arith in
-      subst (λ (k : ℕ). AreFrom policy pool m k ys b) n u
+      subst (λ (k : ℕ). AreFrom plan pool m k ys b) n u
   tell_append at [] ys (o ∷ a) b t u = absurd t
   tell_append at (x ∷ xs) ys [] b t u = absurd t
   tell_append at (x ∷ xs) ys (o ∷ a) b t u =
       let n : at + length (x ∷ xs) ≡ at + 1 + length xs = omega arith in
-      (t.0, tell_append (at + 1) xs ys a b t.1 (subst (λ (k : ℕ). AreFrom policy pool m k ys b) n u))
+      (t.0, tell_append (at + 1) xs ys a b t.1 (subst (λ (k : ℕ). AreFrom plan pool m k ys b) n u))
 
   -- a method without a block
-  clients_tell : is_woven policy m ≡ false → (at : ℕ) (insns : List Insn) → ((j : ℕ) (x : Insn) → slice_get insns j ≡ Some x → slice_get m.insns (at + j) ≡ Some x)
-      → AreFrom policy pool m at insns (clients_from at insns)
+  clients_tell : is_woven plan m ≡ false → (at : ℕ) (insns : List Insn) → ((j : ℕ) (x : Insn) → slice_get insns j ≡ Some x → slice_get m.insns (at + j) ≡ Some x)
+      → AreFrom plan pool m at insns (clients_from at insns)
   clients_tell none at [] sub = tt
   clients_tell none at (x ∷ insns) sub =
       let n : at + 0 ≡ at = omega arith in
-      let same : x ≡ insn_woven policy m x = sym (ap (λ (b : Bool). if b then aimed (fronts_in policy m) x else x) none) in
+      let same : x ≡ insn_woven plan m x = sym (ap (λ (b : Bool). if b then aimed (fronts_in plan m) x else x) none) in
       let here : slice_get m.insns at ≡ Some x = ap (slice_get m.insns) (sym n) ∙ sub 0 x refl in (
         record { own = x; there = here; is = same },
         clients_tell none (at + 1) insns (λ j y e.
@@ -64,22 +63,22 @@ module _ (policy : Policy) (pool : List Const) (m : Method) where
             ap (slice_get m.insns) k ∙ sub (suc j) y e),
       )
 
-  module _ (some : is_woven policy m ≡ true) where
+  module _ (some : is_woven plan m ≡ true) where
     abbrev fronts : List ℕ
-    fronts = fronts_in policy m
+    fronts = fronts_in plan m
 
     abbrev sites : List (Option Block)
-    sites = sites_of policy m.max_locals m
+    sites = sites_of plan m.max_locals m
 
-    own_is : (own : Insn) → aimed fronts own ≡ insn_woven policy m own
-    own_is own = sym (ap (λ (b : Bool). if b then aimed (fronts_in policy m) own else own) some)
+    own_is : (own : Insn) → aimed fronts own ≡ insn_woven plan m own
+    own_is own = sym (ap (λ (b : Bool). if b then aimed (fronts_in plan m) own else own) some)
 
     module _ (i begin : ℕ) (own : Insn) (begins : begin ≡ slice_index fronts i) (for : slice_get m.insns i ≡ Some own) where
-      alone_tells : AreFrom policy pool m begin (map (put pool fronts begin own) (part_of None)) (part_origins (i, None))
+      alone_tells : AreFrom plan pool m begin (map (put pool fronts begin own) (part_of None)) (part_origins (i, None))
       alone_tells = (record { own = own; there = for; is = own_is own }, tt)
 
       module _ (block : Block) (stands : slice_get sites i ≡ Some (Some block)) where
-        of_block : (k : ℕ) (x : BlockInsn) → slice_get block.insns k ≡ Some x → x ≢ Call → IsOfBlock policy pool m (begin + k) (put pool fronts begin own x) i k
+        of_block : (k : ℕ) (x : BlockInsn) → slice_get block.insns k ≡ Some x → x ≢ Call → IsOfBlock plan pool m (begin + k) (put pool fronts begin own x) i k
         of_block k x there other = record {
           block = block;
           stands = stands;
@@ -92,7 +91,7 @@ module _ (policy : Policy) (pool : List Const) (m : Method) where
           is = ap (λ (n : ℕ). put pool fronts n own x) begins;
         }
 
-        item_tells : (k : ℕ) (x : BlockInsn) → slice_get block.insns k ≡ Some x → IsFrom policy pool m (begin + k) (put pool fronts begin own x) (origin_of i (k, x))
+        item_tells : (k : ℕ) (x : BlockInsn) → slice_get block.insns k ≡ Some x → IsFrom plan pool m (begin + k) (put pool fronts begin own x) (origin_of i (k, x))
         item_tells k (Plain op) e = of_block k (Plain op) e (λ f. absurd cc)
         item_tells k (Byte n) e = of_block k (Byte n) e (λ f. absurd cc)
         item_tells k (Short n) e = of_block k (Short n) e (λ f. absurd cc)
@@ -102,7 +101,7 @@ module _ (policy : Policy) (pool : List Const) (m : Method) where
         item_tells k Call e = record { own = own; there = for; is = own_is own }
 
         items_tell : (k : ℕ) (items : List BlockInsn) → ((j : ℕ) (x : BlockInsn) → slice_get items j ≡ Some x → slice_get block.insns (k + j) ≡ Some x)
-            → AreFrom policy pool m (begin + k) (map (put pool fronts begin own) items) (map (origin_of i) (enumerate_from k items))
+            → AreFrom plan pool m (begin + k) (map (put pool fronts begin own) items) (map (origin_of i) (enumerate_from k items))
         items_tell k [] sub = tt
         items_tell k (x ∷ items) sub =
             let n : k + 0 ≡ k = omega arith in
@@ -111,17 +110,17 @@ module _ (policy : Policy) (pool : List Const) (m : Method) where
             let rest = items_tell (k + 1) items (λ j y e.
             let next : k + 1 + j ≡ k + suc j = omega arith in
             ap (slice_get block.insns) next ∙ sub (suc j) y e) in
-            (item_tells k x here, subst (λ (p : ℕ). AreFrom policy pool m p (map (put pool fronts begin own) items) (map (origin_of i) (enumerate_from (k + 1) items))) at rest)
+            (item_tells k x here, subst (λ (p : ℕ). AreFrom plan pool m p (map (put pool fronts begin own) items) (map (origin_of i) (enumerate_from (k + 1) items))) at rest)
 
-        block_tells : AreFrom policy pool m begin (map (put pool fronts begin own) block.insns) (part_origins (i, Some block))
+        block_tells : AreFrom plan pool m begin (map (put pool fronts begin own) block.insns) (part_origins (i, Some block))
         block_tells =
             let n : begin + 0 ≡ begin = omega arith in
             let all = items_tell 0 block.insns (λ j x e.
             let zero_add : 0 + j ≡ j = omega arith in
             ap (slice_get block.insns) zero_add ∙ e) in
-            subst (λ (p : ℕ). AreFrom policy pool m p (map (put pool fronts begin own) block.insns) (part_origins (i, Some block))) n all
+            subst (λ (p : ℕ). AreFrom plan pool m p (map (put pool fronts begin own) block.insns) (part_origins (i, Some block))) n all
 
-      part_tells : (s : Option Block) → slice_get sites i ≡ Some s → AreFrom policy pool m begin (map (put pool fronts begin own) (part_of s)) (part_origins (i, s))
+      part_tells : (s : Option Block) → slice_get sites i ≡ Some s → AreFrom plan pool m begin (map (put pool fronts begin own) (part_of s)) (part_origins (i, s))
       part_tells None e = alone_tells
       part_tells (Some block) e = block_tells block e
 
@@ -133,7 +132,7 @@ module _ (policy : Policy) (pool : List Const) (m : Method) where
         → ((j : ℕ) (x : Insn) → slice_get own j ≡ Some x → slice_get m.insns (i + j) ≡ Some x)
         → ((j : ℕ) (s : Option Block) → slice_get left j ≡ Some s → slice_get sites (i + j) ≡ Some s)
         → ((j : ℕ) → slice_index (fronts_from begin left) j ≡ slice_index fronts (i + j))
-        → AreFrom policy pool m begin (parts_from pool fronts begin own left) (flat_map part_origins (enumerate_from i left))
+        → AreFrom plan pool m begin (parts_from pool fronts begin own left) (flat_map part_origins (enumerate_from i left))
     parts_tell i begin [] [] e a b c = tt
     parts_tell i begin [] (s ∷ left) e a b c = absurd (omega arith)
     parts_tell i begin (x ∷ own) [] e a b c = absurd (omega arith)
@@ -157,9 +156,9 @@ module _ (policy : Policy) (pool : List Const) (m : Method) where
         c (suc j) ∙ ap (slice_index fronts) k) in
         let rest = parts_from pool fronts (begin + length (part_of s)) own left in
         let told = flat_map part_origins (enumerate_from (i + 1) left) in
-        tell_append begin here rest (part_origins (i, s)) told (part_tells i begin x begins for s stands) (subst (λ (p : ℕ). AreFrom policy pool m p rest told) after later)
+        tell_append begin here rest (part_origins (i, s)) told (part_tells i begin x begins for s stands) (subst (λ (p : ℕ). AreFrom plan pool m p rest told) after later)
 
-    spliced_tells : length sites ≡ length m.insns → AreFrom policy pool m 0 (spliced pool m.insns sites) (origins_of sites)
+    spliced_tells : length sites ≡ length m.insns → AreFrom plan pool m 0 (spliced pool m.insns sites) (origins_of sites)
     spliced_tells e =
         parts_tell 0 0 m.insns sites e
         (λ j x f.
@@ -175,56 +174,56 @@ module _ (policy : Policy) (pool : List Const) (m : Method) where
   -- ---- a method
 
   code_tells : (class : List ℕ) (number : ℕ) (entries : List Const) (code : Code) (w : WovenCode) → IsSoundMethod m → m.max_locals ≡ code.max_locals
-      → code_woven policy class number entries m code ≡ Ok w → MethodIsFrom policy pool m w.origins
-  code_tells class number entries code w sound locals = by (is_woven policy m) refl
+      → code_woven plan class number entries m code ≡ Ok w → MethodIsFrom plan pool m w.origins
+  code_tells class number entries code w sound locals = by (is_woven plan m) refl
     where
-      by : (b : Bool) → is_woven policy m ≡ b
-          → (if b then blocks_put policy class number entries m code (sites_of policy code.max_locals m) else Ok (record { code = code; entries = entries; origins = clients_from 0 m.insns })) ≡ Ok w
-          → MethodIsFrom policy pool m w.origins
+      by : (b : Bool) → is_woven plan m ≡ b
+          → (if b then blocks_put plan class number entries m code (sites_of plan code.max_locals m) else Ok (record { code = code; entries = entries; origins = clients_from 0 m.insns })) ≡ Ok w
+          → MethodIsFrom plan pool m w.origins
       by true some e =
-          let all = sites_of policy code.max_locals m in
+          let all = sites_of plan code.max_locals m in
           let made : Code → WovenCode = λ new. record { code = new; entries = grown entries all; origins = origins_of all } in
-          let one = bind_ok (room class number code (locals_of policy m)) (λ fits. code_spliced class number (grown entries all) m code (locals_of policy m) all >>= λ new. Ok (made new)) w e in
-          let two = bind_ok (code_spliced class number (grown entries all) m code (locals_of policy m) all) (λ new. Ok (made new)) w one.2 in
-          let told : origins_of (sites_of policy m.max_locals m) ≡ w.origins =
-          ap (λ (n : ℕ). origins_of (sites_of policy n m)) locals ∙ ap (λ (x : WovenCode). x.origins) (ok_is SpliceFault (made two.0) w two.2) in
-          let insns : spliced pool m.insns (sites_of policy m.max_locals m) ≡ insns_woven policy pool m =
-          sym (ap (λ (b : Bool). if b then spliced pool m.insns (sites_of policy m.max_locals m) else m.insns) some) in
-          let count : length (sites_of policy m.max_locals m) ≡ length m.insns = length-map m.refs (site policy m.max_locals) ∙ sound.refs in
-          subst (AreFrom policy pool m 0 (insns_woven policy pool m)) told
-          (subst (λ (xs : List Insn). AreFrom policy pool m 0 xs (origins_of (sites_of policy m.max_locals m))) insns (spliced_tells some count))
+          let one = bind_ok (room class number code (locals_of plan m)) (λ fits. code_spliced class number (grown entries all) m code (locals_of plan m) all >>= λ new. Ok (made new)) w e in
+          let two = bind_ok (code_spliced class number (grown entries all) m code (locals_of plan m) all) (λ new. Ok (made new)) w one.2 in
+          let told : origins_of (sites_of plan m.max_locals m) ≡ w.origins =
+          ap (λ (n : ℕ). origins_of (sites_of plan n m)) locals ∙ ap (λ (x : WovenCode). x.origins) (ok_is SpliceFault (made two.0) w two.2) in
+          let insns : spliced pool m.insns (sites_of plan m.max_locals m) ≡ insns_woven plan pool m =
+          sym (ap (λ (b : Bool). if b then spliced pool m.insns (sites_of plan m.max_locals m) else m.insns) some) in
+          let count : length (sites_of plan m.max_locals m) ≡ length m.insns = length-map m.refs (plan.block m.max_locals) ∙ sound.refs in
+          subst (AreFrom plan pool m 0 (insns_woven plan pool m)) told
+          (subst (λ (xs : List Insn). AreFrom plan pool m 0 xs (origins_of (sites_of plan m.max_locals m))) insns (spliced_tells some count))
       by false none e =
           let same : WovenCode = record { code = code; entries = entries; origins = clients_from 0 m.insns } in
           let told : clients_from 0 m.insns ≡ w.origins = ap (λ (x : WovenCode). x.origins) (ok_is SpliceFault same w e) in
-          let insns : m.insns ≡ insns_woven policy pool m = sym (ap (λ (b : Bool). if b then spliced pool m.insns (sites_of policy m.max_locals m) else m.insns) none) in
+          let insns : m.insns ≡ insns_woven plan pool m = sym (ap (λ (b : Bool). if b then spliced pool m.insns (sites_of plan m.max_locals m) else m.insns) none) in
           let all = clients_tell none 0 m.insns (λ j x f.
           let n : 0 + j ≡ j = omega arith in
           ap (slice_get m.insns) n ∙ f) in
-          subst (AreFrom policy pool m 0 (insns_woven policy pool m)) told (subst (λ (xs : List Insn). AreFrom policy pool m 0 xs (clients_from 0 m.insns)) insns all)
+          subst (AreFrom plan pool m 0 (insns_woven plan pool m)) told (subst (λ (xs : List Insn). AreFrom plan pool m 0 xs (clients_from 0 m.insns)) insns all)
 
 -- ---- the methods of a class
 
-module _ (policy : Policy) (pool : List Const) (files : List ClassFile) (listing : Listing) (class : LinkedClass) where
+module _ (plan : Plan) (pool : List Const) (files : List ClassFile) (listing : Listing) (class : LinkedClass) where
   -- What one member more tells of the methods with code.
   record IsTold (made next : Members) (olds : List Method) : Type 0 where
     told : List (List Origin)
     is : next.origins ≡ made.origins ++ told
     number : next.number ≡ made.number + 1
-    each : Each (MethodIsFrom policy pool) olds told
+    each : Each (MethodIsFrom plan pool) olds told
 
   body_tells : (made next : Members) (member : Member) (m : Method) → IsSoundMethod m → (c : Option Code) → first_code member.attrs ≡ c
-      → body_linked files listing class.file made.number member c ≡ Ok m → body_woven policy class.name made member (Some m) c ≡ Ok next
+      → body_linked files listing class.file made.number member c ≡ Ok m → body_woven plan class.name made member (Some m) c ≡ Ok next
       → IsTold made next (if is_some c then m ∷ [] else [])
   body_tells made next member m sound None first body e =
       subst (λ (x : Members). IsTold made x []) (ok_is SpliceFault (bare_put made member) next e) (record { told = []; is = sym (append-nil made.origins); number = refl; each = tt })
   body_tells made next member m sound (Some code) first body e =
-      let one = bind_ok (code_woven policy class.name made.number made.entries m code) (λ w. Ok (code_put made member w)) next e in
+      let one = bind_ok (code_woven plan class.name made.number made.entries m code) (λ w. Ok (code_put made member w)) next e in
       let old = coded files listing class.file made.number member code m body in
       subst (λ (x : Members). IsTold made x (m ∷ [])) (ok_is SpliceFault (code_put made member one.0) next one.2) (record {
         told = one.0.origins ∷ [];
         is = refl;
         number = refl;
-        each = (code_tells policy pool m class.name made.number made.entries code one.0 sound old.max_locals one.1, tt);
+        each = (code_tells plan pool m class.name made.number made.entries code one.0 sound old.max_locals one.1, tt);
       })
 
   first_of : (m : Method) (member : Member) (methods : List Method) (members : List Member)
@@ -236,12 +235,12 @@ module _ (policy : Policy) (pool : List Const) (files : List ClassFile) (listing
       by false = refl
 
   members_tell : (members : List Member) (made last : Members) (done left : List Method) → class.methods ≡ done ++ left → length done ≡ made.number → AllByRecursion IsSoundMethod left
-      → linked_from (method_linked files listing class.file) made.number members ≡ Ok left → folded (member_woven policy class) made members ≡ Ok last
-      → (told : List (List Origin)) × (last.origins ≡ made.origins ++ told) × Each (MethodIsFrom policy pool) (with_code left members) told
+      → linked_from (method_linked files listing class.file) made.number members ≡ Ok left → folded (member_woven plan class) made members ≡ Ok last
+      → (told : List (List Origin)) × (last.origins ≡ made.origins ++ told) × Each (MethodIsFrom plan pool) (with_code left members) told
   members_tell [] made last done left split count sound e w =
       let none : [] ≡ left = ok_is LinkFault [] left e in
       let same : last.origins ≡ made.origins ++ [] = ap (λ (x : Members). x.origins) (sym (ok_is SpliceFault made last w)) ∙ sym (append-nil made.origins) in
-      ([], same, subst (λ (ms : List Method). Each (MethodIsFrom policy pool) (with_code ms []) []) none tt)
+      ([], same, subst (λ (ms : List Method). Each (MethodIsFrom plan pool) (with_code ms []) []) none tt)
   members_tell (member ∷ members) made last done left split count sound e w =
       let a = first_linked (method_linked files listing class.file) made.number member members left e in
       let m = a.0 in
@@ -249,29 +248,29 @@ module _ (policy : Policy) (pool : List Const) (files : List ClassFile) (listing
       let sound' : AllByRecursion IsSoundMethod (m ∷ rest) = subst (AllByRecursion IsSoundMethod) (sym a.4) sound in
       let split' : class.methods ≡ done ++ m ∷ rest = split ∙ ap (λ (xs : List Method). done ++ xs) (sym a.4) in
       let here : slice_get class.methods made.number ≡ Some m = ap (λ (n : ℕ). slice_get class.methods n) (sym count) ∙ ap (λ (xs : List Method). slice_get xs (length done)) split' ∙ get_behind done m rest in
-      let one = bind_ok (member_woven policy class made member) (λ next. folded (member_woven policy class) next members) last w in
+      let one = bind_ok (member_woven plan class made member) (λ next. folded (member_woven plan class) next members) last w in
       let next = one.0 in
-      let made_by : body_woven policy class.name made member (Some m) (first_code member.attrs) ≡ Ok next =
-      ap (λ (o : Option Method). body_woven policy class.name made member o (first_code member.attrs)) (sym here) ∙ one.1 in
+      let made_by : body_woven plan class.name made member (Some m) (first_code member.attrs) ≡ Ok next =
+      ap (λ (o : Option Method). body_woven plan class.name made member o (first_code member.attrs)) (sym here) ∙ one.1 in
       let body = (conditions_of files listing class.file made.number member m a.2).2 in
       let step = body_tells made next member m sound'.0 (first_code member.attrs) refl body made_by in
       let linked' : linked_from (method_linked files listing class.file) next.number members ≡ Ok rest = ap (λ (n : ℕ). linked_from (method_linked files listing class.file) n members) step.number ∙ a.3 in
       let count' : length (done ++ m ∷ []) ≡ next.number = length-append done (m ∷ []) ∙ ap (λ (n : ℕ). n + 1) count ∙ sym step.number in
       let later = members_tell members next last (done ++ m ∷ []) rest (split' ∙ sym (append_assoc done (m ∷ []) rest)) count' sound'.1 linked' one.2 in
-      let all = each_append (MethodIsFrom policy pool) (if is_some (first_code member.attrs) then m ∷ [] else []) (with_code rest members) step.told later.0 step.each later.2 in (
+      let all = each_append (MethodIsFrom plan pool) (if is_some (first_code member.attrs) then m ∷ [] else []) (with_code rest members) step.told later.0 step.each later.2 in (
         step.told ++ later.0,
         later.1 ∙ ap (λ (xs : List (List Origin)). xs ++ later.0) step.is ∙ append_assoc made.origins step.told later.0,
-        subst (λ (ms : List Method). Each (MethodIsFrom policy pool) (with_code ms (member ∷ members)) (step.told ++ later.0)) a.4
-            (subst (λ (ms : List Method). Each (MethodIsFrom policy pool) ms (step.told ++ later.0)) (first_of m member rest members) all),
+        subst (λ (ms : List Method). Each (MethodIsFrom plan pool) (with_code ms (member ∷ members)) (step.told ++ later.0)) a.4
+            (subst (λ (ms : List Method). Each (MethodIsFrom plan pool) ms (step.told ++ later.0)) (first_of m member rest members) all),
       )
 
 -- ---- the program
 
-module _ (policy : Policy) (files : List ClassFile) (listing : Listing) where
+module _ (plan : Plan) (files : List ClassFile) (listing : Listing) where
   classes_tell : (made last : Woven) (classes : List LinkedClass) → AllByRecursion IsSoundClass classes → AllByRecursion (IsOf files listing) classes
-      → folded (class_woven policy) made classes ≡ Ok last
+      → folded (class_woven plan) made classes ≡ Ok last
       → (news : List ClassFile) × (told : List (List (List Origin))) × (last.files ≡ made.files ++ news) × (last.origins ≡ made.origins ++ told)
-      × ((state : ClassFile) → ClassesAreFrom policy classes (news ++ state ∷ []) (told ++ [] ∷ []))
+      × ((state : ClassFile) → ClassesAreFrom plan classes (news ++ state ∷ []) (told ++ [] ∷ []))
   classes_tell made last [] sound of e =
       let is : made ≡ last = ok_is SpliceFault made last e in (
         [],
@@ -281,13 +280,13 @@ module _ (policy : Policy) (files : List ClassFile) (listing : Listing) where
         λ state. refl,
       )
   classes_tell made last (class ∷ classes) sound of e =
-      let one = bind_ok (class_woven policy made class) (λ next. folded (class_woven policy) next classes) last e in
-      let two = bind_ok (members_woven policy class (none_made class.file.pool) class.file.methods) (λ done. Ok (file_put made class done)) one.0 one.1 in
+      let one = bind_ok (class_woven plan made class) (λ next. folded (class_woven plan) next classes) last e in
+      let two = bind_ok (members_woven plan class (none_made class.file.pool) class.file.methods) (λ done. Ok (file_put made class done)) one.0 one.1 in
       let done = two.0 in
       let is : file_put made class done ≡ one.0 = ok_is SpliceFault (file_put made class done) one.0 two.2 in
       let file = file_with class.file done.entries done.items in
-      let tell = members_tell policy done.entries files listing class class.file.methods (none_made class.file.pool) done [] class.methods refl refl sound.0.methods of.0.methods two.1 in
-      let here : ClassIsFrom policy class file done.origins = subst (Each (MethodIsFrom policy done.entries) (with_code class.methods class.file.methods)) (sym tell.1) tell.2 in
+      let tell = members_tell plan done.entries files listing class class.file.methods (none_made class.file.pool) done [] class.methods refl refl sound.0.methods of.0.methods two.1 in
+      let here : ClassIsFrom plan class file done.origins = subst (Each (MethodIsFrom plan done.entries) (with_code class.methods class.file.methods)) (sym tell.1) tell.2 in
       let later = classes_tell one.0 last classes sound.1 of.1 one.2 in (
         file ∷ later.0,
         done.origins ∷ later.1,
@@ -297,16 +296,16 @@ module _ (policy : Policy) (files : List ClassFile) (listing : Listing) where
       )
 
 pub tell : OriginsAreTrue
-tell files listing main old policy made linked sound w =
+tell files listing main old plan vars made linked sound w =
     let p = program_of files listing main sides.Original old linked in
     let none : Woven = record { files = []; origins = [] } in
-    let one = bind_ok (classes_woven policy none old.classes) (λ x. Ok (state_put policy x)) made w in
-    let is : state_put policy one.0 ≡ made = ok_is SpliceFault (state_put policy one.0) made one.2 in
-    let all = classes_tell policy files listing none one.0 old.classes sound.classes p.classes one.1 in
-    let news : (state_put policy one.0).files ≡ all.0 ++ state_class policy ∷ [] = ap (λ (xs : List ClassFile). xs ++ state_class policy ∷ []) all.2 in
-    let told : (state_put policy one.0).origins ≡ all.1 ++ [] ∷ [] = ap (λ (xs : List (List (List Origin))). xs ++ [] ∷ []) all.3 in
-    let here = all.4 (state_class policy) in
-    let put : ClassesAreFrom policy old.classes (state_put policy one.0).files (state_put policy one.0).origins =
-    subst (λ (xs : List (List (List Origin))). ClassesAreFrom policy old.classes (state_put policy one.0).files xs) (sym told)
-    (subst (λ (xs : List ClassFile). ClassesAreFrom policy old.classes xs (all.1 ++ [] ∷ [])) (sym news) here) in
-    subst (λ (x : Woven). ClassesAreFrom policy old.classes x.files x.origins) is put
+    let one = bind_ok (classes_woven plan none old.classes) (λ x. Ok (state_put vars x)) made w in
+    let is : state_put vars one.0 ≡ made = ok_is SpliceFault (state_put vars one.0) made one.2 in
+    let all = classes_tell plan files listing none one.0 old.classes sound.classes p.classes one.1 in
+    let news : (state_put vars one.0).files ≡ all.0 ++ state_file vars ∷ [] = ap (λ (xs : List ClassFile). xs ++ state_file vars ∷ []) all.2 in
+    let told : (state_put vars one.0).origins ≡ all.1 ++ [] ∷ [] = ap (λ (xs : List (List (List Origin))). xs ++ [] ∷ []) all.3 in
+    let here = all.4 (state_file vars) in
+    let put : ClassesAreFrom plan old.classes (state_put vars one.0).files (state_put vars one.0).origins =
+    subst (λ (xs : List (List (List Origin))). ClassesAreFrom plan old.classes (state_put vars one.0).files xs) (sym told)
+    (subst (λ (xs : List ClassFile). ClassesAreFrom plan old.classes xs (all.1 ++ [] ∷ [])) (sym news) here) in
+    subst (λ (x : Woven). ClassesAreFrom plan old.classes x.files x.origins) is put

@@ -1,10 +1,11 @@
--- What stands at the places that blocks name: the class conspec/State, and the method that stops the program.
-use Rattle.std.proofs.Common.{◌≡◌, ℕ, Bool, true, false, List, [], ◌∷◌, ◌++◌, Option, Some, None, refl, sym, ap, subst, ◌∙◌, arith}
-use Rattle.std.specs.Prelude.{slice_get, codes, ◌==◌, ◌&&◌, ◌||◌, map, option_map}
-use Rattle.std.specs.List.{AllByRecursion, filter_map, list_any}
+-- What stands at the places that blocks name: the class conspec/State, its fields, the method that stops the program, and
+-- numbers.
+use Rattle.std.proofs.Common.{◌≡◌, ℕ, zero, suc, Bool, true, false, List, [], ◌∷◌, ◌++◌, Option, Some, None, refl, sym, ap, subst, ◌∙◌, arith}
+use Rattle.std.specs.Prelude.{ℤ, slice_get, ◌==◌, ◌&&◌}
+use Rattle.std.specs.List.{AllByRecursion, Contains}
 use Rattle.std.specs.Option.{option_map_or}
-use Rattle.std.proofs.lemmas.Bool.{eqb-true, false≢true}
-use Rattle.std.proofs.lemmas.List.Elements.{filter_map-append}
+use Rattle.std.proofs.lemmas.Bool.{eqb-true}
+use Rattle.std.proofs.lemmas.Bool.Decides.{Decides-int_eq}
 use Rattle.class_codec.specs.declared.tree.Const.{Const}
 use Rattle.class_codec.specs.declared.tree.Const.TheVariants as constants
 use Rattle.class_codec.specs.Pool.{utf8_at, text_of, class_name_at, class_name_of, name_and_type_at, name_and_type_of, both, reference_at, reference_of, member_id}
@@ -13,20 +14,11 @@ use Rattle.bytecode_model.specs.Operands.{id_at}
 use Rattle.bytecode_model.proofs.Placing.{same_name}
 use Rattle.offset_patch.specs.declared.block.PoolWant.{PoolWant}
 use Rattle.offset_patch.specs.declared.block.PoolWant.TheVariants as wants
-use Rattle.offset_patch.specs.Entries.{same, Placed, placed, place_of, entry, text, class, name_and_type, method, state_name, wanted, place_in, IsThere}
+use Rattle.offset_patch.specs.Entries.{same, Placed, placed, place_of, entry, text, class, name_and_type, state_name, variable_name, variable_type, wanted, place_in, IsThere}
+use Rattle.class_weaving.specs.Outcome.{way_out}
 use Rattle.offset_patch.proofs.EntryFits.{get_last, place_found}
-use Rattle.offset_patch.proofs.InsnFits.{split_all}
 use Rattle.offset_patch.proofs.PoolFits.{get_on}
-use Rattle.offset_patch.proofs.Steady.{IsSteady, steady_text, steady_class_at, steady_name_and_type_at, steady_name_and_type, steady_method_at, steady_wanted}
-use Rattle.offset_patch.specs.Splicing.{want_of, block_wants, wants_of}
-use Rattle.offset_patch.specs.declared.block.BlockInsn.TheVariants.{Call}
-use Rattle.bytecode_model.specs.declared.program.Target.{Target}
-use Rattle.bytecode_model.specs.declared.program.Target.TheVariants as target
-use Rattle.conspec_tree.specs.declared.types.Kind.{Kind}
-use Rattle.conspec_automaton.specs.declared.policy.Clause.{Clause}
-use Rattle.conspec_automaton.specs.declared.policy.Policy.{Policy}
-use Rattle.block_template.specs.Blocks.{save, loads, lock, stop, unlock, denial, has_block, site}
-use Rattle.inline_release.proofs.Above.{find_some}
+use Rattle.offset_patch.proofs.Steady.{IsSteady, steady_text, steady_class_at, steady_name_and_type_at, steady_name_and_type, steady_field_at, steady_method_at, steady_wanted}
 
 -- ---- an entry
 
@@ -40,13 +32,17 @@ same_is (constants.Class a) (constants.Class b) e = ap constants.Class (sym (eqb
 same_is (constants.Method a m) (constants.Method b n) e =
     let h = both_true (a == b) (m == n) e in
     rw (eqb-true a b h.0, eqb-true m n h.1) refl
+same_is (constants.Field a m) (constants.Field b n) e =
+    let h = both_true (a == b) (m == n) e in
+    rw (eqb-true a b h.0, eqb-true m n h.1) refl
+same_is (constants.Integer a) (constants.Integer b) e = ap constants.Integer (sym ((Decides-int_eq a b).0 e))
 same_is (constants.NameAndType a m) (constants.NameAndType b n) e =
     let h = both_true (a == b) (m == n) e in
     rw (eqb-true a b h.0, eqb-true m n h.1) refl
 same_is c x e = absurd cc
 
 -- The constant is where it was put or found.
-entry_is : (c : Const) (pool : List Const) → slice_get (entry c pool).0 (entry c pool).1 ≡ Some c
+pub entry_is : (c : Const) (pool : List Const) → slice_get (entry c pool).0 (entry c pool).1 ≡ Some c
 entry_is c pool = by (place_of c pool) refl where
   by : (o : Option ℕ) → place_of c pool ≡ o → slice_get (placed pool c o).0 (placed pool c o).1 ≡ Some c
   by None e = get_last pool c
@@ -74,10 +70,11 @@ pub record IsMember (pool : List Const) (i : ℕ) (name desc : List ℕ) : Type 
   pub named : slice_get pool at ≡ Some (constants.Utf8 name)
   pub described : slice_get pool desc_at ≡ Some (constants.Utf8 desc)
 
-pub record IsMethod (pool : List Const) (i : ℕ) (owner name desc : List ℕ) : Type 0 where
+-- a field or a method, as `c` makes it of the indices
+pub record IsOf (c : ℕ → ℕ → Const) (pool : List Const) (i : ℕ) (owner name desc : List ℕ) : Type 0 where
   pub class_at : ℕ
   pub member_at : ℕ
-  pub there : slice_get pool i ≡ Some (constants.Method class_at member_at)
+  pub there : slice_get pool i ≡ Some (c class_at member_at)
   pub class : IsClass pool class_at owner
   pub member : IsMember pool member_at name desc
 
@@ -117,19 +114,22 @@ member_later f steady pool i name desc h = record {
   described = get_later f steady pool h.desc_at (constants.Utf8 desc) h.described;
 }
 
-method_is : (owner name desc : List ℕ) (pool : List Const) → IsMethod (method owner name desc pool).0 (method owner name desc pool).1 owner name desc
-method_is owner name desc pool =
-    let one = class owner pool in
-    let two = name_and_type name desc one.0 in
-    let c = constants.Method one.1 two.1 in
-    let steady = steady_method_at one.1 two.1 in
-    record {
-      class_at = one.1;
-      member_at = two.1;
-      there = entry_is c two.0;
-      class = class_later (entry c) steady two.0 one.1 owner (class_later (name_and_type name desc) (steady_name_and_type name desc) one.0 one.1 owner (class_is owner pool));
-      member = member_later (entry c) steady two.0 two.1 name desc (member_is name desc one.0);
-    }
+module _ (c : ℕ → ℕ → Const) (steady : (i j : ℕ) → IsSteady (entry (c i j))) where
+  abbrev of : List ℕ → List ℕ → List ℕ → List Const → Placed
+  of owner name desc pool = entry (c (class owner pool).1 (name_and_type name desc (class owner pool).0).1) (name_and_type name desc (class owner pool).0).0
+
+  of_is : (owner name desc : List ℕ) (pool : List Const) → IsOf c (of owner name desc pool).0 (of owner name desc pool).1 owner name desc
+  of_is owner name desc pool =
+      let one = class owner pool in
+      let two = name_and_type name desc one.0 in
+      let last = c one.1 two.1 in
+      record {
+        class_at = one.1;
+        member_at = two.1;
+        there = entry_is last two.0;
+        class = class_later (entry last) (steady one.1 two.1) two.0 one.1 owner (class_later (name_and_type name desc) (steady_name_and_type name desc) one.0 one.1 owner (class_is owner pool));
+        member = member_later (entry last) (steady one.1 two.1) two.0 two.1 name desc (member_is name desc one.0);
+      }
 
 -- ---- what is told of them
 
@@ -149,10 +149,10 @@ unfolding name_and_type_at
 member_told pool i name desc h =
     ap (name_and_type_of pool) h.there ∙ ap (λ (o : Option (List ℕ)). both o (utf8_at pool h.desc_at)) (text_told pool h.at name h.named) ∙ ap (both (Some name)) (text_told pool h.desc_at desc h.described)
 
-pub id_told : (pool : List Const) (i : ℕ) (owner name desc : List ℕ) (h : IsMethod pool i owner name desc) → id_at pool h.class_at h.member_at ≡ record { class = owner; name = name; desc = desc }
-id_told pool i owner name desc h = rw (class_told pool h.class_at owner h.class, member_told pool h.member_at name desc h.member) refl
+pub id_told : (c : ℕ → ℕ → Const) (pool : List Const) (i : ℕ) (owner name desc : List ℕ) (h : IsOf c pool i owner name desc) → id_at pool h.class_at h.member_at ≡ record { class = owner; name = name; desc = desc }
+id_told c pool i owner name desc h = rw (class_told pool h.class_at owner h.class, member_told pool h.member_at name desc h.member) refl
 
-pub reference_told : (pool : List Const) (i : ℕ) (owner name desc : List ℕ) → IsMethod pool i owner name desc → reference_at pool i ≡ Some (record { class = owner; name = name; desc = desc })
+pub reference_told : (pool : List Const) (i : ℕ) (owner name desc : List ℕ) → IsOf constants.Method pool i owner name desc → reference_at pool i ≡ Some (record { class = owner; name = name; desc = desc })
 unfolding reference_at
 reference_told pool i owner name desc h =
     ap (reference_of pool) h.there ∙ ap (λ (o : Option (List ℕ)). member_id o (name_and_type_at pool h.member_at)) (class_told pool h.class_at owner h.class)
@@ -161,12 +161,21 @@ reference_told pool i owner name desc h =
 -- ---- the entries that blocks name
 
 pub state_there : (pool : List Const) → IsThere pool wants.StateClass → IsClass pool (place_in pool wants.StateClass) state_name
-state_there pool there = subst (λ (p : List Const). IsClass p (place_in pool wants.StateClass) state_name) there.same (class_is (codes "conspec/State") pool)
+state_there pool there = subst (λ (p : List Const). IsClass p (place_in pool wants.StateClass) state_name) there.same (class_is state_name pool)
 
-pub exit_there : (pool : List Const) → IsThere pool wants.Exit → IsMethod pool (place_in pool wants.Exit) (codes "java/lang/System") (codes "exit") (codes "(I)V")
+pub field_there : (pool : List Const) (var : ℕ) (is_bool : Bool) → IsThere pool (wants.StateField var is_bool)
+    → IsOf constants.Field pool (place_in pool (wants.StateField var is_bool)) state_name (variable_name var) (variable_type is_bool)
+field_there pool var is_bool there =
+    subst (λ (p : List Const). IsOf constants.Field p (place_in pool (wants.StateField var is_bool)) state_name (variable_name var) (variable_type is_bool)) there.same
+    (of_is constants.Field steady_field_at state_name (variable_name var) (variable_type is_bool) pool)
+
+pub exit_there : (pool : List Const) → IsThere pool wants.Exit → IsOf constants.Method pool (place_in pool wants.Exit) way_out.class way_out.name way_out.desc
 exit_there pool there =
-    subst (λ (p : List Const). IsMethod p (place_in pool wants.Exit) (codes "java/lang/System") (codes "exit") (codes "(I)V")) there.same
-    (method_is (codes "java/lang/System") (codes "exit") (codes "(I)V") pool)
+    subst (λ (p : List Const). IsOf constants.Method p (place_in pool wants.Exit) way_out.class way_out.name way_out.desc) there.same
+    (of_is constants.Method steady_method_at way_out.class way_out.name way_out.desc pool)
+
+pub number_there : (pool : List Const) (n : ℤ) → IsThere pool (wants.Integer n) → slice_get pool (place_in pool (wants.Integer n)) ≡ Some (constants.Integer n)
+number_there pool n there = subst (λ (p : List Const). slice_get p (place_in pool (wants.Integer n)) ≡ Some (constants.Integer n)) there.same (entry_is (constants.Integer n) pool)
 
 -- they are there in each longer pool
 pub there_on : (want : PoolWant) (pool more : List Const) → IsThere pool want → IsThere (pool ++ more) want
@@ -174,29 +183,8 @@ there_on want pool more there =
     let here : wanted want pool ≡ (pool, place_in pool want) = ap (λ (p : List Const). (p, place_in pool want)) there.same in
     record { same = ap (λ (z : Placed). z.0) ((steady_wanted want).stays pool more (place_in pool want) here) }
 
--- ---- a method with a block wants the way out
-
-module _ (pool : List Const) where
-  denial_wants : (base : ℕ) (kinds : List Kind) → AllByRecursion (IsThere pool) (filter_map want_of (denial base kinds).insns) → IsThere pool wants.Exit
-  denial_wants base kinds h =
-      let front = save base kinds in
-      let behind = lock ++ (stop ++ (unlock ++ (loads base kinds ++ Call ∷ []))) in
-      let both = subst (AllByRecursion (IsThere pool)) (filter_map-append want_of front behind) h in
-      (split_all (IsThere pool) (filter_map want_of front) (filter_map want_of behind) both).1.1.0
-
-  site_wants : (policy : Policy) (base : ℕ) (ref : Target) → has_block policy ref ≡ true → AllByRecursion (IsThere pool) (block_wants (site policy base ref)) → IsThere pool wants.Exit
-  site_wants policy base (target.ApiMethod method) e h =
-      let c = find_some (λ (c : Clause). c.method == method) policy.clauses e in
-      denial_wants base c.0.args (subst (λ (o : Option Clause). AllByRecursion (IsThere pool) (block_wants (option_map (λ (c : Clause). denial base c.args) o))) c.1 h)
-  site_wants policy base ref e h = absurd (false≢true e)
-
-  pub exit_wanted : (policy : Policy) (base : ℕ) (refs : List Target) → list_any (has_block policy) refs ≡ true → AllByRecursion (IsThere pool) (wants_of (map (site policy base) refs)) → IsThere pool wants.Exit
-  exit_wanted policy base [] e h = absurd (false≢true e)
-  exit_wanted policy base (ref ∷ refs) e h =
-      let both = split_all (IsThere pool) (block_wants (site policy base ref)) (wants_of (map (site policy base) refs)) h in
-      by (has_block policy ref) refl e (λ f. exit_wanted policy base refs f both.1) both.0
-    where
-      by : (b : Bool) → has_block policy ref ≡ b → (b || list_any (has_block policy) refs) ≡ true → (list_any (has_block policy) refs ≡ true → IsThere pool wants.Exit)
-          → AllByRecursion (IsThere pool) (block_wants (site policy base ref)) → IsThere pool wants.Exit
-      by true is e rest here = site_wants policy base ref is here
-      by false is e rest here = rest e
+-- what holds of each holds of one of them
+pub all_of : {X : Type 0} (P : X → Type 0) (xs : List X) (x : X) → AllByRecursion P xs → Contains xs x → P x
+all_of P [] x h c = absurd (omega (arith, c.1))
+all_of P (y ∷ xs) x h (zero, few, is) = subst P is h.0
+all_of P (y ∷ xs) x h (suc k, few, is) = all_of P xs x h.1 (k, omega arith, is)

@@ -1,11 +1,10 @@
 -- Files that were woven link to the program with its blocks.
-use Rattle.std.proofs.Common.{◌≡◌, ℕ, ◌+◌, ◌≤◌, true, List, [], ◌∷◌, ◌++◌, length, map, Option, Some, Ok, refl, sym, ap, subst, ◌∙◌, append_assoc, append-nil, arith}
-use Rattle.std.specs.Prelude.{slice_get, not, nat_lt, ok_or}
+use Rattle.std.proofs.Common.{◌≡◌, ℕ, ◌+◌, Bool, true, List, [], ◌∷◌, ◌++◌, length, map, Option, Some, Ok, refl, sym, ap, subst, ◌∙◌, append_assoc, append-nil}
+use Rattle.std.specs.Prelude.{slice_get, ok_or}
 use Rattle.std.specs.List.{AllByRecursion}
-use Rattle.std.proofs.lemmas.Bool.Decides.{nat_tests}
 use Rattle.std.proofs.lemmas.List.{length-append, length-map}
 use Rattle.mon_base.specs.Reading.{◌>>=◌}
-use Rattle.mon_base.proofs.Reading.{bind_ok, ok_is, need_ok, ok_or_ok}
+use Rattle.mon_base.proofs.Reading.{bind_ok, ok_is, ok_or_ok}
 use Rattle.class_codec.specs.declared.tree.ClassFile.{ClassFile}
 use Rattle.class_codec.specs.declared.tree.Const.{Const}
 use Rattle.class_codec.specs.declared.tree.Member.{Member}
@@ -23,27 +22,27 @@ use Rattle.class_linking.specs.ClassConditions.{classes_linked}
 use Rattle.class_linking.specs.Fault.{Linked, linked_from}
 use Rattle.bytecode_model.specs.Heads.{class_at, head_of, heads_of}
 use Rattle.bytecode_model.specs.Operands.{literals_of}
-use Rattle.class_linking.specs.Linking.{method_linked, methods_linked, each_linked, class_with, classes_with, members_of, main_of, linked}
-use Rattle.bytecode_model.specs.Files.{max_files}
+use Rattle.class_linking.specs.Linking.{method_linked, methods_linked, each_linked, class_with, classes_with, members_of, main_of, assembled}
 use Rattle.bytecode_model.specs.Sound.{IsSoundMethod, IsSoundClass}
-use Rattle.conspec_automaton.specs.declared.policy.Policy.{Policy}
+use Rattle.conspec_tree.specs.declared.types.Var.{Var}
+use Rattle.offset_patch.specs.Plan.{Plan, IsGood}
 use Rattle.offset_patch.specs.declared.fault.SpliceFault.{SpliceFault}
 use Rattle.offset_patch.specs.Entries.{with_wants}
 use Rattle.offset_patch.proofs.Pieces.{wants_append}
-use Rattle.block_template.specs.State.{state_file, state_class}
-use Rattle.block_template.specs.declared.woven.Members.{Members}
-use Rattle.block_template.specs.Woven.{folded, first_code, body_woven, member_woven, none_made}
-use Rattle.block_template.specs.Outcome.{Each, wants_woven, class_wants, IsWovenMethod, IsWovenClass}
-use Rattle.inline_release.specs.Links.{WovenLinks}
-use Rattle.inline_release.proofs.Added.{is_added, new_stand}
-use Rattle.inline_release.proofs.Free.{IsFree}
-use Rattle.inline_release.proofs.Kept.{IsLonger, IsKept, IsFileOf, members_woven_of, file_kept, file_is, files_made}
-use Rattle.inline_release.proofs.Listed.{listed}
-use Rattle.inline_release.proofs.Named.{IsAdded}
-use Rattle.inline_release.proofs.Pairs.{first_linked}
-use Rattle.inline_release.proofs.Same.{bare_state, head_kept, literals_kept, main_kept, state_strings}
-use Rattle.inline_release.proofs.Standing.{IsGood, all_good, state_says, state_head_name}
-use Rattle.inline_release.proofs.Steps.{one_step}
+use Rattle.class_weaving.specs.State.{state_file}
+use Rattle.class_weaving.specs.declared.woven.Members.{Members}
+use Rattle.class_weaving.specs.Woven.{folded, first_code, body_woven, member_woven, none_made}
+use Rattle.class_weaving.specs.Outcome.{Each, wants_woven, class_wants, IsWovenMethod, IsWovenClass}
+use Rattle.woven_linking.specs.Links.{WovenLinks}
+use Rattle.woven_linking.proofs.Added.{is_added, new_stand}
+use Rattle.woven_linking.proofs.Free.{IsFree}
+use Rattle.woven_linking.proofs.Kept.{IsLonger, IsKept, IsFileOf, members_woven_of, file_kept, file_is, files_made}
+use Rattle.woven_linking.proofs.Listed.{listed}
+use Rattle.woven_linking.proofs.Named.{IsAdded}
+use Rattle.woven_linking.proofs.Pairs.{first_linked}
+use Rattle.woven_linking.proofs.Same.{head_kept, literals_kept, main_kept, state_strings}
+use Rattle.woven_linking.proofs.Standing.{IsGoodClass, all_good, state_says, state_head_name}
+use Rattle.woven_linking.proofs.Steps.{one_step}
 
 -- ---- lists
 
@@ -53,24 +52,24 @@ get_behind (z ∷ xs) x ys = get_behind xs x ys
 
 -- ---- the methods of a class
 
-module _ (policy : Policy) (class : LinkedClass) (new : ClassFile) (files others : List ClassFile) (listing : Listing) (added : IsAdded files others listing)
+module _ (kinds : List Bool) (plan : Plan) (good : IsGood kinds plan) (class : LinkedClass) (new : ClassFile) (files others : List ClassFile) (listing : Listing) (added : IsAdded kinds files others listing)
     (p : FitsPool class.file.pool) (free : IsFree class.file.pool) (longer : IsLonger class.file.pool new.pool) (named : (head_of new).name ≡ (head_of class.file).name) where
   -- What the members that are left make of what was made, and what these link to.
   record IsRest (made last : Members) (left : List Method) : Type 0 where
     items : List Member
     are : last.items ≡ made.items ++ items
     more : (xs : List Const) × (last.entries ≡ made.entries ++ xs)
-    wanted : last.entries ≡ with_wants made.entries (class_wants policy left)
+    wanted : last.entries ≡ with_wants made.entries (class_wants plan left)
     linked : List Method
     links : linked_from (method_linked others listing new) made.number items ≡ Ok linked
-    each : Each (IsWovenMethod policy new.pool) left linked
+    each : Each (IsWovenMethod plan (length files) new.pool) left linked
 
   none_left : (made : Members) → IsRest made made []
   none_left made = record { items = []; are = sym (append-nil made.items); more = ([], sym (append-nil made.entries)); wanted = refl; linked = []; links = refl; each = tt }
 
   members_rest : (members : List Member) (made last : Members) (done left : List Method) → class.methods ≡ done ++ left → length done ≡ made.number → AllByRecursion IsSoundMethod left
       → AllByRecursion (FitsMember class.file.pool true) members → linked_from (method_linked files listing class.file) made.number members ≡ Ok left
-      → folded (member_woven policy class) made members ≡ Ok last → last.entries ≡ new.pool → IsRest made last left
+      → folded (member_woven plan class) made members ≡ Ok last → last.entries ≡ new.pool → IsRest made last left
   members_rest [] made last done left split count sound fits e w pool =
       let none : [] ≡ left = ok_is LinkFault [] left e in
       subst (IsRest made last) none (subst (λ (x : Members). IsRest made x []) (ok_is SpliceFault made last w) (none_left made))
@@ -81,11 +80,11 @@ module _ (policy : Policy) (class : LinkedClass) (new : ClassFile) (files others
       let sound' : AllByRecursion IsSoundMethod (m ∷ rest) = subst (AllByRecursion IsSoundMethod) (sym a.4) sound in
       let split' : class.methods ≡ done ++ m ∷ rest = split ∙ ap (λ (xs : List Method). done ++ xs) (sym a.4) in
       let here : slice_get class.methods made.number ≡ Some m = ap (λ (n : ℕ). slice_get class.methods n) (sym count) ∙ ap (λ (xs : List Method). slice_get xs (length done)) split' ∙ get_behind done m rest in
-      let one = bind_ok (member_woven policy class made member) (λ next. folded (member_woven policy class) next members) last w in
+      let one = bind_ok (member_woven plan class made member) (λ next. folded (member_woven plan class) next members) last w in
       let next = one.0 in
-      let woven : body_woven policy class.name made member (Some m) (first_code member.attrs) ≡ Ok next =
-      ap (λ (o : Option Method). body_woven policy class.name made member o (first_code member.attrs)) (sym here) ∙ one.1 in
-      let step = one_step policy class.file new files others listing added p free longer named class.name made next member m fits.0 sound'.0 a.2 woven in
+      let woven : body_woven plan class.name made member (Some m) (first_code member.attrs) ≡ Ok next =
+      ap (λ (o : Option Method). body_woven plan class.name made member o (first_code member.attrs)) (sym here) ∙ one.1 in
+      let step = one_step kinds plan good class.file new files others listing added p free longer named class.name made next member m fits.0 sound'.0 a.2 woven in
       let linked' : linked_from (method_linked files listing class.file) next.number members ≡ Ok rest = ap (λ (n : ℕ). linked_from (method_linked files listing class.file) n members) step.number ∙ a.3 in
       let count' : length (done ++ m ∷ []) ≡ next.number = length-append done (m ∷ []) ∙ ap (λ (n : ℕ). n + 1) count ∙ sym step.number in
       let later = members_rest members next last (done ++ m ∷ []) rest (split' ∙ sym (append_assoc done (m ∷ []) rest)) count' sound'.1 fits.1 linked' one.2 pool in
@@ -96,7 +95,7 @@ module _ (policy : Policy) (class : LinkedClass) (new : ClassFile) (files others
         items = step.item ∷ later.items;
         are = later.are ∙ ap (λ (xs : List Member). xs ++ later.items) step.items ∙ append_assoc made.items (step.item ∷ []) later.items;
         more = (step.more.0 ++ later.more.0, later.more.1 ∙ ap (λ (xs : List Const). xs ++ later.more.0) step.more.1 ∙ append_assoc made.entries step.more.0 later.more.0);
-        wanted = later.wanted ∙ ap (λ (p : List Const). with_wants p (class_wants policy rest)) step.wanted ∙ sym (wants_append made.entries (wants_woven policy m) (class_wants policy rest));
+        wanted = later.wanted ∙ ap (λ (p : List Const). with_wants p (class_wants plan rest)) step.wanted ∙ sym (wants_append made.entries (wants_woven plan m) (class_wants plan rest));
         linked = first.0 ∷ later.linked;
         links = ap (λ (r : Linked Method). r >>= λ x. linked_from (method_linked others listing new) (made.number + 1) later.items >>= λ xs. Ok (x ∷ xs)) first.1
             ∙ ap (λ (r : Linked (List Method)). r >>= λ xs. Ok (first.0 ∷ xs)) again;
@@ -112,15 +111,15 @@ pub record IsOf (files : List ClassFile) (listing : Listing) (class : LinkedClas
   pub parent : class.parent ≡ class_at class.file.pool class.file.super_class
   pub methods : methods_linked files listing class.file ≡ Ok class.methods
 
-module _ (policy : Policy) (files others : List ClassFile) (listing : Listing) (added : IsAdded files others listing) where
-  class_joined : (old : LinkedClass) (new : ClassFile) → IsSoundClass old → IsFree old.file.pool → IsOf files listing old → IsFileOf policy old new
-      → (methods : List Method) × (methods_linked others listing new ≡ Ok methods) × IsWovenClass policy old (class_with new methods)
+module _ (kinds : List Bool) (plan : Plan) (good : IsGood kinds plan) (vars : List Var) (files others : List ClassFile) (listing : Listing) (added : IsAdded kinds files others listing) where
+  class_joined : (old : LinkedClass) (new : ClassFile) → IsSoundClass old → IsFree old.file.pool → IsOf files listing old → IsFileOf plan old new
+      → (methods : List Method) × (methods_linked others listing new ≡ Ok methods) × IsWovenClass plan (length files) old (class_with new methods)
   class_joined old new sound free of w =
-      let k = file_kept policy old new w in
+      let k = file_kept plan old new w in
       let head : head_of new ≡ head_of old.file = head_kept old.file new sound.fits k in
       let named : (head_of new).name ≡ (head_of old.file).name = ap (λ (c : ListedClass). c.name) head in
       let pool : w.made.entries ≡ new.pool = ap (λ (f : ClassFile). f.pool) w.is in
-      let rest = members_rest policy old new files others listing added sound.fits.pool free k.longer named old.file.methods (none_made old.file.pool) w.made [] old.methods refl refl sound.methods
+      let rest = members_rest kinds plan good old new files others listing added sound.fits.pool free k.longer named old.file.methods (none_made old.file.pool) w.made [] old.methods refl refl sound.methods
       sound.fits.methods.each of.methods w.all pool in
       let items : new.methods ≡ rest.items = ap (λ (f : ClassFile). f.methods) (sym w.is) ∙ rest.are in
       let links : methods_linked others listing new ≡ Ok rest.linked = ap (linked_from (method_linked others listing new) 0) items ∙ rest.links in (
@@ -133,7 +132,7 @@ module _ (policy : Policy) (files others : List ClassFile) (listing : Listing) (
           added = k.longer.more;
           pool = k.longer.is;
           wanted = sym pool ∙ rest.wanted;
-          file = file_is policy old new w;
+          file = file_is plan old new w;
           members = members_woven_of old.file.methods new.methods k.methods;
           methods = rest.each;
         },
@@ -142,13 +141,13 @@ module _ (policy : Policy) (files others : List ClassFile) (listing : Listing) (
   -- What the files link to, behind which conspec/State stands.
   record AreJoined (at : ℕ) (olds : List LinkedClass) (news : List ClassFile) : Type 0 where
     methods : List (List Method)
-    links : linked_from (λ i. methods_linked others listing) at (news ++ bare_state ∷ []) ≡ Ok methods
+    links : linked_from (λ i. methods_linked others listing) at (news ++ state_file vars ∷ []) ≡ Ok methods
     own : List LinkedClass
-    are : classes_with (news ++ bare_state ∷ []) methods ≡ own ++ class_with bare_state [] ∷ []
-    classes : Each (IsWovenClass policy) olds own
+    are : classes_with (news ++ state_file vars ∷ []) methods ≡ own ++ class_with (state_file vars) [] ∷ []
+    classes : Each (IsWovenClass plan (length files)) olds own
 
   classes_joined : (at : ℕ) (olds : List LinkedClass) (news : List ClassFile) → AllByRecursion IsSoundClass olds → AllByRecursion (λ (c : LinkedClass). IsFree c.file.pool) olds
-      → AllByRecursion (IsOf files listing) olds → Each (IsFileOf policy) olds news → AreJoined at olds news
+      → AllByRecursion (IsOf files listing) olds → Each (IsFileOf plan) olds news → AreJoined at olds news
   classes_joined at [] [] sound free of w = record { methods = [] ∷ []; links = refl; own = []; are = refl; classes = tt }
   classes_joined at [] (new ∷ news) sound free of w = absurd w
   classes_joined at (old ∷ olds) [] sound free of w = absurd w
@@ -157,7 +156,7 @@ module _ (policy : Policy) (files others : List ClassFile) (listing : Listing) (
       let rest = classes_joined (at + 1) olds news sound.1 free.1 of.1 w.1 in
       record {
         methods = one.0 ∷ rest.methods;
-        links = ap (λ (r : Linked (List Method)). r >>= λ x. linked_from (λ i. methods_linked others listing) (at + 1) (news ++ bare_state ∷ []) >>= λ xs. Ok (x ∷ xs)) one.1
+        links = ap (λ (r : Linked (List Method)). r >>= λ x. linked_from (λ i. methods_linked others listing) (at + 1) (news ++ state_file vars ∷ []) >>= λ xs. Ok (x ∷ xs)) one.1
             ∙ ap (λ (r : Linked (List (List Method))). r >>= λ xs. Ok (one.0 ∷ xs)) rest.links;
         own = class_with new one.0 ∷ rest.own;
         are = ap (λ (xs : List LinkedClass). class_with new one.0 ∷ xs) rest.are;
@@ -194,12 +193,11 @@ pub record IsProgramOf (files : List ClassFile) (listing : Listing) (main : List
   pub main_class_is : p.main_class ≡ begin.0.0
   pub main_method_is : p.main_method ≡ begin.0.1
 
-pub program_of : (files : List ClassFile) (listing : Listing) (main : List ℕ) (side : Side) (p : Program) → linked files listing main side ≡ Ok p → IsProgramOf files listing main side p
+pub program_of : (files : List ClassFile) (listing : Listing) (main : List ℕ) (side : Side) (p : Program) → assembled files listing main side ≡ Ok p → IsProgramOf files listing main side p
 program_of files listing main side p e =
     let built : List (List Method) × List (List ℕ) → ℕ × ℕ → Program = λ members begin. record { classes = classes_with files members.0; listing = listing; literals = members.1; main_class = begin.0; main_method = begin.1 } in
     let ending : List (List Method) × List (List ℕ) → Linked Program = λ members. ok_or (main_of files main) faults.NoMain >>= λ begin. Ok (built members begin) in
-    let a = need_ok (not (nat_lt max_files (length files))) (faults.TooMany (length files)) (λ few. classes_linked side (heads_of files) listing.classes files >>= λ sound. members_of files listing >>= ending) p e in
-    let b = bind_ok (classes_linked side (heads_of files) listing.classes files) (λ sound. members_of files listing >>= ending) p a.1 in
+    let b = bind_ok (classes_linked side (heads_of files) listing.classes files) (λ sound. members_of files listing >>= ending) p e in
     let c = bind_ok (members_of files listing) ending p b.2 in
     let d = bind_ok (ok_or (main_of files main) faults.NoMain) (λ begin. Ok (built c.0 begin)) p c.2 in
     let is : built c.0 d.0 ≡ p = ok_is LinkFault (built c.0 d.0) p d.2 in
@@ -218,73 +216,63 @@ program_of files listing main side p e =
       main_method_is = refl;
     })
 
-linked_by : (files : List ClassFile) (listing : Listing) (main : List ℕ) (side : Side) (methods : List (List Method)) (begin : ℕ × ℕ) → not (nat_lt max_files (length files)) ≡ true
+assembled_by : (files : List ClassFile) (listing : Listing) (main : List ℕ) (side : Side) (methods : List (List Method)) (begin : ℕ × ℕ)
     → classes_linked side (heads_of files) listing.classes files ≡ Ok tt → each_linked files listing files ≡ Ok methods → main_of files main ≡ Some begin
-    → linked files listing main side ≡ Ok (record { classes = classes_with files methods; listing = listing; literals = literals_of files; main_class = begin.0; main_method = begin.1 })
-linked_by files listing main side methods begin few good each is = rw (few, good, each, is) refl
+    → assembled files listing main side ≡ Ok (record { classes = classes_with files methods; listing = listing; literals = literals_of files; main_class = begin.0; main_method = begin.1 })
+assembled_by files listing main side methods begin good each is = rw (good, each, is) refl
 
 -- ---- the law
 
-module _ (policy : Policy) where
-  all_kept : (classes : List LinkedClass) (news : List ClassFile) → Each (IsFileOf policy) classes news → Each IsKept (files_of classes) news
+module _ (plan : Plan) where
+  all_kept : (classes : List LinkedClass) (news : List ClassFile) → Each (IsFileOf plan) classes news → Each IsKept (files_of classes) news
   all_kept [] [] w = tt
   all_kept [] (new ∷ news) w = absurd w
   all_kept (class ∷ classes) [] w = absurd w
-  all_kept (class ∷ classes) (new ∷ news) w = (file_kept policy class new w.0, all_kept classes news w.1)
-
-  as_many : (classes : List LinkedClass) (news : List ClassFile) → Each (IsFileOf policy) classes news → length news ≡ length classes
-  as_many [] [] w = refl
-  as_many [] (new ∷ news) w = absurd w
-  as_many (class ∷ classes) [] w = absurd w
-  as_many (class ∷ classes) (new ∷ news) w = omega (arith, as_many classes news w.1)
+  all_kept (class ∷ classes) (new ∷ news) w = (file_kept plan class new w.0, all_kept classes news w.1)
 
 all_fit : (classes : List LinkedClass) → AllByRecursion IsSoundClass classes → AllByRecursion CanSpell (files_of classes)
 all_fit [] h = tt
 all_fit (class ∷ classes) h = (h.0.fits, all_fit classes h.1)
 
-all_free : (heads : List ListedClass) (classes : List LinkedClass) → AllByRecursion (IsGood heads) (files_of classes) → AllByRecursion (λ (c : LinkedClass). IsFree c.file.pool) classes
+all_free : (heads : List ListedClass) (classes : List LinkedClass) → AllByRecursion (IsGoodClass heads) (files_of classes) → AllByRecursion (λ (c : LinkedClass). IsFree c.file.pool) classes
 all_free heads [] h = tt
 all_free heads (class ∷ classes) h = (h.0.free, all_free heads classes h.1)
 
 pub free_classes : (files : List ClassFile) (listing : Listing) (main : List ℕ) (p : Program) → IsProgramOf files listing main sides.Original p → AllByRecursion (λ (c : LinkedClass). IsFree c.file.pool) p.classes
 free_classes files listing main p h =
-    all_free (heads_of files) p.classes (subst (AllByRecursion (IsGood (heads_of files))) (sym h.files_are) (all_good (heads_of files) listing.classes files h.good))
-
-still_few : (n : ℕ) → n ≤ 1000 → not (nat_lt max_files n) ≡ true
-still_few n h = grind (arith, nat_tests)
+    all_free (heads_of files) p.classes (subst (AllByRecursion (IsGoodClass (heads_of files))) (sym h.files_are) (all_good (heads_of files) listing.classes files h.good))
 
 pub links : WovenLinks
-links text listing files main old policy made spelled first sound denies few w =
+links text listing files main old plan vars made spelled first sound good few w =
+    let kinds = map (λ (v : Var). v.is_bool) vars in
     let p = program_of files listing main sides.Original old first in
-    let all = files_made policy old made w in
+    let all = files_made plan vars old made w in
     let news = all.0 in
-    let others = news ++ bare_state ∷ [] in
-    let bare : state_class policy ≡ bare_state = ap state_file denies.vars in
-    let is : others ≡ made.files = ap (λ (s : ClassFile). news ++ s ∷ []) (sym bare) ∙ sym all.1 in
+    let state = state_file vars in
+    let others = news ++ state ∷ [] in
     let fits : AllByRecursion CanSpell files = subst (AllByRecursion CanSpell) p.files_are (all_fit old.classes sound.classes) in
-    let kept : Each IsKept files news = subst (λ (fs : List ClassFile). Each IsKept fs news) p.files_are (all_kept policy old.classes news all.2) in
+    let kept : Each IsKept files news = subst (λ (fs : List ClassFile). Each IsKept fs news) p.files_are (all_kept plan old.classes news all.2) in
     let l = listed text listing spelled in
-    let added = is_added listing l files news fits kept p.good in
+    let added = is_added vars few listing l files news fits kept p.good in
     let free = free_classes files listing main old p in
-    let joined = classes_joined policy files others listing added 0 old.classes news sound.classes free p.classes all.2 in
+    let joined = classes_joined kinds plan good vars files others listing added 0 old.classes news sound.classes free p.classes all.2 in
     let begin = p.begin.0 in
-    let main_is : main_of others main ≡ Some begin = main_kept bare_state main begin 0 files news fits kept p.begin.1 in
-    let same : length old.classes ≡ length files = sym (length-map old.classes (λ (c : LinkedClass). c.file)) ∙ ap length p.files_are in
-    let count : length others ≤ 1000 = omega (arith, length-append news (bare_state ∷ []), as_many policy old.classes news all.2, same, few) in
+    let main_is : main_of others main ≡ Some begin = main_kept state main begin 0 files news fits kept p.begin.1 in
+    let count : length files ≡ length old.classes = sym (ap length p.files_are) ∙ length-map old.classes (λ (c : LinkedClass). c.file) in
     let new : Program = record { classes = classes_with others joined.methods; listing = listing; literals = literals_of others; main_class = begin.0; main_method = begin.1 } in
-    let linked_is : linked others listing main sides.Inlined ≡ Ok new =
-    linked_by others listing main sides.Inlined joined.methods begin (still_few (length others) count) (new_stand listing l files news fits kept p.good) joined.links main_is in (
+    let linked_is : assembled others listing main sides.Inlined ≡ Ok new =
+    assembled_by others listing main sides.Inlined joined.methods begin (new_stand vars few listing l files news fits kept p.good) joined.links main_is in (
       new,
       (
-        subst (λ (fs : List ClassFile). linked fs listing main sides.Inlined ≡ Ok new) is linked_is,
+        subst (λ (fs : List ClassFile). assembled fs listing main sides.Inlined ≡ Ok new) (sym all.1) linked_is,
         record {
           own = joined.own;
-          state = class_with bare_state [];
+          state = class_with state [];
           are = joined.are;
-          classes = joined.classes;
-          last = record { name = ap (λ (c : ListedClass). c.name) state_says ∙ state_head_name; file = sym bare; methods = refl };
+          classes = subst (λ (n : ℕ). Each (IsWovenClass plan n) old.classes joined.own) count joined.classes;
+          last = record { name = ap (λ (c : ListedClass). c.name) (state_says vars) ∙ state_head_name; file = refl; methods = refl };
           listing = sym p.listing_is;
-          literals = literals_kept bare_state state_strings files news fits kept ∙ sym p.literals_are;
+          literals = literals_kept state (state_strings vars) files news fits kept ∙ sym p.literals_are;
           main_class = sym p.main_class_is;
           main_method = sym p.main_method_is;
         },

@@ -1,245 +1,21 @@
-//! Arrays.
+//! What is written into arrays of references.
 
-ghost use Rattle.std.specs.Prelude.{◌≡◌, List, Ok, length, drop, IfOk, IfSome, ◌<◌, option_copied};
-ghost use Rattle.insn_codec.specs.declared.shape.One.TheVariants as one;
-ghost use Rattle.guest_frames.specs.Values.{made_of_one};
-ghost use Rattle.guest_heap.specs.declared.object.Monitor.{Monitor};
-ghost use Rattle.guest_heap.specs.declared.value.Value.{Value};
-ghost use Rattle.guest_machine.specs.Changes.{World};
+ghost use Rattle.std.specs.Prelude.{IfOk, List, drop, option_copied, ◌≡◌};
 ghost use Rattle.bytecode_model.specs.Assigning.{reference_of};
-ghost use Rattle.guest_machine.specs.Working.{
-  ArrayAt,
-  Worked,
-  has_items,
-  item_kind,
-  kept,
-  kept_number,
-  length_told,
-  may_hold,
-  on_array,
-  on_items,
-};
-ghost use Rattle.guest_machine.specs.Working.{place_among, reads_item, writes_item};
-ghost use Rattle.guest_step.specs.Led.{led, IsOf};
-ghost use Rattle.guest_step.specs.Works.{Works, at, comes, with_monitors};
+ghost use Rattle.guest_heap.specs.declared.value.Value.{Value};
+ghost use Rattle.guest_model.specs.Changes.{World};
+ghost use Rattle.guest_model.specs.Working.{may_hold, writes_item};
+ghost use Rattle.guest_work.specs.Works.{Works, at};
 
-use crate::guest::Guest;
-use crate::kinds::{is_instance, reference_of};
-use crate::layout::is_of_references;
-use crate::outcome::{Comes, Outcome, Thrown};
-use crate::work::operands::{number_operand, operand_of, replace};
-use crate::work::places::write;
-use bytecode_model::is_text;
-use guest_heap::{Object, Stack, Value};
-use insn_codec::{Item, Kind};
+use guest_heap::{Object, Stack, Value, put};
+use guest_model::Thrown;
+use guest_tables::{Guest, is_instance, reference_of};
+use guest_work::{
+    Led, Outcome, item_kind, kept, number_operand, on_items, operand_of, place_among,
+};
+use insn_codec::Item;
 use mon_base::{List, NoMemory};
 use std::alloc::Global;
-
-/// Where a reference leads that is to be an array.
-#[derive(Clone, Copy)]
-pub enum Led<'a> {
-    /// To no such array.
-    Nowhere,
-    Null,
-    /// To the array at this index of the heap.
-    Array {
-        at: u32,
-        desc: &'a [u8],
-        items: &'a [Value],
-    },
-}
-
-// ---- arrays on the heap
-
-/// The array that the value leads to.
-fn on_array<'a>(heap: &'a List<Object>, value: Value) -> Led<'a>
-    ensures led { (f : ArrayAt → Worked) → on_array heap.now value f ≡ led result f }
-    ensures there { IsOf heap.now result }
-{
-    match value {
-        Value::Null => Led::Null,
-        Value::Ref(at) => {
-            match heap.as_slice().get(at as usize) {
-                Some(Object::Array { desc, items }) => Led::Array {
-                    at,
-                    desc: desc.as_slice(),
-                    items: items.as_slice(),
-                },
-                _ => Led::Nowhere,
-            }
-        }
-        Value::Int(_) | Value::Class(_) | Value::Lit(_) => Led::Nowhere,
-    }
-}
-
-/// The same, where the array has such items.
-fn on_items<'a>(item: Item, heap: &'a List<Object>, value: Value) -> Led<'a>
-    ensures led { (f : ArrayAt → Worked) → on_items item heap.now value f ≡ led result f }
-    ensures there { IsOf heap.now result }
-{
-    match on_array(heap, value) {
-        Led::Array { at, desc, items } => {
-            if has_items(item, desc) {
-                Led::Array { at, desc, items }
-            } else {
-                Led::Nowhere
-            }
-        }
-        Led::Null => Led::Null,
-        Led::Nowhere => Led::Nowhere,
-    }
-}
-
-/// Whether an array of this descriptor has such items.
-fn has_items(item: Item, desc: &[u8]) -> bool
-    ensures { result ≡ has_items item desc.now }
-{
-    match item {
-        Item::Int => is_text(desc, "[I"),
-        Item::Reference => match desc {
-            [] => false,
-            [_, item @ ..] => is_of_references(item),
-        },
-        Item::Byte => is_text(desc, "[B") || is_text(desc, "[Z"),
-        Item::Char => is_text(desc, "[C"),
-        Item::Short => is_text(desc, "[S"),
-    }
-}
-
-/// The place that a number names, if it is one of so many.
-fn place_among(count: usize, index: i32) -> Option<u32>
-    ensures place { result ≡ place_among count index }
-    ensures within { IfSome result (λ place. place < count) }
-{
-    if index < 0 {
-        return None;
-    }
-    let place = index as u32;
-    if (place as usize) < count {
-        Some(place)
-    } else {
-        None
-    }
-}
-
-// ---- what is read
-
-/// Reads the item of an array.
-pub fn read_item(item: Item, heap: &List<Object>, stack: &mut Stack) -> Option<Outcome>
-    ensures { (statics : List (List Value)) → Works (Ok result) (at heap.now statics stack.old) (at heap.now statics stack.new)
-        (λ (world : World). reads_item item world stack.old.items) }
-{
-    let came = item_read(item, heap, stack);
-    replace(stack, 2, came)
-}
-
-/// What comes of reading the item of an array.
-fn item_read(item: Item, heap: &List<Object>, stack: &Stack) -> Option<Comes>
-    ensures { (statics : List (List Value)) (monitors : List Monitor)
-        → reads_item item (with_monitors (at heap.now statics stack.now) monitors) stack.now.items
-        ≡ comes (with_monitors (at heap.now statics stack.now) monitors) (drop 2 stack.now.items) result }
-{
-    let index = number_operand(stack, 0)?;
-    let array = stack.get(1)?;
-    match on_items(item, heap, array) {
-        Led::Nowhere => None,
-        Led::Null => Some(Comes::Throws(Thrown::NullPointer)),
-        Led::Array { items, .. } => match place_among(items.len(), index) {
-            None => Some(Comes::Throws(Thrown::Place)),
-            Some(place) => Some(Comes::Value(items[place as usize])),
-        },
-    }
-}
-
-/// Tells the length of an array. It wants memory where that is no number of 31 bits.
-pub fn tell_length(heap: &List<Object>, stack: &mut Stack) -> Result<Option<Outcome>, NoMemory>
-    ensures { (statics : List (List Value)) → Works result (at heap.now statics stack.old) (at heap.now statics stack.new)
-        (λ (world : World). length_told world stack.old.items) }
-{
-    let came = length_of(heap, stack)?;
-    Ok(replace(stack, 1, came))
-}
-
-/// What comes of telling the length of an array.
-fn length_of(heap: &List<Object>, stack: &Stack) -> Result<Option<Comes>, NoMemory>
-    ensures { IfOk result (λ came. (statics : List (List Value)) (monitors : List Monitor)
-        → length_told (with_monitors (at heap.now statics stack.now) monitors) stack.now.items
-        ≡ comes (with_monitors (at heap.now statics stack.now) monitors) (drop 1 stack.now.items) came) }
-{
-    let Some(array) = stack.get(0) else {
-        return Ok(None);
-    };
-    match on_array(heap, array) {
-        Led::Nowhere => Ok(None),
-        Led::Null => Ok(Some(Comes::Throws(Thrown::NullPointer))),
-        Led::Array { items, .. } => {
-            if items.len() > i32::MAX as usize {
-                return Err(NoMemory);
-            }
-            Ok(Some(Comes::Value(Value::Int(items.len() as i32))))
-        }
-    }
-}
-
-// ---- what is written
-
-/// What such an item is: a reference, or a number.
-fn item_kind(item: Item) -> Kind
-    ensures { result ≡ item_kind item }
-{
-    match item {
-        Item::Reference => Kind::Reference,
-        Item::Int | Item::Byte | Item::Char | Item::Short => Kind::Int,
-    }
-}
-
-/// What the items of an array keep of a value.
-fn kept(desc: &[u8], value: Value) -> Value
-    ensures { result ≡ kept desc.now value }
-{
-    match value {
-        Value::Int(n) => Value::Int(kept_number(desc, n)),
-        _ => value,
-    }
-}
-
-/// What the items of an array keep of a number: its low bits, with or without a sign.
-fn kept_number(desc: &[u8], n: i32) -> i32
-    ensures { result ≡ kept_number desc.now n }
-{
-    if is_text(desc, "[Z") {
-        n & 1
-    } else if is_text(desc, "[B") {
-        to_byte(n)
-    } else if is_text(desc, "[C") {
-        to_char(n)
-    } else if is_text(desc, "[S") {
-        to_short(n)
-    } else {
-        n
-    }
-}
-
-/// The low eight bits, as a signed number.
-fn to_byte(n: i32) -> i32
-    ensures { result ≡ made_of_one one.ToByte n }
-{
-    i32::from(((n.cast_unsigned() % 0x100) as u8).cast_signed())
-}
-
-/// The low sixteen bits.
-fn to_char(n: i32) -> i32
-    ensures { result ≡ made_of_one one.ToChar n }
-{
-    (n.cast_unsigned() % 0x1_0000).cast_signed()
-}
-
-/// The low sixteen bits, as a signed number.
-fn to_short(n: i32) -> i32
-    ensures { result ≡ made_of_one one.ToShort n }
-{
-    i32::from(((n.cast_unsigned() % 0x1_0000) as u16).cast_signed())
-}
 
 /// Whether an array may hold the value: a number, null, or an object of the class or the array of its items.
 fn may_hold(
@@ -302,7 +78,7 @@ pub fn write_item(
                 return Ok(Some(Outcome::Throws(Thrown::Item)));
             }
             let value = kept(desc, value);
-            write(heap, at, place as usize, value);
+            put(heap, at, place as usize, value);
             stack.drop_top(3);
             Ok(Some(Outcome::Goes))
         }

@@ -1,18 +1,17 @@
 //! Fields.
 
-ghost use Rattle.std.specs.Prelude.{◌≡◌, List, Ok, drop};
-ghost use Rattle.guest_machine.specs.Changes.{World};
-ghost use Rattle.guest_machine.specs.Working.{place_named, reads_field, writes_field};
+ghost use Rattle.std.specs.Prelude.{List, Ok, drop, ◌≡◌};
 ghost use Rattle.guest_heap.specs.declared.object.Monitor.{Monitor};
 ghost use Rattle.guest_heap.specs.declared.value.Value.{Value};
-ghost use Rattle.guest_step.specs.Works.{Works, at, comes, with_monitors};
+ghost use Rattle.guest_model.specs.Changes.{World};
+ghost use Rattle.guest_model.specs.Working.{place_named, reads_field, writes_field};
+ghost use Rattle.guest_work.specs.Works.{Works, at, comes, with_monitors};
 
-use crate::guest::Guest;
-use crate::outcome::{Comes, Outcome, Thrown};
-use crate::work::operands::replace;
-use crate::work::places::{places_of, write};
 use bytecode_model::Target;
-use guest_heap::{Object, Stack, Value};
+use guest_heap::{Object, Stack, Value, places, put};
+use guest_model::Thrown;
+use guest_tables::Guest;
+use guest_work::{Comes, Outcome, replace};
 use mon_base::List;
 
 /// The place of a field in the objects that have it.
@@ -57,7 +56,7 @@ fn field_read(guest: &Guest, target: &Target, heap: &List<Object>, stack: &Stack
         Value::Null => Some(Comes::Throws(Thrown::NullPointer)),
         Value::Ref(at) => {
             let object = heap.as_slice().get(at as usize)?;
-            match places_of(object).get(place) {
+            match places(object).get(place) {
                 Some(value) => Some(Comes::Value(*value)),
                 None => None,
             }
@@ -82,10 +81,10 @@ pub fn write_field(
         Value::Null => Some(Outcome::Throws(Thrown::NullPointer)),
         Value::Ref(at) => {
             let object = heap.as_slice().get(at as usize)?;
-            if place >= places_of(object).len() {
+            if place >= places(object).len() {
                 return None;
             }
-            write(heap, at, place, value);
+            put(heap, at, place, value);
             stack.drop_top(2);
             Some(Outcome::Goes)
         }

@@ -1,13 +1,17 @@
 //! Small programs that are woven, against bytes that were worked out by hand. Sizes that do not fit are told in tests/faults,
 //! through the built program.
 
+ghost use Rattle.std.specs.Prelude.{◌<◌, ◌^◌, IfOk, length};
+ghost use Rattle.conspec_automaton.specs.Sound.{IsPolicy};
+
 use super::pools::text;
-use block_template::Woven;
+use api_listing::Listing;
 use bytecode_model::{Origin, Side};
-use class_codec::{Attr, ClassFile, Code, Const, Member, decode, encode};
+use class_codec::{Attr, ClassFile, Code, Const, Member, TableEntry, decode, encode};
 use class_linking::link;
-use conspec_automaton::{build, denies_only};
-use conspec_tree::{Kind, Phase, PolicyTree, TreeClause};
+use class_weaving::Woven;
+use conspec_automaton::{Policy, build};
+use conspec_parse::parse;
 use inline_release::inline;
 use listing_text::read;
 use mon_base::{Bytes, List};
@@ -18,34 +22,24 @@ use std::test::Fail;
 const LISTING: &[u8] = b"class api/Net extends java/lang/Object\nstatic api/Net send ()V\n\
     static api/Net put (II)I\n";
 
-/// The clause that denies each call of a method.
-fn denial(alloc: Global, method: u32, args: List<Kind>, kind: Option<Kind>) -> TreeClause {
-    TreeClause {
-        method,
-        phase: Phase::Before,
-        args,
-        result: kind,
-        guards: List::new(alloc),
-    }
-}
+/// It denies both methods of the listing.
+const POLICY: &[u8] = b"MAXINT 1 SCOPE Session SECURITY STATE \
+    BEFORE void api.Net.send() PERFORM BEFORE int api.Net.put(int a, int b) PERFORM";
 
-/// The policy that denies both methods of the listing.
-fn denials(alloc: Global) -> Result<PolicyTree, Fail> {
-    let mut args = List::new(alloc);
-    args.push(Kind::Int)?;
-    args.push(Kind::Int)?;
-    let mut clauses = List::new(alloc);
-    clauses.push(denial(alloc, 0, List::new(alloc), None))?;
-    clauses.push(denial(alloc, 1, args, Some(Kind::Int)))?;
-    Ok(PolicyTree {
-        maxint: 1,
-        vars: List::new(alloc),
-        clauses,
-    })
+/// The policy.
+fn denials(alloc: Global, listing: &Listing) -> Result<Policy, Fail>
+    requires { length listing.now.methods < 2 ^ 32 }
+    ensures { IfOk result IsPolicy }
+{
+    let Ok(tree) = parse(alloc, POLICY, listing) else {
+        return Err("the policy".into());
+    };
+    let policy = build(alloc, &tree)?;
+    Ok(policy)
 }
 
 /// The pool of a class `a/S` under Object with `main`: `send` is the method 13, and what follows begins at 14.
-fn pool(alloc: Global) -> Result<List<Const>, Fail> {
+pub fn pool(alloc: Global) -> Result<List<Const>, Fail> {
     let mut pool = List::new(alloc);
     pool.push(Const::Second)?;
     pool.push(text(alloc, b"a/S".as_slice())?)?;
@@ -65,12 +59,24 @@ fn pool(alloc: Global) -> Result<List<Const>, Fail> {
 }
 
 /// The class file with this pool and code.
-fn file(
+pub fn file(
     alloc: Global,
     pool: List<Const>,
     max_stack: u16,
     max_locals: u16,
     code: Bytes,
+) -> Result<ClassFile, Fail> {
+    file_with(alloc, pool, max_stack, max_locals, code, List::new(alloc))
+}
+
+/// The same with this exception table.
+pub fn file_with(
+    alloc: Global,
+    pool: List<Const>,
+    max_stack: u16,
+    max_locals: u16,
+    code: Bytes,
+    table: List<TableEntry>,
 ) -> Result<ClassFile, Fail> {
     let mut attrs = List::new(alloc);
     attrs.push(Attr::Code(Code {
@@ -78,7 +84,7 @@ fn file(
         max_stack,
         max_locals,
         code,
-        table: List::new(alloc),
+        table,
         attrs: List::new(alloc),
     }))?;
     let mut methods = List::new(alloc);
@@ -106,11 +112,7 @@ fn woven(alloc: Global, class: ClassFile) -> Result<Woven, Fail> {
     let Ok(listing) = read(alloc, LISTING) else {
         return Err("the listing".into());
     };
-    let tree = denials(alloc)?;
-    if !denies_only(&tree) {
-        return Err("the policy".into());
-    }
-    let policy = build(alloc, &tree)?;
+    let policy = denials(alloc, &listing)?;
     let bytes = encode(alloc, &class)?;
     let Ok(class) = decode(alloc, bytes.as_slice()) else {
         return Err("the class".into());
@@ -136,7 +138,7 @@ fn of_code(alloc: Global, max_stack: u16, max_locals: u16, code: &[u8]) -> Resul
     )
 }
 
-fn code_of(woven: &Woven) -> Result<&Code, Fail> {
+pub fn code_of(woven: &Woven) -> Result<&Code, Fail> {
     let [class, _] = woven.files.as_slice() else {
         return Err("two files".into());
     };

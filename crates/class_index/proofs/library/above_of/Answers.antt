@@ -5,12 +5,16 @@ use Rattle.class_index.proofs.Sharing.{shared_here, shared_kept}
 use Rattle.class_index.proofs.library.above_of.Goals as goal
 
 pub returns-clause-shared : goal.returns-clause-shared
-returns-clause-shared c name above found =
+returns-clause-shared c =
     let owners = c.args.owners.now in
     let classes = c.args.classes.now in
     let lists = c.args.shared.now.lists in
-    subst (λ l. IsShared owners classes l name above) (sym c.in_ok-push.ensures.ok)
-    (shared_kept owners classes lists (c.in_ok-names.names ∷ []) name above (c.requires name above found))
+    record {
+      known = λ name above found.
+          subst (λ l. IsShared owners classes l name above) (sym c.in_ok-push.ensures.ok)
+          (shared_kept owners classes lists (c.in_ok-names.names ∷ []) name above (c.requires.known name above found));
+      quiet = c.requires.quiet;
+    }
 
 pub returns-clause-is : goal.returns-clause-is
 returns-clause-is c =

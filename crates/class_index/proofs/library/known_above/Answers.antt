@@ -17,5 +17,5 @@ returns c =
     let there_is = got c.get-2.result c.as_slice.result.now above.place h.3 h.1 ∙ ap (λ xs. slice_get xs above.place) c.as_slice.ensures in
     read_there c.get-2.result _ (λ names. (owners : Owners) → AreShared owners classes shared → owners_up owners classes (length classes) name ≡ names) there_is
     (λ names there owners known.
-    let s = known name above (sym c.in_ok-above.ensures.value) in
+    let s = known.known name above (sym c.in_ok-above.ensures.value) in
     s.are (length classes) within ∙ some_is s.names names (sym s.there ∙ there))

@@ -1,6 +1,6 @@
 use Rattle.std.proofs.Common.{◌≡◌, ◌+◌, ◌++◌, length}
-use Rattle.block_template.specs.Woven.{clients_from}
-use Rattle.inline_release.proofs.code.clients.Given as goal
+use Rattle.class_weaving.specs.Woven.{clients_from}
+use Rattle.class_weaving.proofs.code.clients.Given as goal
 
 abbrev pub invariant-loop-left : goal.invariant-loop-left
 invariant-loop-left l = record {

@@ -1,5 +1,5 @@
-use Rattle.inline_release.proofs.Sizing.{decide}
-use Rattle.inline_release.proofs.laws.sizes_decide.Goals as goal
+use Rattle.class_weaving.proofs.Sizing.{decide}
+use Rattle.class_weaving.proofs.laws.sizes_decide.Goals as goal
 
 pub returns : goal.returns
 returns c = record { decide = decide }

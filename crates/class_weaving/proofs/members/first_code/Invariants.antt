@@ -1,6 +1,6 @@
 use Rattle.std.proofs.Common.{◌≡◌, length}
-use Rattle.block_template.specs.Woven.{first_code}
-use Rattle.inline_release.proofs.members.first_code.Given as goal
+use Rattle.class_weaving.specs.Woven.{first_code}
+use Rattle.class_weaving.proofs.members.first_code.Given as goal
 
 abbrev pub invariant-loop-left : goal.invariant-loop-left
 invariant-loop-left l = first_code l.left ≡ first_code l.attrs

@@ -1,6 +1,6 @@
 use Rattle.std.proofs.Common.{◌≡◌, ◌+◌, ◌++◌, length}
-use Rattle.block_template.specs.State.{fields_from}
-use Rattle.block_template.proofs.state.fields.Given as goal
+use Rattle.class_weaving.specs.State.{fields_from}
+use Rattle.class_weaving.proofs.state.fields.Given as goal
 
 abbrev pub invariant-loop-left : goal.invariant-loop-left
 invariant-loop-left l = record {

@@ -1,6 +1,6 @@
 use Rattle.std.proofs.Common.{◌≡◌, ◌+◌, ◌++◌, length}
-use Rattle.block_template.specs.State.{values_from}
-use Rattle.block_template.proofs.state.put_values.Given as goal
+use Rattle.class_weaving.specs.State.{values_from}
+use Rattle.class_weaving.proofs.state.put_values.Given as goal
 
 abbrev pub invariant-loop-left : goal.invariant-loop-left
 invariant-loop-left l = record {

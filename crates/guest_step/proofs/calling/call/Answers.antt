@@ -1,8 +1,8 @@
 use Rattle.std.proofs.Common.{◌≡◌, Some, rules}
 use Rattle.std.specs.Prelude.{option_map}
-use Rattle.guest_machine.specs.Calling.{desc_named, is_static_call}
+use Rattle.guest_model.specs.Calling.{desc_named, is_static_call}
 use Rattle.guest_model.specs.Calls.{arity, taken}
-use Rattle.guest_step.specs.Calls.{taken_from}
+use Rattle.guest_threads.specs.Calls.{taken_from}
 use Rattle.guest_step.proofs.Called.{call_acts}
 use Rattle.guest_step.proofs.calling.call.Goals as goal
 

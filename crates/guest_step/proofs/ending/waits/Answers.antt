@@ -1,8 +1,8 @@
-use Rattle.std.proofs.Common.{◌≡◌, Bool, Some, None, subst, sym, rules}
-use Rattle.std.specs.Prelude.{IfOk, slice_get}
+use Rattle.std.proofs.Common.{◌≡◌, Some, None, sym, rules, ◌∙◌}
+use Rattle.std.specs.Prelude.{slice_get}
 use Rattle.insn_codec.specs.Shapes.{shape_of}
 use Rattle.guest_model.specs.Places.{insn_at}
-use Rattle.guest_machine.specs.Stepping.{heap_in}
+use Rattle.guest_model.specs.Stepping.{heap_in}
 use Rattle.guest_step.proofs.NextWaits.{next_waits}
 use Rattle.guest_step.proofs.ending.waits.Goals as goal
 
@@ -11,10 +11,9 @@ returns-in-Some-heap_in c =
     let there : slice_get c.args.frames.now 0 ≡ Some c.in-Some.frame.now = grind rules in
     let next : insn_at c.args.guest.now c.in-Some.frame.now ≡ Some (c.in-Some-insn_at.insn.now, c.in-Some-insn_at.target.now) = grind rules in
     let is : heap_in (shape_of c.in-Some-insn_at.insn.now) ≡ Some c.in-Some-heap_in.what = grind rules in
-    subst (λ (b : Bool). IfOk c.heap_waits.result (λ it. it ≡ b))
-    (sym (next_waits c.args.guest.now c.args.machine.now c.args.number c.args.frames.now c.in-Some.frame.now c.in-Some-insn_at.insn.now
-    c.in-Some-insn_at.target.now (Some c.in-Some-heap_in.what) there next is))
     c.heap_waits.ensures
+    ∙ sym (next_waits c.args.guest.now c.args.machine.now c.args.number c.args.frames.now c.in-Some.frame.now c.in-Some-insn_at.insn.now
+    c.in-Some-insn_at.target.now (Some c.in-Some-heap_in.what) there next is)
 
 pub returns-in-None : goal.returns-in-None
 returns-in-None c =

@@ -1,6 +1,6 @@
 use Rattle.std.proofs.Common.{◌≡◌, ◌++◌, length}
 use Rattle.std.specs.List.{enumerate_from, filter_map}
-use Rattle.guest_machine.specs.Runs.{initialiser_of, initialisers}
+use Rattle.guest_model.specs.Runs.{initialiser_of, initialisers}
 use Rattle.guest_step.proofs.starting.initialisers.Given as goal
 
 abbrev pub invariant-loop-left : goal.invariant-loop-left

@@ -1,5 +1,5 @@
 use Rattle.std.proofs.Common.{Bool, ap, cond, ◌∙◌}
-use Rattle.guest_step.specs.Acts.{doing_this}
+use Rattle.guest_step.specs.Turns.{doing_this}
 use Rattle.guest_step.proofs.Apart.{acts_as}
 use Rattle.guest_step.proofs.stepping.act.Goals as goal
 

@@ -3,10 +3,11 @@ use Rattle.std.specs.Prelude.{slice_get}
 use Rattle.api_listing.specs.declared.events.Event.{Event}
 use Rattle.insn_codec.specs.Shapes.{shape_of}
 use Rattle.guest_model.specs.Places.{insn_at}
-use Rattle.guest_machine.specs.Changes.{Change}
-use Rattle.guest_machine.specs.Stepping.{frames_stepped, heap_in}
-use Rattle.guest_step.specs.declared.fault.StepFault.{StepFault}
-use Rattle.guest_step.specs.Acts.{ActsIn, thread_stepped}
+use Rattle.guest_model.specs.Changes.{Change}
+use Rattle.guest_model.specs.Stepping.{frames_stepped, heap_in}
+use Rattle.guest_threads.specs.declared.fault.StepFault.{StepFault}
+use Rattle.guest_threads.specs.Acts.{ActsIn}
+use Rattle.guest_step.specs.Turns.{thread_stepped}
 use Rattle.guest_step.proofs.Going.{alone_acts, goes_alone, goes_heap}
 use Rattle.guest_step.proofs.stepping.run_next.Goals as goal
 

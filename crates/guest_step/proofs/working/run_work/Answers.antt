@@ -1,12 +1,12 @@
 use Rattle.std.proofs.Common.{◌≡◌, None, Option, Ok, Result, Some, rules, subst, sym}
 use Rattle.mon_base.specs.declared.memory.NoMemory.{NoMemory}
 use Rattle.guest_heap.specs.declared.thread.Thread.{Thread}
-use Rattle.guest_machine.specs.Changes.{World, world_of}
-use Rattle.guest_machine.specs.Stepping.{Acting, works}
-use Rattle.guest_machine.specs.Working.{worked}
-use Rattle.guest_step.specs.declared.outcome.Outcome.{Outcome}
-use Rattle.guest_step.specs.declared.outcome.Outcome.TheVariants as outcomes
-use Rattle.guest_step.specs.Acts.{ActsIn, acting}
+use Rattle.guest_model.specs.Changes.{World, world_of}
+use Rattle.guest_model.specs.Stepping.{Acting, works}
+use Rattle.guest_model.specs.Working.{worked}
+use Rattle.guest_work.specs.declared.outcome.Outcome.{Outcome}
+use Rattle.guest_work.specs.declared.outcome.Outcome.TheVariants as outcomes
+use Rattle.guest_threads.specs.Acts.{ActsIn, acting}
 use Rattle.guest_step.specs.InFrame.{WorksIn, inside}
 use Rattle.guest_step.proofs.InFrame.{sharing, works_nowhere, works_on, works_thrown}
 use Rattle.guest_step.proofs.working.run_work.Goals as goal

@@ -1,10 +1,10 @@
 use Rattle.std.proofs.Common.{◌≡◌, ◌+◌, Option, Ok, Result, ap, ◌∙◌, rules, subst}
 use Rattle.mon_base.specs.declared.memory.NoMemory.{NoMemory}
-use Rattle.guest_machine.specs.Changes.{World}
-use Rattle.guest_machine.specs.Working.{worked}
-use Rattle.guest_step.specs.declared.outcome.Outcome.{Outcome}
+use Rattle.guest_model.specs.Changes.{World}
+use Rattle.guest_model.specs.Working.{worked}
+use Rattle.guest_work.specs.declared.outcome.Outcome.{Outcome}
 use Rattle.guest_step.specs.InFrame.{at_after}
-use Rattle.guest_step.specs.Works.{Works, at}
+use Rattle.guest_work.specs.Works.{Works, at}
 use Rattle.guest_step.proofs.InFrame.{in_frame}
 use Rattle.guest_step.proofs.working.work_in.Goals as goal
 

@@ -1,4 +1,4 @@
-use Rattle.std.proofs.Common.{◌≡◌, ℕ, List, length, Ok, sym, ap, subst, ◌∙◌}
+use Rattle.std.proofs.Common.{◌≡◌, ℕ, ◌+◌, List, length, Ok, sym, ap, subst, ◌∙◌}
 use Rattle.std.specs.List.{AllByRecursion}
 use Rattle.class_codec.specs.declared.tree.Const.{Const}
 use Rattle.class_codec.specs.declared.tree.TableEntry.{TableEntry}
@@ -9,7 +9,7 @@ use Rattle.offset_patch.specs.Entries.{IsThere}
 use Rattle.mon_base.specs.Answer.{Fails}
 use Rattle.offset_patch.specs.Fault.{fitted}
 use Rattle.offset_patch.specs.Length.{length_of}
-use Rattle.offset_patch.specs.Splicing.{wants_of, grown, code_spliced}
+use Rattle.offset_patch.specs.Splicing.{wants_of, catching, grown, code_spliced}
 use Rattle.offset_patch.proofs.InsnFits.{wants_there}
 use Rattle.offset_patch.proofs.Putting.{too_long, told_err}
 use Rattle.offset_patch.proofs.splicing.splice.Goals as goal
@@ -23,7 +23,9 @@ returns-in_err-fitted-3-clause-code c =
     let code = c.args.code.now in
     let sites = c.args.sites.now in
     let fault = c.in_err-fitted-3.field-0.0 in
-    let rows : fitted class number sizes.Entries (length code.table) ≡ Ok tt = ap (λ (t : List TableEntry). fitted class number sizes.Entries (length t)) (sym c.as_slice.ensures) ∙ c.in_ok-fitted.ensures in
+    let rows : fitted class number sizes.Entries (length code.table + catching sites) ≡ Ok tt =
+    ap (λ (t : List TableEntry). fitted class number sizes.Entries (length t + catching sites)) (sym c.as_slice.ensures)
+    ∙ ap (λ (n : ℕ). fitted class number sizes.Entries (length c.as_slice.result.now + n)) (sym c.catching.ensures.is) ∙ c.in_ok-fitted.ensures in
     let count : fitted class number sizes.Pool (length pool) ≡ Ok tt =
     ap (λ (q : List Const). fitted class number sizes.Pool (length q)) (sym c.in_ok-add_wants.ensures) ∙ ap (fitted class number sizes.Pool) (sym c.count.ensures.is) ∙ c.in_ok-fitted-2.ensures in
     let length_is : c.length_of-length.result ≡ length_of method.insns sites = c.length_of-length.ensures.is ∙ ap (λ (xs : List Insn). length_of xs sites) c.as_slice-2.ensures in

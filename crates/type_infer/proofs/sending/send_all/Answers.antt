@@ -23,8 +23,7 @@ loop-to-preserved c =
     let rows = c.rows_follow_the_order.ensures in
     let inside : Contains targets this = Contains-get_or targets c.loop-to.to-index 0 (omega arith) in
     record {
-      frames = now.frames;
-      marks = now.marks;
+      each = now.each;
       grows = λ ready. grows_over scope.program (rows.reflexive scope.program) (rows.transitive scope.program ready.order) old middle new (before.grows ready) (now.grows ready);
       found = λ ready all.
           let laws = laws_of assign.reflexive assign.transitive assign.thrown rows.reflexive rows.transitive rows.alone rows.left rows.thrown scope.program ready.order in

@@ -20,8 +20,7 @@ loop-handler-init c =
     let same : filter (covers place.at) near ≡ filter (covers place.at) table =
     subst (λ (p : Place). filter (covers p.at) near ≡ filter (covers p.at) table) c.place.view_is c.near-near.ensures.covering in
     record {
-      frames = search rules;
-      marks = search rules;
+      each = search rules;
       among = λ handler among. subst (λ (hs : List Handler). Contains hs handler) told (c.near-near.ensures.among handler among);
       grows = search rules;
       found = search rules;
@@ -45,8 +44,7 @@ loop-handler-preserved c =
     let split : c.loop-handler.near ≡ this ∷ later = c.in-Some.ensures in
     let inside : Contains handlers this = before.among this (rw split (among_first this later)) in
     record {
-      frames = now.frames;
-      marks = now.marks;
+      each = now.each;
       among = λ handler more. before.among handler (rw split (among_later this later handler more));
       grows = λ ready. grows_over scope.program (rows.reflexive scope.program) (rows.transitive scope.program ready.order) old middle new (before.grows ready) (now.grows ready);
       found = λ ready.

@@ -2,13 +2,13 @@ use Rattle.std.proofs.Common.{◌≡◌, ◌⊎◌, length}
 use Rattle.std.specs.Prelude.{Contains, IsTrue}
 use Rattle.bytecode_model.specs.declared.program.Handler.{Handler}
 use Rattle.bytecode_model.specs.Rules.{covers}
+use Rattle.type_infer.specs.Sending.{HasEach}
 use Rattle.type_infer.specs.Solving.{IsReady, Grows, IsSent, StaysFound, thrown_to}
 use Rattle.type_infer.proofs.sending.throw_to_handlers.Given as goal
 
 abbrev pub invariant-loop-handler : goal.invariant-loop-handler
 invariant-loop-handler l = record {
-  frames : length l.work.frames ≡ length l.body.method.insns;
-  marks : length l.work.marks ≡ length l.body.method.insns;
+  each : HasEach l.body l.work;
   among : (handler : Handler) → Contains l.near handler → Contains l.body.method.handlers handler;
   grows : IsReady l.body → Grows l.body.program l.fn.work l.work;
   found : IsReady l.body → StaysFound l.body l.place.at l.fn.work l.work;

@@ -26,8 +26,8 @@ loop-preserved c =
     let is : c.next.new.self ≡ unmarked old at = c.in-Some.ensures.looked_at in
     let within : at < c.args.limit = c.in-Some.ensures.within in
     record {
-      frames = look.frames;
-      marks = look.marks;
+      frames = look.each.frames;
+      marks = look.each.marks;
       holds = λ above met.
           let laws = laws_of assign.reflexive assign.transitive assign.thrown rows.reflexive rows.transitive rows.alone rows.left rows.thrown scope.program met.ready.order in
           step_holds scope laws c.args.limit above old new at (c.loop.invariant.holds above met) (subst (λ (s : State). Grows scope.program s new) is (look.grows met.ready))

@@ -1,5 +1,5 @@
-use Rattle.inline_release.proofs.Original.{free}
-use Rattle.inline_release.proofs.laws.original_is_free.Goals as goal
+use Rattle.woven_linking.proofs.Original.{free}
+use Rattle.woven_linking.proofs.laws.original_is_free.Goals as goal
 
 pub returns : goal.returns
 returns c = record { free = free }

@@ -1,5 +1,5 @@
-use Rattle.inline_release.proofs.Whole.{links}
-use Rattle.inline_release.proofs.laws.woven_files_link.Goals as goal
+use Rattle.woven_linking.proofs.Whole.{links}
+use Rattle.woven_linking.proofs.laws.woven_files_link.Goals as goal
 
 pub returns : goal.returns
 returns c = record { links = links }

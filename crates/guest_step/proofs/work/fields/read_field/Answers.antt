@@ -1,8 +1,8 @@
 use Rattle.std.proofs.Common.{drop}
-use Rattle.guest_machine.specs.Changes.{World}
-use Rattle.guest_machine.specs.Working.{reads_field}
-use Rattle.guest_step.specs.Works.{at, comes}
-use Rattle.guest_step.proofs.Works.{works_same}
+use Rattle.guest_model.specs.Changes.{World}
+use Rattle.guest_model.specs.Working.{reads_field}
+use Rattle.guest_work.specs.Works.{at, comes}
+use Rattle.guest_work.proofs.Works.{works_same}
 use Rattle.guest_step.proofs.work.fields.read_field.Goals as goal
 
 pub returns : goal.returns

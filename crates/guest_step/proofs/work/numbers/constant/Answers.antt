@@ -1,10 +1,10 @@
 use Rattle.std.proofs.Common.{◌∷◌, Ok}
 use Rattle.std.specs.Option.{option_map}
 use Rattle.guest_heap.specs.declared.value.Value.{Value}
-use Rattle.guest_model.specs.Stepping.{constant_value}
-use Rattle.guest_machine.specs.Changes.{World}
-use Rattle.guest_step.specs.Works.{at, comes, with_monitors}
-use Rattle.guest_step.proofs.Works.{works_same}
+use Rattle.guest_model.specs.Parts.{constant_value}
+use Rattle.guest_model.specs.Changes.{World}
+use Rattle.guest_work.specs.Works.{at, comes, with_monitors}
+use Rattle.guest_work.proofs.Works.{works_same}
 use Rattle.guest_step.proofs.work.numbers.constant.Goals as goal
 
 pub returns : goal.returns

@@ -1,10 +1,10 @@
 use Rattle.std.proofs.Common.{drop}
 use Rattle.std.specs.Option.{option_and_then}
 use Rattle.bytecode_model.specs.SearchOrder.{Name}
-use Rattle.guest_machine.specs.Changes.{World}
-use Rattle.guest_machine.specs.Working.{name_named, tells_instance}
-use Rattle.guest_step.specs.Works.{at, comes}
-use Rattle.guest_step.proofs.Works.{works_same}
+use Rattle.guest_model.specs.Changes.{World}
+use Rattle.guest_model.specs.Working.{name_named, tells_instance}
+use Rattle.guest_work.specs.Works.{at, comes}
+use Rattle.guest_work.proofs.Works.{works_same}
 use Rattle.guest_step.proofs.work.objects.tell_instance.Goals as goal
 
 pub returns : goal.returns

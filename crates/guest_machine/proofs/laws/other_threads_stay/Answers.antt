@@ -1,5 +1,0 @@
-use Rattle.guest_machine.proofs.Staying.{other_threads_stay}
-use Rattle.guest_machine.proofs.laws.other_threads_stay.Goals as goal
-
-pub returns : goal.returns
-returns c = record { stay = other_threads_stay }

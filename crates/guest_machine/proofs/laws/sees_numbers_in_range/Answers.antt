@@ -1,5 +1,0 @@
-use Rattle.guest_machine.proofs.Linked.{linked_sees_in_range}
-use Rattle.guest_machine.proofs.laws.sees_numbers_in_range.Goals as goal
-
-pub returns : goal.returns
-returns c = record { sees = linked_sees_in_range }

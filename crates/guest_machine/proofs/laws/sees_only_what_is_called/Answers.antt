@@ -1,5 +1,0 @@
-use Rattle.guest_machine.proofs.Standing.{sees_only_called}
-use Rattle.guest_machine.proofs.laws.sees_only_what_is_called.Goals as goal
-
-pub returns : goal.returns
-returns c = record { sees = λ program reached sound closed. sees_only_called program reached sound closed }

@@ -1,5 +1,0 @@
-use Rattle.guest_machine.proofs.Moving.{throwing_steps, returning_steps}
-use Rattle.guest_machine.proofs.laws_of_steps.frames_are_left.Goals as goal
-
-pub returns : goal.returns
-returns c = record { throws = throwing_steps; returns = returning_steps }

@@ -1,5 +1,0 @@
-use Rattle.guest_machine.proofs.Calls.{calling_steps}
-use Rattle.guest_machine.proofs.laws_of_steps.ready_calls_are_made.Goals as goal
-
-pub returns : goal.returns
-returns c = record { made = calling_steps }

@@ -1,5 +1,0 @@
-use Rattle.guest_machine.proofs.Enabled.{steps_enabled}
-use Rattle.guest_machine.proofs.laws_of_steps.steps_are_enabled.Goals as goal
-
-pub returns : goal.returns
-returns c = record { enabled = steps_enabled }

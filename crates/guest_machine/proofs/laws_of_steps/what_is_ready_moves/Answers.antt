@@ -1,7 +1,0 @@
-use Rattle.guest_machine.proofs.Leaving.{leaves_as_many}
-use Rattle.guest_machine.proofs.Moving.{ready_steps}
-use Rattle.guest_machine.proofs.Working.{ready_works}
-use Rattle.guest_machine.proofs.laws_of_steps.what_is_ready_moves.Goals as goal
-
-pub returns : goal.returns
-returns c = record { comes = ready_works; leaves = leaves_as_many; steps = ready_steps }

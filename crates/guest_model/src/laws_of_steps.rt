@@ -1,0 +1,62 @@
+//! What holds of every step.
+
+ghost use Rattle.guest_model.specs.Enabled.{StepsAreEnabled};
+ghost use Rattle.guest_model.specs.Moving.{
+  ReadyWorks,
+  LeavesAsMany,
+  ReadySteps,
+  FreeIsEntered,
+  EnteringSteps,
+  LeavingSteps,
+  ThrowingSteps,
+  ReturningSteps,
+  AnswersStep,
+  CallingSteps,
+  EnabledIsMade,
+};
+
+/// Each step that the machine makes is enabled by the rules alone: nothing that the thread waits for is left, and an
+/// answer of the library fits the call.
+pub fn steps_are_enabled()
+    ensures enabled { StepsAreEnabled }
+{}
+
+/// An instruction that works on the heap or on static fields, or divides, comes to something where its operands are
+/// there and of their kinds; it takes and pushes as many as it should; and the thread makes the step where what is left
+/// fits on the stack.
+pub fn what_is_ready_moves()
+    ensures comes { ReadyWorks }
+    ensures leaves { LeavesAsMany }
+    ensures steps { ReadySteps }
+{}
+
+/// A monitor that no other thread holds is entered, by an instruction too; leaving one is always a step.
+pub fn free_monitors_are_entered()
+    ensures entered { FreeIsEntered }
+    ensures enters { EnteringSteps }
+    ensures leaves { LeavingSteps }
+{}
+
+/// What is thrown, be it null, leads on; and so does a return to a caller with room for the result.
+pub fn frames_are_left()
+    ensures throws { ThrowingSteps }
+    ensures returns { ReturningSteps }
+{}
+
+/// Each answer of the library that fits its call is taken, where the caller has room for what it gives; a call on null
+/// throws.
+pub fn fitting_answers_are_taken()
+    ensures taken { AnswersStep }
+{}
+
+/// A thread of a linked program calls a method of the library, a built-in one or a given one, whatever the class of the
+/// receiver, where it waits for no lock and for no thread.
+pub fn ready_calls_are_made()
+    ensures made { CallingSteps }
+{}
+
+/// A step that is enabled by the rules is made, in a linked program, where what the thread needs for it is there: its
+/// operands, of their kinds, and room for what is left.
+pub fn enabled_steps_are_made()
+    ensures made { EnabledIsMade }
+{}

@@ -1,6 +1,0 @@
-use Rattle.std.proofs.Common.{None}
-use Rattle.guest_step.proofs.Naming.{named_put}
-use Rattle.guest_step.proofs.methods.taken.Goals as goal
-
-pub returns-in-Some-clause-left : goal.returns-in-Some-clause-left
-returns-in-Some-clause-left c q = named_put c.args.methods.now c.remove.new.self c.args.name.now None c.in-Some.ensures.updates q

@@ -1,6 +1,0 @@
-use Rattle.std.proofs.Common.{◌≡◌, map, take}
-use Rattle.guest_machine.specs.Layout.{starting_value}
-use Rattle.guest_step.proofs.statics.class_statics.Given as goal
-
-abbrev pub invariant-loop-field : goal.invariant-loop-field
-invariant-loop-field l = l.values ≡ map (starting_value l.fn.guest l.fn.file) (take l.field-index l.fn.file.fields)

@@ -1,0 +1,86 @@
+//! What is asked of a machine before a step is made. (docs/MACHINE.md)
+
+ghost use Rattle.std.specs.Prelude.{IfOk, ◌≡◌};
+ghost use Rattle.guest_step.specs.Asking.{EnabledAreSteps, FittingAreSteps, doing_takes, is_enabled, takes_answer};
+
+use crate::answering::is_on_null;
+use crate::ending::can_step;
+use api_listing::ApiAnswer;
+use guest_heap::{Doing, Object};
+use guest_model::Machine;
+use guest_tables::{Guest, fits_call};
+use mon_base::{List, NoMemory};
+use std::alloc::Global;
+
+/// Whether the thread with this number can make a step: some choice of it is enabled by the rules. It takes no memory.
+pub fn enabled(guest: &Guest, machine: &Machine, thread: u32) -> bool
+    ensures { result ≡ is_enabled guest.now machine.now thread }
+{
+    if machine.stopped.is_some() {
+        return false;
+    }
+    match machine.threads.as_slice().get(thread as usize) {
+        Some(acting) => can_step(guest, machine, thread as usize, acting),
+        None => false,
+    }
+}
+
+/// Whether the answer fits the call that the thread with this number is in, so that the step which takes it is enabled by the
+/// rules. It takes memory only to ask whether the items of an array implement an interface.
+pub fn answer_fits(
+    alloc: Global,
+    guest: &Guest,
+    machine: &Machine,
+    thread: u32,
+    answer: &ApiAnswer,
+) -> Result<bool, NoMemory>
+    ensures { IfOk result (λ fits. fits ≡ takes_answer guest.now machine.now thread answer.now) }
+{
+    if machine.stopped.is_some() {
+        return Ok(false);
+    }
+    match machine.threads.as_slice().get(thread as usize) {
+        Some(acting) => doing_takes(alloc, guest, &machine.heap, &acting.doing, answer),
+        None => Ok(false),
+    }
+}
+
+/// Whether what a thread does takes the answer.
+fn doing_takes(
+    alloc: Global,
+    guest: &Guest,
+    heap: &List<Object>,
+    doing: &Doing,
+    answer: &ApiAnswer,
+) -> Result<bool, NoMemory>
+    ensures { IfOk result (λ fits. fits ≡ doing_takes guest.now heap.now doing.now answer.now) }
+{
+    match doing {
+        Doing::Running | Doing::Ended => Ok(false),
+        Doing::InCall {
+            method,
+            receiver,
+            args,
+        } => {
+            if is_on_null(*receiver) {
+                return Ok(false);
+            }
+            fits_call(
+                alloc,
+                guest,
+                heap,
+                *method,
+                *receiver,
+                args.as_slice(),
+                answer,
+            )
+        }
+    }
+}
+
+/// A thread can make a step exactly where the rules enable one with some choice; and an answer fits exactly where they enable
+/// the step that takes it.
+pub fn asks_what_the_rules_say()
+    ensures threads { EnabledAreSteps }
+    ensures answers { FittingAreSteps }
+{}

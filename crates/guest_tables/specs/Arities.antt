@@ -1,0 +1,10 @@
+-- How many arguments methods take.
+use Rattle.std.specs.Prelude.{ℕ, List, map}
+use Rattle.bytecode_model.specs.declared.program.LinkedClass.{LinkedClass}
+use Rattle.bytecode_model.specs.declared.program.Method.{Method}
+use Rattle.bytecode_model.specs.declared.program.Program.{Program}
+use Rattle.guest_model.specs.Calls.{arity}
+
+-- of the methods of each given class
+abbrev pub arities_of : Program → List (List ℕ)
+arities_of program = map (λ (c : LinkedClass). map (λ (m : Method). arity m.desc) c.methods) program.classes

@@ -1,0 +1,6 @@
+pub mod Layout
+pub mod Methods
+pub mod Arities
+pub mod Library
+pub mod Answering
+pub mod Tables

@@ -1,0 +1,24 @@
+//! Linked programs that are ready to run, with tables that are made once: their classes, methods and fields by their names; of which
+//! classes an object is, which method a call runs, what the library sees of a value, and which of its answers fit. (docs/MACHINE.md)
+#![tactic(auto)]
+
+mod arities;
+mod fields;
+mod finding;
+mod fitting;
+mod given;
+mod guest;
+mod kinds;
+mod layout;
+mod library;
+mod methods;
+mod seen;
+mod spelling;
+
+pub use finding::{client_run, is_run, method_run};
+pub use fitting::fits_call;
+pub use guest::Guest;
+pub use kinds::{is_instance, is_thread, reference_of};
+pub use layout::new_of;
+pub use library::Gives;
+pub use seen::{characters, string_of, value_shown, values_shown};

@@ -1,0 +1,4 @@
+pub mod Held
+mod Unwinding
+mod Passed
+mod GivenUp

@@ -1,0 +1,154 @@
+//! Instructions that throw, and those that enter and leave monitors. (The Java Virtual Machine Specification, section 6.5, athrow,
+//! monitorenter and monitorexit.)
+
+ghost use Rattle.std.specs.Prelude.{option_and_then, slice_get, ◌≡◌};
+ghost use Rattle.guest_heap.specs.declared.frame.Frame.{Frame};
+ghost use Rattle.guest_model.specs.Changes.{world_of};
+ghost use Rattle.guest_model.specs.Monitors.{entered, left};
+ghost use Rattle.guest_model.specs.Stepping.{Acting, enters, leaves, throws_top};
+ghost use Rattle.guest_threads.specs.Acts.{ActsIn, acting, past};
+ghost use Rattle.guest_threads.specs.Did.{Becomes};
+
+use crate::fault::StepFault;
+use crate::frames::{go_to, place_behind};
+use crate::monitors::{enter, holds, leave};
+use crate::throwing::{throw, throw_new};
+use api_listing::Event;
+use guest_frames::is_null;
+use guest_heap::{Doing, Frame, Frames, Monitor, Thread, Value};
+use guest_model::{Machine, Thrown, class_of_value};
+use mon_base::List;
+use std::alloc::Global;
+use type_lattice::Indexed;
+
+/// The topmost operand of the top frame.
+fn top_operand(frames: &Frames) -> Option<Value>
+    ensures { result ≡ option_and_then (λ (f : Frame). slice_get f.stack.items 0) (slice_get frames.now 0) }
+{
+    frames.top()?.stack.get(0)
+}
+
+/// What is on top is thrown.
+pub fn throw_top(
+    alloc: Global,
+    program: &Indexed,
+    machine: &mut Machine,
+    number: u32,
+    thread: &mut Thread,
+) -> Result<Option<Event>, StepFault>
+    ensures { ActsIn result machine.old machine.new thread.old thread.new (acting number thread.old thread.old.frames
+        (λ (a : Acting). option_and_then (throws_top program.now (world_of machine.old) a) (slice_get a.frame.stack.items 0))) }
+{
+    let Some(value) = top_operand(&thread.frames) else {
+        return Err(StepFault::NotEnabled);
+    };
+    if is_null(value) {
+        let class = Thrown::NullPointer.name();
+        return throw_new(alloc, program, machine, number, thread, class, None);
+    }
+    let Some(class) = class_of_value(&machine.heap, value) else {
+        return Err(StepFault::NotEnabled);
+    };
+    throw(
+        alloc,
+        program,
+        &mut machine.monitors,
+        number,
+        thread,
+        value,
+        class,
+    );
+    Ok(None)
+}
+
+/// The monitor of what is on top is entered.
+pub fn enter_top(
+    alloc: Global,
+    program: &Indexed,
+    machine: &mut Machine,
+    number: u32,
+    thread: &mut Thread,
+) -> Result<Option<Event>, StepFault>
+    ensures { ActsIn result machine.old machine.new thread.old thread.new (acting number thread.old thread.old.frames
+        (λ (a : Acting). option_and_then (enters program.now (world_of machine.old) a) (slice_get a.frame.stack.items 0))) }
+{
+    let Some(value) = top_operand(&thread.frames) else {
+        return Err(StepFault::NotEnabled);
+    };
+    if is_null(value) {
+        let class = Thrown::NullPointer.name();
+        return throw_new(alloc, program, machine, number, thread, class, None);
+    }
+    enter_past(
+        &mut machine.monitors,
+        number,
+        thread.frames.top_mut(),
+        value,
+    )?;
+    thread.doing = Doing::Running;
+    Ok(None)
+}
+
+/// The monitor of what is on top is left.
+pub fn leave_top(
+    alloc: Global,
+    program: &Indexed,
+    machine: &mut Machine,
+    number: u32,
+    thread: &mut Thread,
+) -> Result<Option<Event>, StepFault>
+    ensures { ActsIn result machine.old machine.new thread.old thread.new (acting number thread.old thread.old.frames
+        (λ (a : Acting). option_and_then (leaves program.now (world_of machine.old) a) (slice_get a.frame.stack.items 0))) }
+{
+    let Some(value) = top_operand(&thread.frames) else {
+        return Err(StepFault::NotEnabled);
+    };
+    if is_null(value) {
+        let class = Thrown::NullPointer.name();
+        return throw_new(alloc, program, machine, number, thread, class, None);
+    }
+    if !holds(machine.monitors.as_slice(), number, value) {
+        let class = Thrown::Monitor.name();
+        return throw_new(alloc, program, machine, number, thread, class, None);
+    }
+    leave_past(
+        &mut machine.monitors,
+        number,
+        thread.frames.top_mut(),
+        value,
+    )?;
+    thread.doing = Doing::Running;
+    Ok(None)
+}
+
+/// The monitor of the value is entered, and the frame, whose top operand it is, goes on.
+fn enter_past(
+    monitors: &mut List<Monitor>,
+    number: u32,
+    frame: &mut Frame,
+    value: Value,
+) -> Result<(), StepFault>
+    ensures { Becomes result (monitors.old, frame.old) (monitors.new, frame.new) (past frame.old (entered monitors.old number value)) }
+{
+    let at = place_behind(frame, 1, None)?;
+    enter(monitors, number, value)?;
+    go_to(frame, at, 1, None);
+    Ok(())
+}
+
+/// The monitor of the value is left, and the frame, whose top operand it is, goes on.
+fn leave_past(
+    monitors: &mut List<Monitor>,
+    number: u32,
+    frame: &mut Frame,
+    value: Value,
+) -> Result<(), StepFault>
+    ensures { Becomes result (monitors.old, frame.old) (monitors.new, frame.new) (past frame.old (left monitors.old number value)) }
+{
+    let at = place_behind(frame, 1, None)?;
+    if !leave(monitors, number, value) {
+        return Err(StepFault::NotEnabled);
+    }
+    go_to(frame, at, 1, None);
+    Ok(())
+}

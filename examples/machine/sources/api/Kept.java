@@ -1,0 +1,4 @@
+package api;
+
+/** What can be kept. */
+public interface Kept {}

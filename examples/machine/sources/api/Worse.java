@@ -1,0 +1,4 @@
+package api;
+
+/** What it throws where it is worse. */
+public class Worse extends Broken {}

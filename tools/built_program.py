@@ -1,0 +1,16 @@
+"""Where conspecj is."""
+import os
+import shutil
+
+
+class Refused(Exception):
+    """conspecj is not there, or does not take what it was given; the text is its line, or says why."""
+
+
+def program():
+    """The path of conspecj: told by CONSPECJ, or where the repository builds it, or on the path."""
+    built = os.path.join(os.path.dirname(os.path.realpath(__file__)), "..", "crates", "conspecj", "out", "conspecj")
+    for path in (os.environ.get("CONSPECJ"), built, shutil.which("conspecj")):
+        if path and os.access(path, os.X_OK):
+            return os.path.realpath(path)
+    raise Refused("conspecj is not built, and CONSPECJ does not tell where it is")
