@@ -173,11 +173,10 @@ module _ (vars : List Var) (maxint : ℤ) (askable : Askable) where
       → AllByRecursion (IsBranchIn vars maxint askable) branches → AllByRecursion (HasLocals base) branches → AllByRecursion AreNumbers branches
       → AllByRecursion (Tried (AsksNumber base) MakesNumber) branches
   tried_fit base [] few most are locals numbers = tt
-  tried_fit base (branch ∷ branches) few most are locals numbers =
-      (
-        (asks_fit few base branch.atoms are.0.atoms locals.0 numbers.0, updates_fit few most branch.updates are.0.updates),
-        tried_fit base branches few most are.1 locals.1 numbers.1,
-      )
+  tried_fit base (branch ∷ branches) few most are locals numbers = (
+    (asks_fit few base branch.atoms are.0.atoms locals.0 numbers.0, updates_fit few most branch.updates are.0.updates),
+    tried_fit base branches few most are.1 locals.1 numbers.1,
+  )
 
   -- the variables are there
 
@@ -205,6 +204,20 @@ module _ (vars : List Var) (maxint : ℤ) (askable : Askable) where
       → AllByRecursion (Tried (λ atom. AsksKnown (bools_in vars) atom.base) (λ update. IsKnown (bools_in vars) (variable_of update))) branches
   tried_known [] are = tt
   tried_known (branch ∷ branches) are = ((asks_known branch.atoms are.0.atoms, makes_known branch.updates are.0.updates), tried_known branches are.1)
+
+-- what the variables are at first
+
+firsts_of : (maxint : ℤ) (vars : List Var) → maxint ≤ℤ pos 1000000000 → AllByRecursion (λ (v : Var). IsInRange maxint v.is_bool v.first) vars
+    → AllByRecursion (λ (v : Var). FitsSigned w32 v.first) vars
+firsts_of maxint [] most are = tt
+firsts_of maxint (v ∷ vars) most are = (ranged v.is_bool are.0, firsts_of maxint vars most are.1)
+  where
+    ranged : (b : Bool) → IsInRange maxint b v.first → FitsSigned w32 v.first
+    ranged true r = let low = r.low in let high = r.high in grind (arith, ints)
+    ranged false r = let low = r.low in let high = r.high in grind (arith, ints)
+
+pub firsts_fit : (policy : Policy) → IsPolicy policy → AllByRecursion (λ (v : Var). FitsSigned w32 v.first) policy.vars
+firsts_fit policy read = firsts_of policy.maxint policy.vars read.maxint_high read.vars
 
 -- ---- the clauses of a method
 

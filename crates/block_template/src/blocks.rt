@@ -347,9 +347,10 @@ fn put_with_handler(
         op: GOTO,
         place: at + caught.len() as u32,
     };
-    let role = match goes_on(clauses.after) {
-        true => Role::Leave,
-        false => Role::Unreached,
+    let role = if goes_on(clauses.after) {
+        Role::Leave
+    } else {
+        Role::Unreached
     };
     put(items, leave, role)?;
     put_if_reached(items, true, caught.as_slice())
