@@ -42,7 +42,7 @@ use Rattle.block_template.specs.Blocks.{
   checked,
   from_call,
   front,
-  goes_on,
+  lets_pass,
   handler,
   handler_at,
   is_locked,
@@ -74,7 +74,7 @@ module _ (bools : List Bool) (base : ℕ) (clauses : Clauses) (end : ℕ) (there
   -- ---- before the call
 
   front_leads : (mode : Mode) (o : Option Clause) → clauses.before ≡ o → IfSome o (λ c. c.phase ≡ Before) → (t : Role)
-      → (goes_on o ≡ true → t ≡ roles.Call (is_locked mode))
+      → (lets_pass o ≡ true → t ≡ roles.Call (is_locked mode))
       → Laid there role_of 0 (front mode bools base o) t
       → Led mode bools base clauses end there (entered mode o) (front mode bools base o) t
   front_leads Release None is for t ends placed =
@@ -109,7 +109,7 @@ module _ (bools : List Bool) (base : ℕ) (clauses : Clauses) (end : ℕ) (there
   -- ---- behind it, where it returns
 
   behind_leads : (mode : Mode) (o : Option Clause) → clauses.after ≡ o → IfSome o (λ c. c.phase ≡ After) → (at : ℕ) (t : Role)
-      → (goes_on o ≡ true → t ≡ roles.Leave)
+      → (lets_pass o ≡ true → t ≡ roles.Leave)
       → Laid there role_of at (behind mode bools base at o) t
       → Led mode bools base clauses end there (returned mode o) (behind mode bools base at o) t
   behind_leads Release None is for at t ends placed =
@@ -196,7 +196,7 @@ module _ (bools : List Bool) (base : ℕ) (clauses : Clauses) (end : ℕ) (there
     -- What stands behind a call that returns begins with the block's end, where that is reached.
     pub record Ends (part : List Item) : Type 0 where
       pub leads : LeadsTo (entry role_of part roles.Leave) part roles.Leave
-      pub left : goes_on clauses.after ≡ true → entry role_of part roles.Leave ≡ roles.Leave
+      pub left : lets_pass clauses.after ≡ true → entry role_of part roles.Leave ≡ roles.Leave
 
     over_ends : (b : Bool) (at : ℕ) → at + length (over b (at + 1)) ≡ end → at + 1 + length (handler_from (at + 1)) ≡ end
     over_ends b at ends =
@@ -207,7 +207,7 @@ module _ (bools : List Bool) (base : ℕ) (clauses : Clauses) (end : ℕ) (there
         → Laid there role_of at (if_caught b at) roles.Leave → Ends (if_caught b at)
     caught_ends false has at ends placed = record { leads = empty mode bools base clauses end there roles.Leave; left = λ goes. refl }
     caught_ends true has at ends placed =
-        let led = over_leads (goes_on clauses.after) has at (over_ends (goes_on clauses.after) at ends) placed in
+        let led = over_leads (lets_pass clauses.after) has at (over_ends (lets_pass clauses.after) at ends) placed in
         record {
           leads = record { enters = refl; runs = led.runs };
           left = λ goes. led.enters ∙ ap (λ (b : Bool). if b then roles.Leave else roles.Unreached) goes;
@@ -249,7 +249,7 @@ module _ (bools : List Bool) (base : ℕ) (clauses : Clauses) (end : ℕ) (there
         let size : 0 + length before ≡ length before = omega arith in
         laid_right there role_of 0 (length before) before (if_reached b onwards) roles.Leave size placed
 
-    block_leads : (b : Bool) → goes_on clauses.before ≡ b → length (before ++ if_reached b onwards) ≡ end
+    block_leads : (b : Bool) → lets_pass clauses.before ≡ b → length (before ++ if_reached b onwards) ≡ end
         → Laid there role_of 0 (before ++ if_reached b onwards) roles.Leave
         → LeadsTo (entered mode clauses.before) (before ++ if_reached b onwards) roles.Leave
     block_leads true goes total placed =
@@ -268,11 +268,11 @@ module _ (bools : List Bool) (base : ℕ) (clauses : Clauses) (end : ℕ) (there
         → IfSome (if b then Some (at + 1) else None) (λ place. there place ≡ thrown mode clauses.exceptional)
     caught_at false has at placed = tt
     caught_at true has at placed =
-        let stands = handler_placed (goes_on clauses.after) at placed in
+        let stands = handler_placed (lets_pass clauses.after) at placed in
         let led = handler_leads mode clauses.exceptional refl phases.exceptional has (at + 1) roles.Leave stands in
         laid_entry there role_of (at + 1) (handler_from (at + 1)) roles.Leave stands ∙ led.enters
 
-    block_catches : goes_on clauses.before ≡ true → Laid there role_of 0 (items mode bools base clauses) roles.Leave
+    block_catches : lets_pass clauses.before ≡ true → Laid there role_of 0 (items mode bools base clauses) roles.Leave
         → IfSome (handler_at mode bools base clauses) (λ place. there place ≡ thrown mode clauses.exceptional)
     block_catches goes placed =
         let all = subst (λ b. Laid there role_of 0 (before ++ if_reached b onwards) roles.Leave) goes placed in
@@ -293,7 +293,7 @@ blocks_flow mode bools base clauses phases =
     let end = length all in
     let there = role_at all in
     let laid = laid_all role_of all roles.Leave in
-    let led = block_leads bools base clauses end there mode phases (goes_on clauses.before) refl refl laid in
+    let led = block_leads bools base clauses end there mode phases (lets_pass clauses.before) refl refl laid in
     record {
       begins = laid_entry there role_of 0 all roles.Leave laid ∙ led.enters;
       goes = λ at i got reached. row_got (Row mode bools base clauses end there) role_of all roles.Leave at i led.runs got reached;

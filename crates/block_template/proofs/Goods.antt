@@ -34,7 +34,7 @@ use Rattle.offset_patch.specs.Fits.{IsBlock, IsBlockInsn, IsSite, JumpsWithin, c
 use Rattle.offset_patch.specs.Plan.{IsListedCall, NamesVariable}
 use Rattle.offset_patch.specs.Splicing.{block_wants, want_of}
 use Rattle.block_template.specs.declared.item.Item.{Item}
-use Rattle.block_template.specs.Blocks.{Clauses, behind, block, block_with, bools_of, called, catches, caught, clause_at, clauses_of, from_call, front, goes_on, handler, handler_at, has_block, is_phase, items, kept, locals_used, site, site_locals, with_handler}
+use Rattle.block_template.specs.Blocks.{Clauses, behind, block, block_with, bools_of, called, catches, caught, clause_at, clauses_of, from_call, front, lets_pass, handler, handler_at, has_block, is_phase, items, kept, locals_used, site, site_locals, with_handler}
 use Rattle.block_template.specs.Good.{AreNumbers, HasNumbers, PlansAreGood}
 use Rattle.block_template.specs.Parts.{if_reached, unreached}
 use Rattle.block_template.specs.Pushing.{bools_in}
@@ -69,13 +69,13 @@ module _ (mode : Mode) (bools : List Bool) (base : ℕ) (clauses : Clauses) wher
 
   insns_are : insns_of (items mode bools base clauses) ≡ insns_of before ++ (Call ∷ insns_of later)
   insns_are =
-      map-append (λ (i : Item). i.insn) before (if_reached (goes_on clauses.before) (from_call mode bools base (length before) clauses))
-      ∙ ap (λ insns. insns_of before ++ insns) (same_reached (goes_on clauses.before) (from_call mode bools base (length before) clauses))
+      map-append (λ (i : Item). i.insn) before (if_reached (lets_pass clauses.before) (from_call mode bools base (length before) clauses))
+      ∙ ap (λ insns. insns_of before ++ insns) (same_reached (lets_pass clauses.before) (from_call mode bools base (length before) clauses))
 
   count_is : count ≡ length before + (1 + length later)
   count_is =
       let from = from_call mode bools base (length before) clauses in
-      omega (arith, length-append before (if_reached (goes_on clauses.before) from), reached_length (goes_on clauses.before) from)
+      omega (arith, length-append before (if_reached (lets_pass clauses.before) from), reached_length (lets_pass clauses.before) from)
 
   -- What holds of each of the others, and of the call, holds of all.
   all_insns : (P Q : BlockInsn → Type 0) → ((insn : BlockInsn) → P insn → Q insn) → Q Call → AllByRecursion (λ (i : Item). P i.insn) before

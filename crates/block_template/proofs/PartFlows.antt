@@ -35,7 +35,7 @@ use Rattle.offset_patch.specs.declared.block.BlockInsn.TheVariants.{Jump, Call}
 use Rattle.block_template.specs.declared.item.Item.{Item}
 use Rattle.block_template.specs.declared.item.Role.{Role}
 use Rattle.block_template.specs.declared.item.Role.TheVariants as roles
-use Rattle.block_template.specs.Blocks.{Clauses, call, checked, goes_on, is_locked, leave, released, rethrow}
+use Rattle.block_template.specs.Blocks.{Clauses, call, checked, lets_pass, is_locked, leave, released, rethrow}
 use Rattle.block_template.specs.Flow.{
   argument_at,
   branches_in,
@@ -86,7 +86,7 @@ module _ (mode : Mode) (bools : List Bool) (base : ℕ) (clauses : Clauses) (end
   -- the check of a clause, and what stands behind it
   pub checked_leads : (phase : Phase) (clause : Clause) → clause_in clauses phase ≡ Some clause → clause.phase ≡ phase
       → (at : ℕ) (later : List Item) (t : Role)
-      → (goes_on (Some clause) ≡ true → LeadsTo (checked_in mode clauses phase) later t)
+      → (lets_pass (Some clause) ≡ true → LeadsTo (checked_in mode clauses phase) later t)
       → Laid there role_of at (checked bools base at clause later) t
       → LeadsTo (tries phase 0 clause.branches) (checked bools base at clause later) t
   checked_leads phase clause is for at later t leads placed =
@@ -101,7 +101,7 @@ module _ (mode : Mode) (bools : List Bool) (base : ℕ) (clauses : Clauses) (end
   -- the same where the check takes the lock and leaves it
   pub released_leads : (phase : Phase) (clause : Clause) → clause_in clauses phase ≡ Some clause → clause.phase ≡ phase
       → checked_in mode clauses phase ≡ roles.Unlock phase true false → (at : ℕ) (later : List Item) (t : Role)
-      → (goes_on (Some clause) ≡ true → LeadsTo (unlocked_in clauses phase) later t)
+      → (lets_pass (Some clause) ≡ true → LeadsTo (unlocked_in clauses phase) later t)
       → Laid there role_of at (released bools base at clause later) t
       → LeadsTo (roles.Lock phase false) (released bools base at clause later) t
   released_leads phase clause is for left at later t leads placed =

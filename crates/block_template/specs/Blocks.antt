@@ -46,15 +46,15 @@ clauses_of policy method = record {
 }
 
 -- A check without branches stops the program.
-abbrev pub goes_on : Option Clause → Bool
-goes_on None = true
-goes_on (Some clause) = not (is_empty clause.branches)
+abbrev pub lets_pass : Option Clause → Bool
+lets_pass None = true
+lets_pass (Some clause) = not (is_empty clause.branches)
 
 -- ---- mode release: each check takes the lock and leaves it
 
 -- In `behind` stand the instructions behind a check and its lock.
 abbrev pub checked : List Bool → ℕ → ℕ → Clause → List Item → List Item
-checked bools base at clause behind = check bools base at clause ++ if_reached (goes_on (Some clause)) behind
+checked bools base at clause behind = check bools base at clause ++ if_reached (lets_pass (Some clause)) behind
 
 abbrev pub released : List Bool → ℕ → ℕ → Clause → List Item → List Item
 released bools base at clause behind = lock clause.phase ++ checked bools base (at + 2) clause (unlock clause.phase true ++ behind)
@@ -121,7 +121,7 @@ called mode bools base at clauses = call mode ∷ behind mode bools base (at + 1
 -- a block that catches, whose handler begins at `at`
 abbrev pub with_handler : Mode → List Bool → ℕ → ℕ → Clauses → List Item
 with_handler mode bools base at clauses =
-    if_reached (goes_on clauses.after) (leave (at + length (handler mode bools base at clauses.exceptional)) ∷ [])
+    if_reached (lets_pass clauses.after) (leave (at + length (handler mode bools base at clauses.exceptional)) ∷ [])
     ++ handler mode bools base at clauses.exceptional
 
 abbrev pub caught : Mode → List Bool → ℕ → ℕ → Clauses → List Item
@@ -135,7 +135,7 @@ from_call mode bools base at clauses =
 abbrev pub items : Mode → List Bool → ℕ → Clauses → List Item
 items mode bools base clauses =
     front mode bools base clauses.before
-    ++ if_reached (goes_on clauses.before) (from_call mode bools base (length (front mode bools base clauses.before)) clauses)
+    ++ if_reached (lets_pass clauses.before) (from_call mode bools base (length (front mode bools base clauses.before)) clauses)
 
 -- where the handler begins, where the call is at `at`
 abbrev pub from_handler : Mode → List Bool → ℕ → ℕ → Clauses → Option ℕ

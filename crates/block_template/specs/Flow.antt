@@ -56,7 +56,7 @@ use Rattle.block_template.specs.declared.item.Role.TheVariants as roles
 use Rattle.offset_patch.specs.declared.block.PoolWant.TheVariants.{StateClass, Exit}
 use Rattle.block_template.specs.Parts.{update_size}
 use Rattle.block_template.specs.Pushing.{store, load, push, field, push_base, negated}
-use Rattle.block_template.specs.Blocks.{Clauses, catches, goes_on, handler_at, is_locked, items}
+use Rattle.block_template.specs.Blocks.{Clauses, catches, lets_pass, handler_at, is_locked, items}
 
 -- ---- a check
 
@@ -328,7 +328,7 @@ pub record Flows (mode : Mode) (bools : List Bool) (base : ℕ) (clauses : Claus
   pub goes : (at : ℕ) (i : Item) → slice_get items at ≡ Some i → i.role ≢ roles.Unreached
       → IsLed mode bools base clauses (length items) (role_at items) i (role_at items (at + 1))
   pub handles : is_some handler ≡ catches mode clauses.exceptional
-  pub caught : goes_on clauses.before ≡ true → IfSome handler (λ place. role_at items place ≡ thrown mode clauses.exceptional)
+  pub caught : lets_pass clauses.before ≡ true → IfSome handler (λ place. role_at items place ≡ thrown mode clauses.exceptional)
 
 -- So does each block.
 abbrev pub BlocksFlow : Type 0

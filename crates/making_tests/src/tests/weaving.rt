@@ -138,6 +138,7 @@ fn of_code(alloc: Global, max_stack: u16, max_locals: u16, code: &[u8]) -> Resul
     )
 }
 
+/// The code of the first method of the first of two class files.
 pub fn code_of(woven: &Woven) -> Result<&Code, Fail> {
     let [class, _] = woven.files.as_slice() else {
         return Err("two files".into());
