@@ -1,5 +1,28 @@
 -- A block flows as the graph tells.
-use Rattle.std.proofs.Common.{◌≡◌, ℕ, ◌+◌, Bool, true, false, List, [], ◌∷◌, ◌++◌, length, map, Option, Some, None, length-append, refl, ap, subst, sym, ◌∙◌, arith}
+use Rattle.std.proofs.Common.{
+  ◌≡◌,
+  ℕ,
+  ◌+◌,
+  Bool,
+  true,
+  false,
+  List,
+  [],
+  ◌∷◌,
+  ◌++◌,
+  length,
+  map,
+  Option,
+  Some,
+  None,
+  length-append,
+  refl,
+  ap,
+  subst,
+  sym,
+  ◌∙◌,
+  arith,
+}
 use Rattle.std.specs.Prelude.{IfSome, if◌then◌else◌, is_some}
 use Rattle.std.specs.Option.{option_map_or}
 use Rattle.cert_format.specs.declared.certificate.Mode.{Mode}
@@ -19,7 +42,7 @@ use Rattle.block_template.specs.Blocks.{
   checked,
   from_call,
   front,
-  goes_on,
+  lets_pass,
   handler,
   handler_at,
   is_locked,
@@ -36,14 +59,13 @@ use Rattle.block_template.proofs.Laying.{Laid, entry, laid_all, laid_end, laid_e
 use Rattle.block_template.proofs.Sizes.{keep_length, reached_length, save_length}
 use Rattle.block_template.proofs.CheckFlows.{Led, Row, empty, ended, go, join, lock_leads, role_of, unlock_leads, unreached_lead}
 use Rattle.block_template.proofs.PartFlows.{
+  all_loaded,
   all_saved,
-  arguments_laid,
   call_row,
   checked_leads,
   give_leads,
   keep_leads,
   leave_row,
-  loads_lead,
   released_leads,
   rethrow_leads,
 }
@@ -51,9 +73,12 @@ use Rattle.block_template.proofs.PartFlows.{
 module _ (bools : List Bool) (base : ℕ) (clauses : Clauses) (end : ℕ) (there : ℕ → Role) where
   -- ---- before the call
 
-  front_leads : (mode : Mode) (o : Option Clause) → clauses.before ≡ o → IfSome o (λ c. c.phase ≡ Before) → (t : Role) → (goes_on o ≡ true → t ≡ roles.Call (is_locked mode))
-      → Laid there role_of 0 (front mode bools base o) t → Led mode bools base clauses end there (entered mode o) (front mode bools base o) t
-  front_leads Release None is for t ends placed = ended Release bools base clauses end there [] (sym (ends refl)) (empty Release bools base clauses end there (roles.Call false))
+  front_leads : (mode : Mode) (o : Option Clause) → clauses.before ≡ o → IfSome o (λ c. c.phase ≡ Before) → (t : Role)
+      → (lets_pass o ≡ true → t ≡ roles.Call (is_locked mode))
+      → Laid there role_of 0 (front mode bools base o) t
+      → Led mode bools base clauses end there (entered mode o) (front mode bools base o) t
+  front_leads Release None is for t ends placed =
+      ended Release bools base clauses end there [] (sym (ends refl)) (empty Release bools base clauses end there (roles.Call false))
   front_leads Hold None is for t ends placed =
       ended Hold bools base clauses end there (lock Before) (ap (λ (o : Option Clause). locked_for o Before) is ∙ sym (ends refl))
       (lock_leads Hold bools base clauses end there Before)
@@ -64,29 +89,35 @@ module _ (bools : List Bool) (base : ℕ) (clauses : Clauses) (end : ℕ) (there
       let size : 0 + length (save base 0 args) ≡ length args = omega (arith, save_length base 0 args) in
       join Release bools base clauses end there (save base 0 args) rest (all_saved Release bools base clauses end there clause is)
       (released_leads Release bools base clauses end there Before clause is for refl (length args) later t
-      (λ goes. ended Release bools base clauses end there later (sym (ends goes)) (loads_lead Release bools base clauses end there false 0 args (arguments_laid Release bools base clauses end there clause is)))
+      (λ goes. all_loaded Release bools base clauses end there false clause is t (ends goes))
       (laid_right there role_of 0 (length args) (save base 0 args) rest t size placed))
   front_leads Hold (Some clause) is for t ends placed =
       let args = clause.args in
       let later = loads true base 0 args in
       let test = checked bools base (length args + 2) clause later in
       let size : 0 + length (save base 0 args) ≡ length args = omega (arith, save_length base 0 args) in
-      join Hold bools base clauses end there (save base 0 args) (lock Before ++ test) (all_saved Hold bools base clauses end there clause is)
+      join Hold bools base clauses end there (save base 0 args) (lock Before ++ test)
+      (all_saved Hold bools base clauses end there clause is)
       (join Hold bools base clauses end there (lock Before) test
-      (ended Hold bools base clauses end there (lock Before) (ap (λ (o : Option Clause). locked_for o Before) is) (lock_leads Hold bools base clauses end there Before))
+      (ended Hold bools base clauses end there (lock Before) (ap (λ (o : Option Clause). locked_for o Before) is)
+      (lock_leads Hold bools base clauses end there Before))
       (checked_leads Hold bools base clauses end there Before clause is for (length args + 2) later t
-      (λ goes. ended Hold bools base clauses end there later (sym (ends goes)) (loads_lead Hold bools base clauses end there true 0 args (arguments_laid Hold bools base clauses end there clause is)))
+      (λ goes. all_loaded Hold bools base clauses end there true clause is t (ends goes))
       (laid_right there role_of (length args) (length args + 2) (lock Before) test t refl
       (laid_right there role_of 0 (length args) (save base 0 args) (lock Before ++ test) t size placed))))
 
   -- ---- behind it, where it returns
 
-  behind_leads : (mode : Mode) (o : Option Clause) → clauses.after ≡ o → IfSome o (λ c. c.phase ≡ After) → (at : ℕ) (t : Role) → (goes_on o ≡ true → t ≡ roles.Leave)
-      → Laid there role_of at (behind mode bools base at o) t → Led mode bools base clauses end there (returned mode o) (behind mode bools base at o) t
-  behind_leads Release None is for at t ends placed = ended Release bools base clauses end there [] (sym (ends refl)) (empty Release bools base clauses end there roles.Leave)
+  behind_leads : (mode : Mode) (o : Option Clause) → clauses.after ≡ o → IfSome o (λ c. c.phase ≡ After) → (at : ℕ) (t : Role)
+      → (lets_pass o ≡ true → t ≡ roles.Leave)
+      → Laid there role_of at (behind mode bools base at o) t
+      → Led mode bools base clauses end there (returned mode o) (behind mode bools base at o) t
+  behind_leads Release None is for at t ends placed =
+      ended Release bools base clauses end there [] (sym (ends refl)) (empty Release bools base clauses end there roles.Leave)
   behind_leads Hold None is for at t ends placed =
       let none : keeps_result clauses ≡ false = ap (λ (o : Option Clause). option_map_or (λ (c : Clause). is_some c.result) o false) is in
-      ended Hold bools base clauses end there (unlock After false) (ap (λ (b : Bool). if b then roles.Give else roles.Leave) none ∙ sym (ends refl))
+      ended Hold bools base clauses end there (unlock After false)
+      (ap (λ (b : Bool). if b then roles.Give else roles.Leave) none ∙ sym (ends refl))
       (unlock_leads Hold bools base clauses end there After false)
   behind_leads Release (Some clause) is for at t ends placed =
       let first = keep false base clause.result in
@@ -95,7 +126,7 @@ module _ (bools : List Bool) (base : ℕ) (clauses : Clauses) (end : ℕ) (there
       let rest = released bools base to clause later in
       join Release bools base clauses end there first rest (keep_leads Release bools base clauses end there false clause is)
       (released_leads Release bools base clauses end there After clause is for refl to later t
-      (λ goes. ended Release bools base clauses end there later (sym (ends goes)) (give_leads Release bools base clauses end there clause is))
+      (λ goes. give_leads Release bools base clauses end there clause is t (ends goes))
       (laid_right there role_of at to first rest t (ap (λ k. at + k) (keep_length false base clause.result)) placed))
   behind_leads Hold (Some clause) is for at t ends placed =
       let first = keep true base clause.result in
@@ -105,22 +136,27 @@ module _ (bools : List Bool) (base : ℕ) (clauses : Clauses) (end : ℕ) (there
       join Hold bools base clauses end there first rest (keep_leads Hold bools base clauses end there true clause is)
       (checked_leads Hold bools base clauses end there After clause is for to (unlock After true ++ later) t
       (λ goes. join Hold bools base clauses end there (unlock After true) later (unlock_leads Hold bools base clauses end there After true)
-      (ended Hold bools base clauses end there later (sym (ends goes)) (give_leads Hold bools base clauses end there clause is)))
+      (give_leads Hold bools base clauses end there clause is t (ends goes)))
       (laid_right there role_of at to first rest t (ap (λ k. at + k) (keep_length true base clause.result)) placed))
 
   -- ---- where it throws
 
-  handler_leads : (mode : Mode) (o : Option Clause) → clauses.exceptional ≡ o → IfSome o (λ c. c.phase ≡ Exceptional) → catches mode o ≡ true → (at : ℕ) (t : Role)
-      → Laid there role_of at (handler mode bools base at o) t → Led mode bools base clauses end there (thrown mode o) (handler mode bools base at o) t
+  handler_leads : (mode : Mode) (o : Option Clause) → clauses.exceptional ≡ o → IfSome o (λ c. c.phase ≡ Exceptional)
+      → catches mode o ≡ true → (at : ℕ) (t : Role)
+      → Laid there role_of at (handler mode bools base at o) t
+      → Led mode bools base clauses end there (thrown mode o) (handler mode bools base at o) t
   handler_leads Release None is for caught at t placed = absurd cc
   handler_leads Hold None is for caught at t placed =
-      join Hold bools base clauses end there (unlock Exceptional false) rethrow (unlock_leads Hold bools base clauses end there Exceptional false)
+      join Hold bools base clauses end there (unlock Exceptional false) rethrow
+      (unlock_leads Hold bools base clauses end there Exceptional false)
       (rethrow_leads Hold bools base clauses end there t)
   handler_leads Release (Some clause) is for caught at t placed =
-      released_leads Release bools base clauses end there Exceptional clause is for refl at rethrow t (λ goes. rethrow_leads Release bools base clauses end there t) placed
+      released_leads Release bools base clauses end there Exceptional clause is for refl at rethrow t
+      (λ goes. rethrow_leads Release bools base clauses end there t) placed
   handler_leads Hold (Some clause) is for caught at t placed =
       checked_leads Hold bools base clauses end there Exceptional clause is for at (unlock Exceptional true ++ rethrow) t
-      (λ goes. join Hold bools base clauses end there (unlock Exceptional true) rethrow (unlock_leads Hold bools base clauses end there Exceptional true)
+      (λ goes. join Hold bools base clauses end there (unlock Exceptional true) rethrow
+      (unlock_leads Hold bools base clauses end there Exceptional true)
       (rethrow_leads Hold bools base clauses end there t)) placed
 
   -- ---- the whole
@@ -136,7 +172,8 @@ module _ (bools : List Bool) (base : ℕ) (clauses : Clauses) (end : ℕ) (there
     abbrev over : Bool → ℕ → List Item
     over b at = if_reached b (leave (at + length (handler_from at)) ∷ []) ++ handler_from at
 
-    handler_placed : (b : Bool) (at : ℕ) → Laid there role_of at (over b (at + 1)) roles.Leave → Laid there role_of (at + 1) (handler_from (at + 1)) roles.Leave
+    handler_placed : (b : Bool) (at : ℕ) → Laid there role_of at (over b (at + 1)) roles.Leave
+        → Laid there role_of (at + 1) (handler_from (at + 1)) roles.Leave
     handler_placed b at placed =
         let first = if_reached b (leave (at + 1 + length (handler_from (at + 1))) ∷ []) in
         laid_right there role_of at (at + 1) first (handler_from (at + 1)) roles.Leave (ap (λ k. at + k) (reached_length b _)) placed
@@ -146,7 +183,8 @@ module _ (bools : List Bool) (base : ℕ) (clauses : Clauses) (end : ℕ) (there
         → LeadsTo (if b then roles.Leave else roles.Unreached) (over b (at + 1)) roles.Leave
     over_leads true has at ends placed =
         let stands = handler_placed true at placed in
-        go mode bools base clauses end there _ _ (leave_row mode bools base clauses end there _ _ ends (laid_end there role_of (at + 1) (handler_from (at + 1)) roles.Leave stands))
+        go mode bools base clauses end there _ _
+        (leave_row mode bools base clauses end there _ _ ends (laid_end there role_of (at + 1) (handler_from (at + 1)) roles.Leave stands))
         (handler_leads mode clauses.exceptional refl phases.exceptional has (at + 1) roles.Leave stands)
     over_leads false has at ends placed =
         go mode bools base clauses end there _ _ (λ reached. absurd (reached refl))
@@ -158,7 +196,7 @@ module _ (bools : List Bool) (base : ℕ) (clauses : Clauses) (end : ℕ) (there
     -- What stands behind a call that returns begins with the block's end, where that is reached.
     pub record Ends (part : List Item) : Type 0 where
       pub leads : LeadsTo (entry role_of part roles.Leave) part roles.Leave
-      pub left : goes_on clauses.after ≡ true → entry role_of part roles.Leave ≡ roles.Leave
+      pub left : lets_pass clauses.after ≡ true → entry role_of part roles.Leave ≡ roles.Leave
 
     over_ends : (b : Bool) (at : ℕ) → at + length (over b (at + 1)) ≡ end → at + 1 + length (handler_from (at + 1)) ≡ end
     over_ends b at ends =
@@ -169,7 +207,7 @@ module _ (bools : List Bool) (base : ℕ) (clauses : Clauses) (end : ℕ) (there
         → Laid there role_of at (if_caught b at) roles.Leave → Ends (if_caught b at)
     caught_ends false has at ends placed = record { leads = empty mode bools base clauses end there roles.Leave; left = λ goes. refl }
     caught_ends true has at ends placed =
-        let led = over_leads (goes_on clauses.after) has at (over_ends (goes_on clauses.after) at ends) placed in
+        let led = over_leads (lets_pass clauses.after) has at (over_ends (lets_pass clauses.after) at ends) placed in
         record {
           leads = record { enters = refl; runs = led.runs };
           left = λ goes. led.enters ∙ ap (λ (b : Bool). if b then roles.Leave else roles.Unreached) goes;
@@ -181,7 +219,8 @@ module _ (bools : List Bool) (base : ℕ) (clauses : Clauses) (end : ℕ) (there
     abbrev catching : ℕ → List Item
     catching at = caught mode bools base (at + length (calls at)) clauses
 
-    caught_placed : (at : ℕ) → Laid there role_of at (from_call mode bools base at clauses) roles.Leave → Laid there role_of (at + length (calls at)) (catching at) roles.Leave
+    caught_placed : (at : ℕ) → Laid there role_of at (from_call mode bools base at clauses) roles.Leave
+        → Laid there role_of (at + length (calls at)) (catching at) roles.Leave
     caught_placed at placed = laid_right there role_of at (at + length (calls at)) (calls at) (catching at) roles.Leave refl placed
 
     from_call_leads : (at : ℕ) → at + length (from_call mode bools base at clauses) ≡ end
@@ -204,19 +243,21 @@ module _ (bools : List Bool) (base : ℕ) (clauses : Clauses) (end : ℕ) (there
     abbrev onwards : List Item
     onwards = from_call mode bools base (length before) clauses
 
-    onwards_placed : (b : Bool) → Laid there role_of 0 (before ++ if_reached b onwards) roles.Leave → Laid there role_of (length before) (if_reached b onwards) roles.Leave
+    onwards_placed : (b : Bool) → Laid there role_of 0 (before ++ if_reached b onwards) roles.Leave
+        → Laid there role_of (length before) (if_reached b onwards) roles.Leave
     onwards_placed b placed =
         let size : 0 + length before ≡ length before = omega arith in
         laid_right there role_of 0 (length before) before (if_reached b onwards) roles.Leave size placed
 
-    block_leads : (b : Bool) → goes_on clauses.before ≡ b → length (before ++ if_reached b onwards) ≡ end
+    block_leads : (b : Bool) → lets_pass clauses.before ≡ b → length (before ++ if_reached b onwards) ≡ end
         → Laid there role_of 0 (before ++ if_reached b onwards) roles.Leave
         → LeadsTo (entered mode clauses.before) (before ++ if_reached b onwards) roles.Leave
     block_leads true goes total placed =
         let ends : length before + length onwards ≡ end = omega (arith, total, length-append before onwards) in
         let later = from_call_leads (length before) ends (onwards_placed true placed) in
         let first = subst (λ r. Laid there role_of 0 before r) later.enters (laid_left there role_of 0 before onwards roles.Leave placed) in
-        join mode bools base clauses end there before onwards (front_leads mode clauses.before refl phases.before (roles.Call (is_locked mode)) (λ goes. refl) first) later
+        join mode bools base clauses end there before onwards
+        (front_leads mode clauses.before refl phases.before (roles.Call (is_locked mode)) (λ goes. refl) first) later
     block_leads false goes total placed =
         let rest = map unreached onwards in
         join mode bools base clauses end there before rest
@@ -227,17 +268,19 @@ module _ (bools : List Bool) (base : ℕ) (clauses : Clauses) (end : ℕ) (there
         → IfSome (if b then Some (at + 1) else None) (λ place. there place ≡ thrown mode clauses.exceptional)
     caught_at false has at placed = tt
     caught_at true has at placed =
-        let stands = handler_placed (goes_on clauses.after) at placed in
+        let stands = handler_placed (lets_pass clauses.after) at placed in
         let led = handler_leads mode clauses.exceptional refl phases.exceptional has (at + 1) roles.Leave stands in
         laid_entry there role_of (at + 1) (handler_from (at + 1)) roles.Leave stands ∙ led.enters
 
-    block_catches : goes_on clauses.before ≡ true → Laid there role_of 0 (items mode bools base clauses) roles.Leave
+    block_catches : lets_pass clauses.before ≡ true → Laid there role_of 0 (items mode bools base clauses) roles.Leave
         → IfSome (handler_at mode bools base clauses) (λ place. there place ≡ thrown mode clauses.exceptional)
     block_catches goes placed =
         let all = subst (λ b. Laid there role_of 0 (before ++ if_reached b onwards) roles.Leave) goes placed in
-        caught_at (catches mode clauses.exceptional) refl (length before + length (calls (length before))) (caught_placed (length before) (onwards_placed true all))
+        caught_at (catches mode clauses.exceptional) refl (length before + length (calls (length before)))
+        (caught_placed (length before) (onwards_placed true all))
 
-handles_as : (mode : Mode) (bools : List Bool) (base : ℕ) (clauses : Clauses) → is_some (handler_at mode bools base clauses) ≡ catches mode clauses.exceptional
+handles_as : (mode : Mode) (bools : List Bool) (base : ℕ) (clauses : Clauses)
+    → is_some (handler_at mode bools base clauses) ≡ catches mode clauses.exceptional
 handles_as mode bools base clauses = by (catches mode clauses.exceptional) _
   where
     by : (b : Bool) (place : ℕ) → is_some (if b then Some place else None) ≡ b
@@ -250,7 +293,7 @@ blocks_flow mode bools base clauses phases =
     let end = length all in
     let there = role_at all in
     let laid = laid_all role_of all roles.Leave in
-    let led = block_leads bools base clauses end there mode phases (goes_on clauses.before) refl refl laid in
+    let led = block_leads bools base clauses end there mode phases (lets_pass clauses.before) refl refl laid in
     record {
       begins = laid_entry there role_of 0 all roles.Leave laid ∙ led.enters;
       goes = λ at i got reached. row_got (Row mode bools base clauses end there) role_of all roles.Leave at i led.runs got reached;

@@ -1,5 +1,27 @@
 -- A check flows as the graph tells.
-use Rattle.std.proofs.Common.{◌≡◌, ◌≢◌, ℕ, ◌+◌, Bool, true, false, List, [], ◌∷◌, ◌++◌, length, map, Option, Some, None, refl, ap, subst, sym, ◌∙◌}
+use Rattle.std.proofs.Common.{
+  ◌≡◌,
+  ◌≢◌,
+  ℕ,
+  ◌+◌,
+  Bool,
+  true,
+  false,
+  List,
+  [],
+  ◌∷◌,
+  ◌++◌,
+  length,
+  map,
+  Option,
+  Some,
+  None,
+  refl,
+  ap,
+  subst,
+  sym,
+  ◌∙◌,
+}
 use Rattle.std.specs.Prelude.{IfSome, ℤ, pos, neg_ℤ, nat_lt, int_le, ◌&&◌, if◌then◌else◌, not, slice_get, option_and_then}
 use Rattle.std.specs.Ordering.{int_eq}
 use Rattle.std.specs.Option.{option_map_or}
@@ -21,10 +43,56 @@ use Rattle.block_template.specs.declared.item.Item.{Item}
 use Rattle.block_template.specs.declared.item.Role.{Role}
 use Rattle.block_template.specs.declared.item.Role.TheVariants as roles
 use Rattle.block_template.specs.Blocks.{Clauses}
-use Rattle.block_template.specs.Flow.{IsLed, ask_insn, branch_at, branches_in, checked_in, clause_in, held, insn_of, jump_of, jumps, locked_for, made, next, tries, unlocked_in, update_goes, update_insn, updated}
-use Rattle.block_template.specs.Parts.{asks, branch_size, branches, branches_size, if_reached, item, lock, stop, tried, unlock, unreached, writes}
+use Rattle.block_template.specs.Flow.{
+  IsLed,
+  ask_insn,
+  branch_at,
+  branches_in,
+  checked_in,
+  clause_in,
+  held,
+  insn_of,
+  jump_of,
+  jumps,
+  locked_for,
+  made,
+  next,
+  tries,
+  unlocked_in,
+  update_goes,
+  update_insn,
+  updated,
+}
+use Rattle.block_template.specs.Parts.{
+  asks,
+  branch_size,
+  branches,
+  branches_size,
+  if_reached,
+  item,
+  lock,
+  stop,
+  tried,
+  unlock,
+  unreached,
+  writes,
+}
 use Rattle.block_template.specs.Pushing.{load, local, negated, push, push_base, store}
-use Rattle.block_template.proofs.Laying.{Laid, Leads, Run, entry, from, laid_entry, laid_got, laid_left, laid_right, more, nothing, joined, upto}
+use Rattle.block_template.proofs.Laying.{
+  Laid,
+  Leads,
+  Run,
+  entry,
+  from,
+  laid_entry,
+  laid_got,
+  laid_left,
+  laid_right,
+  more,
+  nothing,
+  joined,
+  upto,
+}
 use Rattle.block_template.proofs.Sizes.{branches_length, tried_length}
 
 -- ---- what pushes and stores does not jump
@@ -79,8 +147,15 @@ module _ (mode : Mode) (bools : List Bool) (base : ℕ) (clauses : Clauses) (end
   Led s part t = Leads Row role_of s part t
 
   -- one that does not jump
-  pub plain : (insn : BlockInsn) (role m : Role) → Stays insn → insn_of bools base clauses end 0 role ≡ Some insn → next mode clauses role ≡ m → Row (item insn role) m
-  plain insn role m stays is goes reached = record { is = (0, is); passes = λ may. sym goes; lands = subst (λ (o : Option ℕ). IfSome o (λ place. there place ≡ jumps mode clauses role)) (sym stays) tt }
+  pub plain : (insn : BlockInsn) (role m : Role) → Stays insn → insn_of bools base clauses end 0 role ≡ Some insn
+      → next mode clauses role ≡ m → Row (item insn role) m
+  plain insn role m stays is goes reached =
+      record {
+        is = (0, is);
+        passes = λ may. sym goes;
+        lands = subst
+            (λ (o : Option ℕ). IfSome o (λ place. there place ≡ jumps mode clauses role)) (sym stays) tt;
+      }
 
   pub go : {m t : Role} (i : Item) (xs : List Item) → Row i m → Led m xs t → Led i.role (i ∷ xs) t
   go i xs a b = more Row role_of i xs a b
@@ -127,17 +202,20 @@ module _ (mode : Mode) (bools : List Bool) (base : ℕ) (clauses : Clauses) (end
   -- ---- a branch
 
   module _ (phase : Phase) (n : ℕ) (branch : Branch) (here : branch_at clauses phase n ≡ Some branch) where
-    atom_is : (a : ℕ) (atom : Atom) → slice_get branch.atoms a ≡ Some atom → option_and_then (λ (b : Branch). slice_get b.atoms a) (branch_at clauses phase n) ≡ Some atom
+    atom_is : (a : ℕ) (atom : Atom) → slice_get branch.atoms a ≡ Some atom
+        → option_and_then (λ (b : Branch). slice_get b.atoms a) (branch_at clauses phase n) ≡ Some atom
     atom_is a atom got = ap (option_and_then (λ (b : Branch). slice_get b.atoms a)) here ∙ got
 
     update_is : (u : ℕ) (update : Update) → slice_get branch.updates u ≡ Some update
         → option_and_then (λ (b : Branch). slice_get b.updates u) (branch_at clauses phase n) ≡ Some update
     update_is u update got = ap (option_and_then (λ (b : Branch). slice_get b.updates u)) here ∙ got
 
-    held_as : (a : ℕ) (o : Option Atom) → slice_get branch.atoms a ≡ o → option_map_or (λ (b : Atom). roles.Ask phase n a 0) o (made phase n 0 branch) ≡ held phase n a branch
+    held_as : (a : ℕ) (o : Option Atom) → slice_get branch.atoms a ≡ o
+        → option_map_or (λ (b : Atom). roles.Ask phase n a 0) o (made phase n 0 branch) ≡ held phase n a branch
     held_as a o got = ap (λ (p : Option Atom). option_map_or (λ (b : Atom). roles.Ask phase n a 0) p (made phase n 0 branch)) (sym got)
 
-    made_as : (u : ℕ) (o : Option Update) → slice_get branch.updates u ≡ o → option_map_or (λ (b : Update). roles.Update phase n u 0) o (roles.Taken phase n) ≡ made phase n u branch
+    made_as : (u : ℕ) (o : Option Update) → slice_get branch.updates u ≡ o
+        → option_map_or (λ (b : Update). roles.Update phase n u 0) o (roles.Taken phase n) ≡ made phase n u branch
     made_as u o got = ap (λ (p : Option Update). option_map_or (λ (b : Update). roles.Update phase n u 0) p (roles.Taken phase n)) (sym got)
 
     test_row : (a to : ℕ) (atom : Atom) → slice_get branch.atoms a ≡ Some atom → there to ≡ tries phase (n + 1) (branches_in clauses phase)
@@ -148,17 +226,23 @@ module _ (mode : Mode) (bools : List Bool) (base : ℕ) (clauses : Clauses) (end
       lands = jump;
     }
 
-    asks_lead : (a to : ℕ) (atoms : List Atom) → there to ≡ tries phase (n + 1) (branches_in clauses phase) → Laid (slice_get branch.atoms) Some a atoms None
+    asks_lead : (a to : ℕ) (atoms : List Atom) → there to ≡ tries phase (n + 1) (branches_in clauses phase)
+        → Laid (slice_get branch.atoms) Some a atoms None
         → Led (held phase n a branch) (asks bools base phase n a to atoms) (made phase n 0 branch)
     asks_lead a to [] jump l = from Row role_of [] (held_as a None l) (nothing Row role_of (made phase n 0 branch))
     asks_lead a to (atom ∷ atoms) jump l =
         from Row role_of (asks bools base phase n a to (atom ∷ atoms)) (held_as a (Some atom) l.0)
-        (go _ _ (plain _ (roles.Ask phase n a 0) _ (base_stays bools base atom.base) (ap (option_and_then (ask_insn bools base 0 0)) (atom_is a atom l.0)) refl)
-        (go _ _ (plain _ (roles.Ask phase n a 1) _ (push_stays atom.value) (ap (option_and_then (ask_insn bools base 0 1)) (atom_is a atom l.0)) refl)
+        (go _ _
+        (plain _ (roles.Ask phase n a 0) _ (base_stays bools base atom.base)
+        (ap (option_and_then (ask_insn bools base 0 0)) (atom_is a atom l.0)) refl)
+        (go _ _
+        (plain _ (roles.Ask phase n a 1) _ (push_stays atom.value)
+        (ap (option_and_then (ask_insn bools base 0 1)) (atom_is a atom l.0)) refl)
         (go _ _ (test_row a to atom l.0 jump) (asks_lead (a + 1) to atoms jump l.1))))
 
     -- one instruction of an update that is made
-    update_row : (u done : ℕ) (update : Update) (insn : BlockInsn) → slice_get branch.updates u ≡ Some update → Stays insn → update_insn bools done update ≡ Some insn
+    update_row : (u done : ℕ) (update : Update) (insn : BlockInsn) → slice_get branch.updates u ≡ Some update → Stays insn
+        → update_insn bools done update ≡ Some insn
         → Row (item insn (roles.Update phase n u done)) (update_goes phase n u done branch (Some update))
     update_row u done update insn got stays is =
         plain insn (roles.Update phase n u done) _ stays (ap (option_and_then (update_insn bools done)) (update_is u update got) ∙ is)
@@ -183,18 +267,22 @@ module _ (mode : Mode) (bools : List Bool) (base : ℕ) (clauses : Clauses) (end
     taken_row : (done : ℕ) (t : Role) → there done ≡ checked_in mode clauses phase → Row (item (Jump GOTO done) (roles.Taken phase n)) t
     taken_row done t behind reached = record { is = (done, refl); passes = λ may. absurd cc; lands = behind }
 
-    tried_leads : (to done : ℕ) (t : Role) → there to ≡ tries phase (n + 1) (branches_in clauses phase) → there done ≡ checked_in mode clauses phase
+    tried_leads : (to done : ℕ) (t : Role) → there to ≡ tries phase (n + 1) (branches_in clauses phase)
+        → there done ≡ checked_in mode clauses phase
         → Led (held phase n 0 branch) (tried bools base phase n to done branch) t
     tried_leads to done t jump behind =
         join (asks bools base phase n 0 to branch.atoms) _ (asks_lead 0 to branch.atoms jump (laid_got branch.atoms))
-        (join (writes bools phase n 0 branch.updates) _ (writes_lead 0 branch.updates (laid_got branch.updates)) (last _ (taken_row done t behind)))
+        (join (writes bools phase n 0 branch.updates) _ (writes_lead 0 branch.updates (laid_got branch.updates))
+        (last _ (taken_row done t behind)))
 
   -- ---- a check
 
-  tries_as : (phase : Phase) (n : ℕ) (all : List Branch) (o : Option Branch) → slice_get all n ≡ o → option_map_or (held phase n 0) o (roles.Stop phase 0) ≡ tries phase n all
+  tries_as : (phase : Phase) (n : ℕ) (all : List Branch) (o : Option Branch) → slice_get all n ≡ o
+      → option_map_or (held phase n 0) o (roles.Stop phase 0) ≡ tries phase n all
   tries_as phase n all o got = ap (λ (p : Option Branch). option_map_or (held phase n 0) p (roles.Stop phase 0)) (sym got)
 
-  branches_lead : (phase : Phase) (n at done : ℕ) (others : List Branch) (t : Role) → Laid (slice_get (branches_in clauses phase)) Some n others None
+  branches_lead : (phase : Phase) (n at done : ℕ) (others : List Branch) (t : Role)
+      → Laid (slice_get (branches_in clauses phase)) Some n others None
       → there done ≡ checked_in mode clauses phase → Laid there role_of at (branches bools base phase n at done others) t
       → Led (tries phase n (branches_in clauses phase)) (branches bools base phase n at done others) t
   branches_lead phase n at done [] t l behind placed =
@@ -206,14 +294,16 @@ module _ (mode : Mode) (bools : List Bool) (base : ℕ) (clauses : Clauses) (end
       let size : at + length part ≡ to = ap (λ k. at + k) (tried_length bools base phase n to done branch) in
       let later = laid_right there role_of at to part rest t size placed in
       let leads = branches_lead phase (n + 1) to done others t l.1 behind later in
-      from Row role_of (branches bools base phase n at done (branch ∷ others)) (tries_as phase n (branches_in clauses phase) (Some branch) l.0)
+      from Row role_of (branches bools base phase n at done (branch ∷ others))
+      (tries_as phase n (branches_in clauses phase) (Some branch) l.0)
       (join part rest (tried_leads phase n branch l.0 to done _ (laid_entry there role_of to rest t later ∙ leads.enters) behind) leads)
 
   -- a check of these branches, and what stands behind it
   abbrev pub check_then : Phase → ℕ → List Branch → List Item → List Item
   check_then phase at all behind = branches bools base phase 0 at (at + branches_size all) all ++ if_reached (not (is_empty all)) behind
 
-  pub check_leads : (phase : Phase) (at : ℕ) (all : List Branch) (behind : List Item) (t : Role) → Laid (slice_get (branches_in clauses phase)) Some 0 all None
+  pub check_leads : (phase : Phase) (at : ℕ) (all : List Branch) (behind : List Item) (t : Role)
+      → Laid (slice_get (branches_in clauses phase)) Some 0 all None
       → (is_empty all ≡ false → Led (checked_in mode clauses phase) behind t) → Laid there role_of at (check_then phase at all behind) t
       → Led (tries phase 0 (branches_in clauses phase)) (check_then phase at all behind) t
   check_leads phase at [] behind t l later placed =
@@ -225,6 +315,7 @@ module _ (mode : Mode) (bools : List Bool) (base : ℕ) (clauses : Clauses) (end
       let part = branches bools base phase 0 at done all in
       let size : at + length part ≡ done = ap (λ k. at + k) (branches_length bools base phase 0 at done all) in
       let leads = later refl in
-      let stands : there done ≡ checked_in mode clauses phase = laid_entry there role_of done behind t (laid_right there role_of at done part behind t size placed) ∙ leads.enters in
+      let stands : there done ≡ checked_in mode clauses phase =
+      laid_entry there role_of done behind t (laid_right there role_of at done part behind t size placed) ∙ leads.enters in
       join part behind (branches_lead phase 0 at done all (checked_in mode clauses phase) l stands
       (subst (λ r. Laid there role_of at part r) leads.enters (laid_left there role_of at part behind t placed))) leads

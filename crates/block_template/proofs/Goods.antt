@@ -34,7 +34,7 @@ use Rattle.offset_patch.specs.Fits.{IsBlock, IsBlockInsn, IsSite, JumpsWithin, c
 use Rattle.offset_patch.specs.Plan.{IsListedCall, NamesVariable}
 use Rattle.offset_patch.specs.Splicing.{block_wants, want_of}
 use Rattle.block_template.specs.declared.item.Item.{Item}
-use Rattle.block_template.specs.Blocks.{Clauses, behind, block, block_with, bools_of, called, catches, caught, clause_at, clauses_of, from_call, front, goes_on, handler, handler_at, has_block, is_phase, items, kept, locals_used, site, site_locals, with_handler}
+use Rattle.block_template.specs.Blocks.{Clauses, behind, block, block_with, bools_of, called, catches, caught, clause_at, clauses_of, from_call, front, lets_pass, handler, handler_at, has_block, is_phase, items, kept, locals_used, site, site_locals, with_handler}
 use Rattle.block_template.specs.Good.{AreNumbers, HasNumbers, PlansAreGood}
 use Rattle.block_template.specs.Parts.{if_reached, unreached}
 use Rattle.block_template.specs.Pushing.{bools_in}
@@ -69,13 +69,13 @@ module _ (mode : Mode) (bools : List Bool) (base : ℕ) (clauses : Clauses) wher
 
   insns_are : insns_of (items mode bools base clauses) ≡ insns_of before ++ (Call ∷ insns_of later)
   insns_are =
-      map-append (λ (i : Item). i.insn) before (if_reached (goes_on clauses.before) (from_call mode bools base (length before) clauses))
-      ∙ ap (λ insns. insns_of before ++ insns) (same_reached (goes_on clauses.before) (from_call mode bools base (length before) clauses))
+      map-append (λ (i : Item). i.insn) before (if_reached (lets_pass clauses.before) (from_call mode bools base (length before) clauses))
+      ∙ ap (λ insns. insns_of before ++ insns) (same_reached (lets_pass clauses.before) (from_call mode bools base (length before) clauses))
 
   count_is : count ≡ length before + (1 + length later)
   count_is =
       let from = from_call mode bools base (length before) clauses in
-      omega (arith, length-append before (if_reached (goes_on clauses.before) from), reached_length (goes_on clauses.before) from)
+      omega (arith, length-append before (if_reached (lets_pass clauses.before) from), reached_length (lets_pass clauses.before) from)
 
   -- What holds of each of the others, and of the call, holds of all.
   all_insns : (P Q : BlockInsn → Type 0) → ((insn : BlockInsn) → P insn → Q insn) → Q Call → AllByRecursion (λ (i : Item). P i.insn) before
@@ -204,6 +204,20 @@ module _ (vars : List Var) (maxint : ℤ) (askable : Askable) where
       → AllByRecursion (Tried (λ atom. AsksKnown (bools_in vars) atom.base) (λ update. IsKnown (bools_in vars) (variable_of update))) branches
   tried_known [] are = tt
   tried_known (branch ∷ branches) are = ((asks_known branch.atoms are.0.atoms, makes_known branch.updates are.0.updates), tried_known branches are.1)
+
+-- what the variables are at first
+
+firsts_of : (maxint : ℤ) (vars : List Var) → maxint ≤ℤ pos 1000000000 → AllByRecursion (λ (v : Var). IsInRange maxint v.is_bool v.first) vars
+    → AllByRecursion (λ (v : Var). FitsSigned w32 v.first) vars
+firsts_of maxint [] most are = tt
+firsts_of maxint (v ∷ vars) most are = (ranged v.is_bool are.0, firsts_of maxint vars most are.1)
+  where
+    ranged : (b : Bool) → IsInRange maxint b v.first → FitsSigned w32 v.first
+    ranged true r = let low = r.low in let high = r.high in grind (arith, ints)
+    ranged false r = let low = r.low in let high = r.high in grind (arith, ints)
+
+pub firsts_fit : (policy : Policy) → IsPolicy policy → AllByRecursion (λ (v : Var). FitsSigned w32 v.first) policy.vars
+firsts_fit policy read = firsts_of policy.maxint policy.vars read.maxint_high read.vars
 
 -- ---- the clauses of a method
 

@@ -34,7 +34,8 @@ module _ {X Y : Type 0} (f : ℕ → Y) (v : X → Y) where
   laid_right at to [] ys t e l = let same : at ≡ to = omega (arith, e) in subst (λ n. Laid f v n ys t) same l
   laid_right at to (x ∷ xs) ys t e l = laid_right (at + 1) to xs ys t (omega (arith, e)) l.1
 
-laid_behind : {X Y : Type 0} (f : ℕ → Y) (v : X → Y) (at : ℕ) (xs : List X) (t : Y) → Laid (λ n. f (suc n)) v at xs t → Laid f v (suc at) xs t
+laid_behind : {X Y : Type 0} (f : ℕ → Y) (v : X → Y) (at : ℕ) (xs : List X) (t : Y) → Laid (λ n. f (suc n)) v at xs t
+    → Laid f v (suc at) xs t
 laid_behind f v at [] t l = l
 laid_behind f v at (x ∷ xs) t l =
     let e : suc (at + 1) ≡ suc at + 1 = omega arith in
@@ -92,7 +93,8 @@ module _ {X Y : Type 0} (row : X → Y → Type 0) (v : X → Y) where
   entry_got (x ∷ xs) t = refl
 
   -- So each item is as the rule asks, given what is got behind it.
-  pub row_got : (xs : List X) (t : Y) (at : ℕ) (x : X) → Run row v xs t → slice_get xs at ≡ Some x → row x (option_map_or v (slice_get xs (at + 1)) t)
+  pub row_got : (xs : List X) (t : Y) (at : ℕ) (x : X) → Run row v xs t → slice_get xs at ≡ Some x
+      → row x (option_map_or v (slice_get xs (at + 1)) t)
   row_got [] t at x run e = absurd cc
   row_got (y ∷ ys) t zero x run e =
       let same : y ≡ x = cc in

@@ -27,7 +27,7 @@ use Rattle.block_template.specs.Blocks.{
   checked,
   from_call,
   front,
-  goes_on,
+  lets_pass,
   handler,
   kept,
   leave,
@@ -142,7 +142,7 @@ module _ (P : BlockInsn → Type 0) (Slot : ℕ → Type 0) (Asked : Atom → Ty
   checked_each : (at : ℕ) (clause : Clause) (later : List Item) → at + branches_size clause.branches ≤ count → AllByRecursion (Tried Asked Made) clause.branches → Each later
       → Each (checked bools base at clause later)
   checked_each at clause later within t each =
-      joined (check bools base at clause) _ (check_each at clause within t) (reached_each (goes_on (Some clause)) later each)
+      joined (check bools base at clause) _ (check_each at clause within t) (reached_each (lets_pass (Some clause)) later each)
 
   released_each : (at : ℕ) (clause : Clause) (later : List Item) → at + (2 + branches_size clause.branches) ≤ count → AllByRecursion (Tried Asked Made) clause.branches
       → Each later → Each (released bools base at clause later)
@@ -195,7 +195,7 @@ module _ (P : BlockInsn → Type 0) (Slot : ℕ → Type 0) (Asked : Atom → Ty
       → at + length (handler mode bools base at clauses.exceptional) ≤ count → Each (with_handler mode bools base at clauses)
   with_handler_each mode at clauses t within =
       let end = at + length (handler mode bools base at clauses.exceptional) in
-      joined (if_reached (goes_on clauses.after) (leave end ∷ [])) _ (reached_each (goes_on clauses.after) (leave end ∷ []) (rows.leaves end within, tt))
+      joined (if_reached (lets_pass clauses.after) (leave end ∷ [])) _ (reached_each (lets_pass clauses.after) (leave end ∷ []) (rows.leaves end within, tt))
       (handler_each mode at clauses.exceptional t within)
 
   pub caught_each : (mode : Mode) (at : ℕ) (clauses : Clauses) → IfSome clauses.exceptional (λ c. AllByRecursion (Tried Asked Made) c.branches)

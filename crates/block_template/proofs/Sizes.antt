@@ -16,7 +16,7 @@ use Rattle.insn_codec.specs.declared.opcodes.TheConstants.{GOTO}
 use Rattle.block_template.specs.declared.item.Item.{Item}
 use Rattle.block_template.specs.declared.item.Role.TheVariants as roles
 use Rattle.block_template.specs.Pushing.{store}
-use Rattle.block_template.specs.Blocks.{Clauses, behind, called, catches, caught, checked, front, goes_on, handler, kept, leave, released, rethrow, with_handler}
+use Rattle.block_template.specs.Blocks.{Clauses, behind, called, catches, caught, checked, front, lets_pass, handler, kept, leave, released, rethrow, with_handler}
 use Rattle.block_template.specs.Room.{IsShort}
 use Rattle.block_template.specs.Parts.{
   asks,
@@ -120,9 +120,9 @@ pub checked_length : (bools : List Bool) (base at : ℕ) (clause : Clause) (late
 checked_length bools base at clause later =
     omega (
       arith,
-      length-append (check bools base at clause) (if_reached (goes_on (Some clause)) later),
+      length-append (check bools base at clause) (if_reached (lets_pass (Some clause)) later),
       check_length bools base at clause,
-      reached_length (goes_on (Some clause)) later,
+      reached_length (lets_pass (Some clause)) later,
     )
 
 released_length : (bools : List Bool) (base at : ℕ) (clause : Clause) (later : List Item)
@@ -239,7 +239,7 @@ pub with_handler_length : (mode : Mode) (bools : List Bool) (base at : ℕ) (cla
 with_handler_length mode bools base at clauses =
     let thrown = handler mode bools base at clauses.exceptional in
     let over = leave (at + length thrown) ∷ [] in
-    omega (arith, length-append (if_reached (goes_on clauses.after) over) thrown, reached_length (goes_on clauses.after) over)
+    omega (arith, length-append (if_reached (lets_pass clauses.after) over) thrown, reached_length (lets_pass clauses.after) over)
 
 -- what stands behind the call
 abbrev pub rest : Mode → List Bool → ℕ → ℕ → Clauses → List Item

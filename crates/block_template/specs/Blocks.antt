@@ -46,15 +46,15 @@ clauses_of policy method = record {
 }
 
 -- A check without branches stops the program.
-abbrev pub goes_on : Option Clause → Bool
-goes_on None = true
-goes_on (Some clause) = not (is_empty clause.branches)
+abbrev pub lets_pass : Option Clause → Bool
+lets_pass None = true
+lets_pass (Some clause) = not (is_empty clause.branches)
 
 -- ---- mode release: each check takes the lock and leaves it
 
 -- In `behind` stand the instructions behind a check and its lock.
 abbrev pub checked : List Bool → ℕ → ℕ → Clause → List Item → List Item
-checked bools base at clause behind = check bools base at clause ++ if_reached (goes_on (Some clause)) behind
+checked bools base at clause behind = check bools base at clause ++ if_reached (lets_pass (Some clause)) behind
 
 abbrev pub released : List Bool → ℕ → ℕ → Clause → List Item → List Item
 released bools base at clause behind = lock clause.phase ++ checked bools base (at + 2) clause (unlock clause.phase true ++ behind)
@@ -121,7 +121,8 @@ called mode bools base at clauses = call mode ∷ behind mode bools base (at + 1
 -- a block that catches, whose handler begins at `at`
 abbrev pub with_handler : Mode → List Bool → ℕ → ℕ → Clauses → List Item
 with_handler mode bools base at clauses =
-    if_reached (goes_on clauses.after) (leave (at + length (handler mode bools base at clauses.exceptional)) ∷ []) ++ handler mode bools base at clauses.exceptional
+    if_reached (lets_pass clauses.after) (leave (at + length (handler mode bools base at clauses.exceptional)) ∷ [])
+    ++ handler mode bools base at clauses.exceptional
 
 abbrev pub caught : Mode → List Bool → ℕ → ℕ → Clauses → List Item
 caught mode bools base at clauses = if catches mode clauses.exceptional then with_handler mode bools base (at + 1) clauses else []
@@ -134,7 +135,7 @@ from_call mode bools base at clauses =
 abbrev pub items : Mode → List Bool → ℕ → Clauses → List Item
 items mode bools base clauses =
     front mode bools base clauses.before
-    ++ if_reached (goes_on clauses.before) (from_call mode bools base (length (front mode bools base clauses.before)) clauses)
+    ++ if_reached (lets_pass clauses.before) (from_call mode bools base (length (front mode bools base clauses.before)) clauses)
 
 -- where the handler begins, where the call is at `at`
 abbrev pub from_handler : Mode → List Bool → ℕ → ℕ → Clauses → Option ℕ
@@ -157,12 +158,14 @@ bools_of policy = bools_in policy.vars
 
 -- the block of a method, where a clause names it, in a method whose own locals end at `base`
 abbrev pub block : Policy → Mode → ℕ → ℕ → Option Block
-block policy mode method base = if has_clauses policy method then Some (block_with mode (bools_of policy) base (clauses_of policy method)) else None
+block policy mode method base =
+    if has_clauses policy method then Some (block_with mode (bools_of policy) base (clauses_of policy method)) else None
 
 -- The arguments are kept before a check of the call, and the result before one of the return.
 abbrev pub locals_used : Policy → ℕ → ℕ
 locals_used policy method =
-    max (option_map_or (λ (c : Clause). length c.args) (clause_at policy method Before) 0) (option_map_or (λ (c : Clause). kept c.result) (clause_at policy method After) 0)
+    max (option_map_or (λ (c : Clause). length c.args) (clause_at policy method Before) 0)
+    (option_map_or (λ (c : Clause). kept c.result) (clause_at policy method After) 0)
 
 -- whether an instruction has a block, by what its operand names
 abbrev pub has_block : Policy → Target → Bool

@@ -49,4 +49,5 @@ clause_of policy method = find (λ (c : Clause). c.method == method) policy.clau
 -- In mode release a policy that denies calls outright has this block for each method that it names.
 abbrev pub DenialIsBlock : Type 0
 DenialIsBlock =
-    (policy : Policy) (method base : ℕ) → DeniesOnly policy → block policy Release method base ≡ option_map (λ (c : Clause). denial base c.args) (clause_of policy method)
+    (policy : Policy) (method base : ℕ) → DeniesOnly policy
+    → block policy Release method base ≡ option_map (λ (c : Clause). denial base c.args) (clause_of policy method)

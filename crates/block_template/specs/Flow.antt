@@ -1,5 +1,30 @@
--- Where control goes in a block, told by what is so before an instruction: the block as a graph, which Blocks lays out as a list.
-use Rattle.std.specs.Prelude.{◌≡◌, ◌≢◌, ℕ, zero, suc, ◌+◌, ◌==◌, not, if◌then◌else◌, Bool, true, false, List, [], length, Option, Some, None, slice_get, is_some, option_map, option_and_then, pos, IfSome}
+-- Where control goes in a block, told by what is so before an instruction: a graph of roles, which Blocks lays out as a list.
+use Rattle.std.specs.Prelude.{
+  ◌≡◌,
+  ◌≢◌,
+  ℕ,
+  zero,
+  suc,
+  ◌+◌,
+  ◌==◌,
+  not,
+  if◌then◌else◌,
+  Bool,
+  true,
+  false,
+  List,
+  [],
+  length,
+  Option,
+  Some,
+  None,
+  slice_get,
+  is_some,
+  option_map,
+  option_and_then,
+  pos,
+  IfSome,
+}
 use Rattle.std.specs.Option.{option_map_or}
 use Rattle.cert_format.specs.declared.certificate.Mode.{Mode}
 use Rattle.cert_format.specs.declared.certificate.Mode.TheVariants.{Hold, Release}
@@ -11,7 +36,18 @@ use Rattle.conspec_tree.specs.declared.types.Update.{Update}
 use Rattle.conspec_tree.specs.declared.types.Update.TheVariants.{Set, Add}
 use Rattle.conspec_automaton.specs.declared.policy.Branch.{Branch}
 use Rattle.conspec_automaton.specs.declared.policy.Clause.{Clause}
-use Rattle.insn_codec.specs.declared.opcodes.TheConstants.{ACONST_NULL, LDC_W, IADD, GOTO, GETSTATIC, PUTSTATIC, INVOKESTATIC, ATHROW, MONITORENTER, MONITOREXIT}
+use Rattle.insn_codec.specs.declared.opcodes.TheConstants.{
+  ACONST_NULL,
+  LDC_W,
+  IADD,
+  GOTO,
+  GETSTATIC,
+  PUTSTATIC,
+  INVOKESTATIC,
+  ATHROW,
+  MONITORENTER,
+  MONITOREXIT,
+}
 use Rattle.offset_patch.specs.declared.block.BlockInsn.{BlockInsn}
 use Rattle.offset_patch.specs.declared.block.BlockInsn.TheVariants.{Plain, Byte, Short, Local, Want, Jump, Call}
 use Rattle.block_template.specs.declared.item.Item.{Item}
@@ -20,13 +56,14 @@ use Rattle.block_template.specs.declared.item.Role.TheVariants as roles
 use Rattle.offset_patch.specs.declared.block.PoolWant.TheVariants.{StateClass, Exit}
 use Rattle.block_template.specs.Parts.{update_size}
 use Rattle.block_template.specs.Pushing.{store, load, push, field, push_base, negated}
-use Rattle.block_template.specs.Blocks.{Clauses, catches, goes_on, handler_at, is_locked, items}
+use Rattle.block_template.specs.Blocks.{Clauses, catches, lets_pass, handler_at, is_locked, items}
 
 -- ---- a check
 
 -- of the branch of this number, so many updates are made
 abbrev pub made : Phase → ℕ → ℕ → Branch → Role
-made phase n update branch = option_map_or (λ (u : Update). roles.Update phase n update 0) (slice_get branch.updates update) (roles.Taken phase n)
+made phase n update branch =
+    option_map_or (λ (u : Update). roles.Update phase n update 0) (slice_get branch.updates update) (roles.Taken phase n)
 
 -- so many of its atoms hold
 abbrev pub held : Phase → ℕ → ℕ → Branch → Role
@@ -36,25 +73,28 @@ held phase n atom branch = option_map_or (λ (a : Atom). roles.Ask phase n atom 
 abbrev pub tries : Phase → ℕ → List Branch → Role
 tries phase n branches = option_map_or (held phase n 0) (slice_get branches n) (roles.Stop phase 0)
 
--- one more instruction of an update is done
+-- One more instruction of this update is done. A role that names no branch or update is that of no item.
 abbrev pub update_goes : Phase → ℕ → ℕ → ℕ → Branch → Option Update → Role
 update_goes phase n u done branch None = roles.Unreached
-update_goes phase n u done branch (Some update) = if done + 1 == update_size update then made phase n (u + 1) branch else roles.Update phase n u (done + 1)
+update_goes phase n u done branch (Some update) =
+    if done + 1 == update_size update then made phase n (u + 1) branch else roles.Update phase n u (done + 1)
 
 abbrev pub updated : Phase → ℕ → ℕ → ℕ → Option Branch → Role
 updated phase n u done None = roles.Unreached
 updated phase n u done (Some branch) = update_goes phase n u done branch (slice_get branch.updates u)
 
+-- the branches of a clause
 abbrev pub branches_of : Option Clause → List Branch
 branches_of None = []
 branches_of (Some clause) = clause.branches
 
+-- the clause for this phase
 abbrev pub clause_in : Clauses → Phase → Option Clause
 clause_in clauses Before = clauses.before
 clause_in clauses After = clauses.after
 clause_in clauses Exceptional = clauses.exceptional
 
--- the branches of the clause for this phase
+-- its branches
 abbrev pub branches_in : Clauses → Phase → List Branch
 branches_in clauses phase = branches_of (clause_in clauses phase)
 
@@ -65,6 +105,7 @@ abbrev pub saving : ℕ → Role
 saving zero = roles.Lock Before false
 saving (suc left) = roles.Save (suc left)
 
+-- the kind of an argument that is kept
 abbrev pub argument_at : Clauses → ℕ → Option Kind
 argument_at clauses n = option_and_then (λ (c : Clause). slice_get c.args n) clauses.before
 
@@ -111,6 +152,7 @@ returned Release None = roles.Leave
 returned Hold None = roles.Unlock After false false
 returned mode (Some clause) = if is_some clause.result then roles.Keep (is_locked mode) else check_behind mode After clause
 
+-- what comes once the result is kept
 abbrev pub kept_by : Mode → Option Clause → Role
 kept_by mode None = roles.Unreached
 kept_by mode (Some clause) = check_behind mode After clause
@@ -181,6 +223,7 @@ atom_at clauses phase n atom = option_and_then (λ (b : Branch). slice_get b.ato
 abbrev pub update_at : Clauses → Phase → ℕ → ℕ → Option Update
 update_at clauses phase n update = option_and_then (λ (b : Branch). slice_get b.updates update) (branch_at clauses phase n)
 
+-- the kind of the result that is kept
 abbrev pub result_in : Clauses → Option Kind
 result_in clauses = option_and_then (λ (c : Clause). c.result) clauses.after
 
@@ -195,6 +238,7 @@ update_insn bools (suc (suc zero)) (Add var by) = Some (Plain IADD)
 update_insn bools (suc (suc (suc zero))) (Add var by) = Some (Want PUTSTATIC (field bools var))
 update_insn bools (suc (suc (suc (suc done)))) (Add var by) = None
 
+-- on the way out so many are done
 abbrev pub stop_insn : ℕ → Option BlockInsn
 stop_insn zero = Some (Byte (pos 77))
 stop_insn (suc zero) = Some (Want INVOKESTATIC Exit)
@@ -209,21 +253,24 @@ ask_insn bools base to (suc zero) atom = Some (push atom.value)
 ask_insn bools base to (suc (suc zero)) atom = Some (Jump (negated atom.rel) to)
 ask_insn bools base to (suc (suc (suc pushed))) atom = None
 
-abbrev pub leaving : Bool → BlockInsn
-leaving false = Want LDC_W StateClass
-leaving true = Plain MONITOREXIT
-
+-- The lock is taken, and left; its class is pushed first.
 abbrev pub taking : Bool → BlockInsn
 taking false = Want LDC_W StateClass
 taking true = Plain MONITORENTER
+
+abbrev pub leaving : Bool → BlockInsn
+leaving false = Want LDC_W StateClass
+leaving true = Plain MONITOREXIT
 
 -- the instruction of a role, in a block that ends at `end`; what jumps within it goes to the place `to`
 abbrev pub insn_of : List Bool → ℕ → Clauses → ℕ → ℕ → Role → Option BlockInsn
 insn_of bools base clauses end to (roles.Save zero) = None
 insn_of bools base clauses end to (roles.Save (suc n)) = option_map (λ (k : Kind). store k (base + n)) (argument_at clauses n)
 insn_of bools base clauses end to (roles.Lock phase pushed) = Some (taking pushed)
-insn_of bools base clauses end to (roles.Ask phase branch atom pushed) = option_and_then (ask_insn bools base to pushed) (atom_at clauses phase branch atom)
-insn_of bools base clauses end to (roles.Update phase branch update done) = option_and_then (update_insn bools done) (update_at clauses phase branch update)
+insn_of bools base clauses end to (roles.Ask phase branch atom pushed) =
+    option_and_then (ask_insn bools base to pushed) (atom_at clauses phase branch atom)
+insn_of bools base clauses end to (roles.Update phase branch update done) =
+    option_and_then (update_insn bools done) (update_at clauses phase branch update)
 insn_of bools base clauses end to (roles.Taken phase branch) = Some (Jump GOTO to)
 insn_of bools base clauses end to (roles.Stop phase done) = stop_insn done
 insn_of bools base clauses end to (roles.Unlock phase checked pushed) = Some (leaving pushed)
@@ -263,7 +310,8 @@ jump_of Call = None
 
 -- An item of a block that ends at `end` has the instruction of its role, and control goes from it as the graph tells: `there` tells
 -- what is so at each place of the block, and `after` is so behind the item.
-pub record IsLed (mode : Mode) (bools : List Bool) (base : ℕ) (clauses : Clauses) (end : ℕ) (there : ℕ → Role) (i : Item) (after : Role) : Type 0 where
+pub record IsLed (mode : Mode) (bools : List Bool) (base : ℕ) (clauses : Clauses) (end : ℕ)
+    (there : ℕ → Role) (i : Item) (after : Role) : Type 0 where
   pub is : (to : ℕ) × (insn_of bools base clauses end to i.role ≡ Some i.insn)
   pub passes : may_pass i.insn ≡ true → after ≡ next mode clauses i.role
   pub lands : IfSome (jump_of i.insn) (λ place. there place ≡ jumps mode clauses i.role)
@@ -280,7 +328,7 @@ pub record Flows (mode : Mode) (bools : List Bool) (base : ℕ) (clauses : Claus
   pub goes : (at : ℕ) (i : Item) → slice_get items at ≡ Some i → i.role ≢ roles.Unreached
       → IsLed mode bools base clauses (length items) (role_at items) i (role_at items (at + 1))
   pub handles : is_some handler ≡ catches mode clauses.exceptional
-  pub caught : goes_on clauses.before ≡ true → IfSome handler (λ place. role_at items place ≡ thrown mode clauses.exceptional)
+  pub caught : lets_pass clauses.before ≡ true → IfSome handler (λ place. role_at items place ≡ thrown mode clauses.exceptional)
 
 -- So does each block.
 abbrev pub BlocksFlow : Type 0

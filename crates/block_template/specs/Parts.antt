@@ -54,7 +54,8 @@ ask bools base phase branch n next atom =
 
 abbrev pub asks : List Bool → ℕ → Phase → ℕ → ℕ → ℕ → List Atom → List Item
 asks bools base phase branch n next [] = []
-asks bools base phase branch n next (atom ∷ atoms) = ask bools base phase branch n next atom ++ asks bools base phase branch (n + 1) next atoms
+asks bools base phase branch n next (atom ∷ atoms) =
+    ask bools base phase branch n next atom ++ asks bools base phase branch (n + 1) next atoms
 
 -- A variable is set, or changed by a number.
 abbrev pub write : List Bool → Phase → ℕ → ℕ → Update → List Item
@@ -85,7 +86,8 @@ branch_size branch = 3 * length branch.atoms + updates_size branch.updates + 1
 -- Where all atoms hold the updates are made, and the check is done.
 abbrev pub tried : List Bool → ℕ → Phase → ℕ → ℕ → ℕ → Branch → List Item
 tried bools base phase n next done branch =
-    asks bools base phase n 0 next branch.atoms ++ (writes bools phase n 0 branch.updates ++ item (Jump GOTO done) (roles.Taken phase n) ∷ [])
+    asks bools base phase n 0 next branch.atoms
+    ++ (writes bools phase n 0 branch.updates ++ item (Jump GOTO done) (roles.Taken phase n) ∷ [])
 
 -- bipush 77; invokestatic java/lang/System.exit (I)V; aconst_null; athrow
 abbrev pub stop : Phase → List Item
@@ -100,7 +102,8 @@ stop phase =
 abbrev pub branches : List Bool → ℕ → Phase → ℕ → ℕ → ℕ → List Branch → List Item
 branches bools base phase n at done [] = stop phase
 branches bools base phase n at done (branch ∷ others) =
-    tried bools base phase n (at + branch_size branch) done branch ++ branches bools base phase (n + 1) (at + branch_size branch) done others
+    tried bools base phase n (at + branch_size branch) done branch
+    ++ branches bools base phase (n + 1) (at + branch_size branch) done others
 
 abbrev pub branches_size : List Branch → ℕ
 branches_size [] = 4

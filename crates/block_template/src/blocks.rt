@@ -29,7 +29,7 @@ ghost use Rattle.block_template.specs.Pushing.{bools_in};
 ghost use Rattle.block_template.specs.Room.{IsRoomy, IsShort};
 
 use crate::checks::put_check;
-use crate::clauses::{MethodClauses, clause_at, clauses_of, goes_on};
+use crate::clauses::{MethodClauses, clause_at, clauses_of, lets_pass};
 use crate::item::{Item, Role};
 use crate::parts::{
     kept, put, put_give, put_if_reached, put_keep, put_loads, put_lock, put_save, put_unlock,
@@ -57,7 +57,7 @@ fn put_checked(
     ensures { OnOk result (items.new ≡ items.old ++ checked (bools_in vars.now) base at clause.now behind.now) }
 {
     put_check(items, vars, base, at, clause)?;
-    put_if_reached(items, goes_on(Some(clause)), behind)
+    put_if_reached(items, lets_pass(Some(clause)), behind)
 }
 
 /// With the lock, which is taken before the check and left behind it.
@@ -347,9 +347,10 @@ fn put_with_handler(
         op: GOTO,
         place: at + caught.len() as u32,
     };
-    let role = match goes_on(clauses.after) {
-        true => Role::Leave,
-        false => Role::Unreached,
+    let role = if lets_pass(clauses.after) {
+        Role::Leave
+    } else {
+        Role::Unreached
     };
     put(items, leave, role)?;
     put_if_reached(items, true, caught.as_slice())
@@ -369,7 +370,7 @@ fn all(
 {
     let mut items = front(alloc, mode, vars, base, clauses.before)?;
     let called = from_call(alloc, mode, vars, base, items.len() as u32, clauses)?;
-    let reached = goes_on(clauses.before);
+    let reached = lets_pass(clauses.before);
     put_if_reached(&mut items, reached, called.items.as_slice())?;
     Ok(Made {
         items,

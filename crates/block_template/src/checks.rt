@@ -7,7 +7,8 @@ ghost use Rattle.conspec_tree.specs.declared.types.Update.TheVariants.{Add, Set}
 ghost use Rattle.insn_codec.specs.declared.opcodes.TheConstants.{GETSTATIC, IADD, PUTSTATIC};
 ghost use Rattle.offset_patch.specs.declared.block.BlockInsn.TheVariants.{Plain, Want};
 ghost use Rattle.block_template.specs.declared.item.Role.TheVariants as roles;
-ghost use Rattle.block_template.specs.Parts.{ask, asks, branch_size, branches_size, check, item, tried, update_size, updates_size, write, writes};
+ghost use Rattle.block_template.specs.Parts.{ask, asks, branch_size, branches_size, check, item, tried};
+ghost use Rattle.block_template.specs.Parts.{update_size, updates_size, write, writes};
 ghost use Rattle.block_template.specs.Pushing.{bools_in, field, push};
 ghost use Rattle.block_template.specs.Room.{HasLocal, HasLocals};
 

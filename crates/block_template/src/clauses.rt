@@ -2,7 +2,7 @@
 
 ghost use Rattle.std.specs.Prelude.{◌≡◌};
 ghost use Rattle.std.specs.Option.{option_copied};
-ghost use Rattle.block_template.specs.Blocks.{clause_at, clauses_of, goes_on, is_phase};
+ghost use Rattle.block_template.specs.Blocks.{clause_at, clauses_of, lets_pass, is_phase};
 
 use conspec_automaton::{Clause, Policy};
 use conspec_tree::Phase;
@@ -59,8 +59,8 @@ fn is_phase(phase: Phase, other: Phase) -> bool
 }
 
 /// Whether control goes on behind a check; one without branches stops the program.
-pub fn goes_on(clause: Option<&Clause>) -> bool
-    ensures { result ≡ goes_on (option_copied clause.entry) }
+pub fn lets_pass(clause: Option<&Clause>) -> bool
+    ensures { result ≡ lets_pass (option_copied clause.entry) }
 {
     match clause {
         Some(clause) => !clause.branches.is_empty(),

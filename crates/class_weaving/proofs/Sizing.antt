@@ -1,5 +1,5 @@
 -- Weaving stops at the first size that does not fit.
-use Rattle.std.proofs.Common.{◌≡◌, ℕ, ◌+◌, Bool, true, false, List, [], ◌∷◌, ◌++◌, length, map, Option, Some, None, Ok, Err, refl, sym, ap, ◌∙◌}
+use Rattle.std.proofs.Common.{◌≡◌, ℕ, ◌+◌, Bool, true, false, List, [], ◌∷◌, ◌++◌, map, Option, Some, None, Ok, Err, refl, sym, ap, ◌∙◌, arith}
 use Rattle.std.specs.Prelude.{◌<◌, ◌^◌, ◌≢◌, cond, not, nat_le, pos, IfErr, IsOk, slice_get, if◌then◌else◌}
 use Rattle.std.specs.Option.{option_or}
 use Rattle.std.specs.List.{AllByRecursion}
@@ -13,7 +13,6 @@ use Rattle.class_codec.specs.declared.tree.Member.{Member}
 use Rattle.bytecode_model.specs.declared.program.LinkedClass.{LinkedClass}
 use Rattle.bytecode_model.specs.declared.program.Method.{Method}
 use Rattle.bytecode_model.specs.declared.program.Program.{Program}
-use Rattle.bytecode_model.specs.declared.program.Target.{Target}
 use Rattle.bytecode_model.specs.Sound.{IsSoundMethod, IsSoundClass, IsSound}
 use Rattle.bytecode_model.proofs.Lists.{all_get}
 use Rattle.offset_patch.specs.Plan.{Plan, IsGood}
@@ -56,19 +55,15 @@ first_of xs ys = find-append is_unfit xs ys
 room_first : (class : List ℕ) (number : ℕ) (pool : List Const) (m : Method) (code : Code) (locals : ℕ) (sites : List (Option Block)) (coded : Spliced Code)
     → nat_le (code.max_locals + locals) 65535 ≡ false
     → fault_of (room class number code locals >>= λ fits. coded) ≡ first_unfit (method_sizes class number pool m code locals sites)
-room_first class number pool m code locals sites coded = by (nat_le (code.max_stack + operands_needed) 65535) (nat_le (code.max_locals + locals) 65535)
+room_first class number pool m code locals sites coded =
+    by (faults.Overflow class number sizes.Stack (pos (code.max_stack + operands_needed))) (faults.Overflow class number sizes.Locals (pos (code.max_locals + locals)))
+    (nat_le (code.max_stack + operands_needed) 65535) (nat_le (code.max_locals + locals) 65535) _
   where
-    abbrev stack : SpliceFault
-    stack = faults.Overflow class number sizes.Stack (pos (code.max_stack + operands_needed))
-
-    abbrev slots : SpliceFault
-    slots = faults.Overflow class number sizes.Locals (pos (code.max_locals + locals))
-
-    by : (a b : Bool) {later : Option SpliceFault} → b ≡ false
+    by : (stack slots : SpliceFault) (a b : Bool) (later : Option SpliceFault) → b ≡ false
         → fault_of ((need a stack >>= λ fits. need b slots) >>= λ fits. coded) ≡ cond (not a) (Some stack) (cond (not b) (Some slots) later)
-    by false b none = refl
-    by true false none = refl
-    by true true none = absurd cc
+    by stack slots false b later none = refl
+    by stack slots true false later none = refl
+    by stack slots true true later none = absurd cc
 
 module _ (kinds : List Bool) (plan : Plan) (good : IsGood kinds plan) (class : List ℕ) (number : ℕ) (pool : List Const) (m : Method) (code : Code) where
   abbrev by_blocks : Bool → Spliced WovenCode
@@ -97,9 +92,9 @@ module _ (kinds : List Bool) (plan : Plan) (good : IsGood kinds plan) (class : L
       let made : Code → WovenCode = λ new. record { code = new; entries = grown pool sites; origins = origins_of sites } in
       moved (room class number code locals) coded made ∙ spliced_law sound
     where
-      moved : (r : Spliced (Unit {0})) (coded : Spliced Code) (made : Code → WovenCode) → fault_of (r >>= λ fits. coded >>= λ new. Ok (made new)) ≡ fault_of (r >>= λ fits. coded)
-      moved (Ok tt) coded made = then_ok coded made
-      moved (Err fault) coded made = refl
+      moved : (r : Spliced (Unit {0})) (next : Spliced Code) (made : Code → WovenCode) → fault_of (r >>= λ fits. next >>= λ new. Ok (made new)) ≡ fault_of (r >>= λ fits. next)
+      moved (Ok tt) next made = then_ok next made
+      moved (Err fault) next made = refl
 
   code_law : IsSoundMethod m → fault_of (code_woven plan class number pool m code) ≡ first_unfit (code_sizes plan class number pool m code)
   code_law sound = by (is_woven plan m)

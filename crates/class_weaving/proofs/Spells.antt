@@ -1,8 +1,8 @@
 -- The files of a program that was woven can be spelled.
-use Rattle.std.proofs.Common.{◌≡◌, ℕ, zero, suc, ◌+◌, ◌<◌, ◌≤◌, ◌^◌, Bool, true, false, List, [], ◌∷◌, ◌++◌, length, map, Option, Some, None, Ok, Err, refl, sym, ap, subst, ◌∙◌, FitsSigned, append_assoc, append-nil, arith}
+use Rattle.std.proofs.Common.{◌≡◌, ℕ, zero, suc, ◌+◌, ◌≤◌, Bool, true, false, List, [], ◌∷◌, ◌++◌, length, map, Option, Some, None, Ok, Err, refl, sym, ap, subst, ◌∙◌, FitsSigned, append_assoc, append-nil, arith}
 use Rattle.std.specs.Int.{w32}
 use Rattle.std.specs.Prelude.{slice_get, if◌then◌else◌, IfOk}
-use Rattle.std.specs.List.{AllByRecursion, list_any}
+use Rattle.std.specs.List.{AllByRecursion}
 use Rattle.std.proofs.lemmas.List.{length-append, length-map}
 use Rattle.mon_base.specs.Reading.{◌>>=◌}
 use Rattle.mon_base.proofs.Reading.{bind_ok, ok_is}
@@ -17,7 +17,6 @@ use Rattle.class_codec.specs.Fits.{FitsPool, FitsCode, FitsAttr, FitsMember, Fit
 use Rattle.bytecode_model.specs.declared.program.LinkedClass.{LinkedClass}
 use Rattle.bytecode_model.specs.declared.program.Method.{Method}
 use Rattle.bytecode_model.specs.declared.program.Program.{Program}
-use Rattle.bytecode_model.specs.declared.program.Target.{Target}
 use Rattle.bytecode_model.specs.Sound.{IsSoundMethod, IsSoundClass, IsSound}
 use Rattle.offset_patch.specs.Plan.{Plan, IsGood}
 use Rattle.conspec_tree.specs.declared.types.Var.{Var}
@@ -25,7 +24,6 @@ use Rattle.offset_patch.specs.declared.fault.SpliceFault.{SpliceFault}
 use Rattle.mon_base.specs.Answer.{Answers}
 use Rattle.offset_patch.specs.declared.fault.SpliceFault.TheVariants as faults
 use Rattle.offset_patch.specs.Fault.{Spliced}
-use Rattle.offset_patch.specs.Fits.{IsSite}
 use Rattle.offset_patch.specs.Splicing.{grown, wants_of, fronts_of, origins_of, room, code_spliced}
 use Rattle.offset_patch.proofs.Lists.{all_append}
 use Rattle.offset_patch.proofs.PoolFits.{code_on, member_on, attrs_on, index_on, counted_on, each_on, read_on}
@@ -39,7 +37,7 @@ use Rattle.class_weaving.specs.declared.woven.WovenCode.{WovenCode}
 use Rattle.class_weaving.specs.declared.woven.Members.{Members}
 use Rattle.class_weaving.specs.declared.woven.Woven.{Woven}
 use Rattle.class_weaving.proofs.FirstCode.{first_fits}
-use Rattle.class_weaving.specs.Woven.{folded, is_woven, sites_of, most_locals, locals_of, clients_from, blocks_put, code_woven, first_code, attr_with, member_with, bare_put, code_put, body_woven, member_woven, members_woven, none_made, file_with, file_put, class_woven, classes_woven, state_put, woven}
+use Rattle.class_weaving.specs.Woven.{folded, is_woven, sites_of, locals_of, clients_from, blocks_put, code_woven, first_code, attr_with, member_with, bare_put, code_put, body_woven, member_woven, members_woven, none_made, file_with, file_put, class_woven, classes_woven, state_put, woven}
 
 -- ---- the code of a method
 

@@ -97,7 +97,8 @@ fn body_woven<P: Planner>(
     requires method { IsSoundMethod method.now }
     requires count { made.number < 2 ^ 17 }
     requires pool { length made.entries < 2 ^ 16 }
-    ensures is { Answers SpliceFault.Memory result (body_woven (P.plan planner.now) class.now made member.now (Some method.now) (Some code.now)) }
+    ensures is { Answers SpliceFault.Memory result
+        (body_woven (P.plan planner.now) class.now made member.now (Some method.now) (Some code.now)) }
     ensures count { IfOk result (λ next. next.number ≡ made.number + 1) }
     ensures pool { IfOk result (λ next. length next.entries < 2 ^ 16) }
 {

@@ -39,7 +39,8 @@ pub fn weave<P: Planner>(
     ensures fits { IsOk result → first_unfit (program_sizes program.now (P.plan planner.now)) ≡ None }
     ensures unfit { IfErr result (λ fault. fault ≢ Memory → first_unfit (program_sizes program.now (P.plan planner.now)) ≡ Some fault) }
     // The files can be written.
-    ensures spells { AllByRecursion (λ (v : Var). FitsSigned w32 v.first) vars.now → IfOk result (λ made. AllByRecursion CanSpell made.files) }
+    ensures spells { AllByRecursion (λ (v : Var). FitsSigned w32 v.first) vars.now
+        → IfOk result (λ made. AllByRecursion CanSpell made.files) }
 {
     all_woven(alloc, program, planner, vars)
 }

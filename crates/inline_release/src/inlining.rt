@@ -29,7 +29,8 @@ pub fn inline(alloc: Global, program: &Program, policy: &Policy) -> Result<Woven
     ensures exact { Answers SpliceFault.Memory result (woven program.now (plan_of policy.now Release) policy.now.vars) }
     // Each size fits, or the first that does not is the fault.
     ensures fits { IsOk result → first_unfit (program_sizes program.now (plan_of policy.now Release)) ≡ None }
-    ensures unfit { IfErr result (λ fault. fault ≢ Memory → first_unfit (program_sizes program.now (plan_of policy.now Release)) ≡ Some fault) }
+    ensures unfit { IfErr result (λ fault. fault ≢ Memory
+        → first_unfit (program_sizes program.now (plan_of policy.now Release)) ≡ Some fault) }
     // The files can be written.
     ensures spells { IfOk result (λ made. AllByRecursion CanSpell made.files) }
 {

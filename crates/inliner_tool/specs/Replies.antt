@@ -50,5 +50,5 @@ reply_of answers.Usage = replies.Line lines.Usage
 reply_of answers.Memory = replies.Nothing
 
 -- the whole output
-abbrev pub text_of : Answer → List ℕ
-text_of answer = text_of_reply (reply_of answer)
+abbrev pub answer_spelled : Answer → List ℕ
+answer_spelled answer = text_of_reply (reply_of answer)

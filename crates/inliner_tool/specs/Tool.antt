@@ -22,7 +22,7 @@ use Rattle.inliner_tool.specs.Race.{race_answer}
 use Rattle.inliner_tool.specs.Replay.{Replays}
 use Rattle.inliner_tool.specs.Show.{show_answer}
 use Rattle.inliner_tool.specs.Answers.{stopped}
-use Rattle.inliner_tool.specs.Replies.{text_of}
+use Rattle.inliner_tool.specs.Replies.{answer_spelled}
 use Rattle.command_words.specs.Words.{NamedCheck, NamedCommand, Check, Show, Policy, Race, Inline, Replay, IsCommand}
 
 -- ---- the headline
@@ -102,5 +102,5 @@ pub record Answered (old new : Files) (count : Count) (words : List (List ℕ)) 
 -- have come; its text may then have a front of the output. Without memory nothing is printed.
 abbrev pub Replies : Files → Files → Count → List (List ℕ) → Option (List ℕ) → Option (List ℕ) → Type 0 → Status → Type 0
 Replies old new count words text after rose statuses.Memory = after ≡ text
-Replies old new count words text after rose statuses.SinkFault = rose × Answered old new count words (λ answer. AppendsFront text after (text_of answer))
-Replies old new count words text after rose status = Answered old new count words (λ answer. (status ≡ status_of answer) × Appends text after (text_of answer))
+Replies old new count words text after rose statuses.SinkFault = rose × Answered old new count words (λ answer. AppendsFront text after (answer_spelled answer))
+Replies old new count words text after rose status = Answered old new count words (λ answer. (status ≡ status_of answer) × Appends text after (answer_spelled answer))

@@ -4,7 +4,7 @@ ghost use Rattle.std.specs.Prelude.{◌≡◌, None, Some, IfOk};
 ghost use Rattle.answer_text.specs.declared.line.Line.TheVariants as lines;
 ghost use Rattle.answer_text.specs.declared.reply.Reply.TheVariants as replies;
 ghost use Rattle.inliner_tool.specs.declared.answer.Answer.TheVariants as answers;
-ghost use Rattle.inliner_tool.specs.Replies.{input, mode_name, reply_of, text_of, verdict_reply};
+ghost use Rattle.inliner_tool.specs.Replies.{input, mode_name, reply_of, answer_spelled, verdict_reply};
 
 use crate::answer::Answer;
 use crate::numbers::{
@@ -19,8 +19,8 @@ use mon_base::{Bytes, NoMemory};
 use std::alloc::Global;
 
 /// The whole output for an answer.
-pub fn text_of(alloc: Global, answer: Answer) -> Result<Bytes, NoMemory>
-    ensures { IfOk result (λ text. text ≡ text_of answer) }
+pub fn answer_spelled(alloc: Global, answer: Answer) -> Result<Bytes, NoMemory>
+    ensures { IfOk result (λ text. text ≡ answer_spelled answer) }
 {
     let reply = reply_of(alloc, answer)?;
     answer_text::text_of(alloc, reply)

@@ -17,7 +17,7 @@ use crate::inline::answer_inline;
 use crate::policy::answer_policy;
 use crate::race::answer_race;
 use crate::replay::answer_replay;
-use crate::replies::text_of;
+use crate::replies::answer_spelled;
 use crate::show::answer_show;
 use command_words::{Command, command_of};
 use conspec_automaton::Verdict;
@@ -103,7 +103,7 @@ pub fn run_tool<S: Store, K: Sink>(
         return Status::Memory;
     }
     let status = status_of(&answer);
-    let Ok(text) = text_of(alloc, answer) else {
+    let Ok(text) = answer_spelled(alloc, answer) else {
         return Status::Memory;
     };
     match out.put(text.as_slice()) {

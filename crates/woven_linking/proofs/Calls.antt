@@ -1,5 +1,5 @@
 -- An instruction whose operand is a method of the listing calls it, and control goes on behind it.
-use Rattle.std.proofs.Common.{◌≡◌, ℕ, Bool, true, false, ◌||◌, List, Result, Ok, Err, refl, sym, ap, subst, ◌∙◌}
+use Rattle.std.proofs.Common.{◌≡◌, ℕ, Bool, true, false, ◌||◌, List, Ok, refl, sym, ap, subst, ◌∙◌}
 use Rattle.std.specs.Prelude.{◌==◌, if◌then◌else◌, slice_get, ok_or}
 use Rattle.std.proofs.lemmas.Bool.{eqb-true}
 use Rattle.mon_base.specs.Reading.{◌>>=◌}

@@ -7,7 +7,7 @@ ghost use Rattle.conspec_automaton.specs.Sound.{IsPolicy};
 use super::pools::text;
 use api_listing::Listing;
 use bytecode_model::{Origin, Side};
-use class_codec::{Attr, ClassFile, Code, Const, Member, decode, encode};
+use class_codec::{Attr, ClassFile, Code, Const, Member, TableEntry, decode, encode};
 use class_linking::link;
 use class_weaving::Woven;
 use conspec_automaton::{Policy, build};
@@ -39,7 +39,7 @@ fn denials(alloc: Global, listing: &Listing) -> Result<Policy, Fail>
 }
 
 /// The pool of a class `a/S` under Object with `main`: `send` is the method 13, and what follows begins at 14.
-fn pool(alloc: Global) -> Result<List<Const>, Fail> {
+pub fn pool(alloc: Global) -> Result<List<Const>, Fail> {
     let mut pool = List::new(alloc);
     pool.push(Const::Second)?;
     pool.push(text(alloc, b"a/S".as_slice())?)?;
@@ -59,12 +59,24 @@ fn pool(alloc: Global) -> Result<List<Const>, Fail> {
 }
 
 /// The class file with this pool and code.
-fn file(
+pub fn file(
     alloc: Global,
     pool: List<Const>,
     max_stack: u16,
     max_locals: u16,
     code: Bytes,
+) -> Result<ClassFile, Fail> {
+    file_with(alloc, pool, max_stack, max_locals, code, List::new(alloc))
+}
+
+/// The same with this exception table.
+pub fn file_with(
+    alloc: Global,
+    pool: List<Const>,
+    max_stack: u16,
+    max_locals: u16,
+    code: Bytes,
+    table: List<TableEntry>,
 ) -> Result<ClassFile, Fail> {
     let mut attrs = List::new(alloc);
     attrs.push(Attr::Code(Code {
@@ -72,7 +84,7 @@ fn file(
         max_stack,
         max_locals,
         code,
-        table: List::new(alloc),
+        table,
         attrs: List::new(alloc),
     }))?;
     let mut methods = List::new(alloc);
@@ -126,7 +138,8 @@ fn of_code(alloc: Global, max_stack: u16, max_locals: u16, code: &[u8]) -> Resul
     )
 }
 
-fn code_of(woven: &Woven) -> Result<&Code, Fail> {
+/// The code of the first method of the first of two class files.
+pub fn code_of(woven: &Woven) -> Result<&Code, Fail> {
     let [class, _] = woven.files.as_slice() else {
         return Err("two files".into());
     };

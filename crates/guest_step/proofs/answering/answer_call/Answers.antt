@@ -6,9 +6,12 @@ use Rattle.guest_step.proofs.answering.answer_call.Goals as goal
 
 pub returns-then-fits : goal.returns-then-fits
 returns-then-fits c =
-    let is : c.in_ok-fits.fits ≡ false = grind rules in
-    (answered_is c.args.guest.now (world_of c.args.machine.now) c.args.number c.args.thread.now c.args.method c.args.receiver c.args.args.now c.args.answer.now false
-    (sym is ∙ c.in_ok-fits.ensures), refl, refl)
+    let is : c.in_ok-fits.fits ≡ false = grind rules in (
+      answered_is c.args.guest.now (world_of c.args.machine.now) c.args.number c.args.thread.now c.args.method c.args.receiver c.args.args.now c.args.answer.now false
+          (sym is ∙ c.in_ok-fits.ensures),
+      refl,
+      refl,
+    )
 
 pub returns : goal.returns
 returns c =
