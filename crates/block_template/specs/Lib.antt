@@ -7,3 +7,4 @@ pub mod Good
 pub mod Flow
 pub mod Frames
 pub mod Typed
+pub mod Reached
