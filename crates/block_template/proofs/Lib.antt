@@ -16,3 +16,5 @@ pub mod Doing
 pub mod FramesAt
 pub mod RolesTyped
 pub mod CatchesTyped
+pub mod Reaching
+pub mod ItemsTyped

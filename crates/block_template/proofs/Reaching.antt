@@ -1,10 +1,9 @@
 -- From what is reached in a block control comes to what is reached alone.
-use Rattle.std.proofs.Common.{◌≡◌, ℕ, zero, suc, ◌+◌, ◌-◌, ◌<◌, Bool, true, false, cond, List, [], ◌∷◌, ◌++◌, length, map, Option, Some, None, refl, sym, ap, subst, ◌∙◌, ◌⊎◌, inl, inr, arith}
-use Rattle.std.specs.Prelude.{◌==◌, IfSome, is_some, option_and_then, option_map, slice_get, ⊤}
+use Rattle.std.proofs.Common.{◌≡◌, ℕ, zero, suc, ◌+◌, Bool, true, false, cond, List, [], ◌∷◌, ◌++◌, length, map, Option, Some, None, refl, sym, ap, subst, ◌∙◌, ◌⊎◌, inl, inr}
+use Rattle.std.specs.Prelude.{IfSome, is_some, option_and_then, option_map, slice_get, ⊤}
 use Rattle.std.specs.List.{AllByRecursion}
 use Rattle.std.specs.Option.{option_map_or}
 use Rattle.std.proofs.lemmas.Bool.{false≢true}
-use Rattle.std.proofs.lemmas.Option.{IfSome_then}
 use Rattle.cert_format.specs.declared.certificate.Mode.{Mode}
 use Rattle.cert_format.specs.declared.certificate.Mode.TheVariants.{Hold, Release}
 use Rattle.conspec_tree.specs.declared.types.Atom.{Atom}
@@ -22,63 +21,11 @@ use Rattle.insn_codec.specs.declared.opcodes.TheConstants.{GOTO, ATHROW}
 use Rattle.block_template.specs.declared.item.Item.{Item}
 use Rattle.block_template.specs.declared.item.Role.{Role}
 use Rattle.block_template.specs.declared.item.Role.TheVariants as roles
-use Rattle.block_template.specs.Blocks.{
-  Clauses,
-  behind,
-  catches,
-  call,
-  called,
-  caught,
-  checked,
-  from_call,
-  front,
-  lets_pass,
-  handler,
-  handler_at,
-  is_locked,
-  items,
-  leave,
-  released,
-  rethrow,
-  with_handler,
-}
-use Rattle.block_template.specs.Flow.{
-  AreForPhases,
-  BlocksFlow,
-  IsLed,
-  ask_insn,
-  branch_at,
-  branches_in,
-  check_behind,
-  checked_in,
-  clause_in,
-  entered,
-  held,
-  insn_of,
-  jump_of,
-  jumps,
-  kept_by,
-  loading,
-  locked_for,
-  made,
-  may_pass,
-  next,
-  result_in,
-  returned,
-  role_at,
-  saving,
-  stop_insn,
-  thrown,
-  tries,
-  unlocked_in,
-  update_at,
-  update_goes,
-  update_insn,
-  updated,
-}
-use Rattle.block_template.specs.Parts.{ask, asks, branch_size, branches, branches_size, check, give, if_reached, item, keep, loads, lock, save, stop, tried, unlock, unreached, write, writes}
+use Rattle.block_template.specs.Blocks.{Clauses, behind, catches, called, checked, from_call, front, lets_pass, handler, handler_at, items, released, rethrow, with_handler}
+use Rattle.block_template.specs.Flow.{AreForPhases, ask_insn, branch_at, branches_in, check_behind, checked_in, clause_in, entered, held, insn_of, jump_of, jumps, kept_by, loading, locked_for, made, may_pass, next, returned, role_at, saving, stop_insn, thrown, tries, unlocked_in, update_at, update_goes, update_insn, updated}
+use Rattle.block_template.specs.Parts.{ask, asks, branch_size, branches, branches_size, check, give, if_reached, keep, loads, lock, save, tried, unlock, unreached, write, writes}
 use Rattle.block_template.specs.Pushing.{load, store}
-use Rattle.block_template.specs.Reached.{BlocksAreReached, GoesOn, IsReached, IsReachedWell}
+use Rattle.block_template.specs.Reached.{BlocksAreReached, IsReached}
 use Rattle.block_template.proofs.BlockFlows.{blocks_flow}
 use Rattle.block_template.proofs.CheckFlows.{load_stays, push_stays, store_stays}
 

@@ -1,5 +1,5 @@
 -- Each instruction of a block meets the rules of typing: the types before it are told by its role.
-use Rattle.std.specs.Prelude.{◌≡◌, ℕ, ◌+◌, ◌≤◌, ℤ, Bool, true, false, codes, List, [], ◌∷◌, length, map, Some, None, is_some, IfSome}
+use Rattle.std.specs.Prelude.{◌≡◌, ℕ, ◌+◌, ◌≤◌, ℤ, Bool, true, false, codes, List, [], ◌∷◌, length, map, Some, None, is_some, slice_get, IfSome}
 use Rattle.class_codec.specs.declared.tree.Const.{Const}
 use Rattle.cert_format.specs.declared.certificate.Mode.{Mode}
 use Rattle.cert_format.specs.declared.typing.FrameType.{FrameType}
@@ -30,11 +30,13 @@ use Rattle.offset_patch.specs.declared.block.PoolWant.{PoolWant}
 use Rattle.offset_patch.specs.declared.block.PoolWant.TheVariants.{StateClass, StateField, Exit, Integer}
 use Rattle.offset_patch.specs.Entries.{variable_type}
 use Rattle.offset_patch.specs.Splicing.{is_call, operands_needed, put, want_of}
+use Rattle.block_template.specs.declared.item.Item.{Item}
 use Rattle.block_template.specs.declared.item.Role.{Role}
 use Rattle.block_template.specs.declared.item.Role.TheVariants as roles
-use Rattle.block_template.specs.Blocks.{Clauses, kept}
-use Rattle.block_template.specs.Flow.{AreForPhases, clause_in, insn_of, jump_of, jumps, may_pass, next, result_in, returned, thrown}
+use Rattle.block_template.specs.Blocks.{Clauses, items, kept}
+use Rattle.block_template.specs.Flow.{AreForPhases, clause_in, insn_of, jump_of, jumps, may_pass, next, result_in, returned, role_at, thrown}
 use Rattle.block_template.specs.Frames.{Around, argument_kinds, frame_at, kept_arguments, kept_types}
+use Rattle.block_template.specs.Reached.{IsReached}
 
 -- ---- what is known of a call and its clauses
 
@@ -162,3 +164,30 @@ abbrev pub CallsAreTyped : Type 0
 CallsAreTyped =
     (mode : Mode) (clauses : Clauses) (around : Around) (locked : Bool) → FitsAround clauses around
     → (place : Place) → IsCallOf around place → HasRoom clauses around place.method → CallIsTyped mode clauses around locked place
+
+-- ---- a block
+
+-- The instruction with these types goes to a role that has types, and these take what it leaves.
+abbrev pub GoesTo : Clauses → Around → Place → FrameType → Role → Type 0
+GoesTo clauses around place types role =
+    (to : FrameType) × (frame_at clauses around role ≡ Some to) × (goes_well place types to ≡ true)
+
+-- The item at an index, where `there` tells the role at each index.
+pub record ItemIsTyped (clauses : Clauses) (around : Around) (there : ℕ → Role) (at : ℕ) (i : Item) (place : Place) : Type 0 where
+  pub types : FrameType
+  pub told : frame_at clauses around i.role ≡ Some types
+  pub depth : Depth place types ≡ true
+  pub operand : TakesOperands place types ≡ true
+  pub local : Local place types ≡ true
+  pub made : Made place types ≡ true
+  pub passes : may_pass i.insn ≡ true → GoesTo clauses around place types (there (at + 1))
+  pub lands : IfSome (jump_of i.insn) (λ index. GoesTo clauses around place types (there index))
+
+-- So it is of each instruction of a block that is reached.
+abbrev pub ItemsAreTyped : Type 0
+ItemsAreTyped =
+    (mode : Mode) (bools : List Bool) (vars : List Var) (maxint : ℤ) (clauses : Clauses) (around : Around)
+    → AreForPhases clauses → AreClausesIn vars maxint clauses → FitsAround clauses around
+    → (at : ℕ) (i : Item) → slice_get (items mode bools around.base clauses) at ≡ Some i → IsReached i.role → is_call i.insn ≡ false
+    → (place : Place) → Stands i.insn place → HasRoom clauses around place.method
+    → ItemIsTyped clauses around (role_at (items mode bools around.base clauses)) at i place

@@ -3,7 +3,8 @@
 ghost use Rattle.block_template.specs.Denial.{DenialIsBlock};
 ghost use Rattle.block_template.specs.Flow.{BlocksFlow};
 ghost use Rattle.block_template.specs.Good.{PlansAreGood};
-ghost use Rattle.block_template.specs.Typed.{BlocksAreTyped, CallsAreTyped, CatchesAreTyped};
+ghost use Rattle.block_template.specs.Reached.{BlocksAreReached};
+ghost use Rattle.block_template.specs.Typed.{BlocksAreTyped, CallsAreTyped, CatchesAreTyped, ItemsAreTyped};
 
 /// In mode release a policy that denies calls outright stops the program before each call that it names.
 pub fn denial_is_block()
@@ -21,6 +22,11 @@ pub fn blocks_flow()
     ensures { BlocksFlow }
 {}
 
+/// From an instruction of a block that is reached control comes to such alone.
+pub fn blocks_are_reached()
+    ensures { BlocksAreReached }
+{}
+
 /// Each instruction of a block meets the rules of typing, with the types that its role tells of those before the call and behind
 /// it, in a method with room for them; what comes behind it takes what it leaves, and so does what it jumps to.
 pub fn blocks_are_typed()
@@ -35,4 +41,10 @@ pub fn catches_are_typed()
 /// The call itself meets the rules in its block where it did without, and what comes where it returns or throws takes what it leaves.
 pub fn calls_are_typed()
     ensures { CallsAreTyped }
+{}
+
+/// Each instruction of a block that is reached, but the call, meets the rules with the types of its role; what stands behind it, or
+/// where it jumps, has types that take what it leaves.
+pub fn items_are_typed()
+    ensures { ItemsAreTyped }
 {}
