@@ -62,14 +62,17 @@ module _ (place : Place) (locals ts us : List VType) (then : ℕ → VType) (act
       ∙ ap (λ (shape : Shape). s ++ yields_of place locals ts shape) acts.is
       ∙ ap (λ (new : List VType). s ++ new) acts.left
 
-  pub alone : length (s ++ us) ≤ place.method.max_stack → length locals ≤ place.method.max_locals → MeetsAlone place (frame locals (s ++ ts))
+  pub alone : length (s ++ us) ≤ place.method.max_stack → length locals ≤ place.method.max_locals
+      → MeetsAlone place (frame locals (s ++ ts))
   alone high few =
       let enough : length ts ≤ length (s ++ ts) = omega (arith, length-append s ts) in
       record {
         depth =
-            and_from (nat_le (length (takes place)) (length (s ++ ts))) (nat_le (length (stack_after place locals (length (takes place)) (s ++ ts))) place.method.max_stack)
+            and_from (nat_le (length (takes place)) (length (s ++ ts)))
+            (nat_le (length (stack_after place locals (length (takes place)) (s ++ ts))) place.method.max_stack)
             (ap (λ (n : ℕ). nat_le n (length (s ++ ts))) count ∙ le-leb (length ts) (length (s ++ ts)) enough)
-            (ap (λ (xs : List VType). nat_le (length xs) place.method.max_stack) leaves ∙ le-leb (length (s ++ us)) place.method.max_stack high);
+            (ap (λ (xs : List VType). nat_le (length xs) place.method.max_stack) leaves
+            ∙ le-leb (length (s ++ us)) place.method.max_stack high);
         operand =
             and_from (all_met (takes place) (taken place (frame locals (s ++ ts)))) (returns_well place (shape_of place.insn))
             (ap (all_met (takes place)) takes_these ∙ ap (λ (shape : Shape). all_met (takes_of place shape) ts) acts.is ∙ acts.met)
@@ -87,14 +90,17 @@ module _ (place : Place) (locals ts us : List VType) (then : ℕ → VType) (act
       ∙ ap (λ (shape : Shape). cond (stores shape j) (type_at ts 0) (type_at locals j)) acts.is
       ∙ acts.local j
 
-  same_locals : (f g : ℕ → VType) → ((j : ℕ) → f j ≡ g j) → (j : ℕ) (to : List VType) → locals_fit place.program g j to ≡ true → locals_fit place.program f j to ≡ true
+  same_locals : (f g : ℕ → VType) → ((j : ℕ) → f j ≡ g j) → (j : ℕ) (to : List VType) → locals_fit place.program g j to ≡ true
+      → locals_fit place.program f j to ≡ true
   same_locals f g same j [] e = refl
   same_locals f g same j (t ∷ to) e =
       let parts = and_parts (assignable place.program (g j) t) (locals_fit place.program g (j + 1) to) e in
-      and_from (assignable place.program (f j) t) (locals_fit place.program f (j + 1) to) (ap (λ (u : VType). assignable place.program u t) (same j) ∙ parts.0)
+      and_from (assignable place.program (f j) t) (locals_fit place.program f (j + 1) to)
+      (ap (λ (u : VType). assignable place.program u t) (same j) ∙ parts.0)
       (same_locals f g same (j + 1) to parts.1)
 
-  pub goes : (to : FrameType) → to.stack ≡ s ++ us → locals_fit place.program then 0 to.locals ≡ true → goes_well place (frame locals (s ++ ts)) to ≡ true
+  pub goes : (to : FrameType) → to.stack ≡ s ++ us → locals_fit place.program then 0 to.locals ≡ true
+      → goes_well place (frame locals (s ++ ts)) to ≡ true
   goes to stack locals_fits =
       and_from (stack_fits place.program (stack_after place locals (length (takes place)) (s ++ ts)) to.stack)
       (locals_fit place.program (local_after place locals (taken place (frame locals (s ++ ts)))) 0 to.locals)

@@ -1,5 +1,37 @@
 -- What the client catches in a block, and the call itself.
-use Rattle.std.proofs.Common.{◌≡◌, ℕ, zero, suc, ◌+◌, ◌-◌, ◌<◌, Bool, true, false, cond, List, [], ◌∷◌, ◌++◌, length, map, replicate, Option, Some, None, refl, sym, ap, subst, ◌∙◌, ◌⊎◌, inl, inr, arith, length-append}
+use Rattle.std.proofs.Common.{
+  ◌≡◌,
+  ℕ,
+  zero,
+  suc,
+  ◌+◌,
+  ◌-◌,
+  ◌<◌,
+  Bool,
+  true,
+  false,
+  cond,
+  List,
+  [],
+  ◌∷◌,
+  ◌++◌,
+  length,
+  map,
+  replicate,
+  Option,
+  Some,
+  None,
+  refl,
+  sym,
+  ap,
+  subst,
+  ◌∙◌,
+  ◌⊎◌,
+  inl,
+  inr,
+  arith,
+  length-append,
+}
 use Rattle.std.specs.Prelude.{◌&&◌, IfSome, is_some, nat_le}
 use Rattle.std.specs.Option.{option_map_or}
 use Rattle.std.proofs.lemmas.Bool.{and_from, and_parts, le-leb}
@@ -17,7 +49,21 @@ use Rattle.bytecode_model.specs.declared.program.Program.{Program}
 use Rattle.bytecode_model.specs.Assigning.{assignable}
 use Rattle.bytecode_model.specs.Makes.{below, changed, local_after, stack_after, stores, topmost, type_at, yields_of}
 use Rattle.bytecode_model.specs.Place.{Place}
-use Rattle.bytecode_model.specs.Rules.{Depth, Local, Made, catches_well, goes_well, is_alone, local_caught, locals_fit, made_well, stack_fits, taken, uses_local, when_thrown}
+use Rattle.bytecode_model.specs.Rules.{
+  Depth,
+  Local,
+  Made,
+  catches_well,
+  goes_well,
+  is_alone,
+  local_caught,
+  locals_fit,
+  made_well,
+  stack_fits,
+  taken,
+  uses_local,
+  when_thrown,
+}
 use Rattle.bytecode_model.specs.Wants.{takes}
 use Rattle.conspec_tree.specs.declared.types.Phase.{Phase}
 use Rattle.conspec_tree.specs.declared.types.Phase.TheVariants.{Before, After, Exceptional}
@@ -27,18 +73,29 @@ use Rattle.block_template.specs.declared.item.Role.TheVariants as roles
 use Rattle.block_template.specs.Blocks.{Clauses, is_locked}
 use Rattle.block_template.specs.Flow.{check_behind, keeps_result, returned, thrown}
 use Rattle.block_template.specs.Frames.{Around, frame, frame_at, kept_types, padded, phase_frame, saved_locals}
-use Rattle.block_template.specs.Typed.{CallIsTyped, CallsAreTyped, CatchesAreTyped, FitsAround, HasRoom, IsCallOf, client_locals, phase_locals}
+use Rattle.block_template.specs.Typed.{
+  CallIsTyped,
+  CallsAreTyped,
+  CatchesAreTyped,
+  FitsAround,
+  HasRoom,
+  IsCallOf,
+  client_locals,
+  phase_locals,
+}
 use Rattle.block_template.proofs.FramesAt as at
 use Rattle.block_template.proofs.Types.{locals_are, stack_itself, type_left}
 
 -- ---- locals that are caught
 
 -- What takes the one takes the other, which is the same, or anything where the one tells nothing.
-takes_more : (program : Program) (f g : ℕ → VType) → ((j : ℕ) → (f j ≡ g j) ⊎ (g j ≡ types.Top)) → (j : ℕ) (to : List VType) → locals_fit program g j to ≡ true → locals_fit program f j to ≡ true
+takes_more : (program : Program) (f g : ℕ → VType) → ((j : ℕ) → (f j ≡ g j) ⊎ (g j ≡ types.Top)) → (j : ℕ) (to : List VType)
+    → locals_fit program g j to ≡ true → locals_fit program f j to ≡ true
 takes_more program f g same j [] e = refl
 takes_more program f g same j (t ∷ to) e =
     let parts = and_parts (assignable program (g j) t) (locals_fit program g (j + 1) to) e in
-    and_from (assignable program (f j) t) (locals_fit program f (j + 1) to) (by (same j) t parts.0) (takes_more program f g same (j + 1) to parts.1)
+    and_from (assignable program (f j) t) (locals_fit program f (j + 1) to) (by (same j) t parts.0)
+    (takes_more program f g same (j + 1) to parts.1)
   where
     from_nothing : (u t : VType) → assignable program types.Top t ≡ true → assignable program u t ≡ true
     from_nothing u types.Top e = refl
@@ -73,11 +130,14 @@ thrown_all (t ∷ xs) (suc j) = thrown_all xs j
 
 -- What is caught of the client's locals is caught of these.
 abbrev Catches : List VType → List VType → Type 0
-Catches locals client = (program : Program) (to : List VType) → locals_fit program (local_caught client) 0 to ≡ true → locals_fit program (local_caught locals) 0 to ≡ true
+Catches locals client =
+    (program : Program) (to : List VType) → locals_fit program (local_caught client) 0 to ≡ true
+    → locals_fit program (local_caught locals) 0 to ≡ true
 
 caught_front : (client more : List VType) → Catches (client ++ more) client
 caught_front client more program to =
-    takes_more program (local_caught (client ++ more)) (local_caught client) (λ j. by (type_at (client ++ more) j) (type_at client j) (front_or_nothing client more j)) 0 to
+    takes_more program (local_caught (client ++ more)) (local_caught client)
+    (λ j. by (type_at (client ++ more) j) (type_at client j) (front_or_nothing client more j)) 0 to
   where
     by : (t u : VType) → (t ≡ u) ⊎ (u ≡ types.Top) → (when_thrown t ≡ when_thrown u) ⊎ (when_thrown u ≡ types.Top)
     by t u (inl e) = inl (ap when_thrown e)
@@ -89,7 +149,8 @@ caught_more client more others program to e = caught_front (client ++ more) othe
 caught_thrown : (client more : List VType) → Catches (map when_thrown (client ++ more)) client
 caught_thrown client more program to e =
     takes_more program (local_caught (map when_thrown (client ++ more))) (local_caught (client ++ more))
-    (λ j. inl (ap when_thrown (thrown_all (client ++ more) j) ∙ thrown_twice (type_at (client ++ more) j))) 0 to (caught_front client more program to e)
+    (λ j. inl (ap when_thrown (thrown_all (client ++ more) j) ∙ thrown_twice (type_at (client ++ more) j))) 0 to
+    (caught_front client more program to e)
 
 module _ (clauses : Clauses) (around : Around) where
   -- So it is of the types of a role.
@@ -122,7 +183,8 @@ module _ (clauses : Clauses) (around : Around) where
 
 pub catches_are_typed : CatchesAreTyped
 catches_are_typed program clauses around role f to told =
-    subst (λ (o : Option FrameType). IfSome o (λ x. Catches x.locals (client_locals around role))) told (role_caught clauses around role) program to
+    subst (λ (o : Option FrameType). IfSome o (λ x. Catches x.locals (client_locals around role))) told
+    (role_caught clauses around role) program to
 
 -- ---- the call
 
@@ -133,8 +195,8 @@ padded_same [] (suc k) (suc j) = padded_same [] k j
 padded_same (t ∷ xs) k zero = refl
 padded_same (t ∷ xs) k (suc j) = padded_same xs k j
 
-module _ (mode : Mode) (clauses : Clauses) (around : Around) (locked : Bool) (fits : FitsAround clauses around) (place : Place) (call : IsCallOf around place)
-    (room : HasRoom clauses around place.method) where
+module _ (mode : Mode) (clauses : Clauses) (around : Around) (locked : Bool) (fits : FitsAround clauses around) (place : Place)
+    (call : IsCallOf around place) (room : HasRoom clauses around place.method) where
   abbrev locals : List VType
   locals = saved_locals clauses around 0
 
@@ -167,7 +229,8 @@ module _ (mode : Mode) (clauses : Clauses) (around : Around) (locked : Bool) (fi
   local : Local place these ≡ true
   local =
       and_from (nat_le (length locals) place.method.max_locals) (uses_local place.method locals (shape_of place.insn))
-      (le-leb (length locals) place.method.max_locals (omega (arith, long, room.arguments, at.kept_length clauses around fits, length-append padded_before (kept_types clauses around))))
+      (le-leb (length locals) place.method.max_locals
+      (omega (arith, long, room.arguments, at.kept_length clauses around fits, length-append padded_before (kept_types clauses around))))
       (ap (uses_local place.method locals) call.call)
 
   made : Made place around.before ≡ true → Made place these ≡ true
@@ -186,7 +249,9 @@ module _ (mode : Mode) (clauses : Clauses) (around : Around) (locked : Bool) (fi
       by : (m : Mode) → frame_at clauses around (roles.Unlock After false false) ≡ left → frame_at clauses around (returned m None) ≡ left
       by Release is = refl
       by Hold is = is
-  returned_of (Some clause) e = by mode (is_some clause.result) (λ no. at.behind_enters clauses around fits mode After clause ∙ ap Some (at.not_kept clauses around fits (keeps ∙ no))) refl
+  returned_of (Some clause) e =
+      by mode (is_some clause.result)
+      (λ no. at.behind_enters clauses around fits mode After clause ∙ ap Some (at.not_kept clauses around fits (keeps ∙ no))) refl
     where
       keeps : keeps_result clauses ≡ is_some clause.result
       keeps = ap (λ (o : Option Clause). option_map_or (λ (c : Clause). is_some c.result) o false) e
@@ -198,7 +263,8 @@ module _ (mode : Mode) (clauses : Clauses) (around : Around) (locked : Bool) (fi
 
   before_same : (j : ℕ) → j < around.base → type_at locals j ≡ type_at around.before.locals j
   before_same j lt =
-      type_left padded_before (kept_types clauses around) j (omega (arith, lt, long)) ∙ padded_same around.before.locals (around.base - length around.before.locals) j
+      type_left padded_before (kept_types clauses around) j (omega (arith, lt, long))
+      ∙ padded_same around.before.locals (around.base - length around.before.locals) j
 
   stores_none : (j : ℕ) → stores (shape_of place.insn) j ≡ false
   stores_none j = ap (λ (shape : Shape). stores shape j) call.call
@@ -220,22 +286,29 @@ module _ (mode : Mode) (clauses : Clauses) (around : Around) (locked : Bool) (fi
   returns_well =
       and_from (stack_fits place.program (stack_after place locals (length (takes place)) stack) around.after.stack)
       (locals_fit place.program (local_after place locals (taken place these)) 0 (padded around.base around.after.locals))
-      (ap (λ (s : List VType). stack_fits place.program s around.after.stack) (same_stack ∙ sym call.stack) ∙ stack_itself place.program around.after.stack) returns_locals
+      (ap (λ (s : List VType). stack_fits place.program s around.after.stack) (same_stack ∙ sym call.stack)
+      ∙ stack_itself place.program around.after.stack) returns_locals
 
   returns : IfSome (frame_at clauses around (returned mode clauses.after)) (λ to. goes_well place these to ≡ true)
-  returns = subst (λ (o : Option FrameType). IfSome o (λ to. goes_well place these to ≡ true)) (sym (returned_of clauses.after refl)) returns_well
+  returns =
+      subst (λ (o : Option FrameType). IfSome o (λ to. goes_well place these to ≡ true)) (sym (returned_of clauses.after refl)) returns_well
 
   -- ---- where it throws
 
-  thrown_of : (o : Option Clause) → (frame_at clauses around (thrown mode o) ≡ None) ⊎ (frame_at clauses around (thrown mode o) ≡ Some (phase_frame clauses around Exceptional))
+  thrown_of : (o : Option Clause)
+      → (frame_at clauses around (thrown mode o) ≡ None) ⊎
+      (frame_at clauses around (thrown mode o) ≡ Some (phase_frame clauses around Exceptional))
   thrown_of None = by mode
     where
-      by : (m : Mode) → (frame_at clauses around (thrown m None) ≡ None) ⊎ (frame_at clauses around (thrown m None) ≡ Some (phase_frame clauses around Exceptional))
+      by : (m : Mode)
+          → (frame_at clauses around (thrown m None) ≡ None) ⊎
+          (frame_at clauses around (thrown m None) ≡ Some (phase_frame clauses around Exceptional))
       by Release = inl refl
       by Hold = inr (at.nothing_pushed clauses around fits (phase_frame clauses around Exceptional))
   thrown_of (Some clause) = inr (at.behind_enters clauses around fits mode Exceptional clause)
 
-  throws_well : (handler : Handler) → handler.class ≡ None → catches_well place these handler (phase_frame clauses around Exceptional) ≡ true
+  throws_well : (handler : Handler) → handler.class ≡ None
+      → catches_well place these handler (phase_frame clauses around Exceptional) ≡ true
   throws_well handler any =
       and_from (is_alone (option_map_or (λ (class : List ℕ). class) handler.class throwable) (types.Ref throwable ∷ []))
       (locals_fit place.program (local_caught locals) 0 (map when_thrown padded_before))
@@ -243,18 +316,22 @@ module _ (mode : Mode) (clauses : Clauses) (around : Around) (locked : Bool) (fi
       (locals_are place.program (local_caught locals) 0 (map when_thrown padded_before)
       (λ j lt.
       ap (local_caught locals) (nothing j)
-      ∙ ap when_thrown (type_left padded_before (kept_types clauses around) j (omega (arith, lt, length-map padded_before when_thrown))) ∙ sym (thrown_all padded_before j)))
+      ∙ ap when_thrown (type_left padded_before (kept_types clauses around) j (omega (arith, lt, length-map padded_before when_thrown)))
+      ∙ sym (thrown_all padded_before j)))
     where
       nothing : (j : ℕ) → 0 + j ≡ j
       nothing j = omega arith
 
-  throws : (handler : Handler) → handler.class ≡ None → IfSome (frame_at clauses around (thrown mode clauses.exceptional)) (λ to. catches_well place these handler to ≡ true)
+  throws : (handler : Handler) → handler.class ≡ None
+      → IfSome (frame_at clauses around (thrown mode clauses.exceptional)) (λ to. catches_well place these handler to ≡ true)
   throws handler any = by (thrown_of clauses.exceptional)
     where
-      by : (frame_at clauses around (thrown mode clauses.exceptional) ≡ None) ⊎ (frame_at clauses around (thrown mode clauses.exceptional) ≡ Some (phase_frame clauses around Exceptional))
+      by : (frame_at clauses around (thrown mode clauses.exceptional) ≡ None) ⊎
+          (frame_at clauses around (thrown mode clauses.exceptional) ≡ Some (phase_frame clauses around Exceptional))
           → IfSome (frame_at clauses around (thrown mode clauses.exceptional)) (λ to. catches_well place these handler to ≡ true)
       by (inl e) = subst (λ (o : Option FrameType). IfSome o (λ to. catches_well place these handler to ≡ true)) (sym e) tt
-      by (inr e) = subst (λ (o : Option FrameType). IfSome o (λ to. catches_well place these handler to ≡ true)) (sym e) (throws_well handler any)
+      by (inr e) =
+          subst (λ (o : Option FrameType). IfSome o (λ to. catches_well place these handler to ≡ true)) (sym e) (throws_well handler any)
 
   pub call_typed : CallIsTyped mode clauses around locked place
   call_typed = record {

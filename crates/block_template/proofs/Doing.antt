@@ -1,5 +1,28 @@
 -- What each instruction of a block does to the types.
-use Rattle.std.proofs.Common.{◌≡◌, ℕ, zero, suc, ◌+◌, ◌<◌, ℤ, pos, neg_ℤ, Bool, true, false, cond, List, [], ◌∷◌, map, refl, ap, subst, ◌∙◌, arith}
+use Rattle.std.proofs.Common.{
+  ◌≡◌,
+  ℕ,
+  zero,
+  suc,
+  ◌+◌,
+  ◌<◌,
+  ℤ,
+  pos,
+  neg_ℤ,
+  Bool,
+  true,
+  false,
+  cond,
+  List,
+  [],
+  ◌∷◌,
+  map,
+  refl,
+  ap,
+  subst,
+  ◌∙◌,
+  arith,
+}
 use Rattle.std.specs.Prelude.{◌==◌, ◌&&◌, bytes_eq, codes, nat_le, nat_lt, int_le}
 use Rattle.std.specs.Ordering.{int_eq}
 use Rattle.std.proofs.lemmas.Bool.{and_from, lt-ltb, ltb-true}
@@ -57,7 +80,8 @@ use Rattle.block_template.proofs.Acting.{Acts}
 -- ---- loads and stores
 
 module _ (place : Place) where
-  shape_by : (b : Bool) (slot short op : ℕ) (shape : Shape) → nat_lt slot 4 ≡ b → (slot < 4 → plain_shape (short + slot) ≡ shape) → local_shape op slot ≡ shape
+  shape_by : (b : Bool) (slot short op : ℕ) (shape : Shape) → nat_lt slot 4 ≡ b → (slot < 4 → plain_shape (short + slot) ≡ shape)
+      → local_shape op slot ≡ shape
       → Stands (cond b (Plain (short + slot)) (Local op slot (nat_le 256 slot))) place → shape_of place.insn ≡ shape
   shape_by true slot short op shape e f g stands = ap shape_of stands.is ∙ f (ltb-true _ _ e)
   shape_by false slot short op shape e f g stands = ap shape_of stands.is ∙ g
@@ -94,7 +118,8 @@ module _ (place : Place) where
   number_loaded slot = shape_by (nat_lt slot 4) slot ILOAD_0 ILOAD (shapes.Load operands.Int slot) refl (iload_shape slot) refl
 
   load_shape : (kind : Kind) (slot : ℕ) → Stands (load kind slot) place → shape_of place.insn ≡ shapes.Load (operand_of kind) slot
-  load_shape kinds.Object slot = shape_by (nat_lt slot 4) slot ALOAD_0 ALOAD (shapes.Load operands.Reference slot) refl (aload_shape slot) refl
+  load_shape kinds.Object slot =
+      shape_by (nat_lt slot 4) slot ALOAD_0 ALOAD (shapes.Load operands.Reference slot) refl (aload_shape slot) refl
   load_shape kinds.Int slot = number_loaded slot
   load_shape kinds.Bool slot = number_loaded slot
   load_shape kinds.Byte slot = number_loaded slot
@@ -105,7 +130,8 @@ module _ (place : Place) where
   number_stored slot = shape_by (nat_lt slot 4) slot ISTORE_0 ISTORE (shapes.Store operands.Int slot) refl (istore_shape slot) refl
 
   store_shape : (kind : Kind) (slot : ℕ) → Stands (store kind slot) place → shape_of place.insn ≡ shapes.Store (operand_of kind) slot
-  store_shape kinds.Object slot = shape_by (nat_lt slot 4) slot ASTORE_0 ASTORE (shapes.Store operands.Reference slot) refl (astore_shape slot) refl
+  store_shape kinds.Object slot =
+      shape_by (nat_lt slot 4) slot ASTORE_0 ASTORE (shapes.Store operands.Reference slot) refl (astore_shape slot) refl
   store_shape kinds.Int slot = number_stored slot
   store_shape kinds.Bool slot = number_stored slot
   store_shape kinds.Byte slot = number_stored slot
@@ -119,7 +145,8 @@ module _ (place : Place) where
     abbrev pub Does : List VType → List VType → Type 0
     Does ts us = Acts place locals ts us (type_at locals)
 
-    loads_as : (kind : Operand) (slot : ℕ) → shape_of place.insn ≡ shapes.Load kind slot → slot < place.method.max_locals → of_kind kind (type_at locals slot) ≡ true
+    loads_as : (kind : Operand) (slot : ℕ) → shape_of place.insn ≡ shapes.Load kind slot → slot < place.method.max_locals
+        → of_kind kind (type_at locals slot) ≡ true
         → Does [] (type_at locals slot ∷ [])
     loads_as kind slot is within holds = record {
       shape = shapes.Load kind slot;
@@ -128,24 +155,29 @@ module _ (place : Place) where
       returns = refl;
       stays = λ t. refl;
       left = refl;
-      uses = and_from (nat_lt slot place.method.max_locals) (of_kind kind (type_at locals slot)) (lt-ltb slot place.method.max_locals within) holds;
+      uses = and_from (nat_lt slot place.method.max_locals) (of_kind kind (type_at locals slot))
+          (lt-ltb slot place.method.max_locals within) holds;
       made = λ stack. refl;
       local = λ j. refl;
     }
 
-    pub loads : (kind : Kind) (slot : ℕ) → Stands (load kind slot) place → slot < place.method.max_locals → of_kind (operand_of kind) (type_at locals slot) ≡ true
+    pub loads : (kind : Kind) (slot : ℕ) → Stands (load kind slot) place → slot < place.method.max_locals
+        → of_kind (operand_of kind) (type_at locals slot) ≡ true
         → Does [] (type_at locals slot ∷ [])
     loads kind slot stands = loads_as (operand_of kind) slot (load_shape kind slot stands)
 
-    pub loads_number : (slot : ℕ) → Stands (local ILOAD_0 ILOAD slot) place → slot < place.method.max_locals → type_at locals slot ≡ types.Int → Does [] (types.Int ∷ [])
+    pub loads_number : (slot : ℕ) → Stands (local ILOAD_0 ILOAD slot) place → slot < place.method.max_locals
+        → type_at locals slot ≡ types.Int → Does [] (types.Int ∷ [])
     loads_number slot stands within is =
-        subst (λ (t : VType). Does [] (t ∷ [])) is (loads_as operands.Int slot (number_loaded slot stands) within (ap (of_kind operands.Int) is))
+        subst (λ (t : VType). Does [] (t ∷ [])) is
+        (loads_as operands.Int slot (number_loaded slot stands) within (ap (of_kind operands.Int) is))
 
     -- The local holds then what was on top.
     abbrev pub stored : ℕ → VType → ℕ → VType
     stored slot t j = cond (j == slot) t (type_at locals j)
 
-    pub stores_one : (kind : Kind) (slot : ℕ) (t : VType) → Stands (store kind slot) place → slot < place.method.max_locals → of_kind (operand_of kind) t ≡ true
+    pub stores_one : (kind : Kind) (slot : ℕ) (t : VType) → Stands (store kind slot) place → slot < place.method.max_locals
+        → of_kind (operand_of kind) t ≡ true
         → Acts place locals (t ∷ []) [] (stored slot t)
     stores_one kind slot t stands within holds = record {
       shape = shapes.Store (operand_of kind) slot;
@@ -162,7 +194,19 @@ module _ (place : Place) where
     -- ---- constants and numbers
 
     number_pushed : (n : ℤ) → shape_of place.insn ≡ shapes.Push n → Does [] (types.Int ∷ [])
-    number_pushed n is = record { shape = shapes.Push n; is = is; met = refl; returns = refl; stays = λ t. refl; left = refl; uses = refl; made = λ stack. refl; local = λ j. refl }
+    number_pushed n is =
+        record {
+          shape = shapes.Push n;
+          is = is;
+          met = refl;
+          returns = refl;
+          stays = λ t. refl;
+          left = refl;
+          uses = refl;
+          made =
+              λ stack. refl;
+          local = λ j. refl;
+        }
 
     constant_pushed : (t : VType) → shape_of place.insn ≡ shapes.Heap heap.Constant → constant_type place.ref ≡ t → Does [] (t ∷ [])
     constant_pushed t is named = record {
@@ -197,7 +241,8 @@ module _ (place : Place) where
         either (int_eq n (pos 4)) (Plain 7) _ (λ s. number_pushed _ (ap shape_of s.is)) (
         either (int_eq n (pos 5)) (Plain 8) _ (λ s. number_pushed _ (ap shape_of s.is)) (
         either (int_le (neg_ℤ (pos 128)) n && int_le n (pos 127)) (Byte n) _ (λ s. number_pushed n (ap shape_of s.is)) (
-        either (int_le (neg_ℤ (pos 32768)) n && int_le n (pos 32767)) (Short n) (Wanted LDC_W (Integer n)) (λ s. number_pushed n (ap shape_of s.is))
+        either (int_le (neg_ℤ (pos 32768)) n && int_le n (pos 32767)) (Short n) (Wanted LDC_W (Integer n))
+        (λ s. number_pushed n (ap shape_of s.is))
         (λ s. constant_pushed types.Int (ap shape_of s.is) (ap constant_type s.names))))))))))
 
     pub pushes_byte : (n : ℤ) → Stands (Byte n) place → Does [] (types.Int ∷ [])
@@ -353,7 +398,8 @@ module _ (place : Place) where
         let no_maker : calls_maker place ≡ false = ap (λ (n : List ℕ). bytes_eq n maker) stands.names.0 in
         let desc : desc_referred place ≡ codes "(I)V" = stands.names.1 in
         let takes_one : map (to_described place.program) (arguments (desc_referred place)) ≡ to_described place.program (codes "I") ∷ [] =
-        ap (λ (d : List ℕ). map (to_described place.program) (arguments d)) desc ∙ ap (map (to_described place.program)) way_out_arguments in
+        ap (λ (d : List ℕ). map (to_described place.program) (arguments d)) desc
+        ∙ ap (map (to_described place.program)) way_out_arguments in
         record {
           shape = shapes.Heap (heap.Call hows.Static);
           is = ap shape_of stands.is;

@@ -38,14 +38,18 @@ module _ (clauses : Clauses) (around : Around) where
   goes_to : (place : Place) (types : FrameType) (role there : Role) → there ≡ role → IsReached there
       → IfSome (frame_at clauses around role) (λ to. goes_well place types to ≡ true) → GoesTo clauses around place types there
   goes_to place types role there is reached takes =
-      by (frame_at clauses around there) refl (told_of there reached) (subst (λ (r : Role). IfSome (frame_at clauses around r) (λ to. goes_well place types to ≡ true)) (sym is) takes)
+      by (frame_at clauses around there) refl (told_of there reached)
+      (subst (λ (r : Role). IfSome (frame_at clauses around r) (λ to. goes_well place types to ≡ true)) (sym is) takes)
     where
-      by : (o : Option FrameType) → frame_at clauses around there ≡ o → is_some o ≡ true → IfSome o (λ to. goes_well place types to ≡ true) → GoesTo clauses around place types there
+      by : (o : Option FrameType) → frame_at clauses around there ≡ o → is_some o ≡ true
+          → IfSome o (λ to. goes_well place types to ≡ true) → GoesTo clauses around place types there
       by None e some takes = absurd cc
       by (Some to) e some takes = (to, e, takes)
 
-  lands_at : (place : Place) (types : FrameType) (role : Role) (there : ℕ → Role) (o : Option ℕ) → IfSome o (λ index. there index ≡ role) → IfSome o (λ index. IsReached (there index))
-      → (is_some o ≡ true → IfSome (frame_at clauses around role) (λ to. goes_well place types to ≡ true)) → IfSome o (λ index. GoesTo clauses around place types (there index))
+  lands_at : (place : Place) (types : FrameType) (role : Role) (there : ℕ → Role) (o : Option ℕ) → IfSome o (λ index. there index ≡ role)
+      → IfSome o (λ index. IsReached (there index))
+      → (is_some o ≡ true → IfSome (frame_at clauses around role) (λ to. goes_well place types to ≡ true))
+      → IfSome o (λ index. GoesTo clauses around place types (there index))
   lands_at place types role there None is reached takes = tt
   lands_at place types role there (Some index) is reached takes = goes_to place types role (there index) is reached (takes refl)
 
@@ -54,7 +58,9 @@ items_are_typed mode bools vars maxint clauses around phases known fits at i the
     let all : List Item = items mode bools around.base clauses in
     let led = (blocks_flow mode bools around.base clauses phases).goes at i there reached in
     let goes = (blocks_are_reached mode bools around.base clauses phases).goes at i there reached in
-    let row = blocks_are_typed mode bools vars maxint clauses around (length all) led.is.0 phases known fits i.role i.insn led.is.1 call place stands room in
+    let row =
+    blocks_are_typed mode bools vars maxint clauses around
+    (length all) led.is.0 phases known fits i.role i.insn led.is.1 call place stands room in
     record {
       types = row.types;
       told = row.told;
@@ -62,6 +68,9 @@ items_are_typed mode bools vars maxint clauses around phases known fits at i the
       operand = row.operand;
       local = row.local;
       made = row.made;
-      passes = λ p. goes_to clauses around place row.types (next mode clauses i.role) (role_at all (at + 1)) (led.passes p) (goes.passes p) (row.passes p);
-      lands = lands_at clauses around place row.types (jumps mode clauses i.role) (role_at all) (jump_of i.insn) led.lands goes.lands row.lands;
+      passes =
+          λ p. goes_to clauses around place row.types (next mode clauses i.role) (role_at all (at + 1)) (led.passes p) (goes.passes p)
+          (row.passes p);
+      lands = lands_at clauses around place row.types (jumps mode clauses i.role) (role_at all)
+          (jump_of i.insn) led.lands goes.lands row.lands;
     }

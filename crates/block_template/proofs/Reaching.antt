@@ -1,5 +1,32 @@
 -- From what is reached in a block control comes to what is reached alone.
-use Rattle.std.proofs.Common.{◌≡◌, ℕ, zero, suc, ◌+◌, Bool, true, false, cond, List, [], ◌∷◌, ◌++◌, length, map, Option, Some, None, refl, sym, ap, subst, ◌∙◌, ◌⊎◌, inl, inr}
+use Rattle.std.proofs.Common.{
+  ◌≡◌,
+  ℕ,
+  zero,
+  suc,
+  ◌+◌,
+  Bool,
+  true,
+  false,
+  cond,
+  List,
+  [],
+  ◌∷◌,
+  ◌++◌,
+  length,
+  map,
+  Option,
+  Some,
+  None,
+  refl,
+  sym,
+  ap,
+  subst,
+  ◌∙◌,
+  ◌⊎◌,
+  inl,
+  inr,
+}
 use Rattle.std.specs.Prelude.{IfSome, is_some, option_and_then, option_map, slice_get, ⊤}
 use Rattle.std.specs.List.{AllByRecursion}
 use Rattle.std.specs.Option.{option_map_or}
@@ -21,9 +48,72 @@ use Rattle.insn_codec.specs.declared.opcodes.TheConstants.{GOTO, ATHROW}
 use Rattle.block_template.specs.declared.item.Item.{Item}
 use Rattle.block_template.specs.declared.item.Role.{Role}
 use Rattle.block_template.specs.declared.item.Role.TheVariants as roles
-use Rattle.block_template.specs.Blocks.{Clauses, behind, catches, called, checked, from_call, front, lets_pass, handler, handler_at, items, released, rethrow, with_handler}
-use Rattle.block_template.specs.Flow.{AreForPhases, ask_insn, branch_at, branches_in, check_behind, checked_in, clause_in, entered, held, insn_of, jump_of, jumps, kept_by, loading, locked_for, made, may_pass, next, returned, role_at, saving, stop_insn, thrown, tries, unlocked_in, update_at, update_goes, update_insn, updated}
-use Rattle.block_template.specs.Parts.{ask, asks, branch_size, branches, branches_size, check, give, if_reached, keep, loads, lock, save, tried, unlock, unreached, write, writes}
+use Rattle.block_template.specs.Blocks.{
+  Clauses,
+  behind,
+  catches,
+  called,
+  checked,
+  from_call,
+  front,
+  lets_pass,
+  handler,
+  handler_at,
+  items,
+  released,
+  rethrow,
+  with_handler,
+}
+use Rattle.block_template.specs.Flow.{
+  AreForPhases,
+  ask_insn,
+  branch_at,
+  branches_in,
+  check_behind,
+  checked_in,
+  clause_in,
+  entered,
+  held,
+  insn_of,
+  jump_of,
+  jumps,
+  kept_by,
+  loading,
+  locked_for,
+  made,
+  may_pass,
+  next,
+  returned,
+  role_at,
+  saving,
+  stop_insn,
+  thrown,
+  tries,
+  unlocked_in,
+  update_at,
+  update_goes,
+  update_insn,
+  updated,
+}
+use Rattle.block_template.specs.Parts.{
+  ask,
+  asks,
+  branch_size,
+  branches,
+  branches_size,
+  check,
+  give,
+  if_reached,
+  keep,
+  loads,
+  lock,
+  save,
+  tried,
+  unlock,
+  unreached,
+  write,
+  writes,
+}
 use Rattle.block_template.specs.Pushing.{load, store}
 use Rattle.block_template.specs.Reached.{BlocksAreReached, IsReached}
 use Rattle.block_template.proofs.BlockFlows.{blocks_flow}
@@ -31,14 +121,16 @@ use Rattle.block_template.proofs.CheckFlows.{load_stays, push_stays, store_stays
 
 -- ---- roles that come first
 
-made_of : (phase : Phase) (n u : ℕ) (o : Option Update) → IsReached (option_map_or (λ (x : Update). roles.Update phase n u 0) o (roles.Taken phase n))
+made_of : (phase : Phase) (n u : ℕ) (o : Option Update)
+    → IsReached (option_map_or (λ (x : Update). roles.Update phase n u 0) o (roles.Taken phase n))
 made_of phase n u None = λ e. absurd cc
 made_of phase n u (Some x) = λ e. absurd cc
 
 made_reached : (phase : Phase) (n u : ℕ) (branch : Branch) → IsReached (made phase n u branch)
 made_reached phase n u branch = made_of phase n u (slice_get branch.updates u)
 
-held_of : (phase : Phase) (n a : ℕ) (branch : Branch) (o : Option Atom) → IsReached (option_map_or (λ (x : Atom). roles.Ask phase n a 0) o (made phase n 0 branch))
+held_of : (phase : Phase) (n a : ℕ) (branch : Branch) (o : Option Atom)
+    → IsReached (option_map_or (λ (x : Atom). roles.Ask phase n a 0) o (made phase n 0 branch))
 held_of phase n a branch None = made_reached phase n 0 branch
 held_of phase n a branch (Some x) = λ e. absurd cc
 
@@ -67,8 +159,11 @@ either false x y p q = q
 returned_reached : (mode : Mode) (o : Option Clause) → IsReached (returned mode o)
 returned_reached Release None = λ e. absurd cc
 returned_reached Hold None = λ e. absurd cc
-returned_reached Release (Some clause) = either (is_some clause.result) (roles.Keep false) (check_behind Release After clause) (λ e. absurd cc) (behind_reached Release After clause)
-returned_reached Hold (Some clause) = either (is_some clause.result) (roles.Keep true) (check_behind Hold After clause) (λ e. absurd cc) (behind_reached Hold After clause)
+returned_reached Release (Some clause) =
+    either (is_some clause.result) (roles.Keep false) (check_behind Release After clause) (λ e. absurd cc)
+    (behind_reached Release After clause)
+returned_reached Hold (Some clause) =
+    either (is_some clause.result) (roles.Keep true) (check_behind Hold After clause) (λ e. absurd cc) (behind_reached Hold After clause)
 
 entered_reached : (mode : Mode) (o : Option Clause) → IsReached (entered mode o)
 entered_reached Release None = λ e. absurd cc
@@ -83,7 +178,8 @@ thrown_reached Release (Some clause) e = behind_reached Release Exceptional clau
 thrown_reached Hold (Some clause) e = behind_reached Hold Exceptional clause
 
 module _ (clauses : Clauses) where
-  loading_of : (n : ℕ) (locked : Bool) (o : Option Kind) → IsReached (option_map_or (λ (k : Kind). roles.Load n locked) o (roles.Call locked))
+  loading_of : (n : ℕ) (locked : Bool) (o : Option Kind)
+      → IsReached (option_map_or (λ (k : Kind). roles.Load n locked) o (roles.Call locked))
   loading_of n locked None = λ e. absurd cc
   loading_of n locked (Some kind) = λ e. absurd cc
 
@@ -110,7 +206,8 @@ module _ (clauses : Clauses) where
   TakesLock (roles.Lock Exceptional pushed) = is_some clauses.exceptional ≡ true
   TakesLock other = ⊤
 
-  locked_reached : (phase : Phase) (o : Option Clause) → clause_in clauses phase ≡ o → TakesLock (roles.Lock phase true) → IsReached (locked_for o phase)
+  locked_reached : (phase : Phase) (o : Option Clause) → clause_in clauses phase ≡ o → TakesLock (roles.Lock phase true)
+      → IsReached (locked_for o phase)
   locked_reached phase (Some clause) e takes = tries_reached phase 0 clause.branches
   locked_reached Before None e takes = λ u. absurd cc
   locked_reached After None e takes = absurd (false≢true (sym (ap is_some e) ∙ takes))
@@ -123,14 +220,17 @@ module _ (clauses : Clauses) where
     passing e = absurd (false≢true e)
 
     goes_by : (phase : Phase) (n u done : ℕ) (branch : Branch) (x : Update) → IsReached (update_goes phase n u done branch (Some x))
-    goes_by phase n u done branch x = either _ (made phase n (u + 1) branch) (roles.Update phase n u (done + 1)) (made_reached phase n (u + 1) branch) (λ e. absurd cc)
+    goes_by phase n u done branch x =
+        either _ (made phase n (u + 1) branch) (roles.Update phase n u (done + 1)) (made_reached phase n (u + 1) branch) (λ e. absurd cc)
 
-    update_of : (phase : Phase) (n u done : ℕ) (insn : BlockInsn) (branch : Branch) (o : Option Update) → option_and_then (update_insn bools done) o ≡ Some insn → IsReached (update_goes phase n u done branch o)
+    update_of : (phase : Phase) (n u done : ℕ) (insn : BlockInsn) (branch : Branch) (o : Option Update)
+        → option_and_then (update_insn bools done) o ≡ Some insn → IsReached (update_goes phase n u done branch o)
     update_of phase n u done insn branch None e = absurd cc
     update_of phase n u done insn branch (Some x) e = goes_by phase n u done branch x
 
     updated_reached : (phase : Phase) (n u done : ℕ) (insn : BlockInsn) (o : Option Branch)
-        → option_and_then (update_insn bools done) (option_and_then (λ (b : Branch). slice_get b.updates u) o) ≡ Some insn → IsReached (updated phase n u done o)
+        → option_and_then (update_insn bools done) (option_and_then (λ (b : Branch). slice_get b.updates u) o) ≡ Some insn
+        → IsReached (updated phase n u done o)
     updated_reached phase n u done insn None e = absurd cc
     updated_reached phase n u done insn (Some branch) e = update_of phase n u done insn branch (slice_get branch.updates u) e
 
@@ -140,21 +240,25 @@ module _ (clauses : Clauses) where
     asked_reached phase n m pushed insn None e = absurd cc
     asked_reached phase n m pushed insn (Some branch) e = held_reached phase n (m + 1) branch
 
-    kept_reached : (insn : BlockInsn) (o : Option Clause) → option_map (λ (k : Kind). store k base) (option_and_then (λ (c : Clause). c.result) o) ≡ Some insn → IsReached (kept_by mode o)
+    kept_reached : (insn : BlockInsn) (o : Option Clause)
+        → option_map (λ (k : Kind). store k base) (option_and_then (λ (c : Clause). c.result) o) ≡ Some insn → IsReached (kept_by mode o)
     kept_reached insn None e = absurd cc
     kept_reached insn (Some clause) e = behind_reached mode After clause
 
-    never_passes : (one insn : BlockInsn) → ◌≡◌ {A = Option BlockInsn} (Some one) (Some insn) → may_pass one ≡ false → may_pass insn ≡ true → ⊥
+    never_passes : (one insn : BlockInsn) → ◌≡◌ {A = Option BlockInsn} (Some one) (Some insn) → may_pass one ≡ false
+        → may_pass insn ≡ true → ⊥
     never_passes one insn e stays passes = false≢true (sym stays ∙ ap may_pass (some_is one insn e) ∙ passes)
 
-    pub next_reached : (role : Role) (insn : BlockInsn) → insn_of bools base clauses end to role ≡ Some insn → TakesLock role → may_pass insn ≡ true → IsReached (next mode clauses role)
+    pub next_reached : (role : Role) (insn : BlockInsn) → insn_of bools base clauses end to role ≡ Some insn → TakesLock role
+        → may_pass insn ≡ true → IsReached (next mode clauses role)
     next_reached (roles.Save zero) insn e takes passes = absurd cc
     next_reached (roles.Save (suc n)) insn e takes passes = saving_reached n
     next_reached (roles.Lock phase false) insn e takes passes = λ u. absurd cc
     next_reached (roles.Lock phase true) insn e takes passes = locked_reached phase (clause_in clauses phase) refl takes
     next_reached (roles.Ask phase n m zero) insn e takes passes = λ u. absurd cc
     next_reached (roles.Ask phase n m (suc zero)) insn e takes passes = λ u. absurd cc
-    next_reached (roles.Ask phase n m (suc (suc pushed))) insn e takes passes = asked_reached phase n m (suc (suc pushed)) insn (branch_at clauses phase n) e
+    next_reached (roles.Ask phase n m (suc (suc pushed))) insn e takes passes =
+        asked_reached phase n m (suc (suc pushed)) insn (branch_at clauses phase n) e
     next_reached (roles.Update phase n u done) insn e takes passes = updated_reached phase n u done insn (branch_at clauses phase n) e
     next_reached (roles.Taken phase n) insn e takes passes = absurd (never_passes (Jump GOTO to) insn e refl passes)
     next_reached (roles.Stop phase done) insn e takes passes = λ u. absurd cc
@@ -177,7 +281,8 @@ module _ (clauses : Clauses) where
     so : (role : Role) (one insn : BlockInsn) → ◌≡◌ {A = Option BlockInsn} (Some one) (Some insn) → jump_of one ≡ None → Lands role insn
     so role one insn e stays = inl (sym (ap jump_of (some_is one insn e)) ∙ stays)
 
-    each_stays : (f : Kind → BlockInsn) (o : Option Kind) (insn : BlockInsn) → ((k : Kind) → jump_of (f k) ≡ None) → option_map f o ≡ Some insn → jump_of insn ≡ None
+    each_stays : (f : Kind → BlockInsn) (o : Option Kind) (insn : BlockInsn) → ((k : Kind) → jump_of (f k) ≡ None)
+        → option_map f o ≡ Some insn → jump_of insn ≡ None
     each_stays f None insn stays e = absurd cc
     each_stays f (Some kind) insn stays e = sym (ap jump_of (some_is (f kind) insn e)) ∙ stays kind
 
@@ -191,7 +296,8 @@ module _ (clauses : Clauses) where
     update_lands role (suc (suc (suc zero))) (Add var by) insn e = so role _ insn e refl
     update_lands role (suc (suc (suc (suc done)))) (Add var by) insn e = absurd cc
 
-    update_in : (role : Role) (done : ℕ) (o : Option Update) (insn : BlockInsn) → option_and_then (update_insn bools done) o ≡ Some insn → Lands role insn
+    update_in : (role : Role) (done : ℕ) (o : Option Update) (insn : BlockInsn) → option_and_then (update_insn bools done) o ≡ Some insn
+        → Lands role insn
     update_in role done None insn e = absurd cc
     update_in role done (Some x) insn e = update_lands role done x insn e
 
@@ -246,7 +352,8 @@ module _ (clauses : Clauses) where
   loads_locks locked base n [] = tt
   loads_locks locked base n (kind ∷ others) = (tt, loads_locks locked base (n + 1) others)
 
-  asks_locks : (bools : List Bool) (base : ℕ) (phase : Phase) (branch n next : ℕ) (atoms : List Atom) → Locks (asks bools base phase branch n next atoms)
+  asks_locks : (bools : List Bool) (base : ℕ) (phase : Phase) (branch n next : ℕ) (atoms : List Atom)
+      → Locks (asks bools base phase branch n next atoms)
   asks_locks bools base phase branch n next [] = tt
   asks_locks bools base phase branch n next (atom ∷ atoms) =
       both (ask bools base phase branch n next atom) _ (tt, (tt, (tt, tt))) (asks_locks bools base phase branch (n + 1) next atoms)
@@ -257,19 +364,24 @@ module _ (clauses : Clauses) where
 
   writes_locks : (bools : List Bool) (phase : Phase) (branch n : ℕ) (updates : List Update) → Locks (writes bools phase branch n updates)
   writes_locks bools phase branch n [] = tt
-  writes_locks bools phase branch n (x ∷ updates) = both (write bools phase branch n x) _ (write_locks bools phase branch n x) (writes_locks bools phase branch (n + 1) updates)
+  writes_locks bools phase branch n (x ∷ updates) =
+      both (write bools phase branch n x) _ (write_locks bools phase branch n x) (writes_locks bools phase branch (n + 1) updates)
 
-  branches_locks : (bools : List Bool) (base : ℕ) (phase : Phase) (n at done : ℕ) (bs : List Branch) → Locks (branches bools base phase n at done bs)
+  branches_locks : (bools : List Bool) (base : ℕ) (phase : Phase) (n at done : ℕ) (bs : List Branch)
+      → Locks (branches bools base phase n at done bs)
   branches_locks bools base phase n at done [] = (tt, (tt, (tt, (tt, tt))))
   branches_locks bools base phase n at done (branch ∷ others) =
       both (tried bools base phase n (at + branch_size branch) done branch) _
-      (both (asks bools base phase n 0 (at + branch_size branch) branch.atoms) _ (asks_locks bools base phase n 0 (at + branch_size branch) branch.atoms)
+      (both (asks bools base phase n 0 (at + branch_size branch) branch.atoms) _
+      (asks_locks bools base phase n 0 (at + branch_size branch) branch.atoms)
       (both (writes bools phase n 0 branch.updates) _ (writes_locks bools phase n 0 branch.updates) (tt, tt)))
       (branches_locks bools base phase (n + 1) (at + branch_size branch) done others)
 
-  checked_locks : (bools : List Bool) (base at : ℕ) (clause : Clause) (later : List Item) → Locks later → Locks (checked bools base at clause later)
+  checked_locks : (bools : List Bool) (base at : ℕ) (clause : Clause) (later : List Item) → Locks later
+      → Locks (checked bools base at clause later)
   checked_locks bools base at clause later f =
-      both (check bools base at clause) _ (branches_locks bools base clause.phase 0 at (at + branches_size clause.branches) clause.branches) (reached_locks _ later f)
+      both (check bools base at clause) _
+      (branches_locks bools base clause.phase 0 at (at + branches_size clause.branches) clause.branches) (reached_locks _ later f)
 
   unlock_locks : (phase : Phase) (checked : Bool) (later : List Item) → Locks later → Locks (unlock phase checked ++ later)
   unlock_locks phase checked later f = (tt, (tt, f))
@@ -279,7 +391,8 @@ module _ (clauses : Clauses) where
   lock_locks After clause e = (ap is_some e, (ap is_some e, tt))
   lock_locks Exceptional clause e = (ap is_some e, (ap is_some e, tt))
 
-  released_locks : (phase : Phase) (clause : Clause) → clause_in clauses phase ≡ Some clause → clause.phase ≡ phase → (bools : List Bool) (base at : ℕ) (later : List Item)
+  released_locks : (phase : Phase) (clause : Clause) → clause_in clauses phase ≡ Some clause → clause.phase ≡ phase
+      → (bools : List Bool) (base at : ℕ) (later : List Item)
       → Locks later → Locks (released bools base at clause later)
   released_locks phase clause there for bools base at later f =
       both (lock clause.phase) _ (subst (λ (p : Phase). Locks (lock p)) (sym for) (lock_locks phase clause there))
@@ -291,10 +404,12 @@ module _ (clauses : Clauses) where
     front_locks Hold None e = (tt, (tt, tt))
     front_locks Release (Some clause) e =
         both (save base 0 clause.args) _ (save_locks base 0 clause.args)
-        (released_locks Before clause e (subst (λ (o : Option Clause). IfSome o (λ c. c.phase ≡ Before)) e phases.before) bools base (length clause.args) _ (loads_locks false base 0 clause.args))
+        (released_locks Before clause e (subst (λ (o : Option Clause). IfSome o (λ c. c.phase ≡ Before)) e phases.before) bools base
+        (length clause.args) _ (loads_locks false base 0 clause.args))
     front_locks Hold (Some clause) e =
         both (save base 0 clause.args) _ (save_locks base 0 clause.args)
-        (both (lock Before) _ (tt, (tt, tt)) (checked_locks bools base (length clause.args + 2) clause _ (loads_locks true base 0 clause.args)))
+        (both (lock Before) _ (tt, (tt, tt))
+        (checked_locks bools base (length clause.args + 2) clause _ (loads_locks true base 0 clause.args)))
 
     give_locks : (o : Option Kind) → Locks (give base o)
     give_locks None = tt
@@ -309,20 +424,24 @@ module _ (clauses : Clauses) where
     behind_locks Hold at None e = (tt, (tt, tt))
     behind_locks Release at (Some clause) e =
         both (keep false base clause.result) _ (keep_locks false clause.result)
-        (released_locks After clause e (subst (λ (o : Option Clause). IfSome o (λ c. c.phase ≡ After)) e phases.after) bools base _ _ (give_locks clause.result))
+        (released_locks After clause e (subst (λ (o : Option Clause). IfSome o (λ c. c.phase ≡ After)) e phases.after) bools base _ _
+        (give_locks clause.result))
     behind_locks Hold at (Some clause) e =
-        both (keep true base clause.result) _ (keep_locks true clause.result) (checked_locks bools base _ clause _ (unlock_locks After true _ (give_locks clause.result)))
+        both (keep true base clause.result) _ (keep_locks true clause.result)
+        (checked_locks bools base _ clause _ (unlock_locks After true _ (give_locks clause.result)))
 
     handler_locks : (mode : Mode) (at : ℕ) (o : Option Clause) → clauses.exceptional ≡ o → Locks (handler mode bools base at o)
     handler_locks Release at None e = tt
     handler_locks Hold at None e = (tt, (tt, (tt, tt)))
     handler_locks Release at (Some clause) e =
-        released_locks Exceptional clause e (subst (λ (o : Option Clause). IfSome o (λ c. c.phase ≡ Exceptional)) e phases.exceptional) bools base at rethrow (tt, tt)
+        released_locks Exceptional clause e
+        (subst (λ (o : Option Clause). IfSome o (λ c. c.phase ≡ Exceptional)) e phases.exceptional) bools base at rethrow (tt, tt)
     handler_locks Hold at (Some clause) e = checked_locks bools base at clause _ (unlock_locks Exceptional true rethrow (tt, tt))
 
     with_locks : (mode : Mode) (at : ℕ) → Locks (with_handler mode bools base at clauses)
     with_locks mode at =
-        both (if_reached (lets_pass clauses.after) _) (handler mode bools base at clauses.exceptional) (reached_locks (lets_pass clauses.after) _ (tt, tt))
+        both (if_reached (lets_pass clauses.after) _) (handler mode bools base at clauses.exceptional)
+        (reached_locks (lets_pass clauses.after) _ (tt, tt))
         (handler_locks mode at clauses.exceptional refl)
 
     caught_locks : (mode : Mode) (at : ℕ) (b : Bool) → Locks (cond b (with_handler mode bools base (at + 1) clauses) [])
@@ -339,12 +458,14 @@ module _ (clauses : Clauses) where
 
 -- ---- blocks
 
-landed : (there : ℕ → Role) (role : Role) (o : Option ℕ) → IfSome o (λ place. there place ≡ role) → (o ≡ None) ⊎ IsReached role → IfSome o (λ place. IsReached (there place))
+landed : (there : ℕ → Role) (role : Role) (o : Option ℕ) → IfSome o (λ place. there place ≡ role) → (o ≡ None) ⊎ IsReached role
+    → IfSome o (λ place. IsReached (there place))
 landed there role None h e = tt
 landed there role (Some place) h (inl e) = absurd cc
 landed there role (Some place) h (inr reached) = subst IsReached (sym h) reached
 
-handled : (there : ℕ → Role) (role : Role) (b : Bool) (o : Option ℕ) → is_some o ≡ b → (b ≡ true → IsReached role) → IfSome o (λ place. there place ≡ role) → IfSome o (λ place. IsReached (there place))
+handled : (there : ℕ → Role) (role : Role) (b : Bool) (o : Option ℕ) → is_some o ≡ b → (b ≡ true → IsReached role)
+    → IfSome o (λ place. there place ≡ role) → IfSome o (λ place. IsReached (there place))
 handled there role b None e reached h = tt
 handled there role b (Some place) e reached h = subst IsReached (sym h) (reached (sym e))
 
@@ -359,10 +480,14 @@ blocks_are_reached mode bools base clauses phases =
           let led = flows.goes at i there reached in
           let takes = all_get (λ (x : Item). TakesLock clauses x.role) all at i (items_locks clauses phases bools base mode) there in
           record {
-            passes = λ p. subst IsReached (sym (led.passes p)) (next_reached clauses mode bools base (length all) led.is.0 i.role i.insn led.is.1 takes p);
-            lands = landed (role_at all) (jumps mode clauses i.role) (jump_of i.insn) led.lands (lands clauses mode bools base (length all) led.is.0 i.role i.insn led.is.1);
+            passes =
+                λ p. subst IsReached (sym (led.passes p))
+                (next_reached clauses mode bools base (length all) led.is.0 i.role i.insn led.is.1 takes p);
+            lands = landed (role_at all) (jumps mode clauses i.role) (jump_of i.insn) led.lands
+                (lands clauses mode bools base (length all) led.is.0 i.role i.insn led.is.1);
           };
       caught =
-          λ e. handled (role_at all) (thrown mode clauses.exceptional) (catches mode clauses.exceptional) (handler_at mode bools base clauses) flows.handles
+          λ e. handled (role_at all) (thrown mode clauses.exceptional) (catches mode clauses.exceptional)
+          (handler_at mode bools base clauses) flows.handles
           (thrown_reached mode clauses.exceptional) (flows.caught e);
     }

@@ -1,5 +1,38 @@
 -- Lists of types: operands, of which some are on top, and locals, of which one is stored.
-use Rattle.std.proofs.Common.{◌≡◌, ℕ, zero, suc, ◌+◌, ◌-◌, ◌<◌, ◌≤◌, Bool, true, false, cond, List, [], ◌∷◌, ◌++◌, length, take, drop, replicate, refl, sym, ap, ◌∙◌, arith, length-append, length-drop, length-take-le, take-append-drop, take_all, inl, inr}
+use Rattle.std.proofs.Common.{
+  ◌≡◌,
+  ℕ,
+  zero,
+  suc,
+  ◌+◌,
+  ◌-◌,
+  ◌<◌,
+  ◌≤◌,
+  Bool,
+  true,
+  false,
+  cond,
+  List,
+  [],
+  ◌∷◌,
+  ◌++◌,
+  length,
+  take,
+  drop,
+  replicate,
+  refl,
+  sym,
+  ap,
+  ◌∙◌,
+  arith,
+  length-append,
+  length-drop,
+  length-take-le,
+  take-append-drop,
+  take_all,
+  inl,
+  inr,
+}
 use Rattle.std.specs.Prelude.{◌==◌, bytes_eq}
 use Rattle.std.proofs.lemmas.Bool.{cases_Bool, eq-eqb, false≢true, ne_eqb}
 use Rattle.std.proofs.lemmas.Bool.Decides.{nat_tests}
@@ -28,7 +61,8 @@ stack_itself program [] = refl
 stack_itself program (t ∷ stack) = rw (itself program t, stack_itself program stack) refl
 
 -- Locals that are those of the list, at each place that it has.
-pub locals_are : (program : Program) (f : ℕ → VType) (k : ℕ) (list : List VType) → ((j : ℕ) → j < length list → f (k + j) ≡ type_at list j) → locals_fit program f k list ≡ true
+pub locals_are : (program : Program) (f : ℕ → VType) (k : ℕ) (list : List VType)
+    → ((j : ℕ) → j < length list → f (k + j) ≡ type_at list j) → locals_fit program f k list ≡ true
 locals_are program f k [] same = refl
 locals_are program f k (t ∷ list) same =
     let first : f k ≡ t = ap f (sym (nothing k)) ∙ same 0 (omega arith) in
@@ -124,7 +158,8 @@ both_more j n =
     not_same j n differ e = false≢true (sym differ ∙ eq-eqb j n e)
 
 -- What is stored in a list of locals is stored behind others.
-pub stored_behind : (p x y : List VType) (n : ℕ) (t : VType) → ((j : ℕ) → cond (j == n) t (type_at x j) ≡ type_at y j) → (j : ℕ) → cond (j == length p + n) t (type_at (p ++ x) j) ≡ type_at (p ++ y) j
+pub stored_behind : (p x y : List VType) (n : ℕ) (t : VType) → ((j : ℕ) → cond (j == n) t (type_at x j) ≡ type_at y j) → (j : ℕ)
+    → cond (j == length p + n) t (type_at (p ++ x) j) ≡ type_at (p ++ y) j
 stored_behind [] x y n t same j =
     let nothing : length {A = VType} [] + n ≡ n = omega arith in
     ap (λ (m : ℕ). cond (j == m) t (type_at x j)) nothing ∙ same j
@@ -133,15 +168,18 @@ stored_behind (u ∷ p) x y n t same zero =
     ap (λ (m : ℕ). cond (zero == m) t u) more ∙ ap (λ (b : Bool). cond b t u) (before_more (length p + n))
 stored_behind (u ∷ p) x y n t same (suc j) =
     let more : length (u ∷ p) + n ≡ suc (length p + n) = omega arith in
-    ap (λ (m : ℕ). cond (suc j == m) t (type_at (p ++ x) j)) more ∙ ap (λ (b : Bool). cond b t (type_at (p ++ x) j)) (both_more j (length p + n))
+    ap (λ (m : ℕ). cond (suc j == m) t (type_at (p ++ x) j)) more
+    ∙ ap (λ (b : Bool). cond b t (type_at (p ++ x) j)) (both_more j (length p + n))
     ∙ stored_behind p x y n t same j
 
 -- It is stored in the last of those that have nothing.
-pub stored_last : (n : ℕ) (t : VType) (y : List VType) (j : ℕ) → cond (j == n) t (type_at (replicate (suc n) types.Top ++ y) j) ≡ type_at (replicate n types.Top ++ t ∷ y) j
+pub stored_last : (n : ℕ) (t : VType) (y : List VType) (j : ℕ)
+    → cond (j == n) t (type_at (replicate (suc n) types.Top ++ y) j) ≡ type_at (replicate n types.Top ++ t ∷ y) j
 stored_last zero t y zero = refl
 stored_last zero t y (suc j) = ap (λ (b : Bool). cond b t (type_at y j)) (more_than_none j)
 stored_last (suc n) t y zero = ap (λ (b : Bool). cond b t types.Top) (before_more n)
-stored_last (suc n) t y (suc j) = ap (λ (b : Bool). cond b t (type_at (replicate (suc n) types.Top ++ y) j)) (both_more j n) ∙ stored_last n t y j
+stored_last (suc n) t y (suc j) =
+    ap (λ (b : Bool). cond b t (type_at (replicate (suc n) types.Top ++ y) j)) (both_more j n) ∙ stored_last n t y j
 
 pub stored_new : (t : VType) (j : ℕ) → cond (j == 0) t (type_at [] j) ≡ type_at (t ∷ []) j
 stored_new t zero = refl

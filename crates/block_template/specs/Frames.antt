@@ -1,5 +1,26 @@
 -- The types before each instruction of a block, told of the types before its call and behind it.
-use Rattle.std.specs.Prelude.{ℕ, zero, suc, ◌-◌, Bool, true, false, if◌then◌else◌, codes, List, [], ◌∷◌, ◌++◌, length, map, drop, replicate, Option, Some, None}
+use Rattle.std.specs.Prelude.{
+  ℕ,
+  zero,
+  suc,
+  ◌-◌,
+  Bool,
+  true,
+  false,
+  if◌then◌else◌,
+  codes,
+  List,
+  [],
+  ◌∷◌,
+  ◌++◌,
+  length,
+  map,
+  drop,
+  replicate,
+  Option,
+  Some,
+  None,
+}
 use Rattle.std.specs.Option.{option_map_or}
 use Rattle.api_listing.specs.BuiltIn.{throwable}
 use Rattle.cert_format.specs.declared.typing.FrameType.{FrameType}
@@ -41,7 +62,8 @@ kept_types clauses around = topmost (kept_arguments clauses) around.before.stack
 
 -- Each argument that is kept has a local behind the client's; so many have none yet.
 abbrev pub saved_locals : Clauses → Around → ℕ → List VType
-saved_locals clauses around left = padded around.base around.before.locals ++ (replicate left types.Top ++ drop left (kept_types clauses around))
+saved_locals clauses around left =
+    padded around.base around.before.locals ++ (replicate left types.Top ++ drop left (kept_types clauses around))
 
 -- the result that the block keeps, in its local
 abbrev pub kept_result : Clauses → Around → List VType
@@ -59,7 +81,8 @@ frame locals stack = record { locals = locals; stack = stack }
 -- while a check of this phase is made
 abbrev pub phase_frame : Clauses → Around → Phase → FrameType
 phase_frame clauses around Before = frame (saved_locals clauses around 0) (below (kept_arguments clauses) around.before.stack)
-phase_frame clauses around After = frame (padded around.base around.after.locals ++ kept_result clauses around) (left_operands clauses around)
+phase_frame clauses around After =
+    frame (padded around.base around.after.locals ++ kept_result clauses around) (left_operands clauses around)
 phase_frame clauses around Exceptional = frame (map when_thrown (padded around.base around.before.locals)) (types.Ref throwable ∷ [])
 
 abbrev pub with_pushed : FrameType → List VType → FrameType
@@ -91,14 +114,16 @@ stop_pushed (suc (suc (suc done))) = types.Null ∷ []
 -- ---- a role
 
 abbrev pub frame_at : Clauses → Around → Role → Option FrameType
-frame_at clauses around (roles.Save left) = Some (frame (saved_locals clauses around left) (below (kept_arguments clauses - left) around.before.stack))
+frame_at clauses around (roles.Save left) =
+    Some (frame (saved_locals clauses around left) (below (kept_arguments clauses - left) around.before.stack))
 frame_at clauses around (roles.Lock phase pushed) = Some (with_pushed (phase_frame clauses around phase) (class_pushed pushed))
 frame_at clauses around (roles.Ask phase branch atom pushed) = Some (with_pushed (phase_frame clauses around phase) (numbers pushed))
 frame_at clauses around (roles.Update phase branch update done) = Some (with_pushed (phase_frame clauses around phase) (update_pushed done))
 frame_at clauses around (roles.Taken phase branch) = Some (phase_frame clauses around phase)
 frame_at clauses around (roles.Stop phase done) = Some (with_pushed (phase_frame clauses around phase) (stop_pushed done))
 frame_at clauses around (roles.Unlock phase checked pushed) = Some (with_pushed (phase_frame clauses around phase) (class_pushed pushed))
-frame_at clauses around (roles.Load n locked) = Some (frame (saved_locals clauses around 0) (below (kept_arguments clauses - n) around.before.stack))
+frame_at clauses around (roles.Load n locked) =
+    Some (frame (saved_locals clauses around 0) (below (kept_arguments clauses - n) around.before.stack))
 frame_at clauses around (roles.Call locked) = Some (frame (saved_locals clauses around 0) around.before.stack)
 frame_at clauses around (roles.Keep locked) = Some (frame (padded around.base around.after.locals) around.after.stack)
 frame_at clauses around roles.Give = Some (phase_frame clauses around After)

@@ -18,8 +18,11 @@ pub record GoesOn (there : ℕ → Role) (at : ℕ) (i : Item) : Type 0 where
 -- So it is in each block, of which the front is reached, and the handler where control may come to the call.
 pub record IsReachedWell (mode : Mode) (bools : List Bool) (base : ℕ) (clauses : Clauses) : Type 0 where
   pub begins : IsReached (role_at (items mode bools base clauses) 0)
-  pub goes : (at : ℕ) (i : Item) → slice_get (items mode bools base clauses) at ≡ Some i → IsReached i.role → GoesOn (role_at (items mode bools base clauses)) at i
-  pub caught : lets_pass clauses.before ≡ true → IfSome (handler_at mode bools base clauses) (λ place. IsReached (role_at (items mode bools base clauses) place))
+  pub goes : (at : ℕ) (i : Item) → slice_get (items mode bools base clauses) at ≡ Some i → IsReached i.role
+      → GoesOn (role_at (items mode bools base clauses)) at i
+  pub caught : lets_pass clauses.before ≡ true
+      → IfSome (handler_at mode bools base clauses) (λ place. IsReached (role_at (items mode bools base clauses) place))
 
 abbrev pub BlocksAreReached : Type 0
-BlocksAreReached = (mode : Mode) (bools : List Bool) (base : ℕ) (clauses : Clauses) → AreForPhases clauses → IsReachedWell mode bools base clauses
+BlocksAreReached =
+    (mode : Mode) (bools : List Bool) (base : ℕ) (clauses : Clauses) → AreForPhases clauses → IsReachedWell mode bools base clauses

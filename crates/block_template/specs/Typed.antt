@@ -1,5 +1,25 @@
 -- Each instruction of a block meets the rules of typing: the types before it are told by its role.
-use Rattle.std.specs.Prelude.{◌≡◌, ℕ, ◌+◌, ◌≤◌, ℤ, Bool, true, false, codes, List, [], ◌∷◌, length, map, Some, None, is_some, slice_get, IfSome}
+use Rattle.std.specs.Prelude.{
+  ◌≡◌,
+  ℕ,
+  ◌+◌,
+  ◌≤◌,
+  ℤ,
+  Bool,
+  true,
+  false,
+  codes,
+  List,
+  [],
+  ◌∷◌,
+  length,
+  map,
+  Some,
+  None,
+  is_some,
+  slice_get,
+  IfSome,
+}
 use Rattle.class_codec.specs.declared.tree.Const.{Const}
 use Rattle.cert_format.specs.declared.certificate.Mode.{Mode}
 use Rattle.cert_format.specs.declared.typing.FrameType.{FrameType}
@@ -17,7 +37,17 @@ use Rattle.bytecode_model.specs.declared.program.Program.{Program}
 use Rattle.bytecode_model.specs.declared.program.Target.TheVariants as target
 use Rattle.bytecode_model.specs.Makes.{local_after, stack_after, topmost, type_at}
 use Rattle.bytecode_model.specs.Place.{Place, desc_referred, name_referred}
-use Rattle.bytecode_model.specs.Rules.{Depth, Operand as TakesOperands, Local, Made, catches_well, goes_well, local_caught, locals_fit, taken}
+use Rattle.bytecode_model.specs.Rules.{
+  Depth,
+  Operand as TakesOperands,
+  Local,
+  Made,
+  catches_well,
+  goes_well,
+  local_caught,
+  locals_fit,
+  taken,
+}
 use Rattle.bytecode_model.specs.Wants.{Want, all_met, of_kind, takes}
 use Rattle.conspec_tree.specs.declared.types.Kind.{Kind}
 use Rattle.conspec_tree.specs.declared.types.Kind.TheVariants as kinds
@@ -34,7 +64,19 @@ use Rattle.block_template.specs.declared.item.Item.{Item}
 use Rattle.block_template.specs.declared.item.Role.{Role}
 use Rattle.block_template.specs.declared.item.Role.TheVariants as roles
 use Rattle.block_template.specs.Blocks.{Clauses, items, kept}
-use Rattle.block_template.specs.Flow.{AreForPhases, clause_in, insn_of, jump_of, jumps, may_pass, next, result_in, returned, role_at, thrown}
+use Rattle.block_template.specs.Flow.{
+  AreForPhases,
+  clause_in,
+  insn_of,
+  jump_of,
+  jumps,
+  may_pass,
+  next,
+  result_in,
+  returned,
+  role_at,
+  thrown,
+}
 use Rattle.block_template.specs.Frames.{Around, argument_kinds, frame_at, kept_arguments, kept_types}
 use Rattle.block_template.specs.Reached.{IsReached}
 
@@ -99,7 +141,8 @@ pub record IsTyped (mode : Mode) (clauses : Clauses) (around : Around) (role : R
   pub local : Local place types ≡ true
   pub made : Made place types ≡ true
   pub passes : may_pass insn ≡ true → IfSome (frame_at clauses around (next mode clauses role)) (λ to. goes_well place types to ≡ true)
-  pub lands : is_some (jump_of insn) ≡ true → IfSome (frame_at clauses around (jumps mode clauses role)) (λ to. goes_well place types to ≡ true)
+  pub lands : is_some (jump_of insn) ≡ true
+      → IfSome (frame_at clauses around (jumps mode clauses role)) (λ to. goes_well place types to ≡ true)
 
 -- So it is of each role that has an instruction; the call itself is the client's.
 abbrev pub BlocksAreTyped : Type 0
@@ -136,7 +179,8 @@ client_locals around roles.Unreached = []
 -- What takes the client's locals where they are caught takes those of each instruction of the block.
 abbrev pub CatchesAreTyped : Type 0
 CatchesAreTyped =
-    (program : Program) (clauses : Clauses) (around : Around) (role : Role) (types : FrameType) (to : List VType) → frame_at clauses around role ≡ Some types
+    (program : Program) (clauses : Clauses) (around : Around) (role : Role) (types : FrameType) (to : List VType)
+    → frame_at clauses around role ≡ Some types
     → locals_fit program (local_caught (client_locals around role)) 0 to ≡ true → locals_fit program (local_caught types.locals) 0 to ≡ true
 
 -- ---- the call
@@ -158,7 +202,8 @@ pub record CallIsTyped (mode : Mode) (clauses : Clauses) (around : Around) (lock
   pub local : Local place types ≡ true
   pub made : Made place around.before ≡ true → Made place types ≡ true
   pub returns : IfSome (frame_at clauses around (returned mode clauses.after)) (λ to. goes_well place types to ≡ true)
-  pub throws : (handler : Handler) → handler.class ≡ None → IfSome (frame_at clauses around (thrown mode clauses.exceptional)) (λ to. catches_well place types handler to ≡ true)
+  pub throws : (handler : Handler) → handler.class ≡ None
+      → IfSome (frame_at clauses around (thrown mode clauses.exceptional)) (λ to. catches_well place types handler to ≡ true)
 
 abbrev pub CallsAreTyped : Type 0
 CallsAreTyped =
