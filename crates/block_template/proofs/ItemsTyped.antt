@@ -1,17 +1,25 @@
 -- Each instruction of a block that is reached meets the rules of typing.
-use Rattle.std.proofs.Common.{◌≡◌, ℕ, ◌+◌, true, List, Option, Some, None, is_some, refl, sym, subst, length}
-use Rattle.std.specs.Prelude.{IfSome}
+use Rattle.std.specs.Option.{option_map_or}
+use Rattle.std.proofs.lemmas.Option.{IfSome_then}
+use Rattle.conspec_tree.specs.declared.types.Phase.{Phase}
+use Rattle.conspec_tree.specs.declared.types.Phase.TheVariants.{Before, After, Exceptional}
+use Rattle.conspec_automaton.specs.declared.policy.Clause.{Clause}
+use Rattle.conspec_automaton.specs.declared.policy.Policy.{Policy}
+use Rattle.conspec_automaton.specs.Sound.{IsClauseIn, IsPolicy}
+use Rattle.block_template.proofs.Policies.{clause_is}
+use Rattle.std.proofs.Common.{◌≡◌, ℕ, ◌+◌, true, List, Option, Some, None, is_some, refl, sym, subst, length, ◌≤◌, [], arith}
+use Rattle.std.specs.Prelude.{IfSome, option_and_then}
 use Rattle.cert_format.specs.declared.typing.FrameType.{FrameType}
 use Rattle.bytecode_model.specs.Place.{Place}
 use Rattle.bytecode_model.specs.Rules.{goes_well}
 use Rattle.block_template.specs.declared.item.Item.{Item}
 use Rattle.block_template.specs.declared.item.Role.{Role}
 use Rattle.block_template.specs.declared.item.Role.TheVariants as roles
-use Rattle.block_template.specs.Blocks.{Clauses, items}
+use Rattle.block_template.specs.Blocks.{Clauses, clause_at, clauses_of, items, kept, locals_used}
 use Rattle.block_template.specs.Flow.{jump_of, jumps, next, role_at}
 use Rattle.block_template.specs.Frames.{Around, frame_at}
 use Rattle.block_template.specs.Reached.{IsReached}
-use Rattle.block_template.specs.Typed.{GoesTo, ItemsAreTyped}
+use Rattle.block_template.specs.Typed.{AreAsked, AreClausesIn, ClausesAreAsked, GoesTo, ItemsAreTyped}
 use Rattle.block_template.proofs.BlockFlows.{blocks_flow}
 use Rattle.block_template.proofs.Reaching.{blocks_are_reached}
 use Rattle.block_template.proofs.RolesTyped.{blocks_are_typed}
@@ -74,3 +82,41 @@ items_are_typed mode bools vars maxint clauses around phases known fits at i the
       lands = lands_at clauses around place row.types (jumps mode clauses i.role) (role_at all)
           (jump_of i.insn) led.lands goes.lands row.lands;
     }
+
+-- ---- the clauses of a policy
+
+module _ (policy : Policy) (method : ℕ) (read : IsPolicy policy) where
+  abbrev found : Phase → Option Clause
+  found phase = clause_at policy method phase
+
+  phase_of : (phase : Phase) → IfSome (found phase) (λ c. c.phase ≡ phase)
+  phase_of phase = IfSome_then (found phase) (clause_is policy method phase read) (λ c is. is.phase_is)
+
+  clause_of : (phase : Phase) → IfSome (found phase) (IsClauseIn policy.vars policy.maxint)
+  clause_of phase = IfSome_then (found phase) (clause_is policy method phase read) (λ c is. is.fits)
+
+  clause_in_policy : AreClausesIn policy.vars policy.maxint (clauses_of policy method)
+  clause_in_policy Before = clause_of Before
+  clause_in_policy After = clause_of After
+  clause_in_policy Exceptional = clause_of Exceptional
+
+  arguments_kept : (o : Option Clause) (most : ℕ) → option_map_or (λ (c : Clause). length c.args) o 0 ≤ most
+      → length (option_map_or (λ (c : Clause). c.args) o []) ≤ most
+  arguments_kept None most few = omega arith
+  arguments_kept (Some clause) most few = few
+
+  result_kept : (o : Option Clause) (most : ℕ) → option_map_or (λ (c : Clause). kept c.result) o 0 ≤ most
+      → kept (option_and_then (λ (c : Clause). c.result) o) ≤ most
+  result_kept None most few = omega arith
+  result_kept (Some clause) most few = few
+
+  pub asked : AreAsked policy method
+  asked = record {
+    phases = record { before = phase_of Before; after = phase_of After; exceptional = phase_of Exceptional };
+    clauses = clause_in_policy;
+    arguments = arguments_kept (found Before) (locals_used policy method) (omega arith);
+    result = result_kept (found After) (locals_used policy method) (omega arith);
+  }
+
+pub clauses_are_asked : ClausesAreAsked
+clauses_are_asked policy method read = asked policy method read

@@ -54,7 +54,8 @@ use Rattle.conspec_tree.specs.declared.types.Kind.TheVariants as kinds
 use Rattle.conspec_tree.specs.declared.types.Phase.{Phase}
 use Rattle.conspec_tree.specs.declared.types.Phase.TheVariants.{Before, After, Exceptional}
 use Rattle.conspec_tree.specs.declared.types.Var.{Var}
-use Rattle.conspec_automaton.specs.Sound.{IsClauseIn}
+use Rattle.conspec_automaton.specs.declared.policy.Policy.{Policy}
+use Rattle.conspec_automaton.specs.Sound.{IsClauseIn, IsPolicy}
 use Rattle.offset_patch.specs.declared.block.BlockInsn.{BlockInsn}
 use Rattle.offset_patch.specs.declared.block.PoolWant.{PoolWant}
 use Rattle.offset_patch.specs.declared.block.PoolWant.TheVariants.{StateClass, StateField, Exit, Integer}
@@ -63,7 +64,7 @@ use Rattle.offset_patch.specs.Splicing.{is_call, operands_needed, put, want_of}
 use Rattle.block_template.specs.declared.item.Item.{Item}
 use Rattle.block_template.specs.declared.item.Role.{Role}
 use Rattle.block_template.specs.declared.item.Role.TheVariants as roles
-use Rattle.block_template.specs.Blocks.{Clauses, items, kept}
+use Rattle.block_template.specs.Blocks.{Clauses, clauses_of, items, kept, locals_used}
 use Rattle.block_template.specs.Flow.{
   AreForPhases,
   clause_in,
@@ -236,3 +237,15 @@ ItemsAreTyped =
     → (at : ℕ) (i : Item) → slice_get (items mode bools around.base clauses) at ≡ Some i → IsReached i.role → is_call i.insn ≡ false
     → (place : Place) → Stands i.insn place → HasRoom clauses around place.method
     → ItemIsTyped clauses around (role_at (items mode bools around.base clauses)) at i place
+
+-- ---- the clauses of a policy
+
+-- Those of a method are such as the laws above ask for, and the locals that its blocks use hold what is kept.
+pub record AreAsked (policy : Policy) (method : ℕ) : Type 0 where
+  pub phases : AreForPhases (clauses_of policy method)
+  pub clauses : AreClausesIn policy.vars policy.maxint (clauses_of policy method)
+  pub arguments : kept_arguments (clauses_of policy method) ≤ locals_used policy method
+  pub result : kept (result_in (clauses_of policy method)) ≤ locals_used policy method
+
+abbrev pub ClausesAreAsked : Type 0
+ClausesAreAsked = (policy : Policy) (method : ℕ) → IsPolicy policy → AreAsked policy method

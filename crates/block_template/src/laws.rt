@@ -4,7 +4,13 @@ ghost use Rattle.block_template.specs.Denial.{DenialIsBlock};
 ghost use Rattle.block_template.specs.Flow.{BlocksFlow};
 ghost use Rattle.block_template.specs.Good.{PlansAreGood};
 ghost use Rattle.block_template.specs.Reached.{BlocksAreReached};
-ghost use Rattle.block_template.specs.Typed.{BlocksAreTyped, CallsAreTyped, CatchesAreTyped, ItemsAreTyped};
+ghost use Rattle.block_template.specs.Typed.{
+  BlocksAreTyped,
+  CallsAreTyped,
+  CatchesAreTyped,
+  ClausesAreAsked,
+  ItemsAreTyped,
+};
 
 /// In mode release a policy that denies calls outright stops the program before each call that it names.
 pub fn denial_is_block()
@@ -47,4 +53,9 @@ pub fn calls_are_typed()
 /// where it jumps, has types that take what it leaves.
 pub fn items_are_typed()
     ensures { ItemsAreTyped }
+{}
+
+/// The clauses of each policy that was read are such as these laws ask for.
+pub fn clauses_are_asked()
+    ensures { ClausesAreAsked }
 {}
