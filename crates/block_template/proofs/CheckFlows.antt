@@ -128,7 +128,7 @@ pub load_stays : (kind : Kind) (slot : ℕ) → Stays (load kind slot)
 load_stays kinds.Object slot = local_stays ALOAD_0 ALOAD slot
 load_stays kind slot = local_stays ILOAD_0 ILOAD slot
 
-base_stays : (bools : List Bool) (base : ℕ) (asked : Base) → Stays (push_base bools base asked)
+pub base_stays : (bools : List Bool) (base : ℕ) (asked : Base) → Stays (push_base bools base asked)
 base_stays bools base (bases.Var var) = refl
 base_stays bools base (bases.Arg i) = local_stays ILOAD_0 ILOAD (base + i)
 base_stays bools base bases.Result = local_stays ILOAD_0 ILOAD base

@@ -10,3 +10,11 @@ pub mod Laying
 pub mod CheckFlows
 pub mod PartFlows
 pub mod BlockFlows
+pub mod Types
+pub mod Acting
+pub mod Doing
+pub mod FramesAt
+pub mod RolesTyped
+pub mod CatchesTyped
+pub mod Reaching
+pub mod ItemsTyped

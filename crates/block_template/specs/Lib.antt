@@ -5,3 +5,6 @@ pub mod Denial
 pub mod Room
 pub mod Good
 pub mod Flow
+pub mod Reached
+pub mod Frames
+pub mod Typed

@@ -3,6 +3,14 @@
 ghost use Rattle.block_template.specs.Denial.{DenialIsBlock};
 ghost use Rattle.block_template.specs.Flow.{BlocksFlow};
 ghost use Rattle.block_template.specs.Good.{PlansAreGood};
+ghost use Rattle.block_template.specs.Reached.{BlocksAreReached};
+ghost use Rattle.block_template.specs.Typed.{
+  BlocksAreTyped,
+  CallsAreTyped,
+  CatchesAreTyped,
+  ClausesAreAsked,
+  ItemsAreTyped,
+};
 
 /// In mode release a policy that denies calls outright stops the program before each call that it names.
 pub fn denial_is_block()
@@ -18,4 +26,36 @@ pub fn plans_are_good()
 /// stands behind it and where it jumps have the roles that the graph tells, and so have the block's front and its handler.
 pub fn blocks_flow()
     ensures { BlocksFlow }
+{}
+
+/// From an instruction of a block that is reached control comes to such alone.
+pub fn blocks_are_reached()
+    ensures { BlocksAreReached }
+{}
+
+/// Each instruction of a block meets the rules of typing, with the types that its role tells of those before the call and behind
+/// it, in a method with room for them; what comes behind it takes what it leaves, and so does what it jumps to.
+pub fn blocks_are_typed()
+    ensures { BlocksAreTyped }
+{}
+
+/// What takes the client's locals as they are caught before the call, or behind it, takes those of each instruction of a block.
+pub fn catches_are_typed()
+    ensures { CatchesAreTyped }
+{}
+
+/// The call itself meets the rules in its block where it did without, and what comes where it returns or throws takes what it leaves.
+pub fn calls_are_typed()
+    ensures { CallsAreTyped }
+{}
+
+/// Each instruction of a block that is reached, but the call, meets the rules with the types of its role; what stands behind it, or
+/// where it jumps, has types that take what it leaves.
+pub fn items_are_typed()
+    ensures { ItemsAreTyped }
+{}
+
+/// The clauses of each policy that was read are such as these laws ask for.
+pub fn clauses_are_asked()
+    ensures { ClausesAreAsked }
 {}

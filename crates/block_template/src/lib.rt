@@ -16,5 +16,8 @@ mod pushing;
 
 pub use blocks::{block, items, locals_used};
 pub use item::{Item, Role};
-pub use laws::{blocks_flow, denial_is_block, plans_are_good};
+pub use laws::{
+    blocks_are_reached, blocks_are_typed, blocks_flow, calls_are_typed, catches_are_typed,
+    clauses_are_asked, denial_is_block, items_are_typed, plans_are_good,
+};
 pub use plan::PolicyPlan;

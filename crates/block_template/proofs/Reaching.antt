@@ -1,0 +1,493 @@
+-- From what is reached in a block control comes to what is reached alone.
+use Rattle.std.proofs.Common.{
+  ◌≡◌,
+  ℕ,
+  zero,
+  suc,
+  ◌+◌,
+  Bool,
+  true,
+  false,
+  cond,
+  List,
+  [],
+  ◌∷◌,
+  ◌++◌,
+  length,
+  map,
+  Option,
+  Some,
+  None,
+  refl,
+  sym,
+  ap,
+  subst,
+  ◌∙◌,
+  ◌⊎◌,
+  inl,
+  inr,
+}
+use Rattle.std.specs.Prelude.{IfSome, is_some, option_and_then, option_map, slice_get, ⊤}
+use Rattle.std.specs.List.{AllByRecursion}
+use Rattle.std.specs.Option.{option_map_or}
+use Rattle.std.proofs.lemmas.Bool.{false≢true}
+use Rattle.cert_format.specs.declared.certificate.Mode.{Mode}
+use Rattle.cert_format.specs.declared.certificate.Mode.TheVariants.{Hold, Release}
+use Rattle.conspec_tree.specs.declared.types.Atom.{Atom}
+use Rattle.conspec_tree.specs.declared.types.Kind.{Kind}
+use Rattle.conspec_tree.specs.declared.types.Phase.{Phase}
+use Rattle.conspec_tree.specs.declared.types.Phase.TheVariants.{Before, After, Exceptional}
+use Rattle.conspec_tree.specs.declared.types.Update.{Update}
+use Rattle.conspec_tree.specs.declared.types.Update.TheVariants.{Set, Add}
+use Rattle.conspec_automaton.specs.declared.policy.Branch.{Branch}
+use Rattle.conspec_automaton.specs.declared.policy.Clause.{Clause}
+use Rattle.bytecode_model.proofs.Lists.{all_get, some_is}
+use Rattle.offset_patch.specs.declared.block.BlockInsn.{BlockInsn}
+use Rattle.offset_patch.specs.declared.block.BlockInsn.TheVariants.{Plain, Jump}
+use Rattle.insn_codec.specs.declared.opcodes.TheConstants.{GOTO, ATHROW}
+use Rattle.block_template.specs.declared.item.Item.{Item}
+use Rattle.block_template.specs.declared.item.Role.{Role}
+use Rattle.block_template.specs.declared.item.Role.TheVariants as roles
+use Rattle.block_template.specs.Blocks.{
+  Clauses,
+  behind,
+  catches,
+  called,
+  checked,
+  from_call,
+  front,
+  lets_pass,
+  handler,
+  handler_at,
+  items,
+  released,
+  rethrow,
+  with_handler,
+}
+use Rattle.block_template.specs.Flow.{
+  AreForPhases,
+  ask_insn,
+  branch_at,
+  branches_in,
+  check_behind,
+  checked_in,
+  clause_in,
+  entered,
+  held,
+  insn_of,
+  jump_of,
+  jumps,
+  kept_by,
+  loading,
+  locked_for,
+  made,
+  may_pass,
+  next,
+  returned,
+  role_at,
+  saving,
+  stop_insn,
+  thrown,
+  tries,
+  unlocked_in,
+  update_at,
+  update_goes,
+  update_insn,
+  updated,
+}
+use Rattle.block_template.specs.Parts.{
+  ask,
+  asks,
+  branch_size,
+  branches,
+  branches_size,
+  check,
+  give,
+  if_reached,
+  keep,
+  loads,
+  lock,
+  save,
+  tried,
+  unlock,
+  unreached,
+  write,
+  writes,
+}
+use Rattle.block_template.specs.Pushing.{load, store}
+use Rattle.block_template.specs.Reached.{BlocksAreReached, IsReached}
+use Rattle.block_template.proofs.BlockFlows.{blocks_flow}
+use Rattle.block_template.proofs.CheckFlows.{load_stays, push_stays, store_stays}
+
+-- ---- roles that come first
+
+made_of : (phase : Phase) (n u : ℕ) (o : Option Update)
+    → IsReached (option_map_or (λ (x : Update). roles.Update phase n u 0) o (roles.Taken phase n))
+made_of phase n u None = λ e. absurd cc
+made_of phase n u (Some x) = λ e. absurd cc
+
+made_reached : (phase : Phase) (n u : ℕ) (branch : Branch) → IsReached (made phase n u branch)
+made_reached phase n u branch = made_of phase n u (slice_get branch.updates u)
+
+held_of : (phase : Phase) (n a : ℕ) (branch : Branch) (o : Option Atom)
+    → IsReached (option_map_or (λ (x : Atom). roles.Ask phase n a 0) o (made phase n 0 branch))
+held_of phase n a branch None = made_reached phase n 0 branch
+held_of phase n a branch (Some x) = λ e. absurd cc
+
+held_reached : (phase : Phase) (n a : ℕ) (branch : Branch) → IsReached (held phase n a branch)
+held_reached phase n a branch = held_of phase n a branch (slice_get branch.atoms a)
+
+tries_of : (phase : Phase) (n : ℕ) (o : Option Branch) → IsReached (option_map_or (held phase n 0) o (roles.Stop phase 0))
+tries_of phase n None = λ e. absurd cc
+tries_of phase n (Some branch) = held_reached phase n 0 branch
+
+tries_reached : (phase : Phase) (n : ℕ) (bs : List Branch) → IsReached (tries phase n bs)
+tries_reached phase n bs = tries_of phase n (slice_get bs n)
+
+saving_reached : (n : ℕ) → IsReached (saving n)
+saving_reached zero = λ e. absurd cc
+saving_reached (suc n) = λ e. absurd cc
+
+behind_reached : (mode : Mode) (phase : Phase) (clause : Clause) → IsReached (check_behind mode phase clause)
+behind_reached Release phase clause = λ e. absurd cc
+behind_reached Hold phase clause = tries_reached phase 0 clause.branches
+
+either : (b : Bool) (x y : Role) → IsReached x → IsReached y → IsReached (cond b x y)
+either true x y p q = p
+either false x y p q = q
+
+returned_reached : (mode : Mode) (o : Option Clause) → IsReached (returned mode o)
+returned_reached Release None = λ e. absurd cc
+returned_reached Hold None = λ e. absurd cc
+returned_reached Release (Some clause) =
+    either (is_some clause.result) (roles.Keep false) (check_behind Release After clause) (λ e. absurd cc)
+    (behind_reached Release After clause)
+returned_reached Hold (Some clause) =
+    either (is_some clause.result) (roles.Keep true) (check_behind Hold After clause) (λ e. absurd cc) (behind_reached Hold After clause)
+
+entered_reached : (mode : Mode) (o : Option Clause) → IsReached (entered mode o)
+entered_reached Release None = λ e. absurd cc
+entered_reached Hold None = λ e. absurd cc
+entered_reached Release (Some clause) = saving_reached (length clause.args)
+entered_reached Hold (Some clause) = saving_reached (length clause.args)
+
+thrown_reached : (mode : Mode) (o : Option Clause) → catches mode o ≡ true → IsReached (thrown mode o)
+thrown_reached Release None e = absurd (false≢true e)
+thrown_reached Hold None e = λ u. absurd cc
+thrown_reached Release (Some clause) e = behind_reached Release Exceptional clause
+thrown_reached Hold (Some clause) e = behind_reached Hold Exceptional clause
+
+module _ (clauses : Clauses) where
+  loading_of : (n : ℕ) (locked : Bool) (o : Option Kind)
+      → IsReached (option_map_or (λ (k : Kind). roles.Load n locked) o (roles.Call locked))
+  loading_of n locked None = λ e. absurd cc
+  loading_of n locked (Some kind) = λ e. absurd cc
+
+  loading_reached : (n : ℕ) (locked : Bool) → IsReached (loading clauses n locked)
+  loading_reached n locked = loading_of n locked _
+
+  checked_reached : (mode : Mode) (phase : Phase) → IsReached (checked_in mode clauses phase)
+  checked_reached Release phase = λ e. absurd cc
+  checked_reached Hold Before = loading_reached 0 true
+  checked_reached Hold After = λ e. absurd cc
+  checked_reached Hold Exceptional = λ e. absurd cc
+
+  unlocked_reached : (phase : Phase) → IsReached (unlocked_in clauses phase)
+  unlocked_reached Before = loading_reached 0 false
+  unlocked_reached After = either _ roles.Give roles.Leave (λ e. absurd cc) (λ e. absurd cc)
+  unlocked_reached Exceptional = λ e. absurd cc
+
+  -- ---- locks
+
+  -- A lock is taken for a check, or before the call.
+  abbrev pub TakesLock : Role → Type 0
+  TakesLock (roles.Lock Before pushed) = ⊤
+  TakesLock (roles.Lock After pushed) = is_some clauses.after ≡ true
+  TakesLock (roles.Lock Exceptional pushed) = is_some clauses.exceptional ≡ true
+  TakesLock other = ⊤
+
+  locked_reached : (phase : Phase) (o : Option Clause) → clause_in clauses phase ≡ o → TakesLock (roles.Lock phase true)
+      → IsReached (locked_for o phase)
+  locked_reached phase (Some clause) e takes = tries_reached phase 0 clause.branches
+  locked_reached Before None e takes = λ u. absurd cc
+  locked_reached After None e takes = absurd (false≢true (sym (ap is_some e) ∙ takes))
+  locked_reached Exceptional None e takes = absurd (false≢true (sym (ap is_some e) ∙ takes))
+
+  -- ---- what comes next
+
+  module _ (mode : Mode) (bools : List Bool) (base end to : ℕ) where
+    passing : {X : Type 0} → false ≡ true → X
+    passing e = absurd (false≢true e)
+
+    goes_by : (phase : Phase) (n u done : ℕ) (branch : Branch) (x : Update) → IsReached (update_goes phase n u done branch (Some x))
+    goes_by phase n u done branch x =
+        either _ (made phase n (u + 1) branch) (roles.Update phase n u (done + 1)) (made_reached phase n (u + 1) branch) (λ e. absurd cc)
+
+    update_of : (phase : Phase) (n u done : ℕ) (insn : BlockInsn) (branch : Branch) (o : Option Update)
+        → option_and_then (update_insn bools done) o ≡ Some insn → IsReached (update_goes phase n u done branch o)
+    update_of phase n u done insn branch None e = absurd cc
+    update_of phase n u done insn branch (Some x) e = goes_by phase n u done branch x
+
+    updated_reached : (phase : Phase) (n u done : ℕ) (insn : BlockInsn) (o : Option Branch)
+        → option_and_then (update_insn bools done) (option_and_then (λ (b : Branch). slice_get b.updates u) o) ≡ Some insn
+        → IsReached (updated phase n u done o)
+    updated_reached phase n u done insn None e = absurd cc
+    updated_reached phase n u done insn (Some branch) e = update_of phase n u done insn branch (slice_get branch.updates u) e
+
+    asked_reached : (phase : Phase) (n m pushed : ℕ) (insn : BlockInsn) (o : Option Branch)
+        → option_and_then (ask_insn bools base to pushed) (option_and_then (λ (b : Branch). slice_get b.atoms m) o) ≡ Some insn
+        → IsReached (option_map_or (held phase n (m + 1)) o roles.Unreached)
+    asked_reached phase n m pushed insn None e = absurd cc
+    asked_reached phase n m pushed insn (Some branch) e = held_reached phase n (m + 1) branch
+
+    kept_reached : (insn : BlockInsn) (o : Option Clause)
+        → option_map (λ (k : Kind). store k base) (option_and_then (λ (c : Clause). c.result) o) ≡ Some insn → IsReached (kept_by mode o)
+    kept_reached insn None e = absurd cc
+    kept_reached insn (Some clause) e = behind_reached mode After clause
+
+    never_passes : (one insn : BlockInsn) → ◌≡◌ {A = Option BlockInsn} (Some one) (Some insn) → may_pass one ≡ false
+        → may_pass insn ≡ true → ⊥
+    never_passes one insn e stays passes = false≢true (sym stays ∙ ap may_pass (some_is one insn e) ∙ passes)
+
+    pub next_reached : (role : Role) (insn : BlockInsn) → insn_of bools base clauses end to role ≡ Some insn → TakesLock role
+        → may_pass insn ≡ true → IsReached (next mode clauses role)
+    next_reached (roles.Save zero) insn e takes passes = absurd cc
+    next_reached (roles.Save (suc n)) insn e takes passes = saving_reached n
+    next_reached (roles.Lock phase false) insn e takes passes = λ u. absurd cc
+    next_reached (roles.Lock phase true) insn e takes passes = locked_reached phase (clause_in clauses phase) refl takes
+    next_reached (roles.Ask phase n m zero) insn e takes passes = λ u. absurd cc
+    next_reached (roles.Ask phase n m (suc zero)) insn e takes passes = λ u. absurd cc
+    next_reached (roles.Ask phase n m (suc (suc pushed))) insn e takes passes =
+        asked_reached phase n m (suc (suc pushed)) insn (branch_at clauses phase n) e
+    next_reached (roles.Update phase n u done) insn e takes passes = updated_reached phase n u done insn (branch_at clauses phase n) e
+    next_reached (roles.Taken phase n) insn e takes passes = absurd (never_passes (Jump GOTO to) insn e refl passes)
+    next_reached (roles.Stop phase done) insn e takes passes = λ u. absurd cc
+    next_reached (roles.Unlock phase checked false) insn e takes passes = λ u. absurd cc
+    next_reached (roles.Unlock phase checked true) insn e takes passes = unlocked_reached phase
+    next_reached (roles.Load n locked) insn e takes passes = loading_reached (n + 1) locked
+    next_reached (roles.Call locked) insn e takes passes = returned_reached mode clauses.after
+    next_reached (roles.Keep locked) insn e takes passes = kept_reached insn clauses.after e
+    next_reached roles.Give insn e takes passes = λ u. absurd cc
+    next_reached roles.Leave insn e takes passes = absurd (never_passes (Jump GOTO end) insn e refl passes)
+    next_reached roles.Rethrow insn e takes passes = absurd (never_passes (Plain ATHROW) insn e refl passes)
+    next_reached roles.Unreached insn e takes passes = absurd cc
+
+    -- ---- where it jumps
+
+    -- It does not jump, or to what is reached.
+    abbrev Lands : Role → BlockInsn → Type 0
+    Lands role insn = (jump_of insn ≡ None) ⊎ IsReached (jumps mode clauses role)
+
+    so : (role : Role) (one insn : BlockInsn) → ◌≡◌ {A = Option BlockInsn} (Some one) (Some insn) → jump_of one ≡ None → Lands role insn
+    so role one insn e stays = inl (sym (ap jump_of (some_is one insn e)) ∙ stays)
+
+    each_stays : (f : Kind → BlockInsn) (o : Option Kind) (insn : BlockInsn) → ((k : Kind) → jump_of (f k) ≡ None)
+        → option_map f o ≡ Some insn → jump_of insn ≡ None
+    each_stays f None insn stays e = absurd cc
+    each_stays f (Some kind) insn stays e = sym (ap jump_of (some_is (f kind) insn e)) ∙ stays kind
+
+    update_lands : (role : Role) (done : ℕ) (x : Update) (insn : BlockInsn) → update_insn bools done x ≡ Some insn → Lands role insn
+    update_lands role zero (Set var value) insn e = so role _ insn e (push_stays value)
+    update_lands role (suc zero) (Set var value) insn e = so role _ insn e refl
+    update_lands role (suc (suc done)) (Set var value) insn e = absurd cc
+    update_lands role zero (Add var by) insn e = so role _ insn e refl
+    update_lands role (suc zero) (Add var by) insn e = so role _ insn e (push_stays by)
+    update_lands role (suc (suc zero)) (Add var by) insn e = so role _ insn e refl
+    update_lands role (suc (suc (suc zero))) (Add var by) insn e = so role _ insn e refl
+    update_lands role (suc (suc (suc (suc done)))) (Add var by) insn e = absurd cc
+
+    update_in : (role : Role) (done : ℕ) (o : Option Update) (insn : BlockInsn) → option_and_then (update_insn bools done) o ≡ Some insn
+        → Lands role insn
+    update_in role done None insn e = absurd cc
+    update_in role done (Some x) insn e = update_lands role done x insn e
+
+    stop_lands : (role : Role) (done : ℕ) (insn : BlockInsn) → stop_insn done ≡ Some insn → Lands role insn
+    stop_lands role zero insn e = so role _ insn e refl
+    stop_lands role (suc zero) insn e = so role _ insn e refl
+    stop_lands role (suc (suc zero)) insn e = so role _ insn e refl
+    stop_lands role (suc (suc (suc zero))) insn e = so role _ insn e refl
+    stop_lands role (suc (suc (suc (suc done)))) insn e = absurd cc
+
+    pub lands : (role : Role) (insn : BlockInsn) → insn_of bools base clauses end to role ≡ Some insn → Lands role insn
+    lands (roles.Save zero) insn e = absurd cc
+    lands (roles.Save (suc n)) insn e = inl (each_stays (λ (k : Kind). store k (base + n)) _ insn (λ k. store_stays k (base + n)) e)
+    lands (roles.Lock phase false) insn e = so (roles.Lock phase false) _ insn e refl
+    lands (roles.Lock phase true) insn e = so (roles.Lock phase true) _ insn e refl
+    lands (roles.Ask phase n m pushed) insn e = inr (tries_reached phase (n + 1) (branches_in clauses phase))
+    lands (roles.Update phase n u done) insn e = update_in (roles.Update phase n u done) done (update_at clauses phase n u) insn e
+    lands (roles.Taken phase n) insn e = inr (checked_reached mode phase)
+    lands (roles.Stop phase done) insn e = stop_lands (roles.Stop phase done) done insn e
+    lands (roles.Unlock phase checked false) insn e = so (roles.Unlock phase checked false) _ insn e refl
+    lands (roles.Unlock phase checked true) insn e = so (roles.Unlock phase checked true) _ insn e refl
+    lands (roles.Load n locked) insn e = inl (each_stays (λ (k : Kind). load k (base + n)) _ insn (λ k. load_stays k (base + n)) e)
+    lands (roles.Call locked) insn e = so (roles.Call locked) _ insn e refl
+    lands (roles.Keep locked) insn e = inl (each_stays (λ (k : Kind). store k base) _ insn (λ k. store_stays k base) e)
+    lands roles.Give insn e = inl (each_stays (λ (k : Kind). load k base) _ insn (λ k. load_stays k base) e)
+    lands roles.Leave insn e = inr (λ u. absurd cc)
+    lands roles.Rethrow insn e = so roles.Rethrow _ insn e refl
+    lands roles.Unreached insn e = absurd cc
+
+  -- ---- the locks of a block
+
+  abbrev pub Locks : List Item → Type 0
+  Locks list = AllByRecursion (λ (i : Item). TakesLock i.role) list
+
+  both : (xs ys : List Item) → Locks xs → Locks ys → Locks (xs ++ ys)
+  both [] ys f g = g
+  both (x ∷ xs) ys f g = (f.0, both xs ys f.1 g)
+
+  unreached_locks : (xs : List Item) → Locks (map unreached xs)
+  unreached_locks [] = tt
+  unreached_locks (x ∷ xs) = (tt, unreached_locks xs)
+
+  reached_locks : (b : Bool) (xs : List Item) → Locks xs → Locks (if_reached b xs)
+  reached_locks true xs f = f
+  reached_locks false xs f = unreached_locks xs
+
+  save_locks : (base n : ℕ) (args : List Kind) → Locks (save base n args)
+  save_locks base n [] = tt
+  save_locks base n (kind ∷ others) = both (save base (n + 1) others) _ (save_locks base (n + 1) others) (tt, tt)
+
+  loads_locks : (locked : Bool) (base n : ℕ) (args : List Kind) → Locks (loads locked base n args)
+  loads_locks locked base n [] = tt
+  loads_locks locked base n (kind ∷ others) = (tt, loads_locks locked base (n + 1) others)
+
+  asks_locks : (bools : List Bool) (base : ℕ) (phase : Phase) (branch n next : ℕ) (atoms : List Atom)
+      → Locks (asks bools base phase branch n next atoms)
+  asks_locks bools base phase branch n next [] = tt
+  asks_locks bools base phase branch n next (atom ∷ atoms) =
+      both (ask bools base phase branch n next atom) _ (tt, (tt, (tt, tt))) (asks_locks bools base phase branch (n + 1) next atoms)
+
+  write_locks : (bools : List Bool) (phase : Phase) (branch n : ℕ) (x : Update) → Locks (write bools phase branch n x)
+  write_locks bools phase branch n (Set var value) = (tt, (tt, tt))
+  write_locks bools phase branch n (Add var by) = (tt, (tt, (tt, (tt, tt))))
+
+  writes_locks : (bools : List Bool) (phase : Phase) (branch n : ℕ) (updates : List Update) → Locks (writes bools phase branch n updates)
+  writes_locks bools phase branch n [] = tt
+  writes_locks bools phase branch n (x ∷ updates) =
+      both (write bools phase branch n x) _ (write_locks bools phase branch n x) (writes_locks bools phase branch (n + 1) updates)
+
+  branches_locks : (bools : List Bool) (base : ℕ) (phase : Phase) (n at done : ℕ) (bs : List Branch)
+      → Locks (branches bools base phase n at done bs)
+  branches_locks bools base phase n at done [] = (tt, (tt, (tt, (tt, tt))))
+  branches_locks bools base phase n at done (branch ∷ others) =
+      both (tried bools base phase n (at + branch_size branch) done branch) _
+      (both (asks bools base phase n 0 (at + branch_size branch) branch.atoms) _
+      (asks_locks bools base phase n 0 (at + branch_size branch) branch.atoms)
+      (both (writes bools phase n 0 branch.updates) _ (writes_locks bools phase n 0 branch.updates) (tt, tt)))
+      (branches_locks bools base phase (n + 1) (at + branch_size branch) done others)
+
+  checked_locks : (bools : List Bool) (base at : ℕ) (clause : Clause) (later : List Item) → Locks later
+      → Locks (checked bools base at clause later)
+  checked_locks bools base at clause later f =
+      both (check bools base at clause) _
+      (branches_locks bools base clause.phase 0 at (at + branches_size clause.branches) clause.branches) (reached_locks _ later f)
+
+  unlock_locks : (phase : Phase) (checked : Bool) (later : List Item) → Locks later → Locks (unlock phase checked ++ later)
+  unlock_locks phase checked later f = (tt, (tt, f))
+
+  lock_locks : (phase : Phase) (clause : Clause) → clause_in clauses phase ≡ Some clause → Locks (lock phase)
+  lock_locks Before clause e = (tt, (tt, tt))
+  lock_locks After clause e = (ap is_some e, (ap is_some e, tt))
+  lock_locks Exceptional clause e = (ap is_some e, (ap is_some e, tt))
+
+  released_locks : (phase : Phase) (clause : Clause) → clause_in clauses phase ≡ Some clause → clause.phase ≡ phase
+      → (bools : List Bool) (base at : ℕ) (later : List Item)
+      → Locks later → Locks (released bools base at clause later)
+  released_locks phase clause there for bools base at later f =
+      both (lock clause.phase) _ (subst (λ (p : Phase). Locks (lock p)) (sym for) (lock_locks phase clause there))
+      (checked_locks bools base (at + 2) clause (unlock clause.phase true ++ later) (unlock_locks clause.phase true later f))
+
+  module _ (phases : AreForPhases clauses) (bools : List Bool) (base : ℕ) where
+    front_locks : (mode : Mode) (o : Option Clause) → clauses.before ≡ o → Locks (front mode bools base o)
+    front_locks Release None e = tt
+    front_locks Hold None e = (tt, (tt, tt))
+    front_locks Release (Some clause) e =
+        both (save base 0 clause.args) _ (save_locks base 0 clause.args)
+        (released_locks Before clause e (subst (λ (o : Option Clause). IfSome o (λ c. c.phase ≡ Before)) e phases.before) bools base
+        (length clause.args) _ (loads_locks false base 0 clause.args))
+    front_locks Hold (Some clause) e =
+        both (save base 0 clause.args) _ (save_locks base 0 clause.args)
+        (both (lock Before) _ (tt, (tt, tt))
+        (checked_locks bools base (length clause.args + 2) clause _ (loads_locks true base 0 clause.args)))
+
+    give_locks : (o : Option Kind) → Locks (give base o)
+    give_locks None = tt
+    give_locks (Some kind) = (tt, tt)
+
+    keep_locks : (locked : Bool) (o : Option Kind) → Locks (keep locked base o)
+    keep_locks locked None = tt
+    keep_locks locked (Some kind) = (tt, tt)
+
+    behind_locks : (mode : Mode) (at : ℕ) (o : Option Clause) → clauses.after ≡ o → Locks (behind mode bools base at o)
+    behind_locks Release at None e = tt
+    behind_locks Hold at None e = (tt, (tt, tt))
+    behind_locks Release at (Some clause) e =
+        both (keep false base clause.result) _ (keep_locks false clause.result)
+        (released_locks After clause e (subst (λ (o : Option Clause). IfSome o (λ c. c.phase ≡ After)) e phases.after) bools base _ _
+        (give_locks clause.result))
+    behind_locks Hold at (Some clause) e =
+        both (keep true base clause.result) _ (keep_locks true clause.result)
+        (checked_locks bools base _ clause _ (unlock_locks After true _ (give_locks clause.result)))
+
+    handler_locks : (mode : Mode) (at : ℕ) (o : Option Clause) → clauses.exceptional ≡ o → Locks (handler mode bools base at o)
+    handler_locks Release at None e = tt
+    handler_locks Hold at None e = (tt, (tt, (tt, tt)))
+    handler_locks Release at (Some clause) e =
+        released_locks Exceptional clause e
+        (subst (λ (o : Option Clause). IfSome o (λ c. c.phase ≡ Exceptional)) e phases.exceptional) bools base at rethrow (tt, tt)
+    handler_locks Hold at (Some clause) e = checked_locks bools base at clause _ (unlock_locks Exceptional true rethrow (tt, tt))
+
+    with_locks : (mode : Mode) (at : ℕ) → Locks (with_handler mode bools base at clauses)
+    with_locks mode at =
+        both (if_reached (lets_pass clauses.after) _) (handler mode bools base at clauses.exceptional)
+        (reached_locks (lets_pass clauses.after) _ (tt, tt))
+        (handler_locks mode at clauses.exceptional refl)
+
+    caught_locks : (mode : Mode) (at : ℕ) (b : Bool) → Locks (cond b (with_handler mode bools base (at + 1) clauses) [])
+    caught_locks mode at true = with_locks mode (at + 1)
+    caught_locks mode at false = tt
+
+    pub items_locks : (mode : Mode) → Locks (items mode bools base clauses)
+    items_locks mode =
+        both (front mode bools base clauses.before) _ (front_locks mode clauses.before refl)
+        (reached_locks (lets_pass clauses.before) (from_call mode bools base (length (front mode bools base clauses.before)) clauses)
+        (both (called mode bools base (length (front mode bools base clauses.before)) clauses) _
+        (tt, behind_locks mode (length (front mode bools base clauses.before) + 1) clauses.after refl)
+        (caught_locks mode _ (catches mode clauses.exceptional))))
+
+-- ---- blocks
+
+landed : (there : ℕ → Role) (role : Role) (o : Option ℕ) → IfSome o (λ place. there place ≡ role) → (o ≡ None) ⊎ IsReached role
+    → IfSome o (λ place. IsReached (there place))
+landed there role None h e = tt
+landed there role (Some place) h (inl e) = absurd cc
+landed there role (Some place) h (inr reached) = subst IsReached (sym h) reached
+
+handled : (there : ℕ → Role) (role : Role) (b : Bool) (o : Option ℕ) → is_some o ≡ b → (b ≡ true → IsReached role)
+    → IfSome o (λ place. there place ≡ role) → IfSome o (λ place. IsReached (there place))
+handled there role b None e reached h = tt
+handled there role b (Some place) e reached h = subst IsReached (sym h) (reached (sym e))
+
+pub blocks_are_reached : BlocksAreReached
+blocks_are_reached mode bools base clauses phases =
+    let all : List Item = items mode bools base clauses in
+    let flows = blocks_flow mode bools base clauses phases in
+    record {
+      begins = subst IsReached (sym flows.begins) (entered_reached mode clauses.before);
+      goes =
+          λ at i there reached.
+          let led = flows.goes at i there reached in
+          let takes = all_get (λ (x : Item). TakesLock clauses x.role) all at i (items_locks clauses phases bools base mode) there in
+          record {
+            passes =
+                λ p. subst IsReached (sym (led.passes p))
+                (next_reached clauses mode bools base (length all) led.is.0 i.role i.insn led.is.1 takes p);
+            lands = landed (role_at all) (jumps mode clauses i.role) (jump_of i.insn) led.lands
+                (lands clauses mode bools base (length all) led.is.0 i.role i.insn led.is.1);
+          };
+      caught =
+          λ e. handled (role_at all) (thrown mode clauses.exceptional) (catches mode clauses.exceptional)
+          (handler_at mode bools base clauses) flows.handles
+          (thrown_reached mode clauses.exceptional) (flows.caught e);
+    }
