@@ -11,15 +11,16 @@ use Rattle.guest_model.specs.Answering.{result_class}
 use Rattle.guest_model.specs.Calls.{arity}
 use Rattle.guest_model.specs.Places.{method_at}
 use Rattle.guest_tables.specs.declared.library.Gives.{Gives}
-use Rattle.guest_tables.specs.Arities.{arities_of}
+use Rattle.guest_tables.specs.Arities.{arities_of, class_arities}
 use Rattle.guest_tables.specs.Library.{gives}
 
 pub arity_given : (program : Program) (class method : ℕ)
     → option_and_then (λ (row : List ℕ). slice_get row method) (slice_get (arities_of program) class) ≡ option_map (λ (m : Method). arity m.desc) (method_at program class method)
+unfolding class_arities
 arity_given program class method =
-    ap (option_and_then (λ (row : List ℕ). slice_get row method)) (slice_get-map (λ (c : LinkedClass). map (λ (m : Method). arity m.desc) c.methods) program.classes class)
+    ap (option_and_then (λ (row : List ℕ). slice_get row method)) (slice_get-map class_arities program.classes class)
     ∙ by (slice_get program.classes class) where
-      by : (o : Option LinkedClass) → option_and_then (λ (row : List ℕ). slice_get row method) (option_map (λ (c : LinkedClass). map (λ (m : Method). arity m.desc) c.methods) o)
+      by : (o : Option LinkedClass) → option_and_then (λ (row : List ℕ). slice_get row method) (option_map class_arities o)
           ≡ option_map (λ (m : Method). arity m.desc) (option_and_then (λ (c : LinkedClass). slice_get c.methods method) o)
       by None = refl
       by (Some c) = slice_get-map (λ (m : Method). arity m.desc) c.methods method

@@ -4,10 +4,10 @@ ghost use Rattle.std.specs.Prelude.{IfOk, map, option_copied, slice_get, ◌≡�
 ghost use Rattle.api_listing.specs.declared.types.ListedMethod.{ListedMethod};
 ghost use Rattle.bytecode_model.specs.declared.program.Method.{Method};
 ghost use Rattle.guest_model.specs.Calls.{arity};
-ghost use Rattle.guest_tables.specs.Arities.{arities_of};
+ghost use Rattle.guest_tables.specs.Arities.{arities_of, class_arities};
 
 use api_listing::ListedMethod;
-use bytecode_model::{Method, Program};
+use bytecode_model::{LinkedClass, Method, Program};
 use guest_model::arity;
 use mon_base::{List, NoMemory};
 use std::alloc::Global;
@@ -32,6 +32,14 @@ pub fn listed_arities(alloc: Global, methods: &[ListedMethod]) -> Result<List<u8
 }
 
 /// The same of each method of a given class.
+#[tactic(auto, unfolding(crate::specs::Arities::class_arities))]
+fn class_arities(alloc: Global, class: &LinkedClass) -> Result<List<u8>, NoMemory>
+    ensures { IfOk result (λ counts. counts ≡ class_arities class.now) }
+{
+    let counts = arities_in(alloc, class.methods.as_slice())?;
+    Ok(counts)
+}
+
 fn arities_in(alloc: Global, methods: &[Method]) -> Result<List<u8>, NoMemory>
     ensures { IfOk result (λ counts. counts ≡ map (λ (m : Method). arity m.desc) methods.now) }
 {
@@ -48,7 +56,7 @@ pub fn arities_of(alloc: Global, program: &Program) -> Result<List<List<u8>>, No
 {
     let mut counts = List::new(alloc);
     for class in program.classes.as_slice() {
-        counts.push(arities_in(alloc, class.methods.as_slice())?)?;
+        counts.push(class_arities(alloc, class)?)?;
     }
     Ok(counts)
 }
