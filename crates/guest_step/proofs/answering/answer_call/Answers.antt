@@ -1,17 +1,8 @@
-use Rattle.std.proofs.Common.{◌≡◌, true, false, Option, refl, subst, sym, rules, ◌∙◌}
+use Rattle.std.proofs.Common.{◌≡◌, true, Option, subst, sym, rules, ◌∙◌}
 use Rattle.guest_model.specs.Changes.{Change, world_of}
 use Rattle.guest_threads.specs.Acts.{ActsIn}
 use Rattle.guest_step.proofs.Asks.{answered_is}
 use Rattle.guest_step.proofs.answering.answer_call.Goals as goal
-
-pub returns-then-fits : goal.returns-then-fits
-returns-then-fits c =
-    let is : c.in_ok-fits.fits ≡ false = grind rules in (
-      answered_is c.args.guest.now (world_of c.args.machine.now) c.args.number c.args.thread.now c.args.method c.args.receiver c.args.args.now c.args.answer.now false
-          (sym is ∙ c.in_ok-fits.ensures),
-      refl,
-      refl,
-    )
 
 pub returns : goal.returns
 returns c =

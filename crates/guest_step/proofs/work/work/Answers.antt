@@ -10,7 +10,7 @@ pub returns-in-Divide : goal.returns-in-Divide
 returns-in-Divide c = rw c.in-Divide.is (c.divide.ensures c.args.heap.now c.args.statics.now)
 
 pub returns-in-ReadStatic : goal.returns-in-ReadStatic
-returns-in-ReadStatic c = rw c.in-ReadStatic.is (c.read_static.ensures c.args.heap.now)
+returns-in-ReadStatic c = rw (c.in-ReadStatic.is, ← c.program.ensures.program) (c.read_static.ensures c.args.heap.now)
 
 pub returns-in-WriteStatic : goal.returns-in-WriteStatic
 returns-in-WriteStatic c = rw c.in-WriteStatic.is (c.write_static.ensures c.args.heap.now)

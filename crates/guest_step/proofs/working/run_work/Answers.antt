@@ -40,4 +40,4 @@ returns-in-Some-Throws c =
     (subst (λ (r : Result (Option Outcome) NoMemory). WorksIn r (inside c.args.machine.now.heap c.args.machine.now.statics c.top_mut-frame.result.now)
     (inside c.work_in.new.heap c.work_in.new.statics c.work_in.new.frame)
     (λ (world : World). worked c.args.guest.now world c.args.what c.args.target.now c.top_mut-frame.result.now.stack.items)) is c.work_in.ensures)
-    c.name.ensures c.throw_new.ensures
+    c.name.ensures (rw (← c.indexed.ensures.program) c.throw_new.ensures)
