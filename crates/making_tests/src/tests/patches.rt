@@ -48,6 +48,7 @@ fn fields_and_numbers_are_found(rt: HostRuntime) -> Result<(), Fail> {
     assert_eq!(&rt; entries.add(alloc, PoolWant::Integer(-70_000))?, 8);
     assert_eq!(&rt; entries.add(alloc, PoolWant::StateClass)?, 3);
     assert_eq!(&rt; entries.add(alloc, field)?, 7);
+    assert_eq!(&rt; entries.count(), 9);
     let pool = entries.into_list(alloc)?;
     let mut wanted = List::new(alloc);
     wanted.push(Const::Second)?;
