@@ -1,5 +1,6 @@
 -- When a program is accepted with a certificate.
 use Rattle.std.specs.Prelude.{◌≡◌, ℕ, if◌then◌else◌, List, length, take, is_some, Option, None, option_and_then, slice_get}
+use Rattle.std.specs.Option.{option_map_or}
 use Rattle.bytecode_model.specs.declared.program.LinkedClass.{LinkedClass}
 use Rattle.bytecode_model.specs.declared.program.Method.{Method}
 use Rattle.bytecode_model.specs.declared.program.Program.{Program}
@@ -11,6 +12,8 @@ use Rattle.bytecode_model.specs.Shape.{coded, IsShaped}
 use Rattle.bytecode_model.specs.Typed.{IsTyped, frames_in, frames_told, list_at}
 use Rattle.conspec_automaton.specs.declared.policy.Policy.{Policy}
 use Rattle.block_logic.specs.Notes.{note_fault}
+use Rattle.block_logic.specs.Rows.{Rules}
+use Rattle.block_logic.specs.State.{state_at, state_fault}
 
 -- ---- notes
 
@@ -21,18 +24,26 @@ notes_in methods told method = list_at told (length (coded (take method methods)
 abbrev pub notes_told : Certificate → ℕ → List (List Note)
 notes_told certificate class = list_at certificate.notes class
 
--- where the instruction has a frame, the first rule of the notes that fails there
-abbrev pub reached_fault : Program → Policy → List (Option FrameType) → List Note → Method → ℕ → Option ℕ
-reached_fault program policy frames told method at = if is_some (frame_of frames at) then note_fault program.classes policy told method at else None
+-- what the rules are told of a program; where it has no class of the policy's variables, the number behind its classes names none
+abbrev pub rules_of : Program → Policy → Certificate → Rules
+rules_of program policy certificate = record {
+  mode = certificate.mode;
+  policy = policy;
+  state = option_map_or (λ (at : ℕ). at) (state_at program.classes) (length program.classes);
+}
 
-abbrev pub fault_in_class : Program → Policy → Certificate → ℕ → LinkedClass → ℕ → ℕ → Option ℕ
-fault_in_class program policy certificate class c method at =
-    option_and_then (λ (m : Method). reached_fault program policy (frames_in c.methods (frames_told certificate.typing class) method) (notes_in c.methods (notes_told certificate class) method) m at) (slice_get c.methods method)
+-- where the instruction has a frame, the first rule of the notes that fails there
+abbrev pub reached_fault : Rules → List (Option FrameType) → List Note → Method → ℕ → Option ℕ
+reached_fault rules frames told m at = if is_some (frame_of frames at) then note_fault rules told m at else None
+
+abbrev pub fault_in_class : Rules → Certificate → ℕ → LinkedClass → ℕ → ℕ → Option ℕ
+fault_in_class rules certificate class c method at =
+    option_and_then (λ (m : Method). reached_fault rules (frames_in c.methods (frames_told certificate.typing class) method) (notes_in c.methods (notes_told certificate class) method) m at) (slice_get c.methods method)
 
 -- the first rule of the notes that fails at an instruction; all methods of the class are counted
 abbrev pub note_fault_at : Program → Policy → Certificate → ℕ → ℕ → ℕ → Option ℕ
 note_fault_at program policy certificate class method at =
-    option_and_then (λ (c : LinkedClass). fault_in_class program policy certificate class c method at) (slice_get program.classes class)
+    option_and_then (λ (c : LinkedClass). fault_in_class (rules_of program policy certificate) certificate class c method at) (slice_get program.classes class)
 
 -- ---- acceptance
 
@@ -40,4 +51,5 @@ pub record IsAccepted (program : Program) (policy : Policy) (certificate : Certi
   pub frames : IsShaped program certificate.typing.frames
   pub notes : IsShaped program certificate.notes
   pub typed : IsTyped program certificate.typing
+  pub state : state_fault program.classes policy ≡ None
   pub noted : (class method at : ℕ) → note_fault_at program policy certificate class method at ≡ None

@@ -1,8 +1,11 @@
 -- What the rules of the notes ask of an instruction and of what its operand names.
-use Rattle.std.specs.Prelude.{ℕ, ℤ, ◌&&◌, Bool, true, false, bytes_eq, codes, List, Option, Some, None, slice_get}
+use Rattle.std.specs.Prelude.{ℕ, ℤ, ◌==◌, ◌&&◌, if◌then◌else◌, Bool, true, false, bytes_eq, codes, List, Option, Some, None, slice_get}
 use Rattle.std.specs.Ordering.{int_eq}
 use Rattle.std.specs.Option.{option_map_or}
 use Rattle.insn_codec.specs.declared.shape.Heap.TheVariants as heap
+use Rattle.insn_codec.specs.declared.shape.Kind.TheVariants as kinds
+use Rattle.insn_codec.specs.declared.shape.Relation.{Relation}
+use Rattle.insn_codec.specs.declared.shape.Two.TheVariants as two
 use Rattle.insn_codec.specs.declared.shape.Shape.{Shape}
 use Rattle.insn_codec.specs.declared.shape.Shape.TheVariants as shapes
 use Rattle.bytecode_model.specs.declared.program.LinkedClass.{LinkedClass}
@@ -46,6 +49,36 @@ abbrev pub throws : Shape → Bool
 throws (shapes.Heap heap.Throw) = true
 throws other = false
 
+abbrev pub reads_static : Shape → Bool
+reads_static (shapes.Heap heap.ReadStatic) = true
+reads_static other = false
+
+abbrev pub adds : Shape → Bool
+adds (shapes.Two two.Add) = true
+adds other = false
+
+abbrev pub goes : Shape → Bool
+goes (shapes.Goto to) = true
+goes other = false
+
+-- the relation by which two numbers are compared
+abbrev pub compared : Shape → Option Relation
+compared (shapes.Compare relation to) = Some relation
+compared other = None
+
+-- the local that is loaded, the one that a number is loaded from, and the one that is stored into
+abbrev pub loaded : Shape → Option ℕ
+loaded (shapes.Load kind slot) = Some slot
+loaded other = None
+
+abbrev pub loaded_number : Shape → Option ℕ
+loaded_number (shapes.Load kinds.Int slot) = Some slot
+loaded_number other = None
+
+abbrev pub stored : Shape → Option ℕ
+stored (shapes.Store kind slot) = Some slot
+stored other = None
+
 -- ---- operands
 
 abbrev pub is_state_name : Target → Bool
@@ -56,14 +89,10 @@ is_state_name other = false
 abbrev pub pushes_state : Shape → Target → Bool
 pushes_state shape ref = loads_constant shape && is_state_name ref
 
--- the given class of this number holds the policy's variables
-abbrev pub is_state : List LinkedClass → ℕ → Bool
-is_state classes class = option_map_or (λ (c : LinkedClass). bytes_eq c.name state_name) (slice_get classes class) false
-
--- The operand names one of the policy's variables.
-abbrev pub is_variable : List LinkedClass → Target → Bool
-is_variable classes (target.Field class field) = is_state classes class
-is_variable classes other = false
+-- the policy's variable that is named, where the class of this number holds them
+abbrev pub variable_named : ℕ → Target → Option ℕ
+variable_named state (target.Field class field) = if class == state then Some field else None
+variable_named state other = None
 
 -- The operand names a method that the policy has a clause for.
 abbrev pub has_clause : Policy → Target → Bool
