@@ -1,2 +1,4 @@
 pub mod ExitRows
 pub mod Covering
+pub mod Ruled
+pub mod Steps

@@ -6,3 +6,6 @@ pub mod Rows
 pub mod Notes
 pub mod State
 pub mod Accepted
+pub mod Meaning
+pub mod Fitting
+pub mod Obeying
