@@ -1,13 +1,13 @@
 -- Two bytes tell how many locals a method of a linked program has.
-use Rattle.std.proofs.Common.{◌≡◌, ℕ, zero, suc, ◌+◌, ◌<◌, ◌^◌, Bool, true, false, cond, List, [], ◌∷◌, length, Option, Some, None, refl, sym, ap, subst, ◌∙◌, arith}
-use Rattle.std.specs.Prelude.{◌==◌, not, slice_get}
+use Rattle.std.proofs.Common.{◌≡◌, ℕ, zero, suc, ◌<◌, ◌^◌, Bool, true, false, cond, List, [], ◌∷◌, length, Some, refl, sym, ap, subst, ◌∙◌, arith}
+use Rattle.std.specs.Prelude.{not, slice_get}
 use Rattle.std.specs.List.{AllByRecursion, filter_map}
 use Rattle.std.proofs.lemmas.Bool.{eqb-true}
 use Rattle.std.proofs.lemmas.Option.{slice_get_within}
 use Rattle.bytecode_model.specs.declared.program.LinkedClass.{LinkedClass}
 use Rattle.bytecode_model.specs.declared.program.Method.{Method}
 use Rattle.bytecode_model.specs.declared.program.Program.{Program}
-use Rattle.bytecode_model.specs.Conditions.{code_in, codes_of, has_its_code}
+use Rattle.bytecode_model.specs.Conditions.{code_in, codes_of}
 use Rattle.bytecode_model.specs.Heads.{is_abstract}
 use Rattle.bytecode_model.specs.Shape.{has_code}
 use Rattle.bytecode_model.specs.Sound.{IsSound, IsSoundClass}
@@ -15,9 +15,7 @@ use Rattle.bytecode_model.specs.Standing.{AreStanding, IsStanding}
 use Rattle.bytecode_model.proofs.Lists.{all_get}
 use Rattle.class_codec.specs.declared.tree.Attr.{Attr}
 use Rattle.class_codec.specs.declared.tree.Attr.TheVariants as attributes
-use Rattle.class_codec.specs.declared.tree.Code.{Code}
 use Rattle.class_codec.specs.declared.tree.Const.{Const}
-use Rattle.class_codec.specs.declared.tree.Member.{Member}
 use Rattle.class_codec.specs.Fits.{FitsAttr, FitsCode, FitsMember}
 
 there : {A : Type 0} (list : List A) (at : ℕ) → at < length list → (x : A) × (slice_get list at ≡ Some x)

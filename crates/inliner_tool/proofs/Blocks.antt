@@ -1,5 +1,5 @@
 -- What is woven of inputs links to their program with its blocks.
-use Rattle.std.proofs.Common.{◌≡◌, ℕ, ◌+◌, ◌≤◌, List, length, Bool, true, false, cond, Ok, Err, inl, inr, refl, ap, sym, subst, ◌∙◌, arith}
+use Rattle.std.proofs.Common.{◌≡◌, ℕ, ◌≤◌, List, length, Bool, true, false, cond, Ok, Err, inl, inr, refl, ap, sym, subst, ◌∙◌, arith}
 use Rattle.std.specs.Prelude.{nat_lt, IfOk}
 use Rattle.api_listing.specs.declared.types.Listing.{Listing}
 use Rattle.bytecode_model.specs.declared.program.Program.{Program}
@@ -12,7 +12,6 @@ use Rattle.block_template.specs.Blocks.{plan_of}
 use Rattle.block_template.specs.Good.{HasNumbers, PlansAreGood}
 use Rattle.cert_checker.specs.Acceptance.{verdict}
 use Rattle.cert_checker.specs.Secure.{Secure}
-use Rattle.cert_format.specs.declared.certificate.Certificate.{Certificate}
 use Rattle.cert_format.specs.Fits.{CanSpell}
 use Rattle.class_linking.specs.Fault.{Linked}
 use Rattle.class_linking.specs.Linking.{linked}
@@ -20,7 +19,6 @@ use Rattle.class_weaving.specs.declared.woven.Woven.{Woven}
 use Rattle.class_weaving.specs.Outcome.{IsWoven}
 use Rattle.class_weaving.specs.Woven.{woven}
 use Rattle.command_words.specs.InlineWords.{NamedInline}
-use Rattle.conspec_automaton.specs.declared.policy.Policy.{Policy}
 use Rattle.conspec_automaton.specs.Building.{built}
 use Rattle.conspec_automaton.specs.Sound.{IsPolicy}
 use Rattle.input_files.specs.declared.inline_inputs.InlineInputs.{InlineInputs}
@@ -28,7 +26,6 @@ use Rattle.input_files.specs.Forms.{Then}
 use Rattle.input_files.specs.InlineInputs.{InlineSound}
 use Rattle.output_files.specs.Outputs.{is_written, outputs_of}
 use Rattle.woven_linking.specs.Links.{WovenLinks}
-use Rattle.inliner_tool.specs.declared.refusal.Refusal.{Refusal}
 use Rattle.inliner_tool.specs.declared.refusal.Refusal.TheVariants as refusals
 use Rattle.inliner_tool.specs.declared.weaving.Given.{Given}
 use Rattle.inliner_tool.specs.declared.weaving.Ready.{Ready}

@@ -17,16 +17,15 @@ use Rattle.mon_store.specs.Store.{Files, Rose}
 use Rattle.input_files.specs.declared.check_inputs.CheckInputs.{CheckInputs}
 use Rattle.input_files.specs.declared.files.Stop.{Stop}
 use Rattle.input_files.specs.declared.files.Stop.TheVariants as stops
-use Rattle.input_files.specs.declared.named.ReadClasses.{ReadClasses as Classes}
 use Rattle.input_files.specs.CheckInputs.{ReadsCheck}
 use Rattle.input_files.specs.Forms.{Count, ReadsForm}
 use Rattle.input_files.specs.Kinds.{certificate_form, listing_form, policy_form}
-use Rattle.input_files.specs.Named.{ReadsClasses}
 use Rattle.inliner_tool.specs.declared.answer.Answer.{Answer}
 use Rattle.inliner_tool.specs.declared.answer.Answer.TheVariants as answers
+use Rattle.inliner_tool.specs.declared.refusal.Refusal.TheVariants as refusals
 use Rattle.inliner_tool.specs.Answers.{stopped}
 use Rattle.inliner_tool.specs.Check.{check_answer, is_judged, linked_answer, program_answer, verdict_answer}
-use Rattle.inliner_tool.specs.CheckDecision.{CheckDecides, NamesChecked}
+use Rattle.inliner_tool.specs.CheckDecision.{CheckDecides}
 use Rattle.inliner_tool.specs.Decision.{IsDecision}
 use Rattle.inliner_tool.specs.Programs.{link_step, program_of}
 use Rattle.inliner_tool.specs.Tool.{CarriesOut, Ends, IsAnswer, status_of}
@@ -91,7 +90,7 @@ module _ (files : Files) (count : Count) (named : NamedCheck) (quiet : Rose coun
 -- ---- what is answered
 
 linked_when : (long : Bool) (total : ℕ) (policy : PolicyTree) (certificate : Certificate) (r : Linked Program) (program : Program)
-    → cond long (Err (_)) (link_step r) ≡ Ok program → cond long (answers.TotalLong total) (linked_answer policy certificate r) ≡ program_answer policy certificate program
+    → cond long (Err (refusals.TotalLong total)) (link_step r) ≡ Ok program → cond long (answers.TotalLong total) (linked_answer policy certificate r) ≡ program_answer policy certificate program
 linked_when true total policy certificate r program e = absurd cc
 linked_when false total policy certificate r program e = ap (linked_answer policy certificate) (linked_by r program e)
 

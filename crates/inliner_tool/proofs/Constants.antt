@@ -1,5 +1,5 @@
 -- The constants of a policy that was read have 32 bits.
-use Rattle.std.proofs.Common.{◌≡◌, ℕ, ◌≤◌, ℤ, pos, neg_ℤ, ◌-ℤ◌, ◌≤ℤ◌, Bool, true, false, cond, List, [], ◌∷◌, ◌++◌, map, Option, Some, None, refl, sym, subst, ap, ◌∙◌, arith, FitsSigned}
+use Rattle.std.proofs.Common.{ℕ, ℤ, pos, neg_ℤ, ◌-ℤ◌, ◌≤ℤ◌, Bool, true, false, cond, List, [], ◌∷◌, map, Option, Some, None, sym, subst, ◌∙◌, arith, FitsSigned}
 use Rattle.std.specs.Prelude.{int_lt}
 use Rattle.std.specs.Int.{w32, int_wrapping_neg, int_wrapping_sub}
 use Rattle.std.specs.List.{AllByRecursion, flat_map}
@@ -8,11 +8,10 @@ use Rattle.bytecode_model.proofs.Lists.{all_append}
 use Rattle.block_template.specs.Good.{AreNumbers, HasNumbers}
 use Rattle.api_listing.specs.declared.types.ListedMethod.{ListedMethod}
 use Rattle.api_listing.specs.declared.types.Listing.{Listing}
-use Rattle.conspec_automaton.specs.declared.policy.Branch.{Branch}
 use Rattle.conspec_automaton.specs.declared.policy.Clause.{Clause}
 use Rattle.conspec_automaton.specs.Building.{branch_of, branches_of, built, clause_built, compared, guard_branches, range_atoms}
 use Rattle.conspec_parse.specs.Scope.{Scope}
-use Rattle.conspec_parse.specs.Meaning.{AreGuards, EachIs, IsAtom, IsBlock, IsClause, IsConstant, IsGuard, IsOtherwise, value_of}
+use Rattle.conspec_parse.specs.Meaning.{AreGuards, EachIs, IsAtom, IsClause, IsConstant, IsGuard, IsOtherwise, value_of}
 use Rattle.conspec_parse.specs.Written.{Constant, WrittenAtom, WrittenClause, WrittenGuard, WrittenUpdate}
 use Rattle.conspec_parse.specs.Written.Constant.{Truth, Natural, Minus}
 use Rattle.conspec_tree.specs.declared.types.Atom.{Atom}
@@ -23,7 +22,7 @@ use Rattle.conspec_tree.specs.declared.types.TreeClause.{TreeClause}
 use Rattle.conspec_tree.specs.declared.types.Update.{Update}
 use Rattle.conspec_tree.specs.declared.types.Update.TheVariants.{Set, Add}
 use Rattle.conspec_tree.specs.declared.types.Var.{Var}
-use Rattle.conspec_tree.specs.Tree.{IsClauseIn, IsGuardIn, IsUpdateIn, IsUpdateOf, asked}
+use Rattle.conspec_tree.specs.Tree.{IsClauseIn, IsGuardIn, IsUpdateIn, asked}
 use Rattle.input_files.specs.Named.{IsPolicyOf}
 
 -- ---- what is written

@@ -1,19 +1,12 @@
 -- What is woven of inputs is typed and accepted, and its certificate can be spelled.
 use Rattle.std.proofs.Common.{◌≡◌, ℕ, zero, suc, ◌+◌, ◌<◌, Bool, true, false, List, [], ◌∷◌, length, Some, Ok, refl, ap, sym, subst, ◌∙◌, arith}
-use Rattle.std.specs.Prelude.{◌&&◌, is_some, slice_get, slice_index}
-use Rattle.std.specs.List.{AllByRecursion}
+use Rattle.std.specs.Prelude.{◌&&◌, is_some, slice_get}
 use Rattle.std.proofs.lemmas.Option.{slice_get_within}
 use Rattle.api_listing.specs.declared.types.Listing.{Listing}
 use Rattle.api_listing.specs.Listing.{SpellsListing}
 use Rattle.block_logic.specs.Accepted.{IsAccepted}
-use Rattle.block_logic.specs.Obeying.{FitsListing}
-use Rattle.block_template.specs.declared.item.Item.{Item}
-use Rattle.block_template.specs.declared.item.Role.{Role}
-use Rattle.block_template.specs.declared.item.Role.TheVariants as roles
-use Rattle.block_template.specs.Blocks.{bools_of, clauses_of, items, plan_of}
+use Rattle.block_template.specs.Blocks.{plan_of}
 use Rattle.block_template.specs.Good.{PlansAreGood}
-use Rattle.bytecode_model.specs.declared.program.LinkedClass.{LinkedClass}
-use Rattle.bytecode_model.specs.declared.program.Method.{Method}
 use Rattle.bytecode_model.specs.declared.program.Program.{Program}
 use Rattle.bytecode_model.specs.declared.program.Side.TheVariants.{Inlined, Original}
 use Rattle.bytecode_model.specs.declared.program.Target.TheVariants as target
@@ -21,7 +14,7 @@ use Rattle.bytecode_model.specs.Named.{AreRightOperands}
 use Rattle.bytecode_model.specs.Shape.{IsShaped}
 use Rattle.bytecode_model.specs.Sound.{IsSound, IsSoundClass, IsSoundMethod}
 use Rattle.bytecode_model.specs.Standing.{IsLinkedOf}
-use Rattle.bytecode_model.specs.Typed.{IsTyped, reached}
+use Rattle.bytecode_model.specs.Typed.{IsTyped}
 use Rattle.bytecode_model.proofs.Lists.{all_get}
 use Rattle.cert_format.specs.declared.certificate.Mode.{Mode}
 use Rattle.cert_format.specs.declared.typing.Typing.{Typing}
@@ -33,7 +26,6 @@ use Rattle.class_weaving.specs.Outcome.{IsWoven}
 use Rattle.class_weaving.specs.Woven.{woven}
 use Rattle.conspec_automaton.specs.declared.policy.Policy.{Policy}
 use Rattle.conspec_automaton.specs.Building.{built}
-use Rattle.conspec_automaton.specs.Next.{has_clauses}
 use Rattle.conspec_parse.specs.Telling.{KindsAreTold, ResultsAreTold}
 use Rattle.input_files.specs.declared.inline_inputs.InlineInputs.{InlineInputs}
 use Rattle.input_files.specs.InlineInputs.{InlineSound}
@@ -108,9 +100,6 @@ module _ (links : WovenLinks) (good : PlansAreGood) (free : OriginalIsFree) (ord
     woven = new.1.1;
     order = order known.listed.text inputs.listing made.files main Inlined new.0 known.listed.spells new.1.0;
   }
-
-
-
 
   framed : IsTypedSo given.client new.0 given.policy given.mode given.typing
   framed = types given.client new.0 given.policy given.mode given.typing so typed shaped

@@ -19,12 +19,9 @@ use Rattle.mon_store.specs.Store.{Files, Rose}
 use Rattle.input_files.specs.declared.files.Stop.{Stop}
 use Rattle.input_files.specs.declared.files.Stop.TheVariants as stops
 use Rattle.input_files.specs.declared.inline_inputs.InlineInputs.{InlineInputs}
-use Rattle.input_files.specs.declared.named.ReadClasses.{ReadClasses as Classes}
 use Rattle.input_files.specs.Forms.{Count, ReadsForm, Then}
 use Rattle.input_files.specs.InlineInputs.{ReadsInline}
 use Rattle.input_files.specs.Kinds.{listing_form, policy_form}
-use Rattle.input_files.specs.Named.{ReadsClasses}
-use Rattle.mon_store.specs.declared.outputs.Output.{Output}
 use Rattle.output_files.specs.Outputs.{is_written, outputs_of}
 use Rattle.type_infer.specs.Untyped.{IsTypable}
 use Rattle.inliner_tool.specs.declared.answer.Answer.{Answer}
@@ -32,13 +29,12 @@ use Rattle.inliner_tool.specs.declared.answer.Answer.TheVariants as answers
 use Rattle.inliner_tool.specs.declared.refusal.Refusal.{Refusal}
 use Rattle.inliner_tool.specs.declared.refusal.Refusal.TheVariants as refusals
 use Rattle.inliner_tool.specs.declared.weaving.Given.{Given}
-use Rattle.inliner_tool.specs.declared.weaving.Ready.{Ready}
 use Rattle.inliner_tool.specs.Answers.{refused, stopped}
-use Rattle.inliner_tool.specs.Inline.{Inlines, Refuses, Writes}
+use Rattle.inliner_tool.specs.Inline.{Inlines, Refuses}
 use Rattle.inliner_tool.specs.InlineDecision.{InlineDecides, IsWeaving, NamesWoven}
 use Rattle.inliner_tool.specs.Programs.{Equals, Step, Types}
-use Rattle.inliner_tool.specs.Tool.{CarriesOut, IsAnswer}
-use Rattle.inliner_tool.specs.Weaving.{Chosen, Fits, Plans, Remakes, Told, Typed, certificate_for, mode_for, original, outputs_step, weave_step}
+use Rattle.inliner_tool.specs.Tool.{CarriesOut}
+use Rattle.inliner_tool.specs.Weaving.{Chosen, Fits, Plans, Told, Typed, certificate_for, outputs_step, weave_step}
 use Rattle.inliner_tool.proofs.RunDecision.{typed_nowhere}
 use Rattle.inliner_tool.proofs.Told.{may_read, says_of, stops_once, tree_once}
 use Rattle.inliner_tool.proofs.ToldClasses.{classes_stop, may_classes, same_classes}
@@ -46,7 +42,7 @@ use Rattle.inliner_tool.proofs.ToldClasses.{classes_stop, may_classes, same_clas
 -- ---- the steps
 
 module _ (files : Files) (named : NamedInline) (names : NamesWoven files named) where
-  known : InlineInputs
+  abbrev known : InlineInputs
   known = record { listing = names.listing; policy = names.policy; classes = names.classes }
 
   -- a certificate that is not written is too long

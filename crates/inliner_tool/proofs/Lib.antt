@@ -18,3 +18,5 @@ mod Rewoven
 mod Planned
 pub mod CheckDecision
 pub mod InlineDecision
+mod Written
+pub mod Rechecking

@@ -16,12 +16,11 @@ use Rattle.block_logic.specs.Obeying.{FitsListing}
 use Rattle.bytecode_model.proofs.Lists.{all_get}
 use Rattle.conspec_automaton.specs.Building.{built, clause_built}
 use Rattle.conspec_parse.specs.Telling.{KindsAreTold, ResultsAreTold}
-use Rattle.conspec_tree.specs.declared.types.Kind.{Kind}
 use Rattle.conspec_tree.specs.declared.types.PolicyTree.{PolicyTree}
 use Rattle.conspec_tree.specs.declared.types.TreeClause.{TreeClause}
 use Rattle.conspec_tree.specs.Kinds.{kind_of}
 use Rattle.conspec_tree.specs.Telling.{ClauseTellsKinds, ClauseTellsResult}
-use Rattle.guest_model.specs.Calls.{arity, types_of, types_read}
+use Rattle.guest_model.specs.Calls.{types_of, types_read}
 use Rattle.input_files.specs.Named.{IsListed, IsPolicyOf}
 
 -- ---- the methods of a listing

@@ -1,6 +1,6 @@
 -- The notes of woven programs can be spelled.
-use Rattle.std.proofs.Common.{◌≡◌, ℕ, zero, suc, ◌+◌, ◌<◌, ◌≤◌, ◌^◌, ℤ, pos, neg_ℤ, ◌≤ℤ◌, Bool, true, false, cond, List, [], ◌∷◌, ◌++◌, length, map, take, Option, Some, None, refl, sym, ap, subst, ◌∙◌, arith, FitsSigned}
-use Rattle.std.specs.Prelude.{◌==◌, ◌&&◌, find, min, slice_get}
+use Rattle.std.proofs.Common.{◌≡◌, ℕ, zero, suc, ◌+◌, ◌<◌, ◌≤◌, ℤ, Bool, true, false, cond, List, [], ◌∷◌, length, map, take, Option, Some, None, refl, ap, subst, arith, FitsSigned}
+use Rattle.std.specs.Prelude.{◌==◌, ◌&&◌, find, slice_get}
 use Rattle.std.specs.Int.{w32}
 use Rattle.std.specs.List.{AllByRecursion}
 use Rattle.std.specs.Option.{option_map_or}
@@ -11,8 +11,8 @@ use Rattle.bytecode_model.proofs.Lists.{all_append, all_get}
 use Rattle.bytecode_model.specs.declared.program.Target.{Target}
 use Rattle.bytecode_model.specs.declared.program.Target.TheVariants as target
 use Rattle.block_logic.specs.Clauses.{clause_of, is_of_phase, needs}
-use Rattle.block_logic.specs.Standing.{asks_kept, branches_of}
-use Rattle.block_logic.specs.Terms.{after_updates, as_taken, base_term, update_of, variable_after, variables_after, written}
+use Rattle.block_logic.specs.Standing.{branches_of}
+use Rattle.block_logic.specs.Terms.{after_updates, base_term, update_of, variable_after, variables_after, written}
 use Rattle.block_template.specs.declared.item.Item.{Item}
 use Rattle.block_template.specs.declared.item.Role.{Role}
 use Rattle.block_template.specs.declared.item.Role.TheVariants as roles
@@ -25,28 +25,7 @@ use Rattle.cert_format.specs.declared.note.Site.{Site}
 use Rattle.cert_format.specs.declared.note.Term.{Term}
 use Rattle.cert_format.specs.declared.note.Term.TheVariants as terms
 use Rattle.cert_format.specs.Fits.{FitsNote, FitsSite, FitsTerm}
-use Rattle.cert_maker.specs.Noting.{
-  Called,
-  ask_note,
-  asked_terms,
-  atom_of,
-  block_notes,
-  branch_at,
-  byte,
-  left_note,
-  lock_note,
-  made_note,
-  note_of,
-  part_notes,
-  parts_notes,
-  phase_of,
-  site_of,
-  taken_note,
-  unlock_note,
-  update_note,
-  update_terms,
-  updating_note,
-}
+use Rattle.cert_maker.specs.Noting.{Called, ask_note, asked_terms, atom_of, block_notes, branch_at, byte, left_note, lock_note, made_note, note_of, part_notes, parts_notes, site_of, taken_note, unlock_note, update_note, update_terms, updating_note}
 use Rattle.conspec_automaton.specs.declared.policy.Branch.{Branch}
 use Rattle.conspec_automaton.specs.declared.policy.Clause.{Clause}
 use Rattle.conspec_automaton.specs.declared.policy.Policy.{Policy}
@@ -60,8 +39,7 @@ use Rattle.conspec_tree.specs.declared.types.Phase.{Phase}
 use Rattle.conspec_tree.specs.declared.types.Phase.TheVariants.{Before, After, Exceptional}
 use Rattle.conspec_tree.specs.declared.types.Update.{Update}
 use Rattle.conspec_tree.specs.declared.types.Update.TheVariants.{Set, Add}
-use Rattle.conspec_tree.specs.declared.types.Var.{Var}
-use Rattle.conspec_tree.specs.Tree.{Askable, IsBase, IsInRange, IsNumber, IsUpdateIn, IsUpdateOf, asked, greatest}
+use Rattle.conspec_tree.specs.Tree.{Askable, IsBase, IsInRange, IsNumber, IsUpdateIn, asked}
 use Rattle.conspec_tree.specs.Updates.{target as update_target}
 
 -- ---- lists

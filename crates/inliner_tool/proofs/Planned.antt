@@ -1,5 +1,5 @@
 -- The steps of a plan, of a program that links, is typed, and is woven in this mode.
-use Rattle.std.proofs.Common.{◌≡◌, List, length, Ok, Err, sym, subst}
+use Rattle.std.proofs.Common.{◌≡◌, length, Ok, Err, sym, subst}
 use Rattle.std.specs.List.{AllByRecursion}
 use Rattle.api_listing.specs.declared.types.Listing.{Listing}
 use Rattle.block_logic.specs.Obeying.{FitsListing}

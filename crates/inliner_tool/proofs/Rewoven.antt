@@ -1,8 +1,7 @@
 -- What is known of what is woven, once it is linked again.
-use Rattle.std.proofs.Common.{◌≡◌, ℕ, true, List, length, Ok, sym, subst}
+use Rattle.std.proofs.Common.{◌≡◌, ℕ, true, List, length, Ok, subst}
 use Rattle.bytecode_model.specs.declared.program.Program.{Program}
 use Rattle.bytecode_model.specs.Sound.{IsSound}
-use Rattle.cert_format.specs.declared.typing.Typing.{Typing}
 use Rattle.cert_format.specs.Fits.{CanSpell}
 use Rattle.class_weaving.specs.declared.woven.Woven.{Woven}
 use Rattle.output_files.specs.Outputs.{is_written}

@@ -1,12 +1,11 @@
 -- To files that are told, and are a listing, a record and class files of a program with types, `replay` answers what the run comes
 -- to, or that memory ran out.
-use Rattle.std.proofs.Common.{◌≡◌, ◌⊎◌, inl, inr, ℕ, ◌+◌, List, [], ◌∷◌, ◌++◌, Result, Ok, Err, refl, sym, ap, subst, ◌∙◌}
-use Rattle.std.specs.Prelude.{IsSome, length}
+use Rattle.std.proofs.Common.{◌≡◌, ◌⊎◌, inl, inr, ℕ, List, Result, Ok, Err, refl, sym, ap, subst, ◌∙◌}
+use Rattle.std.specs.Prelude.{length}
 use Rattle.api_listing.specs.declared.types.Listing.{Listing}
 use Rattle.bytecode_model.specs.declared.program.Program.{Program}
 use Rattle.bytecode_model.specs.declared.program.Side.TheVariants.{Inlined}
 use Rattle.bytecode_model.specs.Typed.{frames_in, frames_told}
-use Rattle.class_codec.specs.declared.tree.ClassFile.{ClassFile}
 use Rattle.command_words.specs.ReplayWords.{NamedReplay}
 use Rattle.command_words.specs.Words.{Replay}
 use Rattle.guest_step.specs.declared.replaying.Replayed.{Replayed}
@@ -16,12 +15,11 @@ use Rattle.guest_step.specs.Replaying.{replayed}
 use Rattle.mon_store.specs.Store.{Files, Rose}
 use Rattle.input_files.specs.declared.files.Stop.{Stop}
 use Rattle.input_files.specs.declared.files.Stop.TheVariants as stops
-use Rattle.input_files.specs.declared.forms.ReadClass.{ReadClass}
 use Rattle.input_files.specs.declared.named.ReadClasses.{ReadClasses as Classes}
 use Rattle.input_files.specs.declared.replay_inputs.ReplayInputs.{ReplayInputs}
-use Rattle.input_files.specs.Forms.{Count, IsRead, ReadsForm}
-use Rattle.input_files.specs.Kinds.{class_form, listing_form, record_form}
-use Rattle.input_files.specs.Named.{AreClasses, ReadsClasses, StopsAmong}
+use Rattle.input_files.specs.Forms.{Count, ReadsForm}
+use Rattle.input_files.specs.Kinds.{listing_form, record_form}
+use Rattle.input_files.specs.Named.{ReadsClasses}
 use Rattle.input_files.specs.ReplayInputs.{ReadsReplay}
 use Rattle.inliner_tool.specs.declared.answer.Answer.{Answer}
 use Rattle.inliner_tool.specs.declared.answer.Answer.TheVariants as answers

@@ -1,20 +1,18 @@
 -- The certificate of a woven program can be spelled.
-use Rattle.std.proofs.Common.{◌≡◌, ℕ, zero, suc, ◌+◌, ◌<◌, ◌≤◌, ◌^◌, Bool, true, false, cond, List, [], ◌∷◌, length, map, drop, Option, Some, None, refl, sym, ap, subst, ◌∙◌, arith}
-use Rattle.std.specs.Prelude.{nat_lt, slice_get}
+use Rattle.std.proofs.Common.{◌≡◌, ℕ, zero, suc, ◌<◌, ◌≤◌, ◌^◌, Bool, true, false, cond, List, [], ◌∷◌, length, map, drop, Option, Some, None, refl, sym, ap, subst, ◌∙◌, arith}
+use Rattle.std.specs.Prelude.{slice_get}
 use Rattle.std.specs.List.{AllByRecursion, zip}
-use Rattle.mon_base.specs.Widths.{IsU2, IsU4}
 use Rattle.block_template.specs.Good.{HasNumbers}
 use Rattle.bytecode_model.specs.declared.program.LinkedClass.{LinkedClass}
 use Rattle.bytecode_model.specs.declared.program.Method.{Method}
 use Rattle.bytecode_model.specs.declared.program.Program.{Program}
 use Rattle.bytecode_model.specs.Rules.{Frames}
-use Rattle.bytecode_model.specs.Shape.{IsShaped, coded, has_code, program_shape, shape_of}
+use Rattle.bytecode_model.specs.Shape.{IsShaped, coded, has_code}
 use Rattle.bytecode_model.specs.Sound.{IsSound, IsSoundClass, IsSoundMethod}
 use Rattle.bytecode_model.specs.Standing.{AreStanding}
 use Rattle.bytecode_model.specs.Typed.{list_at}
 use Rattle.cert_format.specs.declared.certificate.Mode.{Mode}
 use Rattle.cert_format.specs.declared.note.Note.{Note}
-use Rattle.cert_format.specs.declared.note.Note.TheVariants as notes
 use Rattle.cert_format.specs.declared.typing.FrameType.{FrameType}
 use Rattle.cert_format.specs.declared.typing.Typing.{Typing}
 use Rattle.cert_format.specs.Fits.{CanSpell, FitClasses, FitsClass, FitsInstruction, FitsMethod, FitsNote}
@@ -163,8 +161,11 @@ module _ (old new : Program) (policy : Policy) (mode : Mode) (typing : Typing) (
       let many : length (notes_of policy mode old.classes typing.frames) ≡ length typing.frames =
       sym (map_long (map length) (notes_of policy mode old.classes typing.frames)) ∙ ap length same_shape ∙ map_long (map length) typing.frames in (
         omega (arith, count, new_sound.few),
-        (many, classes_fit (length policy.vars) policy mode (λ method few. parts_fit policy is numbers mode method.max_locals few method.refs) old.classes small typing.frames fits
-            (few_in new.classes new_sound.classes typing.frames frames_shaped) same_shape),
+        (
+          many,
+          classes_fit (length policy.vars) policy mode (λ method few. parts_fit policy is numbers mode method.max_locals few method.refs) old.classes small typing.frames fits
+              (few_in new.classes new_sound.classes typing.frames frames_shaped) same_shape,
+        ),
       )
 
   pub can_spell : CanSpell (length policy.vars) (certificate_of old.classes policy mode typing)

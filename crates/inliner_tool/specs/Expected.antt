@@ -2,12 +2,9 @@
 use Rattle.std.specs.Prelude.{◌≡◌, ℕ, true, List, length, Ok}
 use Rattle.bytecode_model.specs.declared.program.Program.{Program}
 use Rattle.bytecode_model.specs.Order.{IsInOrder}
-use Rattle.bytecode_model.specs.Shape.{IsShaped}
 use Rattle.bytecode_model.specs.Sound.{IsSound}
 use Rattle.block_logic.specs.Accepted.{IsAccepted}
-use Rattle.cert_format.specs.declared.typing.Typing.{Typing}
 use Rattle.cert_format.specs.Fits.{CanSpell}
-use Rattle.cert_maker.specs.Noting.{certificate_of}
 use Rattle.class_weaving.specs.declared.woven.Woven.{Woven}
 use Rattle.output_files.specs.Outputs.{is_written}
 use Rattle.told_typing.specs.Told.{FitsTyping}

@@ -1,8 +1,7 @@
 -- That `check` accepts what `inline` wrote.
-use Rattle.std.specs.Prelude.{◌≡◌, ◌⊎◌, ◌≤◌, ℕ, length, map, sum_by, Ok, IsSome}
+use Rattle.std.specs.Prelude.{◌≡◌, ◌⊎◌, ◌≤◌, ℕ, ◌+◌, List, [], ◌∷◌, length, map, Ok, IsSome}
 use Rattle.std.specs.List.{AllByRecursion}
 use Rattle.bytecode_model.specs.declared.program.LinkedClass.{LinkedClass}
-use Rattle.bytecode_model.specs.declared.program.Program.{Program}
 use Rattle.bytecode_model.specs.Files.{max_files}
 use Rattle.class_codec.specs.Spelling.{spelling}
 use Rattle.command_words.specs.InlineWords.{NamedInline}
@@ -20,6 +19,10 @@ use Rattle.inliner_tool.specs.Tool.{CarriesOut, IsAnswer, status_of}
 abbrev pub size_of : LinkedClass → ℕ
 size_of class = length (spelling class.file)
 
+abbrev pub sizes_of : List LinkedClass → ℕ
+sizes_of [] = 0
+sizes_of (class ∷ classes) = size_of class + sizes_of classes
+
 -- These words name what was written of the program, in its order, with the same main class, and a listing and a policy that are read
 -- as those of which it was woven; there are no more class files than may be given, and they are not too long.
 pub record NamesWritten {old new : Files} {count : Count} {named : NamedInline} (inlined : IsInlined old new count named) (check : NamedCheck) : Type 0 where
@@ -30,7 +33,7 @@ pub record NamesWritten {old new : Files} {count : Count} {named : NamedInline} 
   pub classes : check.classes ≡ map (class_name named.folder) inlined.planned.rewoven.program.classes
   pub few : length inlined.planned.rewoven.program.classes ≤ max_files
   pub short : AllByRecursion (λ (c : LinkedClass). size_of c ≤ 1048576) inlined.planned.rewoven.program.classes
-  pub total : sum_by size_of inlined.planned.rewoven.program.classes ≤ 16777216
+  pub total : sizes_of inlined.planned.rewoven.program.classes ≤ 16777216
 
 -- What `check` answers then, without a fault of the store, is yes, or memory ran out: its status is 0 or 7.
 abbrev pub WrittenIsAccepted : Type 0

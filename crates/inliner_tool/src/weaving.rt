@@ -141,12 +141,7 @@ fn releasing(policy: &PolicyTree) -> Result<Mode, Refusal>
 }
 
 /// The woven files.
-fn woven(
-    alloc: Global,
-    client: &Program,
-    policy: &Policy,
-    mode: Mode,
-) -> Result<Woven, Refusal>
+fn woven(alloc: Global, client: &Program, policy: &Policy, mode: Mode) -> Result<Woven, Refusal>
     requires sound { IsSound client.now }
     requires policy { IsPolicy policy.now }
     ensures is { UnlessMemory (Equals (weave_step (woven client.now (plan_of policy.now mode) policy.now.vars))) result }
@@ -198,12 +193,7 @@ fn unfit(fault: SpliceFault) -> Refusal
 }
 
 /// What is woven, linked again, with its certificate, which is accepted.
-fn rewoven(
-    alloc: Global,
-    words: &InlineWords,
-    given: Given,
-    made: Woven,
-) -> Result<Ready, Refusal>
+fn rewoven(alloc: Global, words: &InlineWords, given: Given, made: Woven) -> Result<Ready, Refusal>
     requires few { IsFew given.client.listing }
     requires listed { IsListed given.client.listing }
     requires policy { IsSoundFor given.client.listing given.policy }

@@ -1,0 +1,248 @@
+-- What `inline` wrote is read again, links, and is accepted.
+use Rattle.std.proofs.Common.{◌≡◌, ◌⊎◌, inl, inr, ℕ, zero, suc, ◌≤◌, Bool, true, false, cond, List, [], ◌∷◌, ◌++◌, length, map, Some, Result, Ok, Err, refl, sym, ap, subst, ◌∙◌, arith}
+use Rattle.std.specs.Prelude.{IsSome, nat_le, nat_lt, slice_get}
+use Rattle.std.specs.List.{AllByRecursion}
+use Rattle.std.proofs.lemmas.Bool.{and_parts, le-ltb, leb-true}
+use Rattle.bytecode_model.specs.declared.program.LinkedClass.{LinkedClass}
+use Rattle.bytecode_model.specs.declared.program.Program.{Program}
+use Rattle.bytecode_model.specs.declared.program.Side.TheVariants.{Inlined}
+use Rattle.bytecode_model.specs.Files.{max_files, unlinked}
+use Rattle.bytecode_model.specs.Sound.{IsSoundClass}
+use Rattle.bytecode_model.specs.Standing.{IsLinkedOf}
+use Rattle.bytecode_model.proofs.Lists.{all_get}
+use Rattle.cert_checker.specs.Acceptance.{verdict}
+use Rattle.cert_format.specs.declared.certificate.Certificate.{Certificate}
+use Rattle.cert_format.specs.declared.certificate.Mode.{Mode}
+use Rattle.cert_format.specs.declared.certificate.Mode.TheVariants as modes
+use Rattle.cert_format.specs.declared.fault.CertForm.{CertForm}
+use Rattle.cert_format.specs.declared.fault.CertForm.TheVariants as certificates
+use Rattle.cert_format.specs.Fits.{CanSpell}
+use Rattle.cert_format.specs.Reading.{certificate_of}
+use Rattle.cert_format.specs.Spelling.{spell_certificate}
+use Rattle.cert_format.proofs.FileLaws.{is_only}
+use Rattle.class_codec.specs.declared.fault.ClassFault.{ClassFault}
+use Rattle.class_codec.specs.declared.fault.ClassFault.TheVariants as classes
+use Rattle.class_codec.specs.declared.tree.ClassFile.{ClassFile}
+use Rattle.class_codec.specs.Fits.{CanSpell as CanSpellClass}
+use Rattle.class_codec.specs.Reading.{class_of}
+use Rattle.class_codec.specs.Spelling.{spelling}
+use Rattle.class_codec.proofs.FileLaws.{is_only as class_only}
+use Rattle.class_linking.specs.Laws.{LinkedAreNamed}
+use Rattle.class_linking.specs.Linking.{linked}
+use Rattle.command_words.specs.declared.inline_words.Weaving.{Weaving}
+use Rattle.command_words.specs.declared.inline_words.Weaving.TheVariants as weavings
+use Rattle.command_words.specs.InlineWords.{NamedInline}
+use Rattle.command_words.specs.Words.{Check, NamedCheck}
+use Rattle.conspec_automaton.specs.Denying.{denies_only}
+use Rattle.conspec_tree.specs.declared.types.PolicyTree.{PolicyTree}
+use Rattle.mon_base.specs.Answer.{Answers}
+use Rattle.mon_store.specs.Outputs.{all_written}
+use Rattle.mon_store.specs.Store.{Files, Rose}
+use Rattle.input_files.specs.declared.check_inputs.CheckInputs.{CheckInputs}
+use Rattle.input_files.specs.declared.fault.InputFault.TheVariants as faults
+use Rattle.input_files.specs.Forms.{Count, HasText}
+use Rattle.input_files.specs.Kinds.{certificate_form, certificate_read, class_form, class_read, listing_form, policy_form}
+use Rattle.output_files.specs.Outputs.{are_short, certificate_name, certificate_output, class_name, class_output, is_written}
+use Rattle.inliner_tool.specs.declared.answer.Answer.{Answer}
+use Rattle.inliner_tool.specs.declared.answer.Answer.TheVariants as answers
+use Rattle.inliner_tool.specs.declared.refusal.Refusal.TheVariants as refusals
+use Rattle.inliner_tool.specs.declared.tool.Status.TheVariants as statuses
+use Rattle.inliner_tool.specs.Check.{check_answer, is_judged, verdict_answer}
+use Rattle.inliner_tool.specs.Inline.{IsInlined}
+use Rattle.inliner_tool.specs.Programs.{link_step, program_of}
+use Rattle.inliner_tool.specs.Rechecking.{NamesWritten, WrittenIsAccepted, size_of, sizes_of}
+use Rattle.inliner_tool.specs.Tool.{CarriesOut, IsAnswer, status_of}
+use Rattle.inliner_tool.specs.Weaving.{mode_for}
+use Rattle.inliner_tool.proofs.CheckDecision.{answers_verdict, check_says}
+use Rattle.inliner_tool.proofs.Counting.{linked_of}
+use Rattle.inliner_tool.proofs.Told.{MayRead, may_read}
+use Rattle.inliner_tool.proofs.ToldClasses.{MayClasses}
+use Rattle.inliner_tool.proofs.Written.{all_told, class_written, last_written, no_certificate}
+
+-- ---- what is spelled is read
+
+answers_own : {X E : Type 0} (memory : E) (r : Result X E) → Answers memory r r
+answers_own memory (Ok x) = refl
+answers_own memory (Err e) = λ other. refl
+
+certificate_again : (vars : ℕ) (c : Certificate) → CanSpell vars c → (certificate_of vars (spell_certificate c) ≡ Ok c) ⊎ (certificate_of vars (spell_certificate c) ≡ Err certificates.Memory)
+certificate_again vars c fits = by (certificate_of vars (spell_certificate c)) refl
+    (is_only vars (spell_certificate c) (certificate_of vars (spell_certificate c)) c (answers_own certificates.Memory (certificate_of vars (spell_certificate c))) (record { is = refl; fits = fits })) where
+      by : (r : Result Certificate CertForm) → certificate_of vars (spell_certificate c) ≡ r → Answers certificates.Memory r (Ok c)
+          → (certificate_of vars (spell_certificate c) ≡ Ok c) ⊎ (certificate_of vars (spell_certificate c) ≡ Err certificates.Memory)
+      by (Ok d) is given = inl (is ∙ sym given)
+      by (Err certificates.Memory) is given = inr is
+      by (Err (certificates.Form at)) is given =
+          let wrong : ◌≡◌ {A = Result Certificate CertForm} (Ok c) (Err (certificates.Form at)) = given (λ e. absurd cc) in
+          absurd cc
+
+class_again : (file : ClassFile) → CanSpellClass file → length (spelling file) ≤ 1048576 → (class_of (spelling file) ≡ Ok file) ⊎ (class_of (spelling file) ≡ Err classes.Memory)
+class_again file fits short = by (class_of (spelling file)) refl
+    (class_only (spelling file) (class_of (spelling file)) file (answers_own classes.Memory (class_of (spelling file))) (record { fits = fits; is = refl }) short) where
+      other : (e : ClassFault) → (e ≡ classes.Memory → ⊥) → class_of (spelling file) ≡ Err e → Answers classes.Memory (Err e) (Ok file)
+          → (class_of (spelling file) ≡ Ok file) ⊎ (class_of (spelling file) ≡ Err classes.Memory)
+      other e apart is given =
+          let wrong : ◌≡◌ {A = Result ClassFile ClassFault} (Ok file) (Err e) = given apart in
+          absurd cc
+
+      by : (r : Result ClassFile ClassFault) → class_of (spelling file) ≡ r → Answers classes.Memory r (Ok file) → (class_of (spelling file) ≡ Ok file) ⊎ (class_of (spelling file) ≡ Err classes.Memory)
+      by (Ok d) is given = inl (is ∙ sym given)
+      by (Err classes.Memory) is given = inr is
+      by (Err classes.Magic) is given = other classes.Magic (λ e. absurd cc) is given
+      by (Err (classes.Version major)) is given = other (classes.Version major) (λ e. absurd cc) is given
+      by (Err (classes.Short at)) is given = other (classes.Short at) (λ e. absurd cc) is given
+      by (Err (classes.Tail at)) is given = other (classes.Tail at) (λ e. absurd cc) is given
+      by (Err (classes.Tag at tag)) is given = other (classes.Tag at tag) (λ e. absurd cc) is given
+      by (Err (classes.Index at)) is given = other (classes.Index at) (λ e. absurd cc) is given
+      by (Err (classes.TooLong len)) is given = other (classes.TooLong len) (λ e. absurd cc) is given
+
+-- ---- files
+
+certificate_may : (files : Files) (name : List ℕ) (vars : ℕ) (c : Certificate) → HasText files name (spell_certificate c) → CanSpell vars c → is_written c ≡ true → MayRead files name (certificate_form vars) c
+certificate_may files name vars c has fits written =
+    record { text = spell_certificate c; told = has; short = leb-true _ _ (and_parts (are_short c.typing) (nat_le (length (spell_certificate c)) 67108864) written).1; reads = by (certificate_again vars c fits) } where
+      by : (certificate_of vars (spell_certificate c) ≡ Ok c) ⊎ (certificate_of vars (spell_certificate c) ≡ Err certificates.Memory)
+          → ((certificate_form vars).reads (spell_certificate c) ≡ Ok c) ⊎ ((certificate_form vars).reads (spell_certificate c) ≡ Err faults.Memory)
+      by (inl e) = inl (ap certificate_read e)
+      by (inr e) = inr (ap certificate_read e)
+
+class_may : (files : Files) (name : List ℕ) (file : ClassFile) → HasText files name (spelling file) → CanSpellClass file → length (spelling file) ≤ 1048576
+    → MayRead files name class_form (record { file = file; len = length (spelling file) })
+class_may files name file has fits short = record { text = spelling file; told = has; short = short; reads = by (class_again file fits short) } where
+  by : (class_of (spelling file) ≡ Ok file) ⊎ (class_of (spelling file) ≡ Err classes.Memory)
+      → (class_form.reads (spelling file) ≡ Ok (record { file = file; len = length (spelling file) })) ⊎ (class_form.reads (spelling file) ≡ Err faults.Memory)
+  by (inl e) = inl (ap (class_read (length (spelling file))) e)
+  by (inr e) = inr (ap (class_read (length (spelling file))) e)
+
+module _ (files : Files) (folder : List ℕ) where
+  -- what is known of a class that was written
+  record IsThere (c : LinkedClass) : Type 0 where
+    has : HasText files (class_name folder c) (spelling c.file)
+    fits : CanSpellClass c.file
+    short : size_of c ≤ 1048576
+
+  all_there : (list : List LinkedClass) → AllByRecursion IsThere list → MayClasses files (map (class_name folder) list) (map (λ (c : LinkedClass). c.file) list) (sizes_of list)
+  all_there [] all = refl
+  all_there (c ∷ list) all = (size_of c, sizes_of list, refl, class_may files (class_name folder c) c.file all.0.has all.0.fits all.0.short, all_there list all.1)
+
+all_by : {A : Type 0} (P : A → Type 0) (list : List A) → ((i : ℕ) (x : A) → slice_get list i ≡ Some x → P x) → AllByRecursion P list
+all_by P [] each = tt
+all_by P (x ∷ list) each = (each zero x refl, all_by P list (λ i y e. each (suc i) y e))
+
+-- ---- modes
+
+-- What is woven in a mode is judged in it.
+chosen_judged : (weaving : Weaving) (policy : PolicyTree) (mode : Mode) → mode_for weaving policy ≡ Ok mode → is_judged mode policy ≡ true
+chosen_judged weaving policy mode e = by weaving e where
+  hold : (m : Mode) → modes.Hold ≡ m → is_judged m policy ≡ true
+  hold m same = subst (λ (x : Mode). is_judged x policy ≡ true) same refl
+
+  release : (b : Bool) → denies_only policy ≡ b → cond b (Ok modes.Release) (Err refusals.NotBuilt) ≡ Ok mode → is_judged mode policy ≡ true
+  release true denies e =
+      let same : modes.Release ≡ mode = cc in
+      subst (λ (x : Mode). is_judged x policy ≡ true) same denies
+  release false denies e = absurd cc
+
+  by : (w : Weaving) → mode_for w policy ≡ Ok mode → is_judged mode policy ≡ true
+  by weavings.Hold e =
+      let same : modes.Hold ≡ mode = cc in
+      hold mode same
+  by weavings.Release e = release (denies_only policy) refl e
+  by weavings.Auto e = release (denies_only policy) refl e
+
+-- ---- the whole
+
+module _ (law : LinkedAreNamed) (old new : Files) (count : Count) (named : NamedInline) (told : IsSome old) (inlined : IsInlined old new count named) (check : NamedCheck) (names : NamesWritten inlined check) where
+  abbrev program : Program
+  program = inlined.planned.rewoven.program
+
+  abbrev certificate : Certificate
+  certificate = inlined.planned.rewoven.certificate
+
+  abbrev tree : PolicyTree
+  tree = inlined.inputs.policy
+
+  linked_so : IsLinkedOf Inlined inlined.planned.given.client.listing named.main program
+  linked_so =
+      let many : length inlined.planned.made.files ≡ length program.classes = sym (ap length inlined.planned.rewoven.same) ∙ count_files program.classes in
+      law inlined.planned.made.files inlined.planned.given.client.listing named.main Inlined program (omega (arith, many, names.few)) inlined.planned.rewoven.links inlined.planned.rewoven.sound
+    where
+      count_files : (list : List LinkedClass) → length (map (λ (c : LinkedClass). c.file) list) ≡ length list
+      count_files [] = refl
+      count_files (c ∷ list) = ap suc (count_files list)
+
+  -- ---- what stands
+
+  written_so : new ≡ all_written old (map (class_output named.folder) program.classes ++ certificate_output named.folder (spell_certificate certificate) ∷ [])
+  written_so = inlined.written ∙ ap (all_written old) inlined.planned.rewoven.outputs
+
+  told_new : IsSome new
+  told_new = subst IsSome (sym written_so) (all_told (map (class_output named.folder) program.classes ++ certificate_output named.folder (spell_certificate certificate) ∷ []) old told)
+
+  certificate_there : HasText new (certificate_name named.folder) (spell_certificate certificate)
+  certificate_there =
+      subst (λ (f : Files). HasText f (certificate_name named.folder) (spell_certificate certificate)) (sym written_so)
+      (last_written (map (class_output named.folder) program.classes) (certificate_output named.folder (spell_certificate certificate)) old)
+
+  class_there : (i : ℕ) (c : LinkedClass) → slice_get program.classes i ≡ Some c → HasText new (class_name named.folder c) (spelling c.file)
+  class_there i c there =
+      subst (λ (f : Files). HasText f (class_name named.folder c) (spelling c.file)) (sym written_so)
+      (class_written named.folder program.classes (certificate_output named.folder (spell_certificate certificate)) old i c there (no_certificate named.folder c) (λ j d lt e same.
+      let one : j ≡ i = (linked_so.standing i c there).once j d e same in
+      absurd (omega (arith, one, lt))))
+
+  classes_there : MayClasses new check.classes (unlinked program) (sizes_of program.classes)
+  classes_there =
+      subst (λ (ns : List (List ℕ)). MayClasses new ns (unlinked program) (sizes_of program.classes)) (sym names.classes)
+      (all_there new named.folder program.classes (all_by (IsThere new named.folder) program.classes (λ i c there. record {
+        has = class_there i c there;
+        fits = (all_get IsSoundClass program.classes i c inlined.planned.rewoven.sound.classes there).fits;
+        short = all_get (λ (x : LinkedClass). size_of x ≤ 1048576) program.classes i c names.short there;
+      })))
+
+  -- ---- what it is
+
+  abbrev inputs : CheckInputs
+  inputs = record { listing = inlined.inputs.listing; policy = tree; certificate = certificate; classes = record { files = unlinked program; total = sizes_of program.classes } }
+
+  certificate_read_so : MayRead new check.certificate (certificate_form (length tree.vars)) certificate
+  certificate_read_so =
+      let fits : CanSpell (length tree.vars) certificate = subst (λ p. CanSpell (length p.vars) certificate) inlined.planned.policy inlined.planned.rewoven.spells in
+      subst (λ (name : List ℕ). MayRead new name (certificate_form (length tree.vars)) certificate) (sym names.certificate)
+      (certificate_may new (certificate_name named.folder) (length tree.vars) certificate certificate_there fits inlined.planned.rewoven.written)
+
+  links : program_of inlined.inputs.listing inputs.classes check.main Inlined ≡ Ok program
+  links =
+      let few : nat_lt 16777216 (sizes_of program.classes) ≡ false = le-ltb 16777216 (sizes_of program.classes) names.total in
+      let few_files : length inlined.planned.made.files ≤ max_files = omega (arith, linked_so.few, sym (ap length inlined.planned.rewoven.same) ∙ many_files program.classes) in
+      let whole : linked inlined.planned.made.files inlined.planned.given.client.listing named.main Inlined ≡ Ok program =
+      linked_of inlined.planned.made.files inlined.planned.given.client.listing named.main Inlined program few_files inlined.planned.rewoven.links in
+      let here : linked (unlinked program) inlined.inputs.listing check.main Inlined ≡ Ok program =
+      ap (λ fs. linked fs inlined.inputs.listing check.main Inlined) inlined.planned.rewoven.same ∙ ap (λ l. linked inlined.planned.made.files l check.main Inlined) (sym inlined.planned.listing)
+      ∙ ap (λ m. linked inlined.planned.made.files inlined.planned.given.client.listing m Inlined) names.main ∙ whole in
+      ap (λ (b : Bool). cond b (Err (refusals.TotalLong (sizes_of program.classes))) (link_step (linked (unlinked program) inlined.inputs.listing check.main Inlined))) few ∙ ap link_step here
+    where
+      many_files : (list : List LinkedClass) → length (map (λ (c : LinkedClass). c.file) list) ≡ length list
+      many_files [] = refl
+      many_files (c ∷ list) = ap suc (many_files list)
+
+  judged : is_judged certificate.mode tree ≡ true
+  judged = ap (λ (m : Mode). is_judged m tree) inlined.planned.rewoven.mode_is ∙ chosen_judged named.weaving tree inlined.planned.given.mode inlined.planned.chosen
+
+  accepts : check_answer check.main inputs ≡ answers.Accepted inlined.ready.accepted
+  accepts =
+      answers_verdict check.main inputs program links judged
+      ∙ ap (verdict_answer program) (subst (λ p. verdict program p certificate ≡ Ok inlined.ready.accepted) inlined.planned.policy inlined.planned.rewoven.verdict)
+
+  pub accepted_again : (later : Files) (again : Count) (answer : Answer) → IsAnswer (λ (a : Answer). CarriesOut new later again (Check check) a) answer → (Rose again.before again.now → ⊥)
+      → (status_of answer ≡ statuses.Done) ⊎ (status_of answer ≡ statuses.Memory)
+  accepted_again later again answer is quiet =
+      by (check_says new again check quiet told_new inputs (may_read new check.listing listing_form inlined.inputs.listing names.listing)
+      (may_read new check.policy (policy_form inlined.inputs.listing) tree names.policy) certificate_read_so classes_there later answer is)
+    where
+      by : (answer ≡ check_answer check.main inputs) ⊎ (answer ≡ answers.Memory) → (status_of answer ≡ statuses.Done) ⊎ (status_of answer ≡ statuses.Memory)
+      by (inl same) = inl (ap status_of (same ∙ accepts))
+      by (inr memory) = inr (ap status_of memory)
+
+pub written_is_accepted : LinkedAreNamed → WrittenIsAccepted
+written_is_accepted law old new count named told inlined check names later again answer is quiet = accepted_again law old new count named told inlined check names later again answer is quiet
