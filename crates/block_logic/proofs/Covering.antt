@@ -4,7 +4,7 @@ use Rattle.std.specs.Prelude.{filter, is_some, if◌then◌else◌}
 use Rattle.std.proofs.lemmas.Bool.{cases_Bool}
 use Rattle.bytecode_model.specs.declared.program.Handler.{Handler}
 use Rattle.bytecode_model.specs.Rules.{covers}
-use Rattle.block_logic.specs.Wanted.{handlers_of}
+use Rattle.block_logic.specs.Notes.{handlers_of}
 
 those_covering : (at : ℕ) (table : List Handler) → handlers_of at (filter (covers at) table) ≡ handlers_of at table
 those_covering at [] = refl

@@ -1,2 +1,3 @@
 pub mod ExitRows
+pub mod Lists
 pub mod Covering

@@ -28,9 +28,13 @@ clause_of policy site = clause_at policy site.method site.phase
 abbrev pub needs : Policy → ℕ → ℕ
 needs policy method = option_map_or (λ (c : Clause). length c.args) (clause_at policy method sites.Before) 0
 
+-- the first clause of the method
+abbrev pub clause_for : Policy → ℕ → Option Clause
+clause_for policy method = find (λ (c : Clause). c.method == method) policy.clauses
+
 -- what a method gives that the policy has a clause for; each of its clauses tells the same
 abbrev pub result_of : Policy → ℕ → Option Kind
-result_of policy method = option_and_then (λ (c : Clause). c.result) (find (λ (c : Clause). c.method == method) policy.clauses)
+result_of policy method = option_and_then (λ (c : Clause). c.result) (clause_for policy method)
 
 abbrev pub is_number : Kind → Bool
 is_number kinds.Object = false
