@@ -8,3 +8,6 @@ pub mod Notes
 pub mod Testing
 pub mod State
 pub mod Accepted
+pub mod Meaning
+pub mod Fitting
+pub mod Obeying

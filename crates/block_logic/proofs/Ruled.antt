@@ -1,0 +1,75 @@
+-- What the rules of the notes tell of an instruction at which a frame of an accepted program stands.
+use Rattle.std.proofs.Common.{◌≡◌, ℕ, ◌+◌, ◌<◌, ◌==◌, Bool, true, false, List, [], ◌∷◌, length, Option, Some, None}
+use Rattle.std.specs.Prelude.{◌&&◌, ◌||◌, Contains, if◌then◌else◌, is_some, slice_get}
+use Rattle.insn_codec.specs.declared.insn.Insn.{Insn}
+use Rattle.insn_codec.specs.Control.{jump_targets}
+use Rattle.insn_codec.specs.Opcodes.{goes_on}
+use Rattle.insn_codec.specs.Shapes.{shape_of}
+use Rattle.insn_codec.specs.Spelling.{opcode_of}
+use Rattle.bytecode_model.specs.declared.program.Handler.{Handler}
+use Rattle.bytecode_model.specs.declared.program.Method.{Method}
+use Rattle.bytecode_model.specs.declared.program.Program.{Program}
+use Rattle.bytecode_model.specs.declared.program.Target.{Target}
+use Rattle.bytecode_model.specs.declared.program.Target.TheVariants as target
+use Rattle.bytecode_model.specs.SearchOrder.{Name}
+use Rattle.cert_format.specs.declared.certificate.Certificate.{Certificate}
+use Rattle.cert_format.specs.declared.note.Note.{Note}
+use Rattle.cert_format.specs.declared.note.Note.TheVariants as notes
+use Rattle.conspec_automaton.specs.declared.policy.Policy.{Policy}
+use Rattle.guest_heap.specs.declared.frame.Frame.{Frame}
+use Rattle.guest_model.specs.Places.{insn_at, method_at}
+use Rattle.guest_model.specs.Throwing.{handler_of}
+use Rattle.block_logic.specs.Accepted.{rules_of}
+use Rattle.block_logic.specs.Meaning.{note_at, note_of}
+use Rattle.block_logic.specs.Notes.{is_free, is_granted, is_stop, meets}
+use Rattle.block_logic.specs.Obeying.{IsObeying}
+use Rattle.block_logic.specs.Operands.{calls, has_clause, is_way_out, variable_named}
+use Rattle.block_logic.specs.Rows.{Asked, Row, Rules, is_duty, row}
+use Rattle.block_logic.specs.Standing.{is_open}
+
+module _ (program : Program) (policy : Policy) (certificate : Certificate) where
+  abbrev pub rules : Rules
+  rules = rules_of program policy certificate
+
+  -- The instruction of this index has a note, which is as it is asked to be.
+  pub record LeadsTo (frame : Frame) (to : ℕ) (asked : Asked) : Type 0 where
+    pub note : Note
+    pub told : note_at program certificate frame.class frame.method to ≡ Some note
+    pub meets : meets rules asked note ≡ true
+
+  pub record IsRuled (frame : Frame) (next : Insn × Target) (note : Note) : Type 0 where
+    pub of : Method
+    pub there : method_at program frame.class frame.method ≡ Some of
+    -- its row
+    pub r : Row
+    pub has : row rules note (shape_of next.0) next.1 ≡ Some r
+    -- the client leaves the policy's variables alone
+    pub alone : is_free note ≡ true → variable_named rules.state next.1 ≡ None
+    -- a call with a clause is granted; any other is the client's, or the way out
+    pub granted : calls (shape_of next.0) ≡ true → has_clause policy next.1 ≡ true → is_granted rules next.1 note ≡ true
+    pub unclaused : calls (shape_of next.0) ≡ true → has_clause policy next.1 ≡ false → (is_free note || (is_stop note && is_way_out next.1)) ≡ true
+    -- what comes next
+    pub past : goes_on (opcode_of next.0) ≡ true → LeadsTo frame (frame.at + 1) r.past
+    pub jump : (to : ℕ) → Contains (jump_targets next.0) to → LeadsTo frame to r.jump
+    -- what a handler finds that takes what is thrown here
+    pub caught : (asked : Asked) (class : Name) (handler : Handler) → r.thrown ≡ Some asked → handler_of program frame class ≡ Some handler
+        → LeadsTo frame handler.at asked
+    -- such a handler has room on the stack
+    pub room : (class : Name) (handler : Handler) → handler_of program frame class ≡ Some handler → 0 < of.max_stack
+    -- a granted call is caught, whatever it throws, where that is a duty
+    pub duty : (method : ℕ) → next.1 ≡ target.ApiMethod method → calls (shape_of next.0) ≡ true → has_clause policy next.1 ≡ true → is_duty rules method ≡ true
+        → (class : Name) → (handler : Handler) × (handler_of program frame class ≡ Some handler)
+
+  -- Wherever a frame stands at an instruction that is reached and has a note, the rules hold.
+  abbrev pub RulesHold : Type 0
+  RulesHold = (frame : Frame) (next : Insn × Target) (note : Note) → insn_at program frame ≡ Some next → note_of program certificate frame ≡ Some note
+      → IsRuled frame next note
+
+  -- Each method with code begins in no block.
+  abbrev pub BeginsOpen : Type 0
+  BeginsOpen = (class method : ℕ) (of : Method) → method_at program class method ≡ Some of → 0 < length of.insns
+      → (note_at program certificate class method 0 ≡ Some notes.Free)
+
+  -- To be in no block is to be in the client's code, where the lock is held round calls, or calls are denied.
+  abbrev pub OpenIsFree : Type 0
+  OpenIsFree = (note : Note) → is_open certificate.mode policy note ≡ true → note ≡ notes.Free

@@ -1,0 +1,171 @@
+-- When a machine is as the notes of its threads say, and what of it is no part of any block.
+use Rattle.std.specs.Prelude.{◌≡◌, ◌≢◌, ◌⊎◌, ℕ, true, false, IfSome, List, [], ◌∷◌, ◌++◌, length, filter, Option, Some, None, slice_get}
+use Rattle.std.specs.List.{AllByRecursion}
+use Rattle.api_listing.specs.declared.events.Event.{Event}
+use Rattle.insn_codec.specs.declared.insn.Insn.{Insn}
+use Rattle.insn_codec.specs.Shapes.{shape_of}
+use Rattle.bytecode_model.specs.declared.program.Program.{Program}
+use Rattle.bytecode_model.specs.declared.program.Target.TheVariants as target
+use Rattle.cert_format.specs.declared.certificate.Certificate.{Certificate}
+use Rattle.cert_format.specs.declared.certificate.Mode.{Mode}
+use Rattle.cert_format.specs.declared.certificate.Mode.TheVariants as modes
+use Rattle.cert_format.specs.declared.note.Note.{Note}
+use Rattle.cert_format.specs.declared.note.Note.TheVariants as notes
+use Rattle.cert_format.specs.declared.note.Site.{Site}
+use Rattle.conspec_automaton.specs.declared.policy.Policy.{Policy}
+use Rattle.conspec_automaton.specs.Next.{Values, has_clauses}
+use Rattle.conspec_automaton.specs.Obeys.{IsFollowed}
+use Rattle.conspec_automaton.specs.Range.{in_range}
+use Rattle.guest_heap.specs.declared.frame.Frame.{Frame}
+use Rattle.guest_heap.specs.declared.object.Monitor.{Monitor}
+use Rattle.guest_heap.specs.declared.object.Object.{Object}
+use Rattle.guest_heap.specs.declared.object.Object.TheVariants as objects
+use Rattle.guest_heap.specs.declared.thread.Doing.{Doing}
+use Rattle.guest_heap.specs.declared.thread.Doing.TheVariants as doings
+use Rattle.guest_heap.specs.declared.thread.Thread.{Thread}
+use Rattle.guest_heap.specs.declared.value.Value.{Value}
+use Rattle.guest_frames.specs.Values.{are_one}
+use Rattle.guest_model.specs.declared.machine.Machine.{Machine}
+use Rattle.guest_model.specs.Changes.{World, world_of}
+use Rattle.guest_model.specs.Places.{insn_at}
+use Rattle.block_logic.specs.Accepted.{rules_of}
+use Rattle.block_logic.specs.Clauses.{clause_at, needs}
+use Rattle.block_logic.specs.Meaning.{AreClean, AreState, IsBelow, IsClean, IsFrame, IsFree, Leads, Owns, lock_of, note_of}
+use Rattle.block_logic.specs.Operands.{calls}
+
+-- ---- what all share
+
+-- An object holds no lock.
+abbrev pub IsCleanObject : Program → Object → Type 0
+IsCleanObject program (objects.Plain class fields target thread) = AreClean program fields × IsClean program target
+IsCleanObject program (objects.Array desc items) = AreClean program items
+IsCleanObject program (objects.Text text) = Unit {0}
+
+-- the number of the class that holds the policy's variables
+abbrev pub state_of : Program → Policy → Certificate → ℕ
+state_of program policy certificate = (rules_of program policy certificate).state
+
+-- No object and no static field but the policy's variables holds the lock.
+pub record IsCleanWorld (program : Program) (state : ℕ) (world : World) : Type 0 where
+  pub heap : AllByRecursion (IsCleanObject program) world.heap
+  pub statics : (class : ℕ) (fields : List Value) → class ≢ state → slice_get world.statics class ≡ Some fields → AreClean program fields
+
+-- the lock, as often as it is held
+abbrev pub held_locks : Program → List Monitor → List Monitor
+held_locks program monitors = filter (λ (m : Monitor). are_one m.on (lock_of program)) monitors
+
+-- it is held once, by the thread of this number
+abbrev pub locked_by : Program → ℕ → List Monitor
+locked_by program number = record { on = lock_of program; owner = number; count = 1 } ∷ []
+
+-- ---- a thread that does not hold the lock
+
+-- the frame at whose instruction it goes on: there is none, or its note is no note of a block that holds the lock
+abbrev pub IsClientFrame : Program → Policy → Certificate → Frame → Type 0
+IsClientFrame program policy certificate frame =
+    (insn_at program frame ≡ None) ⊎ ((note : Note) × (note_of program certificate frame ≡ Some note) × IsFree program policy frame note)
+
+-- Below stand frames that wait.
+abbrev pub AreBelow : Program → Policy → Certificate → List Frame → Type 0
+AreBelow program policy certificate below = AllByRecursion (IsBelow program policy certificate) below
+
+abbrev pub AreClientFrames : Program → Policy → Certificate → List Frame → Type 0
+AreClientFrames program policy certificate [] = Unit {0}
+AreClientFrames program policy certificate (frame ∷ below) =
+    IsFrame program frame × IsClientFrame program policy certificate frame × AreBelow program policy certificate below
+
+-- A frame waits for the answer to a call of the method.
+pub record IsAtCall (program : Program) (certificate : Certificate) (method : ℕ) (note : Note) (frame : Frame) : Type 0 where
+  pub insn : Insn
+  pub there : insn_at program frame ≡ Some (insn, target.ApiMethod method)
+  pub call : calls (shape_of insn) ≡ true
+  pub told : note_of program certificate frame ≡ Some note
+  pub clean : AreClean program frame.stack.items
+
+abbrev pub IsClientCall : Program → Policy → Certificate → ℕ → List Frame → Type 0
+IsClientCall program policy certificate method [] = ⊥
+IsClientCall program policy certificate method (frame ∷ below) =
+    IsFrame program frame × IsAtCall program certificate method notes.Free frame × AreBelow program policy certificate below
+
+-- what it passed
+abbrev pub ArePassed : Program → Option Value → List Value → Type 0
+ArePassed program receiver arguments = IfSome receiver (IsClean program) × AreClean program arguments
+
+abbrev pub IsClientDoing : Program → Policy → Certificate → List Frame → Doing → Type 0
+IsClientDoing program policy certificate frames doings.Running = AreClientFrames program policy certificate frames
+IsClientDoing program policy certificate frames (doings.InCall method receiver arguments) =
+    (has_clauses policy method ≡ false) × IsClientCall program policy certificate method frames × ArePassed program receiver arguments
+IsClientDoing program policy certificate frames doings.Ended = Unit {0}
+
+abbrev pub IsClient : Program → Policy → Certificate → Thread → Type 0
+IsClient program policy certificate thread = IsClientDoing program policy certificate thread.frames thread.doing
+
+-- ---- the thread that holds the lock
+
+pub record IsOwnerFrame (program : Program) (policy : Policy) (certificate : Certificate) (seen : List Event) (fields : List Value) (frame : Frame) : Type 0 where
+  pub well : IsFrame program frame
+  pub note : Note
+  pub told : note_of program certificate frame ≡ Some note
+  pub owns : Owns program policy certificate.mode seen fields frame note
+
+abbrev pub AreOwnerFrames : Program → Policy → Certificate → List Event → List Value → List Frame → Type 0
+AreOwnerFrames program policy certificate seen fields [] = ⊥
+AreOwnerFrames program policy certificate seen fields (frame ∷ below) =
+    IsOwnerFrame program policy certificate seen fields frame × AreBelow program policy certificate below
+
+-- It is in a call that was granted, and that led to the state of the variables.
+pub record IsOwnerCall (program : Program) (policy : Policy) (certificate : Certificate) (seen : List Event) (fields : List Value) (method : ℕ) (frame : Frame) : Type 0 where
+  pub hold : certificate.mode ≡ modes.Hold
+  pub well : IsFrame program frame
+  pub site : Site
+  pub of : site.method ≡ method
+  pub at_call : IsAtCall program certificate method (notes.Granted site true (needs policy method) false) frame
+  pub state : Values
+  pub ranged : in_range policy state ≡ true
+  pub led : Leads policy seen state
+  pub variables : AreState fields state
+
+abbrev pub AreOwnerCall : Program → Policy → Certificate → List Event → List Value → ℕ → List Frame → Type 0
+AreOwnerCall program policy certificate seen fields method [] = ⊥
+AreOwnerCall program policy certificate seen fields method (frame ∷ below) =
+    IsOwnerCall program policy certificate seen fields method frame × AreBelow program policy certificate below
+
+abbrev pub IsOwnerDoing : Program → Policy → Certificate → List Event → List Value → List Frame → Doing → Type 0
+IsOwnerDoing program policy certificate seen fields frames doings.Running = AreOwnerFrames program policy certificate seen fields frames
+IsOwnerDoing program policy certificate seen fields frames (doings.InCall method receiver arguments) =
+    (has_clauses policy method ≡ true) × AreOwnerCall program policy certificate seen fields method frames × ArePassed program receiver arguments
+IsOwnerDoing program policy certificate seen fields frames doings.Ended = ⊥
+
+abbrev pub IsOwner : Program → Policy → Certificate → List Event → List Value → Thread → Type 0
+IsOwner program policy certificate seen fields thread = IsOwnerDoing program policy certificate seen fields thread.frames thread.doing
+
+-- ---- the machine
+
+-- Nobody holds the lock: the variables are the state after the events so far.
+pub record IsUnlocked (program : Program) (policy : Policy) (certificate : Certificate) (machine : Machine) (seen : List Event) (fields : List Value) : Type 0 where
+  pub free : held_locks program machine.monitors ≡ []
+  pub state : Values
+  pub ranged : in_range policy state ≡ true
+  pub led : Leads policy seen state
+  pub variables : AreState fields state
+  pub threads : (number : ℕ) (thread : Thread) → slice_get machine.threads number ≡ Some thread → IsClient program policy certificate thread
+
+-- One thread holds it.
+pub record IsLocked (program : Program) (policy : Policy) (certificate : Certificate) (machine : Machine) (seen : List Event) (fields : List Value) : Type 0 where
+  pub owner : ℕ
+  pub locked : held_locks program machine.monitors ≡ locked_by program owner
+  pub thread : Thread
+  pub there : slice_get machine.threads owner ≡ Some thread
+  pub owns : IsOwner program policy certificate seen fields thread
+  pub others : (number : ℕ) (other : Thread) → number ≢ owner → slice_get machine.threads number ≡ Some other → IsClient program policy certificate other
+
+pub record Fits (program : Program) (policy : Policy) (certificate : Certificate) (machine : Machine) (seen : List Event) : Type 0 where
+  pub world : IsCleanWorld program (state_of program policy certificate) (world_of machine)
+  pub fields : List Value
+  pub there : slice_get machine.statics (state_of program policy certificate) ≡ Some fields
+  pub lock : IsUnlocked program policy certificate machine seen fields ⊎ IsLocked program policy certificate machine seen fields
+
+-- The events obey, and until the program is stopped the machine is as the notes say.
+pub record IsKept (program : Program) (policy : Policy) (certificate : Certificate) (machine : Machine) (seen : List Event) : Type 0 where
+  pub followed : IsFollowed policy seen
+  pub fits : machine.stopped ≡ None → Fits program policy certificate machine seen

@@ -1,0 +1,294 @@
+-- What a note means for the machine, where the lock is held round each call that has clauses (mode hold), or where each such call is
+-- denied: what its thread owns, what stands on its stack, what is granted and owed. (docs/CERTIFICATES.md)
+use Rattle.std.specs.Bool.{beq}
+use Rattle.std.specs.Prelude.{◌≡◌, ◌⊎◌, ⊤, ℕ, zero, suc, ◌+◌, ◌+ℤ◌, ◌<◌, ◌≤◌, ◌==◌, ◌&&◌, not, pos, Bool, true, false, if◌then◌else◌, IfSome, IsTrue, List, [], ◌∷◌, ◌++◌, length, map, reverse, filter, Option, Some, None, is_some, option_map, option_and_then, slice_get}
+use Rattle.std.specs.List.{AllByRecursion}
+use Rattle.std.specs.Option.{option_map_or}
+
+use Rattle.api_listing.specs.declared.events.Event.{Event}
+use Rattle.insn_codec.specs.declared.insn.Insn.{Insn}
+use Rattle.insn_codec.specs.Shapes.{shape_of}
+use Rattle.bytecode_model.specs.declared.program.LinkedClass.{LinkedClass}
+use Rattle.bytecode_model.specs.declared.program.Method.{Method}
+use Rattle.bytecode_model.specs.declared.program.Program.{Program}
+use Rattle.bytecode_model.specs.declared.program.Target.{Target}
+use Rattle.bytecode_model.specs.declared.program.Target.TheVariants as target
+use Rattle.bytecode_model.specs.Classes.{classes_of}
+use Rattle.bytecode_model.specs.Typed.{reached}
+use Rattle.cert_format.specs.declared.certificate.Certificate.{Certificate}
+use Rattle.cert_format.specs.declared.certificate.Mode.{Mode}
+use Rattle.cert_format.specs.declared.certificate.Mode.TheVariants as modes
+use Rattle.cert_format.specs.declared.note.Note.{Note}
+use Rattle.cert_format.specs.declared.note.Note.TheVariants as notes
+use Rattle.cert_format.specs.declared.note.Phase8.{Phase8}
+use Rattle.cert_format.specs.declared.note.Phase8.TheVariants.{Before, After, Exceptional}
+use Rattle.cert_format.specs.declared.note.Site.{Site}
+use Rattle.cert_format.specs.declared.note.Term.{Term}
+use Rattle.cert_format.specs.declared.note.Term.TheVariants as terms
+use Rattle.conspec_tree.specs.declared.types.Atom.{Atom}
+use Rattle.conspec_tree.specs.declared.types.Kind.{Kind}
+use Rattle.conspec_automaton.specs.declared.policy.Branch.{Branch}
+use Rattle.conspec_automaton.specs.declared.policy.Clause.{Clause}
+use Rattle.conspec_automaton.specs.declared.policy.Policy.{Policy}
+use Rattle.conspec_automaton.specs.Denying.{DeniesOnly}
+use Rattle.conspec_automaton.specs.Next.{Values, argument, has_clauses, holds, initial, is_taken, next, returned}
+use Rattle.conspec_automaton.specs.Obeys.{IsFollowed, after, spoken}
+use Rattle.conspec_automaton.specs.Range.{in_range}
+use Rattle.conspec_automaton.specs.Sight.{Sight, sight_of}
+use Rattle.guest_heap.specs.declared.frame.Frame.{Frame}
+use Rattle.guest_heap.specs.declared.value.Value.{Value}
+use Rattle.guest_heap.specs.declared.value.Value.TheVariants as values
+use Rattle.guest_frames.specs.Values.{are_one}
+use Rattle.guest_model.specs.Parts.{number_in}
+use Rattle.guest_model.specs.Places.{class_index, insn_at, method_at}
+use Rattle.block_logic.specs.Accepted.{notes_in, notes_told}
+use Rattle.block_logic.specs.Clauses.{clause_at, clause_of, is_of_phase, needs}
+use Rattle.block_logic.specs.Operands.{calls, has_clause, state_name}
+use Rattle.block_logic.specs.Standing.{in_phase, is_before, takes_for_call}
+
+-- what is promised: that events obey in mode hold, or where calls are denied outright
+abbrev pub Promised : Mode → Policy → Type 0
+Promised mode policy = (mode ≡ modes.Hold) ⊎ DeniesOnly policy
+
+-- ---- the lock
+
+-- the object of the class that holds the policy's variables
+abbrev pub lock_of : Program → Value
+lock_of program = values.Class (option_map_or (λ (at : ℕ). at) (class_index program state_name) (length (classes_of program)))
+
+-- A value that is not the lock.
+abbrev pub IsClean : Program → Value → Type 0
+IsClean program v = are_one v (lock_of program) ≡ false
+
+abbrev pub AreClean : Program → List Value → Type 0
+AreClean program list = AllByRecursion (IsClean program) list
+
+-- On top stand these, and below them no lock.
+pub record IsAbove (program : Program) (tops items : List Value) : Type 0 where
+  pub rest : List Value
+  pub is : items ≡ tops ++ rest
+  pub clean : AreClean program rest
+
+-- ---- notes of frames
+
+-- the note of an instruction, by class, method and index, where that is reached
+abbrev pub note_in : Program → Certificate → ℕ → ℕ → ℕ → Option Note
+note_in program certificate class method at =
+    option_and_then (λ (c : LinkedClass). slice_get (notes_in c.methods (notes_told certificate class) method) at) (slice_get program.classes class)
+
+abbrev pub note_at : Program → Certificate → ℕ → ℕ → ℕ → Option Note
+note_at program certificate class method at = if reached program certificate.typing class method at then note_in program certificate class method at else None
+
+-- that of the instruction at which a frame stands
+abbrev pub note_of : Program → Certificate → Frame → Option Note
+note_of program certificate frame = note_at program certificate frame.class frame.method frame.at
+
+-- What each frame has, whatever its note: the size of its stack is its method's, and its locals and its lock are not the policy's lock.
+pub record IsFrame (program : Program) (frame : Frame) : Type 0 where
+  pub size : IfSome (method_at program frame.class frame.method) (λ (m : Method). frame.stack.size ≡ m.max_stack)
+  pub lock : IfSome frame.lock (IsClean program)
+  pub locals : AreClean program frame.locals
+
+-- A frame below another: it stands at a call without a clause, in the client's code.
+pub record IsBelow (program : Program) (policy : Policy) (certificate : Certificate) (frame : Frame) : Type 0 where
+  pub well : IsFrame program frame
+  pub insn : Insn
+  pub ref : Target
+  pub there : insn_at program frame ≡ Some (insn, ref)
+  pub call : calls (shape_of insn) ≡ true
+  pub unclaused : has_clause policy ref ≡ false
+  pub free : note_of program certificate frame ≡ Some notes.Free
+  pub clean : AreClean program frame.stack.items
+
+-- ---- events
+
+-- The clause events so far are accepted, and lead to the state.
+abbrev pub Leads : Policy → List Event → Values → Type 0
+Leads policy seen state = after (next policy) (initial policy) (spoken policy seen) ≡ Some state
+
+-- The event is one that the clause of the site is for.
+pub record IsEventOf (site : Site) (event : Event) : Type 0 where
+  pub method : (sight_of event).method ≡ site.method
+  pub phase : is_of_phase site.phase (sight_of event).phase ≡ true
+
+-- The clause events so far are accepted but for the last, which is a return, or an exception, of the site; without it they lead to the state.
+pub record Pends (policy : Policy) (site : Site) (seen : List Event) (state : Values) (event : Event) : Type 0 where
+  pub earlier : List Event
+  pub is : spoken policy seen ≡ earlier ++ event ∷ []
+  pub led : after (next policy) (initial policy) earlier ≡ Some state
+  pub of : IsEventOf site event
+
+-- ---- what locals tell of events
+
+-- so many locals from the base on hold the numbers of a call's arguments
+pub record TellsArguments (base count : ℕ) (locals : List Value) (event : Event) : Type 0 where
+  pub many : length (sight_of event).arguments ≡ count
+  pub each : (i : ℕ) → i < count → option_and_then number_in (slice_get locals (base + i)) ≡ argument event i
+
+-- the local at the base holds the number of a result, where there is one
+abbrev pub TellsResult : ℕ → Option Kind → List Value → Event → Type 0
+TellsResult base None locals event = Unit {0}
+TellsResult base (Some kind) locals event = option_and_then number_in (slice_get locals base) ≡ returned event
+
+-- what locals tell while a check is made
+abbrev pub TellsIn : Clause → Phase8 → ℕ → List Value → Event → Type 0
+TellsIn clause Before base locals event = TellsArguments base (length clause.args) locals event
+TellsIn clause After base locals event = TellsResult base clause.result locals event
+TellsIn clause Exceptional base locals event = Unit {0}
+
+-- ---- the policy's variables
+
+-- the fields of the variables hold the state
+abbrev pub AreState : List Value → Values → Type 0
+AreState fields state = fields ≡ map values.Int state
+
+-- what a term stands for, at the state when the lock was taken and for the event of the check
+abbrev pub term_value : Program → Values → Event → Term → Option Value
+term_value program state event (terms.Const n) = Some (values.Int n)
+term_value program state event (terms.Var var) = option_map values.Int (slice_get state var)
+term_value program state event (terms.VarAdd var n) = option_map (λ m. values.Int (m +ℤ n)) (slice_get state var)
+term_value program state event (terms.Arg i) = option_map values.Int (argument event i)
+term_value program state event terms.Result = option_map values.Int (returned event)
+term_value program state event terms.Lock = Some (lock_of program)
+
+abbrev pub AreTerms : Program → Values → Event → List Term → List Value → Type 0
+AreTerms program state event list held = map (term_value program state event) list ≡ map Some held
+
+-- ---- a check
+
+-- What is due is not done yet: a call is not made, or a return is the last event.
+abbrev pub IsDue : Policy → Site → Phase8 → List Event → Values → Event → Type 0
+IsDue policy site Before seen state event = Leads policy seen state × IsEventOf site event
+IsDue policy site After seen state event = Pends policy site seen state event
+IsDue policy site Exceptional seen state event = Pends policy site seen state event
+
+-- The first branches fail, and of the next one so many atoms hold.
+pub record IsTried (state : Values) (event : Event) (branches : List Branch) (failed holding : ℕ) : Type 0 where
+  pub few : failed ≤ length branches
+  pub fail : (j : ℕ) (b : Branch) → j < failed → slice_get branches j ≡ Some b → is_taken state event b ≡ false
+  pub hold : (b : Branch) → slice_get branches failed ≡ Some b → (holding ≤ length b.atoms)
+      × ((j : ℕ) (atom : Atom) → j < holding → slice_get b.atoms j ≡ Some atom → holds state event atom ≡ true)
+
+-- The lock is held, and the check is made so far; the variables are those of `map`, and `list` stands on the stack, the last on top.
+pub record MeansHeld (program : Program) (policy : Policy) (seen : List Event) (fields : List Value) (frame : Frame)
+    (site : Site) (failed holding : ℕ) (list map : List Term) : Type 0 where
+  pub clause : Clause
+  pub there : clause_of policy site ≡ Some clause
+  pub state : Values
+  pub ranged : in_range policy state ≡ true
+  pub event : Event
+  pub due : IsDue policy site site.phase seen state event
+  pub told : TellsIn clause site.phase site.base frame.locals event
+  pub tried : IsTried state event clause.branches failed holding
+  pub variables : AreTerms program state event map fields
+  pub tops : List Value
+  pub pushed : AreTerms program state event (reverse list) tops
+  pub above : IsAbove program tops frame.stack.items
+
+-- ---- granted
+
+-- The next call of the site leads to the state: its check was made, with the numbers that locals hold, or it has no clause.
+pub record IsChecked (policy : Policy) (site : Site) (clause : Clause) (seen : List Event) (state : Values) (locals : List Value) : Type 0 where
+  pub before : Values
+  pub event : Event
+  pub led : Leads policy seen before
+  pub of : IsEventOf (in_phase Before site) event
+  pub told : TellsArguments site.base (length clause.args) locals event
+  pub taken : next policy before event ≡ Some state
+
+abbrev pub IsGranted : Policy → Site → Option Clause → List Event → Values → List Value → Type 0
+IsGranted policy site None seen state locals = Leads policy seen state
+IsGranted policy site (Some clause) seen state locals = IsChecked policy site clause seen state locals
+
+-- so many locals from the base on, as they stand on the stack once they are loaded in order
+abbrev pub loads : ℕ → List Value → ℕ → List (Option Value)
+loads base locals zero = []
+loads base locals (suc n) = slice_get locals (base + n) ∷ loads base locals n
+
+-- the lock on top, if it is
+abbrev pub lock_on : Program → Bool → List Value
+lock_on program top = if top then lock_of program ∷ [] else []
+
+-- The lock is held and the check is done; so many arguments are loaded.
+pub record MeansGranted (program : Program) (policy : Policy) (seen : List Event) (fields : List Value) (frame : Frame)
+    (site : Site) (locked : Bool) (count : ℕ) (top : Bool) : Type 0 where
+  pub holds : locked ≡ true
+  pub state : Values
+  pub ranged : in_range policy state ≡ true
+  pub granted : IsGranted policy site (clause_at policy site.method Before) seen state frame.locals
+  pub variables : AreState fields state
+  pub few : count ≤ needs policy site.method
+  pub loaded : List Value
+  pub are : map Some loaded ≡ loads site.base frame.locals count
+  pub above : IsAbove program (lock_on program top ++ loaded) frame.stack.items
+
+-- ---- owed
+
+-- The result of the event, where there is one, is kept in its local, or is the topmost operand.
+abbrev pub HasResult : Option Kind → Bool → ℕ → List Value → List Value → Event → Type 0
+HasResult None kept base locals rest event = Unit {0}
+HasResult (Some kind) true base locals rest event = option_and_then number_in (slice_get locals base) ≡ returned event
+HasResult (Some kind) false base locals rest event = option_and_then number_in (slice_get rest 0) ≡ returned event
+
+-- It is so behind a return that gives something.
+abbrev pub HasResultIn : Clause → Phase8 → Bool → ℕ → List Value → List Value → Event → Type 0
+HasResultIn clause Before kept base locals rest event = Unit {0}
+HasResultIn clause Exceptional kept base locals rest event = Unit {0}
+HasResultIn clause After kept base locals rest event = HasResult clause.result kept base locals rest event
+
+-- The return is not recorded yet, where a clause is for it.
+pub record IsPending (policy : Policy) (site : Site) (clause : Clause) (seen : List Event) (state : Values) (kept : Bool) (locals rest : List Value) : Type 0 where
+  pub event : Event
+  pub pends : Pends policy site seen state event
+  pub told : HasResultIn clause site.phase kept site.base locals rest event
+
+abbrev pub IsOwed : Policy → Site → ℕ → Option Clause → List Event → Values → Bool → List Value → List Value → Type 0
+IsOwed policy site zero clause seen state kept locals rest = ⊥
+IsOwed policy site (suc zero) None seen state kept locals rest = Leads policy seen state
+IsOwed policy site (suc zero) (Some clause) seen state kept locals rest = IsPending policy site clause seen state kept locals rest
+IsOwed policy site (suc (suc zero)) clause seen state kept locals rest = Leads policy seen state
+IsOwed policy site (suc (suc (suc n))) clause seen state kept locals rest = ⊥
+
+-- The lock is held, and the call is over.
+pub record MeansOwed (program : Program) (policy : Policy) (seen : List Event) (fields : List Value) (frame : Frame)
+    (site : Site) (stage : ℕ) (kept top : Bool) : Type 0 where
+  pub behind : is_before site.phase ≡ false
+  pub state : Values
+  pub ranged : in_range policy state ≡ true
+  pub variables : AreState fields state
+  pub above : IsAbove program (lock_on program top) frame.stack.items
+  pub owed : IsOwed policy site stage (clause_of policy site) seen state kept frame.locals above.rest
+
+-- ---- the way out
+
+-- The program is about to be stopped; the events obey.
+abbrev pub IsStopping : ℕ → List Value → Type 0
+IsStopping zero items = Unit {0}
+IsStopping (suc zero) items = slice_get items 0 ≡ Some (values.Int (pos 77))
+IsStopping (suc (suc n)) items = ⊥
+
+pub record MeansStop (policy : Policy) (seen : List Event) (frame : Frame) (place : ℕ) : Type 0 where
+  pub followed : IsFollowed policy seen
+  pub stopping : IsStopping place frame.stack.items
+
+-- ---- a note of a thread that holds the lock, and of one that does not
+
+-- Granted and Owed are notes of mode hold alone.
+abbrev pub Owns : Program → Policy → Mode → List Event → List Value → Frame → Note → Type 0
+Owns program policy mode seen fields frame notes.Free = ⊥
+Owns program policy mode seen fields frame (notes.Taking site) = ⊥
+Owns program policy mode seen fields frame (notes.Held site failed holding list map) = MeansHeld program policy seen fields frame site failed holding list map
+Owns program policy mode seen fields frame (notes.Granted site locked count top) =
+    (mode ≡ modes.Hold) × MeansGranted program policy seen fields frame site locked count top
+Owns program policy mode seen fields frame (notes.Owed site stage kept top) =
+    (mode ≡ modes.Hold) × MeansOwed program policy seen fields frame site stage kept top
+Owns program policy mode seen fields frame (notes.Stop site place) = MeansStop policy seen frame place
+
+abbrev pub IsFree : Program → Policy → Frame → Note → Type 0
+IsFree program policy frame notes.Free = AreClean program frame.stack.items
+IsFree program policy frame (notes.Taking site) =
+    (takes_for_call policy (notes.Taking site) ≡ true) × IsAbove program (lock_of program ∷ []) frame.stack.items
+IsFree program policy frame (notes.Held site failed holding list map) = ⊥
+IsFree program policy frame (notes.Granted site locked count top) = ⊥
+IsFree program policy frame (notes.Owed site stage kept top) = ⊥
+IsFree program policy frame (notes.Stop site place) = ⊥

@@ -1,0 +1,52 @@
+-- What an accepted program does: whatever its steps are, the events obey, and the lock orders them.
+use Rattle.std.specs.Prelude.{◌≡◌, ◌≢◌, ℕ, false, List, [], ◌∷◌, ◌++◌, length, is_some, Some, slice_get}
+use Rattle.std.specs.List.{AllByRecursion}
+use Rattle.api_listing.specs.declared.events.Event.{Event}
+use Rattle.api_listing.specs.declared.types.ListedMethod.{ListedMethod}
+use Rattle.api_listing.specs.declared.types.Listing.{Listing}
+use Rattle.bytecode_model.specs.declared.program.Program.{Program}
+use Rattle.bytecode_model.specs.Sound.{IsSound}
+use Rattle.bytecode_model.specs.Typed.{reached}
+use Rattle.cert_format.specs.declared.certificate.Certificate.{Certificate}
+use Rattle.conspec_automaton.specs.declared.policy.Clause.{Clause}
+use Rattle.conspec_automaton.specs.declared.policy.Policy.{Policy}
+use Rattle.conspec_automaton.specs.Next.{has_clause}
+use Rattle.conspec_automaton.specs.Obeys.{Obeys}
+use Rattle.conspec_automaton.specs.Sound.{IsPolicy, NamesMethods}
+use Rattle.guest_model.specs.declared.machine.Step.{Step}
+use Rattle.guest_model.specs.Calls.{arity, types_of}
+use Rattle.guest_model.specs.Runs.{exec, seen, trace}
+use Rattle.guest_model.specs.Standing.{HasInsns, IsClosed}
+use Rattle.block_logic.specs.Accepted.{IsAccepted}
+use Rattle.block_logic.specs.Fitting.{held_locks, locked_by}
+use Rattle.block_logic.specs.Meaning.{Promised}
+
+-- A clause tells how many arguments its method takes, and whether it gives something.
+abbrev pub FitsListing : Listing → Clause → Type 0
+FitsListing listing clause =
+    (method : ListedMethod) → slice_get listing.methods clause.method ≡ Some method
+    → (length clause.args ≡ arity method.id.desc) × (is_some clause.result ≡ is_some (types_of method.id.desc).result)
+
+-- What is known of a program that is accepted, and of its policy.
+pub record IsObeying (program : Program) (policy : Policy) (certificate : Certificate) : Type 0 where
+  pub promised : Promised certificate.mode policy
+  pub sound : IsSound program
+  pub good : IsPolicy policy
+  pub named : NamesMethods (length program.listing.methods) policy
+  pub listed : AllByRecursion (FitsListing program.listing) policy.clauses
+  pub accepted : IsAccepted program policy certificate
+  pub insns : HasInsns program
+  pub closed : IsClosed program (reached program certificate.typing)
+
+-- Its events obey, whatever the steps.
+abbrev pub AcceptedObeys : Type 0
+AcceptedObeys =
+    (program : Program) (policy : Policy) (certificate : Certificate) → IsObeying program policy certificate
+    → (steps : List Step) → Obeys certificate.mode policy (trace program steps)
+
+-- While a thread holds the lock, no step of another thread has an event with a clause.
+abbrev pub LockOrders : Type 0
+LockOrders =
+    (program : Program) (policy : Policy) (certificate : Certificate) → IsObeying program policy certificate
+    → (steps : List Step) (owner : ℕ) (step : Step) → held_locks program (exec program steps).monitors ≡ locked_by program owner
+    → step.thread ≢ owner → AllByRecursion (λ (e : Event). has_clause policy e ≡ false) (seen program (exec program steps) step)
