@@ -56,7 +56,11 @@ pub fn result_of(policy: &Policy, method: u32) -> Option<Kind>
 fn clause_for(policy: &Policy, method: u32) -> Option<&Clause>
     ensures { option_copied result ≡ clause_for policy.now method }
 {
-    policy.clauses.as_slice().iter().find(|clause| clause.method == method)
+    policy
+        .clauses
+        .as_slice()
+        .iter()
+        .find(|clause| clause.method == method)
 }
 
 /// Whether values of the kind are numbers.

@@ -32,7 +32,10 @@ pub enum TermsRef<'a> {
     /// These.
     Told(&'a [Term]),
     /// These, and another one on top.
-    Pushed { below: &'a [Term], top: WideTerm },
+    Pushed {
+        below: &'a [Term],
+        top: WideTerm,
+    },
     /// These, with another one in the place of this number.
     Written {
         map: &'a [Term],

@@ -4,12 +4,16 @@
 mod checks;
 mod clauses;
 mod lent;
+mod note_rules;
 mod operands;
 mod passing;
 mod rows;
 mod rules;
 mod standing;
+mod state;
 mod terms;
 
+pub use note_rules::note_fault;
 pub use operands::{has_clause, is_way_out};
 pub use rules::Rules;
+pub use state::{state_at, state_fault};

@@ -11,7 +11,7 @@ use conspec_automaton::{Policy, has_clauses};
 use insn_codec::{Heap, Kind, Relation, Shape, Two};
 
 /// The name of the class that holds the policy's variables, and whose monitor is the lock.
-const STATE: &[u8] = b"conspec/State";
+pub const STATE: &[u8] = b"conspec/State";
 
 /// The place of the method that stops the program in the table of built-in methods.
 const EXIT: u32 = 7;

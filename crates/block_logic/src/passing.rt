@@ -5,7 +5,7 @@ ghost use Rattle.std.specs.List.{list_all};
 ghost use Rattle.insn_codec.specs.Control.{jump_targets};
 ghost use Rattle.block_logic.specs.Lent.{asked_lent, row_lent};
 ghost use Rattle.block_logic.specs.Notes.{all_pass, first_handler, handlers_of, handlers_pass, is_stop, is_taking, jump_of, meets, next_pass};
-ghost use Rattle.block_logic.specs.Notes.{note_passes, past_of, stops_well};
+ghost use Rattle.block_logic.specs.Notes.{note_passes, past_of, thrown_of};
 ghost use Rattle.block_logic.specs.Testing.{passes};
 
 use crate::lent::{AskedRef, RowRef};
@@ -63,13 +63,7 @@ fn is_taking(note: &Note) -> bool
 }
 
 /// Whether the note of the instruction of this index is there, and passes.
-fn note_passes(
-    rules: &Rules<'_>,
-    test: Test,
-    told: &[Note],
-    asked: AskedRef<'_>,
-    at: usize,
-) -> bool
+fn note_passes(rules: &Rules<'_>, test: Test, told: &[Note], asked: AskedRef<'_>, at: usize) -> bool
     ensures { result ≡ note_passes (passes rules.now test) told.now (asked_lent asked.entry) at }
 {
     match told.get(at) {

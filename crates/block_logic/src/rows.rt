@@ -46,7 +46,16 @@ pub fn row<'a>(
             map,
         } => {
             let terms = terms.as_slice();
-            held_row(rules, *site, *failed, *holding, terms, map.as_slice(), shape, target)
+            held_row(
+                rules,
+                *site,
+                *failed,
+                *holding,
+                terms,
+                map.as_slice(),
+                shape,
+                target,
+            )
         }
         Note::Granted {
             site,
@@ -194,7 +203,10 @@ pub fn thrown<'a>(rules: &Rules<'_>, site: Site) -> AskedRef<'a>
     ensures { asked_lent result ≡ thrown rules.now site }
 {
     if is_duty(rules, u32::from(site.method)) {
-        due(in_phase(Phase8::Exceptional, site), stage_behind(rules.mode))
+        due(
+            in_phase(Phase8::Exceptional, site),
+            stage_behind(rules.mode),
+        )
     } else {
         AskedRef::Open
     }

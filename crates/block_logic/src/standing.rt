@@ -137,10 +137,7 @@ fn same_owed(site: Site, stage: usize, kept: bool, top: bool, note: &Note) -> bo
             kept: keeps,
             top: on,
         } => {
-            same_site(site, *other)
-                && stage == usize::from(*due)
-                && kept == *keeps
-                && top == *on
+            same_site(site, *other) && stage == usize::from(*due) && kept == *keeps && top == *on
         }
         _ => false,
     }
@@ -194,7 +191,13 @@ pub fn begun(policy: &Policy, site: Site) -> HeldRef<'_>
 }
 
 /// Whether all atoms of a branch hold, and its updates are made.
-pub fn is_done(policy: &Policy, site: Site, failed: usize, holding: usize, map: TermsRef<'_>) -> bool
+pub fn is_done(
+    policy: &Policy,
+    site: Site,
+    failed: usize,
+    holding: usize,
+    map: TermsRef<'_>,
+) -> bool
     ensures { result ≡ is_done policy.now site failed holding (terms_lent map.entry) }
 {
     match branches_of(policy, site).get(failed) {
@@ -266,10 +269,7 @@ fn is_over(policy: &Policy, held: HeldRef<'_>) -> bool
 fn may_begin(policy: &Policy, site: Site, stage: usize, kept: bool, top: bool) -> bool
     ensures { result ≡ may_begin policy.now site stage kept top }
 {
-    stage == 1
-        && !top
-        && clause_of(policy, site).is_some()
-        && kept == asks_kept(policy, site)
+    stage == 1 && !top && clause_of(policy, site).is_some() && kept == asks_kept(policy, site)
 }
 
 /// Whether the note may stand at an instruction in the place of the one that is given.

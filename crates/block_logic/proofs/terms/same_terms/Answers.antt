@@ -15,7 +15,7 @@ returns-then-not-same_at c =
 pub loop-at-preserved : goal.loop-at-preserved
 loop-at-preserved c = record {
   same = sym (goes_on_at (terms_lent c.args.terms) (terms_lent c.args.others) c.loop-at.at (omega arith) (omega arith) (sym c.same_at.ensures ∙ c.if-not-same_at.false))
-  ∙ c.loop-at.invariant.same;
+      ∙ c.loop-at.invariant.same;
   count = c.loop-at.invariant.count;
   other = c.loop-at.invariant.other;
 }
