@@ -1,5 +1,5 @@
 -- Lists of terms, place by place.
-use Rattle.std.proofs.Common.{◌≡◌, ℕ, zero, suc, ◌+◌, ◌<◌, ◌≤◌, Bool, true, false, List, [], ◌∷◌, length, drop, Option, Some, None, refl, ap, sym, subst, arith, add-one}
+use Rattle.std.proofs.Common.{◌≡◌, ℕ, zero, suc, ◌+◌, ◌<◌, ◌≤◌, Bool, true, false, List, [], ◌∷◌, length, drop, Some, None, refl, ap, subst, arith, add-one}
 use Rattle.std.specs.Prelude.{◌&&◌, slice_get}
 use Rattle.cert_format.specs.declared.note.Term.{Term}
 use Rattle.conspec_tree.specs.declared.types.Update.{Update}

@@ -1,5 +1,5 @@
 -- What the code tells of terms, notes and rows without building them, and what each is.
-use Rattle.std.specs.Prelude.{ℕ, ◌+◌, Bool, List, [], ◌∷◌, ◌++◌, Option, option_map, slice_set, take}
+use Rattle.std.specs.Prelude.{List, [], ◌∷◌, ◌++◌, option_map, slice_set}
 use Rattle.cert_format.specs.declared.note.Note.{Note}
 use Rattle.cert_format.specs.declared.note.Note.TheVariants as notes
 use Rattle.cert_format.specs.declared.note.Term.{Term}

@@ -3,6 +3,7 @@
 
 mod checks;
 mod clauses;
+mod laws;
 mod lent;
 mod note_rules;
 mod operands;
@@ -13,6 +14,7 @@ mod standing;
 mod state;
 mod terms;
 
+pub use laws::accepted_obeys;
 pub use note_rules::note_fault;
 pub use operands::{has_clause, is_way_out};
 pub use rules::Rules;
