@@ -6,7 +6,6 @@ use Rattle.api_listing.specs.declared.types.ListedMethod.{ListedMethod}
 use Rattle.api_listing.specs.declared.types.Listing.{Listing}
 use Rattle.bytecode_model.specs.declared.program.Program.{Program}
 use Rattle.bytecode_model.specs.Sound.{IsSound}
-use Rattle.bytecode_model.specs.Standing.{AreStanding}
 use Rattle.bytecode_model.specs.Typed.{reached}
 use Rattle.cert_format.specs.declared.certificate.Certificate.{Certificate}
 use Rattle.conspec_automaton.specs.declared.policy.Clause.{Clause}
@@ -32,7 +31,6 @@ FitsListing listing clause =
 pub record IsObeying (program : Program) (policy : Policy) (certificate : Certificate) : Type 0 where
   pub promised : Promised certificate.mode policy
   pub sound : IsSound program
-  pub standing : AreStanding program
   pub good : IsPolicy policy
   pub named : NamesMethods (length program.listing.methods) policy
   pub listed : AllByRecursion (FitsListing program.listing) policy.clauses
