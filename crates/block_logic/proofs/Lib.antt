@@ -2,7 +2,9 @@ pub mod ExitRows
 pub mod Covering
 pub mod Ruled
 pub mod Steps
+pub mod ClientFrames
 pub mod ClientMonitors
+pub mod ClientBegins
 pub mod ClientClasses
 pub mod ClientValues
 pub mod ClientWorks
