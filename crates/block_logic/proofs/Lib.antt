@@ -6,5 +6,6 @@ pub mod ClientFrames
 pub mod ClientMonitors
 pub mod ClientBegins
 pub mod ClientClasses
+pub mod ClientThrows
 pub mod ClientValues
 pub mod ClientWorks
