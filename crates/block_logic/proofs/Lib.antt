@@ -4,7 +4,9 @@ pub mod Ruled
 pub mod Steps
 pub mod ClientFrames
 pub mod ClientMonitors
+pub mod ClientAnswers
 pub mod ClientBegins
+pub mod ClientChanges
 pub mod ClientClasses
 pub mod ClientThrows
 pub mod ClientValues
