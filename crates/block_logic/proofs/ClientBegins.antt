@@ -33,6 +33,10 @@ module _ (program : Program) where
   clean_list None clean = tt
   clean_list (Some v) clean = (clean, tt)
 
+  -- what a start runs, and what it is run on
+  abbrev pub RunsClean : Given × Value → Type 0
+  RunsClean run = IsClean program run.1
+
   module _ (policy : Policy) (certificate : Certificate) where
     pub ended_client : IsClient program policy certificate ended_thread
     ended_client = tt
@@ -84,10 +88,6 @@ module _ (program : Program) where
           begun_frames below waits = (begun_frame, begins_free, waits)
 
       -- ---- threads that begin
-
-      -- what a start runs, and what it is run on
-      abbrev pub RunsClean : Given × Value → Type 0
-      RunsClean run = IsClean program run.1
 
       pub begun_client : (run : Option (Given × Value)) → IfSome run RunsClean → IsClient program policy certificate (begun_thread program run)
       begun_client None clean = ended_client

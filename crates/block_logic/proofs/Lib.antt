@@ -6,8 +6,10 @@ pub mod ClientFrames
 pub mod ClientMonitors
 pub mod ClientAnswers
 pub mod ClientBegins
+pub mod ClientCalls
 pub mod ClientChanges
 pub mod ClientClasses
+pub mod ClientPassing
 pub mod ClientThrows
 pub mod ClientValues
 pub mod ClientWorks
