@@ -90,7 +90,7 @@ module _ (program : Program) (policy : Policy) (certificate : Certificate) where
       event = unclaused;
     }
 
-    with_held : (world : World) (held : List Monitor) → Keeps shared world → held_locks program held ≡ held_locks program world.monitors
+    pub with_held : (world : World) (held : List Monitor) → Keeps shared world → held_locks program held ≡ held_locks program world.monitors
         → Keeps shared (with_monitors world held)
     with_held world held k same = kept_monitors program (state_of program policy certificate) shared world k held same
 

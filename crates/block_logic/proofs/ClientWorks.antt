@@ -289,9 +289,10 @@ module _ (program : Program) (state : ℕ) (shared : World) where
 
       -- ---- the rows
 
-      pub work_comes : (what : Heap) (ref : Target) → IfThere (IsClean program) (constant_value program ref) → variable_named state ref ≡ None
+      pub work_comes : (what : Heap) (ref : Target) → (what ≡ heap.Constant → IfThere (IsClean program) (constant_value program ref))
+          → variable_named state ref ≡ None
           → ComesIf (worked program world what ref items)
-      work_comes heap.Constant ref names alone = if_made (IsClean program) Comes _ (constant_value program ref) (λ v h. (k, (h, all))) names
+      work_comes heap.Constant ref names alone = if_made (IsClean program) Comes _ (constant_value program ref) (λ v h. (k, (h, all))) (names refl)
       work_comes (heap.ReadItem item) ref names alone = read_item_comes item
       work_comes (heap.WriteItem item) ref names alone = write_item_comes item
       work_comes (heap.Divide remainder) ref names alone = divides_comes remainder
