@@ -1,5 +1,5 @@
 -- A step of a thread that does not hold the lock: its instruction is the client's, or pushes the lock's class, behind which the lock is taken.
-use Rattle.std.proofs.Common.{◌≡◌, ℕ, ◌+◌, Bool, true, false, cond, List, [], ◌∷◌, length, Option, Some, None, Ok, refl, sym, ap, subst, ◌∙◌, inl, inr}
+use Rattle.std.proofs.Common.{◌≡◌, ℕ, ◌+◌, Bool, true, false, cond, List, [], ◌∷◌, length, Option, Some, None, Result, Ok, refl, sym, ap, subst, ◌∙◌, inl, inr}
 use Rattle.std.specs.Prelude.{◌&&◌, is_some, nat_lt, not, option_map}
 use Rattle.std.specs.Option.{option_map_or}
 use Rattle.std.proofs.lemmas.Bool.{and_parts, cases_Bool, false_from_ne_true, false≢true}
@@ -17,6 +17,7 @@ use Rattle.insn_codec.specs.Table.{ends}
 use Rattle.bytecode_model.specs.declared.program.Program.{Program}
 use Rattle.bytecode_model.specs.declared.program.Target.{Target}
 use Rattle.bytecode_model.specs.declared.program.Target.TheVariants as target
+use Rattle.bytecode_model.specs.SearchOrder.{Name}
 use Rattle.conspec_automaton.specs.declared.policy.Policy.{Policy}
 use Rattle.guest_heap.specs.declared.frame.Frame.{Frame}
 use Rattle.guest_heap.specs.declared.value.Value.{Value}
@@ -28,7 +29,7 @@ use Rattle.guest_model.specs.Parts.{constant_value}
 use Rattle.guest_model.specs.Places.{class_index}
 use Rattle.guest_model.specs.Stepping.{Acting, acts_on, comes_to, heap_in, heap_stepped, insn_stepped, works}
 use Rattle.guest_model.specs.Working.{worked}
-use Rattle.guest_model.proofs.Options.{if_then, is_there, map_of, unless_of}
+use Rattle.guest_model.proofs.Options.{if_then, is_there, map_of, some_is, unless_of}
 use Rattle.block_logic.specs.Accepted.{rules_of}
 use Rattle.block_logic.specs.Fitting.{AreClientFrames, state_of}
 use Rattle.block_logic.specs.Meaning.{AreClean, IsAbove, IsFree, lock_of}
@@ -36,7 +37,7 @@ use Rattle.block_logic.specs.Obeying.{IsObeying}
 use Rattle.block_logic.specs.Operands.{calls, has_clause, is_state_name, loads_constant, pushes_state, state_name, variable_named}
 use Rattle.block_logic.specs.Rows.{Asked, Open, Row, Rules, Taking, free_row, leads}
 use Rattle.block_logic.specs.Standing.{takes_for_call}
-use Rattle.block_logic.proofs.ClientChanges.{Good, GoodIf}
+use Rattle.block_logic.proofs.ClientChanges.{Good, GoodIf, Keeps}
 use Rattle.block_logic.proofs.ClientFrames.{goes_free, may_go_on, moved_frame}
 use Rattle.block_logic.proofs.ClientInsns.{acts_good, shape_good}
 use Rattle.block_logic.proofs.ClientValues.{lock_kept}
