@@ -1,8 +1,7 @@
 -- Answers to a call without a clause: the caller goes on behind it, or catches what is thrown, in the client's code.
-use Rattle.std.proofs.Common.{◌≡◌, ℕ, Bool, true, false, cond, List, [], ◌∷◌, ◌++◌, length, Option, Some, None, refl, sym, ap, ◌∙◌}
-use Rattle.std.specs.Prelude.{◌==◌, ◌&&◌, ◌||◌, IfSome, find, is_some, option_map, option_and_then, slice_get}
+use Rattle.std.proofs.Common.{◌≡◌, ℕ, false, List, [], ◌∷◌, length, Option, Some, None, refl, ap}
+use Rattle.std.specs.Prelude.{◌==◌, IfSome, find, is_some, option_map, slice_get}
 use Rattle.std.specs.List.{list_any}
-use Rattle.std.specs.Option.{option_map_or}
 use Rattle.std.proofs.lemmas.Bool.{and_left, or_parts}
 use Rattle.api_listing.specs.declared.events.ApiAnswer.{ApiAnswer}
 use Rattle.api_listing.specs.declared.events.ApiAnswer.TheVariants as answers
@@ -32,7 +31,7 @@ use Rattle.guest_model.specs.Stepping.{call_stepped, is_on_null}
 use Rattle.guest_model.specs.Throwing.{bare_object}
 use Rattle.guest_model.proofs.Options.{IfThere, all_get, if_either, if_mapped, if_none, if_some, if_then, is_there, there_or}
 use Rattle.block_logic.specs.Fitting.{AreBelow, ArePassed, IsClientCall, state_of}
-use Rattle.block_logic.specs.Meaning.{AreClean, IsClean}
+use Rattle.block_logic.specs.Meaning.{IsClean}
 use Rattle.block_logic.specs.Obeying.{IsObeying}
 use Rattle.block_logic.proofs.ClientChanges.{Good, GoodIf, Keeps, returned_good, throws_new_good}
 use Rattle.block_logic.proofs.ClientThrows.{below_catching}

@@ -1,7 +1,6 @@
 -- Frames that begin: in the client's code, with no lock in their locals, and with the monitor of another object than the lock.
-use Rattle.std.proofs.Common.{◌≡◌, ℕ, ◌+◌, ◌-◌, Bool, true, false, cond, List, [], ◌∷◌, ◌++◌, length, replicate, Option, Some, None, refl, sym, ap, subst, ◌∙◌, inl, inr, arith}
-use Rattle.std.specs.Prelude.{◌<◌, ◌==◌, IfSome, option_map, slice_get}
-use Rattle.std.specs.List.{AllByRecursion, flat_map}
+use Rattle.std.proofs.Common.{◌≡◌, ◌+◌, ◌-◌, Bool, true, false, cond, List, [], ◌∷◌, ◌++◌, length, replicate, Option, Some, None, refl, inl, inr, arith}
+use Rattle.std.specs.Prelude.{◌<◌, ◌==◌, IfSome, option_map}
 use Rattle.std.specs.Option.{option_map_or, option_to_list}
 use Rattle.cert_format.specs.declared.certificate.Certificate.{Certificate}
 use Rattle.cert_format.specs.declared.note.Note.TheVariants as notes
@@ -11,7 +10,6 @@ use Rattle.bytecode_model.specs.declared.program.Program.{Program}
 use Rattle.bytecode_model.specs.Heads.{is_synchronized}
 use Rattle.conspec_automaton.specs.declared.policy.Policy.{Policy}
 use Rattle.guest_heap.specs.declared.frame.Frame.{Frame}
-use Rattle.guest_heap.specs.declared.thread.Thread.{Thread}
 use Rattle.guest_heap.specs.declared.value.Value.{Value}
 use Rattle.guest_heap.specs.declared.value.Value.TheVariants as values
 use Rattle.guest_model.specs.Calling.{begun_thread}
@@ -19,10 +17,10 @@ use Rattle.guest_model.specs.Calls.{arity}
 use Rattle.guest_model.specs.Changes.{ended_thread, frame_begun, frame_of, lock_of, rests}
 use Rattle.guest_model.specs.Finding.{Given}
 use Rattle.guest_model.specs.Parts.{main_argument, running}
-use Rattle.guest_model.specs.Places.{insn_at, insn_in, method_at}
-use Rattle.guest_model.proofs.Options.{all_append, all_replicate, if_made, is_there, map_of, there_or}
+use Rattle.guest_model.specs.Places.{method_at}
+use Rattle.guest_model.proofs.Options.{all_append, all_replicate, there_or}
 use Rattle.block_logic.specs.Fitting.{AreBelow, AreClientFrames, ArePassed, IsClient, IsClientFrame}
-use Rattle.block_logic.specs.Meaning.{AreClean, IsClean, IsFrame, note_at}
+use Rattle.block_logic.specs.Meaning.{AreClean, IsClean, IsFrame}
 use Rattle.block_logic.specs.Obeying.{IsObeying}
 use Rattle.block_logic.proofs.ClientClasses.{class_clean}
 use Rattle.block_logic.proofs.Ruled.{BeginsOpen}

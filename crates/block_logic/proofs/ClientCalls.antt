@@ -1,7 +1,6 @@
 -- Calls from the client's code of methods without a clause: what they pass is not the lock, and they lead into the client's code.
-use Rattle.std.proofs.Common.{◌≡◌, ℕ, ℤ, ◌+◌, Bool, true, false, cond, List, [], ◌∷◌, ◌++◌, drop, length, take, pos, Option, Some, None, refl, sym, ap, subst, ◌∙◌}
-use Rattle.std.specs.Prelude.{IfSome, nat_le, option_map, option_and_then, reverse, slice_get, slice_set}
-use Rattle.std.specs.List.{AllByRecursion}
+use Rattle.std.proofs.Common.{◌≡◌, ℕ, ℤ, false, List, [], ◌∷◌, ◌++◌, length, pos, Option, Some, None, refl, subst}
+use Rattle.std.specs.Prelude.{IfSome, slice_get}
 use Rattle.std.specs.Option.{option_map_or, option_or}
 use Rattle.api_listing.specs.declared.events.Event.TheVariants as events
 use Rattle.cert_format.specs.declared.certificate.Certificate.{Certificate}
@@ -16,7 +15,6 @@ use Rattle.conspec_automaton.specs.declared.policy.Policy.{Policy}
 use Rattle.conspec_automaton.specs.Next.{has_clauses}
 use Rattle.guest_heap.specs.declared.frame.Frame.{Frame}
 use Rattle.guest_heap.specs.declared.object.Object.{Object}
-use Rattle.guest_heap.specs.declared.object.Object.TheVariants as objects
 use Rattle.guest_heap.specs.declared.thread.Thread.{Thread}
 use Rattle.guest_heap.specs.declared.value.Value.{Value}
 use Rattle.guest_heap.specs.declared.value.Value.TheVariants as values
@@ -26,52 +24,16 @@ use Rattle.guest_model.specs.declared.builtin.Builtin.{Builtin}
 use Rattle.guest_model.specs.declared.builtin.Builtin.TheVariants as builtins
 use Rattle.guest_model.specs.declared.machine.Machine.{Machine}
 use Rattle.guest_model.specs.Builtins.{builtin_at, characters}
-use Rattle.guest_model.specs.Calling.{
-  Calling,
-  aimed_at,
-  aims,
-  begun_thread,
-  built_in,
-  call_throws,
-  calls,
-  calls_given,
-  calls_library,
-  calls_named,
-  desc_named,
-  enters_on,
-  exits,
-  goes_past,
-  has_ended,
-  is_static_call,
-  joined,
-  joins,
-  lacked,
-  lacking,
-  on_receiver,
-  run_of,
-  runs,
-  runs_object,
-  runs_target,
-  second_start,
-  started,
-  started_as,
-  starts,
-  stopped_by,
-  target_in,
-  target_of,
-  thread_of_value,
-  waiting,
-  with_changed,
-}
-use Rattle.guest_model.specs.Calls.{Taken, arity, taken}
+use Rattle.guest_model.specs.Calling.{Calling, aimed_at, aims, built_in, call_throws, calls, calls_given, calls_library, calls_named, desc_named, enters_on, exits, goes_past, has_ended, is_static_call, joined, joins, lacked, lacking, on_receiver, run_of, runs, runs_object, runs_target, second_start, started, started_as, starts, stopped_by, target_of, thread_of_value, waiting, with_changed}
+use Rattle.guest_model.specs.Calls.{arity, taken}
 use Rattle.guest_model.specs.Changes.{Change, World, ends_thread, enters_method, with_heap, world_of}
-use Rattle.guest_model.specs.Finding.{Given, client_run, is_run, method_run}
+use Rattle.guest_model.specs.Finding.{Given, is_run, method_run}
 use Rattle.guest_model.specs.Kinds.{class_of_value, is_thread}
 use Rattle.guest_model.specs.Parts.{null_pointer}
 use Rattle.guest_model.specs.Places.{insn_at, method_at}
 use Rattle.guest_model.specs.Seen.{string_of, values_shown}
-use Rattle.guest_model.proofs.Options.{IfThere, all_append, all_drop, all_get, all_reverse, all_set, all_take, if_either, if_made, if_mapped, if_none, if_some, if_then, is_there, there_or}
-use Rattle.block_logic.specs.Fitting.{AreBelow, ArePassed, IsCleanObject, IsClientCall, state_of}
+use Rattle.guest_model.proofs.Options.{all_append, all_get, if_either, if_made, if_none, if_some, if_then, is_there, there_or}
+use Rattle.block_logic.specs.Fitting.{AreBelow, ArePassed, state_of}
 use Rattle.block_logic.specs.Meaning.{AreClean, IsBelow, IsClean}
 use Rattle.block_logic.specs.Obeying.{IsObeying}
 use Rattle.block_logic.specs.Operands.{has_clause}

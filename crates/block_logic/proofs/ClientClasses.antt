@@ -1,10 +1,9 @@
 -- Objects of classes that are not the lock: that of a class of another name, and that of a class which has a method.
-use Rattle.std.proofs.Common.{◌≡◌, ◌≢◌, ℕ, zero, suc, ◌+◌, ◌-◌, ◌≤◌, ◌<◌, Bool, true, false, cond, List, [], ◌∷◌, ◌++◌, length, map, Option, Some, None, refl, sym, ap, subst, ◌∙◌, arith}
-use Rattle.std.specs.Prelude.{◌==◌, ◌&&◌, bytes_eq, slice_get, option_map, option_and_then}
-use Rattle.std.specs.List.{AllByRecursion, position_from}
+use Rattle.std.proofs.Common.{◌≡◌, ℕ, zero, suc, ◌+◌, ◌-◌, ◌≤◌, ◌<◌, Bool, true, false, cond, List, [], ◌∷◌, ◌++◌, length, map, Option, Some, None, refl, sym, ap, subst, ◌∙◌, arith}
+use Rattle.std.specs.Prelude.{◌==◌, bytes_eq, slice_get, option_map}
+use Rattle.std.specs.List.{position_from}
 use Rattle.std.specs.Option.{option_map_or, option_or}
 use Rattle.std.proofs.lemmas.Bool.{and_parts, false≢true, ne_eqb}
-use Rattle.std.proofs.lemmas.List.{length-append, length-map}
 use Rattle.std.proofs.lemmas.Option.{none-some, slice_get-map, slice_get_within}
 use Rattle.std.proofs.lemmas.Slice.Eq.{bytes_eq-Decides}
 use Rattle.api_listing.specs.declared.types.ListedClass.{ListedClass}
@@ -24,7 +23,7 @@ use Rattle.guest_model.proofs.Options.{IfThere, all_get, and_then_of, if_mapped,
 use Rattle.block_logic.specs.Meaning.{IsClean}
 use Rattle.block_logic.specs.Obeying.{IsObeying}
 use Rattle.block_logic.specs.Operands.{state_name}
-use Rattle.block_logic.specs.State.{class_fault, has_no_more, has_none, state_at, state_fault, wrong_field}
+use Rattle.block_logic.specs.State.{class_fault, has_no_more, has_none, state_at, wrong_field}
 
 -- ---- the first place that passes
 
@@ -153,6 +152,7 @@ module _ (program : Program) where
       more : (b : Bool) → cond b None (Some (length vars)) ≡ None → b ≡ true
       more true e = refl
       more false e = absurd cc
+
       by : (wrong : Option ℕ) → option_or wrong (cond (has_no_more vars c) None (Some (length vars))) ≡ None → c.methods ≡ []
       by (Some at) e = absurd cc
       by None e =

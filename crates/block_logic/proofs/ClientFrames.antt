@@ -1,11 +1,8 @@
 -- Frames of the client's code: where control goes from them the client's code goes on, and a frame that begins begins there.
-use Rattle.std.proofs.Common.{◌≡◌, ℕ, ◌+◌, ◌-◌, Bool, true, false, cond, List, [], ◌∷◌, ◌++◌, length, replicate, Option, Some, None, refl, sym, ap, subst, ◌∙◌, inl, inr, arith}
-use Rattle.std.specs.Prelude.{◌<◌, ◌&&◌, ◌==◌, Contains, IfSome, is_some, not, option_map, slice_get}
-use Rattle.std.specs.List.{AllByRecursion}
-use Rattle.std.specs.Option.{option_map_or, option_to_list}
+use Rattle.std.proofs.Common.{◌≡◌, ℕ, ◌+◌, Bool, true, false, cond, List, ◌∷◌, Some, None, refl, sym, ap, subst, ◌∙◌, inr}
+use Rattle.std.specs.Prelude.{Contains, is_some, not}
 use Rattle.std.proofs.lemmas.Option.{cond_some}
 use Rattle.cert_format.specs.declared.certificate.Certificate.{Certificate}
-use Rattle.cert_format.specs.declared.note.Note.{Note}
 use Rattle.cert_format.specs.declared.note.Note.TheVariants as notes
 use Rattle.insn_codec.specs.declared.insn.Insn.{Insn}
 use Rattle.insn_codec.specs.declared.shape.Heap.{Heap}
@@ -36,9 +33,9 @@ use Rattle.block_logic.specs.Accepted.{rules_of}
 use Rattle.block_logic.specs.Fitting.{AreBelow, AreClientFrames}
 use Rattle.block_logic.specs.Meaning.{AreClean, IsBelow, IsFrame, note_at, note_of}
 use Rattle.block_logic.specs.Obeying.{IsObeying}
-use Rattle.block_logic.specs.Operands.{calls, loads_constant, pushes_state, variable_named}
+use Rattle.block_logic.specs.Operands.{calls, pushes_state, variable_named}
 use Rattle.block_logic.specs.Rows.{Asked, Open, Row, Taking, Rules, free_row, leads}
-use Rattle.block_logic.proofs.Ruled.{IsRuled, LeadsTo, OpenIsFree, RulesHold}
+use Rattle.block_logic.proofs.Ruled.{LeadsTo, OpenIsFree, RulesHold}
 
 -- ---- shapes
 

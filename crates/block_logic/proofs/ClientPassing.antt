@@ -1,7 +1,7 @@
 -- What calls take from the operands, and objects that are run, started and aimed: none of it is the lock.
-use Rattle.std.proofs.Common.{◌≡◌, ℕ, ◌+◌, Bool, true, false, List, drop, length, take, Option, Some, None, refl, subst}
-use Rattle.std.specs.Prelude.{IfSome, nat_le, option_and_then, reverse, slice_get, slice_set}
-use Rattle.std.specs.Option.{option_map_or, option_or}
+use Rattle.std.proofs.Common.{◌≡◌, ℕ, ◌+◌, Bool, true, false, List, length, take, Option, Some, None, refl, subst}
+use Rattle.std.specs.Prelude.{IfSome, nat_le, slice_get, slice_set}
+use Rattle.std.specs.Option.{option_or}
 use Rattle.bytecode_model.specs.declared.program.Program.{Program}
 use Rattle.guest_heap.specs.declared.object.Object.{Object}
 use Rattle.guest_heap.specs.declared.object.Object.TheVariants as objects
@@ -9,7 +9,7 @@ use Rattle.guest_heap.specs.declared.value.Value.{Value}
 use Rattle.guest_heap.specs.declared.value.Value.TheVariants as values
 use Rattle.guest_model.specs.Calling.{aimed_at, run_of, started_as, target_in, target_of, with_changed}
 use Rattle.guest_model.specs.Calls.{Taken, taken}
-use Rattle.guest_model.specs.Finding.{Given, client_run}
+use Rattle.guest_model.specs.Finding.{client_run}
 use Rattle.guest_model.specs.Kinds.{class_of_value}
 use Rattle.guest_model.proofs.Options.{IfThere, all_drop, all_get, all_reverse, all_set, all_take, if_either, if_mapped, if_none, if_some, if_then, is_there, some_is, there_or}
 use Rattle.block_logic.specs.Fitting.{ArePassed, IsCleanObject}

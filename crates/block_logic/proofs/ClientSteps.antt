@@ -1,6 +1,6 @@
 -- A step of a thread that does not hold the lock: its instruction is the client's, or pushes the lock's class, behind which the lock is taken.
 use Rattle.std.proofs.Common.{◌≡◌, ℕ, ◌+◌, Bool, true, false, cond, List, [], ◌∷◌, length, Option, Some, None, Result, Ok, refl, sym, ap, subst, ◌∙◌, inl, inr}
-use Rattle.std.specs.Prelude.{◌&&◌, is_some, nat_lt, not, option_map}
+use Rattle.std.specs.Prelude.{is_some, nat_lt, not}
 use Rattle.std.specs.Option.{option_map_or}
 use Rattle.std.proofs.lemmas.Bool.{and_parts, cases_Bool, false_from_ne_true, false≢true}
 use Rattle.std.proofs.lemmas.Slice.Eq.{bytes_eq-Decides}
@@ -35,7 +35,7 @@ use Rattle.block_logic.specs.Fitting.{AreClientFrames, state_of}
 use Rattle.block_logic.specs.Meaning.{AreClean, IsAbove, IsFree, lock_of}
 use Rattle.block_logic.specs.Obeying.{IsObeying}
 use Rattle.block_logic.specs.Operands.{calls, has_clause, is_state_name, loads_constant, pushes_state, state_name, variable_named}
-use Rattle.block_logic.specs.Rows.{Asked, Open, Row, Rules, Taking, free_row, leads}
+use Rattle.block_logic.specs.Rows.{Open, Row, Rules, Taking, free_row, leads}
 use Rattle.block_logic.specs.Standing.{takes_for_call}
 use Rattle.block_logic.proofs.ClientChanges.{Good, GoodIf, Keeps}
 use Rattle.block_logic.proofs.ClientFrames.{goes_free, may_go_on, moved_frame}

@@ -1,5 +1,5 @@
 -- What instructions come to that work on the heap, on static fields, or divide: where no value is the lock, none is afterwards.
-use Rattle.std.proofs.Common.{◌≡◌, ◌≢◌, ℕ, ℤ, Bool, true, false, cond, List, [], ◌∷◌, drop, length, replicate, pos, negsuc, Option, Some, None, Result, Ok, Err, refl}
+use Rattle.std.proofs.Common.{◌≡◌, ◌≢◌, ℕ, ℤ, Bool, true, false, cond, List, ◌∷◌, drop, length, replicate, pos, negsuc, Some, None, Result, Ok, Err, refl}
 use Rattle.std.specs.Prelude.{nat_lt, ◌==◌, slice_get, slice_set, option_and_then}
 use Rattle.std.specs.Ordering.{int_eq}
 use Rattle.std.proofs.lemmas.Bool.{eq-eqb, false≢true}
@@ -20,7 +20,7 @@ use Rattle.guest_heap.specs.declared.value.Value.{Value}
 use Rattle.guest_heap.specs.declared.value.Value.TheVariants as values
 use Rattle.guest_heap.specs.Heap.{places_of, with_value_at}
 use Rattle.guest_frames.specs.Values.{fits}
-use Rattle.guest_model.specs.Changes.{World, with_heap, with_object}
+use Rattle.guest_model.specs.Changes.{World, with_heap}
 use Rattle.guest_model.specs.Layout.{first_value, new_of}
 use Rattle.guest_model.specs.Parts.{constant_value, null_pointer}
 use Rattle.guest_model.specs.Working.{
