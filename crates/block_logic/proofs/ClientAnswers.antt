@@ -34,6 +34,7 @@ use Rattle.block_logic.specs.Fitting.{AreBelow, ArePassed, IsClientCall, state_o
 use Rattle.block_logic.specs.Meaning.{IsClean}
 use Rattle.block_logic.specs.Obeying.{IsObeying}
 use Rattle.block_logic.proofs.ClientChanges.{Good, GoodIf, Keeps, returned_good, throws_new_good}
+use Rattle.block_logic.proofs.ClientFrames.{Laws}
 use Rattle.block_logic.proofs.ClientThrows.{below_catching}
 use Rattle.block_logic.proofs.ClientValues.{kept_object, lock_kept}
 use Rattle.block_logic.proofs.Ruled.{BeginsOpen, OpenIsFree, RulesHold}
@@ -73,8 +74,7 @@ module _ (program : Program) (policy : Policy) (certificate : Certificate) where
         call.2,
       )
 
-  module _ (o : IsObeying program policy certificate) (rules_hold : RulesHold program policy certificate)
-      (begins_open : BeginsOpen program policy certificate) (open_free : OpenIsFree program policy certificate) (world : World) where
+  module _ (laws : Laws program policy certificate) (world : World) where
     abbrev IsGood : Change → Type 0
     IsGood change = Good program policy certificate world change
 
@@ -86,8 +86,8 @@ module _ (program : Program) (policy : Policy) (certificate : Certificate) where
       throws_there : (class : Name) → Makes (Some (throws_new program world number thread thread.frames class (Some (events.Except number method))))
       throws_there class =
           if_some IsGood _
-          (throws_new_good program policy certificate o rules_hold begins_open open_free world world number thread thread.frames class
-          (Some (events.Except number method)) kept (below_catching program policy certificate o rules_hold open_free thread.frames waits)
+          (throws_new_good program policy certificate laws world world number thread thread.frames class
+          (Some (events.Except number method)) kept (below_catching program policy certificate laws thread.frames waits)
           (without_clause policy (events.Except number method) unclaused))
 
       -- ---- what is given
@@ -122,7 +122,7 @@ module _ (program : Program) (policy : Policy) (certificate : Certificate) where
             (there_or Makes (thrown_by_library program world number thread method) (thrown_by answer) _
             (if_then IsGood _ (given world receiver arguments answer)
             (λ (gave : World × Option Value) f. let g = is_there Gives (given world receiver arguments answer) gave (gives answer) f in
-            returned_good program policy certificate o rules_hold begins_open open_free world gave.0 thread thread.frames gave.1
+            returned_good program policy certificate laws world gave.0 thread thread.frames gave.1
             (Some (events.Return number method (option_map (value_shown program gave.0.heap) gave.1))) g.0 waits g.1
             (without_clause policy (events.Return number method (option_map (value_shown program gave.0.heap) gave.1)) unclaused)))
             (λ class f. throws_there class))
@@ -135,6 +135,7 @@ module _ (program : Program) (policy : Policy) (certificate : Certificate) where
   pub client_answers : IsObeying program policy certificate → RulesHold program policy certificate → BeginsOpen program policy certificate
       → OpenIsFree program policy certificate → ClientAnswers program policy certificate
   client_answers o rules_hold begins_open open_free world number thread method receiver arguments choice change clean unclaused call passed e =
+      let laws : Laws program policy certificate = record { obeys = o; rules_hold = rules_hold; begins_open = begins_open; open_free = open_free } in
       let kept = lock_kept program (state_of program policy certificate) world clean in
       is_there (Good program policy certificate world) _ change
-      (call_good o rules_hold begins_open open_free world kept number thread method unclaused (call_waits method thread.frames unclaused call) receiver arguments passed choice) e
+      (call_good laws world kept number thread method unclaused (call_waits method thread.frames unclaused call) receiver arguments passed choice) e

@@ -21,9 +21,8 @@ use Rattle.guest_model.specs.Places.{method_at}
 use Rattle.guest_model.proofs.Options.{all_append, all_replicate, there_or}
 use Rattle.block_logic.specs.Fitting.{AreBelow, AreClientFrames, ArePassed, IsClient, IsClientFrame}
 use Rattle.block_logic.specs.Meaning.{AreClean, IsClean, IsFrame}
-use Rattle.block_logic.specs.Obeying.{IsObeying}
 use Rattle.block_logic.proofs.ClientClasses.{class_clean}
-use Rattle.block_logic.proofs.Ruled.{BeginsOpen}
+use Rattle.block_logic.proofs.ClientFrames.{Laws}
 
 module _ (program : Program) where
   -- what is there is no lock
@@ -39,13 +38,13 @@ module _ (program : Program) where
     pub ended_client : IsClient program policy certificate ended_thread
     ended_client = tt
 
-    module _ (o : IsObeying program policy certificate) (begins_open : BeginsOpen program policy certificate) where
+    module _ (laws : Laws program policy certificate) where
       -- ---- a frame of a method
 
       module _ (to : Given) (method : Method) (there : method_at program to.0 to.1 ≡ Some method) where
         monitor_clean : (receiver : Option Value) → IfSome receiver (IsClean program)
             → IsClean program (option_map_or (λ (v : Value). v) receiver (values.Class (length program.listing.classes + to.0)))
-        monitor_clean None clean = class_clean program policy certificate o to.0 to.1 method there
+        monitor_clean None clean = class_clean program policy certificate laws.obeys to.0 to.1 method there
         monitor_clean (Some v) clean = clean
 
         -- the monitor that it takes
@@ -78,7 +77,7 @@ module _ (program : Program) where
             by [] e = inl (rw there (rw e refl))
             by (insn ∷ insns) e =
                 let some : 0 < length method.insns = rw e (omega arith) in
-                inr (notes.Free, begins_open to.0 to.1 method there some, tt)
+                inr (notes.Free, laws.begins_open to.0 to.1 method there some, tt)
 
           -- it begins in front of frames that wait
           pub begun_frames : (below : List Frame) → AreBelow program policy certificate below

@@ -35,20 +35,17 @@ use Rattle.guest_model.specs.Seen.{string_of, values_shown}
 use Rattle.guest_model.proofs.Options.{all_append, all_get, if_either, if_made, if_none, if_some, if_then, is_there, there_or}
 use Rattle.block_logic.specs.Fitting.{AreBelow, ArePassed, state_of}
 use Rattle.block_logic.specs.Meaning.{AreClean, IsBelow, IsClean}
-use Rattle.block_logic.specs.Obeying.{IsObeying}
 use Rattle.block_logic.specs.Operands.{has_clause}
 use Rattle.block_logic.proofs.ClientAnswers.{without_clause}
 use Rattle.block_logic.proofs.ClientBegins.{RunsClean, begun_client}
 use Rattle.block_logic.proofs.ClientChanges.{Good, GoodIf, Keeps, after_free, changes, ends_good, enters_good, throws_new_good, went_on}
-use Rattle.block_logic.proofs.ClientFrames.{goes_behind, moved_frame}
+use Rattle.block_logic.proofs.ClientFrames.{Laws, goes_behind, moved_frame}
 use Rattle.block_logic.proofs.ClientPassing.{PassesClean, aimed_clean, changed_clean, own_or_target, run_clean, some_of, started_clean, taken_clean, target_clean, there_is}
 use Rattle.block_logic.proofs.ClientThrows.{below_catching}
 use Rattle.block_logic.proofs.ClientValues.{IsCleanHeap, kept_heap}
-use Rattle.block_logic.proofs.Ruled.{BeginsOpen, OpenIsFree, RulesHold}
 
-module _ (program : Program) (policy : Policy) (certificate : Certificate) (o : IsObeying program policy certificate)
-    (rules_hold : RulesHold program policy certificate) (begins_open : BeginsOpen program policy certificate)
-    (open_free : OpenIsFree program policy certificate) (machine : Machine)
+module _ (program : Program) (policy : Policy) (certificate : Certificate) (laws : Laws program policy certificate)
+    (machine : Machine)
     (kept : Keeps program policy certificate (world_of machine) (world_of machine)) where
   abbrev shared : World
   shared = world_of machine
@@ -66,15 +63,15 @@ module _ (program : Program) (policy : Policy) (certificate : Certificate) (o : 
       (passes : PassesClean program c.passed) where
     throws_there : (class : Name) → IsGood (call_throws program shared c class)
     throws_there class =
-        throws_new_good program policy certificate o rules_hold begins_open open_free shared shared c.number c.thread (c.frame ∷ c.below) class None kept
-        (below_catching program policy certificate o rules_hold open_free (c.frame ∷ c.below) (frame, below)) tt
+        throws_new_good program policy certificate laws shared shared c.number c.thread (c.frame ∷ c.below) class None kept
+        (below_catching program policy certificate laws (c.frame ∷ c.below) (frame, below)) tt
 
     past_good : (world : World) (results : List Value) → Stays world → AreClean program results → Makes (goes_past world c results)
     past_good world results k clean =
         let items : List Value = results ++ c.passed.beneath in
-        went_on program policy certificate o rules_hold begins_open open_free shared world c.thread (after c.frame items) c.below k
+        went_on program policy certificate laws shared world c.thread (after c.frame items) c.below k
         (after_free program policy certificate c.frame items c.below frame.well
-        (goes_behind program policy certificate o rules_hold open_free c.frame frame)
+        (goes_behind program policy certificate laws c.frame frame)
         (all_append (IsClean program) results c.passed.beneath clean passes.beneath) below)
 
     goes_good : Makes (goes_past shared c [])
@@ -105,7 +102,7 @@ module _ (program : Program) (policy : Policy) (certificate : Certificate) (o : 
     method_good : (to : Given) (receiver : Option Value) (arguments : List Value) → ArePassed program receiver arguments
         → Makes (enters_method program shared c.number c.thread (waiting c) to receiver arguments)
     method_good to receiver arguments passed =
-        enters_good program policy certificate o rules_hold begins_open open_free shared shared c.number c.thread (waiting c) to receiver arguments kept they_wait
+        enters_good program policy certificate laws shared shared c.number c.thread (waiting c) to receiver arguments kept they_wait
         passed
 
     -- ---- threads
@@ -124,7 +121,7 @@ module _ (program : Program) (policy : Policy) (certificate : Certificate) (o : 
           locks = good.locks;
           variables = good.variables;
           thread = good.thread;
-          begins = begun_client program policy certificate o begins_open run (own_or_target program machine.heap on clean kept.clean.heap);
+          begins = begun_client program policy certificate laws run (own_or_target program machine.heap on clean kept.clean.heap);
           event = good.event;
         })
         (with_heap_good (with_changed machine.heap on started)
@@ -202,8 +199,8 @@ module _ (program : Program) (policy : Policy) (certificate : Certificate) (o : 
     ends_here : Makes (Some (ends_thread shared c.number (c.frame ∷ c.below)))
     ends_here =
         if_some IsGood _
-        (ends_good program policy certificate o rules_hold begins_open open_free shared shared c.number (c.frame ∷ c.below) kept
-        (below_catching program policy certificate o rules_hold open_free (c.frame ∷ c.below) (frame, below)))
+        (ends_good program policy certificate laws shared shared c.number (c.frame ∷ c.below) kept
+        (below_catching program policy certificate laws (c.frame ∷ c.below) (frame, below)))
 
     lacking_good : (method : Method) (on : Value) → Makes (lacking program shared c method on)
     lacking_good method on = if_either IsGood (is_run method) _ _ (runs_target_good on) ends_here
@@ -234,7 +231,7 @@ module _ (program : Program) (policy : Policy) (certificate : Certificate) (o : 
         let at_call : insn_at program c.frame ≡ Some (frame.insn, target.ApiMethod index) =
         subst (λ (ref : Target). insn_at program c.frame ≡ Some (frame.insn, ref)) is frame.there in
         let shown = values_shown program machine.heap c.passed.arguments in
-        changes program policy certificate o rules_hold begins_open open_free shared (calls_library program shared c index) kept (
+        changes program policy certificate laws shared (calls_library program shared c index) kept (
           unclaused,
           (
             they_wait.0.well,

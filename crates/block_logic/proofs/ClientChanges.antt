@@ -39,13 +39,11 @@ use Rattle.guest_model.specs.Throwing.{bare_object, locks_left}
 use Rattle.guest_model.proofs.Options.{IfThere, all_append, if_mapped, if_some, if_then, some_is, unless_of}
 use Rattle.block_logic.specs.Fitting.{AreBelow, AreClientFrames, ArePassed, IsClient, held_locks, state_of}
 use Rattle.block_logic.specs.Meaning.{AreClean, IsClean, IsFrame}
-use Rattle.block_logic.specs.Obeying.{IsObeying}
 use Rattle.block_logic.proofs.ClientBegins.{begun_frames, clean_list, ended_client, lock_clean, rests_client}
-use Rattle.block_logic.proofs.ClientFrames.{FreeAt, goes_behind, went_free}
+use Rattle.block_logic.proofs.ClientFrames.{FreeAt, Laws, goes_behind, went_free}
 use Rattle.block_logic.proofs.ClientMonitors.{all_given_up_stay, entered_stays}
 use Rattle.block_logic.proofs.ClientThrows.{AreCatching, all_locks_clean, locks_clean, thrown_client, unwound_client}
 use Rattle.block_logic.proofs.ClientValues.{KeepsLock, kept_monitors, kept_object}
-use Rattle.block_logic.proofs.Ruled.{BeginsOpen, OpenIsFree, RulesHold}
 use Rattle.block_logic.proofs.Steps.{ChangesClient}
 
 module _ (program : Program) (policy : Policy) (certificate : Certificate) where
@@ -77,8 +75,7 @@ module _ (program : Program) (policy : Policy) (certificate : Certificate) where
   abbrev pub GoodIf : World → Option Change → Type 0
   GoodIf shared change = IfThere (Good shared) change
 
-  module _ (o : IsObeying program policy certificate) (rules_hold : RulesHold program policy certificate)
-      (begins_open : BeginsOpen program policy certificate) (open_free : OpenIsFree program policy certificate) (shared : World) where
+  module _ (laws : Laws program policy certificate) (shared : World) where
     pub changes : (change : Change) → Keeps shared change.world → IsClient program policy certificate change.thread
         → IfSome change.begins (IsClient program policy certificate) → IsUnclaused change.event → Good shared change
     changes change k client begins unclaused = record {
@@ -113,7 +110,7 @@ module _ (program : Program) (policy : Policy) (certificate : Certificate) where
     ends_good world number frames k c =
         changes (ends_thread world number frames)
         (with_held world _ k
-        (all_given_up_stay program (locks_of frames) world.monitors number (all_locks_clean program policy certificate o rules_hold open_free frames c)))
+        (all_given_up_stay program (locks_of frames) world.monitors number (all_locks_clean program policy certificate laws frames c)))
         (ended_client program policy certificate) tt tt
 
     -- ---- throwing
@@ -122,11 +119,11 @@ module _ (program : Program) (policy : Policy) (certificate : Certificate) where
         → Keeps shared world → IsClean program thrown → AreCatching program policy certificate frames → IsUnclaused event
         → Good shared (throws program world number thread frames thrown class event)
     throws_good world number thread frames thrown class event k clean c unclaused =
-        let locks = locks_clean program policy certificate o rules_hold open_free thrown class frames c in
+        let locks = locks_clean program policy certificate laws thrown class frames c in
         changes (throws program world number thread frames thrown class event)
         (with_held world _ k (all_given_up_stay program (locks_left program thrown class frames) world.monitors number locks))
         (thrown_client program policy certificate _ thread.to_begin
-        (unwound_client program policy certificate o rules_hold open_free thrown class clean frames c)) tt unclaused
+        (unwound_client program policy certificate laws thrown class clean frames c)) tt unclaused
 
     pub throws_new_good : (world : World) (number : ℕ) (thread : Thread) (frames : List Frame) (class : Name) (event : Option Event)
         → Keeps shared world → AreCatching program policy certificate frames → IsUnclaused event
@@ -149,12 +146,12 @@ module _ (program : Program) (policy : Policy) (certificate : Certificate) where
     enters_good world number thread waiting to receiver arguments k waits passed =
         if_then (Good shared) _ (method_at program to.0 to.1)
         (λ (method : Method) there.
-        let lock = lock_clean program policy certificate o begins_open to method there receiver passed.0 in
+        let lock = lock_clean program policy certificate laws to method there receiver passed.0 in
         if_then (Good shared) _ (lock_taken world.monitors number (lock_of program to.0 method receiver))
         (λ held e. if_some (Good shared) _
         (goes_good (with_monitors world held) thread (frame_of program to method receiver arguments ∷ waiting)
         (with_held world held k (taken_stays world.monitors held number (lock_of program to.0 method receiver) lock e))
-        (begun_frames program policy certificate o begins_open to method there receiver arguments passed waiting waits))))
+        (begun_frames program policy certificate laws to method there receiver arguments passed waiting waits))))
 
     -- ---- returning
 
@@ -173,11 +170,11 @@ module _ (program : Program) (policy : Policy) (certificate : Certificate) where
         → GoodIf shared (returned program world thread frames result event)
     returned_good world thread [] result event k waits clean unclaused =
         if_some (Good shared) _
-        (changes (with_event (rests_now program world thread) event) k (rests_client program policy certificate o begins_open thread.to_begin) tt unclaused)
+        (changes (with_event (rests_now program world thread) event) k (rests_client program policy certificate laws thread.to_begin) tt unclaused)
     returned_good world thread (caller ∷ below) result event k waits clean unclaused =
         let items : List Value = option_to_list result ++ caller.stack.items in
         if_mapped (Good shared) (λ (f : Frame). with_event (goes world thread (f ∷ below)) event) (after caller items)
         (λ f e. event_good event (goes world thread (f ∷ below))
         (goes_good world thread (f ∷ below) k
-        (after_free caller items below waits.0.well (goes_behind program policy certificate o rules_hold open_free caller waits.0)
+        (after_free caller items below waits.0.well (goes_behind program policy certificate laws caller waits.0)
         (all_append (IsClean program) (option_to_list result) caller.stack.items (clean_list program result clean) waits.0.clean) waits.1 f e)) unclaused)

@@ -35,7 +35,7 @@ use Rattle.block_logic.specs.Meaning.{AreClean, IsBelow, IsFrame, note_at, note_
 use Rattle.block_logic.specs.Obeying.{IsObeying}
 use Rattle.block_logic.specs.Operands.{calls, pushes_state, variable_named}
 use Rattle.block_logic.specs.Rows.{Asked, Open, Row, Taking, Rules, free_row, leads}
-use Rattle.block_logic.proofs.Ruled.{LeadsTo, OpenIsFree, RulesHold}
+use Rattle.block_logic.proofs.Ruled.{BeginsOpen, LeadsTo, OpenIsFree, RulesHold}
 
 -- ---- shapes
 
@@ -88,40 +88,46 @@ module _ (program : Program) (policy : Policy) (certificate : Certificate) where
   went_free frame at locals items below well free in_locals on_stack waits =
       (moved_frame frame at locals items well in_locals, inr (notes.Free, free, on_stack), waits)
 
-  module _ (o : IsObeying program policy certificate) where
+  -- What the rules of the notes tell of an accepted program.
+  pub record Laws : Type 0 where
+    pub obeys : IsObeying program policy certificate
+    pub rules_hold : RulesHold program policy certificate
+    pub begins_open : BeginsOpen program policy certificate
+    pub open_free : OpenIsFree program policy certificate
+
+  module _ (laws : Laws) where
     pub insn_is : (frame : Frame) (next : Insn × Target) → insn_at program frame ≡ Some next → IsInsn next.0
     insn_is frame next e =
         let m = and_then_of (λ (of : Method). insn_in of frame.at) (method_at program frame.class frame.method) next e in
-        o.insns frame.class frame.method frame.at next.0 next.1 (record { of = m.0; there = m.1; is = m.2 })
+        laws.obeys.insns frame.class frame.method frame.at next.0 next.1 (record { of = m.0; there = m.1; is = m.2 })
 
     -- control goes on behind an instruction that does not end
     pub may_go_on : (frame : Frame) (next : Insn × Target) → insn_at program frame ≡ Some next → ends (shape_of next.0) ≡ false
         → goes_on (opcode_of next.0) ≡ true
     may_go_on frame next e stays = goes_on_alike next.0 (insn_is frame next e) ∙ ap not stays
 
-    module _ (rules_hold : RulesHold program policy certificate) (open_free : OpenIsFree program policy certificate) where
-      open_at : (frame : Frame) (at : ℕ) (asked : Asked) → asked ≡ Open → LeadsTo program policy certificate frame at asked → FreeAt frame at
-      open_at frame at asked is l =
-          let here : LeadsTo program policy certificate frame at Open = subst (LeadsTo program policy certificate frame at) is l in
-          here.told ∙ ap Some (open_free here.note here.meets)
+    open_at : (frame : Frame) (at : ℕ) (asked : Asked) → asked ≡ Open → LeadsTo program policy certificate frame at asked → FreeAt frame at
+    open_at frame at asked is l =
+        let here : LeadsTo program policy certificate frame at Open = subst (LeadsTo program policy certificate frame at) is l in
+        here.told ∙ ap Some (laws.open_free here.note here.meets)
 
-      -- an instruction of the client that does not push the lock's class
-      pub goes_free : (frame : Frame) (next : Insn × Target) → insn_at program frame ≡ Some next → note_of program certificate frame ≡ Some notes.Free
-          → pushes_state (shape_of next.0) next.1 ≡ false → GoesFree frame next
-      goes_free frame next e told apart =
-          let h = rules_hold frame next notes.Free e told in
-          let is = row_open (rules_of program policy certificate) (shape_of next.0) next.1 h.r apart h.has in
-          record {
-            past = λ goes. open_at frame (frame.at + 1) h.r.past (ap (λ (r : Row). r.past) is) (h.past goes);
-            jump = λ to has. open_at frame to h.r.jump (ap (λ (r : Row). r.jump) is) (h.jump to has);
-            caught = λ class handler found. open_at frame handler.at Open refl (h.caught Open class handler (ap (λ (r : Row). r.thrown) is) found);
-          }
+    -- an instruction of the client that does not push the lock's class
+    pub goes_free : (frame : Frame) (next : Insn × Target) → insn_at program frame ≡ Some next → note_of program certificate frame ≡ Some notes.Free
+        → pushes_state (shape_of next.0) next.1 ≡ false → GoesFree frame next
+    goes_free frame next e told apart =
+        let h = laws.rules_hold frame next notes.Free e told in
+        let is = row_open (rules_of program policy certificate) (shape_of next.0) next.1 h.r apart h.has in
+        record {
+          past = λ goes. open_at frame (frame.at + 1) h.r.past (ap (λ (r : Row). r.past) is) (h.past goes);
+          jump = λ to has. open_at frame to h.r.jump (ap (λ (r : Row). r.jump) is) (h.jump to has);
+          caught = λ class handler found. open_at frame handler.at Open refl (h.caught Open class handler (ap (λ (r : Row). r.thrown) is) found);
+        }
 
-      -- a call without a clause, at which a frame waits
-      pub waits_free : (frame : Frame) (b : IsBelow program policy certificate frame) → GoesFree frame (b.insn, b.ref)
-      waits_free frame b = goes_free frame (b.insn, b.ref) b.there b.free (call_pushes (shape_of b.insn) b.ref b.call)
+    -- a call without a clause, at which a frame waits
+    pub waits_free : (frame : Frame) (b : IsBelow program policy certificate frame) → GoesFree frame (b.insn, b.ref)
+    waits_free frame b = goes_free frame (b.insn, b.ref) b.there b.free (call_pushes (shape_of b.insn) b.ref b.call)
 
-      pub goes_behind : (frame : Frame) (b : IsBelow program policy certificate frame) → FreeAt frame (frame.at + 1)
-      goes_behind frame b =
-          let g = waits_free frame b in
-          g.past (may_go_on frame (b.insn, b.ref) b.there (call_stays (shape_of b.insn) b.call))
+    pub goes_behind : (frame : Frame) (b : IsBelow program policy certificate frame) → FreeAt frame (frame.at + 1)
+    goes_behind frame b =
+        let g = waits_free frame b in
+        g.past (may_go_on frame (b.insn, b.ref) b.there (call_stays (shape_of b.insn) b.call))

@@ -57,18 +57,16 @@ use Rattle.guest_model.proofs.Effects.{effect_keeps}
 use Rattle.guest_model.proofs.Options.{IfThere, all_drop, all_get, and_then_of, if_either, if_mapped, if_none, if_some, if_then, is_there}
 use Rattle.block_logic.specs.Fitting.{AreBelow, AreClientFrames, held_locks, state_of}
 use Rattle.block_logic.specs.Meaning.{AreClean, IsClean, IsFrame, note_of}
-use Rattle.block_logic.specs.Obeying.{IsObeying}
 use Rattle.block_logic.specs.Operands.{calls, has_clause, is_state_name, pushes_state, state_name, variable_named}
 use Rattle.block_logic.proofs.ClientBegins.{clean_list}
 use Rattle.block_logic.proofs.ClientCalls.{calls_good}
 use Rattle.block_logic.proofs.ClientChanges.{Good, GoodIf, Keeps, after_free, fitted_free, returned_good, throws_good, throws_new_good, went_on, with_held}
 use Rattle.block_logic.proofs.ClientClasses.{named_clean}
-use Rattle.block_logic.proofs.ClientFrames.{FreeAt, GoesFree, insn_is, may_go_on}
+use Rattle.block_logic.proofs.ClientFrames.{FreeAt, GoesFree, Laws, insn_is, may_go_on}
 use Rattle.block_logic.proofs.ClientMonitors.{all_given_up_stay, entered_stays, left_stays}
 use Rattle.block_logic.proofs.ClientThrows.{AreCatching}
 use Rattle.block_logic.proofs.ClientValues.{clean_kept, names_clean}
 use Rattle.block_logic.proofs.ClientWorks.{Comes, work_comes}
-use Rattle.block_logic.proofs.Ruled.{BeginsOpen, OpenIsFree, RulesHold}
 
 -- ---- constants
 
@@ -95,9 +93,8 @@ one_of x y has = at has.0 has.1 has.2 where
 none_of : (y : ℕ) → Contains [] y → ⊥
 none_of y has = absurd (omega (arith, has.1))
 
-module _ (program : Program) (policy : Policy) (certificate : Certificate) (o : IsObeying program policy certificate)
-    (rules_hold : RulesHold program policy certificate) (begins_open : BeginsOpen program policy certificate)
-    (open_free : OpenIsFree program policy certificate) (machine : Machine)
+module _ (program : Program) (policy : Policy) (certificate : Certificate) (laws : Laws program policy certificate)
+    (machine : Machine)
     (kept : Keeps program policy certificate (world_of machine) (world_of machine)) (a : Acting) (well : IsFrame program a.frame)
     (clean : AreClean program a.frame.stack.items) (below : AreBelow program policy certificate a.below) where
   abbrev shared : World
@@ -115,7 +112,7 @@ module _ (program : Program) (policy : Policy) (certificate : Certificate) (o : 
   pub acts_good : (world : World) (f : Option Frame) → Keeps program policy certificate (world_of machine) world
       → ((x : Frame) → f ≡ Some x → AreClientFrames program policy certificate (x ∷ a.below))
       → GoodIf program policy certificate (world_of machine) (acts_on world a f)
-  acts_good world f k there = went_on program policy certificate o rules_hold begins_open open_free shared world a.thread f a.below k there
+  acts_good world f k there = went_on program policy certificate laws shared world a.thread f a.below k there
 
   module _ (next : Insn × Target) (there : insn_at program a.frame ≡ Some next) (g : GoesFree program policy certificate a.frame next) where
     -- ---- throwing, and going on behind the instruction
@@ -126,19 +123,19 @@ module _ (program : Program) (policy : Policy) (certificate : Certificate) (o : 
     throws_here : (world : World) (class : Name) → Stays world → Makes (Some (acts_throwing program world a class))
     throws_here world class k =
         if_some IsGood _
-        (throws_new_good program policy certificate o rules_hold begins_open open_free shared world a.number a.thread (a.frame ∷ a.below) class None k frames_catch
+        (throws_new_good program policy certificate laws shared world a.number a.thread (a.frame ∷ a.below) class None k frames_catch
         tt)
 
     throws_top_good : (v : Value) → IsClean program v → Makes (throws_top program shared a v)
     throws_top_good v own =
         if_either IsGood (is_null v) _ _ (throws_here shared null_pointer kept)
         (if_mapped IsGood _ (class_of_value machine.heap v)
-        (λ class e. throws_good program policy certificate o rules_hold begins_open open_free shared shared a.number a.thread (a.frame ∷ a.below) v class None
+        (λ class e. throws_good program policy certificate laws shared shared a.number a.thread (a.frame ∷ a.below) v class None
         kept own frames_catch tt))
 
     module _ (stays : ends (shape_of next.0) ≡ false) where
       next_free : FreeAt program policy certificate a.frame (a.frame.at + 1)
-      next_free = g.past (may_go_on program policy certificate o a.frame next there stays)
+      next_free = g.past (may_go_on program policy certificate laws a.frame next there stays)
 
       goes_behind_good : (world : World) (items : List Value) → Stays world → AreClean program items → Makes (acts_on world a (after a.frame items))
       goes_behind_good world items k all =
@@ -149,7 +146,7 @@ module _ (program : Program) (policy : Policy) (certificate : Certificate) (o : 
           → Makes (acts_on (with_monitors shared held) a (after a.frame (drop 1 a.frame.stack.items)))
       goes_less held same =
           goes_behind_good (with_monitors shared held) (drop 1 a.frame.stack.items)
-          (with_held program policy certificate o rules_hold begins_open open_free shared shared held kept same)
+          (with_held program policy certificate laws shared shared held kept same)
           (all_drop (IsClean program) 1 a.frame.stack.items clean)
 
       -- ---- the heap, static fields, division
@@ -200,10 +197,10 @@ module _ (program : Program) (policy : Policy) (certificate : Certificate) (o : 
     returns_good kind =
         let own = clean_list program a.frame.lock well.lock in
         let held = all_given_up machine.monitors a.number (option_to_list a.frame.lock) in
-        let k = with_held program policy certificate o rules_hold begins_open open_free shared shared held kept
+        let k = with_held program policy certificate laws shared shared held kept
         (all_given_up_stay program (option_to_list a.frame.lock) machine.monitors a.number own) in
         if_then IsGood _ (result_of kind a.frame.stack.items)
-        (λ result e. returned_good program policy certificate o rules_hold begins_open open_free shared (with_monitors shared held) a.thread a.below result None k
+        (λ result e. returned_good program policy certificate laws shared (with_monitors shared held) a.thread a.below result None k
         below (is_there GivesClean _ result (result_clean kind) e) tt)
 
     -- ---- an instruction that works on its frame alone
@@ -211,7 +208,7 @@ module _ (program : Program) (policy : Policy) (certificate : Certificate) (o : 
     steps_free : is_heap (shape_of next.0) ≡ false → FreeAt program policy certificate a.frame (next_of values_seen next.0 a.frame.at a.frame.stack.items)
     steps_free alone =
         let to : ℕ = next_of values_seen next.0 a.frame.at a.frame.stack.items in
-        let has = goes_to_successor values_seen next.0 a.frame.at a.frame.stack.items (insn_is program policy certificate o a.frame next there) alone in
+        let has = goes_to_successor values_seen next.0 a.frame.at a.frame.stack.items (insn_is program policy certificate laws a.frame next there) alone in
         elim (Contains-append_cases (cond (goes_on (opcode_of next.0)) ((a.frame.at + 1) ∷ []) []) (jump_targets next.0) to has) [
           | inl on ↦ by (goes_on (opcode_of next.0)) refl to on
           | inr jump ↦ g.jump to jump
@@ -236,7 +233,7 @@ module _ (program : Program) (policy : Policy) (certificate : Certificate) (o : 
       call_good : (how : How) → shape_of next.0 ≡ shapes.Heap (heap.Call how) → Makes (heap_stepped program machine a (heap.Call how) next.1)
       call_good how shape =
           let call : calls (shape_of next.0) ≡ true = ap calls shape in
-          calls_good program policy certificate o rules_hold begins_open open_free machine kept a.number a.thread a.frame a.below how (record {
+          calls_good program policy certificate laws machine kept a.number a.thread a.frame a.below how (record {
             well = well;
             insn = next.0;
             ref = next.1;

@@ -38,7 +38,7 @@ use Rattle.block_logic.specs.Operands.{calls, has_clause, is_state_name, loads_c
 use Rattle.block_logic.specs.Rows.{Open, Row, Rules, Taking, free_row, leads}
 use Rattle.block_logic.specs.Standing.{takes_for_call}
 use Rattle.block_logic.proofs.ClientChanges.{Good, GoodIf, Keeps}
-use Rattle.block_logic.proofs.ClientFrames.{goes_free, may_go_on, moved_frame}
+use Rattle.block_logic.proofs.ClientFrames.{Laws, goes_free, may_go_on, moved_frame}
 use Rattle.block_logic.proofs.ClientInsns.{acts_good, shape_good}
 use Rattle.block_logic.proofs.ClientValues.{lock_kept}
 use Rattle.block_logic.proofs.Ruled.{BeginsOpen, IsRuled, LeadsTo, OpenIsFree, RulesHold}
@@ -71,9 +71,7 @@ module _ (program : Program) (policy : Policy) where
   lock_is : (index : ℕ) → class_index program state_name ≡ Some index → values.Class index ≡ lock_of program
   lock_is index e = rw e refl
 
-  module _ (certificate : Certificate) (o : IsObeying program policy certificate) (rules_hold : RulesHold program policy certificate)
-      (begins_open : BeginsOpen program policy certificate) (open_free : OpenIsFree program policy certificate)
-      (machine : Machine) (a : Acting) (next : Insn × Target) (acts : Acts program policy certificate machine a next notes.Free)
+  module _ (certificate : Certificate) (laws : Laws program policy certificate) (machine : Machine) (a : Acting) (next : Insn × Target) (acts : Acts program policy certificate machine a next notes.Free)
       (clean : AreClean program a.frame.stack.items) where
     abbrev shared : World
     shared = world_of machine
@@ -88,7 +86,7 @@ module _ (program : Program) (policy : Policy) where
     kept = lock_kept program (state_of program policy certificate) (world_of machine) acts.world
 
     ruled : IsRuled program policy certificate a.frame next notes.Free
-    ruled = rules_hold a.frame next notes.Free acts.there acts.told
+    ruled = laws.rules_hold a.frame next notes.Free acts.there acts.told
 
     -- ---- taking the lock
 
@@ -96,7 +94,7 @@ module _ (program : Program) (policy : Policy) where
       leads_taking : LeadsTo program policy certificate a.frame (a.frame.at + 1) Taking
       leads_taking =
           subst (LeadsTo program policy certificate a.frame (a.frame.at + 1)) takes
-          (ruled.past (may_go_on program policy certificate o a.frame next acts.there (ap ends shape)))
+          (ruled.past (may_go_on program policy certificate laws a.frame next acts.there (ap ends shape)))
 
       takes_behind : (v : Value) → v ≡ lock_of program → (f : Frame) → after a.frame (v ∷ a.frame.stack.items) ≡ Some f
           → AreClientFrames program policy certificate (f ∷ a.below)
@@ -120,7 +118,7 @@ module _ (program : Program) (policy : Policy) where
           let c = map_of values.Class (class_index program state_name) m.0 m.1 in
           let lock : m.0 ≡ lock_of program = sym c.2 ∙ lock_is c.0 c.1 in
           subst (λ (r : Result (World × List Value) Name). Makes (comes_to program shared a r)) m.2
-          (acts_good program policy certificate o rules_hold begins_open open_free machine kept a acts.well clean acts.below shared
+          (acts_good program policy certificate laws machine kept a acts.well clean acts.below shared
           (after a.frame (m.0 ∷ items)) kept (takes_behind m.0 lock)))
 
       pushes_lock : next.1 ≡ target.ClassName state_name → Makes (insn_stepped program machine a next)
@@ -142,8 +140,8 @@ module _ (program : Program) (policy : Policy) where
 
     other_good : pushes_state (shape_of next.0) next.1 ≡ false → Makes (insn_stepped program machine a next)
     other_good apart =
-        let g = goes_free program policy certificate o rules_hold open_free a.frame next acts.there acts.told apart in
-        shape_good program policy certificate o rules_hold begins_open open_free machine kept a acts.well clean acts.below next acts.there g (ruled.alone refl) acts.told unclaused
+        let g = goes_free program policy certificate laws a.frame next acts.there acts.told apart in
+        shape_good program policy certificate laws machine kept a acts.well clean acts.below next acts.there g (ruled.alone refl) acts.told unclaused
         apart (shape_of next.0) refl
 
     pub step_good : Makes (insn_stepped program machine a next)
@@ -155,5 +153,6 @@ module _ (program : Program) (policy : Policy) where
   pub client_steps : (certificate : Certificate) → IsObeying program policy certificate → RulesHold program policy certificate → BeginsOpen program policy certificate
       → OpenIsFree program policy certificate → ClientSteps program policy certificate
   client_steps certificate o rules_hold begins_open open_free machine a next change acts clean e =
+      let laws : Laws program policy certificate = record { obeys = o; rules_hold = rules_hold; begins_open = begins_open; open_free = open_free } in
       is_there (Good program policy certificate (world_of machine)) (insn_stepped program machine a next) change
-      (step_good certificate o rules_hold begins_open open_free machine a next acts clean) e
+      (step_good certificate laws machine a next acts clean) e

@@ -18,10 +18,8 @@ use Rattle.guest_model.specs.Throwing.{caught_in, handler_of, locks_left, unwoun
 use Rattle.guest_model.proofs.Options.{all_append, and_then_of}
 use Rattle.block_logic.specs.Fitting.{AreBelow, AreClientFrames, IsClient}
 use Rattle.block_logic.specs.Meaning.{AreClean, IsClean, IsFrame}
-use Rattle.block_logic.specs.Obeying.{IsObeying}
 use Rattle.block_logic.proofs.ClientBegins.{clean_list}
-use Rattle.block_logic.proofs.ClientFrames.{FreeAt, waits_free, went_free}
-use Rattle.block_logic.proofs.Ruled.{OpenIsFree, RulesHold}
+use Rattle.block_logic.proofs.ClientFrames.{FreeAt, Laws, waits_free, went_free}
 
 module _ (program : Program) (policy : Policy) (certificate : Certificate) where
   -- A frame whose handlers that may catch are the client's.
@@ -33,12 +31,12 @@ module _ (program : Program) (policy : Policy) (certificate : Certificate) where
   AreCatching [] = Unit {0}
   AreCatching (frame ∷ below) = CatchesFree frame × AreBelow program policy certificate below
 
-  module _ (o : IsObeying program policy certificate) (rules_hold : RulesHold program policy certificate) (open_free : OpenIsFree program policy certificate) where
+  module _ (laws : Laws program policy certificate) where
     -- those that wait are such
     pub below_catching : (below : List Frame) → AreBelow program policy certificate below → AreCatching below
     below_catching [] waits = tt
     below_catching (frame ∷ below) waits =
-        (record { well = waits.0.well; caught = (waits_free program policy certificate o rules_hold open_free frame waits.0).caught }, waits.1)
+        (record { well = waits.0.well; caught = (waits_free program policy certificate laws frame waits.0).caught }, waits.1)
 
     -- ---- the locks that are given up
 
