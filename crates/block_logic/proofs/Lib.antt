@@ -3,3 +3,16 @@ pub mod Lists
 pub mod Covering
 pub mod Ruled
 pub mod Steps
+pub mod ClientFrames
+pub mod ClientInsns
+pub mod ClientMonitors
+pub mod ClientAnswers
+pub mod ClientBegins
+pub mod ClientCalls
+pub mod ClientChanges
+pub mod ClientClasses
+pub mod ClientPassing
+pub mod ClientSteps
+pub mod ClientThrows
+pub mod ClientValues
+pub mod ClientWorks
