@@ -5,3 +5,8 @@ pub mod Steps
 pub mod Handling
 pub mod Told
 pub mod RulesHold
+pub mod SameEvents
+pub mod Threads
+pub mod Composing
+pub mod Keeping
+pub mod Obeyed
