@@ -10,3 +10,4 @@ pub mod Threads
 pub mod Composing
 pub mod Keeping
 pub mod Obeyed
+pub mod Starting
