@@ -3,6 +3,7 @@ pub mod Covering
 pub mod Ruled
 pub mod Steps
 pub mod Handling
+pub mod Tests
 pub mod Told
 pub mod RulesHold
 pub mod SameEvents

@@ -1,6 +1,6 @@
 -- What an accepted program does: its events obey, and the lock orders them.
 use Rattle.std.proofs.Common.{◌≡◌, ◌≢◌, ◌⊎◌, ℕ, ◌==◌, Bool, true, false, List, [], ◌∷◌, ◌++◌, filter, Option, Some, None, refl, sym, ap, subst, ◌∙◌, inl, inr}
-use Rattle.std.specs.Prelude.{IfSome, find, is_some, option_map}
+use Rattle.std.specs.Prelude.{IfSome, find, option_map}
 use Rattle.std.specs.List.{AllByRecursion}
 use Rattle.std.specs.Option.{option_map_or, option_to_list}
 use Rattle.std.proofs.lemmas.Bool.{and_parts, cases_Bool}
@@ -29,6 +29,7 @@ use Rattle.block_logic.specs.Obeying.{AcceptedObeys, IsObeying, LockOrders}
 use Rattle.block_logic.proofs.Composing.{StepLaws}
 use Rattle.block_logic.proofs.Keeping.{IsMade, always_kept, client_changes, is_made, moves}
 use Rattle.block_logic.proofs.Steps.{ChangesClient, StartsWell}
+use Rattle.block_logic.proofs.Tests.{it_is_there}
 
 -- ---- lists
 
@@ -57,10 +58,6 @@ of_last P (x ∷ before) last all = of_last P before last all.1
 last_passes : {A : Type 0} (test : A → Bool) (xs before : List A) (last : A) → filter test xs ≡ before ++ last ∷ [] → test last ≡ true
 last_passes test xs before last e = of_last (λ x. test x ≡ true) before last (subst (AllByRecursion (λ x. test x ≡ true)) e (all_kept test xs))
 
-there_is : {A : Type 0} (o : Option A) → is_some o ≡ true → (x : A) × (o ≡ Some x)
-there_is None e = absurd cc
-there_is (Some x) e = (x, refl)
-
 -- ---- policies that deny calls outright
 
 before_call : (event : Event) → is_phase_of event Before ≡ true → is_return event ≡ false
@@ -71,7 +68,7 @@ before_call (events.Except thread method) e = absurd cc
 -- Each event with a clause is a call.
 no_return : (policy : Policy) (event : Event) → DeniesOnly policy → has_clause policy event ≡ true → is_return event ≡ false
 no_return policy event denies has =
-    let c = there_is (clause_of policy event) has in
+    let c = it_is_there (clause_of policy event) has in
     let d = found_of Denies (speaks_of event) policy.clauses c.0 denies.clauses c.1 in
     let of_phase = (and_parts (c.0.method == method_of event) (is_phase_of event c.0.phase) d.1).1 in
     before_call event (rw d.0.calls at of_phase)

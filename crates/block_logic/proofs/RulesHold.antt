@@ -1,5 +1,5 @@
 -- The rules of the notes hold wherever a frame of an accepted program stands, and a method begins in no block.
-use Rattle.std.proofs.Common.{◌≡◌, ℕ, zero, suc, ◌+◌, ◌<◌, Bool, true, false, List, [], ◌∷◌, length, Option, Some, None, refl, sym, ap, ◌∙◌, arith, inl, inr}
+use Rattle.std.proofs.Common.{◌≡◌, ℕ, ◌+◌, ◌<◌, Bool, true, false, List, [], ◌∷◌, length, Option, Some, None, refl, sym, ap, ◌∙◌, arith, inl, inr}
 use Rattle.std.specs.Prelude.{◌&&◌, ◌||◌, ◌==◌, Contains, find, if◌then◌else◌, is_some, nat_le, not, slice_get}
 use Rattle.std.specs.List.{AllByRecursion, list_all, list_any}
 use Rattle.std.specs.Option.{option_map_or}
@@ -49,35 +49,10 @@ use Rattle.block_logic.specs.Rows.{Asked, Row, Rules, is_duty, row}
 use Rattle.block_logic.specs.Standing.{is_hold, is_open, needs_no_grant}
 use Rattle.block_logic.proofs.Handling.{catching_covers, first_takes, taking_passes}
 use Rattle.block_logic.proofs.Ruled.{BeginsOpen, LeadsTo, OpenIsFree, RulesHold, rules}
-use Rattle.block_logic.proofs.Told.{IsIn, all_passed, fault_free, has_frame, here_at, is_in, is_reached, note_there, notes_of, passed_by, rules_hold_at, told_in_method}
+use Rattle.block_logic.proofs.Tests.{all_passed, chosen, get_within, if_so, it_is_there, not_chosen, not_there, passed_by}
+use Rattle.block_logic.proofs.Told.{IsIn, fault_free, has_frame, here_at, is_in, is_reached, note_there, notes_of, rules_hold_at, told_in_method}
 
--- ---- tests
-
--- what follows where a test holds, or does not
-if_so : (b c : Bool) → (not b || c) ≡ true → b ≡ true → c ≡ true
-if_so true c e h = e
-if_so false c e h = absurd cc
-
-chosen : (b c d : Bool) → (if b then c else d) ≡ true → b ≡ true → c ≡ true
-chosen true c d e h = e
-chosen false c d e h = absurd cc
-
-not_chosen : (b c d : Bool) → (if b then c else d) ≡ true → b ≡ false → d ≡ true
-not_chosen true c d e h = absurd cc
-not_chosen false c d e h = e
-
-not_there : {A : Type 0} (o : Option A) → not (is_some o) ≡ true → o ≡ None
-not_there None e = refl
-not_there (Some x) e = absurd cc
-
-it_is_there : {A : Type 0} (o : Option A) → is_some o ≡ true → (x : A) × (o ≡ Some x)
-it_is_there None e = absurd cc
-it_is_there (Some x) e = (x, refl)
-
-get_within : {A : Type 0} (xs : List A) (i : ℕ) → i < length xs → (x : A) × (slice_get xs i ≡ Some x)
-get_within [] i within = absurd (omega (arith, within))
-get_within (x ∷ xs) zero within = (x, refl)
-get_within (x ∷ xs) (suc i) within = get_within xs i (omega (arith, within))
+-- ---- instructions
 
 -- an instruction at which no rule is broken is told a note
 is_told_there : (given : Rules) (told : List Note) (m : Method) (here : Here) (note : Option Note) → told_fault given told m here note ≡ None
@@ -173,6 +148,9 @@ module _ (program : Program) (policy : Policy) (certificate : Certificate) (o : 
     abbrev told : List Note
     told = notes_of program policy certificate n.i.c frame.class frame.method
 
+    abbrev here : Here
+    here = here_at program policy certificate frame.at next
+
     abbrev its_row : Option Row
     its_row = row the_rules note (shape_of next.0) next.1
 
@@ -197,38 +175,42 @@ module _ (program : Program) (policy : Policy) (certificate : Certificate) (o : 
     goes_to : (to : ℕ) → Contains (successors frame.at next.0) to → reached program certificate.typing frame.class frame.method to ≡ true
     goes_to to among = o.closed.next frame.class frame.method frame.at next.0 next.1 n.reaches here_is to among
 
-    -- what the last rule says: there is a row, and what comes next is as the table has it
-    all_meet : all_pass (meets the_rules) told its_row n.i.m (here_at program policy certificate frame.at next) ≡ true
-    all_meet =
-        let passes = all_pass (meets the_rules) told its_row n.i.m (here_at program policy certificate frame.at next) in
+    -- ---- what comes next
+
+    abbrev next_passes : Bool
+    next_passes = next_pass (meets the_rules) told its_row here
+
+    abbrev handlers_agree : Bool
+    handlers_agree = handlers_pass (meets the_rules) told its_row n.i.m here
+
+    -- the last rule: there is a row, and the next instructions and the handlers are as it has them
+    last_rule : (is_some its_row ≡ true) × (next_passes ≡ true) × (handlers_agree ≡ true)
+    last_rule =
         let begins = not (frame.at == 0) || is_open the_rules.mode the_rules.policy note in
-        (and_parts passes begins ((and_parts (is_some its_row) (passes && begins) n.hold.1.1.1.1.1.1.1.0).1)).0
+        let whole = and_parts (is_some its_row) ((next_passes && handlers_agree) && begins) n.hold.1.1.1.1.1.1.1.0 in
+        let both = and_parts next_passes handlers_agree ((and_parts (next_passes && handlers_agree) begins whole.1).0) in
+        (whole.0, both.0, both.1)
 
-    its_row_is : (r : Row) × (its_row ≡ Some r)
-    its_row_is =
-        it_is_there its_row
-        ((and_parts (is_some its_row) (all_pass (meets the_rules) told its_row n.i.m (here_at program policy certificate frame.at next) && (not (frame.at == 0) || is_open the_rules.mode the_rules.policy note)) n.hold.1.1.1.1.1.1.1.0).0)
+    abbrev past_passes : Bool
+    past_passes = note_passes (meets the_rules) told (past_of its_row) (frame.at + 1)
 
-    next_met : next_pass (meets the_rules) told its_row (here_at program policy certificate frame.at next) ≡ true
-    next_met = (and_parts (next_pass (meets the_rules) told its_row (here_at program policy certificate frame.at next)) (handlers_pass (meets the_rules) told its_row n.i.m (here_at program policy certificate frame.at next)) all_meet).0
+    abbrev jump_passes : ℕ → Bool
+    jump_passes to = note_passes (meets the_rules) told (jump_of its_row) to
 
-    handlers_met : handlers_pass (meets the_rules) told its_row n.i.m (here_at program policy certificate frame.at next) ≡ true
-    handlers_met = (and_parts (next_pass (meets the_rules) told its_row (here_at program policy certificate frame.at next)) (handlers_pass (meets the_rules) told its_row n.i.m (here_at program policy certificate frame.at next)) all_meet).1
+    next_parts : ((not (goes_on (opcode_of next.0)) || past_passes) ≡ true) × (list_all jump_passes (jump_targets next.0) ≡ true)
+    next_parts = and_parts (not (goes_on (opcode_of next.0)) || past_passes) (list_all jump_passes (jump_targets next.0)) last_rule.1
 
     past_leads : (r : Row) → its_row ≡ Some r → goes_on (opcode_of next.0) ≡ true → Leads (frame.at + 1) r.past
     past_leads r has goes =
-        let parts = and_parts (not (goes_on (opcode_of next.0)) || note_passes (meets the_rules) told (past_of its_row) (frame.at + 1))
-        (list_all (note_passes (meets the_rules) told (jump_of its_row)) (jump_targets next.0)) next_met in
-        let passes = if_so (goes_on (opcode_of next.0)) (note_passes (meets the_rules) told (past_of its_row) (frame.at + 1)) parts.0 goes in
+        let passes = if_so (goes_on (opcode_of next.0)) past_passes next_parts.0 goes in
         let first : successors frame.at next.0 ≡ (frame.at + 1) ∷ jump_targets next.0 = rw goes refl in
         leads (frame.at + 1) r.past (goes_to (frame.at + 1) (rw first (0, omega arith, refl))) (rw has at passes)
 
     jump_leads : (r : Row) → its_row ≡ Some r → (to : ℕ) → Contains (jump_targets next.0) to → Leads to r.jump
     jump_leads r has to among =
-        let parts = and_parts (not (goes_on (opcode_of next.0)) || note_passes (meets the_rules) told (past_of its_row) (frame.at + 1))
-        (list_all (note_passes (meets the_rules) told (jump_of its_row)) (jump_targets next.0)) next_met in
-        let passes = all_passed (note_passes (meets the_rules) told (jump_of its_row)) (jump_targets next.0) to parts.1 among in
-        leads to r.jump (goes_to to (Contains-append_right (if goes_on (opcode_of next.0) then (frame.at + 1) ∷ [] else []) (jump_targets next.0) to among)) (rw has at passes)
+        let passes = all_passed jump_passes (jump_targets next.0) to next_parts.1 among in
+        let past : List ℕ = if goes_on (opcode_of next.0) then (frame.at + 1) ∷ [] else [] in
+        leads to r.jump (goes_to to (Contains-append_right past (jump_targets next.0) to among)) (rw has at passes)
 
     -- ---- handlers
 
@@ -255,55 +237,64 @@ module _ (program : Program) (policy : Policy) (certificate : Certificate) (o : 
         → Leads handler.at asked
     caught_leads r has asked class handler thrown e =
         let t = takes class handler e in
-        let of_row : list_all (note_passes (meets the_rules) told asked) (handlers_of frame.at n.i.m.handlers) ≡ true = rw (has, thrown) at handlers_met in
+        let of_row : list_all (note_passes (meets the_rules) told asked) (handlers_of frame.at n.i.m.handlers) ≡ true = rw (has, thrown) at last_rule.2 in
         leads handler.at asked t.reaches (taking_passes program frame.at class (note_passes (meets the_rules) told asked) n.i.m.handlers handler of_row t.found)
 
     -- ---- room for what is caught
 
-    row_typed : (f : FrameType) → frame_of (frames_in n.i.c.methods (frames_told certificate.typing frame.class) frame.method) frame.at ≡ Some f
-        → Caught (frames_in n.i.c.methods (frames_told certificate.typing frame.class) frame.method) (place_at program frame.class n.i.c n.i.m frame.at next.0) f ≡ true
+    abbrev frames : Frames
+    frames = frames_in n.i.c.methods (frames_told certificate.typing frame.class) frame.method
+
+    abbrev place : Place
+    place = place_at program frame.class n.i.c n.i.m frame.at next.0
+
+    row_typed : (f : FrameType) → frame_of frames frame.at ≡ Some f → Caught frames place f ≡ true
     row_typed f e =
-        let frames = frames_in n.i.c.methods (frames_told certificate.typing frame.class) frame.method in
-        let place : Place = place_at program frame.class n.i.c n.i.m frame.at next.0 in
         let same : row_fault program certificate.typing frame.class frame.method frame.at ≡ row_failing frames place (frame_of frames frame.at) =
         rw (n.i.class_there, n.i.in_class, n.i.insn_there) refl in
         caught_well frames place f (ap (row_failing frames place) (sym e) ∙ sym same ∙ o.accepted.typed frame.class frame.method frame.at)
 
     room_for : (class : Name) (handler : Handler) → handler_of program frame class ≡ Some handler → 0 < n.i.m.max_stack
     room_for class handler e =
-        let frames = frames_in n.i.c.methods (frames_told certificate.typing frame.class) frame.method in
-        let place : Place = place_at program frame.class n.i.c n.i.m frame.at next.0 in
         let t = takes class handler e in
         let f = it_is_there (frame_of frames frame.at) (has_frame program policy certificate frame.class frame.method frame.at next n.i n.reaches) in
         let handled = all_passed (is_handled frames place f.0) n.i.m.handlers handler (row_typed f.0 f.1) t.among in
-        let rest = is_below program (class_caught handler) throwable && option_map_or (catches_frame place f.0 handler) (frame_of frames handler.at) false in
-        leb-true 1 n.i.m.max_stack (and_parts (nat_le 1 n.i.m.max_stack) rest (if_so (covers frame.at handler) (nat_le 1 n.i.m.max_stack && rest) handled t.covers)).0
+        let caught = is_below program (class_caught handler) throwable && option_map_or (catches_frame place f.0 handler) (frame_of frames handler.at) false in
+        let room = if_so (covers frame.at handler) (nat_le 1 n.i.m.max_stack && caught) handled t.covers in
+        leb-true 1 n.i.m.max_stack (and_parts (nat_le 1 n.i.m.max_stack) caught room).0
 
     -- ---- the client, and calls
 
     left_alone : is_free note ≡ true → variable_named the_rules.state next.1 ≡ None
     left_alone free =
-        let rest = not (pushes_state (shape_of next.0) next.1) || next_pass is_asked_taking told None (here_at program policy certificate frame.at next) in
-        not_there (variable_named the_rules.state next.1)
-        ((and_parts (not (is_some (variable_named the_rules.state next.1))) rest
-        (if_so (is_free note) (not (is_some (variable_named the_rules.state next.1)) && rest) n.hold.0 free)).0)
+        let alone = not (is_some (variable_named the_rules.state next.1)) in
+        let pushed = not (pushes_state (shape_of next.0) next.1) || next_pass is_asked_taking told None here in
+        not_there (variable_named the_rules.state next.1) ((and_parts alone pushed (if_so (is_free note) (alone && pushed) n.hold.0 free)).0)
 
-    called_well : calls (shape_of next.0) ≡ true
-        → (if has_clause policy next.1 then is_granted the_rules next.1 note else is_free note || (is_stop note && is_way_out next.1)) ≡ true
-    called_well call =
-        if_so (calls (shape_of next.0)) (if has_clause policy next.1 then is_granted the_rules next.1 note else is_free note || (is_stop note && is_way_out next.1)) n.hold.1.0 call
+    abbrev call_granted : Bool
+    call_granted = is_granted the_rules next.1 note
+
+    abbrev call_unclaused : Bool
+    call_unclaused = is_free note || (is_stop note && is_way_out next.1)
+
+    called_well : calls (shape_of next.0) ≡ true → (if has_clause policy next.1 then call_granted else call_unclaused) ≡ true
+    called_well call = if_so (calls (shape_of next.0)) (if has_clause policy next.1 then call_granted else call_unclaused) n.hold.1.0 call
+
+    -- the first handler that covers the instruction
+    abbrev first_passes : Bool
+    first_passes = option_map_or (catches_all the_rules told note) (first_handler frame.at n.i.m.handlers) false
 
     -- Where an update is due for what a granted call throws, a handler takes it.
     all_caught : (method : ℕ) → next.1 ≡ target.ApiMethod method → calls (shape_of next.0) ≡ true → has_clause policy next.1 ≡ true → is_duty the_rules method ≡ true
         → (class : Name) → (handler : Handler) × (handler_of program frame class ≡ Some handler)
     all_caught method names call clause due class =
         let is_due : is_duty_of the_rules next.1 ≡ true = rw names due in
-        let all = option_map_or (catches_all the_rules told note) (first_handler frame.at n.i.m.handlers) false in
+        let asked = and_from (calls (shape_of next.0)) (has_clause policy next.1 && is_duty_of the_rules next.1) call
+        (and_from (has_clause policy next.1) (is_duty_of the_rules next.1) clause is_due) in
         let first = passed_by (catches_all the_rules told note) (first_handler frame.at n.i.m.handlers)
-        (if_so (calls (shape_of next.0) && (has_clause policy next.1 && is_duty_of the_rules next.1)) all n.hold.1.1.0
-        (and_from (calls (shape_of next.0)) (has_clause policy next.1 && is_duty_of the_rules next.1) call (and_from (has_clause policy next.1) (is_duty_of the_rules next.1) clause is_due))) in
-        let any = not-true (is_some first.0.class) (and_parts (not (is_some first.0.class))
-        (option_map_or (λ (m : Note). is_owed_for_throw m || meets the_rules (thrown_by the_rules note) m) (slice_get told first.0.at) false) first.2).0 in
+        (if_so (calls (shape_of next.0) && (has_clause policy next.1 && is_duty_of the_rules next.1)) first_passes n.hold.1.1.0 asked) in
+        let owed = option_map_or (λ (m : Note). is_owed_for_throw m || meets the_rules (thrown_by the_rules note) m) (slice_get told first.0.at) false in
+        let any = not-true (is_some first.0.class) (and_parts (not (is_some first.0.class)) owed first.2).0 in
         let taken = first_takes program frame.at class n.i.m.handlers first.0 first.1 any in
         (taken.0, rw n.i.method_there taken.1)
 
@@ -311,15 +302,17 @@ module _ (program : Program) (policy : Policy) (certificate : Certificate) (o : 
   rules_hold frame next note e is_told =
       let m = and_then_of (λ (m : Method). insn_in m frame.at) (method_at program frame.class frame.method) next e in
       let n = is_noted frame.class frame.method frame.at m.0 next note m.1 m.2 is_told in
-      let r = its_row_is frame next note n in
+      let r = it_is_there (its_row frame next note n) (last_rule frame next note n).0 in
+      let granted = call_granted frame next note n in
+      let unclaused = call_unclaused frame next note n in
       record {
         of = n.i.m;
         there = n.i.method_there;
         r = r.0;
         has = r.1;
         alone = left_alone frame next note n;
-        granted = λ call clause. chosen (has_clause policy next.1) (is_granted the_rules next.1 note) (is_free note || (is_stop note && is_way_out next.1)) (called_well frame next note n call) clause;
-        unclaused = λ call none. not_chosen (has_clause policy next.1) (is_granted the_rules next.1 note) (is_free note || (is_stop note && is_way_out next.1)) (called_well frame next note n call) none;
+        granted = λ call clause. chosen (has_clause policy next.1) granted unclaused (called_well frame next note n call) clause;
+        unclaused = λ call none. not_chosen (has_clause policy next.1) granted unclaused (called_well frame next note n call) none;
         past = past_leads frame next note n r.0 r.1;
         jump = jump_leads frame next note n r.0 r.1;
         caught = caught_leads frame next note n r.0 r.1;

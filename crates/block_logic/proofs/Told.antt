@@ -1,8 +1,7 @@
 -- What is told of an instruction that is reached: it stands in its method, has a note, and breaks no rule.
-use Rattle.std.proofs.Common.{◌≡◌, ℕ, zero, suc, Bool, true, false, cond, List, [], ◌∷◌, Option, Some, None, refl, sym, ap, ◌∙◌, arith, inl, inr}
-use Rattle.std.specs.Prelude.{◌&&◌, Contains, is_some, option_map, slice_get}
-use Rattle.std.specs.List.{AllByRecursion, list_all}
-use Rattle.std.specs.Option.{option_map_or}
+use Rattle.std.proofs.Common.{◌≡◌, ℕ, Bool, true, List, [], ◌∷◌, Some, None, refl, sym, ap, ◌∙◌, inl, inr}
+use Rattle.std.specs.Prelude.{◌&&◌, is_some, option_map, slice_get}
+use Rattle.std.specs.List.{AllByRecursion}
 use Rattle.std.proofs.lemmas.Bool.{and_parts, cases_Bool}
 use Rattle.insn_codec.specs.declared.insn.Insn.{Insn}
 use Rattle.insn_codec.specs.Shapes.{shape_of}
@@ -22,8 +21,9 @@ use Rattle.block_logic.specs.Accepted.{note_fault_at, notes_in, notes_told, reac
 use Rattle.block_logic.specs.Meaning.{note_at, note_in}
 use Rattle.block_logic.specs.Notes.{Here, first_broken, note_fault, rules_at, told_fault}
 use Rattle.block_logic.specs.Rows.{Rules, row}
+use Rattle.block_logic.proofs.Tests.{if_true}
 
--- ---- lists and options
+-- ---- rules in order
 
 -- Where no rule is broken, each holds.
 pub all_hold : (rules : List (ℕ × Bool)) → first_broken rules ≡ None → AllByRecursion (λ (rule : ℕ × Bool). rule.1 ≡ true) rules
@@ -33,22 +33,6 @@ all_hold (rule ∷ rules) e =
       | inl holds ↦ (holds, all_hold rules (rw holds at e))
       | inr fails ↦ let broken : Some rule.0 ≡ None = rw fails at e in absurd cc
     ]
-
--- a value that is there only where a test holds
-pub if_true : {A : Type 0} (b : Bool) (o : Option A) (x : A) → cond b o None ≡ Some x → (b ≡ true) × (o ≡ Some x)
-if_true true o x e = (refl, e)
-if_true false o x e = absurd cc
-
--- a test of a value that is there
-pub passed_by : {A : Type 0} (test : A → Bool) (o : Option A) → option_map_or test o false ≡ true → (x : A) × (o ≡ Some x) × (test x ≡ true)
-passed_by test None e = absurd cc
-passed_by test (Some x) e = (x, refl, e)
-
--- a test that all items pass is passed by each of them
-pub all_passed : {A : Type 0} (test : A → Bool) (xs : List A) (x : A) → list_all test xs ≡ true → Contains xs x → test x ≡ true
-all_passed test [] x all has = absurd (omega (arith, has.1))
-all_passed test (y ∷ ys) x all (zero, within, is) = rw (← is) ((and_parts (test y) (list_all test ys) all).0)
-all_passed test (y ∷ ys) x all (suc i, within, is) = all_passed test ys x ((and_parts (test y) (list_all test ys) all).1) (i, omega (arith, within), is)
 
 -- ---- an instruction and what its operand names
 
