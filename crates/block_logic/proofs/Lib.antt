@@ -16,3 +16,13 @@ pub mod ClientSteps
 pub mod ClientThrows
 pub mod ClientValues
 pub mod ClientWorks
+pub mod Handling
+pub mod Tests
+pub mod Told
+pub mod RulesHold
+pub mod SameEvents
+pub mod Threads
+pub mod Composing
+pub mod Keeping
+pub mod Obeyed
+pub mod Starting
