@@ -2,3 +2,4 @@ pub mod ExitRows
 pub mod Covering
 pub mod Ruled
 pub mod Steps
+pub mod OwnerEvents
