@@ -3,3 +3,4 @@ pub mod Covering
 pub mod Ruled
 pub mod Steps
 pub mod OwnerEvents
+pub mod OwnerTerms
