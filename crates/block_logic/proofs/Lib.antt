@@ -4,3 +4,4 @@ pub mod Ruled
 pub mod Steps
 pub mod OwnerEvents
 pub mod OwnerTerms
+pub mod OwnerVariables
