@@ -5,3 +5,4 @@ pub mod Steps
 pub mod OwnerEvents
 pub mod OwnerTerms
 pub mod OwnerVariables
+pub mod OwnerStanding
