@@ -6,3 +6,4 @@ pub mod OwnerEvents
 pub mod OwnerTerms
 pub mod OwnerVariables
 pub mod OwnerStanding
+pub mod OwnerLock
