@@ -7,3 +7,4 @@ pub mod OwnerTerms
 pub mod OwnerVariables
 pub mod OwnerStanding
 pub mod OwnerLock
+pub mod OwnerMoves
