@@ -8,3 +8,4 @@ pub mod OwnerVariables
 pub mod OwnerStanding
 pub mod OwnerLock
 pub mod OwnerMoves
+pub mod OwnerGoing
