@@ -9,3 +9,5 @@ pub mod OwnerStanding
 pub mod OwnerLock
 pub mod OwnerMoves
 pub mod OwnerGoing
+pub mod OwnerRows
+pub mod OwnerTaking

@@ -120,6 +120,10 @@ pub some_there : {X : Type 0} (o : Option X) → is_some o ≡ true → (x : X) 
 some_there None e = absurd cc
 some_there (Some x) e = (x, refl)
 
+pub none_there : {X : Type 0} (o : Option X) → is_some o ≡ false → o ≡ None
+none_there None e = refl
+none_there (Some x) e = absurd cc
+
 pub slice_get_there : {X : Type 0} (xs : List X) (i : ℕ) → i < length xs → (x : X) × (slice_get xs i ≡ Some x)
 slice_get_there [] i inside = absurd (omega arith)
 slice_get_there (x ∷ xs) zero inside = (x, refl)
