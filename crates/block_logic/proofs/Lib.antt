@@ -11,3 +11,4 @@ pub mod OwnerMoves
 pub mod OwnerGoing
 pub mod OwnerRows
 pub mod OwnerTaking
+pub mod OwnerPushes
