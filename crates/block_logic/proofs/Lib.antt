@@ -12,3 +12,4 @@ pub mod OwnerGoing
 pub mod OwnerRows
 pub mod OwnerTaking
 pub mod OwnerPushes
+pub mod OwnerTests
