@@ -13,3 +13,5 @@ pub mod OwnerRows
 pub mod OwnerTaking
 pub mod OwnerPushes
 pub mod OwnerTests
+pub mod OwnerGrantedRows
+pub mod OwnerUnlocked
