@@ -15,3 +15,5 @@ pub mod OwnerPushes
 pub mod OwnerTests
 pub mod OwnerGrantedRows
 pub mod OwnerUnlocked
+pub mod OwnerActing
+pub mod OwnerChecks

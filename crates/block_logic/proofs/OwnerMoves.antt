@@ -46,7 +46,7 @@ operand_is kind items i v e =
     record { there = o.1 ∙ ap Some c.1; fit = subst (λ (x : Value). fits kind x ≡ true) c.1 c.0 }
 
 -- where a comparison of the two topmost operands goes
-compared_to : (insn : Insn) (relation : Relation) (to next : ℕ) (items : List Value) (y x : Value) → slice_get items 0 ≡ Some y → slice_get items 1 ≡ Some x
+pub compared_to : (insn : Insn) (relation : Relation) (to next : ℕ) (items : List Value) (y x : Value) → slice_get items 0 ≡ Some y → slice_get items 1 ≡ Some x
     → goes_to values_seen insn (shapes.Compare relation to) next items ≡ cond (relates relation (number_of x) (number_of y)) to next
 compared_to insn relation to next items y x first second = rw (first, second) refl
 
