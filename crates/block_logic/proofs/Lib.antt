@@ -17,3 +17,4 @@ pub mod OwnerGrantedRows
 pub mod OwnerUnlocked
 pub mod OwnerActing
 pub mod OwnerChecks
+pub mod OwnerPassed
