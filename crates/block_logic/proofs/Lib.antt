@@ -18,3 +18,4 @@ pub mod OwnerUnlocked
 pub mod OwnerActing
 pub mod OwnerChecks
 pub mod OwnerPassed
+pub mod OwnerGranted
