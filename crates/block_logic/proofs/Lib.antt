@@ -19,3 +19,4 @@ pub mod OwnerActing
 pub mod OwnerChecks
 pub mod OwnerPassed
 pub mod OwnerGranted
+pub mod OwnerOwed
