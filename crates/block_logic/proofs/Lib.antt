@@ -20,3 +20,4 @@ pub mod OwnerChecks
 pub mod OwnerPassed
 pub mod OwnerGranted
 pub mod OwnerOwed
+pub mod OwnerStop
