@@ -21,3 +21,5 @@ pub mod OwnerPassed
 pub mod OwnerGranted
 pub mod OwnerOwed
 pub mod OwnerStop
+pub mod OwnerAnswers
+pub mod OwnerSteps
