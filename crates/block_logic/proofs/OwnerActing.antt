@@ -1,5 +1,5 @@
 -- A thread that holds the lock acts in a frame: it goes on with the lock, or leaves it.
-use Rattle.std.proofs.Common.{◌≡◌, ℕ, ◌+◌, Bool, true, false, List, [], ◌∷◌, drop, Option, Some, None, refl, sym, ap, ◌∙◌, subst}
+use Rattle.std.proofs.Common.{◌≡◌, ℕ, ◌+◌, true, false, List, [], ◌∷◌, drop, Some, refl, sym, ap, subst}
 use Rattle.std.specs.Prelude.{slice_get}
 use Rattle.api_listing.specs.declared.events.Event.{Event}
 use Rattle.insn_codec.specs.declared.insn.Insn.{Insn}
@@ -17,17 +17,17 @@ use Rattle.conspec_automaton.specs.Range.{in_range}
 use Rattle.guest_heap.specs.declared.value.Value.{Value}
 use Rattle.guest_frames.specs.Stepping.{moved_to}
 use Rattle.guest_model.specs.declared.machine.Machine.{Machine}
-use Rattle.guest_model.specs.Changes.{Change, World, with_monitors, world_of}
+use Rattle.guest_model.specs.Changes.{Change, with_monitors, world_of}
 use Rattle.guest_model.specs.Stepping.{Acting, insn_stepped}
 use Rattle.block_logic.specs.Fitting.{held_locks, locked_by, state_of}
 use Rattle.block_logic.specs.Meaning.{AreClean, AreState, IsAbove, Leads, Owns, lock_of}
 use Rattle.block_logic.specs.Obeying.{IsObeying}
 use Rattle.block_logic.specs.Rows.{Asked, Given, Open}
-use Rattle.block_logic.proofs.OwnerGoing.{IsHeldBy, client_frame, frame_moved, goes_behind, goes_free, goes_holding, owner_frame}
+use Rattle.block_logic.proofs.OwnerGoing.{client_frame, frame_moved, goes_behind, goes_free, goes_holding, owner_frame}
 use Rattle.block_logic.proofs.OwnerLock.{lock_left}
 use Rattle.block_logic.proofs.OwnerMoves.{Goes, leaves_lock}
 use Rattle.block_logic.proofs.OwnerRows.{Asks}
-use Rattle.block_logic.proofs.Ruled.{IsRuled, LeadsTo, OpenIsFree, RulesHold}
+use Rattle.block_logic.proofs.Ruled.{IsRuled, LeadsTo, OpenIsFree}
 use Rattle.block_logic.proofs.Steps.{Acts, ChangesOwner}
 
 module _ (program : Program) (policy : Policy) (certificate : Certificate) where

@@ -1,16 +1,14 @@
 -- An answer to a call that was granted: the thread goes on behind its call, or in the handler of what is thrown, and the update is due.
 use Rattle.std.proofs.Common.{◌≡◌, ℕ, ◌<◌, ◌+◌, Bool, true, false, cond, List, [], ◌∷◌, ◌++◌, length, Option, Some, None, refl, sym, ap, ◌∙◌, subst, inl, inr, lt-ltb, eqb-true}
-use Rattle.std.specs.Prelude.{◌==◌, ◌&&◌, ◌||◌, IfSome, nat_lt, not, is_some, option_and_then, option_map, slice_get}
+use Rattle.std.specs.Prelude.{◌==◌, IfSome, nat_lt, not, is_some, option_and_then, option_map, slice_get}
 use Rattle.std.specs.Option.{option_map_or, option_to_list}
 use Rattle.std.proofs.lemmas.Bool.{and_parts, cases_Bool}
 use Rattle.api_listing.specs.declared.descriptor.FieldType.{FieldType}
 use Rattle.api_listing.specs.declared.events.ApiAnswer.{ApiAnswer}
 use Rattle.api_listing.specs.declared.events.ApiAnswer.TheVariants as answers
-use Rattle.api_listing.specs.declared.events.ApiValue.{ApiValue}
 use Rattle.api_listing.specs.declared.events.Event.{Event}
 use Rattle.api_listing.specs.declared.events.Event.TheVariants as events
 use Rattle.api_listing.specs.declared.types.ListedMethod.{ListedMethod}
-use Rattle.insn_codec.specs.declared.insn.Insn.{Insn}
 use Rattle.insn_codec.specs.declared.shape.Shape.{Shape}
 use Rattle.insn_codec.specs.declared.shape.Shape.TheVariants as shapes
 use Rattle.insn_codec.specs.declared.shape.Heap.TheVariants as heap
@@ -23,7 +21,6 @@ use Rattle.bytecode_model.specs.declared.program.Target.{Target}
 use Rattle.bytecode_model.specs.declared.program.Target.TheVariants as target
 use Rattle.bytecode_model.specs.SearchOrder.{Name}
 use Rattle.cert_format.specs.declared.certificate.Certificate.{Certificate}
-use Rattle.cert_format.specs.declared.certificate.Mode.TheVariants as modes
 use Rattle.cert_format.specs.declared.note.Note.{Note}
 use Rattle.cert_format.specs.declared.note.Note.TheVariants as notes
 use Rattle.cert_format.specs.declared.note.Phase8.TheVariants.{After, Exceptional}
@@ -31,7 +28,7 @@ use Rattle.cert_format.specs.declared.note.Site.{Site}
 use Rattle.conspec_tree.specs.declared.types.Kind.{Kind}
 use Rattle.conspec_automaton.specs.declared.policy.Clause.{Clause}
 use Rattle.conspec_automaton.specs.declared.policy.Policy.{Policy}
-use Rattle.conspec_automaton.specs.Next.{Values, has_clauses, number_in as shown_number, returned as event_returned}
+use Rattle.conspec_automaton.specs.Next.{has_clauses, number_in as shown_number, returned as event_returned}
 use Rattle.conspec_automaton.proofs.Ranges.{found_is}
 use Rattle.guest_heap.specs.declared.frame.Frame.{Frame}
 use Rattle.guest_heap.specs.declared.object.Object.{Object}
@@ -48,19 +45,18 @@ use Rattle.guest_model.specs.declared.machine.Choice.TheVariants as choices
 use Rattle.guest_model.specs.Parts.{null_pointer, number_in}
 use Rattle.guest_model.specs.Seen.{value_shown}
 use Rattle.guest_model.specs.Stepping.{call_stepped, is_on_null}
-use Rattle.guest_model.specs.Throwing.{bare_object, caught_in, handler_of, locks_left, unwound}
+use Rattle.guest_model.specs.Throwing.{bare_object, caught_in, handler_of}
 use Rattle.guest_model.proofs.Options.{all_append, all_get, and_then_of, map_of, some_is, unless_of}
 use Rattle.block_logic.specs.Accepted.{rules_of}
-use Rattle.block_logic.specs.Clauses.{clause_at, clause_of, needs}
+use Rattle.block_logic.specs.Clauses.{clause_of, needs}
 use Rattle.block_logic.specs.Fitting.{AreBelow, AreOwnerCall, ArePassed, IsCleanObject, IsCleanWorld, IsOwnerCall, IsOwnerFrame, held_locks, locked_by, state_of}
 use Rattle.block_logic.specs.Meaning.{AreClean, HasResult, HasResultIn, IsClean, IsEventOf, IsOwed, Owns}
 use Rattle.block_logic.specs.Obeying.{FitsListing, IsObeying}
 use Rattle.block_logic.specs.Operands.{calls, pushes_state}
-use Rattle.block_logic.specs.Rows.{Asked, Given, Row, Rules, granted_row, is_duty, returned as asked_behind, thrown as asked_thrown}
+use Rattle.block_logic.specs.Rows.{Given, Row, Rules, granted_row, is_duty, returned as asked_behind, thrown as asked_thrown}
 use Rattle.block_logic.specs.Standing.{in_phase, is_before, is_hold}
 use Rattle.block_logic.proofs.OwnerEvents.{has_its_clause, is_pending, leads_still}
 use Rattle.block_logic.proofs.OwnerGoing.{IsHeldBy, goes_behind, owner_frame}
-use Rattle.block_logic.proofs.OwnerGranted.{how_calls}
 use Rattle.block_logic.proofs.OwnerGrantedRows.{CallsMethod, granted_cases}
 use Rattle.block_logic.proofs.OwnerPassed.{shown_as}
 use Rattle.block_logic.proofs.OwnerStanding.{owned_followed}
@@ -300,9 +296,9 @@ module _ (program : Program) (policy : Policy) (certificate : Certificate) (o : 
         let fits : nat_lt 0 frame.stack.size ≡ true = lt-ltb 0 frame.stack.size room in
         ap (option_and_then (λ (handler : Handler). cond (nat_lt 0 frame.stack.size) (Some (moved_to frame handler.at frame.locals (thrown ∷ []))) None)) catches.1
         ∙ ap (λ (b : Bool). cond b (Some caught) None) fits where
-      by : (m : Option Method) → m ≡ Some ruled.of → IfSome m (λ n. frame.stack.size ≡ n.max_stack) → frame.stack.size ≡ ruled.of.max_stack
-      by None e size = absurd cc
-      by (Some n) e size = let same : n ≡ ruled.of = cc in subst (λ (x : Method). frame.stack.size ≡ x.max_stack) same size
+          by : (m : Option Method) → m ≡ Some ruled.of → IfSome m (λ n. frame.stack.size ≡ n.max_stack) → frame.stack.size ≡ ruled.of.max_stack
+          by None e size = absurd cc
+          by (Some n) e size = let same : n ≡ ruled.of = cc in subst (λ (x : Method). frame.stack.size ≡ x.max_stack) same size
 
     leads_caught : LeadsTo program policy certificate frame catches.0.at (Given (notes.Owed thrown_site 1 false false))
     leads_caught =
@@ -355,12 +351,12 @@ module _ (program : Program) (policy : Policy) (certificate : Certificate) (o : 
         let listed = and_then_of (λ (listed : ListedMethod). cond (test listed) (answered_well program world number thread method receiver arguments answer) None)
         (slice_get program.listing.methods method) change e in
         by (test listed.0) listed.0 refl listed.1 listed.2 where
-      by : (b : Bool) (listed : ListedMethod) → answer_fits program world.heap (types_of listed.id.desc).result receiver arguments answer ≡ b
-          → slice_get program.listing.methods method ≡ Some listed
-          → cond (answer_fits program world.heap (types_of listed.id.desc).result receiver arguments answer) (answered_well program world number thread method receiver arguments answer) None ≡ Some change
-          → Changes
-      by true listed fits there e = let well : answered_well program world number thread method receiver arguments answer ≡ Some change = rw fits at e in answers_well listed answer there fits well
-      by false listed fits there e = let none : None ≡ Some change = rw fits at e in absurd cc
+          by : (b : Bool) (listed : ListedMethod) → answer_fits program world.heap (types_of listed.id.desc).result receiver arguments answer ≡ b
+              → slice_get program.listing.methods method ≡ Some listed
+              → cond (answer_fits program world.heap (types_of listed.id.desc).result receiver arguments answer) (answered_well program world number thread method receiver arguments answer) None ≡ Some change
+              → Changes
+          by true listed fits there e = let well : answered_well program world number thread method receiver arguments answer ≡ Some change = rw fits at e in answers_well listed answer there fits well
+          by false listed fits there e = let none : None ≡ Some change = rw fits at e in absurd cc
 
     steps : (choice : Choice) → call_stepped program world number thread method receiver arguments choice ≡ Some change → Changes
     steps choices.Plain e = elim (cases_Bool (is_on_null receiver)) [

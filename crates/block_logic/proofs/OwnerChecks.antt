@@ -1,9 +1,9 @@
 -- Steps of a check: terms are pushed, added and compared, variables are written, and the lock is left once the check is done.
-use Rattle.std.proofs.Common.{◌≡◌, ◌≢◌, ℕ, ◌<◌, ◌+◌, Bool, true, false, cond, List, [], ◌∷◌, ◌++◌, length, drop, map, reverse, Option, Some, None, refl, sym, ap, ◌∙◌, subst, arith, inl, inr, eqb-true}
-use Rattle.std.specs.Prelude.{◌==◌, ◌&&◌, Contains, not, option_and_then, slice_get, slice_set}
+use Rattle.std.proofs.Common.{◌≡◌, ℕ, ◌+◌, Bool, true, false, cond, List, [], ◌∷◌, ◌++◌, drop, reverse, Option, Some, None, refl, sym, ap, ◌∙◌, subst, inl, inr}
+use Rattle.std.specs.Prelude.{not, option_and_then, slice_get, slice_set}
 use Rattle.std.specs.Option.{option_map_or}
 use Rattle.std.specs.Int.{w32, int_wrapping_add}
-use Rattle.std.proofs.lemmas.Bool.{and_parts, cases_Bool, not-true}
+use Rattle.std.proofs.lemmas.Bool.{and_parts, cases_Bool}
 use Rattle.std.proofs.lemmas.Option.{slice_get_within}
 use Rattle.api_listing.specs.declared.events.Event.{Event}
 use Rattle.insn_codec.specs.declared.insn.Insn.{Insn}
@@ -18,7 +18,6 @@ use Rattle.insn_codec.specs.Table.{ends}
 use Rattle.bytecode_model.specs.declared.program.Program.{Program}
 use Rattle.bytecode_model.specs.declared.program.Target.{Target}
 use Rattle.cert_format.specs.declared.certificate.Certificate.{Certificate}
-use Rattle.cert_format.specs.declared.note.Note.{Note}
 use Rattle.cert_format.specs.declared.note.Note.TheVariants as notes
 use Rattle.cert_format.specs.declared.note.Site.{Site}
 use Rattle.cert_format.specs.declared.note.Term.{Term}
@@ -38,21 +37,20 @@ use Rattle.guest_model.specs.Changes.{Change, with_statics, world_of}
 use Rattle.guest_model.specs.Stepping.{Acting}
 use Rattle.guest_model.proofs.Options.{and_then_of, some_is}
 use Rattle.block_logic.specs.Accepted.{rules_of}
-use Rattle.block_logic.specs.Clauses.{clause_of}
 use Rattle.block_logic.specs.Fitting.{IsCleanWorld}
-use Rattle.block_logic.specs.Meaning.{AreClean, AreTerms, IsAbove, IsTried, MeansHeld, Owns, lock_of, term_value}
+use Rattle.block_logic.specs.Meaning.{AreTerms, IsAbove, IsTried, MeansHeld, lock_of, term_value}
 use Rattle.block_logic.specs.Obeying.{IsObeying}
 use Rattle.block_logic.specs.Operands.{adds, compared, goes, leaves, variable_named, writes_static}
-use Rattle.block_logic.specs.Rows.{Check, Given, all_hold, Open, Row, Rules, asks_atom, check_row, failing, gives, held_row, holding_on, is_negation, is_relation, last_but_one, last_term, leads, leaves_done, left, next_atom, only_if, sum_of, sum_on_top, term_pushed, tested, tests, with_terms, without, writes}
+use Rattle.block_logic.specs.Rows.{Check, Given, all_hold, Open, Row, Rules, asks_atom, check_row, failing, gives, holding_on, is_negation, is_relation, last_but_one, last_term, leads, leaves_done, left, next_atom, only_if, sum_of, sum_on_top, term_pushed, tested, tests, with_terms, without, writes}
 use Rattle.block_logic.specs.Standing.{branches_of, is_before, is_done}
-use Rattle.block_logic.specs.Terms.{base_term, same_terms}
+use Rattle.block_logic.specs.Terms.{base_term}
 use Rattle.block_logic.proofs.OwnerActing.{ActsHolding, gives_up, goes_with, goes_with_behind, leads_behind}
 use Rattle.block_logic.proofs.OwnerGoing.{compares_there, goes_holding, goes_there, owner_frame}
-use Rattle.block_logic.proofs.OwnerMoves.{Goes, IsOperand, adds as adds_up, compared_to, compares as compares_tops, jumps, writes_variable}
+use Rattle.block_logic.proofs.OwnerMoves.{Goes, adds as adds_up, compared_to, compares as compares_tops, jumps, writes_variable}
 use Rattle.block_logic.proofs.OwnerPushes.{term_is_pushed, variable_is_named}
 use Rattle.block_logic.proofs.OwnerRows.{Asks, gives_asks, leads_asks, leaves_is, one_row, where_so}
 use Rattle.block_logic.proofs.OwnerStanding.{passed, passed_leads}
-use Rattle.block_logic.proofs.OwnerTerms.{IsTop, last_is, last_two_are, one_above, one_more, same_terms_are, term_set, top_of}
+use Rattle.block_logic.proofs.OwnerTerms.{last_is, last_two_are, one_above, one_more, same_terms_are, term_set, top_of}
 use Rattle.block_logic.proofs.OwnerTests.{AsksAtom, atom_asked, compared_holds, one_more_fails, one_more_holds, relates_not, relates_same, sum_is}
 use Rattle.block_logic.proofs.OwnerUnlocked.{never_unlocked}
 use Rattle.block_logic.proofs.OwnerVariables.{map_some_is, set_elsewhere, set_there}

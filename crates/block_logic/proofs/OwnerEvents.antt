@@ -1,15 +1,13 @@
 -- The events that a policy has clauses for: which clause is for the events of a site, and where the events lead that were seen.
-use Rattle.std.proofs.Common.{◌≡◌, ℕ, zero, suc, ◌<◌, ◌+◌, Bool, true, false, cond, List, [], ◌∷◌, ◌++◌, length, Option, Some, None, refl, sym, ap, ◌∙◌, subst, append-nil, arith, inl, inr}
-use Rattle.std.specs.Prelude.{◌==◌, ◌&&◌, IsTrue, filter, find, is_some, option_and_then, option_map, slice_get}
+use Rattle.std.proofs.Common.{◌≡◌, ℕ, zero, suc, ◌<◌, Bool, true, false, List, [], ◌∷◌, ◌++◌, length, Some, refl, ap, ◌∙◌, append-nil, arith, inl, inr}
+use Rattle.std.specs.Prelude.{◌==◌, ◌&&◌, filter, find, is_some, option_and_then, option_map, slice_get}
 use Rattle.std.specs.List.{list_all}
-use Rattle.std.specs.Option.{option_map_or}
 use Rattle.std.proofs.lemmas.List.Elements.{filter-append}
 use Rattle.api_listing.specs.declared.events.Event.{Event}
 use Rattle.api_listing.specs.declared.events.Event.TheVariants as events
 use Rattle.cert_format.specs.declared.note.Phase8.{Phase8}
 use Rattle.cert_format.specs.declared.note.Phase8.TheVariants as sites
 use Rattle.cert_format.specs.declared.note.Site.{Site}
-use Rattle.conspec_tree.specs.declared.types.Atom.{Atom}
 use Rattle.conspec_tree.specs.declared.types.Phase.{Phase}
 use Rattle.conspec_tree.specs.declared.types.Phase.TheVariants.{Before, After, Exceptional}
 use Rattle.conspec_automaton.specs.declared.policy.Branch.{Branch}
@@ -49,7 +47,7 @@ phases_same (events.Except thread method) sites.Exceptional Exceptional h = refl
 phases_same e phase p h = absurd cc
 
 -- The clause for an event of a site is the site's.
-pub clause_found : (policy : Policy) (site : Site) (e : Event) → IsEventOf site e → clause_for policy e ≡ clause_of policy site
+clause_found : (policy : Policy) (site : Site) (e : Event) → IsEventOf site e → clause_for policy e ≡ clause_of policy site
 clause_found policy site e of = found_same (speaks_of e) _ policy.clauses same where
   same : (c : Clause) → speaks_of e c ≡ ((c.method == site.method) && is_of_phase site.phase c.phase)
   same c =
@@ -61,7 +59,7 @@ pub has_its_clause : (policy : Policy) (site : Site) (e : Event) → IsEventOf s
 has_its_clause policy site e of = ap is_some (clause_found policy site e of)
 
 -- The event of a site of a return, or of what is thrown, is a return.
-pub returns_for : (site : Site) (e : Event) → IsEventOf site e → is_of_phase site.phase Before ≡ false → is_return e ≡ true
+returns_for : (site : Site) (e : Event) → IsEventOf site e → is_of_phase site.phase Before ≡ false → is_return e ≡ true
 returns_for site e of not = by e site.phase of.phase not where
   by : (e : Event) (phase : Phase8) → is_of_phase phase (sight_of e).phase ≡ true → is_of_phase phase Before ≡ false → is_return e ≡ true
   by (events.Call thread method arguments) sites.Before h n = absurd cc

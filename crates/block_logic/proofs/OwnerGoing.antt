@@ -1,7 +1,6 @@
 -- A thread goes on in a block: which note stands where control goes, and what is so there, with the lock held or given up.
-use Rattle.std.proofs.Common.{◌≡◌, ℕ, zero, suc, ◌<◌, ◌+◌, Bool, true, false, cond, List, [], ◌∷◌, ◌++◌, length, Option, Some, None, refl, sym, ap, ◌∙◌, subst, append-nil, arith, inl, inr}
-use Rattle.std.specs.Prelude.{Contains, IfSome, not, slice_get}
-use Rattle.std.specs.Option.{option_to_list}
+use Rattle.std.proofs.Common.{◌≡◌, ℕ, zero, suc, ◌+◌, Bool, true, false, cond, List, [], ◌∷◌, ◌++◌, Some, refl, sym, ap, ◌∙◌, subst, append-nil, arith, inl, inr}
+use Rattle.std.specs.Prelude.{Contains, not, slice_get}
 use Rattle.std.proofs.lemmas.List.Elements.{Contains-append_cases}
 use Rattle.api_listing.specs.declared.events.Event.{Event}
 use Rattle.insn_codec.specs.declared.insn.Insn.{Insn}
@@ -22,25 +21,23 @@ use Rattle.cert_format.specs.declared.note.Note.{Note}
 use Rattle.cert_format.specs.declared.note.Note.TheVariants as notes
 use Rattle.conspec_automaton.specs.declared.policy.Policy.{Policy}
 use Rattle.conspec_automaton.specs.Next.{Values}
-use Rattle.conspec_automaton.specs.Obeys.{IsFollowed}
 use Rattle.conspec_automaton.specs.Range.{in_range}
 use Rattle.guest_heap.specs.declared.frame.Frame.{Frame}
 use Rattle.guest_heap.specs.declared.thread.Thread.{Thread}
 use Rattle.guest_heap.specs.declared.value.Value.{Value}
 use Rattle.guest_frames.specs.Stepping.{moved_to}
 use Rattle.guest_frames.specs.Values.{values_seen}
-use Rattle.guest_model.specs.Changes.{Change, World, goes}
+use Rattle.guest_model.specs.Changes.{World, goes}
 use Rattle.guest_model.specs.Places.{insn_at, insn_in, method_at}
-use Rattle.guest_model.specs.Standing.{IsAt}
 use Rattle.guest_model.proofs.Options.{and_then_of}
-use Rattle.block_logic.specs.Fitting.{AreBelow, IsClient, IsClientFrame, IsCleanWorld, IsOwnerFrame, held_locks, locked_by, state_of}
-use Rattle.block_logic.specs.Meaning.{AreClean, AreState, IsFrame, Leads, Owns, note_of}
+use Rattle.block_logic.specs.Fitting.{AreBelow, IsClientFrame, IsCleanWorld, IsOwnerFrame, held_locks, locked_by, state_of}
+use Rattle.block_logic.specs.Meaning.{AreClean, AreState, IsFrame, Leads, Owns}
 use Rattle.block_logic.specs.Obeying.{IsObeying}
 use Rattle.block_logic.specs.Rows.{Given, Open}
 use Rattle.block_logic.proofs.OwnerEvents.{leads_followed, leads_still_seen}
 use Rattle.block_logic.proofs.OwnerStanding.{owned_followed, stands}
-use Rattle.block_logic.proofs.Ruled.{IsRuled, LeadsTo, OpenIsFree, RulesHold}
-use Rattle.block_logic.proofs.Steps.{ChangesOwner, GivesUp, StaysOwner}
+use Rattle.block_logic.proofs.Ruled.{LeadsTo, OpenIsFree}
+use Rattle.block_logic.proofs.Steps.{ChangesOwner}
 
 -- ---- where control goes
 
@@ -133,16 +130,16 @@ module _ (program : Program) (policy : Policy) (certificate : Certificate) (o : 
           begins = refl;
           followed = leads_followed policy (seen ++ []) state led';
           goes = λ on. (
-              clean,
-              inr (record {
-                locks = none;
-                state = state;
-                ranged = ranged;
-                led = led';
-                fields = fields;
-                variables = variables;
-                are = are;
-                client = (well, client, under);
-              }),
+            clean,
+            inr (record {
+              locks = none;
+              state = state;
+              ranged = ranged;
+              led = led';
+              fields = fields;
+              variables = variables;
+              are = are;
+              client = (well, client, under);
+            }),
           );
         }

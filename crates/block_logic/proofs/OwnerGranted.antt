@@ -1,6 +1,6 @@
 -- Steps of a call that is granted: its arguments are loaded, and it is made.
-use Rattle.std.proofs.Common.{◌≡◌, ℕ, zero, suc, ◌<◌, ◌≤◌, ◌+◌, Bool, true, false, cond, List, [], ◌∷◌, ◌++◌, length, drop, map, reverse, take, Option, Some, None, refl, sym, ap, ◌∙◌, subst, arith, inl, inr, add-one, eqb-true}
-use Rattle.std.specs.Prelude.{◌==◌, ◌&&◌, ◌||◌, IfSome, is_some, option_and_then, option_map, slice_get}
+use Rattle.std.proofs.Common.{◌≡◌, ℕ, suc, ◌≤◌, ◌+◌, Bool, true, false, List, [], ◌∷◌, ◌++◌, length, map, reverse, take, Option, Some, None, refl, sym, ap, ◌∙◌, subst, arith, inl, inr, add-one, eqb-true}
+use Rattle.std.specs.Prelude.{◌==◌, is_some, option_and_then, slice_get}
 use Rattle.std.specs.Option.{option_map_or}
 use Rattle.std.proofs.lemmas.Bool.{and_parts, cases_Bool}
 use Rattle.std.proofs.lemmas.List.{take_at}
@@ -20,7 +20,6 @@ use Rattle.bytecode_model.specs.declared.program.Target.TheVariants as target
 use Rattle.bytecode_model.specs.SearchOrder.{Name}
 use Rattle.cert_format.specs.declared.certificate.Certificate.{Certificate}
 use Rattle.cert_format.specs.declared.certificate.Mode.TheVariants as modes
-use Rattle.cert_format.specs.declared.note.Note.{Note}
 use Rattle.cert_format.specs.declared.note.Note.TheVariants as notes
 use Rattle.cert_format.specs.declared.note.Phase8.TheVariants.{Before}
 use Rattle.cert_format.specs.declared.note.Site.{Site}
@@ -29,12 +28,10 @@ use Rattle.conspec_automaton.specs.declared.policy.Policy.{Policy}
 use Rattle.conspec_automaton.specs.Next.{Values, has_clause as event_has_clause, has_clauses, next as next_state}
 use Rattle.conspec_automaton.specs.Sight.{sight_of}
 use Rattle.conspec_automaton.proofs.Ranges.{found_is}
-use Rattle.guest_heap.specs.declared.frame.Frame.{Frame}
-use Rattle.guest_heap.specs.declared.thread.Doing.TheVariants as doings
 use Rattle.guest_heap.specs.declared.value.Value.{Value}
 use Rattle.guest_frames.specs.Stepping.{moved_to}
 use Rattle.guest_model.specs.declared.machine.Machine.{Machine}
-use Rattle.guest_model.specs.Calling.{Calling, calls as calls_out, calls_library, calls_named, desc_named, is_static_call, waiting}
+use Rattle.guest_model.specs.Calling.{calls as calls_out, calls_library, calls_named, desc_named, is_static_call}
 use Rattle.guest_model.specs.Calls.{Taken, arity, taken}
 use Rattle.guest_model.specs.Changes.{Change, world_of}
 use Rattle.guest_model.specs.Seen.{values_shown}
@@ -42,7 +39,8 @@ use Rattle.guest_model.specs.Stepping.{Acting}
 use Rattle.guest_model.proofs.Options.{all_append, and_then_of, map_of, some_is}
 use Rattle.block_logic.specs.Accepted.{rules_of}
 use Rattle.block_logic.specs.Clauses.{clause_at, needs}
-use Rattle.block_logic.specs.Meaning.{AreClean, IsAbove, IsChecked, IsClean, IsEventOf, IsGranted, Leads, MeansGranted, Owns, TellsArguments, loads, lock_of, lock_on, note_of}
+use Rattle.block_logic.specs.Fitting.{IsOwnerCall}
+use Rattle.block_logic.specs.Meaning.{AreClean, IsAbove, IsClean, IsEventOf, IsGranted, Leads, MeansGranted, TellsArguments, loads, lock_of, lock_on}
 use Rattle.block_logic.specs.Obeying.{FitsListing, IsObeying}
 use Rattle.block_logic.specs.Operands.{calls, has_clause}
 use Rattle.block_logic.specs.Rows.{Given, Row, Rules, calls_of}
@@ -56,7 +54,7 @@ use Rattle.block_logic.proofs.OwnerPassed.{TakesClean, loaded_clean, loaded_many
 use Rattle.block_logic.proofs.OwnerPushes.{pushes_lock}
 use Rattle.block_logic.proofs.OwnerRows.{Asks}
 use Rattle.block_logic.proofs.OwnerUnlocked.{never_unlocked}
-use Rattle.block_logic.proofs.Ruled.{LeadsTo, RulesHold}
+use Rattle.block_logic.proofs.Ruled.{RulesHold}
 use Rattle.block_logic.proofs.Steps.{ChangesOwner}
 
 -- Of an event a policy reads what it sees alone.
@@ -88,10 +86,10 @@ library_call : (program : Program) (machine : Machine) (a : Acting) (change : Ch
     → calls_out program machine a.number a.thread a.frame a.below how (target.ApiMethod method) ≡ Some change → IsLibraryCall program machine a change how method
 library_call program machine a change how method e =
     let desc = and_then_of (λ (desc : Name). option_and_then (λ (passed : Taken). calls_named program machine
-        (record { number = a.number; thread = a.thread; frame = a.frame; below = a.below; passed = passed }) how (target.ApiMethod method)) (taken (is_static_call how) (arity desc) a.frame.stack.items))
+    (record { number = a.number; thread = a.thread; frame = a.frame; below = a.below; passed = passed }) how (target.ApiMethod method)) (taken (is_static_call how) (arity desc) a.frame.stack.items))
     (desc_named program (target.ApiMethod method)) change e in
     let passed = and_then_of (λ (passed : Taken). calls_named program machine
-        (record { number = a.number; thread = a.thread; frame = a.frame; below = a.below; passed = passed }) how (target.ApiMethod method))
+    (record { number = a.number; thread = a.thread; frame = a.frame; below = a.below; passed = passed }) how (target.ApiMethod method))
     (taken (is_static_call how) (arity desc.0) a.frame.stack.items) change desc.2 in
     let listed = map_of (λ (m : ListedMethod). m.id.desc) (slice_get program.listing.methods method) desc.0 desc.1 in
     record {
@@ -155,8 +153,7 @@ module _ (program : Program) (policy : Policy) (certificate : Certificate) (o : 
         let more : map Some (l.0 ∷ m.loaded) ≡ loads site.base a.frame.locals (suc count) = rw (l.1.there, m.are) refl in
         let are : map Some (l.0 ∷ m.loaded) ≡ loads site.base a.frame.locals (count + 1) = rw (add-one count) more in
         let asks : Asks r (Given (notes.Granted site true (count + 1) false)) = subst (λ (b : Bool). Asks r (Given (notes.Granted site b (count + 1) false))) m.holds c.asks in
-        goes_with_behind program policy certificate o machine a next change _ fields h seen items (notes.Granted site true (count + 1) false) (ap ends c.is) asks l.2
-        (
+        goes_with_behind program policy certificate o machine a next change _ fields h seen items (notes.Granted site true (count + 1) false) (ap ends c.is) asks l.2 (
           hold,
           granted_on (a.frame.at + 1) items (count + 1) false (l.0 ∷ m.loaded) (omega (arith, c.less)) are
               (record { rest = above.rest; is = ap (λ (vs : List Value). l.0 ∷ vs) above.is; clean = above.clean }),
@@ -170,8 +167,7 @@ module _ (program : Program) (policy : Policy) (certificate : Certificate) (o : 
         let above = bare_above c.bare in
         let items = lock_of program ∷ a.frame.stack.items in
         let asks : Asks r (Given (notes.Granted site true count true)) = subst (λ (b : Bool). Asks r (Given (notes.Granted site b count true))) m.holds c.asks in
-        goes_with_behind program policy certificate o machine a next change _ fields h seen items (notes.Granted site true count true) p.1 asks p.0
-        (
+        goes_with_behind program policy certificate o machine a next change _ fields h seen items (notes.Granted site true count true) p.1 asks p.0 (
           hold,
           granted_on (a.frame.at + 1) items count true m.loaded m.few m.are
               (record { rest = above.rest; is = ap (λ (vs : List Value). lock_of program ∷ vs) above.is; clean = above.clean }),
@@ -239,46 +235,42 @@ module _ (program : Program) (policy : Policy) (certificate : Certificate) (o : 
         note_is : notes.Granted site locked count top ≡ notes.Granted site true (needs policy site.method) false
         note_is = let counts : count ≡ needs policy site.method = c.all in let locks : locked ≡ true = m.holds in let tops : top ≡ false = c.bare in rw (counts, locks, tops) refl
 
+        -- the frame waits for the answer
+        waits : Leads policy (seen ++ event ∷ []) m.state
+            → IsOwnerCall program policy certificate (seen ++ event ∷ []) fields site.method (moved_to a.frame a.frame.at a.frame.locals l.passed.beneath)
+        waits now = record {
+          hold = hold;
+          well = frame_moved program policy certificate o a.frame h.acts.well seen a.frame.at a.frame.locals l.passed.beneath h.acts.well.locals;
+          site = site;
+          of = refl;
+          at_call = record {
+            insn = next.0;
+            there = h.acts.there ∙ ap (λ (ref : Target). Some (next.0, ref)) call_is.1;
+            call = call_is.0;
+            told = h.acts.told ∙ ap Some note_is;
+            clean = taken_clean.beneath;
+          };
+          state = m.state;
+          ranged = m.ranged;
+          led = now;
+          variables = m.variables;
+        }
+
         changes : ChangesOwner program policy certificate a.number seen
             (calls_library program (world_of machine) (record { number = a.number; thread = a.thread; frame = a.frame; below = a.below; passed = l.passed }) site.method)
         changes =
             let now = led (clause_at policy site.method Before) refl m.granted in
-            let beneath = l.passed.beneath in
-            let well = frame_moved program policy certificate o a.frame h.acts.well seen a.frame.at a.frame.locals beneath h.acts.well.locals in
             record {
               begins = refl;
               followed = leads_followed policy (seen ++ event ∷ []) m.state now;
               goes = λ on. (
-                  h.acts.world,
-                  inl (record {
-                    locks = h.locked;
-                    fields = fields;
-                    variables = h.there;
-                    owns = (
-                        clauses,
-                        (
-                          record {
-                            hold = hold;
-                            well = well;
-                            site = site;
-                            of = refl;
-                            at_call = record {
-                              insn = next.0;
-                              there = h.acts.there ∙ ap (λ (ref : Target). Some (next.0, ref)) call_is.1;
-                              call = call_is.0;
-                              told = h.acts.told ∙ ap Some note_is;
-                              clean = taken_clean.beneath;
-                            };
-                            state = m.state;
-                            ranged = m.ranged;
-                            led = now;
-                            variables = m.variables;
-                          },
-                          h.acts.below,
-                        ),
-                        (taken_clean.receiver, taken_clean.arguments),
-                    );
-                  }),
+                h.acts.world,
+                inl (record {
+                  locks = h.locked;
+                  fields = fields;
+                  variables = h.there;
+                  owns = (clauses, (waits now, h.acts.below), (taken_clean.receiver, taken_clean.arguments));
+                }),
               );
             }
 

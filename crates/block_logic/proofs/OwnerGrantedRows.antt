@@ -1,7 +1,7 @@
 -- The rows of a call that is granted.
-use Rattle.std.proofs.Common.{◌≡◌, ℕ, ◌<◌, ◌+◌, Bool, true, false, Option, Some, None, refl, sym, ap, inl, inr, eqb-true, ltb-true}
+use Rattle.std.proofs.Common.{◌≡◌, ℕ, ◌<◌, ◌+◌, Bool, true, false, Option, Some, None, sym, ap, inl, inr, eqb-true, ltb-true}
 use Rattle.std.specs.Bool.{beq}
-use Rattle.std.specs.Prelude.{◌==◌, ◌&&◌, ◌⊎◌, nat_lt, not}
+use Rattle.std.specs.Prelude.{◌==◌, ◌⊎◌, nat_lt, not}
 use Rattle.std.specs.Option.{option_map_or}
 use Rattle.std.proofs.lemmas.Bool.{and_parts, not-true}
 use Rattle.insn_codec.specs.declared.shape.Heap.TheVariants as heap
@@ -12,8 +12,8 @@ use Rattle.bytecode_model.specs.declared.program.Target.{Target}
 use Rattle.cert_format.specs.declared.note.Note.TheVariants as notes
 use Rattle.cert_format.specs.declared.note.Site.{Site}
 use Rattle.block_logic.specs.Clauses.{needs}
-use Rattle.block_logic.specs.Operands.{leaves, loaded, pushes_state}
-use Rattle.block_logic.specs.Rows.{Asked, Given, Nothing, Row, Rules, calls_of, granted_row, returned, thrown}
+use Rattle.block_logic.specs.Operands.{loaded, pushes_state}
+use Rattle.block_logic.specs.Rows.{Given, Nothing, Row, Rules, calls_of, granted_row, returned, thrown}
 use Rattle.block_logic.specs.Standing.{is_hold}
 use Rattle.block_logic.proofs.OwnerRows.{Asks, gives_asks, leaves_is, one_row, where_so}
 

@@ -1,35 +1,18 @@
 -- The lock among the monitors: it is taken where nobody holds it, left by its owner, and waited for by the others.
-use Rattle.std.proofs.Common.{◌≡◌, ◌≢◌, ℕ, zero, suc, ◌+◌, ◌-◌, Bool, true, false, cond, List, [], ◌∷◌, ◌++◌, Option, Some, None, refl, sym, ap, ◌∙◌, subst, eqb-true, eq-eqb}
-use Rattle.std.specs.Prelude.{◌==◌, filter, option_map, slice_get}
-use Rattle.std.specs.Option.{option_map_or}
+use Rattle.std.proofs.Common.{◌≡◌, ◌≢◌, ℕ, Bool, true, false, List, [], ◌∷◌, Some, None, refl, sym, ap, ◌∙◌, eq-eqb}
+use Rattle.std.specs.Prelude.{◌==◌}
 use Rattle.std.proofs.lemmas.Bool.{ne_eqb}
 use Rattle.bytecode_model.specs.declared.program.Program.{Program}
 use Rattle.guest_heap.specs.declared.object.Monitor.{Monitor}
 use Rattle.guest_heap.specs.declared.value.Value.{Value}
-use Rattle.guest_heap.specs.declared.value.Value.TheVariants as values
-use Rattle.guest_frames.specs.Values.{are_one, is_null, is_number}
-use Rattle.guest_model.specs.Monitors.{entered, held_once_less, left}
+use Rattle.guest_frames.specs.Values.{are_one}
+use Rattle.guest_model.specs.Monitors.{entered, left}
 use Rattle.block_logic.specs.Fitting.{held_locks, locked_by}
-use Rattle.block_logic.specs.Meaning.{IsClean, lock_of}
-
--- ---- values that are not the lock
-
-pub number_clean : (program : Program) (v : Value) → is_number v ≡ true → IsClean program v
-number_clean program (values.Int n) e = refl
-number_clean program v e = absurd cc
-
-pub null_clean : (program : Program) → IsClean program values.Null
-null_clean program = refl
-
-pub object_clean : (program : Program) (at : ℕ) → IsClean program (values.Ref at)
-object_clean program at = refl
+use Rattle.block_logic.specs.Meaning.{lock_of}
 
 module _ (program : Program) where
   abbrev on : Value
   on = lock_of program
-
-  pub lock_is_there : is_null on ≡ false
-  lock_is_there = refl
 
   lock_itself : are_one on on ≡ true
   lock_itself = eq-eqb _ _ refl

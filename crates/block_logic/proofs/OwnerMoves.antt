@@ -1,6 +1,6 @@
 -- What the instructions of blocks do to the frame that they stand in, and to what is shared.
-use Rattle.std.proofs.Common.{◌≡◌, ℕ, ◌<◌, ◌+◌, ℤ, Bool, true, false, cond, List, [], ◌∷◌, length, drop, Option, Some, None, Ok, Err, refl, sym, ap, ◌∙◌, subst, ltb-true}
-use Rattle.std.specs.Prelude.{Result, nat_lt, option_and_then, option_map, slice_get, slice_set}
+use Rattle.std.proofs.Common.{◌≡◌, ℕ, ◌<◌, ◌+◌, ℤ, true, false, cond, List, ◌∷◌, length, drop, Option, Some, None, Ok, refl, sym, ap, ◌∙◌, subst, ltb-true}
+use Rattle.std.specs.Prelude.{nat_lt, option_and_then, option_map, slice_get, slice_set}
 use Rattle.std.specs.Option.{option_map_or}
 use Rattle.std.specs.Int.{w32, int_wrapping_add}
 use Rattle.std.proofs.lemmas.Option.{cond_some}
@@ -13,13 +13,12 @@ use Rattle.insn_codec.specs.declared.shape.Relation.{Relation}
 use Rattle.insn_codec.specs.declared.shape.Two.TheVariants as two
 use Rattle.insn_codec.specs.declared.shape.Shape.{Shape}
 use Rattle.insn_codec.specs.declared.shape.Shape.TheVariants as shapes
-use Rattle.insn_codec.specs.Control.{goes_to, next_of, relates}
+use Rattle.insn_codec.specs.Control.{goes_to, relates}
 use Rattle.insn_codec.specs.Effect.{Moved, effect, of_kind, operand, with_local, without_two}
 use Rattle.insn_codec.specs.Shapes.{shape_of}
 use Rattle.bytecode_model.specs.declared.program.Program.{Program}
 use Rattle.bytecode_model.specs.declared.program.Target.{Target}
 use Rattle.bytecode_model.specs.declared.program.Target.TheVariants as target
-use Rattle.bytecode_model.specs.SearchOrder.{Name}
 use Rattle.guest_heap.specs.declared.frame.Frame.{Frame}
 use Rattle.guest_heap.specs.declared.object.Monitor.{Monitor}
 use Rattle.guest_heap.specs.declared.value.Value.{Value}
@@ -30,8 +29,8 @@ use Rattle.guest_model.specs.declared.machine.Machine.{Machine}
 use Rattle.guest_model.specs.Changes.{Change, World, goes, with_monitors, with_statics, world_of}
 use Rattle.guest_model.specs.Monitors.{entered, left}
 use Rattle.guest_model.specs.Parts.{constant_value}
-use Rattle.guest_model.specs.Stepping.{Acting, acts_on, comes_to, enters, heap_in, heap_stepped, insn_stepped, leaves, left_with, works}
-use Rattle.guest_model.specs.Working.{Worked, static_written, worked}
+use Rattle.guest_model.specs.Stepping.{Acting, acts_on, comes_to, enters, heap_in, heap_stepped, insn_stepped, leaves}
+use Rattle.guest_model.specs.Working.{worked}
 use Rattle.guest_model.proofs.Options.{and_then_of, map_of, some_is, unless_of}
 
 -- an operand of a kind
@@ -80,12 +79,12 @@ module _ (program : Program) (machine : Machine) (a : Acting) (change : Change) 
         subst (λ (s : Shape). acts_on (world_of machine) a (option_and_then (λ (m : Moved Value). fitted a.frame (goes_to values_seen next.0 s (a.frame.at + 1) a.frame.stack.items) m.0 m.1) (effect values_moved s a.frame.locals a.frame.stack.items)) ≡ Some change)
         is on_frame in
         by (effect values_moved shape a.frame.locals a.frame.stack.items) refl by_shape where
-      by : (o : Option (Moved Value)) → effect values_moved shape a.frame.locals a.frame.stack.items ≡ o
-          → acts_on (world_of machine) a (option_and_then (λ (m : Moved Value). fitted a.frame (goes_to values_seen next.0 shape (a.frame.at + 1) a.frame.stack.items) m.0 m.1) o) ≡ Some change
-          → (m : Moved Value) × (effect values_moved shape a.frame.locals a.frame.stack.items ≡ Some m)
-          × Goes (world_of machine) (goes_to values_seen next.0 shape (a.frame.at + 1) a.frame.stack.items) m.0 m.1
-      by None is e = absurd cc
-      by (Some m) is e = (m, is, fitted_goes (world_of machine) _ m.0 m.1 e)
+          by : (o : Option (Moved Value)) → effect values_moved shape a.frame.locals a.frame.stack.items ≡ o
+              → acts_on (world_of machine) a (option_and_then (λ (m : Moved Value). fitted a.frame (goes_to values_seen next.0 shape (a.frame.at + 1) a.frame.stack.items) m.0 m.1) o) ≡ Some change
+              → (m : Moved Value) × (effect values_moved shape a.frame.locals a.frame.stack.items ≡ Some m)
+              × Goes (world_of machine) (goes_to values_seen next.0 shape (a.frame.at + 1) a.frame.stack.items) m.0 m.1
+          by None is e = absurd cc
+          by (Some m) is e = (m, is, fitted_goes (world_of machine) _ m.0 m.1 e)
 
     -- where it is known what such an instruction leaves
     left_alone : (shape : Shape) (m n : Moved Value) (to : ℕ) → effect values_moved shape a.frame.locals a.frame.stack.items ≡ Some m
@@ -146,17 +145,19 @@ module _ (program : Program) (machine : Machine) (a : Acting) (change : Change) 
         let first = operand_is kinds.Int items 0 y.0 y.1 in
         let second = operand_is kinds.Int items 1 x.0 x.1 in
         let left : m.0 ≡ (a.frame.locals, drop 2 items) = sym l.2 ∙ ap (λ (left : List Value). (a.frame.locals, left)) (sym x.2) in
-        let goes = compared_to next.0 relation to (a.frame.at + 1) items y.0 x.0 first.there second.there in
-        (y.0, x.0, first, second, subst (λ (p : Moved Value). Goes (world_of machine) (cond (relates relation (number_of x.0) (number_of y.0)) to (a.frame.at + 1)) p.0 p.1) left
-        (subst (λ (at : ℕ). Goes (world_of machine) at m.0.0 m.0.1) goes m.2))
+        let goes = compared_to next.0 relation to (a.frame.at + 1) items y.0 x.0 first.there second.there in (
+          y.0,
+          x.0,
+          first,
+          second,
+          subst (λ (p : Moved Value). Goes (world_of machine) (cond (relates relation (number_of x.0) (number_of y.0)) to (a.frame.at + 1)) p.0 p.1) left
+              (subst (λ (at : ℕ). Goes (world_of machine) at m.0.0 m.0.1) goes m.2),
+        )
 
     -- ---- instructions that work on more
 
     pub on_heap : (what : Heap) → shape_of next.0 ≡ shapes.Heap what → heap_stepped program machine a what next.1 ≡ Some change
     on_heap what is = rw is at step
-
-    working : (w : Worked) (made : World × List Value) → option_and_then (comes_to program (world_of machine) a) w ≡ Some change → w ≡ Some (Ok made) → Behind made.0 a.frame.locals made.1
-    working w made e is = let comes : acts_on made.0 a (after a.frame made.1) ≡ Some change = rw is at e in fitted_goes made.0 (a.frame.at + 1) a.frame.locals made.1 comes
 
     pub pushes_constant : shape_of next.0 ≡ shapes.Heap heap.Constant
         → (v : Value) × (constant_value program next.1 ≡ Some v) × Behind (world_of machine) a.frame.locals (v ∷ a.frame.stack.items)
@@ -177,11 +178,11 @@ module _ (program : Program) (machine : Machine) (a : Acting) (change : Change) 
         let read : option_and_then (comes_to program (world_of machine) a) (option_map (λ (v : Value). Ok (world_of machine, v ∷ a.frame.stack.items)) (slice_get fields field)) ≡ Some change =
         rw there at named in
         by (slice_get fields field) refl read where
-      by : (o : Option Value) → slice_get fields field ≡ o
-          → option_and_then (comes_to program (world_of machine) a) (option_map (λ (v : Value). Ok (world_of machine, v ∷ a.frame.stack.items)) o) ≡ Some change
-          → (v : Value) × (slice_get fields field ≡ Some v) × Behind (world_of machine) a.frame.locals (v ∷ a.frame.stack.items)
-      by None is e = absurd cc
-      by (Some v) is e = (v, is, fitted_goes (world_of machine) (a.frame.at + 1) a.frame.locals (v ∷ a.frame.stack.items) e)
+          by : (o : Option Value) → slice_get fields field ≡ o
+              → option_and_then (comes_to program (world_of machine) a) (option_map (λ (v : Value). Ok (world_of machine, v ∷ a.frame.stack.items)) o) ≡ Some change
+              → (v : Value) × (slice_get fields field ≡ Some v) × Behind (world_of machine) a.frame.locals (v ∷ a.frame.stack.items)
+          by None is e = absurd cc
+          by (Some v) is e = (v, is, fitted_goes (world_of machine) (a.frame.at + 1) a.frame.locals (v ∷ a.frame.stack.items) e)
 
     pub writes_variable : (class field : ℕ) (fields : List Value) (v : Value) → shape_of next.0 ≡ shapes.Heap heap.WriteStatic → next.1 ≡ target.Field class field
         → slice_get machine.statics class ≡ Some fields → slice_get a.frame.stack.items 0 ≡ Some v
@@ -192,15 +193,15 @@ module _ (program : Program) (machine : Machine) (a : Acting) (change : Change) 
         rw names at e in
         let new = with_statics (world_of machine) (slice_set machine.statics class (slice_set fields field v)) in
         let written : option_and_then (comes_to program (world_of machine) a)
-            (option_map (λ (w : World). Ok (w, drop 1 a.frame.stack.items)) (option_and_then (λ (old : Value). Some new) (slice_get fields field))) ≡ Some change =
+        (option_map (λ (w : World). Ok (w, drop 1 a.frame.stack.items)) (option_and_then (λ (old : Value). Some new) (slice_get fields field))) ≡ Some change =
         rw (top, there) at named in
         by (slice_get fields field) written where
-      by : (o : Option Value)
-          → option_and_then (comes_to program (world_of machine) a)
-            (option_map (λ (w : World). Ok (w, drop 1 a.frame.stack.items)) (option_and_then (λ (old : Value). Some (with_statics (world_of machine) (slice_set machine.statics class (slice_set fields field v)))) o)) ≡ Some change
-          → Behind (with_statics (world_of machine) (slice_set machine.statics class (slice_set fields field v))) a.frame.locals (drop 1 a.frame.stack.items)
-      by None e = absurd cc
-      by (Some old) e = fitted_goes _ (a.frame.at + 1) a.frame.locals (drop 1 a.frame.stack.items) e
+          by : (o : Option Value)
+              → option_and_then (comes_to program (world_of machine) a)
+              (option_map (λ (w : World). Ok (w, drop 1 a.frame.stack.items)) (option_and_then (λ (old : Value). Some (with_statics (world_of machine) (slice_set machine.statics class (slice_set fields field v)))) o)) ≡ Some change
+              → Behind (with_statics (world_of machine) (slice_set machine.statics class (slice_set fields field v))) a.frame.locals (drop 1 a.frame.stack.items)
+          by None e = absurd cc
+          by (Some old) e = fitted_goes _ (a.frame.at + 1) a.frame.locals (drop 1 a.frame.stack.items) e
 
     -- ---- monitors
 

@@ -1,8 +1,7 @@
 -- Steps behind a call: its result is kept, and the lock is left once nothing is due any more.
 use Rattle.std.proofs.Common.{◌≡◌, ℕ, zero, suc, ◌<◌, ◌+◌, Bool, true, false, List, [], ◌∷◌, ◌++◌, length, drop, Option, Some, None, refl, sym, ap, ◌∙◌, subst, arith, inl, inr, eqb-true, ltb-true}
 use Rattle.std.specs.Prelude.{◌==◌, ◌&&◌, ◌||◌, ◌⊎◌, nat_lt, not, is_some, option_and_then, slice_get, slice_set}
-use Rattle.std.specs.Option.{option_map_or}
-use Rattle.std.proofs.lemmas.Bool.{and_parts, not-true, or_cases}
+use Rattle.std.proofs.lemmas.Bool.{and_parts, not-true}
 use Rattle.api_listing.specs.declared.events.Event.{Event}
 use Rattle.insn_codec.specs.declared.insn.Insn.{Insn}
 use Rattle.insn_codec.specs.declared.shape.Heap.TheVariants as heap
@@ -22,20 +21,18 @@ use Rattle.cert_format.specs.declared.note.Site.{Site}
 use Rattle.conspec_tree.specs.declared.types.Kind.{Kind as ResultKind}
 use Rattle.conspec_automaton.specs.declared.policy.Clause.{Clause}
 use Rattle.conspec_automaton.specs.declared.policy.Policy.{Policy}
-use Rattle.conspec_automaton.specs.Next.{Values}
 use Rattle.guest_heap.specs.declared.value.Value.{Value}
-use Rattle.guest_frames.specs.Stepping.{moved_to}
 use Rattle.guest_model.specs.declared.machine.Machine.{Machine}
 use Rattle.guest_model.specs.Changes.{Change}
 use Rattle.guest_model.specs.Parts.{number_in}
 use Rattle.guest_model.specs.Stepping.{Acting}
 use Rattle.guest_model.proofs.Options.{all_drop, all_get, all_set}
 use Rattle.block_logic.specs.Accepted.{rules_of}
-use Rattle.block_logic.specs.Clauses.{clause_of, result_of}
-use Rattle.block_logic.specs.Meaning.{AreClean, HasResult, HasResultIn, IsAbove, IsClean, IsOwed, IsPending, Leads, MeansOwed, lock_of, lock_on}
+use Rattle.block_logic.specs.Clauses.{clause_of}
+use Rattle.block_logic.specs.Meaning.{AreClean, HasResult, HasResultIn, IsAbove, IsClean, IsOwed, Leads, MeansOwed, lock_of, lock_on}
 use Rattle.block_logic.specs.Obeying.{IsObeying}
-use Rattle.block_logic.specs.Operands.{enters, leaves, pushes_state, stored}
-use Rattle.block_logic.specs.Rows.{Given, Open, Row, Rules, begins_owed, may_keep, may_leave, may_push, owed_row}
+use Rattle.block_logic.specs.Operands.{pushes_state, stored}
+use Rattle.block_logic.specs.Rows.{Given, Open, Row, Rules, may_keep, may_leave, may_push, owed_row}
 use Rattle.block_logic.specs.Standing.{is_after}
 use Rattle.block_logic.proofs.OwnerActing.{ActsHolding, gives_up, goes_with, goes_with_behind, leads_behind}
 use Rattle.block_logic.proofs.OwnerGrantedRows.{this_slot}
@@ -176,8 +173,7 @@ module _ (program : Program) (policy : Policy) (certificate : Certificate) (o : 
       subst (λ (b : Bool). IsOwed policy site stage (clause_of policy site) seen m.state b a.frame.locals m.above.rest) c.loose m.owed in
       goes_with program policy certificate o machine a next change _ fields h seen (a.frame.at + 1) (slice_set a.frame.locals site.base s.0) items (notes.Owed site stage true false)
       (all_set (IsClean program) a.frame.locals site.base s.0 h.acts.well.locals value)
-      (leads_behind program policy certificate o machine a next change _ fields h seen (Given (notes.Owed site stage true false)) (ap ends c.is) c.asks.past) s.3
-      (
+      (leads_behind program policy certificate o machine a next change _ fields h seen (Given (notes.Owed site stage true false)) (ap ends c.is) c.asks.past) s.3 (
         hold,
         record {
           behind = m.behind;
@@ -195,8 +191,7 @@ module _ (program : Program) (policy : Policy) (certificate : Certificate) (o : 
   pushing c =
       let p = pushes_lock program policy certificate machine a change next h.step c.pushes in
       let items = lock_of program ∷ a.frame.stack.items in
-      goes_with_behind program policy certificate o machine a next change _ fields h seen items (notes.Owed site stage kept true) p.1 c.asks p.0
-      (
+      goes_with_behind program policy certificate o machine a next change _ fields h seen items (notes.Owed site stage kept true) p.1 c.asks p.0 (
         hold,
         record {
           behind = m.behind;

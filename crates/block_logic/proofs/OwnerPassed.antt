@@ -1,13 +1,12 @@
 -- What a granted call passes: the arguments that were loaded from locals, in their order, so that the policy sees the call of which
 -- the check told.
-use Rattle.std.proofs.Common.{◌≡◌, ℕ, zero, suc, ◌<◌, ◌≤◌, ◌+◌, ℤ, Bool, true, false, cond, List, [], ◌∷◌, ◌++◌, length, map, reverse, take, drop, Option, Some, None, refl, sym, ap, ◌∙◌, subst, arith, inl, inr}
+use Rattle.std.proofs.Common.{◌≡◌, ℕ, zero, suc, ◌<◌, ◌+◌, Bool, true, false, cond, List, [], ◌∷◌, ◌++◌, length, map, reverse, take, drop, Option, Some, None, refl, sym, ap, ◌∙◌, subst, arith, inl, inr}
 use Rattle.std.specs.Prelude.{IfSome, nat_le, option_and_then, option_map, slice_get}
-use Rattle.std.specs.List.{AllByRecursion}
 use Rattle.std.specs.Option.{option_map_or}
 use Rattle.std.proofs.lemmas.Bool.{cases_lt}
 use Rattle.std.proofs.lemmas.Grind.{reverse_onto}
-use Rattle.std.proofs.lemmas.List.{length-map, length-reverse, take_at}
-use Rattle.std.proofs.lemmas.Option.{cond_some, slice_get-map, slice_get_within}
+use Rattle.std.proofs.lemmas.List.{length-map, length-reverse}
+use Rattle.std.proofs.lemmas.Option.{cond_some, slice_get-map}
 use Rattle.api_listing.specs.declared.events.ApiValue.{ApiValue}
 use Rattle.api_listing.specs.declared.events.ApiValue.TheVariants as api
 use Rattle.api_listing.specs.declared.events.Event.{Event}
@@ -16,9 +15,8 @@ use Rattle.bytecode_model.specs.declared.program.Program.{Program}
 use Rattle.bytecode_model.specs.Classes.{is_below}
 use Rattle.cert_format.specs.declared.note.Phase8.TheVariants.{Before}
 use Rattle.cert_format.specs.declared.note.Site.{Site}
-use Rattle.conspec_automaton.specs.Next.{argument, number_in as shown_number}
-use Rattle.conspec_automaton.specs.Sight.{Sight, sight_of}
-use Rattle.conspec_tree.specs.declared.types.Phase.TheVariants as phases
+use Rattle.conspec_automaton.specs.Next.{number_in as shown_number}
+use Rattle.conspec_automaton.specs.Sight.{sight_of}
 use Rattle.guest_heap.specs.declared.object.Object.{Object}
 use Rattle.guest_heap.specs.declared.object.Object.TheVariants as objects
 use Rattle.guest_heap.specs.declared.value.Value.{Value}
@@ -27,7 +25,7 @@ use Rattle.guest_model.specs.Calls.{Taken, taken}
 use Rattle.guest_model.specs.Kinds.{string}
 use Rattle.guest_model.specs.Parts.{number_in}
 use Rattle.guest_model.specs.Seen.{object_shown, value_shown, values_shown}
-use Rattle.guest_model.proofs.Options.{all_append, all_drop, all_get, all_reverse, all_take, map_of, some_is}
+use Rattle.guest_model.proofs.Options.{all_drop, all_get, all_reverse, all_take, map_of, some_is}
 use Rattle.block_logic.specs.Meaning.{AreClean, IsClean, IsEventOf, TellsArguments, loads}
 use Rattle.block_logic.specs.Standing.{in_phase}
 use Rattle.block_logic.proofs.OwnerStanding.{slice_get_there}
@@ -72,7 +70,7 @@ module _ (program : Program) (base : ℕ) (locals : List Value) where
       (all_get (IsClean program) locals (base + n) v clean first, loaded_clean n loaded clean later)
 
   -- the first that was loaded lies lowest
-  pub loaded_at : (n : ℕ) (loaded : List Value) (i : ℕ) → map Some loaded ≡ loads base locals n → i < n → slice_get (reverse loaded) i ≡ slice_get locals (base + i)
+  loaded_at : (n : ℕ) (loaded : List Value) (i : ℕ) → map Some loaded ≡ loads base locals n → i < n → slice_get (reverse loaded) i ≡ slice_get locals (base + i)
   loaded_at zero loaded i e less = absurd (omega arith)
   loaded_at (suc n) [] i e less = absurd cc
   loaded_at (suc n) (v ∷ loaded) i e less =
@@ -123,25 +121,26 @@ module _ (program : Program) (heap : List Object) where
         let as_many : length (map shown_number shown) ≡ count =
         length-map shown shown_number ∙ length-map (reverse loaded) (value_shown program heap) ∙ length-reverse loaded ∙ loaded_many program site.base locals count loaded are in
         same_lists (map shown_number args) (map shown_number shown) (many ∙ sym as_many) (λ i inside. same i (omega (arith, many))) where
-      same : (i : ℕ) → i < count → slice_get (map shown_number args) i ≡ slice_get (map shown_number (values_shown program heap (reverse loaded))) i
-      same i inside =
-          let x = slice_get_there args i (omega (arith, many, length-map args shown_number)) in
-          let v = slice_get_there (reverse loaded) i (omega (arith, length-reverse loaded, loaded_many program site.base locals count loaded are)) in
-          let local : slice_get locals (site.base + i) ≡ Some v.0 = sym (loaded_at program site.base locals count loaded i are inside) ∙ v.1 in
-          let told = each i inside in
-          at_both v.0 x.0 local x.1 told ∙ sym (there i v.0 v.1)
-        where
-        at_both : (v : Value) (x : ApiValue) → slice_get locals (site.base + i) ≡ Some v → slice_get args i ≡ Some x
-            → option_and_then number_in (slice_get locals (site.base + i)) ≡ option_and_then shown_number (slice_get args i)
-            → slice_get (map shown_number args) i ≡ Some (number_in v)
-        at_both v x local arg told =
-            let numbers : number_in v ≡ shown_number x = rw (local, arg) at told in
-            slice_get-map shown_number args i ∙ ap (option_map shown_number) arg ∙ ap Some (sym numbers)
-        there : (i : ℕ) (v : Value) → slice_get (reverse loaded) i ≡ Some v → slice_get (map shown_number (values_shown program heap (reverse loaded))) i ≡ Some (number_in v)
-        there i v is =
-            slice_get-map shown_number (values_shown program heap (reverse loaded)) i
-            ∙ ap (option_map shown_number) (slice_get-map (value_shown program heap) (reverse loaded) i ∙ ap (option_map (value_shown program heap)) is)
-            ∙ ap Some (shown_as v)
+          same : (i : ℕ) → i < count → slice_get (map shown_number args) i ≡ slice_get (map shown_number (values_shown program heap (reverse loaded))) i
+          same i inside =
+              let x = slice_get_there args i (omega (arith, many, length-map args shown_number)) in
+              let v = slice_get_there (reverse loaded) i (omega (arith, length-reverse loaded, loaded_many program site.base locals count loaded are)) in
+              let local : slice_get locals (site.base + i) ≡ Some v.0 = sym (loaded_at program site.base locals count loaded i are inside) ∙ v.1 in
+              let told = each i inside in
+              at_both v.0 x.0 local x.1 told ∙ sym (there i v.0 v.1)
+            where
+              at_both : (v : Value) (x : ApiValue) → slice_get locals (site.base + i) ≡ Some v → slice_get args i ≡ Some x
+                  → option_and_then number_in (slice_get locals (site.base + i)) ≡ option_and_then shown_number (slice_get args i)
+                  → slice_get (map shown_number args) i ≡ Some (number_in v)
+              at_both v x local arg told =
+                  let numbers : number_in v ≡ shown_number x = rw (local, arg) at told in
+                  slice_get-map shown_number args i ∙ ap (option_map shown_number) arg ∙ ap Some (sym numbers)
+
+              there : (i : ℕ) (v : Value) → slice_get (reverse loaded) i ≡ Some v → slice_get (map shown_number (values_shown program heap (reverse loaded))) i ≡ Some (number_in v)
+              there i v is =
+                  slice_get-map shown_number (values_shown program heap (reverse loaded)) i
+                  ∙ ap (option_map shown_number) (slice_get-map (value_shown program heap) (reverse loaded) i ∙ ap (option_map (value_shown program heap)) is)
+                  ∙ ap Some (shown_as v)
 
     -- The call is to the policy the one of which the locals tell.
     pub seen_same : (e : Event) → IsEventOf (in_phase Before site) e → TellsArguments site.base count locals e

@@ -1,6 +1,6 @@
 -- What an instruction of a check pushes: the lock, a number, an argument or the result of the event, or a variable.
-use Rattle.std.proofs.Common.{◌≡◌, ℕ, ◌<◌, ◌≤◌, ◌+◌, ◌-◌, ℤ, Bool, true, false, cond, List, [], ◌∷◌, length, Option, Some, None, refl, sym, ap, ◌∙◌, subst, arith, inl, inr, eqb-true, leb-true}
-use Rattle.std.specs.Prelude.{◌==◌, ◌&&◌, ◌⊎◌, bytes_eq, nat_le, option_and_then, option_map, slice_get}
+use Rattle.std.proofs.Common.{◌≡◌, ℕ, ◌≤◌, ◌+◌, ◌-◌, ℤ, Bool, true, false, cond, List, ◌∷◌, length, Option, Some, None, refl, sym, ap, ◌∙◌, subst, arith, inl, inr, eqb-true, leb-true}
+use Rattle.std.specs.Prelude.{◌==◌, ◌&&◌, ◌⊎◌, nat_le, option_and_then, option_map, slice_get}
 use Rattle.std.specs.Option.{option_map_or, option_or}
 use Rattle.std.proofs.lemmas.Bool.{and_parts, cases_Bool}
 use Rattle.std.proofs.lemmas.Option.{cond_some, slice_get_within}
@@ -29,7 +29,7 @@ use Rattle.conspec_automaton.specs.declared.policy.Policy.{Policy}
 use Rattle.conspec_automaton.specs.Next.{Values, argument, returned}
 use Rattle.guest_heap.specs.declared.value.Value.{Value}
 use Rattle.guest_heap.specs.declared.value.Value.TheVariants as values
-use Rattle.guest_frames.specs.Values.{fits, is_number as is_number_value, number_of}
+use Rattle.guest_frames.specs.Values.{fits}
 use Rattle.guest_model.specs.declared.machine.Machine.{Machine}
 use Rattle.guest_model.specs.Changes.{Change, world_of}
 use Rattle.guest_model.specs.Parts.{constant_value, number_in}
@@ -43,17 +43,17 @@ use Rattle.block_logic.specs.Meaning.{AreTerms, TellsArguments, TellsIn, TellsRe
 use Rattle.block_logic.specs.Operands.{loaded_number, number_named, number_pushed, pushes_state, reads_static, state_name, variable_named}
 use Rattle.block_logic.specs.Rows.{Rules, argument_in, field_term, local_term, result_in, term_pushed}
 use Rattle.block_logic.specs.Standing.{is_after, is_before}
-use Rattle.block_logic.proofs.OwnerMoves.{Behind, IsOperand, loads, pushes_constant, pushes_number, reads_variable}
+use Rattle.block_logic.proofs.OwnerMoves.{Behind, loads, pushes_constant, pushes_number, reads_variable}
 use Rattle.block_logic.proofs.OwnerTerms.{term_at}
 
 -- ---- shapes and operands
 
-pub either_option : {X : Type 0} (o p : Option X) (x : X) → option_or o p ≡ Some x → (o ≡ Some x) ⊎ (p ≡ Some x)
+either_option : {X : Type 0} (o p : Option X) (x : X) → option_or o p ≡ Some x → (o ≡ Some x) ⊎ (p ≡ Some x)
 either_option None p x e = inr e
 either_option (Some y) p x e = inl e
 
 -- the class of the lock is named
-pub state_pushed : (shape : Shape) (ref : Target) → pushes_state shape ref ≡ true → (shape ≡ shapes.Heap heap.Constant) × (ref ≡ target.ClassName state_name)
+state_pushed : (shape : Shape) (ref : Target) → pushes_state shape ref ≡ true → (shape ≡ shapes.Heap heap.Constant) × (ref ≡ target.ClassName state_name)
 state_pushed (shapes.Heap heap.Constant) (target.ClassName name) e = (refl, ap target.ClassName ((bytes_eq-Decides name state_name).0 e))
 state_pushed shape ref e = absurd cc
 
@@ -61,7 +61,7 @@ number_named_is : (ref : Target) (n : ℤ) → number_named ref ≡ Some n → r
 number_named_is (target.Number m) n e = let same : m ≡ n = cc in ap target.Number same
 number_named_is ref n e = absurd cc
 
-pub number_is : (shape : Shape) (ref : Target) (n : ℤ) → number_pushed shape ref ≡ Some n
+number_is : (shape : Shape) (ref : Target) (n : ℤ) → number_pushed shape ref ≡ Some n
     → (shape ≡ shapes.Push n) ⊎ ((shape ≡ shapes.Heap heap.Constant) × (ref ≡ target.Number n))
 number_is (shapes.Push m) ref n e = let same : m ≡ n = cc in inl (ap shapes.Push same)
 number_is (shapes.Heap heap.Constant) ref n e = inr (refl, number_named_is ref n e)
@@ -83,10 +83,6 @@ variable_is_named state (target.Field class field) var e =
 variable_is_named state ref var e = absurd cc
 
 -- ---- numbers
-
-pub number_value : (v : Value) → fits shape_kinds.Int v ≡ true → v ≡ values.Int (number_of v)
-number_value (values.Int n) e = refl
-number_value v e = absurd cc
 
 number_known : (v : Value) (o : Option ℤ) → fits shape_kinds.Int v ≡ true → number_in v ≡ o → option_map values.Int o ≡ Some v
 number_known (values.Int n) o e is = rw (← is) refl
@@ -209,7 +205,7 @@ module _ (program : Program) (policy : Policy) (certificate : Certificate) (mach
           record { value = lock_of program; stands = ap (term_value program state event) (sym same); goes = p.0; stays = p.1 }
       | inr other ↦
           let rest : option_or (option_map terms.Const (number_pushed (shape_of next.0) next.1))
-              (option_or (option_and_then (local_term site clause) (loaded_number (shape_of next.0))) (field_term rules map (shape_of next.0) next.1)) ≡ Some t =
+          (option_or (option_and_then (local_term site clause) (loaded_number (shape_of next.0))) (field_term rules map (shape_of next.0) next.1)) ≡ Some t =
           rw other at e in
           elim (either_option (option_map terms.Const (number_pushed (shape_of next.0) next.1)) _ t rest) [
             | inl number ↦

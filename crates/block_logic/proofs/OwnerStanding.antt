@@ -1,13 +1,10 @@
 -- A note that may stand for another means what is given, where the other does.
-use Rattle.std.proofs.Common.{◌≡◌, ℕ, zero, suc, ◌<◌, ◌≤◌, ◌+◌, Bool, true, false, cond, List, [], ◌∷◌, ◌++◌, length, Option, Some, None, refl, sym, ap, ◌∙◌, subst, arith, inl, inr, eqb-true}
+use Rattle.std.proofs.Common.{◌≡◌, ℕ, zero, suc, ◌<◌, Bool, true, false, List, [], ◌∷◌, length, Option, Some, None, refl, sym, ap, ◌∙◌, subst, arith, inl, inr, eqb-true}
 use Rattle.std.specs.Bool.{beq}
-use Rattle.std.specs.Prelude.{◌==◌, ◌&&◌, ◌||◌, ◌⊎◌, not, find, is_some, option_and_then, slice_get}
-use Rattle.std.specs.List.{AllByRecursion}
+use Rattle.std.specs.Prelude.{◌==◌, ◌&&◌, not, find, is_some, option_and_then, slice_get}
 use Rattle.std.specs.Option.{option_map_or}
 use Rattle.std.proofs.lemmas.Bool.{and_from, and_parts, cases_Bool, not-true, or_cases}
 use Rattle.api_listing.specs.declared.events.Event.{Event}
-use Rattle.api_listing.specs.declared.types.ListedMethod.{ListedMethod}
-use Rattle.api_listing.specs.declared.types.Listing.{Listing}
 use Rattle.bytecode_model.specs.declared.program.Program.{Program}
 use Rattle.cert_format.specs.declared.certificate.Certificate.{Certificate}
 use Rattle.cert_format.specs.declared.certificate.Mode.TheVariants as modes
@@ -22,19 +19,18 @@ use Rattle.conspec_tree.specs.declared.types.Phase.TheVariants as phases
 use Rattle.conspec_automaton.specs.declared.policy.Branch.{Branch}
 use Rattle.conspec_automaton.specs.declared.policy.Clause.{Clause}
 use Rattle.conspec_automaton.specs.declared.policy.Policy.{Policy}
-use Rattle.conspec_automaton.specs.Denying.{Denies, DeniesOnly}
-use Rattle.conspec_automaton.specs.Next.{Values, next, returned, updated}
+use Rattle.conspec_automaton.specs.Denying.{Denies}
+use Rattle.conspec_automaton.specs.Next.{Values, next, updated}
 use Rattle.conspec_automaton.specs.Obeys.{IsFollowed}
 use Rattle.conspec_automaton.specs.Range.{in_range}
 use Rattle.conspec_automaton.specs.Sight.{sight_of}
 use Rattle.conspec_automaton.proofs.Ranges.{found_is}
 use Rattle.guest_heap.specs.declared.frame.Frame.{Frame}
 use Rattle.guest_heap.specs.declared.value.Value.{Value}
-use Rattle.guest_model.proofs.Options.{not_empty}
-use Rattle.block_logic.specs.Clauses.{clause_at, clause_of, is_of_phase, needs, result_of}
-use Rattle.block_logic.specs.Meaning.{AreClean, AreState, AreTerms, HasResult, HasResultIn, IsAbove, IsChecked, IsDue, IsEventOf, IsGranted, IsOwed, IsPending, IsTried, Leads, MeansGranted, MeansHeld, MeansOwed, MeansStop, Owns, Pends, Promised, TellsArguments, TellsIn, TellsResult}
+use Rattle.block_logic.specs.Clauses.{clause_at, clause_of, is_of_phase, result_of}
+use Rattle.block_logic.specs.Meaning.{AreClean, AreState, AreTerms, HasResult, HasResultIn, IsAbove, IsChecked, IsDue, IsEventOf, IsGranted, IsOwed, IsPending, IsTried, Leads, MeansHeld, MeansOwed, Owns, Pends, Promised, TellsArguments, TellsIn, TellsResult}
 use Rattle.block_logic.specs.Obeying.{FitsListing, IsObeying}
-use Rattle.block_logic.specs.Standing.{asks_kept, begun, branches_of, done, fails, in_phase, is_after, is_before, is_done, is_empty, may_begin, may_stand, same_note, same_phase, same_site, stands_for_held}
+use Rattle.block_logic.specs.Standing.{asks_kept, branches_of, done, fails, in_phase, is_after, is_before, is_done, is_empty, may_begin, may_stand, same_note, same_phase, same_site, stands_for_held}
 use Rattle.block_logic.specs.Terms.{after_updates, as_taken, same_terms}
 use Rattle.block_logic.proofs.OwnerEvents.{due_event, due_followed, leads_followed, pending_taken, pends_followed, stays_ranged, taken_by}
 use Rattle.block_logic.proofs.OwnerTerms.{same_terms_are}
@@ -155,17 +151,17 @@ done_by : (policy : Policy) (site : Site) (clause : Clause) (failed holding : �
 done_by policy site clause failed holding map there e =
     let branches : branches_of policy site ≡ clause.branches = rw there refl in
     by (slice_get clause.branches failed) refl (rw branches at e) where
-  by : (o : Option Branch) → slice_get clause.branches failed ≡ o
-      → option_map_or (λ (b : Branch). (holding == length b.atoms) && same_terms map (after_updates policy b.updates)) o false ≡ true
-      → IsDoneBy policy clause failed holding map
-  by None is e = absurd cc
-  by (Some b) is e =
-      let p = and_parts (holding == length b.atoms) (same_terms map (after_updates policy b.updates)) e in
-      record { branch = b; there = is; all = eqb-true holding (length b.atoms) p.0; written = same_terms_are map (after_updates policy b.updates) p.1 }
+      by : (o : Option Branch) → slice_get clause.branches failed ≡ o
+          → option_map_or (λ (b : Branch). (holding == length b.atoms) && same_terms map (after_updates policy b.updates)) o false ≡ true
+          → IsDoneBy policy clause failed holding map
+      by None is e = absurd cc
+      by (Some b) is e =
+          let p = and_parts (holding == length b.atoms) (same_terms map (after_updates policy b.updates)) e in
+          record { branch = b; there = is; all = eqb-true holding (length b.atoms) p.0; written = same_terms_are map (after_updates policy b.updates) p.1 }
 
 module _ (program : Program) (policy : Policy) (certificate : Certificate) (o : IsObeying program policy certificate) where
   -- Where a clause has a branch, calls are not denied outright.
-  pub holds_lock : (site : Site) (clause : Clause) (i : ℕ) (branch : Branch) → clause_of policy site ≡ Some clause → slice_get clause.branches i ≡ Some branch
+  holds_lock : (site : Site) (clause : Clause) (i : ℕ) (branch : Branch) → clause_of policy site ≡ Some clause → slice_get clause.branches i ≡ Some branch
       → certificate.mode ≡ modes.Hold
   holds_lock site clause i branch there is = by o.promised where
     by : Promised certificate.mode policy → certificate.mode ≡ modes.Hold
@@ -219,8 +215,7 @@ module _ (program : Program) (policy : Policy) (certificate : Certificate) (o : 
         let of : IsEventOf (in_phase Before site) h.event =
         record { method = due.1.method; phase = subst (λ (x : Phase8). is_of_phase x (sight_of h.event).phase ≡ true) is due.1.phase } in
         let checked : IsChecked policy site h.clause seen p.end frame.locals = record { before = h.state; event = h.event; led = due.0; of = of; told = told; taken = p.taken } in
-        let none : h.tops ≡ [] = map_some_is h.tops [] (sym h.pushed) in
-        (
+        let none : h.tops ≡ [] = map_some_is h.tops [] (sym h.pushed) in (
           p.hold,
           record {
             holds = refl;
@@ -238,8 +233,7 @@ module _ (program : Program) (policy : Policy) (certificate : Certificate) (o : 
     owed_means : (site : Site) (failed holding : ℕ) (map : List Term) (kept : Bool) (h : MeansHeld program policy seen fields frame site failed holding [] map)
         → IsPassed h.state h.event → is_before site.phase ≡ false → Owns program policy certificate.mode seen fields frame (notes.Owed site 2 kept false)
     owed_means site failed holding map kept h p not =
-        let none : h.tops ≡ [] = map_some_is h.tops [] (sym h.pushed) in
-        (
+        let none : h.tops ≡ [] = map_some_is h.tops [] (sym h.pushed) in (
           p.hold,
           record {
             behind = not;

@@ -1,6 +1,6 @@
 -- Steps of the way out: its value is pushed, and the program is stopped.
-use Rattle.std.proofs.Common.{◌≡◌, ℕ, zero, suc, ◌+◌, ℤ, pos, Bool, true, false, cond, List, [], ◌∷◌, ◌++◌, Option, Some, None, refl, sym, ap, ◌∙◌, subst, append-nil}
-use Rattle.std.specs.Prelude.{◌&&◌, codes, option_and_then, option_map, slice_get}
+use Rattle.std.proofs.Common.{◌≡◌, ℕ, zero, suc, ℤ, pos, true, false, List, [], ◌∷◌, ◌++◌, Option, Some, None, refl, sym, ap, ◌∙◌, subst, append-nil}
+use Rattle.std.specs.Prelude.{codes, option_and_then, option_map, slice_get}
 use Rattle.std.specs.Option.{option_map_or, option_to_list}
 use Rattle.std.specs.Ordering.{int_eq}
 use Rattle.std.proofs.lemmas.Bool.{and_parts}
@@ -27,14 +27,13 @@ use Rattle.guest_model.specs.declared.machine.Machine.{Machine}
 use Rattle.guest_model.specs.Builtins.{builtin_at, builtin_of_row}
 use Rattle.guest_model.specs.Calling.{Calling, built_in, calls as calls_out, calls_named, desc_named, exits, goes_past, is_static_call, stopped_by}
 use Rattle.guest_model.specs.Calls.{Taken, arity, taken}
-use Rattle.guest_model.specs.Changes.{Change, world_of}
+use Rattle.guest_model.specs.Changes.{Change, World, world_of}
 use Rattle.guest_model.specs.Parts.{is_exit, number_in}
 use Rattle.guest_model.specs.Stepping.{Acting}
-use Rattle.guest_model.proofs.Options.{and_then_of, map_of, some_is}
+use Rattle.guest_model.proofs.Options.{and_then_of, map_of}
 use Rattle.block_logic.specs.Meaning.{MeansStop}
 use Rattle.block_logic.specs.Obeying.{IsObeying}
-use Rattle.block_logic.specs.Operands.{calls, is_way_out, number_pushed, pushes}
-use Rattle.block_logic.specs.Rows.{Given, Row, gives, is_on_way}
+use Rattle.block_logic.specs.Operands.{calls, is_way_out, number_pushed}
 use Rattle.block_logic.proofs.OwnerActing.{ActsHolding, goes_with_behind}
 use Rattle.block_logic.proofs.OwnerGranted.{how_calls}
 use Rattle.block_logic.proofs.OwnerMoves.{on_heap}
@@ -62,20 +61,30 @@ record Stops (change : Change) : Type 0 where
   pub begins : change.begins ≡ None
   pub silent : change.event ≡ None
 
+stopped_stops : (world : World) (c : Calling) (change : Change) (n : ℤ) → stopped_by world c n ≡ Some change → Stops change
+stopped_stops world c change n e =
+    let stopping : Change → Change = λ past. record { world = past.world; thread = past.thread; begins = None; stops = Some n; event = None } in
+    let m = map_of stopping (goes_past world c []) change e in
+    subst Stops m.2 (record { stops = n; is = refl; begins = refl; silent = refl })
+
+exits_stop : (world : World) (c : Calling) (change : Change) → exits world c ≡ Some change → Stops change
+exits_stop world c change e =
+    let n = and_then_of (stopped_by world c) (option_and_then number_in (slice_get c.passed.arguments 0)) change e in
+    stopped_stops world c change n.0 n.2
+
 exit_stops : (program : Program) (machine : Machine) (a : Acting) (change : Change) (how : How) (index : ℕ) → builtin_at index ≡ Some builtins.Exit
     → calls_out program machine a.number a.thread a.frame a.below how (target.Builtin index) ≡ Some change → Stops change
 exit_stops program machine a change how index exit e =
-    let desc = and_then_of (λ (desc : Name). option_and_then (λ (passed : Taken). calls_named program machine
-        (record { number = a.number; thread = a.thread; frame = a.frame; below = a.below; passed = passed }) how (target.Builtin index)) (taken (is_static_call how) (arity desc) a.frame.stack.items))
-    (desc_named program (target.Builtin index)) change e in
-    let passed = and_then_of (λ (passed : Taken). calls_named program machine
-        (record { number = a.number; thread = a.thread; frame = a.frame; below = a.below; passed = passed }) how (target.Builtin index))
-    (taken (is_static_call how) (arity desc.0) a.frame.stack.items) change desc.2 in
-    let c : Calling = record { number = a.number; thread = a.thread; frame = a.frame; below = a.below; passed = passed.0 } in
-    let made : exits (world_of machine) c ≡ Some change = subst (λ (b : Option Builtin). option_and_then (built_in program machine c how) b ≡ Some change) exit passed.2 in
-    let n = and_then_of (stopped_by (world_of machine) c) (option_and_then number_in (slice_get c.passed.arguments 0)) change made in
-    let m = map_of (λ (past : Change). record { world = past.world; thread = past.thread; begins = None; stops = Some n.0; event = None }) (goes_past (world_of machine) c []) change n.2 in
-    record { stops = n.0; is = ap (λ (x : Change). x.stops) (sym m.2); begins = ap (λ (x : Change). x.begins) (sym m.2); silent = ap (λ (x : Change). x.event) (sym m.2) }
+    let called = λ (passed : Taken). calls_named program machine (record { number = a.number; thread = a.thread; frame = a.frame; below = a.below; passed = passed }) how (target.Builtin index) in
+    let items = a.frame.stack.items in
+    let desc = and_then_of (λ (desc : Name). option_and_then called (taken (is_static_call how) (arity desc) items)) (desc_named program (target.Builtin index)) change e in
+    let passed = and_then_of called (taken (is_static_call how) (arity desc.0) items) change desc.2 in
+    made passed.0 passed.2 where
+      made : (passed : Taken)
+          → calls_named program machine (record { number = a.number; thread = a.thread; frame = a.frame; below = a.below; passed = passed }) how (target.Builtin index) ≡ Some change → Stops change
+      made passed e =
+          let c : Calling = record { number = a.number; thread = a.thread; frame = a.frame; below = a.below; passed = passed } in
+          exits_stop (world_of machine) c change (subst (λ (b : Option Builtin). option_and_then (built_in program machine c how) b ≡ Some change) exit e)
 
 -- ---- the steps
 

@@ -1,6 +1,6 @@
 -- The lock is taken where nobody holds it, and is waited for while another thread does.
-use Rattle.std.proofs.Common.{◌≡◌, ◌≢◌, ℕ, zero, suc, ◌<◌, ◌+◌, ℤ, Bool, true, false, cond, List, [], ◌∷◌, ◌++◌, length, drop, Option, Some, None, refl, sym, ap, ◌∙◌, subst, arith, inl, inr}
-use Rattle.std.specs.Prelude.{◌==◌, ◌&&◌, ◌||◌, find, is_some, option_and_then, slice_get}
+use Rattle.std.proofs.Common.{◌≡◌, ℕ, zero, suc, ◌<◌, ◌+◌, ℤ, Bool, true, false, List, [], ◌∷◌, length, drop, Option, Some, None, refl, sym, ap, ◌∙◌, subst, arith, inl, inr}
+use Rattle.std.specs.Prelude.{◌==◌, ◌&&◌, find, is_some, option_and_then, slice_get}
 use Rattle.std.specs.List.{AllByRecursion, list_any}
 use Rattle.std.specs.Option.{option_map_or}
 use Rattle.std.proofs.lemmas.Bool.{and_parts, cases_Bool}
@@ -20,36 +20,32 @@ use Rattle.cert_format.specs.declared.certificate.Certificate.{Certificate}
 use Rattle.cert_format.specs.declared.certificate.Mode.TheVariants as modes
 use Rattle.cert_format.specs.declared.note.Note.TheVariants as notes
 use Rattle.cert_format.specs.declared.note.Phase8.{Phase8}
-use Rattle.cert_format.specs.declared.note.Phase8.TheVariants.{Before, After, Exceptional}
+use Rattle.cert_format.specs.declared.note.Phase8.TheVariants.{Before}
 use Rattle.cert_format.specs.declared.note.Site.{Site}
-use Rattle.conspec_tree.specs.declared.types.Phase.{Phase}
 use Rattle.conspec_tree.specs.declared.types.Phase.TheVariants as phases
 use Rattle.conspec_automaton.specs.declared.policy.Clause.{Clause}
 use Rattle.conspec_automaton.specs.declared.policy.Policy.{Policy}
 use Rattle.conspec_automaton.specs.Denying.{Denies}
-use Rattle.conspec_automaton.specs.Next.{Values, argument, has_clauses, number_in as shown_number}
+use Rattle.conspec_automaton.specs.Next.{Values, has_clauses, number_in as shown_number}
 use Rattle.conspec_automaton.specs.Range.{in_range}
 use Rattle.guest_heap.specs.declared.frame.Frame.{Frame}
 use Rattle.guest_heap.specs.declared.value.Value.{Value}
 use Rattle.guest_frames.specs.Stepping.{moved_to}
-use Rattle.guest_model.specs.declared.machine.Machine.{Machine}
-use Rattle.guest_model.specs.Changes.{Change, with_monitors, world_of}
+use Rattle.guest_model.specs.Changes.{with_monitors, world_of}
 use Rattle.guest_model.specs.Parts.{number_in}
-use Rattle.guest_model.specs.Stepping.{Acting, enters, heap_stepped, insn_stepped}
-use Rattle.block_logic.specs.Clauses.{clause_at, clause_of, is_of_phase}
-use Rattle.block_logic.specs.Fitting.{held_locks}
+use Rattle.guest_model.specs.Stepping.{enters}
+use Rattle.block_logic.specs.Clauses.{clause_at, is_of_phase}
 use Rattle.block_logic.specs.Meaning.{AreClean, AreState, IsAbove, IsDue, IsEventOf, IsGranted, Leads, Owns, Promised, TellsArguments, TellsIn, lock_of}
 use Rattle.block_logic.specs.Obeying.{IsObeying}
 use Rattle.block_logic.specs.Rows.{Given, taken}
 use Rattle.block_logic.specs.Standing.{begun, is_before}
-use Rattle.block_logic.specs.Terms.{as_taken}
-use Rattle.block_logic.proofs.OwnerGoing.{frame_moved, goes_behind, goes_holding, owner_frame}
+use Rattle.block_logic.proofs.OwnerGoing.{goes_behind, goes_holding, owner_frame}
 use Rattle.block_logic.proofs.OwnerLock.{lock_taken, lock_waits}
 use Rattle.block_logic.proofs.OwnerMoves.{enters_lock}
 use Rattle.block_logic.proofs.OwnerRows.{enters_is, gives_asks, where_so}
 use Rattle.block_logic.proofs.OwnerStanding.{before_is, begun_means, none_there, some_there}
 use Rattle.block_logic.proofs.Ruled.{IsRuled, LeadsTo, RulesHold}
-use Rattle.block_logic.proofs.Steps.{Acts, ChangesOwner, TakingSteps, TakingWaits}
+use Rattle.block_logic.proofs.Steps.{ChangesOwner, TakingSteps, TakingWaits}
 
 -- ---- an event that is told by locals
 
@@ -130,8 +126,7 @@ module _ (program : Program) (policy : Policy) (certificate : Certificate) (o : 
     -- there is none
     grants : has_clauses policy site.method ≡ true → is_some (clause_at policy site.method Before) ≡ false → Owns program policy certificate.mode seen fields frame (notes.Granted site true 0 false)
     grants has none =
-        let nothing : clause_at policy site.method Before ≡ None = none_there (clause_at policy site.method Before) none in
-        (
+        let nothing : clause_at policy site.method Before ≡ None = none_there (clause_at policy site.method Before) none in (
           holds_unchecked site.method has none,
           record {
             holds = refl;

@@ -1,6 +1,6 @@
 -- The comparisons of a check, and its sums of a variable and a number.
-use Rattle.std.proofs.Common.{◌≡◌, ℕ, zero, suc, ◌<◌, ◌≤◌, ◌+◌, ℤ, pos, ◌+ℤ◌, ◌-ℤ◌, Bool, true, false, cond, List, [], ◌∷◌, length, Option, Some, None, refl, sym, ap, ◌∙◌, subst, arith, inl, inr, FitsSigned}
-use Rattle.std.specs.Prelude.{◌&&◌, ◌≤ℤ◌, int_le, int_lt, not, option_and_then, option_map, slice_get}
+use Rattle.std.proofs.Common.{◌≡◌, ℕ, zero, suc, ◌<◌, ◌≤◌, ◌+◌, ℤ, pos, ◌+ℤ◌, ◌-ℤ◌, Bool, true, false, List, [], ◌∷◌, length, Option, Some, None, refl, sym, ap, ◌∙◌, subst, arith, inl, inr, FitsSigned}
+use Rattle.std.specs.Prelude.{◌≤ℤ◌, int_le, int_lt, not, option_map, slice_get}
 use Rattle.std.specs.Int.{w32, int_wrapping_add}
 use Rattle.std.specs.List.{list_all}
 use Rattle.std.specs.Option.{option_map_or}
@@ -13,7 +13,6 @@ use Rattle.insn_codec.specs.declared.shape.Relation.{Relation}
 use Rattle.insn_codec.specs.declared.shape.Relation.TheVariants as relations
 use Rattle.insn_codec.specs.Control.{relates as compares}
 use Rattle.bytecode_model.specs.declared.program.Program.{Program}
-use Rattle.cert_format.specs.declared.note.Site.{Site}
 use Rattle.cert_format.specs.declared.note.Term.{Term}
 use Rattle.cert_format.specs.declared.note.Term.TheVariants as terms
 use Rattle.conspec_tree.specs.declared.types.Atom.{Atom}
@@ -21,7 +20,6 @@ use Rattle.conspec_tree.specs.declared.types.Base.{Base}
 use Rattle.conspec_tree.specs.declared.types.Base.TheVariants as bases
 use Rattle.conspec_tree.specs.declared.types.Rel.{Rel}
 use Rattle.conspec_tree.specs.declared.types.Rel.TheVariants as rels
-use Rattle.conspec_tree.specs.declared.types.Var.{Var}
 use Rattle.conspec_tree.specs.Tree.{greatest}
 use Rattle.conspec_automaton.specs.declared.policy.Branch.{Branch}
 use Rattle.conspec_automaton.specs.declared.policy.Policy.{Policy}
@@ -100,9 +98,9 @@ module _ (program : Program) (state : Values) (event : Event) where
       let n = map_of values.Int (value_of state event atom.base) x (sym (base_is atom.base) ∙ first) in
       let constant : values.Int atom.value ≡ y = cc in
       known n.0 n.1 x n.2 y constant where
-    known : (n : ℤ) → value_of state event atom.base ≡ Some n → (x : Value) → values.Int n ≡ x → (y : Value) → values.Int atom.value ≡ y
-        → holds state event atom ≡ relates atom.rel (number_of x) (number_of y)
-    known n is x first y second = rw (is, ← first, ← second) refl
+        known : (n : ℤ) → value_of state event atom.base ≡ Some n → (x : Value) → values.Int n ≡ x → (y : Value) → values.Int atom.value ≡ y
+            → holds state event atom ≡ relates atom.rel (number_of x) (number_of y)
+        known n is x first y second = rw (is, ← first, ← second) refl
 
   -- ---- branches that are tried
 
@@ -161,9 +159,9 @@ variable_small policy good state var m ranged there =
     let value = value_there policy.maxint policy.vars state var v.0 ranged v.1 in
     let same : value.value ≡ m = let both : Some value.value ≡ Some m = sym value.there ∙ there in cc in
     by v.0.is_bool (subst (λ (n : ℤ). is_between (pos 0) (greatest policy.maxint v.0.is_bool) n ≡ true) same value.ranged) where
-  by : (b : Bool) → is_between (pos 0) (greatest policy.maxint b) m ≡ true → IsSmall m
-  by true e = let p = between_is (pos 0) (pos 1) m e in record { low = p.least; high = omega (arith, ints, p.most) }
-  by false e = let p = between_is (pos 0) policy.maxint m e in record { low = p.least; high = omega (arith, ints, p.most, good.maxint_high) }
+      by : (b : Bool) → is_between (pos 0) (greatest policy.maxint b) m ≡ true → IsSmall m
+      by true e = let p = between_is (pos 0) (pos 1) m e in record { low = p.least; high = omega (arith, ints, p.most) }
+      by false e = let p = between_is (pos 0) policy.maxint m e in record { low = p.least; high = omega (arith, ints, p.most, good.maxint_high) }
 
 -- The sum of a variable and an addend does not wrap.
 no_wrap : (m n : ℤ) → IsSmall m → is_addend n ≡ true → int_wrapping_add w32 m n ≡ m +ℤ n
@@ -185,8 +183,8 @@ no_wrap_flipped m n small e =
     let g : FitsSigned w32 n = omega (arith, ints, least, most) in
     let h : FitsSigned w32 (n +ℤ m) = omega (arith, ints, least, most, small.low, small.high) in
     wrapping_add_is w32 n m g f ∙ int_wrap_fits w32 (n +ℤ m) h ∙ turned m n where
-  turned : (m n : ℤ) → n +ℤ m ≡ m +ℤ n
-  turned m n = omega (arith, ints)
+      turned : (m n : ℤ) → n +ℤ m ≡ m +ℤ n
+      turned m n = omega (arith, ints)
 
 module _ (program : Program) (policy : Policy) (good : IsPolicy policy) (state : Values) (event : Event) (ranged : in_range policy state ≡ true) where
   made : (m n : ℤ) (v w : Value) → values.Int m ≡ v → values.Int n ≡ w → int_wrapping_add w32 m n ≡ int_wrapping_add w32 (number_of v) (number_of w)

@@ -1,11 +1,8 @@
 -- Where the lock is held round calls, no instruction is granted a call without the lock: it would have to load all arguments, and
 -- then call, which it may not.
-use Rattle.std.proofs.Common.{◌≡◌, ℕ, zero, suc, ◌<◌, ◌≤◌, ◌+◌, Bool, true, false, List, [], ◌∷◌, length, Option, Some, None, refl, sym, ap, ◌∙◌, subst, arith, inl, inr, ltb-true}
+use Rattle.std.proofs.Common.{◌≡◌, ℕ, zero, suc, ◌<◌, ◌≤◌, ◌+◌, Bool, true, false, List, [], ◌∷◌, length, Option, Some, refl, sym, ap, ◌∙◌, subst, arith, inl, inr}
 use Rattle.std.specs.Bool.{beq}
-use Rattle.std.specs.Prelude.{◌==◌, ◌&&◌, nat_lt, option_and_then, slice_get}
-use Rattle.std.specs.Option.{option_map_or}
-use Rattle.std.proofs.lemmas.Bool.{and_parts, eqb-true}
-use Rattle.std.proofs.lemmas.Option.{slice_get_within}
+use Rattle.std.specs.Prelude.{option_and_then, slice_get}
 use Rattle.insn_codec.specs.declared.insn.Insn.{Insn}
 use Rattle.insn_codec.specs.declared.shape.Shape.{Shape}
 use Rattle.insn_codec.specs.Fits.{Ends}
@@ -19,9 +16,7 @@ use Rattle.bytecode_model.specs.declared.program.Program.{Program}
 use Rattle.bytecode_model.specs.declared.program.Target.{Target}
 use Rattle.bytecode_model.specs.Sound.{IsSoundClass, IsSoundMethod}
 use Rattle.cert_format.specs.declared.certificate.Certificate.{Certificate}
-use Rattle.cert_format.specs.declared.certificate.Mode.{Mode}
 use Rattle.cert_format.specs.declared.certificate.Mode.TheVariants as modes
-use Rattle.cert_format.specs.declared.note.Note.{Note}
 use Rattle.cert_format.specs.declared.note.Note.TheVariants as notes
 use Rattle.cert_format.specs.declared.note.Site.{Site}
 use Rattle.conspec_automaton.specs.declared.policy.Policy.{Policy}
@@ -66,9 +61,10 @@ only_loads rules site count shape ref r hold e = elim (granted_cases rules site 
   | inr (inr (inr calls)) ↦ let not_so : beq false true ≡ true = subst (λ (b : Bool). beq false b ≡ true) hold calls.locks in absurd cc
 ]
 
-in_method : (o : Option Method) (m : Method) → o ≡ Some m → (at : ℕ) (insn : Insn × Target) → insn_in m at ≡ Some insn
-    → option_and_then (λ (method : Method). insn_in method at) o ≡ Some insn
-in_method o m there at insn is = rw there is
+-- the instruction at a place of a method
+in_method : (o : Option Method) (m : Method) (at : ℕ) (insn : Insn) (ref : Target) → o ≡ Some m → slice_get m.insns at ≡ Some insn → slice_get m.refs at ≡ Some ref
+    → option_and_then (λ (method : Method). insn_in method at) o ≡ Some (insn, ref)
+in_method o m at insn ref there is names = rw (there, is, names) refl
 
 module _ (program : Program) (policy : Policy) (certificate : Certificate) (o : IsObeying program policy certificate) where
   -- where control can go on, there is an instruction behind
@@ -83,8 +79,7 @@ module _ (program : Program) (policy : Policy) (certificate : Certificate) (o : 
       let inside = not_last m.0.insns frame.at next.0 sound.ends here.insn_there goes in
       let insn = slice_get_there m.0.insns (frame.at + 1) inside in
       let ref = slice_get_there m.0.refs (frame.at + 1) (omega (arith, sound.refs, inside)) in
-      let is : insn_in m.0 (frame.at + 1) ≡ Some (insn.0, ref.0) = rw (insn.1, ref.1) refl in
-      ((insn.0, ref.0), in_method (method_at program frame.class frame.method) m.0 m.1 (frame.at + 1) (insn.0, ref.0) is)
+      ((insn.0, ref.0), in_method (method_at program frame.class frame.method) m.0 (frame.at + 1) insn.0 ref.0 m.1 insn.1 ref.1)
 
   module _ (rules_hold : RulesHold program policy certificate) (hold : certificate.mode ≡ modes.Hold) where
     -- the instruction loads the next argument, and the one behind it is so too

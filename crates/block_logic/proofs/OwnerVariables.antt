@@ -1,6 +1,6 @@
 -- The policy's variables, before any update is made, and once those of a branch are.
-use Rattle.std.proofs.Common.{◌≡◌, ◌≢◌, ℕ, zero, suc, ◌<◌, ◌+◌, ℤ, ◌+ℤ◌, Bool, true, false, cond, List, [], ◌∷◌, length, map, Option, Some, None, refl, sym, ap, ◌∙◌, subst, arith, length-set, eqb-true}
-use Rattle.std.specs.Prelude.{◌==◌, AllPairs, find, option_map, slice_get, slice_index_or, slice_set}
+use Rattle.std.proofs.Common.{◌≡◌, ◌≢◌, ℕ, zero, suc, ◌<◌, ◌+◌, ℤ, ◌+ℤ◌, Bool, true, false, List, [], ◌∷◌, length, map, Option, Some, None, refl, sym, ap, ◌∙◌, subst, arith, length-set, eqb-true}
+use Rattle.std.specs.Prelude.{◌==◌, AllPairs, option_map, slice_get, slice_index_or, slice_set}
 use Rattle.std.specs.List.{AllByRecursion}
 use Rattle.std.specs.Option.{option_map_or}
 use Rattle.std.proofs.lemmas.Bool.{eqb-false, ne_eqb}
@@ -98,6 +98,7 @@ module _ (program : Program) (e : Event) where
     reads (Add var by) is =
         let same : slice_get (updated_once state u) var ≡ slice_get state var = other_kept state u var (λ t. other (t ∙ is)) in
         ap (option_map (λ m. values.Int (m +ℤ by))) same
+
     by : (b : Bool) → (target w == i) ≡ b → worth (updated_once state u) i us ≡ worth state i us → worth (updated_once state u) i (w ∷ us) ≡ worth state i (w ∷ us)
     by true is later = rw is (reads w (eqb-true (target w) i is))
     by false is later = rw is later
@@ -116,15 +117,15 @@ module _ (program : Program) (e : Event) where
   variable_is (u ∷ us) state i apart inside =
       let within : AreInside (length (updated_once state u)) us = subst (λ (n : ℕ). AreInside n us) (sym (once_length state u)) inside.1 in
       by (target u == i) refl (variable_is us (updated_once state u) i apart.1 within) where
-    by : (b : Bool) → (target u == i) ≡ b → worth (updated_once state u) i us ≡ option_map values.Int (slice_get (updated (updated_once state u) us) i)
-        → worth state i (u ∷ us) ≡ option_map values.Int (slice_get (updated (updated_once state u) us) i)
-    by true is later =
-        let same : target u ≡ i = eqb-true (target u) i is in
-        let none : variable_after us i ≡ variable_after [] i = none_is i us (subst (λ (n : ℕ). AllByRecursion (λ w. n ≢ target w) us) same apart.0) in
-        let here : term_value program state e (written u) ≡ option_map values.Int (slice_get (updated_once state u) i) =
-        this_one state u inside.0 ∙ ap (λ (n : ℕ). option_map values.Int (slice_get (updated_once state u) n)) same in
-        rw is (here ∙ sym (ap (term_value program (updated_once state u) e) none) ∙ later)
-    by false is later = rw is (sym (later_kept state u i us (eqb-false (target u) i is)) ∙ later)
+        by : (b : Bool) → (target u == i) ≡ b → worth (updated_once state u) i us ≡ option_map values.Int (slice_get (updated (updated_once state u) us) i)
+            → worth state i (u ∷ us) ≡ option_map values.Int (slice_get (updated (updated_once state u) us) i)
+        by true is later =
+            let same : target u ≡ i = eqb-true (target u) i is in
+            let none : variable_after us i ≡ variable_after [] i = none_is i us (subst (λ (n : ℕ). AllByRecursion (λ w. n ≢ target w) us) same apart.0) in
+            let here : term_value program state e (written u) ≡ option_map values.Int (slice_get (updated_once state u) i) =
+            this_one state u inside.0 ∙ ap (λ (n : ℕ). option_map values.Int (slice_get (updated_once state u) n)) same in
+            rw is (here ∙ sym (ap (term_value program (updated_once state u) e) none) ∙ later)
+        by false is later = rw is (sym (later_kept state u i us (eqb-false (target u) i is)) ∙ later)
 
   -- all variables from one on
   variables_are : (us : List Update) (state : Values) (held : Values) (var n : ℕ) → length held ≡ n
@@ -179,7 +180,7 @@ module _ (program : Program) (policy : Policy) (good : IsPolicy policy) (e : Eve
         let us = branch.updates in
         let each : (i : ℕ) → worth program e state (0 + i) us ≡ option_map values.Int (slice_get (updated state us) i) =
         λ i. let place : 0 + i ≡ i = omega arith in
-            ap (λ (k : ℕ). worth program e state k us) place ∙ variable_is program e us state i (apart_from us well.once) (all_inside us well.updates) in
+        ap (λ (k : ℕ). worth program e state k us) place ∙ variable_is program e us state i (apart_from us well.once) (all_inside us well.updates) in
         let all = variables_are program e us state (updated state us) 0 (length policy.vars) (updated_length us state ∙ as_many) each in
         map_some_is fields (map values.Int (updated state us)) (sym are ∙ all)
 
