@@ -1,6 +1,6 @@
 //! The rules of the notes at one instruction.
 
-ghost use Rattle.std.specs.Prelude.{◌≡◌, ◌==◌, ◌&&◌, ◌||◌, not, drop, if◌then◌else◌, is_some, option_map};
+ghost use Rattle.std.specs.Prelude.{◌≡◌, ◌==◌, ◌&&◌, ◌||◌, not, drop, if◌then◌else◌, is_some, option_copied, option_map};
 ghost use Rattle.insn_codec.specs.Shapes.{shape_of};
 ghost use Rattle.block_logic.specs.declared.passing.Test.TheVariants.{Meets, StopsWell};
 ghost use Rattle.block_logic.specs.Lent.{asked_lent, row_lent};
@@ -28,7 +28,12 @@ pub fn note_fault(rules: &Rules<'_>, told: &[Note], method: &Method, at: u32) ->
 {
     let insn = method.insns.as_slice().get(at as usize)?;
     let target = method.refs.as_slice().get(at as usize)?;
-    let here = Here { at, insn, target };
+    let here = Here {
+        at,
+        insn,
+        shape: shape_of(insn),
+        target,
+    };
     match told.get(at as usize) {
         Some(note) => row_fault(rules, told, method, &here, note),
         None => Some(8),
@@ -54,8 +59,8 @@ fn row_fault(
     if !catches_well(rules, told, method, note, here) {
         return Some(3);
     }
-    let row = row(rules, note, shape_of(here.insn), here.target);
-    table_fault(rules, told, method, here, note, row)
+    let row = row(rules, note, here.shape, here.target);
+    table_fault(rules, told, method, here, note, row.as_ref())
 }
 
 /// The first of the rules from the fourth on, with the row of the instruction.
@@ -65,11 +70,11 @@ fn table_fault(
     method: &Method,
     here: &Here<'_>,
     note: &Note,
-    row: Option<RowRef<'_>>,
+    row: Option<&RowRef<'_>>,
 ) -> Option<u8>
-    ensures { result ≡ first_broken (drop 3 (rules_at rules.now told.now method.now note.now here.now (option_map row_lent row.entry))) }
+    ensures { result ≡ first_broken (drop 3 (rules_at rules.now told.now method.now note.now here.now (option_map row_lent (option_copied row.entry)))) }
 {
-    let shape = shape_of(here.insn);
+    let shape = here.shape;
     let has_row = row.is_some();
     if !enters_well(note, shape, has_row) {
         return Some(4);
@@ -125,8 +130,7 @@ fn leaves_alone(rules: &Rules<'_>, told: &[Note], note: &Note, here: &Here<'_>) 
     if variable_named(rules.state, here.target).is_some() {
         return false;
     }
-    !pushes_state(shape_of(here.insn), here.target)
-        || next_pass(rules, Test::Takes, told, None, here)
+    !pushes_state(here.shape, here.target) || next_pass(rules, Test::Takes, told, None, here)
 }
 
 // ---- 2: calls
@@ -160,7 +164,7 @@ fn is_granted(rules: &Rules<'_>, target: &Target, note: &Note) -> bool
 fn calls_well(rules: &Rules<'_>, note: &Note, here: &Here<'_>) -> bool
     ensures { result ≡ calls_well rules.now note.now here.now }
 {
-    if !calls(shape_of(here.insn)) {
+    if !calls(here.shape) {
         return true;
     }
     if has_clause(rules.policy, here.target) {
@@ -190,7 +194,7 @@ fn catches_all(rules: &Rules<'_>, told: &[Note], note: &Note, handler: &Handler)
         return false;
     }
     match told.get(handler.at as usize) {
-        Some(there) => is_owed_for_throw(there) || meets(rules, thrown_by(rules, note), there),
+        Some(there) => is_owed_for_throw(there) || meets(rules, &thrown_by(rules, note), there),
         None => false,
     }
 }
@@ -227,7 +231,7 @@ fn catches_well(
 fn throws_duty(rules: &Rules<'_>, here: &Here<'_>) -> bool
     ensures { result ≡ (calls (shape_of here.now.insn) && (has_clause rules.now.policy here.now.ref && is_duty_of rules.now here.now.ref)) }
 {
-    if !calls(shape_of(here.insn)) {
+    if !calls(here.shape) {
         return false;
     }
     has_clause(rules.policy, here.target) && is_duty_of(rules, here.target)
@@ -265,9 +269,9 @@ fn stops_as_asked(
     method: &Method,
     note: &Note,
     here: &Here<'_>,
-    row: Option<RowRef<'_>>,
+    row: Option<&RowRef<'_>>,
 ) -> bool
-    ensures { result ≡ (if is_stop note.now then is_some row.entry else all_pass (passes rules.now StopsWell) told.now (option_map row_lent row.entry) method.now here.now) }
+    ensures { result ≡ (if is_stop note.now then is_some row.entry else all_pass (passes rules.now StopsWell) told.now (option_map row_lent (option_copied row.entry)) method.now here.now) }
 {
     if is_stop(note) {
         row.is_some()
@@ -283,9 +287,9 @@ fn goes_as_asked(
     method: &Method,
     note: &Note,
     here: &Here<'_>,
-    row: Option<RowRef<'_>>,
+    row: Option<&RowRef<'_>>,
 ) -> bool
-    ensures { result ≡ (is_some row.entry && (all_pass (passes rules.now Meets) told.now (option_map row_lent row.entry) method.now here.now
+    ensures { result ≡ (is_some row.entry && (all_pass (passes rules.now Meets) told.now (option_map row_lent (option_copied row.entry)) method.now here.now
         && (not (here.now.at == 0) || is_open rules.now.mode rules.now.policy note.now))) }
 {
     row.is_some()

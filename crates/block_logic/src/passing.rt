@@ -27,20 +27,20 @@ pub enum Test {
 }
 
 /// Whether a note is as it is asked to be.
-pub fn meets(rules: &Rules<'_>, asked: AskedRef<'_>, note: &Note) -> bool
-    ensures { result ≡ meets rules.now (asked_lent asked.entry) note.now }
+pub fn meets(rules: &Rules<'_>, asked: &AskedRef<'_>, note: &Note) -> bool
+    ensures { result ≡ meets rules.now (asked_lent asked.now) note.now }
 {
     match asked {
         AskedRef::Open => is_open(rules.mode, rules.policy, note),
         AskedRef::Taking => takes_for_call(rules.policy, note),
-        AskedRef::Given(given) => may_stand(rules.policy, given, note),
+        AskedRef::Given(given) => may_stand(rules.policy, *given, note),
         AskedRef::Nothing => false,
     }
 }
 
 /// Whether a note passes a test of what is asked of it.
-fn passes(rules: &Rules<'_>, test: Test, asked: AskedRef<'_>, note: &Note) -> bool
-    ensures { result ≡ passes rules.now test (asked_lent asked.entry) note.now }
+fn passes(rules: &Rules<'_>, test: Test, asked: &AskedRef<'_>, note: &Note) -> bool
+    ensures { result ≡ passes rules.now test (asked_lent asked.now) note.now }
 {
     match test {
         Test::Meets => meets(rules, asked, note),
@@ -63,8 +63,14 @@ fn is_taking(note: &Note) -> bool
 }
 
 /// Whether the note of the instruction of this index is there, and passes.
-fn note_passes(rules: &Rules<'_>, test: Test, told: &[Note], asked: AskedRef<'_>, at: usize) -> bool
-    ensures { result ≡ note_passes (passes rules.now test) told.now (asked_lent asked.entry) at }
+fn note_passes(
+    rules: &Rules<'_>,
+    test: Test,
+    told: &[Note],
+    asked: &AskedRef<'_>,
+    at: usize,
+) -> bool
+    ensures { result ≡ note_passes (passes rules.now test) told.now (asked_lent asked.now) at }
 {
     match told.get(at) {
         Some(note) => passes(rules, test, asked, note),
@@ -79,18 +85,19 @@ pub fn next_pass(
     rules: &Rules<'_>,
     test: Test,
     told: &[Note],
-    row: Option<RowRef<'_>>,
+    row: Option<&RowRef<'_>>,
     here: &Here<'_>,
 ) -> bool
-    ensures { result ≡ next_pass (passes rules.now test) told.now (option_map row_lent row.entry) here.now }
+    ensures { result ≡ next_pass (passes rules.now test) told.now (option_map row_lent (option_copied row.entry)) here.now }
 {
+    let past = past_of(row);
     let next = here.at as usize + 1;
-    (!goes_on(here.insn.opcode()) || note_passes(rules, test, told, past_of(row), next))
-        && jumps_pass(rules, test, told, jump_of(row), here.insn)
+    (!goes_on(here.insn.opcode()) || note_passes(rules, test, told, &past, next))
+        && jumps_pass(rules, test, told, &jump_of(row), here.insn)
 }
 
-fn past_of(row: Option<RowRef<'_>>) -> AskedRef<'_>
-    ensures { asked_lent result ≡ past_of (option_map row_lent row.entry) }
+fn past_of<'a>(row: Option<&RowRef<'a>>) -> AskedRef<'a>
+    ensures { asked_lent result ≡ past_of (option_map row_lent (option_copied row.entry)) }
 {
     match row {
         Some(row) => row.past,
@@ -98,8 +105,8 @@ fn past_of(row: Option<RowRef<'_>>) -> AskedRef<'_>
     }
 }
 
-fn jump_of(row: Option<RowRef<'_>>) -> AskedRef<'_>
-    ensures { asked_lent result ≡ jump_of (option_map row_lent row.entry) }
+fn jump_of<'a>(row: Option<&RowRef<'a>>) -> AskedRef<'a>
+    ensures { asked_lent result ≡ jump_of (option_map row_lent (option_copied row.entry)) }
 {
     match row {
         Some(row) => row.jump,
@@ -112,10 +119,10 @@ fn jumps_pass(
     rules: &Rules<'_>,
     test: Test,
     told: &[Note],
-    asked: AskedRef<'_>,
+    asked: &AskedRef<'_>,
     insn: &Insn,
 ) -> bool
-    ensures { result ≡ list_all (note_passes (passes rules.now test) told.now (asked_lent asked.entry)) (jump_targets insn.now) }
+    ensures { result ≡ list_all (note_passes (passes rules.now test) told.now (asked_lent asked.now)) (jump_targets insn.now) }
 {
     match insn {
         Insn::Branch { to, .. } => note_passes(rules, test, told, asked, *to as usize),
@@ -136,10 +143,10 @@ fn notes_pass(
     rules: &Rules<'_>,
     test: Test,
     told: &[Note],
-    asked: AskedRef<'_>,
+    asked: &AskedRef<'_>,
     places: &[u32],
 ) -> bool
-    ensures { result ≡ list_all (note_passes (passes rules.now test) told.now (asked_lent asked.entry)) places.now }
+    ensures { result ≡ list_all (note_passes (passes rules.now test) told.now (asked_lent asked.now)) places.now }
 {
     places
         .iter()
@@ -153,20 +160,20 @@ fn handlers_pass(
     rules: &Rules<'_>,
     test: Test,
     told: &[Note],
-    row: Option<RowRef<'_>>,
+    row: Option<&RowRef<'_>>,
     method: &Method,
     here: &Here<'_>,
 ) -> bool
-    ensures { result ≡ handlers_pass (passes rules.now test) told.now (option_map row_lent row.entry) method.now here.now }
+    ensures { result ≡ handlers_pass (passes rules.now test) told.now (option_map row_lent (option_copied row.entry)) method.now here.now }
 {
     match thrown_of(row) {
-        Some(asked) => covering_pass(rules, test, told, asked, here.at, &method.handlers),
+        Some(asked) => covering_pass(rules, test, told, &asked, here.at, &method.handlers),
         None => true,
     }
 }
 
-fn thrown_of(row: Option<RowRef<'_>>) -> Option<AskedRef<'_>>
-    ensures { option_map asked_lent result ≡ thrown_of (option_map row_lent row.entry) }
+fn thrown_of<'a>(row: Option<&RowRef<'a>>) -> Option<AskedRef<'a>>
+    ensures { option_map asked_lent result ≡ thrown_of (option_map row_lent (option_copied row.entry)) }
 {
     match row {
         Some(row) => row.thrown,
@@ -179,11 +186,11 @@ fn covering_pass(
     rules: &Rules<'_>,
     test: Test,
     told: &[Note],
-    asked: AskedRef<'_>,
+    asked: &AskedRef<'_>,
     at: u32,
     handlers: &Handlers,
 ) -> bool
-    ensures { result ≡ list_all (note_passes (passes rules.now test) told.now (asked_lent asked.entry)) (handlers_of at handlers.now) }
+    ensures { result ≡ list_all (note_passes (passes rules.now test) told.now (asked_lent asked.now)) (handlers_of at handlers.now) }
 {
     let mut near = handlers.near(at);
     while let Some(handler) = near.next() {
@@ -217,11 +224,11 @@ pub fn all_pass(
     rules: &Rules<'_>,
     test: Test,
     told: &[Note],
-    row: Option<RowRef<'_>>,
+    row: Option<&RowRef<'_>>,
     method: &Method,
     here: &Here<'_>,
 ) -> bool
-    ensures { result ≡ all_pass (passes rules.now test) told.now (option_map row_lent row.entry) method.now here.now }
+    ensures { result ≡ all_pass (passes rules.now test) told.now (option_map row_lent (option_copied row.entry)) method.now here.now }
 {
     next_pass(rules, test, told, row, here) && handlers_pass(rules, test, told, row, method, here)
 }

@@ -1,6 +1,6 @@
 mod Options
 mod Differing
 mod Noted
-mod Calls
+mod Accepting
 mod Security
 mod Denied

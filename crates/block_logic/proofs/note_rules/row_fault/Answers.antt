@@ -1,5 +1,5 @@
 use Rattle.std.proofs.Common.{◌≡◌, ℕ, Bool, true, List, ◌∷◌, Option, drop, refl, ap, sym, ◌∙◌}
-use Rattle.std.specs.Prelude.{option_map}
+use Rattle.std.specs.Prelude.{option_copied, option_map}
 use Rattle.insn_codec.specs.Shapes.{shape_of}
 use Rattle.block_logic.specs.Lent.{row_lent}
 use Rattle.block_logic.specs.Notes.{Here, first_broken, rules_at, leaves_alone, calls_well, catches_well}
@@ -20,7 +20,8 @@ returns c =
     let later = λ (r : Option Row). drop 3 (rules_at rules told method note here r) in
     let insn = ap (λ (h : Here). h.insn) c.here.view_is in
     let ref = ap (λ (h : Here). h.ref) c.here.view_is in
-    let same : option_map row_lent c.row-row.result ≡ row rules note (shape_of here.insn) here.ref = cc (insn, ref) in
+    let there : option_copied c.as_ref.result ≡ c.row-row.result = c.as_ref.ensures.value in
+    let same : option_map row_lent (option_copied c.as_ref.result) ≡ row rules note (shape_of here.insn) here.ref = cc (there, insn, ref, c.here.invariant) in
     c.table_fault.ensures ∙ ap (λ (r : Option Row). first_broken (later r)) same
     ∙ sym (behind_three (leaves_alone rules told note here) (calls_well rules note here) (catches_well rules told method note here) (later (row rules note (shape_of here.insn) here.ref))
     (sym c.leaves_alone.ensures ∙ c.if-not-leaves_alone.false)

@@ -8,5 +8,5 @@ use Rattle.block_logic.proofs.passing.covering_pass.Goals as goal
 
 pub loop-handler-init : goal.loop-handler-init
 loop-handler-init c =
-    ap (list_all (note_passes (passes c.args.rules.now c.args.test) c.args.told.now (asked_lent c.args.asked)))
+    ap (list_all (note_passes (passes c.args.rules.now c.args.test) c.args.told.now (asked_lent c.args.asked.now)))
     (same_covering c.args.at c.near-near.result c.args.handlers.now c.near-near.ensures.covering)
