@@ -47,3 +47,4 @@ pub mod OwnerOwed
 pub mod OwnerStop
 pub mod OwnerAnswers
 pub mod OwnerSteps
+pub mod Whole

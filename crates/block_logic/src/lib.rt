@@ -14,7 +14,7 @@ mod standing;
 mod state;
 mod terms;
 
-pub use laws::accepted_obeys;
+pub use laws::{accepted_obeys, lock_orders};
 pub use note_rules::note_fault;
 pub use operands::{has_clause, is_way_out};
 pub use rules::Rules;
