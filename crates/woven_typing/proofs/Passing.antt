@@ -5,7 +5,7 @@ use Rattle.std.specs.List.{AllByRecursion, list_all}
 use Rattle.cert_format.specs.declared.typing.FrameType.{FrameType}
 use Rattle.bytecode_model.specs.Place.{Place}
 use Rattle.bytecode_model.specs.Rules.{Frames, Entry, Depth, Operand, Local, Made, Successor, Caught, rule_failing, row_failing}
-use Rattle.cert_maker.proofs.Kept.{and_kept}
+use Rattle.woven_typing.proofs.Kept.{and_kept}
 
 pub record Passes (frames : Frames) (place : Place) (frame : FrameType) : Type 0 where
   pub entry : (place.at == 0) ≡ true → Entry place frame ≡ true

@@ -22,8 +22,8 @@ use Rattle.bytecode_model.specs.Assigning.{assignable}
 use Rattle.bytecode_model.specs.Described.{type_described, result_type, result_text, arguments}
 use Rattle.bytecode_model.specs.Place.{Place, class_referred, desc_referred, calls_maker, is_own_field}
 use Rattle.bytecode_model.specs.Wants.{Want, anything, is_number, is_reference, is_made, is_array_type, is_this, of_kind, to_type, to_class, to_array, to_item, to_written, to_own, to_receiver, to_described, to_arguments, to_result, call_takes, heap_takes, takes_of, takes, all_met}
-use Rattle.cert_maker.specs.Renaming.{renamed}
-use Rattle.cert_maker.proofs.Kept.{IsKept, retargeted, same_class, same_name, same_desc, described_stays, or_kept, and_kept}
+use Rattle.woven_typing.specs.Renaming.{renamed}
+use Rattle.woven_typing.proofs.Kept.{IsKept, retargeted, same_class, same_name, same_desc, described_stays, or_kept, and_kept}
 
 module _ (moved : ℕ → ℕ) (p q : Place) (kept : IsKept moved p q) where
   -- What the one want is met by, the other is, renamed.

@@ -19,9 +19,9 @@ use Rattle.bytecode_model.specs.declared.program.Target.TheVariants as target
 use Rattle.bytecode_model.specs.Described.{type_described, result_type, result_text}
 use Rattle.bytecode_model.specs.Makes.{type_at, moved_from, constant_type, item_type, read_type, call_yields, heap_yields, yields_of, yields, class_made, is_same_object, when_made, when_new, when_called, changed_by, changed, stores, local_after, topmost, below, stack_after}
 use Rattle.bytecode_model.specs.Place.{Place, desc_referred, calls_maker}
-use Rattle.cert_maker.specs.Renaming.{renamed}
-use Rattle.cert_maker.proofs.Kept.{IsKept, retargeted, same_class, same_desc, described_stays, type_renamed}
-use Rattle.cert_maker.proofs.Taking.{same_maker}
+use Rattle.woven_typing.specs.Renaming.{renamed}
+use Rattle.woven_typing.proofs.Kept.{IsKept, retargeted, same_class, same_desc, described_stays, type_renamed}
+use Rattle.woven_typing.proofs.Taking.{same_maker}
 
 module _ (moved : ℕ → ℕ) (p q : Place) (kept : IsKept moved p q) where
   abbrev new : VType → VType
@@ -75,48 +75,48 @@ module _ (moved : ℕ → ℕ) (p q : Place) (kept : IsKept moved p q) where
       ap (λ (d : List ℕ). call_yields (result_type d)) (same_desc moved p q kept)
       ∙ result_stays (bytes_eq (result_text (desc_referred p)) (codes "V")) (result_text (desc_referred p))
 
-  heap_pushes : (taken : List VType) (what : Heap) → heap_yields q (map new taken) what ≡ map new (heap_yields p taken what)
-  heap_pushes taken heap.Constant = one _ _ (ap constant_type kept.ref ∙ sym (constant_stays p.ref))
-  heap_pushes taken (heap.ReadItem item) = one _ _ (read_renamed item taken)
-  heap_pushes taken (heap.WriteItem item) = refl
-  heap_pushes taken (heap.Divide remainder) = refl
-  heap_pushes taken heap.ReadStatic = one _ _ described_one
-  heap_pushes taken heap.WriteStatic = refl
-  heap_pushes taken heap.ReadField = one _ _ described_one
-  heap_pushes taken heap.WriteField = refl
-  heap_pushes taken (heap.Call how) = call_pushes
-  heap_pushes taken heap.New = one _ _ (ap (λ (i : ℕ). types.Uninit i) kept.at)
-  heap_pushes taken (heap.NewArray kind) = refl
-  heap_pushes taken heap.NewArrayOf = rw (kept.ref) refl
-  heap_pushes taken heap.Length = refl
-  heap_pushes taken heap.Throw = refl
-  heap_pushes taken heap.Cast = rw (kept.ref) refl
-  heap_pushes taken heap.IsInstance = refl
-  heap_pushes taken heap.Enter = refl
-  heap_pushes taken heap.Exit = refl
-  heap_pushes taken (heap.Return kind) = refl
+  heap_pushes : (taken : List VType) (what : Heap) → shape_of p.insn ≡ shapes.Heap what → heap_yields q (map new taken) what ≡ map new (heap_yields p taken what)
+  heap_pushes taken heap.Constant is = one _ _ (ap constant_type kept.ref ∙ sym (constant_stays p.ref))
+  heap_pushes taken (heap.ReadItem item) is = one _ _ (read_renamed item taken)
+  heap_pushes taken (heap.WriteItem item) is = refl
+  heap_pushes taken (heap.Divide remainder) is = refl
+  heap_pushes taken heap.ReadStatic is = one _ _ described_one
+  heap_pushes taken heap.WriteStatic is = refl
+  heap_pushes taken heap.ReadField is = one _ _ described_one
+  heap_pushes taken heap.WriteField is = refl
+  heap_pushes taken (heap.Call how) is = call_pushes
+  heap_pushes taken heap.New is = one _ _ (ap (λ (i : ℕ). types.Uninit i) (kept.at is))
+  heap_pushes taken (heap.NewArray kind) is = refl
+  heap_pushes taken heap.NewArrayOf is = rw (kept.ref) refl
+  heap_pushes taken heap.Length is = refl
+  heap_pushes taken heap.Throw is = refl
+  heap_pushes taken heap.Cast is = rw (kept.ref) refl
+  heap_pushes taken heap.IsInstance is = refl
+  heap_pushes taken heap.Enter is = refl
+  heap_pushes taken heap.Exit is = refl
+  heap_pushes taken (heap.Return kind) is = refl
 
-  shape_pushes : (to : ℕ → ℕ) (locals taken : List VType) (shape : Shape) → yields_of q (map new locals) (map new taken) (retargeted to shape) ≡ map new (yields_of p locals taken shape)
-  shape_pushes to locals taken shapes.Nothing = refl
-  shape_pushes to locals taken (shapes.Push n) = refl
-  shape_pushes to locals taken shapes.PushNull = refl
-  shape_pushes to locals taken (shapes.Load k slot) = one _ _ (type_renamed moved locals slot)
-  shape_pushes to locals taken (shapes.Store k slot) = refl
-  shape_pushes to locals taken (shapes.Move form) = form_moved (depth_of form) taken (reverse (order_of form))
-  shape_pushes to locals taken (shapes.Two op) = refl
-  shape_pushes to locals taken (shapes.One op) = refl
-  shape_pushes to locals taken (shapes.Increment slot by) = refl
-  shape_pushes to locals taken (shapes.Test relation from) = refl
-  shape_pushes to locals taken (shapes.Compare relation from) = refl
-  shape_pushes to locals taken (shapes.CompareReferences same from) = refl
-  shape_pushes to locals taken (shapes.TestNull null from) = refl
-  shape_pushes to locals taken (shapes.Goto from) = refl
-  shape_pushes to locals taken shapes.Switch = refl
-  shape_pushes to locals taken (shapes.Heap what) = heap_pushes taken what
+  shape_pushes : (to : ℕ → ℕ) (locals taken : List VType) (shape : Shape) → shape_of p.insn ≡ shape → yields_of q (map new locals) (map new taken) (retargeted to shape) ≡ map new (yields_of p locals taken shape)
+  shape_pushes to locals taken shapes.Nothing is = refl
+  shape_pushes to locals taken (shapes.Push n) is = refl
+  shape_pushes to locals taken shapes.PushNull is = refl
+  shape_pushes to locals taken (shapes.Load k slot) is = one _ _ (type_renamed moved locals slot)
+  shape_pushes to locals taken (shapes.Store k slot) is = refl
+  shape_pushes to locals taken (shapes.Move form) is = form_moved (depth_of form) taken (reverse (order_of form))
+  shape_pushes to locals taken (shapes.Two op) is = refl
+  shape_pushes to locals taken (shapes.One op) is = refl
+  shape_pushes to locals taken (shapes.Increment slot by) is = refl
+  shape_pushes to locals taken (shapes.Test relation from) is = refl
+  shape_pushes to locals taken (shapes.Compare relation from) is = refl
+  shape_pushes to locals taken (shapes.CompareReferences same from) is = refl
+  shape_pushes to locals taken (shapes.TestNull null from) is = refl
+  shape_pushes to locals taken (shapes.Goto from) is = refl
+  shape_pushes to locals taken shapes.Switch is = refl
+  shape_pushes to locals taken (shapes.Heap what) is = heap_pushes taken what is
 
   pub pushes : (locals taken : List VType) → yields q (map new locals) (map new taken) ≡ map new (yields p locals taken)
   pushes locals taken =
-      ap (λ (s : Shape). yields_of q (map new locals) (map new taken) s) kept.shape ∙ shape_pushes kept.to locals taken (shape_of p.insn)
+      ap (λ (s : Shape). yields_of q (map new locals) (map new taken) s) kept.shape ∙ shape_pushes kept.to locals taken (shape_of p.insn) refl
 
   -- ---- what is changed
 
@@ -168,9 +168,9 @@ module _ (moved : ℕ → ℕ) (p q : Place) (kept : IsKept moved p q) where
       (ap (λ (o : Option (List ℕ)). option_map_or (λ (class : List ℕ). types.Ref class) o (new t)) (made_same r) ∙ or_itself (class_made p r) t)
       ∙ choice_renamed (is_same_object r t) _ t
 
-  new_renamed : (t : VType) → when_new q.at (new t) ≡ new (when_new p.at t)
-  new_renamed t =
-      ap (λ (i : ℕ). when_new i (new t)) kept.at
+  new_renamed : q.at ≡ moved p.at → (t : VType) → when_new q.at (new t) ≡ new (when_new p.at t)
+  new_renamed at t =
+      ap (λ (i : ℕ). when_new i (new t)) at
       ∙ ap (λ (b : Bool). cond b types.Top (new t)) (same_object (types.Uninit p.at) t)
       ∙ choice_renamed (is_same_object (types.Uninit p.at) t) types.Top t
 
@@ -181,47 +181,47 @@ module _ (moved : ℕ → ℕ) (p q : Place) (kept : IsKept moved p q) where
       (ap (λ (r : VType). when_made q r (new t)) (type_renamed moved taken 0) ∙ made_renamed (type_at taken 0) t)
       ∙ choice_renamed (calls_maker p) _ t
 
-  heap_changes : (taken : List VType) (t : VType) (what : Heap) → changed_by q (map new taken) (shapes.Heap what) (new t) ≡ new (changed_by p taken (shapes.Heap what) t)
-  heap_changes taken t heap.New = new_renamed t
-  heap_changes taken t (heap.Call how) = called_renamed taken t
-  heap_changes taken t heap.Constant = refl
-  heap_changes taken t (heap.ReadItem item) = refl
-  heap_changes taken t (heap.WriteItem item) = refl
-  heap_changes taken t (heap.Divide remainder) = refl
-  heap_changes taken t heap.ReadStatic = refl
-  heap_changes taken t heap.WriteStatic = refl
-  heap_changes taken t heap.ReadField = refl
-  heap_changes taken t heap.WriteField = refl
-  heap_changes taken t (heap.NewArray kind) = refl
-  heap_changes taken t heap.NewArrayOf = refl
-  heap_changes taken t heap.Length = refl
-  heap_changes taken t heap.Throw = refl
-  heap_changes taken t heap.Cast = refl
-  heap_changes taken t heap.IsInstance = refl
-  heap_changes taken t heap.Enter = refl
-  heap_changes taken t heap.Exit = refl
-  heap_changes taken t (heap.Return kind) = refl
+  heap_changes : (taken : List VType) (t : VType) (what : Heap) → shape_of p.insn ≡ shapes.Heap what → changed_by q (map new taken) (shapes.Heap what) (new t) ≡ new (changed_by p taken (shapes.Heap what) t)
+  heap_changes taken t heap.New is = new_renamed (kept.at is) t
+  heap_changes taken t (heap.Call how) is = called_renamed taken t
+  heap_changes taken t heap.Constant is = refl
+  heap_changes taken t (heap.ReadItem item) is = refl
+  heap_changes taken t (heap.WriteItem item) is = refl
+  heap_changes taken t (heap.Divide remainder) is = refl
+  heap_changes taken t heap.ReadStatic is = refl
+  heap_changes taken t heap.WriteStatic is = refl
+  heap_changes taken t heap.ReadField is = refl
+  heap_changes taken t heap.WriteField is = refl
+  heap_changes taken t (heap.NewArray kind) is = refl
+  heap_changes taken t heap.NewArrayOf is = refl
+  heap_changes taken t heap.Length is = refl
+  heap_changes taken t heap.Throw is = refl
+  heap_changes taken t heap.Cast is = refl
+  heap_changes taken t heap.IsInstance is = refl
+  heap_changes taken t heap.Enter is = refl
+  heap_changes taken t heap.Exit is = refl
+  heap_changes taken t (heap.Return kind) is = refl
 
-  shape_changes : (to : ℕ → ℕ) (taken : List VType) (t : VType) (shape : Shape) → changed_by q (map new taken) (retargeted to shape) (new t) ≡ new (changed_by p taken shape t)
-  shape_changes to taken t (shapes.Heap what) = heap_changes taken t what
-  shape_changes to taken t shapes.Nothing = refl
-  shape_changes to taken t (shapes.Push n) = refl
-  shape_changes to taken t shapes.PushNull = refl
-  shape_changes to taken t (shapes.Load k slot) = refl
-  shape_changes to taken t (shapes.Store k slot) = refl
-  shape_changes to taken t (shapes.Move form) = refl
-  shape_changes to taken t (shapes.Two op) = refl
-  shape_changes to taken t (shapes.One op) = refl
-  shape_changes to taken t (shapes.Increment slot by) = refl
-  shape_changes to taken t (shapes.Test relation from) = refl
-  shape_changes to taken t (shapes.Compare relation from) = refl
-  shape_changes to taken t (shapes.CompareReferences same from) = refl
-  shape_changes to taken t (shapes.TestNull null from) = refl
-  shape_changes to taken t (shapes.Goto from) = refl
-  shape_changes to taken t shapes.Switch = refl
+  shape_changes : (to : ℕ → ℕ) (taken : List VType) (t : VType) (shape : Shape) → shape_of p.insn ≡ shape → changed_by q (map new taken) (retargeted to shape) (new t) ≡ new (changed_by p taken shape t)
+  shape_changes to taken t (shapes.Heap what) is = heap_changes taken t what is
+  shape_changes to taken t shapes.Nothing is = refl
+  shape_changes to taken t (shapes.Push n) is = refl
+  shape_changes to taken t shapes.PushNull is = refl
+  shape_changes to taken t (shapes.Load k slot) is = refl
+  shape_changes to taken t (shapes.Store k slot) is = refl
+  shape_changes to taken t (shapes.Move form) is = refl
+  shape_changes to taken t (shapes.Two op) is = refl
+  shape_changes to taken t (shapes.One op) is = refl
+  shape_changes to taken t (shapes.Increment slot by) is = refl
+  shape_changes to taken t (shapes.Test relation from) is = refl
+  shape_changes to taken t (shapes.Compare relation from) is = refl
+  shape_changes to taken t (shapes.CompareReferences same from) is = refl
+  shape_changes to taken t (shapes.TestNull null from) is = refl
+  shape_changes to taken t (shapes.Goto from) is = refl
+  shape_changes to taken t shapes.Switch is = refl
 
   changes : (taken : List VType) (t : VType) → changed q (map new taken) (new t) ≡ new (changed p taken t)
-  changes taken t = ap (λ (s : Shape). changed_by q (map new taken) s (new t)) kept.shape ∙ shape_changes kept.to taken t (shape_of p.insn)
+  changes taken t = ap (λ (s : Shape). changed_by q (map new taken) s (new t)) kept.shape ∙ shape_changes kept.to taken t (shape_of p.insn) refl
 
   all_change : (taken ts : List VType) → map (changed q (map new taken)) (map new ts) ≡ map new (map (changed p taken) ts)
   all_change taken [] = refl

@@ -14,7 +14,7 @@ use Rattle.insn_codec.specs.Control.{jump_targets, successors}
 use Rattle.insn_codec.specs.Shapes.{shape_of, test_shape, comparing_shape, branch_shape}
 use Rattle.bytecode_model.specs.Operands.{index_of}
 use Rattle.offset_patch.specs.Splicing.{aimed}
-use Rattle.cert_maker.proofs.Kept.{retargeted}
+use Rattle.woven_typing.proofs.Kept.{retargeted}
 
 module _ (fronts : List ℕ) where
   pub opcode_stays : (x : Insn) → opcode_of (aimed fronts x) ≡ opcode_of x

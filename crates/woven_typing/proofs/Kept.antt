@@ -7,6 +7,7 @@ use Rattle.mon_base.specs.declared.method.MethodId.{MethodId}
 use Rattle.cert_format.specs.declared.typing.VType.{VType}
 use Rattle.cert_format.specs.declared.typing.VType.TheVariants as types
 use Rattle.insn_codec.specs.Spelling.{opcode_of}
+use Rattle.insn_codec.specs.declared.shape.Heap.TheVariants as heap
 use Rattle.insn_codec.specs.declared.shape.Shape.{Shape}
 use Rattle.insn_codec.specs.declared.shape.Shape.TheVariants as shapes
 use Rattle.insn_codec.specs.Shapes.{shape_of}
@@ -14,7 +15,7 @@ use Rattle.bytecode_model.specs.Assigning.{assignable}
 use Rattle.bytecode_model.specs.Described.{type_described}
 use Rattle.bytecode_model.specs.Makes.{type_at, new_at}
 use Rattle.bytecode_model.specs.Place.{Place, referred, class_referred, name_referred, desc_referred}
-use Rattle.cert_maker.specs.Renaming.{renamed}
+use Rattle.woven_typing.specs.Renaming.{renamed}
 
 -- ---- shapes
 
@@ -29,7 +30,8 @@ retargeted to other = other
 
 -- ---- places
 
--- The one place is that of the instruction of the other, which stands elsewhere in a method with as much room.
+-- The one place is that of the instruction of the other, which stands elsewhere in a method with as much room; a `new` stands where
+-- its index has moved to.
 pub record IsKept (moved : ℕ → ℕ) (p q : Place) : Type 0 where
   pub once : (i j : ℕ) → moved i ≡ moved j → i ≡ j
   pub assigns : (t u : VType) → assignable p.program t u ≡ true → assignable q.program (renamed moved t) (renamed moved u) ≡ true
@@ -42,7 +44,7 @@ pub record IsKept (moved : ℕ → ℕ) (p q : Place) : Type 0 where
   pub stack : p.method.max_stack ≤ q.method.max_stack
   pub locals : p.method.max_locals ≤ q.method.max_locals
   pub news : (i : ℕ) → new_at q.method (moved i) ≡ new_at p.method i
-  pub at : q.at ≡ moved p.at
+  pub at : shape_of p.insn ≡ shapes.Heap heap.New → q.at ≡ moved p.at
   pub opcode : opcode_of q.insn ≡ opcode_of p.insn
   pub to : ℕ → ℕ
   pub shape : shape_of q.insn ≡ retargeted to (shape_of p.insn)

@@ -23,10 +23,10 @@ use Rattle.bytecode_model.specs.Makes.{type_at, class_made, local_after, stack_a
 use Rattle.bytecode_model.specs.Place.{Place, is_maker}
 use Rattle.bytecode_model.specs.Rules.{locals_fit, stack_fits, this_type, arguments_typed, entry_locals, Entry, Depth, taken, Operand, uses_local, Local, has_object, makes_receiver, leaves_made, made_well, Made, goes_well, class_caught, when_thrown, local_caught, is_reference_to, is_alone, catches_well}
 use Rattle.bytecode_model.specs.Wants.{Want, takes, all_met, of_kind, is_result_of, returns_well}
-use Rattle.cert_maker.specs.Renaming.{renamed, frame_renamed}
-use Rattle.cert_maker.proofs.Kept.{IsKept, retargeted, described_all_stay, type_renamed, and_kept}
-use Rattle.cert_maker.proofs.Taking.{WantsKept, wants_met, kind, same_maker, takes_kept}
-use Rattle.cert_maker.proofs.Yielding.{same_object, made_same, local_left, stack_left, topmost_renamed}
+use Rattle.woven_typing.specs.Renaming.{renamed, frame_renamed}
+use Rattle.woven_typing.proofs.Kept.{IsKept, retargeted, described_all_stay, type_renamed, and_kept}
+use Rattle.woven_typing.proofs.Taking.{WantsKept, wants_met, kind, same_maker, takes_kept}
+use Rattle.woven_typing.proofs.Yielding.{same_object, made_same, local_left, stack_left, topmost_renamed}
 
 pub le_more : (a b c : ℕ) → nat_le a b ≡ true → b ≤ c → nat_le a c ≡ true
 le_more a b c e le = grind (arith, nat_tests)
@@ -178,48 +178,48 @@ module _ (moved : ℕ → ℕ) (p q : Place) (kept : IsKept moved p q) where
   leaves_same : (f : FrameType) → leaves_made q (again f) ≡ leaves_made p f
   leaves_same f = rw (same_making, object_same types.UninitThis f.locals, object_same types.UninitThis f.stack) refl
 
-  new_same : (f : FrameType) → has_object (types.Uninit q.at) (map new f.stack) ≡ has_object (types.Uninit p.at) f.stack
-  new_same f = ap (λ (i : ℕ). has_object (types.Uninit i) (map new f.stack)) kept.at ∙ object_same (types.Uninit p.at) f.stack
+  new_same : q.at ≡ moved p.at → (f : FrameType) → has_object (types.Uninit q.at) (map new f.stack) ≡ has_object (types.Uninit p.at) f.stack
+  new_same at f = ap (λ (i : ℕ). has_object (types.Uninit i) (map new f.stack)) at ∙ object_same (types.Uninit p.at) f.stack
 
-  made_shape : (f : FrameType) (to : ℕ → ℕ) (shape : Shape) → made_well q (again f) (retargeted to shape) ≡ made_well p f shape
-  made_shape f to (shapes.Heap (heap.Call how)) = receiver_same how f
-  made_shape f to (shapes.Heap heap.New) = ap not (new_same f)
-  made_shape f to (shapes.Heap (heap.Return None)) = leaves_same f
-  made_shape f to (shapes.Heap (heap.Return (Some k))) = refl
-  made_shape f to (shapes.Heap heap.Constant) = refl
-  made_shape f to (shapes.Heap (heap.ReadItem item)) = refl
-  made_shape f to (shapes.Heap (heap.WriteItem item)) = refl
-  made_shape f to (shapes.Heap (heap.Divide remainder)) = refl
-  made_shape f to (shapes.Heap heap.ReadStatic) = refl
-  made_shape f to (shapes.Heap heap.WriteStatic) = refl
-  made_shape f to (shapes.Heap heap.ReadField) = refl
-  made_shape f to (shapes.Heap heap.WriteField) = refl
-  made_shape f to (shapes.Heap (heap.NewArray k)) = refl
-  made_shape f to (shapes.Heap heap.NewArrayOf) = refl
-  made_shape f to (shapes.Heap heap.Length) = refl
-  made_shape f to (shapes.Heap heap.Throw) = refl
-  made_shape f to (shapes.Heap heap.Cast) = refl
-  made_shape f to (shapes.Heap heap.IsInstance) = refl
-  made_shape f to (shapes.Heap heap.Enter) = refl
-  made_shape f to (shapes.Heap heap.Exit) = refl
-  made_shape f to shapes.Nothing = refl
-  made_shape f to (shapes.Push n) = refl
-  made_shape f to shapes.PushNull = refl
-  made_shape f to (shapes.Load k slot) = refl
-  made_shape f to (shapes.Store k slot) = refl
-  made_shape f to (shapes.Move form) = refl
-  made_shape f to (shapes.Two op) = refl
-  made_shape f to (shapes.One op) = refl
-  made_shape f to (shapes.Increment slot by) = refl
-  made_shape f to (shapes.Test relation from) = refl
-  made_shape f to (shapes.Compare relation from) = refl
-  made_shape f to (shapes.CompareReferences same from) = refl
-  made_shape f to (shapes.TestNull null from) = refl
-  made_shape f to (shapes.Goto from) = refl
-  made_shape f to shapes.Switch = refl
+  made_shape : (f : FrameType) (to : ℕ → ℕ) (shape : Shape) → shape_of p.insn ≡ shape → made_well q (again f) (retargeted to shape) ≡ made_well p f shape
+  made_shape f to (shapes.Heap (heap.Call how)) is = receiver_same how f
+  made_shape f to (shapes.Heap heap.New) is = ap not (new_same (kept.at is) f)
+  made_shape f to (shapes.Heap (heap.Return None)) is = leaves_same f
+  made_shape f to (shapes.Heap (heap.Return (Some k))) is = refl
+  made_shape f to (shapes.Heap heap.Constant) is = refl
+  made_shape f to (shapes.Heap (heap.ReadItem item)) is = refl
+  made_shape f to (shapes.Heap (heap.WriteItem item)) is = refl
+  made_shape f to (shapes.Heap (heap.Divide remainder)) is = refl
+  made_shape f to (shapes.Heap heap.ReadStatic) is = refl
+  made_shape f to (shapes.Heap heap.WriteStatic) is = refl
+  made_shape f to (shapes.Heap heap.ReadField) is = refl
+  made_shape f to (shapes.Heap heap.WriteField) is = refl
+  made_shape f to (shapes.Heap (heap.NewArray k)) is = refl
+  made_shape f to (shapes.Heap heap.NewArrayOf) is = refl
+  made_shape f to (shapes.Heap heap.Length) is = refl
+  made_shape f to (shapes.Heap heap.Throw) is = refl
+  made_shape f to (shapes.Heap heap.Cast) is = refl
+  made_shape f to (shapes.Heap heap.IsInstance) is = refl
+  made_shape f to (shapes.Heap heap.Enter) is = refl
+  made_shape f to (shapes.Heap heap.Exit) is = refl
+  made_shape f to shapes.Nothing is = refl
+  made_shape f to (shapes.Push n) is = refl
+  made_shape f to shapes.PushNull is = refl
+  made_shape f to (shapes.Load k slot) is = refl
+  made_shape f to (shapes.Store k slot) is = refl
+  made_shape f to (shapes.Move form) is = refl
+  made_shape f to (shapes.Two op) is = refl
+  made_shape f to (shapes.One op) is = refl
+  made_shape f to (shapes.Increment slot by) is = refl
+  made_shape f to (shapes.Test relation from) is = refl
+  made_shape f to (shapes.Compare relation from) is = refl
+  made_shape f to (shapes.CompareReferences same from) is = refl
+  made_shape f to (shapes.TestNull null from) is = refl
+  made_shape f to (shapes.Goto from) is = refl
+  made_shape f to shapes.Switch is = refl
 
   pub made_kept : (f : FrameType) → Made q (again f) ≡ Made p f
-  made_kept f = ap (made_well q (again f)) kept.shape ∙ made_shape f kept.to (shape_of p.insn)
+  made_kept f = ap (made_well q (again f)) kept.shape ∙ made_shape f kept.to (shape_of p.insn) refl
 
   -- ---- 6: successors
 

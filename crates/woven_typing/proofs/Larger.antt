@@ -19,8 +19,8 @@ use Rattle.offset_patch.specs.Plan.{Plan}
 use Rattle.bytecode_model.specs.Arrays.{is_array}
 use Rattle.bytecode_model.specs.Assigning.{class_fits, named, reference_of, leaf_fits, component_fits, array_fits, name_fits, assignable}
 use Rattle.class_weaving.specs.Outcome.{Each, IsWovenClass, IsWoven}
-use Rattle.cert_maker.specs.Renaming.{renamed}
-use Rattle.cert_maker.proofs.Kept.{or_kept, and_kept}
+use Rattle.woven_typing.specs.Renaming.{renamed}
+use Rattle.woven_typing.proofs.Kept.{or_kept, and_kept}
 
 -- ---- lists of classes
 

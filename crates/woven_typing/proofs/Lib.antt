@@ -1,0 +1,13 @@
+pub mod Lists
+pub mod Kept
+pub mod Taking
+pub mod Yielding
+pub mod Rows
+pub mod Passing
+pub mod Larger
+pub mod Longer
+pub mod Aiming
+pub mod Parts
+pub mod Unwoven
+pub mod Making
+pub mod Calling

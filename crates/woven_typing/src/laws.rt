@@ -1,0 +1,4 @@
+//! What holds of the types of woven programs.
+
+/// Nothing yet.
+pub fn nothing() {}
