@@ -11,3 +11,7 @@ pub mod Parts
 pub mod Unwoven
 pub mod Making
 pub mod Calling
+pub mod Plans
+pub mod Body
+pub mod News
+pub mod Frames
