@@ -15,3 +15,6 @@ pub mod Plans
 pub mod Body
 pub mod News
 pub mod Frames
+pub mod Fronts
+pub mod Client
+pub mod Handlers

@@ -86,6 +86,32 @@ module _ (policy : Policy) (mode : Mode) where
     some (target.Number n) = omega arith
     some (target.Literal i) = omega arith
 
+  -- What has a block is a call of a method that a clause names.
+  pub record IsBlockOf (base : ℕ) (ref : Target) (block : Block) : Type 0 where
+    pub callee : ℕ
+    pub names : ref ≡ target.ApiMethod callee
+    pub has : has_clauses policy callee ≡ true
+    pub is : block ≡ block_with mode (bools_of policy) base (clauses_of policy callee)
+
+  pub site_back : (base : ℕ) (ref : Target) (block : Block) → site policy mode base ref ≡ Some block → IsBlockOf base ref block
+  site_back base (target.ApiMethod callee) block e = by (has_clauses policy callee) refl e
+    where
+      by : (b : Bool) → has_clauses policy callee ≡ b
+          → cond b (Some (block_with mode (bools_of policy) base (clauses_of policy callee))) None ≡ Some block
+          → IsBlockOf base (target.ApiMethod callee) block
+      by true has e =
+          let same : block ≡ block_with mode (bools_of policy) base (clauses_of policy callee) = cc in
+          record { callee = callee; names = refl; has = has; is = same }
+      by false has e = absurd cc
+  site_back base target.None block e = absurd cc
+  site_back base (target.Builtin i) block e = absurd cc
+  site_back base (target.Method c m) block e = absurd cc
+  site_back base (target.Field c f) block e = absurd cc
+  site_back base (target.ApiField i) block e = absurd cc
+  site_back base (target.ClassName name) block e = absurd cc
+  site_back base (target.Number n) block e = absurd cc
+  site_back base (target.Literal i) block e = absurd cc
+
   -- ---- locals
 
   max_left : (a b : ℕ) → a ≤ max a b
