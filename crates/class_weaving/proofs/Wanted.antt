@@ -158,6 +158,12 @@ reference_told pool i owner name desc h =
     ap (reference_of pool) h.there ∙ ap (λ (o : Option (List ℕ)). member_id o (name_and_type_at pool h.member_at)) (class_told pool h.class_at owner h.class)
     ∙ ap (member_id (Some owner)) (member_told pool h.member_at name desc h.member)
 
+pub field_told : (pool : List Const) (i : ℕ) (owner name desc : List ℕ) → IsOf constants.Field pool i owner name desc → reference_at pool i ≡ Some (record { class = owner; name = name; desc = desc })
+unfolding reference_at
+field_told pool i owner name desc h =
+    ap (reference_of pool) h.there ∙ ap (λ (o : Option (List ℕ)). member_id o (name_and_type_at pool h.member_at)) (class_told pool h.class_at owner h.class)
+    ∙ ap (member_id (Some owner)) (member_told pool h.member_at name desc h.member)
+
 -- ---- the entries that blocks name
 
 pub state_there : (pool : List Const) → IsThere pool wants.StateClass → IsClass pool (place_in pool wants.StateClass) state_name

@@ -18,3 +18,6 @@ pub mod Frames
 pub mod Fronts
 pub mod Client
 pub mod Handlers
+pub mod Behind
+pub mod Telling
+pub mod Called
