@@ -21,3 +21,7 @@ pub mod Handlers
 pub mod Behind
 pub mod Telling
 pub mod Called
+pub mod Leaving
+pub mod Standing
+pub mod Blocks
+pub mod BlockRows
