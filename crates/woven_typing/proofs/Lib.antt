@@ -25,3 +25,4 @@ pub mod Leaving
 pub mod Standing
 pub mod Blocks
 pub mod BlockRows
+pub mod Whole
