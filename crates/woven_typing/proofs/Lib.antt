@@ -26,3 +26,5 @@ pub mod Standing
 pub mod Blocks
 pub mod BlockRows
 pub mod Whole
+pub mod Programs
+pub mod WovenTyped
