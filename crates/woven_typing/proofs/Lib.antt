@@ -28,3 +28,4 @@ pub mod BlockRows
 pub mod Whole
 pub mod Programs
 pub mod WovenTyped
+pub mod Policies
