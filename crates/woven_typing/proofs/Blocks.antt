@@ -54,7 +54,7 @@ use Rattle.block_template.proofs.ItemsTyped.{clauses_are_asked, items_are_typed}
 use Rattle.block_template.proofs.Reaching.{blocks_are_reached}
 use Rattle.woven_typing.specs.Framing.{around_of, items_of}
 use Rattle.woven_typing.proofs.Aiming.{opcode_stays}
-use Rattle.woven_typing.proofs.Behind.{type_behind}
+use Rattle.woven_typing.proofs.CallTypes.{type_behind}
 use Rattle.woven_typing.proofs.Body as of
 use Rattle.woven_typing.proofs.Called.{CallAt, around, calls, clauses, fits, is_call as called_there, kept, listed, p, q, ref, room, shape_there}
 use Rattle.woven_typing.proofs.Calling.{all, call_item, count_is, each_item, index}

@@ -34,7 +34,7 @@ use Rattle.woven_typing.specs.Behind.{call_operands, count_taken, stack_behind, 
 use Rattle.woven_typing.specs.Framing.{around_of}
 use Rattle.woven_typing.specs.Renaming.{renamed}
 use Rattle.woven_typing.specs.Telling.{AreOfKinds, IsOfResult, TellsOf}
-use Rattle.woven_typing.proofs.Behind as behind
+use Rattle.woven_typing.proofs.CallTypes as behind
 use Rattle.woven_typing.proofs.Body as of
 use Rattle.woven_typing.proofs.Client.{Typed, again, aim, b, here, kept_at, moved, old}
 use Rattle.woven_typing.proofs.Kept.{IsKept, retargeted, same_desc, type_renamed}

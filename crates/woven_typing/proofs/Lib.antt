@@ -18,7 +18,7 @@ pub mod Frames
 pub mod Fronts
 pub mod Client
 pub mod Handlers
-pub mod Behind
+pub mod CallTypes
 pub mod Telling
 pub mod Called
 pub mod Leaving

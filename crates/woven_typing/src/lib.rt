@@ -5,7 +5,11 @@
 //! modes.
 #![tactic(auto)]
 
+mod behind;
+mod framing;
 mod laws;
+mod renaming;
+mod roles;
 
 pub use laws::{
     blocks_are_told, clients_are_told, items_are_reached, listings_know_throwable, policies_tell,
