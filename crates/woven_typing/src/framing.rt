@@ -162,7 +162,8 @@ ghost use Rattle.woven_typing.specs.Framing.{Client as Told};
 }
 
 impl<'a> Client<'a> {
-    fn new(
+    /// The method, with where its instructions stand.
+    pub fn new(
         alloc: Global,
         program: &'a Program,
         policy: &'a Policy,
@@ -348,4 +349,55 @@ fn put_insn(
         }
         _ => put_alone(alloc, out, client, kept),
     }
+}
+
+// ---- a method
+
+/// The frames of these instructions, from the index 0 on.
+fn parts_framed(
+    alloc: Global,
+    client: &Client,
+    insns: &[Insn],
+    refs: &[Target],
+    frames: &[Option<FrameType>],
+) -> Result<Frames, NoMemory>
+    ensures { IfOk result (λ made. made ≡ parts_framed client.now 0 insns.now refs.now frames.now) }
+{
+    let mut out = List::new(alloc);
+    let mut at: u32 = 0;
+    let mut insns = insns;
+    let mut refs = refs;
+    let mut frames = frames;
+    while let [insn, later @ ..] = insns {
+        let [target, others @ ..] = refs else {
+            return Ok(out);
+        };
+        let [frame, rest @ ..] = frames else {
+            return Ok(out);
+        };
+        put_insn(alloc, &mut out, client, at, insn, target, frame)?;
+        at = sum(at, 1)?;
+        insns = later;
+        refs = others;
+        frames = rest;
+    }
+    Ok(out)
+}
+
+/// The frames of the method with its blocks, where these are its own.
+pub fn frames_woven(
+    alloc: Global,
+    client: &Client,
+    frames: &[Option<FrameType>],
+) -> Result<Frames, NoMemory>
+    ensures { IfOk result (λ made. made ≡ frames_woven client.now frames.now) }
+{
+    let method = client.method;
+    parts_framed(
+        alloc,
+        client,
+        method.insns.as_slice(),
+        method.refs.as_slice(),
+        frames,
+    )
 }

@@ -10,8 +10,10 @@ mod framing;
 mod laws;
 mod renaming;
 mod roles;
+mod typing;
 
 pub use laws::{
     blocks_are_told, clients_are_told, items_are_reached, listings_know_throwable, policies_tell,
     woven_is_typed,
 };
+pub use typing::typing_of;
