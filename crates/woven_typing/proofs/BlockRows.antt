@@ -1,19 +1,18 @@
 -- The rows of a block.
-use Rattle.std.proofs.Common.{◌≡◌, ◌≢◌, ℕ, zero, suc, ◌+◌, ◌<◌, ◌≤◌, Bool, true, false, cond, List, [], ◌∷◌, length, map, Option, Some, None, refl, sym, ap, subst, ◌∙◌, inl, inr, arith}
-use Rattle.std.specs.Prelude.{◌⊎◌, IfSome, ◌&&◌, ◌==◌, nat_lt, slice_get}
+use Rattle.std.proofs.Common.{◌≡◌, ◌≢◌, ℕ, ◌+◌, ◌<◌, ◌≤◌, Bool, true, false, cond, length, Option, Some, None, refl, sym, ap, subst, ◌∙◌, inl, inr, arith}
+use Rattle.std.specs.Prelude.{◌⊎◌, IfSome, ◌==◌, nat_lt, slice_get}
 use Rattle.std.specs.List.{list_all}
 use Rattle.std.specs.Option.{option_map_or}
 use Rattle.std.proofs.lemmas.Bool.{cases_Bool, and_from, eqb-true, false≢true, ltb-true, ne_eqb}
 use Rattle.std.proofs.lemmas.Bool.Decides.{nat_tests}
-use Rattle.std.proofs.lemmas.Option.{IfSome_then, slice_get_past, slice_get_within}
+use Rattle.std.proofs.lemmas.Option.{slice_get_past, slice_get_within}
 use Rattle.cert_format.specs.declared.typing.FrameType.{FrameType}
 use Rattle.insn_codec.specs.declared.insn.Insn.{Insn}
-use Rattle.insn_codec.specs.Control.{successors}
 use Rattle.bytecode_model.specs.declared.program.Handler.{Handler}
 use Rattle.bytecode_model.specs.declared.program.Target.{Target}
 use Rattle.bytecode_model.specs.declared.program.Target.TheVariants as target
 use Rattle.bytecode_model.specs.Place.{Place}
-use Rattle.bytecode_model.specs.Rules.{Caught, Depth, Entry, Local, Made, Operand, Successor, catches_well, frame_of, goes_well, row_failing}
+use Rattle.bytecode_model.specs.Rules.{Caught, Entry, catches_well, frame_of, goes_well}
 use Rattle.bytecode_model.specs.Typed.{row_in}
 use Rattle.bytecode_model.proofs.Lists.{some_is}
 use Rattle.conspec_automaton.specs.Next.{has_clauses}
@@ -24,9 +23,9 @@ use Rattle.offset_patch.specs.Splicing.{is_call, put}
 use Rattle.block_template.specs.declared.item.Item.{Item}
 use Rattle.block_template.specs.declared.item.Role.{Role}
 use Rattle.block_template.specs.declared.item.Role.TheVariants as roles
-use Rattle.block_template.specs.Blocks.{Clauses, clauses_of, handler_at, is_locked, lets_pass}
+use Rattle.block_template.specs.Blocks.{clauses_of, handler_at, is_locked, lets_pass}
 use Rattle.block_template.specs.Flow.{entered, jump_of, may_pass, returned, role_at, thrown}
-use Rattle.block_template.specs.Frames.{Around, frame_at}
+use Rattle.block_template.specs.Frames.{frame_at}
 use Rattle.block_template.specs.Reached.{IsReached}
 use Rattle.block_template.specs.Typed.{CallIsTyped, GoesTo, ItemIsTyped}
 use Rattle.block_template.proofs.BlockFlows.{blocks_flow}
@@ -38,8 +37,8 @@ use Rattle.woven_typing.proofs.Aiming.{opcode_stays}
 use Rattle.woven_typing.proofs.Blocks.{arrives, bools, client_caught, frame_role, frame_there, goes_from, is_insn, items, mode, near, part_long, phases, reached_to, start, thrown_not, told}
 use Rattle.woven_typing.proofs.Body as of
 use Rattle.woven_typing.proofs.Called.{CallAt, calls, fits, is_call as called_there, kept, listed, p, q, ref, room, shape_there}
-use Rattle.woven_typing.proofs.Calling.{call_item, call_there, count_is, each_item, index}
-use Rattle.woven_typing.proofs.Client.{Typed, again, aim, b, entry_there, here, moved, row_here, woven}
+use Rattle.woven_typing.proofs.Calling.{call_item, call_there, each_item, index}
+use Rattle.woven_typing.proofs.Client.{Typed, again, aim, b, entry_there, moved, row_here, woven}
 use Rattle.woven_typing.proofs.Fronts.{IsFrontOf, entered_is}
 use Rattle.woven_typing.proofs.Handlers.{Throws, all_caught}
 use Rattle.woven_typing.proofs.Leaving.{goes_next}

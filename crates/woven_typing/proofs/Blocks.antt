@@ -1,9 +1,9 @@
 -- Each instruction of a block meets the rules in the woven method.
-use Rattle.std.proofs.Common.{◌≡◌, ◌≢◌, ℕ, zero, suc, ◌+◌, ◌<◌, ◌≤◌, Bool, true, false, cond, List, [], ◌∷◌, ◌++◌, length, map, Option, Some, None, is_some, refl, sym, ap, subst, ◌∙◌, inl, inr, arith}
-use Rattle.std.specs.Prelude.{◌⊎◌, IfSome, ◌&&◌, ◌==◌, not, nat_lt, option_and_then, slice_get}
+use Rattle.std.proofs.Common.{◌≡◌, ◌≢◌, ℕ, ◌+◌, ◌<◌, ◌≤◌, Bool, true, false, cond, List, [], ◌∷◌, ◌++◌, length, Option, Some, None, is_some, refl, sym, ap, subst, ◌∙◌, inl, inr, arith}
+use Rattle.std.specs.Prelude.{IfSome, ◌==◌, not, nat_lt, option_and_then, slice_get}
 use Rattle.std.specs.List.{list_all}
 use Rattle.std.specs.Option.{option_map_or}
-use Rattle.std.proofs.lemmas.Bool.{cases_Bool, and_from, and_parts, eqb-true, false≢true, ltb-true, ne_eqb}
+use Rattle.std.proofs.lemmas.Bool.{cases_Bool, and_from, and_parts, eqb-true, false≢true, ltb-true}
 use Rattle.std.proofs.lemmas.Bool.Decides.{nat_tests}
 use Rattle.std.proofs.lemmas.Option.{slice_get_past, slice_get_within}
 use Rattle.cert_format.specs.declared.certificate.Mode.{Mode}
@@ -15,19 +15,15 @@ use Rattle.class_codec.specs.declared.tree.Const.{Const}
 use Rattle.insn_codec.specs.declared.insn.Insn.{Insn}
 use Rattle.insn_codec.specs.declared.opcodes.TheConstants.{ATHROW, GOTO}
 use Rattle.insn_codec.specs.declared.shape.Shape.{Shape}
-use Rattle.insn_codec.specs.Control.{jump_targets, successors}
+use Rattle.insn_codec.specs.Control.{successors}
 use Rattle.insn_codec.specs.Fits.{IsInsn}
 use Rattle.insn_codec.specs.Opcodes.{goes_on, opcode_at}
-use Rattle.insn_codec.specs.Shapes.{shape_of}
-use Rattle.bytecode_model.specs.declared.program.Handler.{Handler}
 use Rattle.bytecode_model.specs.declared.program.Program.{Program}
 use Rattle.bytecode_model.specs.declared.program.Target.{Target}
-use Rattle.bytecode_model.specs.declared.program.Target.TheVariants as target
 use Rattle.bytecode_model.specs.Assigning.{assignable}
 use Rattle.bytecode_model.specs.Makes.{changed_by, local_after, stack_after, stores, type_at, when_made}
 use Rattle.bytecode_model.specs.Place.{Place, calls_maker}
-use Rattle.bytecode_model.specs.Rules.{Depth, Entry, Local, Made, Operand, Successor, catches_well, frame_of, goes_well, local_caught, locals_fit, stack_fits, taken, when_thrown}
-use Rattle.bytecode_model.specs.Typed.{row_in}
+use Rattle.bytecode_model.specs.Rules.{frame_of, goes_well, local_caught, locals_fit, stack_fits, taken, when_thrown}
 use Rattle.bytecode_model.specs.Wants.{takes}
 use Rattle.bytecode_model.proofs.Lists.{all_get, some_is}
 use Rattle.conspec_tree.specs.declared.types.Atom.{Atom}
@@ -38,36 +34,27 @@ use Rattle.conspec_automaton.specs.declared.policy.Branch.{Branch}
 use Rattle.conspec_automaton.specs.declared.policy.Clause.{Clause}
 use Rattle.offset_patch.specs.declared.block.BlockInsn.{BlockInsn}
 use Rattle.offset_patch.specs.declared.block.BlockInsn.TheVariants.{Plain, Byte, Short, Local as InLocal, Want, Jump, Call}
-use Rattle.offset_patch.specs.Fits.{JumpsWithin}
 use Rattle.offset_patch.specs.Splicing.{is_call, put}
 use Rattle.block_template.specs.declared.item.Item.{Item}
 use Rattle.block_template.specs.declared.item.Role.{Role}
 use Rattle.block_template.specs.declared.item.Role.TheVariants as roles
-use Rattle.block_template.specs.Blocks.{Clauses, bools_of, clauses_of, handler_at, is_locked, lets_pass}
-use Rattle.block_template.specs.Flow.{AreForPhases, entered, held, jump_of, made, may_pass, returned, role_at, thrown, tries}
+use Rattle.block_template.specs.Blocks.{Clauses, bools_of}
+use Rattle.block_template.specs.Flow.{AreForPhases, held, jump_of, made, may_pass, role_at, thrown, tries}
 use Rattle.block_template.specs.Frames.{Around, frame, frame_at, padded}
 use Rattle.block_template.specs.Reached.{IsReached}
-use Rattle.block_template.specs.Typed.{CallIsTyped, GoesTo, ItemIsTyped, client_locals, phase_locals}
-use Rattle.block_template.proofs.BlockFlows.{blocks_flow}
-use Rattle.block_template.proofs.CatchesTyped.{calls_are_typed, catches_are_typed}
-use Rattle.block_template.proofs.ItemsTyped.{clauses_are_asked, items_are_typed}
-use Rattle.block_template.proofs.Reaching.{blocks_are_reached}
+use Rattle.block_template.specs.Typed.{GoesTo, client_locals, phase_locals}
+use Rattle.block_template.proofs.CatchesTyped.{catches_are_typed}
+use Rattle.block_template.proofs.ItemsTyped.{clauses_are_asked}
 use Rattle.woven_typing.specs.Framing.{around_of, items_of}
-use Rattle.woven_typing.proofs.Aiming.{opcode_stays}
-use Rattle.woven_typing.proofs.CallTypes.{type_behind}
 use Rattle.woven_typing.proofs.Body as of
-use Rattle.woven_typing.proofs.Called.{CallAt, around, calls, clauses, fits, is_call as called_there, kept, listed, p, q, ref, room, shape_there}
-use Rattle.woven_typing.proofs.Calling.{all, call_item, count_is, each_item, index}
-use Rattle.woven_typing.proofs.Client.{Typed, again, aim, b, entry_there, frame_front, front_moved, here, low_is, low_next, moved, old, woven}
+use Rattle.woven_typing.proofs.Called.{CallAt, around, calls, clauses, is_call as called_there, kept, listed, p, q, ref, shape_there}
+use Rattle.woven_typing.proofs.Client.{Typed, again, b, frame_front, front_moved, here, low_is, low_next, moved, woven}
 use Rattle.woven_typing.proofs.Frames as frames
-use Rattle.woven_typing.proofs.Fronts.{IsFrontOf, entered_is, goes_front}
-use Rattle.woven_typing.proofs.Handlers.{all_caught}
+use Rattle.woven_typing.proofs.Fronts.{goes_front}
 use Rattle.woven_typing.proofs.Leaving.{goes_next, goes_out, locals_through}
 use Rattle.woven_typing.proofs.Lists.{slice_there}
-use Rattle.woven_typing.proofs.Passing.{Passes}
-use Rattle.woven_typing.proofs.Plans.{part_item, part_length}
-use Rattle.woven_typing.proofs.Rows.{depth_kept, goes_kept, made_kept, operand_kept}
-use Rattle.woven_typing.proofs.Standing.{spot, stands}
+use Rattle.woven_typing.proofs.Plans.{part_length}
+use Rattle.woven_typing.proofs.Rows.{goes_kept}
 
 -- ---- where control goes from an instruction of a block
 

@@ -1,5 +1,5 @@
 -- The types behind a call are those that the rules tell.
-use Rattle.std.proofs.Common.{◌≡◌, ℕ, zero, suc, ◌+◌, Bool, true, false, cond, List, [], ◌∷◌, ◌++◌, length, map, Option, Some, None, refl, sym, ap, ◌∙◌, arith}
+use Rattle.std.proofs.Common.{◌≡◌, ℕ, ◌+◌, Bool, true, false, cond, List, ◌∷◌, ◌++◌, length, map, Option, Some, None, refl, sym, ap, ◌∙◌, arith}
 use Rattle.std.specs.Prelude.{option_map, slice_get}
 use Rattle.std.specs.Option.{option_map_or}
 use Rattle.std.proofs.lemmas.List.{length-map}
@@ -16,8 +16,8 @@ use Rattle.bytecode_model.specs.Described.{arguments}
 use Rattle.bytecode_model.specs.Makes.{below, changed_by, class_made, is_same_object, local_after, stack_after, stores, topmost, type_at, when_called, when_made, yields_of}
 use Rattle.bytecode_model.specs.Place.{Place, calls_maker, desc_referred, has_receiver}
 use Rattle.bytecode_model.specs.Rules.{taken}
-use Rattle.bytecode_model.specs.Wants.{Want, call_takes, takes, takes_of, to_arguments, to_described, to_receiver}
-use Rattle.woven_typing.specs.Behind.{arguments_count, call_operands, count_called, count_of, count_taken, given, stack_behind, types_behind}
+use Rattle.bytecode_model.specs.Wants.{call_takes, takes, takes_of, to_arguments, to_described, to_receiver}
+use Rattle.woven_typing.specs.Behind.{arguments_count, call_operands, count_of, count_taken, given, stack_behind, types_behind}
 
 module _ (place : Place) (how : How) (calls : shape_of place.insn ≡ shapes.Heap (heap.Call how)) where
   pub takes_call : takes place ≡ call_takes place how

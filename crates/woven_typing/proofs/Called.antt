@@ -1,6 +1,6 @@
 -- The types around a call with a block, and the room that its method has.
-use Rattle.std.proofs.Common.{◌≡◌, ℕ, zero, suc, ◌+◌, ◌-◌, ◌<◌, ◌≤◌, Bool, true, false, cond, List, [], ◌∷◌, ◌++◌, length, map, drop, Option, Some, None, refl, sym, ap, subst, ◌∙◌, arith, length-append}
-use Rattle.std.specs.Prelude.{IfSome, ◌&&◌, nat_le, option_and_then, slice_get}
+use Rattle.std.proofs.Common.{◌≡◌, ℕ, zero, suc, ◌+◌, ◌-◌, ◌≤◌, true, List, [], ◌∷◌, length, map, drop, Option, Some, None, refl, sym, ap, subst, ◌∙◌, arith}
+use Rattle.std.specs.Prelude.{IfSome, nat_le, option_and_then, slice_get}
 use Rattle.std.specs.Option.{option_map_or}
 use Rattle.std.proofs.lemmas.Bool.{and_parts, leb-true}
 use Rattle.std.proofs.lemmas.List.{length-map}
@@ -8,17 +8,16 @@ use Rattle.cert_format.specs.declared.typing.FrameType.{FrameType}
 use Rattle.cert_format.specs.declared.typing.VType.{VType}
 use Rattle.insn_codec.specs.declared.insn.Insn.{Insn}
 use Rattle.insn_codec.specs.declared.shape.Heap.TheVariants as heap
-use Rattle.insn_codec.specs.declared.shape.How.{How}
 use Rattle.insn_codec.specs.declared.shape.Shape.{Shape}
 use Rattle.insn_codec.specs.declared.shape.Shape.TheVariants as shapes
 use Rattle.insn_codec.specs.Shapes.{shape_of}
 use Rattle.bytecode_model.specs.declared.program.Target.{Target}
 use Rattle.bytecode_model.specs.declared.program.Target.TheVariants as target
 use Rattle.bytecode_model.specs.Described.{arguments}
-use Rattle.bytecode_model.specs.Makes.{below, local_after, stack_after, topmost, type_at, when_called}
+use Rattle.bytecode_model.specs.Makes.{below, local_after, stack_after, topmost, when_called}
 use Rattle.bytecode_model.specs.Named.{IsListedCall}
 use Rattle.bytecode_model.specs.Place.{Place, desc_referred, has_receiver}
-use Rattle.bytecode_model.specs.Rules.{Frames, taken, uses_local}
+use Rattle.bytecode_model.specs.Rules.{taken}
 use Rattle.bytecode_model.specs.Wants.{all_met, returns_well, takes, to_receiver}
 use Rattle.conspec_tree.specs.declared.types.Kind.{Kind}
 use Rattle.conspec_tree.specs.declared.types.Phase.TheVariants.{After, Before}
@@ -26,8 +25,7 @@ use Rattle.conspec_automaton.specs.declared.policy.Clause.{Clause}
 use Rattle.conspec_automaton.specs.Next.{has_clauses}
 use Rattle.offset_patch.specs.Splicing.{operands_needed}
 use Rattle.block_template.specs.Blocks.{Clauses, clauses_of}
-use Rattle.block_template.specs.Flow.{result_in}
-use Rattle.block_template.specs.Frames.{Around, argument_kinds, kept_types}
+use Rattle.block_template.specs.Frames.{Around}
 use Rattle.block_template.specs.Typed.{FitsAround, HasRoom, IsCallOf, holds}
 use Rattle.block_template.proofs.ItemsTyped.{clauses_are_asked}
 use Rattle.woven_typing.specs.Behind.{call_operands, count_taken, stack_behind, types_behind}

@@ -1,13 +1,12 @@
 -- Where the call stands in the block of a call, and what is true of each other instruction of it.
-use Rattle.std.proofs.Common.{◌≡◌, ℕ, zero, suc, ◌+◌, ◌<◌, ◌≤◌, ℤ, pos, Bool, true, false, cond, List, [], ◌∷◌, ◌++◌, length, map, Option, Some, None, refl, sym, ap, subst, ◌∙◌, inl, inr, arith, length-append}
+use Rattle.std.proofs.Common.{◌≡◌, ℕ, ◌+◌, ◌<◌, ◌≤◌, ℤ, pos, Bool, true, false, cond, List, [], ◌∷◌, ◌++◌, length, map, Option, Some, None, refl, sym, ap, ◌∙◌, arith, length-append}
 use Rattle.std.specs.Prelude.{◌⊎◌, ◌&&◌, IfSome, neg_ℤ, int_le, nat_lt, nat_le, slice_get, ⊤}
-
 use Rattle.std.specs.Ordering.{int_eq}
 use Rattle.std.specs.List.{AllByRecursion}
-use Rattle.std.proofs.lemmas.List.{length-map, map-append}
+use Rattle.std.proofs.lemmas.List.{map-append}
 use Rattle.class_codec.specs.declared.tree.Const.{Const}
 use Rattle.insn_codec.specs.declared.insn.Insn.{Insn}
-use Rattle.insn_codec.specs.declared.opcodes.TheConstants.{ILOAD, ALOAD, ILOAD_0, ALOAD_0, ISTORE, ASTORE, ISTORE_0, ASTORE_0, GOTO, PUTSTATIC, GETSTATIC, INVOKESTATIC, LDC_W}
+use Rattle.insn_codec.specs.declared.opcodes.TheConstants.{ILOAD, ALOAD, ILOAD_0, ALOAD_0, ISTORE, ASTORE, ISTORE_0, ASTORE_0, PUTSTATIC, GETSTATIC, INVOKESTATIC, LDC_W}
 use Rattle.insn_codec.specs.Shapes.{shape_of}
 use Rattle.bytecode_model.specs.declared.program.Target.{Target}
 use Rattle.bytecode_model.specs.Makes.{made_by}
@@ -29,7 +28,7 @@ use Rattle.offset_patch.specs.Splicing.{call_place, is_call, put}
 use Rattle.offset_patch.proofs.Calling.{place_here, place_later}
 use Rattle.block_template.specs.declared.item.Item.{Item}
 use Rattle.block_template.specs.declared.item.Role.TheVariants as roles
-use Rattle.block_template.specs.Blocks.{Clauses, call, called, from_call, front, is_locked, items, lets_pass}
+use Rattle.block_template.specs.Blocks.{Clauses, call, front, is_locked, items, lets_pass}
 use Rattle.block_template.specs.Parts.{if_reached, item, unreached}
 use Rattle.block_template.specs.Pushing.{field, load, local, push, push_base, store}
 use Rattle.block_template.proofs.Rows.{Rows, Tried, front_each, rest_each}

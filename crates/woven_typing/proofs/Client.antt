@@ -1,12 +1,10 @@
 -- The places of a woven method, the frames at their fronts, and the rows of the client's instructions without a block.
-use Rattle.std.proofs.Common.{◌≡◌, ℕ, zero, suc, ◌+◌, ◌<◌, ◌≤◌, Bool, true, false, cond, List, [], ◌∷◌, ◌++◌, length, map, Option, Some, None, refl, sym, ap, subst, ◌∙◌, inl, inr, arith}
-use Rattle.std.specs.Prelude.{◌⊎◌, ◌&&◌, ◌||◌, ◌==◌, not, nat_lt, nat_le, slice_get, slice_index, option_map, option_and_then}
+use Rattle.std.proofs.Common.{◌≡◌, ℕ, suc, ◌+◌, ◌<◌, ◌≤◌, Bool, true, false, cond, List, [], ◌∷◌, length, map, Option, Some, None, refl, sym, ap, ◌∙◌, inl, inr, arith}
+use Rattle.std.specs.Prelude.{◌==◌, nat_le, slice_get, option_map, option_and_then}
 use Rattle.std.specs.List.{list_all}
 use Rattle.std.specs.Option.{option_map_or}
-use Rattle.std.proofs.lemmas.Bool.{cases_Bool, ltb-true, leb-true, le-leb, eqb-true, and_from, and_parts}
-use Rattle.std.proofs.lemmas.Bool.Decides.{nat_tests}
+use Rattle.std.proofs.lemmas.Bool.{cases_Bool, leb-true, le-leb, eqb-true, and_parts}
 use Rattle.std.proofs.lemmas.Option.{slice_get_within}
-use Rattle.api_listing.specs.BuiltIn.{throwable}
 use Rattle.class_codec.specs.Pool.{reference_at}
 use Rattle.cert_format.specs.declared.typing.FrameType.{FrameType}
 use Rattle.cert_format.specs.declared.typing.VType.{VType}
@@ -16,15 +14,12 @@ use Rattle.insn_codec.specs.declared.shape.Shape.TheVariants as shapes
 use Rattle.insn_codec.specs.Fits.{AimsWithin}
 use Rattle.insn_codec.specs.Control.{successors}
 use Rattle.insn_codec.specs.Shapes.{shape_of}
-use Rattle.bytecode_model.specs.declared.program.Handler.{Handler}
 use Rattle.bytecode_model.specs.declared.program.Program.{Program}
 use Rattle.bytecode_model.specs.declared.program.Target.{Target}
 use Rattle.bytecode_model.specs.declared.program.Target.TheVariants as target
-use Rattle.bytecode_model.specs.Classes.{is_below}
-use Rattle.bytecode_model.specs.Sound.{IsWithin}
 use Rattle.bytecode_model.specs.Makes.{stack_after}
 use Rattle.bytecode_model.specs.Place.{Place, target_or_none}
-use Rattle.bytecode_model.specs.Rules.{Caught, Entry, Frames, Successor, catches_well, class_caught, covers, frame_of, goes_well, is_alone, is_handled, local_caught, locals_fit, row_failing, stack_fits}
+use Rattle.bytecode_model.specs.Rules.{Entry, Frames, Successor, frame_of, goes_well, is_alone, row_failing, stack_fits}
 use Rattle.bytecode_model.specs.Typed.{row_in, place_at}
 use Rattle.bytecode_model.specs.Wants.{takes}
 use Rattle.bytecode_model.proofs.Lists.{all_get}
@@ -33,26 +28,24 @@ use Rattle.offset_patch.specs.Splicing.{aimed}
 use Rattle.block_template.specs.declared.item.Item.{Item}
 use Rattle.block_template.specs.declared.item.Role.TheVariants as roles
 use Rattle.block_template.specs.Blocks.{bools_of, clauses_of, has_block}
-use Rattle.block_template.specs.Flow.{entered, role_at}
+use Rattle.block_template.specs.Flow.{entered}
 use Rattle.block_template.specs.Frames.{Around, frame_at}
 use Rattle.block_template.proofs.BlockFlows.{blocks_flow}
 use Rattle.block_template.proofs.ItemsTyped.{clauses_are_asked}
-use Rattle.class_weaving.specs.Outcome.{at_fronts}
 use Rattle.woven_typing.specs.Framing.{around_of, frames_woven, items_of, low, place_of}
-use Rattle.woven_typing.specs.Renaming.{renamed, frame_renamed}
+use Rattle.woven_typing.specs.Renaming.{frame_renamed}
 use Rattle.woven_typing.proofs.Aiming.{has_shape, opcode_stays, index_stays, successors_moved}
 use Rattle.woven_typing.proofs.Body as of
 use Rattle.woven_typing.proofs.Body.{Body}
 use Rattle.woven_typing.proofs.Calling.{count_is}
 use Rattle.woven_typing.proofs.Frames as frames
-use Rattle.woven_typing.proofs.Fronts.{IsFrontOf, catches_front, entered_is, entry_front, front_itself, goes_front}
+use Rattle.woven_typing.proofs.Fronts.{IsFrontOf, entered_is, entry_front, front_itself, goes_front}
 use Rattle.woven_typing.proofs.Kept.{IsKept, and_kept}
-use Rattle.woven_typing.proofs.Larger.{assigns_kept, below_kept}
+use Rattle.woven_typing.proofs.Larger.{assigns_kept}
 use Rattle.woven_typing.proofs.Lists.{slice_there, frame_is}
 use Rattle.woven_typing.proofs.News.{news}
-use Rattle.woven_typing.proofs.Parts as parts
 use Rattle.woven_typing.proofs.Passing.{Passes, passes}
-use Rattle.woven_typing.proofs.Rows.{catches_kept, entry_kept, goes_kept, le_more}
+use Rattle.woven_typing.proofs.Rows.{entry_kept, goes_kept}
 
 -- ---- lists and tests
 

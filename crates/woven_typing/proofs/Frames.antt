@@ -1,8 +1,7 @@
 -- The frames of a woven method, where they stand.
-use Rattle.std.proofs.Common.{◌≡◌, ℕ, zero, suc, ◌+◌, ◌<◌, ◌≤◌, Bool, true, false, cond, List, [], ◌∷◌, ◌++◌, length, map, Option, Some, None, refl, sym, ap, ◌∙◌, arith, length-append}
-use Rattle.std.specs.Prelude.{nat_le, option_and_then, option_map, slice_get}
+use Rattle.std.proofs.Common.{◌≡◌, ℕ, zero, suc, ◌+◌, ◌<◌, Bool, true, false, cond, List, [], ◌∷◌, length, Option, Some, None, refl, sym, ap, ◌∙◌, arith, length-append}
+use Rattle.std.specs.Prelude.{option_map, slice_get}
 use Rattle.std.specs.Option.{option_map_or}
-use Rattle.std.proofs.lemmas.Bool.{le-leb}
 use Rattle.std.proofs.lemmas.List.{length-map}
 use Rattle.std.proofs.lemmas.Option.{slice_get-map, slice_get_within}
 use Rattle.cert_format.specs.declared.typing.FrameType.{FrameType}
@@ -10,14 +9,11 @@ use Rattle.insn_codec.specs.declared.insn.Insn.{Insn}
 use Rattle.bytecode_model.specs.declared.program.Target.{Target}
 use Rattle.bytecode_model.specs.declared.program.Target.TheVariants as target
 use Rattle.bytecode_model.specs.Rules.{Frames, frame_of}
-use Rattle.cert_format.specs.declared.certificate.Mode.{Mode}
-use Rattle.conspec_automaton.specs.declared.policy.Policy.{Policy}
 use Rattle.conspec_automaton.specs.Next.{has_clauses}
-use Rattle.offset_patch.specs.declared.block.Block.{Block}
 use Rattle.offset_patch.specs.Splicing.{part_of}
 use Rattle.block_template.specs.declared.item.Item.{Item}
 use Rattle.block_template.specs.Blocks.{block_with, bools_of, clauses_of, has_block}
-use Rattle.woven_typing.specs.Framing.{Client, alone_framed, block_framed, front_in, frames_woven, insn_framed, item_framed, items_of, low, part_framed, parts_framed, place_of}
+use Rattle.woven_typing.specs.Framing.{alone_framed, block_framed, front_in, frames_woven, insn_framed, item_framed, items_of, low, parts_framed, place_of}
 use Rattle.woven_typing.specs.Renaming.{frame_renamed}
 use Rattle.woven_typing.proofs.Body.{Body, base, client, front, moved, part, plan, refs, same_length}
 use Rattle.woven_typing.proofs.Lists.{get_left, get_right}

@@ -1,5 +1,5 @@
 -- The types at the front of a block: those before its call, with locals that nothing is known of behind them.
-use Rattle.std.proofs.Common.{◌≡◌, ℕ, zero, suc, ◌+◌, ◌-◌, ◌<◌, ◌≤◌, Bool, true, false, cond, List, [], ◌∷◌, ◌++◌, length, drop, replicate, Option, Some, None, refl, sym, ap, ◌∙◌, append-nil, append_assoc, arith}
+use Rattle.std.proofs.Common.{◌≡◌, ℕ, zero, suc, ◌+◌, ◌-◌, ◌≤◌, Bool, true, false, List, [], ◌∷◌, ◌++◌, length, drop, replicate, Option, Some, None, refl, sym, ap, ◌∙◌, append-nil, append_assoc, arith}
 use Rattle.std.specs.Prelude.{◌&&◌, ◌==◌, nat_le}
 use Rattle.std.specs.List.{AllByRecursion}
 use Rattle.std.specs.Option.{option_map_or}
@@ -12,7 +12,7 @@ use Rattle.cert_format.specs.declared.typing.VType.TheVariants as types
 use Rattle.bytecode_model.specs.declared.program.Handler.{Handler}
 use Rattle.bytecode_model.specs.declared.program.Program.{Program}
 use Rattle.bytecode_model.specs.Assigning.{assignable}
-use Rattle.bytecode_model.specs.Makes.{below, local_after, stack_after, topmost, type_at}
+use Rattle.bytecode_model.specs.Makes.{below, local_after, stack_after, type_at}
 use Rattle.bytecode_model.specs.Place.{Place}
 use Rattle.bytecode_model.specs.Rules.{Entry, catches_well, class_caught, entry_locals, goes_well, is_alone, local_caught, locals_fit, stack_fits, taken}
 use Rattle.bytecode_model.specs.Wants.{takes}

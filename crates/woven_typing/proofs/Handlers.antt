@@ -1,12 +1,11 @@
 -- What is caught of an instruction of a woven method.
-use Rattle.std.proofs.Common.{◌≡◌, ℕ, zero, suc, ◌+◌, ◌<◌, ◌≤◌, Bool, true, false, List, [], ◌∷◌, ◌++◌, length, map, Option, Some, None, refl, sym, ap, subst, ◌∙◌, inl, inr, arith}
-use Rattle.std.specs.Prelude.{◌⊎◌, ◌&&◌, ◌||◌, not, nat_lt, nat_le, slice_get, slice_index}
+use Rattle.std.proofs.Common.{◌≡◌, ℕ, suc, ◌+◌, ◌<◌, ◌≤◌, Bool, true, false, List, [], ◌∷◌, ◌++◌, length, map, Option, Some, None, refl, sym, ap, subst, ◌∙◌, inl, inr, arith}
+use Rattle.std.specs.Prelude.{◌&&◌, ◌||◌, not, nat_lt, nat_le, slice_get, slice_index}
 use Rattle.std.specs.List.{list_all}
 use Rattle.std.specs.Option.{option_map_or}
 use Rattle.std.proofs.lemmas.Bool.{cases_Bool, ltb-true, leb-true, le-leb, and_from, and_parts}
 use Rattle.std.proofs.lemmas.Bool.Decides.{nat_tests}
 use Rattle.std.proofs.lemmas.Option.{slice_get_within}
-use Rattle.std.proofs.lemmas.List.{length-map}
 use Rattle.api_listing.specs.BuiltIn.{throwable}
 use Rattle.cert_format.specs.declared.typing.FrameType.{FrameType}
 use Rattle.cert_format.specs.declared.typing.VType.{VType}
@@ -22,7 +21,7 @@ use Rattle.conspec_automaton.specs.Next.{has_clauses}
 use Rattle.offset_patch.specs.declared.block.Block.{Block}
 use Rattle.offset_patch.specs.declared.block.BlockInsn.{BlockInsn}
 use Rattle.offset_patch.specs.Plan.{Plan}
-use Rattle.offset_patch.specs.Splicing.{call_place, part_of}
+use Rattle.offset_patch.specs.Splicing.{call_place}
 use Rattle.block_template.specs.declared.item.Item.{Item}
 use Rattle.block_template.specs.Blocks.{bools_of, clauses_of, handler_at}
 use Rattle.class_weaving.specs.Outcome.{at_fronts, handlers_by, own_handler, own_handlers, site_handlers}
@@ -174,7 +173,7 @@ module _ (t : Typed) (i k : ℕ) (insn : Insn) (ref : Target) (there : slice_get
         let roomy : Bool = nat_le 1 (b t).method.max_stack in
         let below : Bool = is_below (b t).old (class_caught h) throwable in
         let parts : covers i h ≡ true → (roomy ≡ true) × (below ≡ true)
-            × (option_map_or (catches_well (old t i insn ref) f h) (frame_of t.frames h.at) false ≡ true) =
+        × (option_map_or (catches_well (old t i insn ref) f h) (frame_of t.frames h.at) false ≡ true) =
         handled_parts (covers i h) roomy below (option_map_or (catches_well (old t i insn ref) f h) (frame_of t.frames h.at) false) e in
         handled_from (covers (of.front (b t) i + k) own) (nat_le 1 (b t).made.max_stack) (is_below (b t).new (class_caught own) throwable) _
         (λ c. le_more 1 (b t).method.max_stack (b t).made.max_stack (parts (sym same ∙ c)).0 (of.stack_more (b t)))

@@ -1,9 +1,9 @@
 -- What is made at an index is made at its front.
-use Rattle.std.proofs.Common.{◌≡◌, ℕ, ◌+◌, ◌<◌, ◌≤◌, Bool, true, false, List, [], length, Option, Some, None, refl, sym, ap, ◌∙◌, inl, inr, arith}
-use Rattle.std.specs.Prelude.{◌⊎◌, nat_lt, slice_get}
+use Rattle.std.proofs.Common.{◌≡◌, ℕ, ◌+◌, ◌<◌, ◌≤◌, true, length, Option, Some, refl, sym, ap, ◌∙◌, inl, inr, arith}
+use Rattle.std.specs.Prelude.{nat_lt, slice_get}
 use Rattle.std.proofs.lemmas.Bool.{cases_Bool, ltb-true}
 use Rattle.std.proofs.lemmas.Bool.Decides.{nat_tests}
-use Rattle.std.proofs.lemmas.Option.{slice_get_past, slice_get_within}
+use Rattle.std.proofs.lemmas.Option.{slice_get_past}
 use Rattle.insn_codec.specs.declared.insn.Insn.{Insn}
 use Rattle.insn_codec.specs.declared.shape.Shape.{Shape}
 use Rattle.insn_codec.specs.Shapes.{shape_of}
@@ -15,11 +15,10 @@ use Rattle.offset_patch.specs.declared.block.BlockInsn.TheVariants.{Call}
 use Rattle.offset_patch.specs.Splicing.{aimed, put}
 use Rattle.block_template.specs.declared.item.Item.{Item}
 use Rattle.block_template.specs.Blocks.{bools_of, clauses_of, has_block}
-use Rattle.class_weaving.specs.Outcome.{part_named}
 use Rattle.woven_typing.specs.Framing.{items_of}
 use Rattle.woven_typing.proofs.Aiming.{has_shape}
 use Rattle.woven_typing.proofs.Body.{Body, base, fronts, front, insn_there, moved, moved_is, moved_past, part, plan, pool, ref_there, same_length, state, there}
-use Rattle.woven_typing.proofs.Calling.{IsOther, call_item, count_is, each_item, index}
+use Rattle.woven_typing.proofs.Calling.{count_is, each_item}
 use Rattle.woven_typing.proofs.Lists.{slice_there}
 use Rattle.woven_typing.proofs.Making.{made_elsewhere, made_nothing}
 use Rattle.woven_typing.proofs.Plans.{part_item}

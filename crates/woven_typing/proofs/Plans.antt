@@ -1,7 +1,7 @@
 -- The plan of a policy: which calls have a block, and that each block has an instruction.
-use Rattle.std.proofs.Common.{◌≡◌, ℕ, zero, suc, ◌+◌, ◌<◌, ◌≤◌, Bool, true, false, cond, List, [], ◌∷◌, length, map, Option, Some, None, refl, sym, ap, ◌∙◌, arith}
+use Rattle.std.proofs.Common.{◌≡◌, ℕ, zero, suc, ◌<◌, ◌≤◌, Bool, true, false, cond, List, [], ◌∷◌, length, map, Option, Some, None, refl, sym, ap, ◌∙◌, arith}
 use Rattle.std.specs.Prelude.{is_some, max, slice_get, option_map}
-use Rattle.std.specs.List.{Contains, cons_option, filter_map, flat_map}
+use Rattle.std.specs.List.{Contains, cons_option, filter_map}
 use Rattle.std.proofs.lemmas.List.{length-map}
 use Rattle.std.proofs.lemmas.List.Elements.{Contains-append_left, Contains-append_right}
 use Rattle.std.proofs.lemmas.Option.{slice_get-map}
@@ -16,7 +16,7 @@ use Rattle.offset_patch.specs.declared.block.PoolWant.{PoolWant}
 use Rattle.offset_patch.specs.Plan.{Plan}
 use Rattle.offset_patch.specs.Splicing.{part_of, want_of, block_wants, wants_of}
 use Rattle.block_template.specs.declared.item.Item.{Item}
-use Rattle.block_template.specs.Blocks.{Clauses, block_with, bools_of, clauses_of, has_block, items, locals_used, plan_of, site, site_locals}
+use Rattle.block_template.specs.Blocks.{block_with, bools_of, clauses_of, has_block, plan_of, site, site_locals}
 use Rattle.class_weaving.specs.Woven.{most_locals}
 use Rattle.woven_typing.specs.Framing.{items_of}
 use Rattle.woven_typing.proofs.Calling.{count_is}

@@ -17,20 +17,17 @@ use Rattle.api_listing.specs.Descriptor.{SpellsDescriptor}
 use Rattle.api_listing.specs.Lines.{says_something}
 use Rattle.api_listing.specs.Listing.{AreSaid, SpellsListing, class_declared, method_declared}
 use Rattle.api_listing.specs.Nearest.{upwards}
-use Rattle.cert_format.specs.declared.typing.VType.{VType}
 use Rattle.bytecode_model.specs.declared.program.LinkedClass.{LinkedClass}
-use Rattle.bytecode_model.specs.declared.program.Program.{Program}
-use Rattle.bytecode_model.specs.Described.{Descriptor, arguments, result_text, result_type, type_described}
+use Rattle.bytecode_model.specs.Described.{Descriptor, arguments, result_text, type_described}
 use Rattle.bytecode_model.specs.Heads.{head_of}
 use Rattle.bytecode_model.proofs.Lists.{all_get}
 use Rattle.conspec_tree.specs.declared.types.Kind.{Kind}
-use Rattle.conspec_tree.specs.declared.types.PolicyTree.{PolicyTree}
 use Rattle.conspec_tree.specs.declared.types.TreeClause.{TreeClause}
 use Rattle.conspec_tree.specs.Kinds.{array_kind, kind_of}
 use Rattle.conspec_tree.specs.Telling.{ClauseTellsKinds, ClauseTellsResult}
 use Rattle.conspec_automaton.specs.Building.{clause_built}
 use Rattle.code_typing.proofs.Descriptors.{described_so}
-use Rattle.woven_typing.specs.Telling.{AreOfKinds, ClauseTells, IsOfKind, IsOfResult, ListingsKnowThrowable, PoliciesTell, TellsOf}
+use Rattle.woven_typing.specs.Telling.{AreOfKinds, ClauseTells, IsOfKind, IsOfResult, ListingsKnowThrowable, PoliciesTell}
 
 -- ---- kinds
 
@@ -94,7 +91,7 @@ result_told result desc types spells is = subst (λ (o : Option Kind). IfSome o 
     by (Some t) e = (
       type_described (listed.type_spelled t),
       ap (λ (text : List ℕ). cond (bytes_eq text (codes "V")) None (Some (type_described text))) e
-      ∙ ap (λ (b : Bool). cond b None (Some (type_described (listed.type_spelled t)))) (not_nothing t.dimensions t.element),
+          ∙ ap (λ (b : Bool). cond b None (Some (type_described (listed.type_spelled t)))) (not_nothing t.dimensions t.element),
       kind_fits t.dimensions t.element,
     )
 

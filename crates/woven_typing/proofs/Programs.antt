@@ -1,26 +1,23 @@
 -- What is woven of a typed program is typed.
-use Rattle.std.proofs.Common.{◌≡◌, ℕ, zero, suc, ◌+◌, ◌-◌, ◌<◌, ◌≤◌, Bool, true, false, cond, List, [], ◌∷◌, ◌++◌, drop, length, map, take, Option, Some, None, refl, sym, ap, subst, ◌∙◌, inl, inr, arith}
-use Rattle.std.specs.Prelude.{◌⊎◌, nat_lt, option_and_then, slice_get, ⊤}
+use Rattle.std.proofs.Common.{◌≡◌, ℕ, zero, suc, ◌+◌, ◌<◌, Bool, true, false, cond, List, [], ◌∷◌, ◌++◌, drop, length, map, take, Some, refl, sym, ap, subst, ◌∙◌, inl, inr, arith}
+use Rattle.std.specs.Prelude.{nat_lt, slice_get, ⊤}
 use Rattle.std.specs.List.{AllByRecursion, Contains}
-use Rattle.std.specs.Option.{option_map_or}
-use Rattle.std.proofs.lemmas.Bool.{cases_Bool, false≢true, ltb-true, lt-ltb}
+use Rattle.std.proofs.lemmas.Bool.{cases_Bool, ltb-true, lt-ltb}
 use Rattle.std.proofs.lemmas.Bool.Decides.{nat_tests}
 use Rattle.std.proofs.lemmas.List.Elements.{Contains-append_left, Contains-append_right}
 use Rattle.std.proofs.lemmas.Option.{slice_get_within}
 use Rattle.class_codec.specs.declared.tree.Const.{Const}
 use Rattle.class_codec.specs.Pool.{reference_at}
 use Rattle.cert_format.specs.declared.certificate.Mode.{Mode}
-use Rattle.cert_format.specs.declared.typing.FrameType.{FrameType}
 use Rattle.cert_format.specs.declared.typing.Typing.{Typing}
-use Rattle.insn_codec.specs.declared.insn.Insn.{Insn}
 use Rattle.bytecode_model.specs.declared.program.LinkedClass.{LinkedClass}
 use Rattle.bytecode_model.specs.declared.program.Method.{Method}
 use Rattle.bytecode_model.specs.declared.program.Program.{Program}
 use Rattle.bytecode_model.specs.Operands.{index_of}
-use Rattle.bytecode_model.specs.Rules.{Frames, row_failing}
-use Rattle.bytecode_model.specs.Shape.{IsShaped, coded, has_code, program_shape, shape_of}
-use Rattle.bytecode_model.specs.Sound.{IsSound, IsSoundClass, IsSoundMethod}
-use Rattle.bytecode_model.specs.Typed.{IsTyped, frames_in, frames_told, list_at, place_at, row_fault, row_in, row_of_method}
+use Rattle.bytecode_model.specs.Rules.{Frames}
+use Rattle.bytecode_model.specs.Shape.{IsShaped, coded, has_code}
+use Rattle.bytecode_model.specs.Sound.{IsSoundClass, IsSoundMethod}
+use Rattle.bytecode_model.specs.Typed.{frames_in, frames_told, list_at}
 use Rattle.bytecode_model.proofs.Lists.{all_get}
 use Rattle.conspec_automaton.specs.declared.policy.Policy.{Policy}
 use Rattle.offset_patch.specs.declared.block.PoolWant.{PoolWant}
@@ -29,18 +26,16 @@ use Rattle.offset_patch.specs.Plan.{Plan}
 use Rattle.offset_patch.proofs.EntryFits.{wants_grow}
 use Rattle.offset_patch.proofs.Steady.{steady_wanted}
 use Rattle.block_template.specs.Blocks.{plan_of}
-use Rattle.class_weaving.specs.Outcome.{Each, IsWoven, IsWovenClass, IsWovenMethod, class_wants, wants_woven}
+use Rattle.class_weaving.specs.Outcome.{Each, IsWovenClass, IsWovenMethod, class_wants, wants_woven}
 use Rattle.class_weaving.proofs.Wanted.{all_of}
 use Rattle.woven_typing.specs.Framing.{classes_framed, client_of, frames_woven, methods_framed, typing_of}
-use Rattle.woven_typing.specs.WovenTyping.{IsGiven, IsTypedSo, WovenIsTyped}
+use Rattle.woven_typing.specs.WovenTyping.{IsGiven}
 use Rattle.woven_typing.proofs.Body as of
 use Rattle.woven_typing.proofs.Body.{Body}
-use Rattle.woven_typing.proofs.Client.{Typed}
 use Rattle.woven_typing.proofs.Frames.{long}
 use Rattle.woven_typing.proofs.Larger.{woven_larger}
-use Rattle.woven_typing.proofs.Lists.{each_back, get_left, get_right, slice_there}
+use Rattle.woven_typing.proofs.Lists.{slice_there}
 use Rattle.woven_typing.proofs.Longer.{reference_longer}
-use Rattle.woven_typing.proofs.Whole.{all_met}
 
 -- ---- what the blocks of a class name
 

@@ -1,10 +1,9 @@
 -- The instructions of a block stand in the woven method, and their operands name what they want.
-use Rattle.std.proofs.Common.{◌≡◌, ℕ, ◌+◌, Bool, List, [], Option, Some, None, refl, ap, ◌∙◌}
-use Rattle.std.specs.Prelude.{IfSome, codes, slice_get}
+use Rattle.std.proofs.Common.{◌≡◌, ℕ, ◌+◌, Bool, [], Option, Some, refl, ap}
+use Rattle.std.specs.Prelude.{IfSome, slice_get}
 use Rattle.std.specs.Option.{option_map_or}
 use Rattle.mon_base.specs.declared.method.MethodId.{MethodId}
 use Rattle.class_codec.specs.Pool.{reference_at}
-use Rattle.insn_codec.specs.declared.insn.Insn.{Insn}
 use Rattle.bytecode_model.specs.Place.{Place}
 use Rattle.offset_patch.specs.declared.block.BlockInsn.{BlockInsn}
 use Rattle.offset_patch.specs.declared.block.BlockInsn.TheVariants.{Plain, Byte, Short, Local, Want, Jump, Call}

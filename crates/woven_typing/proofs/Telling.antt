@@ -1,7 +1,6 @@
 -- What a policy tells of a call is what its descriptor does: the kinds of the operands that it takes, and of what it gives.
-use Rattle.std.proofs.Common.{◌≡◌, ℕ, zero, suc, ◌+◌, ◌-◌, ◌<◌, ◌≤◌, Bool, true, false, cond, List, [], ◌∷◌, ◌++◌, length, map, drop, Option, Some, None, refl, sym, ap, subst, ◌∙◌, arith}
-use Rattle.std.specs.Prelude.{IfSome, ◌&&◌, ◌==◌, find, option_and_then, slice_get}
-use Rattle.std.specs.Option.{option_map_or}
+use Rattle.std.proofs.Common.{◌≡◌, ℕ, suc, ◌-◌, ◌≤◌, Bool, true, false, cond, List, [], ◌∷◌, ◌++◌, length, map, drop, Option, Some, None, refl, sym, ap, subst, ◌∙◌, arith}
+use Rattle.std.specs.Prelude.{IfSome, ◌&&◌, ◌==◌, slice_get}
 use Rattle.std.proofs.lemmas.Bool.{and_from, and_parts, eqb-true}
 use Rattle.std.proofs.lemmas.List.{length-map, map-append}
 use Rattle.api_listing.specs.declared.types.ListedMethod.{ListedMethod}
@@ -11,13 +10,12 @@ use Rattle.cert_format.specs.declared.typing.VType.TheVariants as types
 use Rattle.insn_codec.specs.declared.shape.Kind.TheVariants as operands
 use Rattle.bytecode_model.specs.declared.program.Program.{Program}
 use Rattle.bytecode_model.specs.Assigning.{assignable}
-use Rattle.bytecode_model.specs.Described.{Descriptor, arguments, result_type, type_described}
+use Rattle.bytecode_model.specs.Described.{Descriptor, result_type, type_described}
 use Rattle.bytecode_model.specs.Makes.{call_yields, topmost, type_at}
 use Rattle.bytecode_model.specs.Wants.{Want, all_met, of_kind, to_described}
 use Rattle.conspec_tree.specs.declared.types.Kind.{Kind}
 use Rattle.conspec_tree.specs.declared.types.Kind.TheVariants as kinds
 use Rattle.conspec_tree.specs.declared.types.Phase.{Phase}
-use Rattle.conspec_tree.specs.declared.types.Phase.TheVariants.{After, Before}
 use Rattle.conspec_automaton.specs.declared.policy.Clause.{Clause}
 use Rattle.conspec_automaton.specs.declared.policy.Policy.{Policy}
 use Rattle.block_template.specs.Blocks.{clause_at, is_phase}

@@ -1,6 +1,6 @@
 -- All rows of a woven method.
 use Rattle.std.proofs.Common.{◌≡◌, ◌≢◌, ℕ, ◌+◌, ◌<◌, ◌≤◌, Bool, true, false, cond, List, length, Option, Some, None, refl, sym, ap, ◌∙◌, inl, inr, arith}
-use Rattle.std.specs.Prelude.{◌⊎◌, ◌&&◌, ◌==◌, nat_le, option_and_then, option_map, slice_get}
+use Rattle.std.specs.Prelude.{◌==◌, nat_le, option_and_then, option_map, slice_get}
 use Rattle.std.proofs.lemmas.Bool.{cases_Bool, leb-true, le-leb, eqb-true, eq-eqb, false≢true, ne_eqb, and_parts}
 use Rattle.std.proofs.lemmas.Option.{slice_get_within}
 use Rattle.cert_format.specs.declared.typing.FrameType.{FrameType}
@@ -15,7 +15,6 @@ use Rattle.conspec_automaton.specs.Next.{has_clauses}
 use Rattle.offset_patch.specs.declared.block.BlockInsn.{BlockInsn}
 use Rattle.offset_patch.specs.declared.block.BlockInsn.TheVariants.{Call}
 use Rattle.offset_patch.specs.Splicing.{put}
-use Rattle.block_template.specs.declared.item.Item.{Item}
 use Rattle.block_template.specs.Blocks.{clauses_of, has_block}
 use Rattle.class_weaving.specs.Outcome.{part_named}
 use Rattle.woven_typing.specs.Framing.{items_of, item_framed, low, place_of}
@@ -29,7 +28,7 @@ use Rattle.woven_typing.proofs.Fronts.{front_itself}
 use Rattle.woven_typing.proofs.Handlers.{all_caught}
 use Rattle.woven_typing.proofs.Lists.{slice_there}
 use Rattle.woven_typing.proofs.Parts as parts
-use Rattle.woven_typing.proofs.Passing.{Passes, row_met}
+use Rattle.woven_typing.proofs.Passing.{row_met}
 use Rattle.woven_typing.proofs.Plans.{part_length}
 use Rattle.woven_typing.proofs.Rows.{depth_kept, local_kept, made_kept, operand_kept}
 use Rattle.woven_typing.proofs.Unwoven.{no_block, part_alone}

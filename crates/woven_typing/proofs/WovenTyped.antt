@@ -1,6 +1,6 @@
 -- The law: what is woven of a typed program is typed, and which of its instructions have a frame.
 use Rattle.std.proofs.Common.{◌≡◌, ℕ, zero, suc, ◌+◌, ◌-◌, ◌<◌, ◌≤◌, Bool, true, false, cond, List, [], ◌∷◌, ◌++◌, length, map, take, Option, Some, None, is_some, refl, sym, ap, subst, ◌∙◌, inl, inr, arith}
-use Rattle.std.specs.Prelude.{◌⊎◌, ◌&&◌, nat_lt, option_and_then, option_map, slice_get, slice_index}
+use Rattle.std.specs.Prelude.{◌&&◌, nat_lt, option_and_then, option_map, slice_get}
 use Rattle.std.specs.Option.{option_map_or}
 use Rattle.std.proofs.lemmas.Bool.{cases_Bool, ltb-true, lt-ltb}
 use Rattle.std.proofs.lemmas.Bool.Decides.{nat_tests}
@@ -16,7 +16,7 @@ use Rattle.bytecode_model.specs.declared.program.Target.{Target}
 use Rattle.bytecode_model.specs.declared.program.Target.TheVariants as target
 use Rattle.bytecode_model.specs.Rules.{Frames, frame_of, row_failing}
 use Rattle.bytecode_model.specs.Shape.{IsShaped, coded, has_code}
-use Rattle.bytecode_model.specs.Typed.{IsTyped, frames_in, frames_told, list_at, place_at, reached, reached_in, row_fault, row_in, row_of_method}
+use Rattle.bytecode_model.specs.Typed.{IsTyped, frames_in, frames_told, list_at, place_at, reached, reached_in, row_in, row_of_method}
 use Rattle.conspec_automaton.specs.declared.policy.Policy.{Policy}
 use Rattle.conspec_automaton.specs.Next.{has_clauses}
 use Rattle.block_template.specs.declared.item.Item.{Item}
@@ -27,7 +27,7 @@ use Rattle.block_template.specs.Frames.{Around, frame_at}
 use Rattle.class_weaving.specs.Outcome.{IsWovenClass, IsWovenMethod}
 use Rattle.woven_typing.specs.Framing.{around_of, client_of, front_in, frames_woven, item_framed, items_of, low, place_of, typing_of}
 use Rattle.woven_typing.specs.Renaming.{frame_renamed}
-use Rattle.woven_typing.specs.WovenTyping.{BlocksAreReachedSo, BlocksAreTold, ClientsAreTold, IsGiven, IsInsnAt, IsToldAs, IsTypedSo, WovenIsTyped, front, is_reached, kept_frame}
+use Rattle.woven_typing.specs.WovenTyping.{BlocksAreReachedSo, BlocksAreTold, ClientsAreTold, IsGiven, IsInsnAt, IsToldAs, WovenIsTyped, front, is_reached, kept_frame}
 use Rattle.woven_typing.proofs.Body as of
 use Rattle.woven_typing.proofs.Body.{Body}
 use Rattle.woven_typing.proofs.Client.{Typed}
@@ -208,7 +208,6 @@ module _ (old new : Program) (policy : Policy) (mode : Mode) (typing : Typing) (
   told_many =
       told_count class.methods (frames_told typing own) index method (class_told old.classes typing.frames own class shape there.class_there)
       there.method_there (omega (arith, inside))
-
 
   is_told : (k : ℕ) (frame : Option FrameType)
       → ((other : LinkedClass) (made : Method) (of_class : IsWovenClass (plan_of policy mode) (length old.classes) class other)

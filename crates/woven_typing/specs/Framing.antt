@@ -133,8 +133,8 @@ abbrev pub methods_framed : Program → Policy → Mode → ℕ → LinkedClass 
 methods_framed program policy mode own class [] told = []
 methods_framed program policy mode own class (method ∷ methods) told =
     if has_code method then
-      frames_woven (client_of program policy mode own class method) (list_at told 0)
-      ∷ methods_framed program policy mode own class methods (drop 1 told)
+    frames_woven (client_of program policy mode own class method) (list_at told 0)
+    ∷ methods_framed program policy mode own class methods (drop 1 told)
     else methods_framed program policy mode own class methods told
 
 -- the classes from the index `own` on, and behind them conspec/State, which has no method

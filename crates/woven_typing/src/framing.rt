@@ -141,9 +141,9 @@ impl<'a> Model for Client<'a> {
     ghost use Rattle.block_template.specs.Blocks.{plan_of};
     ghost use Rattle.class_weaving.specs.Woven.{sites_of};
     ghost use Rattle.block_template.specs.declared.item.Item.{Item as SpecItem};
-ghost use Rattle.block_template.specs.Frames.{frame_at};
-ghost use Rattle.woven_typing.specs.Renaming.{frame_renamed};
-ghost use Rattle.woven_typing.specs.Framing.{Client as Told};
+    ghost use Rattle.block_template.specs.Frames.{frame_at};
+    ghost use Rattle.woven_typing.specs.Renaming.{frame_renamed};
+    ghost use Rattle.woven_typing.specs.Framing.{Client as Told};
 
     ghost Value = { Told };
 

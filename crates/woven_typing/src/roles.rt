@@ -161,11 +161,7 @@ fn put_numbers(out: &mut List<VType>, n: u32) -> Result<(), NoMemory>
 fn behind(types: &[VType], n: usize) -> &[VType]
     ensures { result.now ≡ drop n types.now }
 {
-    if n <= types.len() {
-        &types[n..]
-    } else {
-        &[]
-    }
+    if n <= types.len() { &types[n..] } else { &[] }
 }
 
 // ---- locals
@@ -194,7 +190,12 @@ fn saved_locals(
 {
     let (_, kept) = split_top(around.before.stack.as_slice(), keeps.arguments());
     let mut made = List::new(alloc);
-    put_padded(alloc, &mut made, around.base, around.before.locals.as_slice())?;
+    put_padded(
+        alloc,
+        &mut made,
+        around.base,
+        around.before.locals.as_slice(),
+    )?;
     put_tops(&mut made, left)?;
     put_types(alloc, &mut made, behind(kept, left))?;
     Ok(made)
@@ -229,7 +230,12 @@ fn behind_call(alloc: Global, keeps: &Keeps, around: &Around) -> Result<FrameTyp
     let (below, top) = split_top(around.after.stack.as_slice(), count);
     let mut locals = List::new(alloc);
     let mut stack = List::new(alloc);
-    put_padded(alloc, &mut locals, around.base, around.after.locals.as_slice())?;
+    put_padded(
+        alloc,
+        &mut locals,
+        around.base,
+        around.after.locals.as_slice(),
+    )?;
     put_types(alloc, &mut locals, top)?;
     put_types(alloc, &mut stack, below)?;
     Ok(FrameType { locals, stack })
@@ -241,7 +247,12 @@ fn given(alloc: Global, around: &Around) -> Result<FrameType, NoMemory>
 {
     let mut locals = List::new(alloc);
     let mut stack = List::new(alloc);
-    put_padded(alloc, &mut locals, around.base, around.after.locals.as_slice())?;
+    put_padded(
+        alloc,
+        &mut locals,
+        around.base,
+        around.after.locals.as_slice(),
+    )?;
     put_types(alloc, &mut stack, around.after.stack.as_slice())?;
     Ok(FrameType { locals, stack })
 }
@@ -252,7 +263,12 @@ fn thrown(alloc: Global, keeps: &Keeps, around: &Around) -> Result<FrameType, No
 {
     let mut found = List::new(alloc);
     let mut stack = List::new(alloc);
-    put_padded(alloc, &mut found, around.base, around.before.locals.as_slice())?;
+    put_padded(
+        alloc,
+        &mut found,
+        around.base,
+        around.before.locals.as_slice(),
+    )?;
     stack.push(VType::Ref(Bytes::from_slice(alloc, THROWABLE)?))?;
     Ok(FrameType {
         locals: locals_thrown(alloc, found.as_slice())?,

@@ -75,9 +75,7 @@ fn methods_framed(
     let mut told = told;
     while let [method, later @ ..] = methods {
         if !method.insns.is_empty() {
-            made.push(method_framed(
-                alloc, program, policy, mode, own, class, method, told,
-            )?)?;
+            made.push(method_framed(alloc, program, policy, mode, own, class, method, told)?)?;
             told = behind_first(told);
         }
         methods = later;
