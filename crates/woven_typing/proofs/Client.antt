@@ -32,7 +32,7 @@ use Rattle.block_template.specs.Flow.{entered}
 use Rattle.block_template.specs.Frames.{Around, frame_at}
 use Rattle.block_template.proofs.BlockFlows.{blocks_flow}
 use Rattle.block_template.proofs.ItemsTyped.{clauses_are_asked}
-use Rattle.woven_typing.specs.Framing.{around_of, frames_woven, items_of, low, place_of}
+use Rattle.woven_typing.specs.Framing.{around_of, frames_woven, items_of, low, insn_place}
 use Rattle.woven_typing.specs.Renaming.{frame_renamed}
 use Rattle.woven_typing.proofs.Aiming.{has_shape, opcode_stays, index_stays, successors_moved}
 use Rattle.woven_typing.proofs.Body as of
@@ -86,7 +86,7 @@ module _ (t : Typed) where
   here at x r = record { program = b.new; own = b.own; class = b.other; method = b.made; at = at; insn = x; ref = r }
 
   abbrev pub old : ℕ → Insn → Target → Place
-  old at x r = place_of (of.client b) at x r
+  old at x r = insn_place (of.client b) at x r
 
   -- the client's instruction, with its targets at their fronts
   abbrev pub aim : Insn → Insn

@@ -13,7 +13,7 @@ use Rattle.conspec_automaton.specs.Next.{has_clauses}
 use Rattle.offset_patch.specs.Splicing.{part_of}
 use Rattle.block_template.specs.declared.item.Item.{Item}
 use Rattle.block_template.specs.Blocks.{block_with, bools_of, clauses_of, has_block}
-use Rattle.woven_typing.specs.Framing.{alone_framed, block_framed, front_in, frames_woven, insn_framed, item_framed, items_of, low, parts_framed, place_of}
+use Rattle.woven_typing.specs.Framing.{alone_framed, block_framed, front_in, frames_woven, insn_framed, item_framed, items_of, low, parts_framed, insn_place}
 use Rattle.woven_typing.specs.Renaming.{frame_renamed}
 use Rattle.woven_typing.proofs.Body.{Body, base, client, front, moved, part, plan, refs, same_length}
 use Rattle.woven_typing.proofs.Lists.{get_left, get_right}
@@ -27,7 +27,7 @@ module _ (b : Body) where
   -- ---- each part has as many frames as instructions
 
   block_long : (at : ℕ) (insn : Insn) (callee : ℕ) (frame : Option FrameType) (c : Bool) → has_clauses b.policy callee ≡ c
-      → length (cond c (block_framed b.policy b.mode (front_in (client b)) (place_of (client b) at insn (target.ApiMethod callee)) callee frame)
+      → length (cond c (block_framed b.policy b.mode (front_in (client b)) (insn_place (client b) at insn (target.ApiMethod callee)) callee frame)
       (alone_framed (front_in (client b)) frame))
       ≡ length (part_of (cond c (Some (block_with b.mode (bools_of b.policy) (base b) (clauses_of b.policy callee))) None))
   block_long at insn callee frame true has =
@@ -118,7 +118,7 @@ module _ (b : Body) where
             → frame_or_none (slice_get (insn_framed (client b) i insn r frame) 0) ≡ option_map (frame_renamed (moved b)) kept
         by (target.ApiMethod callee) none =
             ap (λ (c : Bool). frame_or_none (slice_get (cond c
-            (block_framed b.policy b.mode (front_in (client b)) (place_of (client b) i insn (target.ApiMethod callee)) callee kept)
+            (block_framed b.policy b.mode (front_in (client b)) (insn_place (client b) i insn (target.ApiMethod callee)) callee kept)
             (alone_framed (front_in (client b)) kept)) 0)) none
         by target.None none = refl
         by (target.Builtin j) none = refl
@@ -134,12 +134,12 @@ module _ (b : Body) where
         → slice_get (refs b) i ≡ Some (target.ApiMethod callee) → slice_get frames i ≡ Some frame → has_clauses b.policy callee ≡ true
         → (k : ℕ) (item : Item) → slice_get (items_of b.policy b.mode (base b) callee) k ≡ Some item
         → frame_of woven (front b i + k)
-        ≡ item_framed (clauses_of b.policy callee) (moved b) (place_of (client b) i insn (target.ApiMethod callee))
+        ≡ item_framed (clauses_of b.policy callee) (moved b) (insn_place (client b) i insn (target.ApiMethod callee))
         (low b.method.max_stack frame) item
     frame_item i callee insn frame e f g has k item at =
         let ref : Target = target.ApiMethod callee in
         let kept : Option FrameType = low b.method.max_stack frame in
-        let framed : Item → Option FrameType = item_framed (clauses_of b.policy callee) (moved b) (place_of (client b) i insn ref) kept in
+        let framed : Item → Option FrameType = item_framed (clauses_of b.policy callee) (moved b) (insn_place (client b) i insn ref) kept in
         let lt : k < length (part b ref) =
         omega (
           arith,
@@ -149,7 +149,7 @@ module _ (b : Body) where
         ap frame_or_none
         (frame_in i k insn ref frame e f g lt
         ∙ ap (λ (c : Bool). slice_get (cond c
-        (block_framed b.policy b.mode (front_in (client b)) (place_of (client b) i insn ref) callee kept)
+        (block_framed b.policy b.mode (front_in (client b)) (insn_place (client b) i insn ref) callee kept)
         (alone_framed (front_in (client b)) kept)) k) has
         ∙ slice_get-map framed (items_of b.policy b.mode (base b) callee) k)
         ∙ ap (λ (o : Option Item). frame_or_none (option_map framed o)) at

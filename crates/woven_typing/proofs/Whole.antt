@@ -17,7 +17,7 @@ use Rattle.offset_patch.specs.declared.block.BlockInsn.TheVariants.{Call}
 use Rattle.offset_patch.specs.Splicing.{put}
 use Rattle.block_template.specs.Blocks.{clauses_of, has_block}
 use Rattle.class_weaving.specs.Outcome.{part_named}
-use Rattle.woven_typing.specs.Framing.{items_of, item_framed, low, place_of}
+use Rattle.woven_typing.specs.Framing.{items_of, item_framed, low, insn_place}
 use Rattle.woven_typing.specs.Renaming.{frame_renamed}
 use Rattle.woven_typing.proofs.BlockRows.{block_row}
 use Rattle.woven_typing.proofs.Body as of
@@ -167,7 +167,7 @@ module _ (t : Typed) where
           unreached i insn (target.ApiMethod callee) x there names framed k less lost
           (frames.frame_item (b t) t.frames i callee insn x there names framed has k item.0 item.1
           ∙ ap (λ (y : Option FrameType). item_framed (clauses_of (b t).policy callee) (moved t)
-          (place_of (of.client (b t)) i insn (target.ApiMethod callee)) y item.0) lost)
+          (insn_place (of.client (b t)) i insn (target.ApiMethod callee)) y item.0) lost)
 
       kept_row : (f : FrameType) → x ≡ Some f → length f.stack ≤ (b t).method.max_stack → Met (of.front (b t) i + k)
       kept_row f is few =

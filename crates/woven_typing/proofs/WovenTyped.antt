@@ -25,7 +25,7 @@ use Rattle.block_template.specs.declared.item.Role.TheVariants as roles
 use Rattle.block_template.specs.Blocks.{Clauses, clauses_of, has_block, plan_of}
 use Rattle.block_template.specs.Frames.{Around, frame_at}
 use Rattle.class_weaving.specs.Outcome.{IsWovenClass, IsWovenMethod}
-use Rattle.woven_typing.specs.Framing.{around_of, client_of, front_in, frames_woven, item_framed, items_of, low, place_of, typing_of}
+use Rattle.woven_typing.specs.Framing.{around_of, client_of, front_in, frames_woven, item_framed, items_of, low, insn_place, typing_of}
 use Rattle.woven_typing.specs.Renaming.{frame_renamed}
 use Rattle.woven_typing.specs.WovenTyping.{BlocksAreReachedSo, BlocksAreTold, ClientsAreTold, IsGiven, IsInsnAt, IsToldAs, WovenIsTyped, front, is_reached, kept_frame}
 use Rattle.woven_typing.proofs.Body as of
@@ -273,7 +273,7 @@ module _ (old new : Program) (policy : Policy) (mode : Mode) (typing : Typing) (
   abbrev its_frame : Option FrameType
   its_frame =
       item_framed (clauses_of policy callee) (front_in (client_of old policy mode own class method))
-      (place_of (client_of old policy mode own class method) at insn (target.ApiMethod callee)) (kept_frame typing own class index method at) item
+      (insn_place (client_of old policy mode own class method) at insn (target.ApiMethod callee)) (kept_frame typing own class index method at) item
 
   item_told : IsToldAs new (typing_of old policy mode typing) own index (front policy mode method at + k) its_frame
   unfolding body_of
@@ -284,7 +284,7 @@ module _ (old new : Program) (policy : Policy) (mode : Mode) (typing : Typing) (
       let b : Body = body_of old new policy mode g own index class other method made there.class_there there.method_there of_class of_method in
       frames.frame_item b (frames_in class.methods (frames_told typing own) index) at callee insn x.0 there.insn_there there.ref_there x.1 has k item e
       ∙ ap (λ (f : Option FrameType). item_framed (clauses_of policy callee) (front_in (client_of old policy mode own class method))
-      (place_of (client_of old policy mode own class method) at insn (target.ApiMethod callee)) f item)
+      (insn_place (client_of old policy mode own class method) at insn (target.ApiMethod callee)) f item)
       (kept_is old new policy mode typing g shape own index at class method insn (target.ApiMethod callee) there))
 
   reached_by : (these : Clauses) (near : Around) (role : Role) → is_some (frame_at these near role) ≡ is_reached role
@@ -305,13 +305,13 @@ module _ (old new : Program) (policy : Policy) (mode : Mode) (typing : Typing) (
 
   some_by : (o : Option FrameType)
       → is_some (item_framed (clauses_of policy callee) (front_in (client_of old policy mode own class method))
-      (place_of (client_of old policy mode own class method) at insn (target.ApiMethod callee)) o item)
+      (insn_place (client_of old policy mode own class method) at insn (target.ApiMethod callee)) o item)
       ≡ (is_some o && is_reached item.role)
   some_by None = refl
   some_by (Some f) =
       reached_by (clauses_of policy callee)
       (around_of (front_in (client_of old policy mode own class method))
-      (place_of (client_of old policy mode own class method) at insn (target.ApiMethod callee)) f) item.role
+      (insn_place (client_of old policy mode own class method) at insn (target.ApiMethod callee)) f) item.role
 
   item_reached : reached new (typing_of old policy mode typing) own index (front policy mode method at + k)
       ≡ (is_some (kept_frame typing own class index method at) && is_reached item.role)

@@ -87,8 +87,8 @@ pub record Client : Type 0 where
   pub method : Method
 
 -- an instruction of it, and what its operand names
-abbrev pub place_of : Client → ℕ → Insn → Target → Place
-place_of client at insn ref = record {
+abbrev pub insn_place : Client → ℕ → Insn → Target → Place
+insn_place client at insn ref = record {
   program = client.program;
   own = client.own;
   class = client.class;
@@ -103,7 +103,7 @@ front_in client at = moved_in (plan_of client.policy client.mode) client.method 
 
 abbrev pub insn_framed : Client → ℕ → Insn → Target → Option FrameType → Frames
 insn_framed client at insn ref frame =
-    part_framed client.policy client.mode (front_in client) (place_of client at insn ref) ref (low client.method.max_stack frame)
+    part_framed client.policy client.mode (front_in client) (insn_place client at insn ref) ref (low client.method.max_stack frame)
 
 -- those of the instructions from the index `at` on
 abbrev pub parts_framed : Client → ℕ → List Insn → List Target → Frames → Frames

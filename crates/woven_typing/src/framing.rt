@@ -19,7 +19,7 @@ ghost use Rattle.woven_typing.specs.Framing.{
   items_of,
   low,
   parts_framed,
-  place_of,
+  insn_place,
 };
 
 use crate::behind::{CallPlace, frame_behind};
@@ -190,8 +190,8 @@ impl<'a> Client<'a> {
         })
     }
 
-    fn place_of(&self, at: u32, insn: &'a Insn, target: &'a Target) -> CallPlace<'a>
-        ensures { result ≡ place_of self.now at insn.now target.now }
+    fn insn_place(&self, at: u32, insn: &'a Insn, target: &'a Target) -> CallPlace<'a>
+        ensures { result ≡ insn_place self.now at insn.now target.now }
     {
         CallPlace {
             program: self.program,
@@ -296,7 +296,8 @@ fn put_block(
     callee: u32,
     frame: Option<&FrameType>,
 ) -> Result<(), NoMemory>
-    ensures { OnOk result (out.new ≡ out.old ++ block_framed client.now.policy client.now.mode (front_in client.now) place.now callee (option_copied frame.entry)) }
+    ensures { OnOk result (out.new ≡ out.old
+        ++ block_framed client.now.policy client.now.mode (front_in client.now) place.now callee (option_copied frame.entry)) }
 {
     let items = client.items(alloc, place.method.max_locals, callee)?;
     match frame {
@@ -341,7 +342,7 @@ fn put_insn(
     match target {
         Target::ApiMethod(callee) => {
             if has_clauses(client.policy, *callee) {
-                let place = client.place_of(at, insn, target);
+                let place = client.insn_place(at, insn, target);
                 put_block(alloc, out, client, &place, *callee, kept)
             } else {
                 put_alone(alloc, out, client, kept)

@@ -211,7 +211,8 @@ fn without(
     left: usize,
     taken: usize,
 ) -> Result<FrameType, NoMemory>
-    ensures { IfOk result (λ made. made ≡ record { locals = saved_locals keeps.now around.now left; stack = below taken around.now.before.stack }) }
+    ensures { IfOk result (λ made. made
+        ≡ record { locals = saved_locals keeps.now around.now left; stack = below taken around.now.before.stack }) }
 {
     let (below, _) = split_top(around.before.stack.as_slice(), taken);
     let mut stack = List::new(alloc);
@@ -243,7 +244,8 @@ fn behind_call(alloc: Global, keeps: &Keeps, around: &Around) -> Result<FrameTyp
 
 /// Where the call gave its result, or its block is left.
 fn given(alloc: Global, around: &Around) -> Result<FrameType, NoMemory>
-    ensures { IfOk result (λ made. made ≡ record { locals = padded around.now.base around.now.after.locals; stack = around.now.after.stack }) }
+    ensures { IfOk result (λ made. made
+        ≡ record { locals = padded around.now.base around.now.after.locals; stack = around.now.after.stack }) }
 {
     let mut locals = List::new(alloc);
     let mut stack = List::new(alloc);
@@ -418,7 +420,10 @@ fn among(
     left: u32,
     loaded: u32,
 ) -> Result<FrameType, NoMemory>
-    ensures { IfOk result (λ made. made ≡ record { locals = saved_locals keeps.now around.now left; stack = below (kept_arguments keeps.now - loaded) around.now.before.stack }) }
+    ensures { IfOk result (λ made. made ≡ record {
+      locals = saved_locals keeps.now around.now left;
+      stack = below (kept_arguments keeps.now - loaded) around.now.before.stack;
+    }) }
 {
     let taken = keeps.arguments().saturating_sub(loaded as usize);
     without(alloc, keeps, around, left as usize, taken)

@@ -50,7 +50,8 @@ fn method_framed(
     told: &[Frames],
 ) -> Result<Frames, NoMemory>
     requires { IsPolicy policy.now }
-    ensures { IfOk result (λ made. made ≡ frames_woven (client_of program.now policy.now mode own class.now method.now) (list_at told.now 0)) }
+    ensures { IfOk result (λ made. made
+        ≡ frames_woven (client_of program.now policy.now mode own class.now method.now) (list_at told.now 0)) }
 {
     let client = Client::new(alloc, program, policy, mode, own, class, method)?;
     frames_woven(alloc, &client, first_of(told))
