@@ -1,6 +1,6 @@
 //! What comes next after an instruction, and whether the notes there are as they are asked to be.
 
-ghost use Rattle.std.specs.Prelude.{◌≡◌, ◌&&◌, option_copied, option_map};
+ghost use Rattle.std.specs.Prelude.{◌≡◌, option_copied, option_map};
 ghost use Rattle.std.specs.List.{list_all};
 ghost use Rattle.insn_codec.specs.Control.{jump_targets};
 ghost use Rattle.block_logic.specs.Lent.{asked_lent, row_lent};
