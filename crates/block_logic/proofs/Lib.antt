@@ -1,6 +1,5 @@
 pub mod ExitRows
 pub mod Lists
-pub mod Covering
 pub mod Ruled
 pub mod Steps
 pub mod ClientFrames

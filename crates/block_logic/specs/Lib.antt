@@ -5,7 +5,6 @@ pub mod Standing
 pub mod Rows
 pub mod Lent
 pub mod Notes
-pub mod Testing
 pub mod State
 pub mod Accepted
 pub mod Meaning

@@ -4,3 +4,4 @@ mod Noted
 mod Accepting
 mod Security
 mod Denied
+pub mod Covering

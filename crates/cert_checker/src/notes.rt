@@ -7,7 +7,9 @@ ghost use Rattle.bytecode_model.specs.Typed.{list_at};
 ghost use Rattle.block_logic.specs.Accepted.{reached_fault, rules_of};
 ghost use Rattle.cert_checker.specs.Acceptance.{in_classes, in_method, in_methods, notes_fault};
 
-use block_logic::{Rules, note_fault, state_at};
+use crate::note_rules::note_fault;
+use crate::state::state_at;
+use block_logic::Rules;
 use bytecode_model::{LinkedClass, Method, Program};
 use cert_format::{Certificate, FrameType, Note};
 use conspec_automaton::Policy;

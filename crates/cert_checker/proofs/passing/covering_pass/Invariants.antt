@@ -2,8 +2,8 @@ use Rattle.std.proofs.Common.{◌≡◌, length}
 use Rattle.std.specs.List.{list_all}
 use Rattle.block_logic.specs.Lent.{asked_lent}
 use Rattle.block_logic.specs.Notes.{handlers_of, note_passes}
-use Rattle.block_logic.specs.Testing.{passes}
-use Rattle.block_logic.proofs.passing.covering_pass.Given as goal
+use Rattle.cert_checker.specs.Testing.{passes}
+use Rattle.cert_checker.proofs.passing.covering_pass.Given as goal
 
 abbrev pub invariant-loop-handler : goal.invariant-loop-handler
 invariant-loop-handler l =

@@ -6,11 +6,9 @@ ghost use Rattle.insn_codec.specs.Control.{jump_targets};
 ghost use Rattle.block_logic.specs.Lent.{asked_lent, row_lent};
 ghost use Rattle.block_logic.specs.Notes.{all_pass, first_handler, handlers_of, handlers_pass, is_stop, is_taking, jump_of, meets, next_pass};
 ghost use Rattle.block_logic.specs.Notes.{note_passes, past_of, thrown_of};
-ghost use Rattle.block_logic.specs.Testing.{passes};
+ghost use Rattle.cert_checker.specs.Testing.{passes};
 
-use crate::lent::{AskedRef, RowRef};
-use crate::rules::{Here, Rules};
-use crate::standing::{is_open, may_stand, takes_for_call};
+use block_logic::{AskedRef, Here, RowRef, Rules, is_open, may_stand, takes_for_call};
 use bytecode_model::{Handler, Handlers, Method};
 use cert_format::Note;
 use insn_codec::{Insn, goes_on};

@@ -1,6 +1,6 @@
 use Rattle.std.proofs.Common.{◌≡◌, ◌+◌, length}
 use Rattle.block_logic.specs.State.{wrong_field}
-use Rattle.block_logic.proofs.state.wrong_field.Given as goal
+use Rattle.cert_checker.proofs.state.wrong_field.Given as goal
 
 abbrev pub invariant-loop-left : goal.invariant-loop-left
 invariant-loop-left l = record {

@@ -12,15 +12,11 @@ ghost use Rattle.block_logic.specs.Rows.{Given, begins_owed, calls_of, free_row,
 ghost use Rattle.block_logic.specs.Rows.{may_leave, may_push, owed_row, returned, row, stage_behind, stop_row, taken, taking_row, thrown};
 ghost use Rattle.block_logic.specs.Standing.{is_hold};
 
-use crate::checks::check_row;
-use crate::clauses::{clause_at, clause_of, needs, result_of};
-use crate::lent::{AskedRef, CheckRef, NoteRef, RowRef, gives, leads};
-use crate::operands::{
-    calls, enters, is_way_out, leaves, loaded, pushes, pushes_null, pushes_state, stored, throws,
-    variable_named,
+use block_logic::{
+    AskedRef, CheckRef, NoteRef, RowRef, Rules, asks_kept, begun, calls, check_row, clause_at,
+    clause_of, enters, gives, in_phase, is_after, is_hold, is_way_out, leads, leaves, loaded,
+    needs, pushes, pushes_null, pushes_state, result_of, stored, throws, variable_named,
 };
-use crate::rules::Rules;
-use crate::standing::{asks_kept, begun, in_phase, is_after, is_hold};
 use bytecode_model::Target;
 use cert_format::{Mode, Note, Phase8, Site, Term};
 use conspec_automaton::Policy;

@@ -2,9 +2,9 @@ use Rattle.std.proofs.Common.{ap}
 use Rattle.std.specs.List.{list_all}
 use Rattle.block_logic.specs.Lent.{asked_lent}
 use Rattle.block_logic.specs.Notes.{note_passes}
-use Rattle.block_logic.specs.Testing.{passes}
-use Rattle.block_logic.proofs.Covering.{same_covering}
-use Rattle.block_logic.proofs.passing.covering_pass.Goals as goal
+use Rattle.cert_checker.specs.Testing.{passes}
+use Rattle.cert_checker.proofs.Covering.{same_covering}
+use Rattle.cert_checker.proofs.passing.covering_pass.Goals as goal
 
 pub loop-handler-init : goal.loop-handler-init
 loop-handler-init c =

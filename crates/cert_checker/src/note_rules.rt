@@ -2,22 +2,20 @@
 
 ghost use Rattle.std.specs.Prelude.{◌≡◌, ◌==◌, ◌&&◌, ◌||◌, not, drop, if◌then◌else◌, is_some, option_copied, option_map};
 ghost use Rattle.insn_codec.specs.Shapes.{shape_of};
-ghost use Rattle.block_logic.specs.declared.passing.Test.TheVariants.{Meets, StopsWell};
+ghost use Rattle.cert_checker.specs.declared.passing.Test.TheVariants.{Meets, StopsWell};
 ghost use Rattle.block_logic.specs.Lent.{asked_lent, row_lent};
 ghost use Rattle.block_logic.specs.Notes.{all_pass, calls_well, catches_all, catches_well, first_broken, is_duty_of, is_free, is_granted, is_held, is_owed_for_throw};
 ghost use Rattle.block_logic.specs.Notes.{is_stop, leaves_alone, names_method, note_fault, row_fault, rules_at, thrown_by};
 ghost use Rattle.block_logic.specs.Operands.{calls, enters, has_clause, leaves, writes_static};
 ghost use Rattle.block_logic.specs.Standing.{is_open};
-ghost use Rattle.block_logic.specs.Testing.{passes};
+ghost use Rattle.cert_checker.specs.Testing.{passes};
 
-use crate::lent::{AskedRef, RowRef};
-use crate::operands::{
-    calls, enters, has_clause, is_way_out, leaves, pushes_state, variable_named, writes_static,
-};
 use crate::passing::{Test, all_pass, first_handler, is_stop, meets, next_pass};
 use crate::rows::{is_duty, is_ready, row, thrown};
-use crate::rules::{Here, Rules};
-use crate::standing::{is_exceptional, is_open};
+use block_logic::{
+    AskedRef, Here, RowRef, Rules, calls, enters, has_clause, is_exceptional, is_open, is_way_out,
+    leaves, pushes_state, variable_named, writes_static,
+};
 use bytecode_model::{Handler, Method, Target};
 use cert_format::{Note, Site};
 use insn_codec::{Shape, shape_of};

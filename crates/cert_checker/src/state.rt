@@ -4,7 +4,7 @@ ghost use Rattle.std.specs.Prelude.{◌≡◌, ◌^◌, ◌<◌, bytes_eq, lengt
 ghost use Rattle.block_logic.specs.State.{class_fault, field_name, field_type, has_no_more, is_field_of, is_first, names_first};
 ghost use Rattle.block_logic.specs.State.{state_at, state_fault, tells_first, wrong_field};
 
-use crate::operands::STATE;
+use block_logic::STATE;
 use bytecode_model::{LinkedClass, is_text, text_at};
 use class_codec::{Attr, Const, Member};
 use conspec_automaton::Policy;

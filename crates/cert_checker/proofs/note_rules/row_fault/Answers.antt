@@ -4,7 +4,7 @@ use Rattle.insn_codec.specs.Shapes.{shape_of}
 use Rattle.block_logic.specs.Lent.{row_lent}
 use Rattle.block_logic.specs.Notes.{Here, first_broken, rules_at, leaves_alone, calls_well, catches_well}
 use Rattle.block_logic.specs.Rows.{Row, row}
-use Rattle.block_logic.proofs.note_rules.row_fault.Goals as goal
+use Rattle.cert_checker.proofs.note_rules.row_fault.Goals as goal
 
 -- three rules that hold
 behind_three : (a b c : Bool) (rest : List (ℕ × Bool)) → a ≡ true → b ≡ true → c ≡ true → first_broken ((1, a) ∷ (2, b) ∷ (3, c) ∷ rest) ≡ first_broken rest

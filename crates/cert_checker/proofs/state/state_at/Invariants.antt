@@ -4,7 +4,7 @@ use Rattle.std.specs.List.{position_from}
 use Rattle.bytecode_model.specs.declared.program.LinkedClass.{LinkedClass}
 use Rattle.block_logic.specs.Operands.{state_name}
 use Rattle.block_logic.specs.State.{state_at}
-use Rattle.block_logic.proofs.state.state_at.Given as goal
+use Rattle.cert_checker.proofs.state.state_at.Given as goal
 
 abbrev pub invariant-loop-left : goal.invariant-loop-left
 invariant-loop-left l = record {
