@@ -3,19 +3,19 @@ use Rattle.bytecode_model.specs.declared.program.Program.{Program}
 use Rattle.cert_format.specs.declared.certificate.Certificate.{Certificate}
 use Rattle.conspec_automaton.specs.declared.policy.Policy.{Policy}
 use Rattle.block_logic.specs.Obeying.{IsObeying}
-use Rattle.block_logic.proofs.ClientAnswers.{client_answers}
-use Rattle.block_logic.proofs.ClientSteps.{client_steps}
+use Rattle.block_logic.proofs.Client.Answers.{client_answers}
+use Rattle.block_logic.proofs.Client.Steps.{client_steps}
 use Rattle.block_logic.proofs.Composing.{StepLaws}
 use Rattle.block_logic.proofs.Obeyed.{Proved}
-use Rattle.block_logic.proofs.OwnerAnswers.{owner_answers}
-use Rattle.block_logic.proofs.OwnerGranted.{SeenIsEnough}
-use Rattle.block_logic.proofs.OwnerSteps.{owner_steps}
-use Rattle.block_logic.proofs.OwnerTaking.{taking_steps, taking_waits}
+use Rattle.block_logic.proofs.Owner.Answers.{owner_answers}
+use Rattle.block_logic.proofs.Owner.Granted.{SeenIsEnough}
+use Rattle.block_logic.proofs.Owner.Steps.{owner_steps}
+use Rattle.block_logic.proofs.Owner.Taking.{taking_steps, taking_waits}
 use Rattle.block_logic.proofs.Ruled.{BeginsOpen, OpenIsFree, RulesHold}
 use Rattle.block_logic.proofs.RulesHold.{begins_open, open_is_free, rules_hold}
 use Rattle.block_logic.proofs.Starting.{starts_well}
-use Rattle.block_logic.proofs.ClientBegins.{rests_client}
-use Rattle.block_logic.proofs.ClientFrames.{Laws}
+use Rattle.block_logic.proofs.Client.Begins.{rests_client}
+use Rattle.block_logic.proofs.Client.Frames.{Laws}
 use Rattle.block_logic.proofs.Steps.{StartsWell}
 
 module _ (program : Program) (policy : Policy) (certificate : Certificate) (o : IsObeying program policy certificate) where

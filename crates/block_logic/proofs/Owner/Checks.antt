@@ -44,16 +44,16 @@ use Rattle.block_logic.specs.Operands.{adds, compared, goes, leaves, variable_na
 use Rattle.block_logic.specs.Rows.{Check, Given, all_hold, Open, Row, Rules, asks_atom, check_row, failing, gives, holding_on, is_negation, is_relation, last_but_one, last_term, leads, leaves_done, left, next_atom, only_if, sum_of, sum_on_top, term_pushed, tested, tests, with_terms, without, writes}
 use Rattle.block_logic.specs.Standing.{branches_of, is_before, is_done}
 use Rattle.block_logic.specs.Terms.{base_term}
-use Rattle.block_logic.proofs.OwnerActing.{ActsHolding, gives_up, goes_with, goes_with_behind, leads_behind}
-use Rattle.block_logic.proofs.OwnerGoing.{compares_there, goes_holding, goes_there, owner_frame}
-use Rattle.block_logic.proofs.OwnerMoves.{Goes, adds as adds_up, compared_to, compares as compares_tops, jumps, writes_variable}
-use Rattle.block_logic.proofs.OwnerPushes.{term_is_pushed, variable_is_named}
-use Rattle.block_logic.proofs.OwnerRows.{Asks, gives_asks, leads_asks, leaves_is, one_row, where_so}
-use Rattle.block_logic.proofs.OwnerStanding.{passed, passed_leads}
-use Rattle.block_logic.proofs.OwnerTerms.{last_is, last_two_are, one_above, one_more, same_terms_are, term_set, top_of}
-use Rattle.block_logic.proofs.OwnerTests.{AsksAtom, atom_asked, compared_holds, one_more_fails, one_more_holds, relates_not, relates_same, sum_is}
-use Rattle.block_logic.proofs.OwnerUnlocked.{never_unlocked}
-use Rattle.block_logic.proofs.OwnerVariables.{map_some_is, set_elsewhere, set_there}
+use Rattle.block_logic.proofs.Owner.Acting.{ActsHolding, gives_up, goes_with, goes_with_behind, leads_behind}
+use Rattle.block_logic.proofs.Owner.Going.{compares_there, goes_holding, goes_there, owner_frame}
+use Rattle.block_logic.proofs.Owner.Moves.{Goes, adds as adds_up, compared_to, compares as compares_tops, jumps, writes_variable}
+use Rattle.block_logic.proofs.Owner.Pushes.{term_is_pushed, variable_is_named}
+use Rattle.block_logic.proofs.Owner.Rows.{Asks, gives_asks, leads_asks, leaves_is, one_row, where_so}
+use Rattle.block_logic.proofs.Owner.Standing.{passed, passed_leads}
+use Rattle.block_logic.proofs.Owner.Terms.{last_is, last_two_are, one_above, one_more, same_terms_are, term_set, top_of}
+use Rattle.block_logic.proofs.Owner.Tests.{AsksAtom, atom_asked, compared_holds, one_more_fails, one_more_holds, relates_not, relates_same, sum_is}
+use Rattle.block_logic.proofs.Owner.Unlocked.{never_unlocked}
+use Rattle.block_logic.proofs.Owner.Variables.{map_some_is, set_elsewhere, set_there}
 use Rattle.block_logic.proofs.Ruled.{LeadsTo, OpenIsFree, RulesHold}
 use Rattle.block_logic.proofs.Steps.{ChangesOwner}
 

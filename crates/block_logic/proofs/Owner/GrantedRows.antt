@@ -15,7 +15,7 @@ use Rattle.block_logic.specs.Clauses.{needs}
 use Rattle.block_logic.specs.Operands.{loaded, pushes_state}
 use Rattle.block_logic.specs.Rows.{Given, Nothing, Row, Rules, calls_of, granted_row, returned, thrown}
 use Rattle.block_logic.specs.Standing.{is_hold}
-use Rattle.block_logic.proofs.OwnerRows.{Asks, gives_asks, leaves_is, one_row, where_so}
+use Rattle.block_logic.proofs.Owner.Rows.{Asks, gives_asks, leaves_is, one_row, where_so}
 
 loads_is : (shape : Shape) (slot : ℕ) → loaded shape ≡ Some slot → (kind : Kind) × (shape ≡ shapes.Load kind slot)
 loads_is (shapes.Load kind place) slot e = let same : place ≡ slot = cc in (kind, ap (shapes.Load kind) same)

@@ -37,10 +37,10 @@ use Rattle.block_logic.specs.Obeying.{IsObeying}
 use Rattle.block_logic.specs.Operands.{calls, has_clause, is_state_name, loads_constant, pushes_state, state_name, variable_named}
 use Rattle.block_logic.specs.Rows.{Open, Row, Rules, Taking, free_row, leads}
 use Rattle.block_logic.specs.Standing.{takes_for_call}
-use Rattle.block_logic.proofs.ClientChanges.{Good, GoodIf, Keeps}
-use Rattle.block_logic.proofs.ClientFrames.{Laws, goes_free, may_go_on, moved_frame}
-use Rattle.block_logic.proofs.ClientInsns.{acts_good, shape_good}
-use Rattle.block_logic.proofs.ClientValues.{lock_kept}
+use Rattle.block_logic.proofs.Client.Changes.{Good, GoodIf, Keeps}
+use Rattle.block_logic.proofs.Client.Frames.{Laws, goes_free, may_go_on, moved_frame}
+use Rattle.block_logic.proofs.Client.Insns.{acts_good, shape_good}
+use Rattle.block_logic.proofs.Client.Values.{lock_kept}
 use Rattle.block_logic.proofs.Ruled.{BeginsOpen, IsRuled, LeadsTo, OpenIsFree, RulesHold}
 use Rattle.block_logic.proofs.Steps.{Acts, ClientSteps}
 

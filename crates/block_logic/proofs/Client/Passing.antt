@@ -14,8 +14,8 @@ use Rattle.guest_model.specs.Kinds.{class_of_value}
 use Rattle.guest_model.proofs.Options.{IfThere, all_drop, all_get, all_reverse, all_set, all_take, if_either, if_mapped, if_none, if_some, if_then, is_there, some_is, there_or}
 use Rattle.block_logic.specs.Fitting.{ArePassed, IsCleanObject}
 use Rattle.block_logic.specs.Meaning.{AreClean, IsClean}
-use Rattle.block_logic.proofs.ClientBegins.{RunsClean}
-use Rattle.block_logic.proofs.ClientValues.{IsCleanHeap}
+use Rattle.block_logic.proofs.Client.Begins.{RunsClean}
+use Rattle.block_logic.proofs.Client.Values.{IsCleanHeap}
 
 pub some_of : {A : Type 0} (P : A → Type 0) (o : Option A) → IfThere P o → IfSome o P
 some_of P None h = tt

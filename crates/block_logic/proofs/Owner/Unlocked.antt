@@ -32,9 +32,9 @@ use Rattle.block_logic.specs.Meaning.{note_of}
 use Rattle.block_logic.specs.Obeying.{IsObeying}
 use Rattle.block_logic.specs.Rows.{Given, Row, Rules, granted_row}
 use Rattle.block_logic.specs.Standing.{is_hold}
-use Rattle.block_logic.proofs.OwnerGoing.{goes_behind}
-use Rattle.block_logic.proofs.OwnerGrantedRows.{LoadsNext as Loads, granted_cases}
-use Rattle.block_logic.proofs.OwnerStanding.{same_note_is, slice_get_there}
+use Rattle.block_logic.proofs.Owner.Going.{goes_behind}
+use Rattle.block_logic.proofs.Owner.GrantedRows.{LoadsNext as Loads, granted_cases}
+use Rattle.block_logic.proofs.Owner.Standing.{same_note_is, slice_get_there}
 use Rattle.block_logic.proofs.Ruled.{LeadsTo, RulesHold}
 
 -- ---- the next instruction

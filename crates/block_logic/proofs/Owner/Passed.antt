@@ -28,7 +28,7 @@ use Rattle.guest_model.specs.Seen.{object_shown, value_shown, values_shown}
 use Rattle.guest_model.proofs.Options.{all_drop, all_get, all_reverse, all_take, map_of, some_is}
 use Rattle.block_logic.specs.Meaning.{AreClean, IsClean, IsEventOf, TellsArguments, loads}
 use Rattle.block_logic.specs.Standing.{in_phase}
-use Rattle.block_logic.proofs.OwnerStanding.{slice_get_there}
+use Rattle.block_logic.proofs.Owner.Standing.{slice_get_there}
 
 -- ---- lists
 

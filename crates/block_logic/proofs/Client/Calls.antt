@@ -36,13 +36,13 @@ use Rattle.guest_model.proofs.Options.{all_append, all_get, if_either, if_made, 
 use Rattle.block_logic.specs.Fitting.{AreBelow, ArePassed, state_of}
 use Rattle.block_logic.specs.Meaning.{AreClean, IsBelow, IsClean}
 use Rattle.block_logic.specs.Operands.{has_clause}
-use Rattle.block_logic.proofs.ClientAnswers.{without_clause}
-use Rattle.block_logic.proofs.ClientBegins.{RunsClean, begun_client}
-use Rattle.block_logic.proofs.ClientChanges.{Good, GoodIf, Keeps, after_free, changes, ends_good, enters_good, throws_new_good, went_on}
-use Rattle.block_logic.proofs.ClientFrames.{Laws, goes_behind, moved_frame}
-use Rattle.block_logic.proofs.ClientPassing.{PassesClean, aimed_clean, changed_clean, own_or_target, run_clean, some_of, started_clean, taken_clean, target_clean, there_is}
-use Rattle.block_logic.proofs.ClientThrows.{below_catching}
-use Rattle.block_logic.proofs.ClientValues.{IsCleanHeap, kept_heap}
+use Rattle.block_logic.proofs.Client.Answers.{without_clause}
+use Rattle.block_logic.proofs.Client.Begins.{RunsClean, begun_client}
+use Rattle.block_logic.proofs.Client.Changes.{Good, GoodIf, Keeps, after_free, changes, ends_good, enters_good, throws_new_good, went_on}
+use Rattle.block_logic.proofs.Client.Frames.{Laws, goes_behind, moved_frame}
+use Rattle.block_logic.proofs.Client.Passing.{PassesClean, aimed_clean, changed_clean, own_or_target, run_clean, some_of, started_clean, taken_clean, target_clean, there_is}
+use Rattle.block_logic.proofs.Client.Throws.{below_catching}
+use Rattle.block_logic.proofs.Client.Values.{IsCleanHeap, kept_heap}
 
 module _ (program : Program) (policy : Policy) (certificate : Certificate) (laws : Laws program policy certificate)
     (machine : Machine)

@@ -33,10 +33,10 @@ use Rattle.guest_model.proofs.Options.{IfThere, all_get, if_either, if_mapped, i
 use Rattle.block_logic.specs.Fitting.{AreBelow, ArePassed, IsClientCall, state_of}
 use Rattle.block_logic.specs.Meaning.{IsClean}
 use Rattle.block_logic.specs.Obeying.{IsObeying}
-use Rattle.block_logic.proofs.ClientChanges.{Good, GoodIf, Keeps, returned_good, throws_new_good}
-use Rattle.block_logic.proofs.ClientFrames.{Laws}
-use Rattle.block_logic.proofs.ClientThrows.{below_catching}
-use Rattle.block_logic.proofs.ClientValues.{kept_object, lock_kept}
+use Rattle.block_logic.proofs.Client.Changes.{Good, GoodIf, Keeps, returned_good, throws_new_good}
+use Rattle.block_logic.proofs.Client.Frames.{Laws}
+use Rattle.block_logic.proofs.Client.Throws.{below_catching}
+use Rattle.block_logic.proofs.Client.Values.{kept_object, lock_kept}
 use Rattle.block_logic.proofs.Ruled.{BeginsOpen, OpenIsFree, RulesHold}
 use Rattle.block_logic.proofs.Steps.{ClientAnswers}
 

@@ -4,10 +4,10 @@ use Rattle.cert_format.specs.declared.certificate.Certificate.{Certificate}
 use Rattle.cert_format.specs.declared.note.Note.TheVariants as notes
 use Rattle.conspec_automaton.specs.declared.policy.Policy.{Policy}
 use Rattle.block_logic.specs.Obeying.{IsObeying}
-use Rattle.block_logic.proofs.OwnerChecks.{held_steps}
-use Rattle.block_logic.proofs.OwnerGranted.{SeenIsEnough, granted_steps}
-use Rattle.block_logic.proofs.OwnerOwed.{owed_steps}
-use Rattle.block_logic.proofs.OwnerStop.{stop_steps}
+use Rattle.block_logic.proofs.Owner.Checks.{held_steps}
+use Rattle.block_logic.proofs.Owner.Granted.{SeenIsEnough, granted_steps}
+use Rattle.block_logic.proofs.Owner.Owed.{owed_steps}
+use Rattle.block_logic.proofs.Owner.Stop.{stop_steps}
 use Rattle.block_logic.proofs.Ruled.{OpenIsFree, RulesHold}
 use Rattle.block_logic.proofs.Steps.{OwnerSteps}
 

@@ -69,7 +69,7 @@ use Rattle.guest_model.proofs.Options.{IfThere, all_drop, all_get, all_replicate
 use Rattle.block_logic.specs.Fitting.{IsCleanObject}
 use Rattle.block_logic.specs.Meaning.{AreClean, IsClean}
 use Rattle.block_logic.specs.Operands.{variable_named}
-use Rattle.block_logic.proofs.ClientValues.{IsCleanHeap, KeepsLock, first_clean, kept_heap, kept_object, kept_statics, new_clean, places_clean, value_set_clean}
+use Rattle.block_logic.proofs.Client.Values.{IsCleanHeap, KeepsLock, first_clean, kept_heap, kept_object, kept_statics, new_clean, places_clean, value_set_clean}
 
 -- what names no variable of the class names another class
 pub apart_from : (class state : ℕ) (field : ℕ) → variable_named state (target.Field class field) ≡ None → class ≢ state

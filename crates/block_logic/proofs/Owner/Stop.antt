@@ -34,12 +34,12 @@ use Rattle.guest_model.proofs.Options.{and_then_of, map_of}
 use Rattle.block_logic.specs.Meaning.{MeansStop}
 use Rattle.block_logic.specs.Obeying.{IsObeying}
 use Rattle.block_logic.specs.Operands.{calls, is_way_out, number_pushed}
-use Rattle.block_logic.proofs.OwnerActing.{ActsHolding, goes_with_behind}
-use Rattle.block_logic.proofs.OwnerGranted.{how_calls}
-use Rattle.block_logic.proofs.OwnerMoves.{on_heap}
-use Rattle.block_logic.proofs.OwnerPushes.{pushes_this}
-use Rattle.block_logic.proofs.OwnerRows.{gives_asks, where_so}
-use Rattle.block_logic.proofs.OwnerTerms.{same_number}
+use Rattle.block_logic.proofs.Owner.Acting.{ActsHolding, goes_with_behind}
+use Rattle.block_logic.proofs.Owner.Granted.{how_calls}
+use Rattle.block_logic.proofs.Owner.Moves.{on_heap}
+use Rattle.block_logic.proofs.Owner.Pushes.{pushes_this}
+use Rattle.block_logic.proofs.Owner.Rows.{gives_asks, where_so}
+use Rattle.block_logic.proofs.Owner.Terms.{same_number}
 use Rattle.block_logic.proofs.Steps.{ChangesOwner}
 
 -- ---- the method that stops the program

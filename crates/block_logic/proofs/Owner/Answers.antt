@@ -55,11 +55,11 @@ use Rattle.block_logic.specs.Obeying.{FitsListing, IsObeying}
 use Rattle.block_logic.specs.Operands.{calls, pushes_state}
 use Rattle.block_logic.specs.Rows.{Given, Row, Rules, granted_row, is_duty, returned as asked_behind, thrown as asked_thrown}
 use Rattle.block_logic.specs.Standing.{in_phase, is_before, is_hold}
-use Rattle.block_logic.proofs.OwnerEvents.{has_its_clause, is_pending, leads_still}
-use Rattle.block_logic.proofs.OwnerGoing.{IsHeldBy, goes_behind, owner_frame}
-use Rattle.block_logic.proofs.OwnerGrantedRows.{CallsMethod, granted_cases}
-use Rattle.block_logic.proofs.OwnerPassed.{shown_as}
-use Rattle.block_logic.proofs.OwnerStanding.{owned_followed}
+use Rattle.block_logic.proofs.Owner.Events.{has_its_clause, is_pending, leads_still}
+use Rattle.block_logic.proofs.Owner.Going.{IsHeldBy, goes_behind, owner_frame}
+use Rattle.block_logic.proofs.Owner.GrantedRows.{CallsMethod, granted_cases}
+use Rattle.block_logic.proofs.Owner.Passed.{shown_as}
+use Rattle.block_logic.proofs.Owner.Standing.{owned_followed}
 use Rattle.block_logic.proofs.Ruled.{IsRuled, LeadsTo, RulesHold}
 use Rattle.block_logic.proofs.Steps.{ChangesOwner, OwnerAnswers}
 

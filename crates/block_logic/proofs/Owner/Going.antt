@@ -34,8 +34,8 @@ use Rattle.block_logic.specs.Fitting.{AreBelow, IsClientFrame, IsCleanWorld, IsO
 use Rattle.block_logic.specs.Meaning.{AreClean, AreState, IsFrame, Leads, Owns}
 use Rattle.block_logic.specs.Obeying.{IsObeying}
 use Rattle.block_logic.specs.Rows.{Given, Open}
-use Rattle.block_logic.proofs.OwnerEvents.{leads_followed, leads_still_seen}
-use Rattle.block_logic.proofs.OwnerStanding.{owned_followed, stands}
+use Rattle.block_logic.proofs.Owner.Events.{leads_followed, leads_still_seen}
+use Rattle.block_logic.proofs.Owner.Standing.{owned_followed, stands}
 use Rattle.block_logic.proofs.Ruled.{LeadsTo, OpenIsFree}
 use Rattle.block_logic.proofs.Steps.{ChangesOwner}
 

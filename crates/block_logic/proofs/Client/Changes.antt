@@ -39,11 +39,11 @@ use Rattle.guest_model.specs.Throwing.{bare_object, locks_left}
 use Rattle.guest_model.proofs.Options.{IfThere, all_append, if_mapped, if_some, if_then, some_is, unless_of}
 use Rattle.block_logic.specs.Fitting.{AreBelow, AreClientFrames, ArePassed, IsClient, held_locks, state_of}
 use Rattle.block_logic.specs.Meaning.{AreClean, IsClean, IsFrame}
-use Rattle.block_logic.proofs.ClientBegins.{begun_frames, clean_list, ended_client, lock_clean, rests_client}
-use Rattle.block_logic.proofs.ClientFrames.{FreeAt, Laws, goes_behind, went_free}
-use Rattle.block_logic.proofs.ClientMonitors.{all_given_up_stay, entered_stays}
-use Rattle.block_logic.proofs.ClientThrows.{AreCatching, all_locks_clean, locks_clean, thrown_client, unwound_client}
-use Rattle.block_logic.proofs.ClientValues.{KeepsLock, kept_monitors, kept_object}
+use Rattle.block_logic.proofs.Client.Begins.{begun_frames, clean_list, ended_client, lock_clean, rests_client}
+use Rattle.block_logic.proofs.Client.Frames.{FreeAt, Laws, goes_behind, went_free}
+use Rattle.block_logic.proofs.Client.Monitors.{all_given_up_stay, entered_stays}
+use Rattle.block_logic.proofs.Client.Throws.{AreCatching, all_locks_clean, locks_clean, thrown_client, unwound_client}
+use Rattle.block_logic.proofs.Client.Values.{KeepsLock, kept_monitors, kept_object}
 use Rattle.block_logic.proofs.Steps.{ChangesClient}
 
 module _ (program : Program) (policy : Policy) (certificate : Certificate) where

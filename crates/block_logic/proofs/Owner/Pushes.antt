@@ -43,8 +43,8 @@ use Rattle.block_logic.specs.Meaning.{AreTerms, TellsArguments, TellsIn, TellsRe
 use Rattle.block_logic.specs.Operands.{loaded_number, number_named, number_pushed, pushes_state, reads_static, state_name, variable_named}
 use Rattle.block_logic.specs.Rows.{Rules, argument_in, field_term, local_term, result_in, term_pushed}
 use Rattle.block_logic.specs.Standing.{is_after, is_before}
-use Rattle.block_logic.proofs.OwnerMoves.{Behind, loads, pushes_constant, pushes_number, reads_variable}
-use Rattle.block_logic.proofs.OwnerTerms.{term_at}
+use Rattle.block_logic.proofs.Owner.Moves.{Behind, loads, pushes_constant, pushes_number, reads_variable}
+use Rattle.block_logic.proofs.Owner.Terms.{term_at}
 
 -- ---- shapes and operands
 

@@ -23,10 +23,10 @@ use Rattle.block_logic.specs.Fitting.{held_locks, locked_by, state_of}
 use Rattle.block_logic.specs.Meaning.{AreClean, AreState, IsAbove, Leads, Owns, lock_of}
 use Rattle.block_logic.specs.Obeying.{IsObeying}
 use Rattle.block_logic.specs.Rows.{Asked, Given, Open}
-use Rattle.block_logic.proofs.OwnerGoing.{client_frame, frame_moved, goes_behind, goes_free, goes_holding, owner_frame}
-use Rattle.block_logic.proofs.OwnerLock.{lock_left}
-use Rattle.block_logic.proofs.OwnerMoves.{Goes, leaves_lock}
-use Rattle.block_logic.proofs.OwnerRows.{Asks}
+use Rattle.block_logic.proofs.Owner.Going.{client_frame, frame_moved, goes_behind, goes_free, goes_holding, owner_frame}
+use Rattle.block_logic.proofs.Owner.Lock.{lock_left}
+use Rattle.block_logic.proofs.Owner.Moves.{Goes, leaves_lock}
+use Rattle.block_logic.proofs.Owner.Rows.{Asks}
 use Rattle.block_logic.proofs.Ruled.{IsRuled, LeadsTo, OpenIsFree}
 use Rattle.block_logic.proofs.Steps.{Acts, ChangesOwner}
 

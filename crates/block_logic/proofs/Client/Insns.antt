@@ -58,15 +58,15 @@ use Rattle.guest_model.proofs.Options.{IfThere, all_drop, all_get, and_then_of, 
 use Rattle.block_logic.specs.Fitting.{AreBelow, AreClientFrames, held_locks, state_of}
 use Rattle.block_logic.specs.Meaning.{AreClean, IsClean, IsFrame, note_of}
 use Rattle.block_logic.specs.Operands.{calls, has_clause, is_state_name, pushes_state, state_name, variable_named}
-use Rattle.block_logic.proofs.ClientBegins.{clean_list}
-use Rattle.block_logic.proofs.ClientCalls.{calls_good}
-use Rattle.block_logic.proofs.ClientChanges.{Good, GoodIf, Keeps, after_free, fitted_free, returned_good, throws_good, throws_new_good, went_on, with_held}
-use Rattle.block_logic.proofs.ClientClasses.{named_clean}
-use Rattle.block_logic.proofs.ClientFrames.{FreeAt, GoesFree, Laws, insn_is, may_go_on}
-use Rattle.block_logic.proofs.ClientMonitors.{all_given_up_stay, entered_stays, left_stays}
-use Rattle.block_logic.proofs.ClientThrows.{AreCatching}
-use Rattle.block_logic.proofs.ClientValues.{clean_kept, names_clean}
-use Rattle.block_logic.proofs.ClientWorks.{Comes, work_comes}
+use Rattle.block_logic.proofs.Client.Begins.{clean_list}
+use Rattle.block_logic.proofs.Client.Calls.{calls_good}
+use Rattle.block_logic.proofs.Client.Changes.{Good, GoodIf, Keeps, after_free, fitted_free, returned_good, throws_good, throws_new_good, went_on, with_held}
+use Rattle.block_logic.proofs.Client.Classes.{named_clean}
+use Rattle.block_logic.proofs.Client.Frames.{FreeAt, GoesFree, Laws, insn_is, may_go_on}
+use Rattle.block_logic.proofs.Client.Monitors.{all_given_up_stay, entered_stays, left_stays}
+use Rattle.block_logic.proofs.Client.Throws.{AreCatching}
+use Rattle.block_logic.proofs.Client.Values.{clean_kept, names_clean}
+use Rattle.block_logic.proofs.Client.Works.{Comes, work_comes}
 
 -- ---- constants
 

@@ -34,12 +34,12 @@ use Rattle.block_logic.specs.Obeying.{IsObeying}
 use Rattle.block_logic.specs.Operands.{pushes_state, stored}
 use Rattle.block_logic.specs.Rows.{Given, Open, Row, Rules, may_keep, may_leave, may_push, owed_row}
 use Rattle.block_logic.specs.Standing.{is_after}
-use Rattle.block_logic.proofs.OwnerActing.{ActsHolding, gives_up, goes_with, goes_with_behind, leads_behind}
-use Rattle.block_logic.proofs.OwnerGrantedRows.{this_slot}
-use Rattle.block_logic.proofs.OwnerMoves.{stores}
-use Rattle.block_logic.proofs.OwnerPushes.{pushes_lock}
-use Rattle.block_logic.proofs.OwnerRows.{Asks, gives_asks, leads_asks, leaves_is, one_row, where_so}
-use Rattle.block_logic.proofs.OwnerVariables.{set_there}
+use Rattle.block_logic.proofs.Owner.Acting.{ActsHolding, gives_up, goes_with, goes_with_behind, leads_behind}
+use Rattle.block_logic.proofs.Owner.GrantedRows.{this_slot}
+use Rattle.block_logic.proofs.Owner.Moves.{stores}
+use Rattle.block_logic.proofs.Owner.Pushes.{pushes_lock}
+use Rattle.block_logic.proofs.Owner.Rows.{Asks, gives_asks, leads_asks, leaves_is, one_row, where_so}
+use Rattle.block_logic.proofs.Owner.Variables.{set_there}
 use Rattle.block_logic.proofs.Ruled.{OpenIsFree}
 use Rattle.block_logic.proofs.Steps.{ChangesOwner}
 

@@ -32,9 +32,9 @@ use Rattle.block_logic.specs.Meaning.{AreClean, AreState, AreTerms, HasResult, H
 use Rattle.block_logic.specs.Obeying.{FitsListing, IsObeying}
 use Rattle.block_logic.specs.Standing.{asks_kept, branches_of, done, fails, in_phase, is_after, is_before, is_done, is_empty, may_begin, may_stand, same_note, same_phase, same_site, stands_for_held}
 use Rattle.block_logic.specs.Terms.{after_updates, as_taken, same_terms}
-use Rattle.block_logic.proofs.OwnerEvents.{due_event, due_followed, leads_followed, pending_taken, pends_followed, stays_ranged, taken_by}
-use Rattle.block_logic.proofs.OwnerTerms.{same_terms_are}
-use Rattle.block_logic.proofs.OwnerVariables.{as_taken_are, branch_well, done_are, map_some_is}
+use Rattle.block_logic.proofs.Owner.Events.{due_event, due_followed, leads_followed, pending_taken, pends_followed, stays_ranged, taken_by}
+use Rattle.block_logic.proofs.Owner.Terms.{same_terms_are}
+use Rattle.block_logic.proofs.Owner.Variables.{as_taken_are, branch_well, done_are, map_some_is}
 
 -- ---- the same note
 

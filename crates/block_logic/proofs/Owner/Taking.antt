@@ -39,11 +39,11 @@ use Rattle.block_logic.specs.Meaning.{AreClean, AreState, IsAbove, IsDue, IsEven
 use Rattle.block_logic.specs.Obeying.{IsObeying}
 use Rattle.block_logic.specs.Rows.{Given, taken}
 use Rattle.block_logic.specs.Standing.{begun, is_before}
-use Rattle.block_logic.proofs.OwnerGoing.{goes_behind, goes_holding, owner_frame}
-use Rattle.block_logic.proofs.OwnerLock.{lock_taken, lock_waits}
-use Rattle.block_logic.proofs.OwnerMoves.{enters_lock}
-use Rattle.block_logic.proofs.OwnerRows.{enters_is, gives_asks, where_so}
-use Rattle.block_logic.proofs.OwnerStanding.{before_is, begun_means, none_there, some_there}
+use Rattle.block_logic.proofs.Owner.Going.{goes_behind, goes_holding, owner_frame}
+use Rattle.block_logic.proofs.Owner.Lock.{lock_taken, lock_waits}
+use Rattle.block_logic.proofs.Owner.Moves.{enters_lock}
+use Rattle.block_logic.proofs.Owner.Rows.{enters_is, gives_asks, where_so}
+use Rattle.block_logic.proofs.Owner.Standing.{before_is, begun_means, none_there, some_there}
 use Rattle.block_logic.proofs.Ruled.{IsRuled, LeadsTo, RulesHold}
 use Rattle.block_logic.proofs.Steps.{ChangesOwner, TakingSteps, TakingWaits}
 

@@ -21,8 +21,8 @@ use Rattle.guest_model.specs.Places.{method_at}
 use Rattle.guest_model.proofs.Options.{all_append, all_replicate, there_or}
 use Rattle.block_logic.specs.Fitting.{AreBelow, AreClientFrames, ArePassed, IsClient, IsClientFrame}
 use Rattle.block_logic.specs.Meaning.{AreClean, IsClean, IsFrame}
-use Rattle.block_logic.proofs.ClientClasses.{class_clean}
-use Rattle.block_logic.proofs.ClientFrames.{Laws}
+use Rattle.block_logic.proofs.Client.Classes.{class_clean}
+use Rattle.block_logic.proofs.Client.Frames.{Laws}
 
 module _ (program : Program) where
   -- what is there is no lock

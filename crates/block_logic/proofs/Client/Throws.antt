@@ -18,8 +18,8 @@ use Rattle.guest_model.specs.Throwing.{caught_in, handler_of, locks_left, unwoun
 use Rattle.guest_model.proofs.Options.{all_append, and_then_of}
 use Rattle.block_logic.specs.Fitting.{AreBelow, AreClientFrames, IsClient}
 use Rattle.block_logic.specs.Meaning.{AreClean, IsClean, IsFrame}
-use Rattle.block_logic.proofs.ClientBegins.{clean_list}
-use Rattle.block_logic.proofs.ClientFrames.{FreeAt, Laws, waits_free, went_free}
+use Rattle.block_logic.proofs.Client.Begins.{clean_list}
+use Rattle.block_logic.proofs.Client.Frames.{FreeAt, Laws, waits_free, went_free}
 
 module _ (program : Program) (policy : Policy) (certificate : Certificate) where
   -- A frame whose handlers that may catch are the client's.

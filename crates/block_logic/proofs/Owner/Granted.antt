@@ -45,15 +45,15 @@ use Rattle.block_logic.specs.Obeying.{FitsListing, IsObeying}
 use Rattle.block_logic.specs.Operands.{calls, has_clause}
 use Rattle.block_logic.specs.Rows.{Given, Row, Rules, calls_of}
 use Rattle.block_logic.specs.Standing.{in_phase}
-use Rattle.block_logic.proofs.OwnerActing.{ActsHolding, goes_with_behind, leads_behind}
-use Rattle.block_logic.proofs.OwnerEvents.{has_its_clause, leads_followed, leads_on, leads_still}
-use Rattle.block_logic.proofs.OwnerGoing.{frame_moved}
-use Rattle.block_logic.proofs.OwnerGrantedRows.{CallsMethod, LeavesLock, LoadsNext, PushesLock, granted_cases}
-use Rattle.block_logic.proofs.OwnerMoves.{loads as loads_local, on_heap}
-use Rattle.block_logic.proofs.OwnerPassed.{TakesClean, loaded_clean, loaded_many, seen_same, takes_clean}
-use Rattle.block_logic.proofs.OwnerPushes.{pushes_lock}
-use Rattle.block_logic.proofs.OwnerRows.{Asks}
-use Rattle.block_logic.proofs.OwnerUnlocked.{never_unlocked}
+use Rattle.block_logic.proofs.Owner.Acting.{ActsHolding, goes_with_behind, leads_behind}
+use Rattle.block_logic.proofs.Owner.Events.{has_its_clause, leads_followed, leads_on, leads_still}
+use Rattle.block_logic.proofs.Owner.Going.{frame_moved}
+use Rattle.block_logic.proofs.Owner.GrantedRows.{CallsMethod, LeavesLock, LoadsNext, PushesLock, granted_cases}
+use Rattle.block_logic.proofs.Owner.Moves.{loads as loads_local, on_heap}
+use Rattle.block_logic.proofs.Owner.Passed.{TakesClean, loaded_clean, loaded_many, seen_same, takes_clean}
+use Rattle.block_logic.proofs.Owner.Pushes.{pushes_lock}
+use Rattle.block_logic.proofs.Owner.Rows.{Asks}
+use Rattle.block_logic.proofs.Owner.Unlocked.{never_unlocked}
 use Rattle.block_logic.proofs.Ruled.{RulesHold}
 use Rattle.block_logic.proofs.Steps.{ChangesOwner}
 
