@@ -63,7 +63,7 @@ def fault_of(info):
 def entry_of(jar, info):
     fault = fault_of(info)
     if fault:
-        raise Unfit(f"{info.orig_filename}: {fault}")
+        raise Unfit(f"{info.orig_filename!a}: {fault}")
     try:
         found = Entry(info, jar.read(info))
     except (zipfile.BadZipFile, zlib.error, EOFError) as wrong:
