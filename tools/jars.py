@@ -105,7 +105,7 @@ def manifest_of(entries):
 def look_at_manifest(entries, main):
     """No classes from elsewhere, no class that runs before `main`, and no other `main`."""
     for name, value in manifest_of(entries):
-        if name in ("class-path", "launcher-agent-class"):
+        if value and name in ("class-path", "launcher-agent-class"):
             raise Unfit(f"its manifest has {name.title()}, which brings code that is not checked")
         if name == "main-class" and value.replace(".", "/") != main:
             raise Unfit(f"its manifest names {value} as the main class")
