@@ -23,8 +23,8 @@ class Ran(NamedTuple):
     explained: str
 
 
-class Words(NamedTuple):
-    """What the words of a command name: the files by their whole paths."""
+class Named(NamedTuple):
+    """What the words of a tool name: the files by their whole paths, and the main class as class files spell it."""
 
     jar: str
     policy: str
@@ -32,9 +32,9 @@ class Words(NamedTuple):
     main: str
 
 
-def words_of(words):
+def named_by(words):
     jar, policy, listing, main = words
-    return Words(*map(os.path.abspath, (jar, policy, listing)), main.replace(".", "/"))
+    return Named(*map(os.path.abspath, (jar, policy, listing)), main.replace(".", "/"))
 
 
 def contents(path):
@@ -87,10 +87,10 @@ def look_at_names(classes):
             raise Unfit(f"{entry.name}: it is the class {name}")
 
 
-def check(content, words):
+def check(content, named):
     """What `conspecj check` says of the class files of a jar with the certificate in it, the class of the lock last."""
     entries = entries_of(content)
-    classes = classes_of(entries, words.main)
+    classes = classes_of(entries, named.main)
     classes = [entry for entry in classes if entry.name != STATE] + [entry for entry in classes if entry.name == STATE]
     certificates = [entry for entry in entries if entry.name == CERTIFICATE]
     if not certificates:
@@ -98,7 +98,7 @@ def check(content, words):
     with tempfile.TemporaryDirectory() as folder:
         put(folder, certificates)
         files = put(folder, classes)
-        ran = run(folder, words.listing, files, ["check", words.policy, words.listing, CERTIFICATE, words.main, *files])
+        ran = run(folder, named.listing, files, ["check", named.policy, named.listing, CERTIFICATE, named.main, *files])
     if ran.status == 0:
         look_at_names(classes)
     return ran
