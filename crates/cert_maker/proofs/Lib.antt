@@ -4,3 +4,6 @@ pub mod Clauses
 pub mod Updates
 pub mod Suits
 pub mod Calling
+pub mod Shapes
+pub mod Checks
+pub mod Rows
