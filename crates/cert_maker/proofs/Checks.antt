@@ -74,7 +74,7 @@ module _ (b : Blocked) where
     pub small : n < 64
     pub is : IsBranchIn b.policy.vars b.policy.maxint (asked p clause.args clause.result) branch
 
-  clause_found : (p : Phase) → IfSome (clause_in clauses p) (IsOf b.policy p)
+  pub clause_found : (p : Phase) → IfSome (clause_in clauses p) (IsOf b.policy p)
   clause_found Before = clause_is b.policy b.call.callee Before b.read
   clause_found After = clause_is b.policy b.call.callee After b.read
   clause_found Exceptional = clause_is b.policy b.call.callee Exceptional b.read

@@ -7,3 +7,6 @@ pub mod Calling
 pub mod Shapes
 pub mod Checks
 pub mod Rows
+pub mod Roles
+pub mod RoleRows
+pub mod CheckRows
