@@ -10,3 +10,4 @@ pub mod Rows
 pub mod Roles
 pub mod RoleRows
 pub mod CheckRows
+pub mod AllRoles
