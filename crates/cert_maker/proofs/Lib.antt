@@ -11,3 +11,7 @@ pub mod Roles
 pub mod RoleRows
 pub mod CheckRows
 pub mod AllRoles
+pub mod Parts
+pub mod Unwoven
+pub mod Aiming
+pub mod Covering
