@@ -1,10 +1,12 @@
 -- Where the call stands in its block, and that no other instruction of the block is a call of the client's.
-use Rattle.std.proofs.Common.{◌≡◌, ℕ, zero, suc, ◌+◌, ◌<◌, ◌≤◌, ℤ, pos, Bool, true, false, cond, List, [], ◌∷◌, ◌++◌, length, map, Option, Some, None, refl, sym, ap, subst, ◌∙◌, inl, inr, arith, length-append}
+use Rattle.std.proofs.Common.{◌≡◌, ◌≢◌, ℕ, zero, suc, ◌+◌, ◌<◌, ◌≤◌, ℤ, pos, Bool, true, false, cond, List, [], ◌∷◌, ◌++◌, length, map, Option, Some, None, refl, sym, ap, subst, ◌∙◌, inl, inr, arith, length-append}
 use Rattle.std.specs.Prelude.{◌⊎◌, ◌&&◌, IfSome, neg_ℤ, int_le, nat_lt, nat_le, slice_get, ⊤}
 use Rattle.std.specs.Ordering.{int_eq}
 use Rattle.std.specs.List.{AllByRecursion}
+use Rattle.std.proofs.lemmas.Bool.{false≢true}
 use Rattle.std.proofs.lemmas.List.{length-map, map-append}
 use Rattle.insn_codec.specs.declared.opcodes.TheConstants.{ILOAD, ALOAD, ILOAD_0, ALOAD_0, ISTORE, ASTORE, ISTORE_0, ASTORE_0, GETSTATIC}
+use Rattle.bytecode_model.proofs.Lists.{some_is}
 use Rattle.cert_format.specs.declared.certificate.Mode.{Mode}
 use Rattle.conspec_tree.specs.declared.types.Atom.{Atom}
 use Rattle.conspec_tree.specs.declared.types.Base.{Base}
@@ -207,3 +209,17 @@ module _ (mode : Mode) (bools : List Bool) (base : ℕ) (clauses : Clauses) wher
           → AllByRecursion (λ (i : Item). is_call i.insn ≡ false) xs
       no_calls [] h = tt
       no_calls (x ∷ xs) h = (h.0.other, no_calls xs h.1)
+
+  call_there : slice_get all index ≡ Some call_item
+  call_there = ap (λ (xs : List Item). slice_get xs index) split ∙ by first
+    where
+      by : (xs : List Item) → slice_get (xs ++ call_item ∷ if_reached passes later) (length xs) ≡ Some call_item
+      by [] = refl
+      by (x ∷ xs) = by xs
+
+  -- What is not the call stands elsewhere.
+  pub other_place : (k : ℕ) (i : Item) → slice_get all k ≡ Some i → is_call i.insn ≡ false → index ≢ k
+  other_place k i e other same =
+      let here : slice_get all index ≡ Some i = ap (slice_get all) same ∙ e in
+      let is : call_item ≡ i = some_is call_item i (sym call_there ∙ here) in
+      false≢true (sym other ∙ ap (λ (x : Item). is_call x.insn) (sym is))

@@ -15,3 +15,5 @@ pub mod Parts
 pub mod Unwoven
 pub mod Aiming
 pub mod Covering
+pub mod Plans
+pub mod Body
