@@ -17,3 +17,4 @@ pub mod Aiming
 pub mod Covering
 pub mod Plans
 pub mod Body
+pub mod Rules
