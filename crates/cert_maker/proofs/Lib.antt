@@ -18,3 +18,4 @@ pub mod Covering
 pub mod Plans
 pub mod Body
 pub mod Rules
+pub mod Standing
