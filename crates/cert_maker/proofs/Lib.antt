@@ -19,3 +19,4 @@ pub mod Plans
 pub mod Body
 pub mod Rules
 pub mod Standing
+pub mod Passing

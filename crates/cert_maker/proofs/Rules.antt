@@ -51,7 +51,7 @@ weaker_all p q weaker (x ∷ xs) e =
     let both = and_parts (p x) (list_all p xs) e in
     and_from (q x) (list_all q xs) (weaker x both.0) (weaker_all p q weaker xs both.1)
 
-or_last : (x y : Bool) → y ≡ true → (x || y) ≡ true
+pub or_last : (x y : Bool) → y ≡ true → (x || y) ≡ true
 or_last true y e = refl
 or_last false y e = e
 

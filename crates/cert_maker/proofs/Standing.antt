@@ -58,11 +58,11 @@ use Rattle.cert_maker.proofs.Rules.{all_hold, caught_all}
 
 -- ---- lists
 
-each_with : {X : Type 0} (P Q : X → Type 0) (xs : List X) → AllByRecursion P xs → ((x : X) → Contains xs x → P x → Q x) → AllByRecursion Q xs
+pub each_with : {X : Type 0} (P Q : X → Type 0) (xs : List X) → AllByRecursion P xs → ((x : X) → Contains xs x → P x → Q x) → AllByRecursion Q xs
 each_with P Q [] all f = tt
 each_with P Q (x ∷ xs) all f = (f x (0, omega arith, refl) all.0, each_with P Q xs all.1 (λ y c p. f y (suc c.0, omega (arith, c.1), c.2) p))
 
-contained_right : {X : Type 0} (xs ys : List X) (y : X) → Contains ys y → Contains (xs ++ ys) y
+pub contained_right : {X : Type 0} (xs ys : List X) (y : X) → Contains ys y → Contains (xs ++ ys) y
 contained_right [] ys y c = c
 contained_right (x ∷ xs) ys y c =
     let later = contained_right xs ys y c in
@@ -193,7 +193,7 @@ module _ (b : Body) (frames : List (Option FrameType)) (ready : IsReady b frames
     item_told k item e reached =
         note_there b frames i k (target.ApiMethod callee) (note blocked item.role) names (note_item b.policy b.mode (base b) callee has k item e) reached
 
-    less : i < n b
+    pub less : i < n b
     less = omega (arith, slice_get_within (refs b) i (target.ApiMethod callee) names, same_length b)
 
     pub item_reached : (k : ℕ) (item : Item) → slice_get all k ≡ Some item → Reached (front b i + k) → item.role ≢ roles.Unreached
