@@ -245,7 +245,7 @@ module _ (b : Blocked) where
   hold_is Hold = refl
   hold_is Release = refl
 
-  abbrev granted : Note
+  abbrev pub granted : Note
   granted = notes.Granted (site b Before) (is_hold b.mode) (needs b.policy (site b Before).method) false
 
   pub call_told : (locked : Bool) → locked ≡ is_locked b.mode → note b (roles.Call locked) ≡ granted

@@ -23,12 +23,13 @@ use Rattle.offset_patch.specs.Fits.{JumpsWithin}
 use Rattle.offset_patch.specs.Splicing.{call_place, is_call}
 use Rattle.offset_patch.proofs.Calling.{place_here, place_later}
 use Rattle.block_template.specs.declared.item.Item.{Item}
+use Rattle.block_template.specs.declared.item.Role.{Role}
 use Rattle.block_template.specs.declared.item.Role.TheVariants as roles
-use Rattle.block_template.specs.Blocks.{Clauses, call, front, is_locked, items, lets_pass}
+use Rattle.block_template.specs.Blocks.{Clauses, call, called, catches, caught, from_call, front, handler_at, is_locked, items, lets_pass, with_handler}
 use Rattle.block_template.specs.Parts.{if_reached, item, unreached}
 use Rattle.block_template.specs.Pushing.{field, load, local, push, push_base, store}
 use Rattle.block_template.proofs.Rows.{Rows, Tried, front_each, rest_each}
-use Rattle.block_template.proofs.Sizes.{rest, reached_length}
+use Rattle.block_template.proofs.Sizes.{rest, reached_length, with_handler_length}
 use Rattle.cert_maker.proofs.Lists.{either_side}
 
 -- It is not the call, and jumps within the block.
@@ -223,3 +224,46 @@ module _ (mode : Mode) (bools : List Bool) (base : ℕ) (clauses : Clauses) wher
       let here : slice_get all index ≡ Some i = ap (slice_get all) same ∙ e in
       let is : call_item ≡ i = some_is call_item i (sym call_there ∙ here) in
       false≢true (sym other ∙ ap (λ (x : Item). is_call x.insn) (sym is))
+
+  -- The call is made, with the lock as the mode has it, where control may come to it.
+  pub record IsCalled (role : Role) : Type 0 where
+    pub is : role ≡ roles.Call (is_locked mode)
+    pub passes_on : lets_pass clauses.before ≡ true
+
+  pub call_role : (k : ℕ) (i : Item) → slice_get all k ≡ Some i → k ≡ index → i.role ≢ roles.Unreached → IsCalled i.role
+  call_role k i e at reached = by passes refl
+    where
+      role_is : i.role ≡ cond passes (roles.Call (is_locked mode)) roles.Unreached
+      role_is =
+          ap (λ (x : Item). x.role)
+          (some_is i call_item (sym (ap (slice_get all) (sym at) ∙ e) ∙ call_there))
+
+      by : (c : Bool) → passes ≡ c → IsCalled i.role
+      by true f = record {
+        is = role_is ∙ ap (λ (c : Bool). cond c (roles.Call (is_locked mode)) roles.Unreached) f;
+        passes_on = f;
+      }
+      by false f = absurd (reached (role_is ∙ ap (λ (c : Bool). cond c (roles.Call (is_locked mode)) roles.Unreached) f))
+
+  -- ---- the handler
+
+  abbrev after_call : ℕ
+  after_call = index + length (called mode bools base index clauses)
+
+  many : length all ≡ after_call + length (cond (catches mode clauses.exceptional) (with_handler mode bools base (after_call + 1) clauses) [])
+  many =
+      omega (
+        arith,
+        length-append first (if_reached passes (from_call mode bools base index clauses)),
+        reached_length passes (from_call mode bools base index clauses),
+        length-append (called mode bools base index clauses) (caught mode bools base after_call clauses),
+      )
+
+  within_by : (c : Bool) → length all ≡ after_call + length (cond c (with_handler mode bools base (after_call + 1) clauses) [])
+      → IfSome (cond c (Some (after_call + 1)) None) (λ place. place ≤ length all)
+  within_by true e = omega (arith, e, with_handler_length mode bools base (after_call + 1) clauses)
+  within_by false e = tt
+
+  -- The handler stands in the block.
+  pub handler_within : IfSome (handler_at mode bools base clauses) (λ place. place ≤ length all)
+  handler_within = within_by (catches mode clauses.exceptional) many

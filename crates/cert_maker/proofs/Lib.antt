@@ -20,3 +20,4 @@ pub mod Body
 pub mod Rules
 pub mod Standing
 pub mod Passing
+pub mod Methods

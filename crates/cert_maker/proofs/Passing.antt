@@ -99,7 +99,7 @@ use Rattle.cert_maker.proofs.Standing.{
 use Rattle.cert_maker.proofs.Suits.{Suits, items_suit}
 use Rattle.cert_maker.proofs.Unwoven.{part_alone}
 
-same_clause : (policy : Policy) (ref : Target) → has_clause policy ref ≡ has_block policy ref
+pub same_clause : (policy : Policy) (ref : Target) → has_clause policy ref ≡ has_block policy ref
 same_clause policy (target.ApiMethod callee) = refl
 same_clause policy target.None = refl
 same_clause policy (target.Builtin i) = refl
@@ -132,7 +132,7 @@ module _ (b : Body) (frames : List (Option FrameType)) (ready : IsReady b frames
   next_here at insn e =
       subst (λ (c : Bool). Contains (cond c ((at + 1) ∷ []) [] ++ jump_targets insn) (at + 1)) (sym e) (0, omega arith, refl)
 
-  next_passes : (at : ℕ) (insn : Insn) (ref : Target) (row : Row) → slice_get b.made.insns at ≡ Some insn → R at
+  pub next_passes : (at : ℕ) (insn : Insn) (ref : Target) (row : Row) → slice_get b.made.insns at ≡ Some insn → R at
       → (goes_on (opcode_of insn) ≡ true → R (at + 1) → P row.past (at + 1))
       → AllByRecursion (λ to. R to → P row.jump to) (jump_targets insn)
       → next_pass test notes_told (Some row) (record { at = at; insn = insn; ref = ref }) ≡ true
@@ -172,7 +172,7 @@ module _ (b : Body) (frames : List (Option FrameType)) (ready : IsReady b frames
   zero_front i = omega arith
 
   -- No block's own handler covers it.
-  own_missed : (i k : ℕ) (ref : Target) → slice_get (refs b) i ≡ Some ref → k < length (part b ref)
+  pub own_missed : (i k : ℕ) (ref : Target) → slice_get (refs b) i ≡ Some ref → k < length (part b ref)
       → ((block : Block) (place : ℕ) → (plan b).block (base b) ref ≡ Some block → block.handler ≡ Some place → call_place block.insns ≢ k)
       → AllMiss (front b i + k) (own_handlers 0 (sites_in b))
   own_missed i k ref e lt other =
@@ -182,7 +182,7 @@ module _ (b : Body) (frames : List (Option FrameType)) (ready : IsReady b frames
   open_row : Row
   open_row = record { past = Open; jump = Open; thrown = Some Open }
 
-  alone_passes : (i : ℕ) (insn : Insn) (ref : Target) → slice_get b.method.insns i ≡ Some insn → slice_get (refs b) i ≡ Some ref
+  pub alone_passes : (i : ℕ) (insn : Insn) (ref : Target) → slice_get b.method.insns i ≡ Some insn → slice_get (refs b) i ≡ Some ref
       → has_block b.policy ref ≡ false → R (front b i + 0) → note_fault rules notes_told b.made (front b i + 0) ≡ None
   unfolding open_row
   alone_passes i insn ref there names none reached =
@@ -243,14 +243,14 @@ module _ (b : Body) (frames : List (Option FrameType)) (ready : IsReady b frames
     abbrev begin : ℕ
     begin = front b i
 
-    flows : Flows b.mode (bools_of b.policy) (base b) (clauses k) all (handler_at b.mode (bools_of b.policy) (base b) (clauses k))
+    pub flows : Flows b.mode (bools_of b.policy) (base b) (clauses k) all (handler_at b.mode (bools_of b.policy) (base b) (clauses k))
     flows = blocks_flow b.mode (bools_of b.policy) (base b) (clauses k) (clauses_are_asked b.policy callee ready.read).phases
 
-    part_count : length (part b ref) ≡ length all
+    pub part_count : length (part b ref) ≡ length all
     part_count = part_length b.policy b.mode (base b) callee has
 
     -- Where control comes to a place of the block, or behind it, what is asked is met.
-    place_passes : (wants : Asked) (place : ℕ) (role : Role) → role_at all place ≡ role → Arrives k wants role → place ≤ length all
+    pub place_passes : (wants : Asked) (place : ℕ) (role : Role) → role_at all place ≡ role → Arrives k wants role → place ≤ length all
         → R (begin + place) → P wants (begin + place)
     place_passes wants place role is arrives within reached = by (slice_get all place) refl
       where
@@ -278,25 +278,25 @@ module _ (b : Body) (frames : List (Option FrameType)) (ready : IsReady b frames
     -- ---- an instruction of it that is not the call
 
     module _ (place : ℕ) (item : Item) (e : slice_get all place ≡ Some item) (reached : R (begin + place)) where
-      stands : slice_get (part b ref) place ≡ Some item.insn
+      pub stands : slice_get (part b ref) place ≡ Some item.insn
       stands = part_item b.policy b.mode (base b) callee has place item e
 
-      place_few : place < length all
+      pub place_few : place < length all
       place_few = slice_get_within all place item e
 
-      reached_role : item.role ≢ roles.Unreached
+      pub reached_role : item.role ≢ roles.Unreached
       reached_role = item_reached b frames ready i callee names has place item e reached
 
-      led : IsLed b.mode (bools_of b.policy) (base b) (clauses k) (length all) (role_at all) item (role_at all (place + 1))
+      pub led : IsLed b.mode (bools_of b.policy) (base b) (clauses k) (length all) (role_at all) item (role_at all (place + 1))
       led = flows.goes place item e reached_role
 
-      suits : Suits b.mode (clauses k) item.role
+      pub suits : Suits b.mode (clauses k) item.role
       suits =
           all_get (λ (x : Item). Suits b.mode (clauses k) x.role) all place item
           (items_suit b.mode (clauses k) (clauses_are_asked b.policy callee ready.read).phases (bools_of b.policy) (base b)) e
 
       -- At the front of the code no thread is in a block.
-      first_opens : (begin + place == 0) ≡ true → is_open b.mode b.policy (note k item.role) ≡ true
+      pub first_opens : (begin + place == 0) ≡ true → is_open b.mode b.policy (note k item.role) ≡ true
       first_opens zero_is =
           let none : begin + place ≡ 0 = eqb-true _ _ zero_is in
           let at : place ≡ 0 = omega (arith, none) in
@@ -412,7 +412,7 @@ module _ (b : Body) (frames : List (Option FrameType)) (ready : IsReady b frames
             let p = of.pushes f g in
             rw (of.variable f, takes_next p.0 p.1) refl
 
-        other_passes : note_fault rules notes_told b.made (begin + place) ≡ None
+        pub other_passes : note_fault rules notes_told b.made (begin + place) ≡ None
         other_passes =
             fault_at rules notes_told b.made (begin + place) (put b.pool (fronts b) begin own item.insn) operand (note k item.role) insn_is
             (ref_there b i place ref item.insn names stands) (item_told b frames ready i callee names has place item e reached)
