@@ -21,3 +21,4 @@ pub mod Rules
 pub mod Standing
 pub mod Passing
 pub mod Methods
+pub mod StateClass
