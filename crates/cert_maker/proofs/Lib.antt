@@ -22,3 +22,5 @@ pub mod Standing
 pub mod Passing
 pub mod Methods
 pub mod StateClass
+pub mod Shape
+pub mod Accepted
