@@ -24,3 +24,5 @@ pub mod Methods
 pub mod StateClass
 pub mod Shape
 pub mod Accepted
+pub mod Small
+pub mod Alike
