@@ -125,7 +125,7 @@ use Rattle.cert_maker.proofs.Checks.{
 }
 use Rattle.cert_maker.proofs.RoleRows.{give, leave, load, lock_class, lock_taken, of_does, rethrow, save, stop, unlock_class, unlock_left}
 use Rattle.cert_maker.proofs.CheckRows.{ask, taken_row, update}
-use Rattle.cert_maker.proofs.Clauses.{clause_alike}
+use Rattle.cert_maker.proofs.ClausesAlike.{clause_alike}
 use Rattle.cert_maker.proofs.Roles.{IsNoted, argument_few, byte_is, call_note, count_is, done_wide, exit_is, few_arguments, free_noted, granted_wide, held_noted, loading_arrives, or_last, owed_wide, result_told}
 use Rattle.cert_maker.proofs.Rows.{
   granted_leaves,

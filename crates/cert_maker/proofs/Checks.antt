@@ -33,8 +33,9 @@ use Rattle.block_logic.specs.Rows.{Asked, Open, Given, Rules}
 use Rattle.block_logic.specs.Notes.{meets}
 use Rattle.block_logic.specs.Standing.{begun, branches_of, done, fails, is_done, may_stand, same_note, stands_for_held}
 use Rattle.block_logic.specs.Terms.{after_updates, as_taken}
-use Rattle.cert_maker.specs.Noting.{Called, asked_terms, atom_of, branch_at, byte, note_of, site_of, update_terms}
-use Rattle.cert_maker.proofs.Clauses as told
+use Rattle.cert_maker.specs.declared.called.Called.{Called}
+use Rattle.cert_maker.specs.Noting.{asked_terms, atom_of, branch_at, byte, note_of, site_of, update_terms}
+use Rattle.cert_maker.proofs.ClausesAlike as told
 use Rattle.cert_maker.proofs.Same.{note_itself, same_number}
 
 -- A call with a block, of a method that the policy has clauses for, which tell alike whether it gives something.

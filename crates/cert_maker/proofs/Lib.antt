@@ -1,6 +1,6 @@
 pub mod Lists
 pub mod Same
-pub mod Clauses
+pub mod ClausesAlike
 pub mod Updates
 pub mod Suits
 pub mod Calling
@@ -20,7 +20,7 @@ pub mod Body
 pub mod Rules
 pub mod Standing
 pub mod Passing
-pub mod Methods
+pub mod WholeMethods
 pub mod StateClass
 pub mod Shape
 pub mod Accepted

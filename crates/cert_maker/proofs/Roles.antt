@@ -108,7 +108,7 @@ use Rattle.cert_maker.proofs.Checks.{
   tries_arrives,
   update_is,
 }
-use Rattle.cert_maker.proofs.Clauses.{clause_alike}
+use Rattle.cert_maker.proofs.ClausesAlike.{clause_alike}
 use Rattle.cert_maker.proofs.Rows.{
   granted_leaves,
   granted_loads,

@@ -23,7 +23,7 @@ use Rattle.conspec_automaton.specs.Sound.{IsBranchIn, IsClauseIn, IsPolicy}
 use Rattle.block_logic.specs.Clauses.{clause_of, is_of_phase}
 use Rattle.cert_maker.specs.Noting.{branch_at}
 use Rattle.cert_maker.specs.Small.{IsSmall, IsSmallBase, IsSmallUpdate}
-use Rattle.cert_maker.proofs.Clauses.{found_has}
+use Rattle.cert_maker.proofs.ClausesAlike.{found_has}
 
 argument_there : (kinds : List Kind) (i : ℕ) → IsNumber (slice_get kinds i) → i < length kinds
 argument_there kinds i is = by (slice_get kinds i) refl is

@@ -46,10 +46,11 @@ use Rattle.block_logic.specs.Operands.{is_state_name, variable_named}
 use Rattle.block_logic.specs.Rows.{Asked, Open, Rules}
 use Rattle.block_logic.specs.Standing.{is_open}
 use Rattle.class_weaving.specs.Outcome.{at_fronts, own_handlers}
-use Rattle.cert_maker.specs.Noting.{Called, byte, method_notes, note_of, site_of}
+use Rattle.cert_maker.specs.declared.called.Called.{Called}
+use Rattle.cert_maker.specs.Noting.{byte, method_notes, note_of, site_of}
 use Rattle.cert_maker.proofs.Body.{Body, base, end_is, front, fronts, fronts_are, handlers_are, n, next_front, note_there, part, plan, refs, same_length, sites as sites_in}
 use Rattle.cert_maker.proofs.Checks.{Arrives, Blocked, Inside, clauses, note, rules}
-use Rattle.cert_maker.proofs.Clauses.{clause_alike}
+use Rattle.cert_maker.proofs.ClausesAlike.{clause_alike}
 use Rattle.cert_maker.proofs.Covering.{AllMiss, missed}
 use Rattle.cert_maker.proofs.Lists.{slice_there}
 use Rattle.cert_maker.proofs.Plans.{items_of, note_alone, note_item, part_length, some}

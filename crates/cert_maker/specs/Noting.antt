@@ -30,6 +30,7 @@ use Rattle.block_template.specs.declared.item.Item.{Item}
 use Rattle.block_template.specs.declared.item.Role.{Role}
 use Rattle.block_template.specs.declared.item.Role.TheVariants as roles
 use Rattle.block_template.specs.Blocks.{bools_of, clauses_of, items}
+use Rattle.cert_maker.specs.declared.called.Called.{Called}
 use Rattle.block_logic.specs.Clauses.{needs}
 use Rattle.block_logic.specs.Standing.{asks_kept, branches_of}
 use Rattle.block_logic.specs.Terms.{after_updates, as_taken, base_term}
@@ -41,11 +42,7 @@ phase_of Before = sites.Before
 phase_of After = sites.After
 phase_of Exceptional = sites.Exceptional
 
--- a call of this method, of which there are fewer than 2^16, in a method whose own locals end at `base`
-pub record Called : Type 0 where
-  pub callee : ℕ
-  pub base : ℕ
-
+-- the site of a call in a phase; there are fewer than 2^16 methods
 abbrev pub site_of : Called → Phase → Site
 site_of call phase = record { method = min call.callee 65535; phase = phase_of phase; base = call.base }
 

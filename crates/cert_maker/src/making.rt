@@ -1,0 +1,99 @@
+//! The certificate as a whole.
+
+ghost use Rattle.std.specs.Prelude.{◌≡◌, drop, IfOk};
+ghost use Rattle.bytecode_model.specs.Typed.{list_at};
+ghost use Rattle.conspec_automaton.specs.Sound.{IsPolicy};
+ghost use Rattle.cert_maker.specs.Noting.{certificate_of, class_notes, notes_of};
+
+use crate::methods::method_notes;
+use bytecode_model::{LinkedClass, Method};
+use cert_format::{Certificate, FrameType, Mode, Note, Typing};
+use conspec_automaton::Policy;
+use mon_base::{List, NoMemory};
+use std::alloc::Global;
+
+/// The certificate of the program that these classes are woven to in this mode, by its types.
+pub fn make(
+    alloc: Global,
+    classes: &[LinkedClass],
+    policy: &Policy,
+    mode: Mode,
+    typing: Typing,
+) -> Result<Certificate, NoMemory>
+    requires policy { IsPolicy policy.now }
+    ensures { IfOk result (λ made. made ≡ certificate_of classes.now policy.now mode typing) }
+{
+    let notes = notes_of(alloc, policy, mode, classes, typing.frames.as_slice())?;
+    Ok(Certificate {
+        mode,
+        typing,
+        notes,
+    })
+}
+
+fn notes_of(
+    alloc: Global,
+    policy: &Policy,
+    mode: Mode,
+    classes: &[LinkedClass],
+    frames: &[List<List<Option<FrameType>>>],
+) -> Result<List<List<List<Note>>>, NoMemory>
+    requires policy { IsPolicy policy.now }
+    ensures { IfOk result (λ notes. notes ≡ notes_of policy.now mode classes.now frames.now) }
+{
+    let mut notes = List::new(alloc);
+    let mut classes = classes;
+    let mut frames = frames;
+    while let [class, later @ ..] = classes {
+        let methods = class.methods.as_slice();
+        notes.push(class_notes(alloc, policy, mode, methods, first_of(frames))?)?;
+        classes = later;
+        frames = behind_first(frames);
+    }
+    notes.push(List::new(alloc))?;
+    Ok(notes)
+}
+
+/// The notes of the methods with code.
+fn class_notes(
+    alloc: Global,
+    policy: &Policy,
+    mode: Mode,
+    methods: &[Method],
+    frames: &[List<Option<FrameType>>],
+) -> Result<List<List<Note>>, NoMemory>
+    requires policy { IsPolicy policy.now }
+    ensures { IfOk result (λ notes. notes ≡ class_notes policy.now mode methods.now frames.now) }
+{
+    let mut notes = List::new(alloc);
+    let mut methods = methods;
+    let mut frames = frames;
+    while let [method, later @ ..] = methods {
+        if !method.insns.is_empty() {
+            notes.push(method_notes(alloc, policy, mode, method, first_of(frames))?)?;
+            frames = behind_first(frames);
+        }
+        methods = later;
+    }
+    Ok(notes)
+}
+
+/// The items of the first list, or none where there is no list.
+fn first_of<T>(lists: &[List<T>]) -> &[T]
+    ensures { result.now ≡ list_at lists.now 0 }
+{
+    match lists {
+        [] => &[],
+        [first, ..] => first.as_slice(),
+    }
+}
+
+/// The lists behind the first.
+fn behind_first<T>(lists: &[List<T>]) -> &[List<T>]
+    ensures { result.now ≡ drop 1 lists.now }
+{
+    match lists {
+        [] => lists,
+        [_, others @ ..] => others,
+    }
+}
