@@ -1,11 +1,10 @@
 -- A woven program is accepted with the certificate that is made of its types.
-use Rattle.std.proofs.Common.{◌≡◌, ◌≢◌, ℕ, zero, suc, ◌+◌, ◌<◌, ◌≤◌, Bool, true, false, cond, List, [], ◌∷◌, ◌++◌, length, map, take, Option, Some, None, refl, sym, ap, subst, ◌∙◌, ◌⊎◌, inl, inr, arith}
-use Rattle.std.specs.Prelude.{◌==◌, ◌&&◌, bytes_eq, is_some, nat_lt, option_and_then, slice_get, slice_index}
+use Rattle.std.proofs.Common.{◌≡◌, ℕ, zero, suc, ◌+◌, ◌<◌, ◌≤◌, Bool, true, false, cond, List, [], ◌∷◌, ◌++◌, length, map, take, Option, Some, None, refl, sym, ap, subst, ◌∙◌, ◌⊎◌, inl, inr, arith}
+use Rattle.std.specs.Prelude.{◌==◌, ◌&&◌, is_some, nat_lt, option_and_then, slice_get, slice_index}
 use Rattle.std.specs.List.{AllByRecursion}
 use Rattle.std.specs.Option.{option_map_or}
-use Rattle.std.proofs.lemmas.Bool.{and_from, and_parts, cases_Bool, eqb-true, false≢true, lt-ltb, ne_eqb}
+use Rattle.std.proofs.lemmas.Bool.{and_from, and_parts, cases_Bool, false≢true, lt-ltb, ne_eqb}
 use Rattle.std.proofs.lemmas.Option.{slice_get_past, slice_get_within}
-use Rattle.class_codec.specs.declared.tree.Const.{Const}
 use Rattle.insn_codec.specs.declared.insn.Insn.{Insn}
 use Rattle.bytecode_model.specs.declared.program.LinkedClass.{LinkedClass}
 use Rattle.bytecode_model.specs.declared.program.Method.{Method}
@@ -17,7 +16,7 @@ use Rattle.bytecode_model.specs.Rules.{frame_of}
 use Rattle.bytecode_model.specs.Shape.{IsShaped, coded, has_code}
 use Rattle.bytecode_model.specs.Sound.{IsSound, IsSoundClass, IsSoundMethod}
 use Rattle.bytecode_model.specs.Typed.{IsTyped, frames_in, frames_told, list_at, reached}
-use Rattle.bytecode_model.proofs.Lists.{all_append, all_get}
+use Rattle.bytecode_model.proofs.Lists.{all_get}
 use Rattle.cert_format.specs.declared.certificate.Certificate.{Certificate}
 use Rattle.cert_format.specs.declared.certificate.Mode.{Mode}
 use Rattle.cert_format.specs.declared.note.Note.{Note}
@@ -33,13 +32,13 @@ use Rattle.block_template.specs.Blocks.{plan_of}
 use Rattle.block_logic.specs.Accepted.{IsAccepted, fault_in_class, note_fault_at, notes_in, notes_told, reached_fault, rules_of}
 use Rattle.block_logic.specs.Notes.{note_fault}
 use Rattle.block_logic.specs.Obeying.{FitsListing}
-use Rattle.block_logic.specs.Operands.{is_state_name, state_name, variable_named}
+use Rattle.block_logic.specs.Operands.{is_state_name, variable_named}
 use Rattle.block_logic.specs.Rows.{Rules}
 use Rattle.block_logic.specs.State.{state_at, state_fault}
 use Rattle.class_weaving.specs.Outcome.{Each, IsFreeOfState, IsFreeTarget, IsWoven, IsWovenClass, IsWovenMethod}
 use Rattle.class_weaving.specs.Woven.{sites_of}
 use Rattle.cert_maker.specs.Accepting.{IsStopped, WovenIsAccepted}
-use Rattle.cert_maker.specs.Noting.{certificate_of, class_notes, method_notes, notes_of}
+use Rattle.cert_maker.specs.Noting.{certificate_of, class_notes, method_notes}
 use Rattle.cert_maker.proofs.Body.{Body, same_length}
 use Rattle.cert_maker.proofs.ClausesAlike.{result_alike}
 use Rattle.cert_maker.proofs.Lists.{each_back, slice_there}

@@ -1,156 +1,51 @@
 -- Each role of a block has a row of its note, and so has the call.
-use Rattle.std.proofs.Common.{◌≡◌, ◌≢◌, ℕ, zero, suc, ◌+◌, ◌-◌, ◌<◌, ◌≤◌, ℤ, pos, neg_ℤ, ◌≤ℤ◌, Bool, true, false, cond, List, [], ◌∷◌, ◌++◌, length, take, Option, Some, None, refl, sym, ap, subst, ◌∙◌, arith}
-use Rattle.std.specs.Bool.{beq}
-use Rattle.std.specs.Prelude.{◌==◌, ◌&&◌, ◌||◌, IfSome, int_le, is_some, ◌-ℤ◌, not, nat_lt, slice_get, slice_set, option_and_then, option_map, ⊤}
-use Rattle.std.specs.Option.{option_map_or}
-use Rattle.std.proofs.lemmas.Bool.{and_from, false≢true, lt-ltb}
-use Rattle.std.proofs.lemmas.Int.{ints}
-use Rattle.std.proofs.lemmas.List.{take_all}
-use Rattle.std.proofs.lemmas.Option.{slice_get_within}
+use Rattle.std.proofs.Common.{◌≡◌, ℕ, zero, suc, ◌+◌, Bool, true, false, cond, List, Option, Some, None, refl, sym, ap, subst, ◌∙◌, arith}
+use Rattle.std.specs.Prelude.{◌==◌, ◌||◌, is_some, nat_lt, slice_get, option_and_then, option_map}
+use Rattle.std.proofs.lemmas.Bool.{false≢true}
 use Rattle.class_codec.specs.declared.tree.Const.{Const}
 use Rattle.insn_codec.specs.declared.insn.Insn.{Insn}
-use Rattle.insn_codec.specs.declared.opcodes.TheConstants.{ATHROW, ILOAD, ILOAD_0, GETSTATIC, GOTO, IADD, INVOKESTATIC, LDC_W, MONITORENTER, MONITOREXIT, PUTSTATIC, ACONST_NULL}
+use Rattle.insn_codec.specs.declared.opcodes.TheConstants.{GOTO}
 use Rattle.insn_codec.specs.declared.shape.Heap.TheVariants as heap
-use Rattle.insn_codec.specs.declared.shape.Kind.TheVariants as operands
 use Rattle.insn_codec.specs.declared.shape.How.{How}
-use Rattle.insn_codec.specs.declared.shape.How.TheVariants as hows
-use Rattle.insn_codec.specs.declared.shape.Shape.{Shape}
 use Rattle.insn_codec.specs.declared.shape.Shape.TheVariants as shapes
-use Rattle.insn_codec.specs.Shapes.{shape_of}
-use Rattle.api_listing.specs.BuiltIn.{method_rows}
 use Rattle.bytecode_model.specs.declared.program.Target.{Target}
 use Rattle.bytecode_model.specs.declared.program.Target.TheVariants as target
-use Rattle.bytecode_model.proofs.Lists.{all_get, some_is}
+use Rattle.bytecode_model.proofs.Lists.{some_is}
 use Rattle.cert_format.specs.declared.certificate.Mode.{Mode}
 use Rattle.cert_format.specs.declared.certificate.Mode.TheVariants.{Hold, Release}
 use Rattle.cert_format.specs.declared.note.Note.{Note}
 use Rattle.cert_format.specs.declared.note.Note.TheVariants as notes
 use Rattle.cert_format.specs.declared.note.Phase8.TheVariants as sites
-use Rattle.cert_format.specs.declared.note.Term.{Term}
-use Rattle.cert_format.specs.declared.note.Term.TheVariants as terms
 use Rattle.conspec_tree.specs.declared.types.Atom.{Atom}
-use Rattle.conspec_tree.specs.declared.types.Base.{Base}
-use Rattle.conspec_tree.specs.declared.types.Base.TheVariants as bases
 use Rattle.conspec_tree.specs.declared.types.Kind.{Kind}
-use Rattle.conspec_tree.specs.declared.types.Kind.TheVariants as kinds
 use Rattle.conspec_tree.specs.declared.types.Phase.{Phase}
 use Rattle.conspec_tree.specs.declared.types.Phase.TheVariants.{Before, After, Exceptional}
 use Rattle.conspec_tree.specs.declared.types.Update.{Update}
-use Rattle.conspec_tree.specs.declared.types.Update.TheVariants.{Set, Add}
-use Rattle.conspec_tree.specs.Tree.{IsBase, IsNumber, IsUpdateIn, asked}
-use Rattle.conspec_tree.specs.Updates.{target as updated_variable}
 use Rattle.conspec_automaton.specs.declared.policy.Branch.{Branch}
 use Rattle.conspec_automaton.specs.declared.policy.Clause.{Clause}
-use Rattle.conspec_automaton.specs.Next.{has_clauses}
 use Rattle.offset_patch.specs.declared.block.BlockInsn.{BlockInsn}
-use Rattle.offset_patch.specs.declared.block.BlockInsn.TheVariants.{Plain, Byte, Want, Jump, Call}
-use Rattle.offset_patch.specs.declared.block.PoolWant.TheVariants.{StateClass, Exit}
+use Rattle.offset_patch.specs.declared.block.BlockInsn.TheVariants.{Jump, Call}
 use Rattle.offset_patch.specs.Splicing.{is_call}
-use Rattle.offset_patch.specs.Entries.{state_name}
-use Rattle.guest_model.specs.Parts.{is_exit}
 use Rattle.block_template.specs.declared.item.Role.{Role}
 use Rattle.block_template.specs.declared.item.Role.TheVariants as roles
 use Rattle.block_template.specs.Blocks.{bools_of, catches, is_locked}
-use Rattle.block_template.specs.Flow.{
-  returned,
-  thrown,
-  branches_of as branches_told,
-  held as held_in,
-  made,
-  tries,
-  update_goes,
-  updated,
-  argument_at,
-  ask_insn,
-  atom_at,
-  branch_at as branch_in,
-  branches_in,
-  check_behind,
-  checked_in,
-  clause_in,
-  insn_of,
-  keeps_result,
-  jump_of,
-  jumps,
-  kept_by,
-  leaving,
-  loading,
-  locked_for,
-  may_pass,
-  next,
-  result_in,
-  saving,
-  stop_insn,
-  taking,
-  unlocked_in,
-  update_at,
-  update_insn,
-}
-use Rattle.block_template.specs.Frames.{argument_kinds, kept_arguments}
-use Rattle.block_template.specs.Parts.{update_size}
-use Rattle.block_template.specs.Pushing.{field, local, load as load_insn, negated, push, push_base, store as store_insn}
-use Rattle.block_template.proofs.Policies.{IsOf}
-use Rattle.block_template.proofs.CheckFlows.{base_stays, push_stays}
-use Rattle.block_logic.specs.Clauses.{clause_at, clause_of, is_number, needs, result_of}
-use Rattle.block_logic.specs.Notes.{Here, calls_well, is_duty_of, is_granted, is_free, is_stop, is_taking, meets}
-use Rattle.block_logic.specs.Operands.{calls, has_clause, is_way_out, pushes_state, variable_named}
+use Rattle.block_template.specs.Flow.{returned, thrown, tries, argument_at, ask_insn, branch_at as branch_in, check_behind, clause_in, insn_of, kept_by, result_in, update_insn}
+use Rattle.block_template.specs.Pushing.{load as load_insn, store as store_insn}
+use Rattle.block_logic.specs.Clauses.{clause_at, needs, result_of}
+use Rattle.block_logic.specs.Notes.{is_granted}
+use Rattle.block_logic.specs.Operands.{calls}
 use Rattle.block_logic.specs.Rows as rows
 use Rattle.block_logic.specs.Rows.{Asked, Given, Nothing, Open, Taking, Row, gives, is_addend, leads, may_leave, may_push, taken, term_pushed}
-use Rattle.block_logic.specs.Standing.{asks_kept, is_hold, is_after, is_before, begun, done, is_done, is_empty, may_begin, may_stand, same_note, stands_for_held}
-use Rattle.block_logic.specs.Terms.{after_updates, variable_after, as_taken, base_term, same_terms}
-use Rattle.block_logic.specs.Terms.{written as written_term}
-use Rattle.cert_maker.specs.Noting.{asked_terms, byte, phase_of, update_terms}
-use Rattle.cert_maker.proofs.Checks.{
-  Arrives,
-  Blocked,
-  Inside,
-  IsBranch,
-  Wide,
-  ask_is,
-  branch_is,
-  clause_found,
-  clause_of_site,
-  clauses,
-  branches_are,
-  held_arrives,
-  held_wide,
-  made_arrives,
-  note,
-  rules,
-  same_inside,
-  site,
-  taken_is,
-  tries_arrives,
-  update_is,
-}
+use Rattle.block_logic.specs.Standing.{asks_kept, is_hold, done}
+use Rattle.cert_maker.proofs.Checks.{Arrives, Blocked, branch_is, clause_of_site, clauses, note, rules, same_inside, site, tries_arrives}
 use Rattle.cert_maker.proofs.RoleRows.{give, leave, load, lock_class, lock_taken, of_does, rethrow, save, stop, unlock_class, unlock_left}
 use Rattle.cert_maker.proofs.CheckRows.{ask, taken_row, update}
 use Rattle.cert_maker.proofs.ClausesAlike.{clause_alike}
-use Rattle.cert_maker.proofs.Roles.{IsNoted, argument_few, byte_is, call_note, count_is, done_wide, exit_is, few_arguments, free_noted, granted_wide, held_noted, loading_arrives, or_last, owed_wide, result_told}
-use Rattle.cert_maker.proofs.Rows.{
-  granted_leaves,
-  granted_loads,
-  granted_pushes,
-  held_adds,
-  held_goes,
-  held_pushes,
-  held_tests,
-  held_writes,
-  argument_pushed,
-  owed_enters,
-  owed_keeps,
-  owed_leaves,
-  owed_pushes,
-  called,
-  granted_calls,
-  result_pushed,
-  tested,
-  variable_pushed,
-}
-use Rattle.cert_maker.proofs.Same.{note_itself, same_bool, same_number, terms_itself}
-use Rattle.cert_maker.proofs.Shapes.{Does, compares, held, loaded, named, number_loaded, placed, pushed, stored}
+use Rattle.cert_maker.proofs.Roles.{IsNoted, call_note, held_noted, owed_wide, result_told}
+use Rattle.cert_maker.proofs.Rows.{owed_keeps, called, granted_calls}
+use Rattle.cert_maker.proofs.Same.{same_bool, same_number}
+use Rattle.cert_maker.proofs.Shapes.{held, pushed, stored}
 use Rattle.cert_maker.proofs.Suits.{Suits}
-use Rattle.cert_maker.proofs.Updates.{unchanged, update_made, variable_there}
 
 module _ (b : Blocked) where
   -- what comes behind the call, or where it throws, once its result is kept

@@ -1,11 +1,11 @@
 -- Where the call stands in its block, and that no other instruction of the block is a call of the client's.
-use Rattle.std.proofs.Common.{◌≡◌, ◌≢◌, ℕ, zero, suc, ◌+◌, ◌<◌, ◌≤◌, ℤ, pos, Bool, true, false, cond, List, [], ◌∷◌, ◌++◌, length, map, Option, Some, None, refl, sym, ap, subst, ◌∙◌, inl, inr, arith, length-append}
-use Rattle.std.specs.Prelude.{◌⊎◌, ◌&&◌, IfSome, neg_ℤ, int_le, nat_lt, nat_le, slice_get, ⊤}
+use Rattle.std.proofs.Common.{◌≡◌, ◌≢◌, ℕ, ◌+◌, ◌<◌, ◌≤◌, ℤ, pos, Bool, true, false, cond, List, [], ◌∷◌, ◌++◌, length, map, Option, Some, None, refl, sym, ap, ◌∙◌, inl, inr, arith, length-append}
+use Rattle.std.specs.Prelude.{◌⊎◌, ◌&&◌, IfSome, neg_ℤ, int_le, nat_lt, slice_get, ⊤}
 use Rattle.std.specs.Ordering.{int_eq}
 use Rattle.std.specs.List.{AllByRecursion}
 use Rattle.std.proofs.lemmas.Bool.{false≢true}
-use Rattle.std.proofs.lemmas.List.{length-map, map-append}
-use Rattle.insn_codec.specs.declared.opcodes.TheConstants.{ILOAD, ALOAD, ILOAD_0, ALOAD_0, ISTORE, ASTORE, ISTORE_0, ASTORE_0, GETSTATIC}
+use Rattle.std.proofs.lemmas.List.{map-append}
+use Rattle.insn_codec.specs.declared.opcodes.TheConstants.{ILOAD, ALOAD, ILOAD_0, ALOAD_0, ISTORE, ASTORE, ISTORE_0, ASTORE_0}
 use Rattle.bytecode_model.proofs.Lists.{some_is}
 use Rattle.cert_format.specs.declared.certificate.Mode.{Mode}
 use Rattle.conspec_tree.specs.declared.types.Atom.{Atom}
@@ -17,8 +17,7 @@ use Rattle.conspec_tree.specs.declared.types.Update.{Update}
 use Rattle.conspec_automaton.specs.declared.policy.Branch.{Branch}
 use Rattle.conspec_automaton.specs.declared.policy.Clause.{Clause}
 use Rattle.offset_patch.specs.declared.block.BlockInsn.{BlockInsn}
-use Rattle.offset_patch.specs.declared.block.BlockInsn.TheVariants.{Plain, Byte, Short, Local, Want, Jump, Call}
-use Rattle.offset_patch.specs.declared.block.PoolWant.TheVariants.{Integer}
+use Rattle.offset_patch.specs.declared.block.BlockInsn.TheVariants.{Plain, Jump, Call}
 use Rattle.offset_patch.specs.Fits.{JumpsWithin}
 use Rattle.offset_patch.specs.Splicing.{call_place, is_call}
 use Rattle.offset_patch.proofs.Calling.{place_here, place_later}
@@ -27,7 +26,7 @@ use Rattle.block_template.specs.declared.item.Role.{Role}
 use Rattle.block_template.specs.declared.item.Role.TheVariants as roles
 use Rattle.block_template.specs.Blocks.{Clauses, call, called, catches, caught, from_call, front, handler_at, is_locked, items, lets_pass, with_handler}
 use Rattle.block_template.specs.Parts.{if_reached, item, unreached}
-use Rattle.block_template.specs.Pushing.{field, load, local, push, push_base, store}
+use Rattle.block_template.specs.Pushing.{load, local, push, push_base, store}
 use Rattle.block_template.proofs.Rows.{Rows, Tried, front_each, rest_each}
 use Rattle.block_template.proofs.Sizes.{rest, reached_length, with_handler_length}
 use Rattle.cert_maker.proofs.Lists.{either_side}

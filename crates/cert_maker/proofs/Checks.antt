@@ -1,7 +1,6 @@
 -- The notes of a check: what is told at each role, and that a check which begins, or goes on, stands for what is asked.
-use Rattle.std.proofs.Common.{◌≡◌, ◌≢◌, ℕ, zero, suc, ◌+◌, ◌<◌, ◌≤◌, Bool, true, false, cond, List, [], ◌∷◌, length, take, Option, Some, None, refl, sym, ap, subst, ◌∙◌, arith}
-use Rattle.std.specs.Prelude.{◌==◌, ◌&&◌, ◌||◌, AllPairs, IfSome, is_some, min, slice_get, option_and_then, ⊤}
-use Rattle.std.specs.List.{AllByRecursion}
+use Rattle.std.proofs.Common.{◌≡◌, ℕ, zero, suc, ◌<◌, ◌≤◌, Bool, true, false, List, [], ◌∷◌, length, take, Option, Some, None, refl, sym, ap, subst, ◌∙◌, arith}
+use Rattle.std.specs.Prelude.{◌==◌, ◌&&◌, ◌||◌, IfSome, is_some, slice_get, ⊤}
 use Rattle.std.specs.Option.{option_map_or}
 use Rattle.std.proofs.lemmas.Bool.{eq-eqb}
 use Rattle.std.proofs.lemmas.Option.{slice_get_within}
@@ -31,12 +30,12 @@ use Rattle.block_template.proofs.Policies.{IsOf, branches_of_phase, clause_is}
 use Rattle.block_logic.specs.Clauses.{clause_of, result_of}
 use Rattle.block_logic.specs.Rows.{Asked, Open, Given, Rules}
 use Rattle.block_logic.specs.Notes.{meets}
-use Rattle.block_logic.specs.Standing.{begun, branches_of, done, fails, is_done, may_stand, same_note, stands_for_held}
+use Rattle.block_logic.specs.Standing.{branches_of, done, fails, is_done, may_stand, same_note, stands_for_held}
 use Rattle.block_logic.specs.Terms.{after_updates, as_taken}
 use Rattle.cert_maker.specs.declared.called.Called.{Called}
-use Rattle.cert_maker.specs.Noting.{asked_terms, atom_of, branch_at, byte, note_of, site_of, update_terms}
+use Rattle.cert_maker.specs.Noting.{asked_terms, branch_at, byte, note_of, site_of, update_terms}
 use Rattle.cert_maker.proofs.ClausesAlike as told
-use Rattle.cert_maker.proofs.Same.{note_itself, same_number}
+use Rattle.cert_maker.proofs.Same.{note_itself}
 
 -- A call with a block, of a method that the policy has clauses for, which tell alike whether it gives something.
 pub record Blocked : Type 0 where

@@ -26,3 +26,4 @@ pub mod Shape
 pub mod Accepted
 pub mod Small
 pub mod Alike
+pub mod Framed

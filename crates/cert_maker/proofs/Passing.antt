@@ -1,23 +1,17 @@
 -- No rule of the notes fails at an instruction of a woven method that has a frame.
-use Rattle.std.proofs.Common.{◌≡◌, ◌≢◌, ℕ, zero, suc, ◌+◌, ◌<◌, ◌≤◌, Bool, true, false, cond, List, [], ◌∷◌, ◌++◌, length, map, Option, Some, None, refl, sym, ap, subst, ◌∙◌, ◌⊎◌, inl, inr, arith, append_assoc}
+use Rattle.std.proofs.Common.{◌≡◌, ◌≢◌, ℕ, zero, suc, ◌+◌, ◌<◌, ◌≤◌, Bool, true, false, cond, List, [], ◌∷◌, ◌++◌, length, map, Option, Some, None, refl, sym, ap, subst, ◌∙◌, inl, inr, arith}
 use Rattle.std.specs.Prelude.{◌==◌, ◌&&◌, ◌||◌, Contains, IfSome, is_some, not, slice_get}
 use Rattle.std.specs.List.{AllByRecursion, list_all}
 use Rattle.std.specs.Option.{option_map_or}
 use Rattle.std.proofs.lemmas.Bool.{and_from, eqb-true, false≢true}
-use Rattle.std.proofs.lemmas.List.Elements.{Contains-append_left}
-use Rattle.std.proofs.lemmas.Option.{slice_get_within, slice_get_past}
+use Rattle.std.proofs.lemmas.Option.{slice_get_within}
 use Rattle.insn_codec.specs.declared.insn.Insn.{Insn}
 use Rattle.insn_codec.specs.declared.insn.Insn.TheVariants as insns
-use Rattle.insn_codec.specs.declared.shape.Heap.TheVariants as heap
-use Rattle.insn_codec.specs.declared.shape.How.{How}
-use Rattle.insn_codec.specs.declared.shape.Shape.{Shape}
-use Rattle.insn_codec.specs.declared.shape.Shape.TheVariants as shapes
 use Rattle.insn_codec.specs.Control.{jump_targets, successors}
 use Rattle.insn_codec.specs.Fits.{AimsWithin}
 use Rattle.insn_codec.specs.Opcodes.{goes_on}
 use Rattle.insn_codec.specs.Shapes.{shape_of}
 use Rattle.insn_codec.specs.Spelling.{opcode_of}
-use Rattle.bytecode_model.specs.declared.program.Handler.{Handler}
 use Rattle.bytecode_model.specs.declared.program.Target.{Target}
 use Rattle.bytecode_model.specs.declared.program.Target.TheVariants as target
 use Rattle.bytecode_model.proofs.Lists.{all_get, some_is}
@@ -36,66 +30,28 @@ use Rattle.offset_patch.specs.Splicing.{aimed, call_place, is_call, put}
 use Rattle.block_template.specs.declared.item.Item.{Item}
 use Rattle.block_template.specs.declared.item.Role.{Role}
 use Rattle.block_template.specs.declared.item.Role.TheVariants as roles
-use Rattle.block_template.specs.Blocks.{bools_of, catches, handler_at, has_block, is_locked}
-use Rattle.block_template.specs.Flow.{Flows, IsLed, insn_of, jump_of, jumps, may_pass, next, returned, role_at, thrown}
+use Rattle.block_template.specs.Blocks.{bools_of, handler_at, has_block}
+use Rattle.block_template.specs.Flow.{Flows, IsLed, jump_of, jumps, next, role_at}
 use Rattle.block_template.proofs.BlockFlows.{blocks_flow}
 use Rattle.block_template.proofs.ItemsTyped.{clauses_are_asked}
-use Rattle.block_logic.specs.Notes.{
-  Here,
-  all_pass,
-  calls_well,
-  catches_all,
-  first_handler,
-  handlers_of,
-  is_asked_taking,
-  is_duty_of,
-  is_free,
-  is_taking,
-  leaves_alone,
-  meets,
-  next_pass,
-  note_fault,
-  note_passes,
-}
-use Rattle.block_logic.specs.Operands.{calls, has_clause, is_state_name, loads_constant, pushes_state, variable_named}
+use Rattle.block_logic.specs.Notes.{Here, catches_all, first_handler, handlers_of, is_asked_taking, is_free, is_taking, meets, next_pass, note_fault, note_passes}
+use Rattle.block_logic.specs.Operands.{calls, has_clause, loads_constant, pushes_state, variable_named}
 use Rattle.block_logic.specs.Rows as rows
 use Rattle.block_logic.specs.Rows.{Asked, Open, Row, Rules}
 use Rattle.block_logic.specs.Standing.{is_open}
-use Rattle.class_weaving.specs.Outcome.{own_handler, own_handlers, part_named}
-use Rattle.cert_maker.proofs.Aiming.{call_goes, jumps_moved}
+use Rattle.class_weaving.specs.Outcome.{own_handlers, part_named}
+use Rattle.cert_maker.proofs.Aiming.{jumps_moved}
 use Rattle.cert_maker.proofs.AllRoles.{noted}
-use Rattle.cert_maker.proofs.Body.{Body, base, end_is, front, fronts, fronts_are, handlers_are, insn_there, made_long, n, next_front, note_there, part, plan, ref_there, refs, same_length, sites as sites_in}
+use Rattle.cert_maker.proofs.Body.{Body, base, front, fronts, fronts_are, insn_there, n, next_front, note_there, part, plan, ref_there, refs, sites as sites_in}
 use Rattle.cert_maker.proofs.Calling as calling
 use Rattle.cert_maker.proofs.Checks.{Arrives, Blocked, clauses, note}
-use Rattle.cert_maker.proofs.Covering.{AllMiss, Stands, own_none, own_stands}
-use Rattle.cert_maker.proofs.Lists.{slice_there}
-use Rattle.cert_maker.proofs.Parts.{Located, locate}
-use Rattle.cert_maker.proofs.Plans.{block_of, items_of, none_there, note_alone, part_item, part_length, site_is, within as calls_within}
+use Rattle.cert_maker.proofs.Covering.{AllMiss, own_none}
+use Rattle.cert_maker.proofs.Plans.{block_of, none_there, note_alone, part_item, part_length, site_is, within as calls_within}
 use Rattle.cert_maker.proofs.Roles.{IsNoted}
 use Rattle.cert_maker.proofs.Rows.{and_false}
-use Rattle.cert_maker.proofs.Rules.{Holds, all_hold, fault_at, no_fault, or_last}
+use Rattle.cert_maker.proofs.Rules.{all_hold, fault_at, no_fault}
 use Rattle.cert_maker.proofs.Shapes.{goes_past, jumps_to, places_of}
-use Rattle.cert_maker.proofs.Standing.{
-  IsReady,
-  Passes,
-  Reached,
-  all as items_in,
-  blocked,
-  client_catches,
-  contained_right,
-  each_with,
-  entered_at,
-  entered_opens,
-  front_passes,
-  inside,
-  item_reached,
-  item_told,
-  less,
-  open_front,
-  rules_in,
-  told,
-  within,
-}
+use Rattle.cert_maker.proofs.Standing.{IsReady, Passes, Reached, all as items_in, blocked, client_catches, contained_right, each_with, entered_at, entered_opens, front_passes, inside, item_reached, item_told, less, rules_in, told, within}
 use Rattle.cert_maker.proofs.Suits.{Suits, items_suit}
 use Rattle.cert_maker.proofs.Unwoven.{part_alone}
 

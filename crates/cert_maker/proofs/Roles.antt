@@ -1,136 +1,45 @@
 -- Each instruction of a block has a row of its note, and what comes next meets it.
-use Rattle.std.proofs.Common.{◌≡◌, ◌≢◌, ℕ, zero, suc, ◌+◌, ◌-◌, ◌<◌, ◌≤◌, ℤ, pos, neg_ℤ, ◌≤ℤ◌, Bool, true, false, cond, List, [], ◌∷◌, ◌++◌, length, take, Option, Some, None, refl, sym, ap, subst, ◌∙◌, arith}
+use Rattle.std.proofs.Common.{◌≡◌, ℕ, zero, suc, ◌<◌, ◌≤◌, Bool, true, false, List, [], ◌∷◌, length, take, Option, Some, None, refl, sym, ap, subst, ◌∙◌, arith}
 use Rattle.std.specs.Bool.{beq}
-use Rattle.std.specs.Prelude.{◌==◌, ◌&&◌, ◌||◌, IfSome, is_some, not, nat_lt, slice_get, slice_set, option_and_then, option_map, ⊤}
+use Rattle.std.specs.Prelude.{◌&&◌, ◌||◌, IfSome, is_some, slice_get, option_and_then}
 use Rattle.std.specs.Option.{option_map_or}
-use Rattle.std.proofs.lemmas.Bool.{and_from, false≢true, lt-ltb}
-use Rattle.std.proofs.lemmas.Int.{ints}
+use Rattle.std.proofs.lemmas.Bool.{and_from, false≢true}
 use Rattle.std.proofs.lemmas.List.{take_all}
 use Rattle.std.proofs.lemmas.Option.{slice_get_within}
 use Rattle.class_codec.specs.declared.tree.Const.{Const}
 use Rattle.insn_codec.specs.declared.insn.Insn.{Insn}
-use Rattle.insn_codec.specs.declared.opcodes.TheConstants.{ATHROW, GETSTATIC, GOTO, IADD, INVOKESTATIC, LDC_W, MONITORENTER, MONITOREXIT, PUTSTATIC, ACONST_NULL}
-use Rattle.insn_codec.specs.declared.shape.Heap.TheVariants as heap
-use Rattle.insn_codec.specs.declared.shape.How.TheVariants as hows
-use Rattle.insn_codec.specs.declared.shape.Shape.{Shape}
-use Rattle.insn_codec.specs.declared.shape.Shape.TheVariants as shapes
 use Rattle.insn_codec.specs.Shapes.{shape_of}
 use Rattle.api_listing.specs.BuiltIn.{method_rows}
 use Rattle.bytecode_model.specs.declared.program.Target.{Target}
 use Rattle.bytecode_model.specs.declared.program.Target.TheVariants as target
-use Rattle.bytecode_model.proofs.Lists.{all_get, some_is}
-use Rattle.cert_format.specs.declared.certificate.Mode.{Mode}
-use Rattle.cert_format.specs.declared.certificate.Mode.TheVariants.{Hold, Release}
 use Rattle.cert_format.specs.declared.note.Note.{Note}
 use Rattle.cert_format.specs.declared.note.Note.TheVariants as notes
 use Rattle.cert_format.specs.declared.note.Phase8.TheVariants as sites
-use Rattle.cert_format.specs.declared.note.Term.{Term}
-use Rattle.cert_format.specs.declared.note.Term.TheVariants as terms
-use Rattle.conspec_tree.specs.declared.types.Atom.{Atom}
-use Rattle.conspec_tree.specs.declared.types.Base.{Base}
-use Rattle.conspec_tree.specs.declared.types.Base.TheVariants as bases
 use Rattle.conspec_tree.specs.declared.types.Kind.{Kind}
-use Rattle.conspec_tree.specs.declared.types.Kind.TheVariants as kinds
 use Rattle.conspec_tree.specs.declared.types.Phase.{Phase}
-use Rattle.conspec_tree.specs.declared.types.Phase.TheVariants.{Before, After, Exceptional}
+use Rattle.conspec_tree.specs.declared.types.Phase.TheVariants.{Before, After}
 use Rattle.conspec_tree.specs.declared.types.Update.{Update}
-use Rattle.conspec_tree.specs.declared.types.Update.TheVariants.{Set, Add}
-use Rattle.conspec_tree.specs.Tree.{IsBase, IsNumber, IsUpdateIn, asked}
-use Rattle.conspec_tree.specs.Updates.{target as updated_variable}
 use Rattle.conspec_automaton.specs.declared.policy.Branch.{Branch}
 use Rattle.conspec_automaton.specs.declared.policy.Clause.{Clause}
 use Rattle.offset_patch.specs.declared.block.BlockInsn.{BlockInsn}
-use Rattle.offset_patch.specs.declared.block.BlockInsn.TheVariants.{Plain, Byte, Want, Jump, Call}
-use Rattle.offset_patch.specs.declared.block.PoolWant.TheVariants.{StateClass, Exit}
-use Rattle.offset_patch.specs.Splicing.{is_call}
 use Rattle.guest_model.specs.Parts.{is_exit}
 use Rattle.block_template.specs.declared.item.Role.{Role}
 use Rattle.block_template.specs.declared.item.Role.TheVariants as roles
-use Rattle.block_template.specs.Blocks.{is_locked}
-use Rattle.block_template.specs.Flow.{
-  argument_at,
-  ask_insn,
-  atom_at,
-  branch_at as branch_in,
-  branches_in,
-  check_behind,
-  checked_in,
-  clause_in,
-  insn_of,
-  jump_of,
-  jumps,
-  kept_by,
-  leaving,
-  loading,
-  locked_for,
-  may_pass,
-  next,
-  result_in,
-  saving,
-  stop_insn,
-  taking,
-  unlocked_in,
-  update_at,
-  update_insn,
-}
-use Rattle.block_template.specs.Frames.{argument_kinds, kept_arguments}
-use Rattle.block_template.specs.Pushing.{field, load as load_insn, negated, push, push_base, store as store_insn}
+use Rattle.block_template.specs.Flow.{argument_at, jump_of, jumps, loading, may_pass, next}
+use Rattle.block_template.specs.Frames.{kept_arguments}
 use Rattle.block_template.proofs.Policies.{IsOf}
-use Rattle.block_template.proofs.CheckFlows.{base_stays, push_stays}
 use Rattle.block_logic.specs.Clauses.{clause_at, clause_of, needs, result_of}
-use Rattle.block_logic.specs.Notes.{Here, calls_well, is_duty_of, is_free, is_stop, is_taking, meets}
-use Rattle.block_logic.specs.Operands.{calls, has_clause, is_way_out, pushes_state, variable_named}
+use Rattle.block_logic.specs.Notes.{calls_well, is_duty_of, is_free, meets}
+use Rattle.block_logic.specs.Operands.{calls, has_clause, pushes_state, variable_named}
 use Rattle.block_logic.specs.Rows as rows
 use Rattle.block_logic.specs.Rows.{Asked, Given, Nothing, Open, Taking, Row, gives, is_addend, leads, may_push, taken, term_pushed}
-use Rattle.block_logic.specs.Standing.{asks_kept, begun, done, is_done, is_empty, may_begin, may_stand, same_note, stands_for_held}
-use Rattle.block_logic.specs.Terms.{after_updates, as_taken, base_term, same_terms}
-use Rattle.block_logic.specs.Terms.{written as written_term}
-use Rattle.cert_maker.specs.Noting.{asked_terms, byte, update_terms}
-use Rattle.cert_maker.proofs.Checks.{
-  Arrives,
-  Blocked,
-  Inside,
-  IsBranch,
-  Wide,
-  ask_is,
-  branch_is,
-  clause_found,
-  clause_of_site,
-  clauses,
-  held_arrives,
-  held_wide,
-  made_arrives,
-  note,
-  rules,
-  same_inside,
-  site,
-  taken_is,
-  tries_arrives,
-  update_is,
-}
+use Rattle.block_logic.specs.Standing.{asks_kept, done, is_done, may_begin, same_note, stands_for_held}
+use Rattle.block_logic.specs.Terms.{after_updates, as_taken, same_terms}
+use Rattle.cert_maker.specs.Noting.{byte}
+use Rattle.cert_maker.proofs.Checks.{Arrives, Blocked, IsBranch, Wide, clause_found, clauses, note, rules, site}
 use Rattle.cert_maker.proofs.ClausesAlike.{clause_alike}
-use Rattle.cert_maker.proofs.Rows.{
-  granted_leaves,
-  granted_loads,
-  granted_pushes,
-  held_adds,
-  held_goes,
-  held_pushes,
-  held_tests,
-  held_writes,
-  argument_pushed,
-  owed_enters,
-  owed_keeps,
-  owed_leaves,
-  owed_pushes,
-  result_pushed,
-  tested,
-  variable_pushed,
-}
 use Rattle.cert_maker.proofs.Same.{note_itself, same_bool, same_number, terms_itself}
-use Rattle.cert_maker.proofs.Shapes.{Does, compares, held, loaded, named, number_loaded, placed, pushed, stored}
-use Rattle.cert_maker.proofs.Suits.{Suits}
-use Rattle.cert_maker.proofs.Updates.{unchanged, update_made, variable_there}
+use Rattle.cert_maker.proofs.Shapes.{held, named, placed}
 
 pub exit_is : is_exit 7 ≡ true
 unfolding method_rows

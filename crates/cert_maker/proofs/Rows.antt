@@ -1,17 +1,13 @@
 -- Rows of the table of notes, by what an instruction does and names.
-use Rattle.std.proofs.Common.{◌≡◌, ℕ, ◌+◌, ◌-◌, ◌<◌, ℤ, pos, ◌≤ℤ◌, neg_ℤ, Bool, true, false, cond, List, [], ◌∷◌, ◌++◌, length, Option, Some, None, refl, sym, ap, ◌∙◌, arith}
+use Rattle.std.proofs.Common.{◌≡◌, ℕ, ◌+◌, ◌-◌, ℤ, Bool, true, false, List, [], ◌∷◌, ◌++◌, length, Option, Some, None, refl, ap, ◌∙◌, arith}
 use Rattle.std.specs.Bool.{beq}
-use Rattle.std.specs.Prelude.{◌==◌, ◌&&◌, int_le, is_some, nat_le, nat_lt, not, slice_get, slice_set, option_and_then, option_map}
-use Rattle.std.specs.Option.{option_map_or, option_or}
-use Rattle.std.proofs.lemmas.Bool.{lt-ltb}
+use Rattle.std.specs.Prelude.{◌==◌, ◌&&◌, is_some, nat_le, nat_lt, slice_get, slice_set}
+use Rattle.std.specs.Option.{option_map_or}
 use Rattle.std.proofs.lemmas.Bool.Decides.{nat_tests}
-use Rattle.std.proofs.lemmas.Int.{ints}
 use Rattle.insn_codec.specs.declared.shape.Heap.TheVariants as heap
 use Rattle.insn_codec.specs.declared.shape.How.{How}
 use Rattle.insn_codec.specs.declared.shape.Kind.{Kind as Operand}
 use Rattle.insn_codec.specs.declared.shape.Kind.TheVariants as operands
-use Rattle.insn_codec.specs.declared.shape.Relation.{Relation}
-use Rattle.insn_codec.specs.declared.shape.Relation.TheVariants as compared
 use Rattle.insn_codec.specs.declared.shape.Shape.{Shape}
 use Rattle.insn_codec.specs.declared.shape.Shape.TheVariants as shapes
 use Rattle.insn_codec.specs.declared.shape.Two.TheVariants as two
@@ -29,10 +25,10 @@ use Rattle.conspec_tree.specs.declared.types.Rel.TheVariants as relations
 use Rattle.conspec_automaton.specs.declared.policy.Branch.{Branch}
 use Rattle.conspec_automaton.specs.declared.policy.Clause.{Clause}
 use Rattle.block_logic.specs.Clauses.{clause_of, is_number, needs, result_of}
-use Rattle.block_logic.specs.Operands.{adds, enters, leaves, loaded, pushes_state, stored}
+use Rattle.block_logic.specs.Operands.{leaves, loaded, pushes_state, stored}
 use Rattle.block_logic.specs.Rows as rows
 use Rattle.block_logic.specs.Rows.{Asked, Given, Nothing, Open, Row, Rules, asks_atom, begins_owed, gives, is_addend, leads, may_keep, may_leave, may_push, returned, term_pushed, thrown}
-use Rattle.block_logic.specs.Standing.{asks_kept, begun, branches_of, is_after, is_before, is_hold}
+use Rattle.block_logic.specs.Standing.{asks_kept, begun, is_after, is_before, is_hold}
 use Rattle.block_logic.specs.Terms.{base_term}
 use Rattle.cert_maker.proofs.Same.{same_bool, same_number, term_itself}
 use Rattle.cert_maker.proofs.Shapes.{negation}

@@ -1,5 +1,5 @@
 -- The notes of a certificate are of the program's shape, and which of them are a method's.
-use Rattle.std.proofs.Common.{◌≡◌, ℕ, zero, suc, ◌<◌, Bool, true, false, cond, List, [], ◌∷◌, ◌++◌, length, map, take, drop, Option, Some, refl, sym, ap, ◌∙◌, arith}
+use Rattle.std.proofs.Common.{◌≡◌, ℕ, zero, suc, Bool, true, false, cond, List, [], ◌∷◌, ◌++◌, length, map, take, drop, Option, Some, refl, sym, ap, ◌∙◌, arith}
 use Rattle.std.specs.Prelude.{nat_lt, slice_get}
 use Rattle.std.specs.List.{AllByRecursion}
 use Rattle.std.proofs.lemmas.Bool.{lt-ltb}
@@ -11,11 +11,9 @@ use Rattle.bytecode_model.specs.Shape.{coded, has_code}
 use Rattle.bytecode_model.specs.Sound.{IsSoundClass, IsSoundMethod}
 use Rattle.bytecode_model.specs.Typed.{list_at}
 use Rattle.cert_format.specs.declared.certificate.Mode.{Mode}
-use Rattle.cert_format.specs.declared.note.Note.{Note}
 use Rattle.cert_format.specs.declared.typing.FrameType.{FrameType}
 use Rattle.conspec_tree.specs.declared.types.Var.{Var}
 use Rattle.conspec_automaton.specs.declared.policy.Policy.{Policy}
-use Rattle.offset_patch.specs.Plan.{Plan}
 use Rattle.block_template.specs.Blocks.{plan_of}
 use Rattle.class_weaving.specs.Outcome.{Each, IsState, IsWovenClass, IsWovenMethod}
 use Rattle.cert_maker.specs.Noting.{class_notes, method_notes, notes_of, parts_notes}

@@ -26,7 +26,6 @@ use Rattle.conspec_tree.specs.declared.types.Rel.{Rel}
 use Rattle.conspec_tree.specs.declared.types.Rel.TheVariants as relations
 use Rattle.offset_patch.specs.declared.block.BlockInsn.{BlockInsn}
 use Rattle.offset_patch.specs.declared.block.BlockInsn.TheVariants.{Plain, Byte, Short, Local, Want, Jump, Call}
-use Rattle.offset_patch.specs.declared.block.PoolWant.TheVariants.{Integer}
 use Rattle.offset_patch.specs.Splicing.{is_call, put}
 use Rattle.block_template.specs.Flow.{jump_of, may_pass}
 use Rattle.block_template.specs.Pushing.{load, local, negated, push, store}

@@ -1,5 +1,5 @@
 -- The branches of each policy that was read name what a byte tells.
-use Rattle.std.proofs.Common.{◌≡◌, ℕ, ℤ, ◌<◌, ◌≤◌, Bool, List, [], ◌∷◌, length, Option, Some, None, refl, arith}
+use Rattle.std.proofs.Common.{◌≡◌, ℕ, ℤ, ◌+◌, ◌<◌, ◌≤◌, List, [], ◌∷◌, length, Option, Some, None, refl, arith}
 use Rattle.std.specs.Prelude.{◌==◌, ◌&&◌, IfSome, slice_get}
 use Rattle.std.specs.List.{AllByRecursion}
 use Rattle.std.specs.Option.{option_map_or}
@@ -20,6 +20,8 @@ use Rattle.conspec_automaton.specs.declared.policy.Branch.{Branch}
 use Rattle.conspec_automaton.specs.declared.policy.Clause.{Clause}
 use Rattle.conspec_automaton.specs.declared.policy.Policy.{Policy}
 use Rattle.conspec_automaton.specs.Sound.{IsBranchIn, IsClauseIn, IsPolicy}
+use Rattle.block_template.specs.Blocks.{clause_at, kept, locals_used}
+use Rattle.block_template.proofs.Policies.{IsOf, clause_is}
 use Rattle.block_logic.specs.Clauses.{clause_of, is_of_phase}
 use Rattle.cert_maker.specs.Noting.{branch_at}
 use Rattle.cert_maker.specs.Small.{IsSmall, IsSmallBase, IsSmallUpdate}
@@ -51,10 +53,10 @@ small_updates vars maxint [] few all = tt
 small_updates vars maxint (update ∷ updates) few all =
     (omega (arith, few, slice_get_within vars (target update) all.0.variable all.0.there), small_updates vars maxint updates few all.1)
 
-module _ (policy : Policy) (read : IsPolicy policy) (site : Site) (n : ℕ) where
-  of_clause : (o : Option Clause) → clause_of policy site ≡ o → IfSome (slice_get (option_map_or (λ (c : Clause). c.branches) o []) n) IsSmall
-  of_clause None e = tt
-  of_clause (Some clause) e = by (slice_get clause.branches n) refl
+module _ (policy : Policy) (read : IsPolicy policy) where
+  of_clause : (site : Site) (n : ℕ) (o : Option Clause) → clause_of policy site ≡ o → IfSome (slice_get (option_map_or (λ (c : Clause). c.branches) o []) n) IsSmall
+  of_clause site n None e = tt
+  of_clause site n (Some clause) e = by (slice_get clause.branches n) refl
     where
       fits : IsClauseIn policy.vars policy.maxint clause
       fits =
@@ -70,5 +72,24 @@ module _ (policy : Policy) (read : IsPolicy policy) (site : Site) (n : ℕ) wher
             updates = small_updates policy.vars policy.maxint branch.updates read.few_vars is.updates;
           }
 
-  pub small_branch : IfSome (branch_at policy site n) IsSmall
-  small_branch = of_clause (clause_of policy site) refl
+  pub small_branch : (site : Site) (n : ℕ) → IfSome (branch_at policy site n) IsSmall
+  small_branch site n = of_clause site n (clause_of policy site) refl
+
+  -- ---- locals
+
+  few_before : (method : ℕ) (o : Option Clause) → IfSome o (IsOf policy Before) → option_map_or (λ (c : Clause). length c.args) o 0 ≤ 255
+  few_before method None is = omega arith
+  few_before method (Some clause) is = is.fits.few_args
+
+  few_result : (kind : Option Kind) → kept kind ≤ 1
+  few_result None = omega arith
+  few_result (Some kind) = omega arith
+
+  few_after : (o : Option Clause) → option_map_or (λ (c : Clause). kept c.result) o 0 ≤ 1
+  few_after None = omega arith
+  few_after (Some clause) = few_result clause.result
+
+  -- A block that begins at local 0 has few locals.
+  pub few_locals : (method : ℕ) → 0 + locals_used policy method < 65536
+  few_locals method =
+      omega (arith, few_before method (clause_at policy method Before) (clause_is policy method Before read), few_after (clause_at policy method After))

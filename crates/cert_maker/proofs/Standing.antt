@@ -1,6 +1,6 @@
 -- What comes next in a woven method meets what is asked: a front is in no block, and in a block the roles tell.
-use Rattle.std.proofs.Common.{◌≡◌, ◌≢◌, ℕ, zero, suc, ◌+◌, ◌<◌, ◌≤◌, Bool, true, false, cond, List, [], ◌∷◌, ◌++◌, length, map, Option, Some, None, refl, sym, ap, subst, ◌∙◌, inl, inr, arith}
-use Rattle.std.specs.Prelude.{◌==◌, ◌&&◌, ◌||◌, Contains, is_some, nat_le, nat_lt, not, slice_get, slice_index}
+use Rattle.std.proofs.Common.{◌≡◌, ◌≢◌, ℕ, zero, suc, ◌+◌, ◌<◌, ◌≤◌, Bool, true, false, List, [], ◌∷◌, ◌++◌, length, map, Option, Some, None, refl, sym, ap, subst, ◌∙◌, inl, inr, arith}
+use Rattle.std.specs.Prelude.{◌&&◌, Contains, is_some, nat_le, nat_lt, not, slice_get, slice_index}
 use Rattle.std.specs.List.{AllByRecursion, list_all}
 use Rattle.std.specs.Option.{option_map_or}
 use Rattle.std.proofs.lemmas.Bool.{cases_Bool, false≢true, leb-true, ltb-true, and_parts}
@@ -10,12 +10,9 @@ use Rattle.insn_codec.specs.declared.insn.Insn.{Insn}
 use Rattle.insn_codec.specs.declared.shape.Heap.TheVariants as heap
 use Rattle.insn_codec.specs.declared.shape.How.{How}
 use Rattle.insn_codec.specs.declared.shape.Shape.TheVariants as shapes
-use Rattle.insn_codec.specs.Control.{jump_targets, successors}
-use Rattle.insn_codec.specs.Opcodes.{goes_on}
+use Rattle.insn_codec.specs.Control.{successors}
 use Rattle.insn_codec.specs.Shapes.{shape_of}
-use Rattle.insn_codec.specs.Spelling.{opcode_of}
 use Rattle.bytecode_model.specs.declared.program.Handler.{Handler}
-use Rattle.bytecode_model.specs.declared.program.Method.{Method}
 use Rattle.bytecode_model.specs.declared.program.Target.{Target}
 use Rattle.bytecode_model.specs.declared.program.Target.TheVariants as target
 use Rattle.bytecode_model.specs.Rules.{covers, frame_of}
@@ -29,7 +26,6 @@ use Rattle.cert_format.specs.declared.typing.FrameType.{FrameType}
 use Rattle.conspec_tree.specs.declared.types.Phase.{Phase}
 use Rattle.conspec_tree.specs.declared.types.Phase.TheVariants.{Before}
 use Rattle.conspec_automaton.specs.declared.policy.Clause.{Clause}
-use Rattle.conspec_automaton.specs.declared.policy.Policy.{Policy}
 use Rattle.conspec_automaton.specs.Next.{has_clauses}
 use Rattle.conspec_automaton.specs.Sound.{IsPolicy}
 use Rattle.block_template.specs.declared.item.Item.{Item}
@@ -37,7 +33,7 @@ use Rattle.block_template.specs.declared.item.Role.{Role}
 use Rattle.block_template.specs.declared.item.Role.TheVariants as roles
 use Rattle.block_template.specs.Blocks.{has_block}
 use Rattle.block_template.specs.Blocks.{clause_at as clause_in_block}
-use Rattle.block_template.specs.Flow.{entered, role_at, saving}
+use Rattle.block_template.specs.Flow.{entered, saving}
 use Rattle.block_template.proofs.BlockFlows.{blocks_flow}
 use Rattle.block_template.proofs.ItemsTyped.{clauses_are_asked}
 use Rattle.block_logic.specs.Clauses.{clause_at, needs, result_of}
@@ -47,15 +43,15 @@ use Rattle.block_logic.specs.Rows.{Asked, Open, Rules}
 use Rattle.block_logic.specs.Standing.{is_open}
 use Rattle.class_weaving.specs.Outcome.{at_fronts, own_handlers}
 use Rattle.cert_maker.specs.declared.called.Called.{Called}
-use Rattle.cert_maker.specs.Noting.{byte, method_notes, note_of, site_of}
-use Rattle.cert_maker.proofs.Body.{Body, base, end_is, front, fronts, fronts_are, handlers_are, n, next_front, note_there, part, plan, refs, same_length, sites as sites_in}
+use Rattle.cert_maker.specs.Noting.{method_notes, site_of}
+use Rattle.cert_maker.proofs.Body.{Body, base, end_is, front, fronts, fronts_are, handlers_are, n, note_there, refs, same_length, sites as sites_in}
 use Rattle.cert_maker.proofs.Checks.{Arrives, Blocked, Inside, clauses, note, rules}
 use Rattle.cert_maker.proofs.ClausesAlike.{clause_alike}
 use Rattle.cert_maker.proofs.Covering.{AllMiss, missed}
 use Rattle.cert_maker.proofs.Lists.{slice_there}
 use Rattle.cert_maker.proofs.Plans.{items_of, note_alone, note_item, part_length, some}
 use Rattle.cert_maker.proofs.Roles.{call_note, count_is}
-use Rattle.cert_maker.proofs.Rules.{all_hold, caught_all}
+use Rattle.cert_maker.proofs.Rules.{caught_all}
 
 -- ---- lists
 

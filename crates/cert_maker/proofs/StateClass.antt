@@ -1,16 +1,14 @@
 -- The class conspec/State that weaving writes is the class of the policy's variables, and stands behind the others.
-use Rattle.std.proofs.Common.{◌≡◌, ◌≢◌, ℕ, zero, suc, ◌+◌, ◌*◌, ◌/◌, ◌%◌, ◌<◌, ◌≤◌, Bool, true, false, cond, List, [], ◌∷◌, ◌++◌, length, Option, Some, None, refl, sym, ap, subst, ◌∙◌, inl, inr, arith, length-append, append_assoc}
-use Rattle.std.specs.Prelude.{◌==◌, ◌&&◌, bytes_eq, codes, slice_get, slice_index, ⊤}
-use Rattle.std.specs.Int.{byte_at, bytes_high_first}
+use Rattle.std.proofs.Common.{◌≡◌, ◌≢◌, ℕ, suc, ◌+◌, ◌*◌, ◌<◌, ◌≤◌, Bool, true, false, cond, List, [], ◌∷◌, ◌++◌, length, Option, Some, None, refl, sym, ap, subst, ◌∙◌, inl, inr, arith, length-append, append_assoc}
+use Rattle.std.specs.Prelude.{◌==◌, bytes_eq, codes, slice_get, slice_index, ⊤}
+use Rattle.std.specs.Int.{bytes_high_first}
 use Rattle.std.specs.List.{AllByRecursion, position_from}
 use Rattle.std.specs.Option.{option_map_or, option_or}
-use Rattle.std.specs.Ordering.{int_eq}
 use Rattle.std.proofs.lemmas.Bool.{and_from, cases_Bool, eq-eqb}
 use Rattle.std.proofs.lemmas.Slice.Eq.{bytes_eq-Decides}
 use Rattle.class_codec.specs.declared.tree.ClassFile.{ClassFile}
 use Rattle.class_codec.specs.declared.tree.Const.{Const}
 use Rattle.class_codec.specs.declared.tree.Const.TheVariants as constants
-use Rattle.class_codec.specs.declared.tree.Member.{Member}
 use Rattle.class_codec.specs.Pool.{class_name_at, text_of, utf8_at}
 use Rattle.bytecode_model.specs.declared.program.LinkedClass.{LinkedClass}
 use Rattle.bytecode_model.specs.Heads.{class_at, desc_of, name_of, text_at}
@@ -20,7 +18,7 @@ use Rattle.conspec_automaton.specs.declared.policy.Policy.{Policy}
 use Rattle.offset_patch.specs.Entries.{variable_name}
 use Rattle.offset_patch.specs.Plan.{Plan}
 use Rattle.class_weaving.specs.Outcome.{Each, IsState, IsWovenClass}
-use Rattle.class_weaving.specs.State.{field, fields_from, head, kind_text, state_file, values_from, variable_text}
+use Rattle.class_weaving.specs.State.{field, fields_from, head, kind_text, values_from, variable_text}
 use Rattle.class_weaving.proofs.StateFits.{HasNames, names_stand}
 use Rattle.block_logic.specs.Operands.{state_name}
 use Rattle.block_logic.specs.State.{class_fault, field_name, field_type, has_no_more, has_none, is_field_of, is_first, names_first, state_at, state_fault, tells_first, wrong_field}
@@ -54,8 +52,7 @@ values_stand front index (var ∷ vars) e =
     let rest : List Const = values_from (index + 1) vars in
     let same : (front ++ name ∷ value ∷ []) ++ rest ≡ front ++ name ∷ value ∷ rest = append_assoc front (name ∷ value ∷ []) rest in
     let count : length (front ++ name ∷ value ∷ []) ≡ variable_text (index + 1) = omega (arith, length-append front (name ∷ value ∷ []), e) in
-    let at : variable_text index + 1 ≡ length front + 1 = omega (arith, e) in
-    (
+    let at : variable_text index + 1 ≡ length front + 1 = omega (arith, e) in (
       ap (slice_get (front ++ name ∷ value ∷ rest)) at ∙ get_right front (name ∷ value ∷ rest) 1,
       subst (λ (p : List Const). HasValues p (index + 1) vars) same (values_stand (front ++ name ∷ value ∷ []) (index + 1) vars count),
     )

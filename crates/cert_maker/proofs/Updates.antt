@@ -1,8 +1,8 @@
 -- What the variables are once the updates of a branch are made, one more or not.
-use Rattle.std.proofs.Common.{◌≡◌, ◌≢◌, ℕ, zero, suc, ◌+◌, ◌<◌, Bool, true, false, cond, List, [], ◌∷◌, length, take, Option, Some, None, refl, sym, ap, subst, ◌∙◌, arith}
-use Rattle.std.specs.Prelude.{◌==◌, AllPairs, find, slice_get, slice_index_or, slice_set}
+use Rattle.std.proofs.Common.{◌≡◌, ◌≢◌, ℕ, zero, suc, ◌+◌, ◌<◌, Bool, false, cond, List, [], ◌∷◌, take, Option, Some, None, refl, sym, ap, ◌∙◌, arith}
+use Rattle.std.specs.Prelude.{◌==◌, AllPairs, find, slice_get, slice_set}
 use Rattle.std.specs.Option.{option_map_or}
-use Rattle.std.proofs.lemmas.Bool.{eq-eqb, eqb-true, ne_eqb}
+use Rattle.std.proofs.lemmas.Bool.{eq-eqb, ne_eqb}
 use Rattle.std.proofs.lemmas.Option.{slice_get_within, get_or_from_slice_get}
 use Rattle.cert_format.specs.declared.note.Term.{Term}
 use Rattle.cert_format.specs.declared.note.Term.TheVariants as terms
@@ -89,8 +89,11 @@ set_there some more first (suc count) zero term here alike =
     rw (is, all_alike some more (first + 1) count (λ other lt. alike other (λ e. absurd (omega (arith, e, lt))))) refl
 set_there some more first (suc count) (suc var) term here alike =
     let at : first + suc var ≡ (first + 1) + var = omega arith in
-    rw (alike first (λ e. absurd (omega (arith, e))), set_there some more (first + 1) count var term (ap (variable_after more) (sym at) ∙ here)
-    (λ other differs. alike other (λ e. differs (e ∙ at)))) refl
+    rw (
+      alike first (λ e. absurd (omega (arith, e))),
+      set_there some more (first + 1) count var term (ap (variable_after more) (sym at) ∙ here)
+          (λ other differs. alike other (λ e. differs (e ∙ at))),
+    ) refl
 
 module _ (updates : List Update) (n : ℕ) (u : Update) (there : slice_get updates n ≡ Some u) (once : Differ updates) where
   -- What an update is of was not changed yet.

@@ -1,111 +1,51 @@
 -- No rule of the notes fails at the call of a block, nor at any instruction of a woven method that has a frame.
-use Rattle.std.proofs.Common.{◌≡◌, ◌≢◌, ℕ, zero, suc, ◌+◌, ◌<◌, ◌≤◌, Bool, true, false, cond, List, [], ◌∷◌, ◌++◌, length, map, Option, Some, None, refl, sym, ap, subst, ◌∙◌, ◌⊎◌, inl, inr, arith, append_assoc}
-use Rattle.std.specs.Prelude.{◌==◌, ◌&&◌, ◌||◌, Contains, IfSome, filter, is_some, not, slice_get}
+use Rattle.std.proofs.Common.{◌≡◌, ◌≢◌, ℕ, ◌+◌, ◌<◌, ◌≤◌, Bool, true, false, cond, List, [], ◌∷◌, ◌++◌, length, map, Option, Some, None, refl, sym, ap, subst, ◌∙◌, inl, inr, arith, append_assoc}
+use Rattle.std.specs.Prelude.{◌&&◌, ◌||◌, Contains, IfSome, filter, is_some, not, slice_get}
 use Rattle.std.specs.List.{AllByRecursion, list_all}
 use Rattle.std.specs.Option.{option_map_or}
-use Rattle.std.proofs.lemmas.Bool.{and_from, eqb-true, false≢true}
-use Rattle.std.proofs.lemmas.List.Elements.{Contains-append_left}
-use Rattle.std.proofs.lemmas.Option.{slice_get_within, slice_get_past}
+use Rattle.std.proofs.lemmas.Bool.{and_from, false≢true}
+use Rattle.std.proofs.lemmas.Option.{slice_get_within}
 use Rattle.insn_codec.specs.declared.insn.Insn.{Insn}
-use Rattle.insn_codec.specs.declared.insn.Insn.TheVariants as insns
-use Rattle.insn_codec.specs.declared.shape.Heap.TheVariants as heap
-use Rattle.insn_codec.specs.declared.shape.How.{How}
 use Rattle.insn_codec.specs.declared.shape.Shape.{Shape}
-use Rattle.insn_codec.specs.declared.shape.Shape.TheVariants as shapes
-use Rattle.insn_codec.specs.Control.{jump_targets, successors}
-use Rattle.insn_codec.specs.Fits.{AimsWithin}
-use Rattle.insn_codec.specs.Opcodes.{goes_on}
 use Rattle.insn_codec.specs.Shapes.{shape_of}
-use Rattle.insn_codec.specs.Spelling.{opcode_of}
 use Rattle.bytecode_model.specs.declared.program.Handler.{Handler}
 use Rattle.bytecode_model.specs.declared.program.Target.{Target}
 use Rattle.bytecode_model.specs.declared.program.Target.TheVariants as target
 use Rattle.bytecode_model.specs.Rules.{covers}
-use Rattle.bytecode_model.proofs.Lists.{all_get, some_is}
+use Rattle.bytecode_model.proofs.Lists.{some_is}
 use Rattle.cert_format.specs.declared.note.Note.{Note}
 use Rattle.cert_format.specs.declared.note.Note.TheVariants as notes
 use Rattle.cert_format.specs.declared.note.Phase8.TheVariants as sites
 use Rattle.cert_format.specs.declared.typing.FrameType.{FrameType}
 use Rattle.conspec_tree.specs.declared.types.Phase.TheVariants.{Before}
-use Rattle.conspec_automaton.specs.declared.policy.Policy.{Policy}
 use Rattle.conspec_automaton.specs.Next.{has_clauses}
 use Rattle.offset_patch.specs.declared.block.Block.{Block}
-use Rattle.offset_patch.specs.declared.block.BlockInsn.{BlockInsn}
-use Rattle.offset_patch.specs.declared.block.BlockInsn.TheVariants as blocks
 use Rattle.offset_patch.specs.declared.block.BlockInsn.TheVariants.{Call}
-use Rattle.offset_patch.specs.Fits.{JumpsWithin}
-use Rattle.offset_patch.specs.Splicing.{aimed, call_place, is_call, put}
+use Rattle.offset_patch.specs.Splicing.{aimed, call_place}
 use Rattle.block_template.specs.declared.item.Item.{Item}
-use Rattle.block_template.specs.declared.item.Role.{Role}
 use Rattle.block_template.specs.declared.item.Role.TheVariants as roles
 use Rattle.block_template.specs.Blocks.{bools_of, catches, handler_at, has_block, is_locked}
-use Rattle.block_template.specs.Flow.{Flows, IsLed, insn_of, jump_of, jumps, may_pass, next, returned, role_at, thrown}
-use Rattle.block_template.proofs.BlockFlows.{blocks_flow}
-use Rattle.block_template.proofs.ItemsTyped.{clauses_are_asked}
-use Rattle.block_logic.specs.Notes.{
-  Here,
-  all_pass,
-  calls_well,
-  catches_all,
-  catches_well,
-  is_granted,
-  is_owed_for_throw,
-  thrown_by,
-  first_handler,
-  handlers_of,
-  is_asked_taking,
-  is_duty_of,
-  is_free,
-  is_taking,
-  leaves_alone,
-  meets,
-  next_pass,
-  note_fault,
-  note_passes,
-}
-use Rattle.block_logic.specs.Operands.{calls, has_clause, is_state_name, loads_constant, pushes_state, variable_named}
+use Rattle.block_template.specs.Flow.{may_pass, next, returned, role_at, thrown}
+use Rattle.block_logic.specs.Notes.{Here, catches_all, catches_well, is_granted, is_owed_for_throw, thrown_by, first_handler, handlers_of, is_duty_of, meets, note_fault, note_passes}
+use Rattle.block_logic.specs.Operands.{calls, has_clause}
 use Rattle.block_logic.specs.Rows as rows
 use Rattle.block_logic.specs.Rows.{Asked, Open, Row, Rules}
 use Rattle.block_logic.specs.Standing.{in_phase, is_open}
-use Rattle.class_weaving.specs.Outcome.{at_fronts, own_handler, own_handlers, part_named}
-use Rattle.cert_maker.proofs.Aiming.{call_goes, jumps_moved}
+use Rattle.class_weaving.specs.Outcome.{at_fronts, own_handler}
+use Rattle.cert_maker.proofs.Aiming.{call_goes}
 use Rattle.cert_maker.proofs.AllRoles.{call_granted, call_row, call_told, granted, returns, throws, throws_on}
-use Rattle.cert_maker.proofs.Body.{Body, base, end_is, front, fronts, fronts_are, handlers_are, insn_there, made_long, n, next_front, note_there, part, plan, ref_there, refs, same_length, sites as sites_in}
+use Rattle.cert_maker.proofs.Body.{Body, base, front, fronts, handlers_are, insn_there, made_long, n, part, plan, ref_there, refs, same_length}
 use Rattle.cert_maker.proofs.Calling as calling
-use Rattle.cert_maker.proofs.Checks.{Arrives, Blocked, clauses, note, site}
+use Rattle.cert_maker.proofs.Checks.{Blocked, clauses, note, site}
 use Rattle.cert_maker.proofs.Checks.{rules as rules_of}
-use Rattle.cert_maker.proofs.Covering.{AllMiss, Stands, first_missed, missed, own_covers, own_none, own_stands}
+use Rattle.cert_maker.proofs.Covering.{AllMiss, first_missed, missed, own_covers, own_stands}
 use Rattle.cert_maker.proofs.Lists.{slice_there}
-use Rattle.cert_maker.proofs.Parts.{Located, locate}
-use Rattle.cert_maker.proofs.Passing.{alone_passes, first_opens, flows, led, next_passes, other_passes, own_missed, part_count, place_few, place_passes, reached_role, stands, suits}
-use Rattle.cert_maker.proofs.Plans.{block_of, items_of, none_there, note_alone, part_item, part_length, site_is, within as calls_within}
-use Rattle.cert_maker.proofs.Roles.{IsNoted}
+use Rattle.cert_maker.proofs.Parts.{locate}
+use Rattle.cert_maker.proofs.Passing.{alone_passes, first_opens, flows, led, next_passes, other_passes, own_missed, part_count, place_few, place_passes, reached_role, stands}
+use Rattle.cert_maker.proofs.Plans.{block_of, none_there, part_length, site_is, within as calls_within}
 use Rattle.cert_maker.proofs.Rows.{and_false, called}
-use Rattle.cert_maker.proofs.Rules.{Holds, all_hold, fault_at, no_fault, or_last}
-use Rattle.cert_maker.proofs.Shapes.{goes_past, jumps_to, places_of}
-use Rattle.cert_maker.proofs.Standing.{
-  few,
-  IsReady,
-  Passes,
-  Reached,
-  all as items_in,
-  blocked,
-  client_catches,
-  contained_right,
-  each_with,
-  entered_at,
-  entered_opens,
-  front_passes,
-  inside,
-  item_reached,
-  item_told,
-  less,
-  open_front,
-  rules_in,
-  told,
-  within,
-}
-use Rattle.cert_maker.proofs.Suits.{Suits, items_suit}
+use Rattle.cert_maker.proofs.Rules.{fault_at, no_fault, or_last}
+use Rattle.cert_maker.proofs.Standing.{few, IsReady, Passes, Reached, all as items_in, blocked, client_catches, contained_right, item_told, rules_in, told, within}
 use Rattle.cert_maker.proofs.Unwoven.{part_alone}
 
 module _ (b : Body) (frames : List (Option FrameType)) (ready : IsReady b frames) where

@@ -1,5 +1,5 @@
 -- What a policy names is told by a byte.
-use Rattle.std.specs.Prelude.{ℕ, ◌<◌, ◌^◌, ⊤}
+use Rattle.std.specs.Prelude.{◌<◌, ◌^◌, ⊤}
 use Rattle.std.specs.List.{AllByRecursion}
 use Rattle.conspec_tree.specs.declared.types.Atom.{Atom}
 use Rattle.conspec_tree.specs.declared.types.Base.{Base}

@@ -1,7 +1,8 @@
 //! What a policy tells of a site: its clause and its branches, and the arguments and the result of its method.
 
-ghost use Rattle.std.specs.Prelude.{◌≡◌, IfSome, is_some};
+ghost use Rattle.std.specs.Prelude.{◌≡◌, ◌==◌, find, IfSome, is_some};
 ghost use Rattle.std.specs.Option.{option_copied};
+ghost use Rattle.conspec_automaton.specs.declared.policy.Clause.{Clause as SpecClause};
 ghost use Rattle.conspec_automaton.specs.Sound.{IsPolicy};
 ghost use Rattle.block_logic.specs.Clauses.{clause_at, clause_of, is_of_phase, needs, result_of};
 ghost use Rattle.block_logic.specs.Standing.{asks_kept};
@@ -33,7 +34,14 @@ fn clause_at(policy: &Policy, method: u32, phase: Phase8) -> Option<&Clause>
 pub fn branch_at(policy: &Policy, site: Site, branch: u32) -> Option<&Branch>
     requires policy { IsPolicy policy.now }
     ensures is { option_copied result ≡ branch_at policy.now site branch }
+    // What it names is told by a byte.
     ensures small { IfSome (option_copied result) IsSmall }
+{
+    branch_of(policy, site, branch)
+}
+
+fn branch_of(policy: &Policy, site: Site, branch: u32) -> Option<&Branch>
+    ensures { option_copied result ≡ branch_at policy.now site branch }
 {
     let clause = clause_at(policy, u32::from(site.method), site.phase)?;
     clause.branches.as_slice().get(branch as usize)
@@ -60,13 +68,18 @@ pub fn asks_kept(policy: &Policy, site: Site) -> bool
 fn gives_result(policy: &Policy, method: u32) -> bool
     ensures { result ≡ is_some (result_of policy.now method) }
 {
-    match policy
+    match first_clause(policy, method) {
+        Some(clause) => clause.result.is_some(),
+        None => false,
+    }
+}
+
+fn first_clause(policy: &Policy, method: u32) -> Option<&Clause>
+    ensures { option_copied result ≡ find (λ (c : SpecClause). c.method == method) policy.now.clauses }
+{
+    policy
         .clauses
         .as_slice()
         .iter()
         .find(|clause| clause.method == method)
-    {
-        Some(clause) => clause.result.is_some(),
-        None => false,
-    }
 }

@@ -26,13 +26,7 @@ pub fn lock_note(policy: &Policy, call: Called, phase: Phase, pushed: bool) -> N
 }
 
 /// Where the lock is to be left, behind a check or where none was made.
-pub fn unlock_note(
-    policy: &Policy,
-    call: Called,
-    phase: Phase,
-    checked: bool,
-    pushed: bool,
-) -> Note
+pub fn unlock_note(policy: &Policy, call: Called, phase: Phase, checked: bool, pushed: bool) -> Note
     ensures { result ≡ unlock_note policy.now call phase checked pushed }
 {
     let site = site_of(call, phase);

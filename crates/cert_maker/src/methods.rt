@@ -5,7 +5,7 @@ ghost use Rattle.bytecode_model.specs.declared.program.Target.TheVariants as tar
 ghost use Rattle.cert_format.specs.declared.note.Note.TheVariants.{Free};
 ghost use Rattle.conspec_automaton.specs.Sound.{IsPolicy};
 ghost use Rattle.block_template.specs.declared.item.Item.{Item as SpecItem};
-ghost use Rattle.cert_maker.specs.Noting.{if_framed, method_notes, note_of, part_notes, parts_notes, where_framed};
+ghost use Rattle.cert_maker.specs.Noting.{block_notes, if_framed, method_notes, note_of, part_notes, parts_notes, where_framed};
 
 use crate::called::Called;
 use crate::notes::note_of;
@@ -31,7 +31,15 @@ pub fn method_notes(
     let mut refs = method.refs.as_slice();
     let mut left = frames;
     while let [target, others @ ..] = refs {
-        let count = put_part(alloc, &mut notes, policy, mode, method.max_locals, target, left)?;
+        let count = put_part(
+            alloc,
+            &mut notes,
+            policy,
+            mode,
+            method.max_locals,
+            target,
+            left,
+        )?;
         left = behind(left, count);
         refs = others;
     }
@@ -74,8 +82,32 @@ fn put_call(
     if !has_clauses(policy, callee) {
         return put_alone(notes, frames);
     }
+    put_block(alloc, notes, policy, mode, base, callee, frames)
+}
+
+/// Appends the notes of a block. Its roles do not depend on where its locals begin.
+fn put_block(
+    alloc: Global,
+    notes: &mut List<Note>,
+    policy: &Policy,
+    mode: Mode,
+    base: u16,
+    callee: u32,
+    frames: &[Option<FrameType>],
+) -> Result<usize, NoMemory>
+    requires policy { IsPolicy policy.now }
+    ensures notes { OnOk result (notes.new ≡ notes.old ++ where_framed (block_notes policy.now mode base callee) frames.now) }
+    ensures count { IfOk result (λ count. count ≡ length (block_notes policy.now mode base callee)) }
+{
     let block = items(alloc, policy, mode, callee, 0)?;
-    put_items(alloc, notes, policy, Called { callee, base }, block.as_slice(), frames)?;
+    put_items(
+        alloc,
+        notes,
+        policy,
+        Called { callee, base },
+        block.as_slice(),
+        frames,
+    )?;
     Ok(block.len())
 }
 

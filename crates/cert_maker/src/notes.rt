@@ -21,12 +21,7 @@ use mon_base::{List, NoMemory};
 use std::alloc::Global;
 
 /// The note of an instruction of this role.
-pub fn note_of(
-    alloc: Global,
-    policy: &Policy,
-    call: Called,
-    role: Role,
-) -> Result<Note, NoMemory>
+pub fn note_of(alloc: Global, policy: &Policy, call: Called, role: Role) -> Result<Note, NoMemory>
     requires policy { IsPolicy policy.now }
     ensures { IfOk result (λ note. note ≡ note_of policy.now call role) }
 {
@@ -163,12 +158,7 @@ fn updating_note(
 }
 
 /// All updates of the branch are made.
-fn taken_note(
-    alloc: Global,
-    policy: &Policy,
-    site: Site,
-    branch: u32,
-) -> Result<Note, NoMemory>
+fn taken_note(alloc: Global, policy: &Policy, site: Site, branch: u32) -> Result<Note, NoMemory>
     requires policy { IsPolicy policy.now }
     ensures { IfOk result (λ note. note ≡ taken_note policy.now site branch) }
 {
