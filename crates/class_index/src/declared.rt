@@ -28,7 +28,7 @@ pub fn methods_of(
     files: &[ClassFile],
     listing: &Listing,
 ) -> Result<BTreeMap<MethodId, Found>, NoMemory>
-    requires count { length files.now ≤ 1000 }
+    requires count { length files.now ≤ 1001 }
     requires fits { AllByRecursion CanSpell files.now }
     requires listed { length listing.now.methods ≤ 20000 }
     ensures { IfOk result (λ found. (q : MethodId) → found_in found q ≡ first_of (methods_declared files.now listing.now) q) }
@@ -46,7 +46,7 @@ pub fn fields_of(
     files: &[ClassFile],
     listing: &Listing,
 ) -> Result<BTreeMap<MethodId, Found>, NoMemory>
-    requires count { length files.now ≤ 1000 }
+    requires count { length files.now ≤ 1001 }
     requires fits { AllByRecursion CanSpell files.now }
     requires listed { length listing.now.fields ≤ 20000 }
     ensures { IfOk result (λ found. (q : MethodId) → found_in found q ≡ first_of (fields_declared files.now listing.now) q) }
@@ -79,7 +79,7 @@ fn add_files(
     kind: MemberKind,
     files: &[ClassFile],
 ) -> Result<(), NoMemory>
-    requires count { length files.now ≤ 1000 }
+    requires count { length files.now ≤ 1001 }
     requires fits { AllByRecursion CanSpell files.now }
     ensures { OnOk result ((q : MethodId) → found_in found.new q
         ≡ option_or (found_in found.old q) (first_of (given_from kind 0 files.now) q)) }

@@ -69,7 +69,7 @@ impl Heads {
 
     /// Whether the way up from the class never leaves the given classes.
     pub fn runs_in_circle(&self, name: &Bytes) -> bool
-        requires { length self.now ≤ 1000 }
+        requires { length self.now ≤ 1001 }
         ensures { result ≡ runs_in_circle self.now name.now }
     {
         match self.heights.get(name) {
@@ -81,7 +81,7 @@ impl Heads {
 
 /// The same, by a walk up from the class.
 fn runs_in_circle(classes: &Classes, name: &Bytes) -> bool
-    requires { length classes.now ≤ 1000 }
+    requires { length classes.now ≤ 1001 }
     ensures { result ≡ runs_in_circle classes.now name.now }
 {
     let mut at = name;

@@ -62,7 +62,7 @@ impl<'a> Index<'a> {
         heads: &[ListedClass],
         listing: &'a Listing,
     ) -> Result<Index<'a>, NoMemory>
-        requires count { length files.now ≤ 1000 }
+        requires count { length files.now ≤ 1001 }
         requires fits { AllByRecursion CanSpell files.now }
         requires heads { heads.now ≡ heads_of files.now }
         requires listed { IsFew listing.now }

@@ -1,6 +1,6 @@
 -- The operands of a program that files link to.
 use Rattle.std.proofs.Common.{◌≡◌, ℕ, suc, ◌+◌, ◌<◌, not, true, List, [], ◌∷◌, length, Option, Some, None, Result, Ok, Err, refl, sym, ap, subst, ◌∙◌, arith}
-use Rattle.std.specs.Prelude.{slice_get, ok_or, nat_lt, IfOk}
+use Rattle.std.specs.Prelude.{slice_get, ok_or, IfOk}
 use Rattle.std.specs.List.{AllByRecursion}
 use Rattle.std.proofs.lemmas.Option.{slice_get_within}
 use Rattle.mon_base.specs.Reading.{◌>>=◌, need}
@@ -31,8 +31,7 @@ use Rattle.bytecode_model.specs.Conditions.{is_allowed, overrides, codes_of}
 use Rattle.class_linking.specs.Fault.{Linked, linked_from}
 use Rattle.bytecode_model.specs.Heads.{head_of, heads_of, all_classes, name_of}
 use Rattle.class_linking.specs.Handlers.{handlers_linked}
-use Rattle.class_linking.specs.Linking.{bare, with_code, read_of, code_linked, body_linked, method_linked, methods_linked, each_linked, classes_with, members_of, main_of, linked}
-use Rattle.bytecode_model.specs.Files.{max_files}
+use Rattle.class_linking.specs.Linking.{bare, with_code, read_of, code_linked, body_linked, method_linked, methods_linked, each_linked, classes_with, members_of, main_of, assembled}
 use Rattle.bytecode_model.specs.Operands.{literals_of}
 use Rattle.class_linking.specs.Operands.{operand_linked, told_at, operand_at, operands_linked}
 use Rattle.bytecode_model.specs.Sound.{IsSound, IsSoundClass, IsSoundMethod}
@@ -137,12 +136,11 @@ classes_many [] methods e = refl
 classes_many (file ∷ files) [] e = absurd cc
 classes_many (file ∷ files) (first ∷ methods) e = ap suc (classes_many files methods (omega (arith, e)))
 
-pub is_linked : (files : List ClassFile) (listing : Listing) (main : List ℕ) (side : Side) (program : Program) → linked files listing main side ≡ Ok program → IsLinked files listing program
+pub is_linked : (files : List ClassFile) (listing : Listing) (main : List ℕ) (side : Side) (program : Program) → assembled files listing main side ≡ Ok program → IsLinked files listing program
 is_linked files listing main side program e =
     let ending : Members → Linked Program = λ members. ok_or (main_of files main) faults.NoMain >>= λ begin. Ok (made files listing members begin) in
     let rest : Linked Program = members_of files listing >>= ending in
-    let few = need_ok (not (nat_lt max_files (length files))) (faults.TooMany (length files)) (λ _. classes_linked side (heads_of files) listing.classes files >>= λ _. rest) program e in
-    let sound = bind_ok (classes_linked side (heads_of files) listing.classes files) (λ _. rest) program few.1 in
+    let sound = bind_ok (classes_linked side (heads_of files) listing.classes files) (λ _. rest) program e in
     let members = bind_ok (members_of files listing) ending program sound.2 in
     let begin = bind_ok (ok_or (main_of files main) faults.NoMain) (λ start. Ok (made files listing members.0 start)) program members.2 in
     let is : made files listing members.0 begin.0 ≡ program = ok_is LinkFault (made files listing members.0 begin.0) program begin.2 in
@@ -170,6 +168,6 @@ all_right files listing main side program e sound = operands_right files listing
 
 -- the same of a call that answers what the files link to
 pub known : (files : List ClassFile) (listing : Listing) (main : List ℕ) (side : Side) (answer : Linked Program)
-    → Answers faults.Memory answer (linked files listing main side) → IfOk answer IsSound → IfOk answer AreRightOperands
+    → Answers faults.Memory answer (assembled files listing main side) → IfOk answer IsSound → IfOk answer AreRightOperands
 known files listing main side (Ok program) given sound = all_right files listing main side program given sound
 known files listing main side (Err fault) given sound = tt

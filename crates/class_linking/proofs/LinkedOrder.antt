@@ -1,7 +1,7 @@
 -- The classes of a program that links with a listing: those of the listing, and then the given ones.
 use Rattle.std.proofs.Common.{◌≡◌, ℕ, zero, suc, ◌+◌, Bool, true, false, not, List, [], ◌∷◌, ◌++◌, ◌⊎◌, length, map, Option, Some, None, Ok, Err, refl, sym, ap, subst, ◌∙◌, inl, inr, append_assoc, arith}
 use Rattle.mon_base.specs.Answer.{Answers}
-use Rattle.std.specs.Prelude.{IfOk, bytes_eq, nat_lt, ok_or, ◌||◌, ◌&&◌}
+use Rattle.std.specs.Prelude.{IfOk, bytes_eq, ok_or, ◌||◌, ◌&&◌}
 use Rattle.std.specs.List.{list_all}
 use Rattle.std.specs.Option.{option_map_or}
 use Rattle.std.proofs.lemmas.Bool.{cases_Bool, false≢true}
@@ -26,8 +26,7 @@ use Rattle.bytecode_model.specs.Conditions.{is_free, stays_within, runs_in_circl
 use Rattle.class_linking.specs.ClassConditions.{class_linked, classes_linked}
 use Rattle.class_linking.specs.Fault.{Linked}
 use Rattle.bytecode_model.specs.Heads.{head_of, heads_of}
-use Rattle.class_linking.specs.Linking.{members_of, main_of, classes_with, linked}
-use Rattle.bytecode_model.specs.Files.{max_files}
+use Rattle.class_linking.specs.Linking.{members_of, main_of, classes_with, assembled}
 use Rattle.class_linking.proofs.Whole.{files_back}
 use Rattle.bytecode_model.specs.Arrays.{is_array}
 use Rattle.bytecode_model.specs.Order.{IsInOrder}
@@ -201,13 +200,12 @@ Members = List (List Method) × List (List ℕ)
 abbrev made : List ClassFile → Listing → Members → ℕ × ℕ → Program
 made files listing members begin = record { classes = classes_with files members.0; listing = listing; literals = members.1; main_class = begin.0; main_method = begin.1 }
 
-is_given : (files : List ClassFile) (listing : Listing) (main : List ℕ) (side : Side) (program : Program) → linked files listing main side ≡ Ok program → IsGiven files listing program
+is_given : (files : List ClassFile) (listing : Listing) (main : List ℕ) (side : Side) (program : Program) → assembled files listing main side ≡ Ok program → IsGiven files listing program
 is_given files listing main side program e =
     let heads = heads_of files in
     let ending : Members → Linked Program = λ members. ok_or (main_of files main) faults.NoMain >>= λ begin. Ok (made files listing members begin) in
     let rest : Linked Program = members_of files listing >>= ending in
-    let few = need_ok (not (nat_lt max_files (length files))) (faults.TooMany (length files)) (λ _. classes_linked side heads listing.classes files >>= λ _. rest) program e in
-    let sound = bind_ok (classes_linked side heads listing.classes files) (λ _. rest) program few.1 in
+    let sound = bind_ok (classes_linked side heads listing.classes files) (λ _. rest) program e in
     let members = bind_ok (members_of files listing) ending program sound.2 in
     let begin = bind_ok (ok_or (main_of files main) faults.NoMain) (λ start. Ok (made files listing members.0 start)) program members.2 in
     let is : made files listing members.0 begin.0 ≡ program = ok_is LinkFault (made files listing members.0 begin.0) program begin.2 in
@@ -240,13 +238,13 @@ in_order : (program : Program) → Ordered (classes_of program) → IsInOrder pr
 in_order program h = record { ends = h.ends; top = h.top; interfaces = h.interfaces; thrown = h.thrown; no_arrays = h.no_arrays }
 
 pub linked_in_order : (text : List ℕ) (listing : Listing) (files : List ClassFile) (main : List ℕ) (side : Side) (program : Program)
-    → SpellsListing text listing → linked files listing main side ≡ Ok program → IsInOrder program
+    → SpellsListing text listing → assembled files listing main side ≡ Ok program → IsInOrder program
 linked_in_order text listing files main side program spells e =
     let given = is_given files listing main side program e in
     in_order program (subst Ordered (sym given.whole) (ordered files listing program (is_listed text listing spells) given))
 
 -- the same of a call that answers what the files link to
-pub known : (files : List ClassFile) (listing : Listing) (main : List ℕ) (side : Side) (answer : Linked Program) → Answers faults.Memory answer (linked files listing main side)
+pub known : (files : List ClassFile) (listing : Listing) (main : List ℕ) (side : Side) (answer : Linked Program) → Answers faults.Memory answer (assembled files listing main side)
     → IfOk answer (λ program. (text : List ℕ) → SpellsListing text listing → IsInOrder program)
 known files listing main side (Ok program) given = λ text spells. linked_in_order text listing files main side program spells given
 known files listing main side (Err fault) given = tt

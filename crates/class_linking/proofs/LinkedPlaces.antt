@@ -1,9 +1,8 @@
 -- The classes of a linked program: which files they are of, and that no two have one name.
-use Rattle.std.proofs.Common.{◌≡◌, ℕ, zero, suc, ◌+◌, ◌≤◌, Bool, true, false, not, ◌||◌, List, [], ◌∷◌, ◌++◌, length, map, Some, Ok, refl, sym, ap, subst, ◌∙◌, arith}
-use Rattle.std.specs.Prelude.{bytes_eq, slice_get, ok_or, nat_lt}
+use Rattle.std.proofs.Common.{◌≡◌, ℕ, zero, suc, ◌+◌, Bool, true, false, not, ◌||◌, List, [], ◌∷◌, ◌++◌, map, Some, Ok, refl, sym, ap, subst, ◌∙◌, arith}
+use Rattle.std.specs.Prelude.{bytes_eq, slice_get, ok_or}
 use Rattle.std.specs.List.{AllByRecursion}
 use Rattle.std.proofs.lemmas.Bool.{false≢true}
-use Rattle.std.proofs.lemmas.Bool.Decides.{nat_tests}
 use Rattle.std.proofs.lemmas.Slice.Eq.{bytes_eq-Decides}
 use Rattle.mon_base.specs.Reading.{◌>>=◌, need}
 use Rattle.mon_base.proofs.Reading.{bind_ok, need_ok, ok_is, ok_or_ok}
@@ -23,8 +22,8 @@ use Rattle.bytecode_model.specs.Conditions.{is_free, has_supers}
 use Rattle.api_listing.specs.Words.{is_class_name}
 use Rattle.class_linking.specs.Fault.{Linked, linked_from}
 use Rattle.bytecode_model.specs.Heads.{head_of, heads_of, all_classes}
-use Rattle.class_linking.specs.Linking.{classes_with, methods_linked, each_linked, members_of, main_of, linked}
-use Rattle.bytecode_model.specs.Files.{max_files, unlinked}
+use Rattle.class_linking.specs.Linking.{classes_with, methods_linked, each_linked, members_of, main_of, assembled}
+use Rattle.bytecode_model.specs.Files.{unlinked}
 use Rattle.bytecode_model.specs.Operands.{literals_of}
 use Rattle.bytecode_model.proofs.Lists.{some_is, not_true}
 use Rattle.class_linking.proofs.Whole.{files_back}
@@ -157,7 +156,6 @@ pub record IsLinkedFrom (files : List ClassFile) (listing : Listing) (main : Lis
   pub back : unlinked program ≡ files
   pub literals : program.literals ≡ literals_of files
   pub classes : AllByRecursion (IsClassOf files listing) program.classes
-  pub few : length files ≤ max_files
   pub named : classes_linked side (heads_of files) listing.classes files ≡ Ok tt
   pub begin : main_of files main ≡ Some (program.main_class, program.main_method)
 
@@ -166,9 +164,6 @@ Members = List (List Method) × List (List ℕ)
 
 abbrev made : List ClassFile → Listing → Members → ℕ × ℕ → Program
 made files listing members begin = record { classes = classes_with files members.0; listing = listing; literals = members.1; main_class = begin.0; main_method = begin.1 }
-
-at_most : (n m : ℕ) → nat_lt n m ≡ false → m ≤ n
-at_most n m e = grind (arith, nat_tests)
 
 module _ (files : List ClassFile) (listing : Listing) where
   classes_are : (at : ℕ) (some : List ClassFile) (methods : List (List Method)) → linked_from (λ i. methods_linked files listing) at some ≡ Ok methods → AllByRecursion (IsClassOf files listing) (classes_with some methods)
@@ -181,12 +176,11 @@ module _ (files : List ClassFile) (listing : Listing) where
       let rest : b.0 ≡ methods = cc (b.2) in
       (record { name = refl; methods = a.1 ∙ ap Ok front }, classes_are (at + 1) some methods (b.1 ∙ ap Ok rest))
 
-  pub linked_known : (main : List ℕ) (side : Side) (program : Program) → linked files listing main side ≡ Ok program → IsLinkedFrom files listing main side program
+  pub linked_known : (main : List ℕ) (side : Side) (program : Program) → assembled files listing main side ≡ Ok program → IsLinkedFrom files listing main side program
   linked_known main side program e =
       let ending : Members → Linked Program = λ members. ok_or (main_of files main) faults.NoMain >>= λ begin. Ok (made files listing members begin) in
       let rest : Linked Program = members_of files listing >>= ending in
-      let few = need_ok (not (nat_lt max_files (length files))) (faults.TooMany (length files)) (λ _. classes_linked side (heads_of files) listing.classes files >>= λ _. rest) program e in
-      let sound = bind_ok (classes_linked side (heads_of files) listing.classes files) (λ _. rest) program few.1 in
+      let sound = bind_ok (classes_linked side (heads_of files) listing.classes files) (λ _. rest) program e in
       let members = bind_ok (members_of files listing) ending program sound.2 in
       let begin = bind_ok (ok_or (main_of files main) faults.NoMain) (λ start. Ok (made files listing members.0 start)) program members.2 in
       let is : made files listing members.0 begin.0 ≡ program = ok_is LinkFault (made files listing members.0 begin.0) program begin.2 in
@@ -200,7 +194,6 @@ module _ (files : List ClassFile) (listing : Listing) where
         back = files_back files listing members.0 members.1;
         literals = sym texts;
         classes = classes_are 0 files members.0.0 (each.1 ∙ ap Ok same);
-        few = at_most max_files (length files) (not_true (nat_lt max_files (length files)) few.0);
         named = sound.1;
         begin = ok_or_ok (main_of files main) faults.NoMain begin.0 begin.1;
       } in

@@ -139,7 +139,7 @@ few_classes (file ∷ files) (first ∷ methods) = omega (arith, few_classes fil
 
 -- ---- the program
 
-pub is_sound : (files : List ClassFile) (listing : Listing) (main : List ℕ) (methods : List (List Method)) (literals : List (List ℕ)) (class method : ℕ) → length files ≤ 1000 → IsFew listing
+pub is_sound : (files : List ClassFile) (listing : Listing) (main : List ℕ) (methods : List (List Method)) (literals : List (List ℕ)) (class method : ℕ) → length files ≤ 1001 → IsFew listing
     → AllByRecursion CanSpell files → members_of files listing ≡ Ok (methods, literals) → AllByRecursion SoundMethods methods → main_of files main ≡ Some (class, method)
     → IsSound (record { classes = classes_with files methods; listing = listing; literals = literals; main_class = class; main_method = method })
 is_sound files listing main methods literals class method few listed fit made sound begin =

@@ -1,6 +1,7 @@
 -- The program that files link to, step by step.
-use Rattle.std.proofs.Common.{◌≡◌, ℕ, Bool, false, List, [], ◌∷◌, length, map, Option, Some, None, Ok, Err, refl, sym, ap, ◌∙◌, arith}
-use Rattle.std.specs.Prelude.{ok_or, nat_lt, not}
+use Rattle.std.proofs.Common.{◌≡◌, ℕ, ◌≤◌, List, [], ◌∷◌, length, map, Option, Some, None, Ok, Err, refl, sym, ap, ◌∙◌, arith}
+use Rattle.std.specs.Prelude.{ok_or, not}
+use Rattle.std.proofs.lemmas.Bool.{le-ltb}
 use Rattle.mon_base.specs.Reading.{◌>>=◌, need}
 use Rattle.mon_base.proofs.Reading.{bind_ok}
 use Rattle.class_codec.specs.declared.tree.ClassFile.{ClassFile}
@@ -16,7 +17,7 @@ use Rattle.class_linking.specs.Fault.{Linked}
 use Rattle.bytecode_model.specs.Heads.{heads_of}
 use Rattle.class_linking.specs.ClassConditions.{classes_linked}
 use Rattle.bytecode_model.specs.Operands.{literals_of}
-use Rattle.class_linking.specs.Linking.{members_of, main_of, each_linked, classes_with, linked}
+use Rattle.class_linking.specs.Linking.{members_of, main_of, each_linked, classes_with, assembled, linked}
 use Rattle.bytecode_model.specs.Files.{max_files}
 use Rattle.mon_base.proofs.Answering.{through}
 use Rattle.class_linking.proofs.Loop.{same_length}
@@ -33,31 +34,32 @@ ending files listing main members = ok_or (main_of files main) faults.NoMain >>=
 abbrev rest : List ClassFile → Listing → List ℕ → Linked Program
 rest files listing main = members_of files listing >>= λ members. ending files listing main members
 
-module _ (files : List ClassFile) (listing : Listing) (main : List ℕ) (side : Side) (few : nat_lt max_files (length files) ≡ false) where
-  few_step : linked files listing main side ≡ (classes_linked side (heads_of files) listing.classes files >>= λ sound. rest files listing main)
-  few_step = ap (λ (b : Bool). need (not b) (faults.TooMany (length files)) >>= λ small. classes_linked side (heads_of files) listing.classes files >>= λ sound. rest files listing main) few
+module _ (files : List ClassFile) (listing : Listing) (main : List ℕ) (side : Side) where
+  -- so many files link to what they link to, however many
+  pub few_link : length files ≤ max_files → linked files listing main side ≡ assembled files listing main side
+  few_link few = ap (λ b. need (not b) (faults.TooMany (length files)) >>= λ small. assembled files listing main side) (le-ltb max_files (length files) few)
 
-  pub ends_classes : (e : LinkFault) → Fails faults.Memory e (classes_linked side (heads_of files) listing.classes files) → Fails faults.Memory e (linked files listing main side)
+  pub ends_classes : (e : LinkFault) → Fails faults.Memory e (classes_linked side (heads_of files) listing.classes files) → Fails faults.Memory e (assembled files listing main side)
   ends_classes e fails =
-      through faults.Memory e (classes_linked side (heads_of files) listing.classes files) (linked files listing main side)
-      (λ err. few_step ∙ ap (λ (r : Linked (Unit {0})). r >>= λ sound. rest files listing main) err) fails
+      through faults.Memory e (classes_linked side (heads_of files) listing.classes files) (assembled files listing main side)
+      (λ err. ap (λ (r : Linked (Unit {0})). r >>= λ sound. rest files listing main) err) fails
 
-  sound_step : classes_linked side (heads_of files) listing.classes files ≡ Ok tt → linked files listing main side ≡ rest files listing main
-  sound_step ok = few_step ∙ ap (λ (r : Linked (Unit {0})). r >>= λ sound. rest files listing main) ok
+  sound_step : classes_linked side (heads_of files) listing.classes files ≡ Ok tt → assembled files listing main side ≡ rest files listing main
+  sound_step ok = ap (λ (r : Linked (Unit {0})). r >>= λ sound. rest files listing main) ok
 
-  pub ends_members : (e : LinkFault) → classes_linked side (heads_of files) listing.classes files ≡ Ok tt → Fails faults.Memory e (members_of files listing) → Fails faults.Memory e (linked files listing main side)
+  pub ends_members : (e : LinkFault) → classes_linked side (heads_of files) listing.classes files ≡ Ok tt → Fails faults.Memory e (members_of files listing) → Fails faults.Memory e (assembled files listing main side)
   ends_members e ok fails =
-      through faults.Memory e (members_of files listing) (linked files listing main side)
+      through faults.Memory e (members_of files listing) (assembled files listing main side)
       (λ err. sound_step ok ∙ ap (λ (r : Linked Members). r >>= λ members. ending files listing main members) err) fails
 
-  pub is_ending : (members : Members) → classes_linked side (heads_of files) listing.classes files ≡ Ok tt → members_of files listing ≡ Ok members → linked files listing main side ≡ ending files listing main members
+  pub is_ending : (members : Members) → classes_linked side (heads_of files) listing.classes files ≡ Ok tt → members_of files listing ≡ Ok members → assembled files listing main side ≡ ending files listing main members
   is_ending members ok made = sound_step ok ∙ ap (λ (r : Linked Members). r >>= λ ms. ending files listing main ms) made
 
-  pub no_main : (members : Members) → classes_linked side (heads_of files) listing.classes files ≡ Ok tt → members_of files listing ≡ Ok members → main_of files main ≡ None → linked files listing main side ≡ Err faults.NoMain
+  pub no_main : (members : Members) → classes_linked side (heads_of files) listing.classes files ≡ Ok tt → members_of files listing ≡ Ok members → main_of files main ≡ None → assembled files listing main side ≡ Err faults.NoMain
   no_main members ok made none = is_ending members ok made ∙ ap (λ (o : Option (ℕ × ℕ)). ok_or o faults.NoMain >>= λ begin. Ok (program files listing members begin)) none
 
   pub is_program : (members : Members) (begin : ℕ × ℕ) → classes_linked side (heads_of files) listing.classes files ≡ Ok tt → members_of files listing ≡ Ok members → main_of files main ≡ Some begin
-      → linked files listing main side ≡ Ok (program files listing members begin)
+      → assembled files listing main side ≡ Ok (program files listing members begin)
   is_program members begin ok made some = is_ending members ok made ∙ ap (λ (o : Option (ℕ × ℕ)). ok_or o faults.NoMain >>= λ b. Ok (program files listing members b)) some
 
 map_back : (files : List ClassFile) (methods : List (List Method)) → length methods ≡ length files → map (λ (c : LinkedClass). c.file) (classes_with files methods) ≡ files

@@ -58,7 +58,7 @@ pub fn classes_linked(
     listed: &[ListedClass],
     files: &[ClassFile],
 ) -> Result<(), LinkFault>
-    requires { length heads.now ≤ 1000 }
+    requires { length heads.now ≤ 1001 }
     ensures { Answers LinkFault.Memory result (classes_linked side heads.now listed.now files.now) }
 {
     let mut taken = names_of(alloc, listed)?;
@@ -92,7 +92,7 @@ fn class_linked(
     file: &ClassFile,
     head: &ListedClass,
 ) -> Result<(), LinkFault>
-    requires { length heads.now ≤ 1000 }
+    requires { length heads.now ≤ 1001 }
     ensures { Answers LinkFault.Memory result (class_linked side heads.now is_taken head.now file.now) }
 {
     if !is_class_name(head.name.as_slice()) {
@@ -169,7 +169,7 @@ fn holds(part: &[u8], text: &[u8]) -> bool
 
 /// Whether the class may stand where it does.
 fn has_supers(heads: &Heads, head: &ListedClass, fields: &[Member]) -> bool
-    requires { length heads.now ≤ 1000 }
+    requires { length heads.now ≤ 1001 }
     ensures { result ≡ has_supers heads.now head.now fields.now }
 {
     stands_below(heads, head) && is_good_interface(head, fields)
@@ -177,7 +177,7 @@ fn has_supers(heads: &Heads, head: &ListedClass, fields: &[Member]) -> bool
 
 /// Whether its superclass and its interfaces may stand above it.
 fn stands_below(heads: &Heads, head: &ListedClass) -> bool
-    requires { length heads.now ≤ 1000 }
+    requires { length heads.now ≤ 1001 }
     ensures { result ≡ stands_below heads.now head.now }
 {
     is_super(heads, &head.parent)

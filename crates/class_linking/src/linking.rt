@@ -10,8 +10,8 @@ ghost use Rattle.bytecode_model.specs.Named.{AreRightOperands};
 ghost use Rattle.bytecode_model.specs.Order.{IsInOrder};
 ghost use Rattle.bytecode_model.specs.Sound.{IsSoundMethod, IsSound};
 ghost use Rattle.bytecode_model.specs.Standing.{IsLinkedOf};
-ghost use Rattle.class_linking.specs.Linking.{if_static, static_main, main_of, each_linked, class_with, classes_with, members_of, linked};
-ghost use Rattle.bytecode_model.specs.Files.{unlinked};
+ghost use Rattle.class_linking.specs.Linking.{if_static, static_main, main_of, each_linked, class_with, classes_with, members_of, assembled, linked};
+ghost use Rattle.bytecode_model.specs.Files.{max_files, unlinked};
 
 use crate::class_conditions::classes_linked;
 use crate::fault::LinkFault;
@@ -27,7 +27,7 @@ use mon_base::{Bytes, List, NoMemory};
 use std::alloc::Global;
 use std::collections::VecDeque;
 
-/// The greatest number of class files.
+/// The greatest number of class files that may be given.
 pub const MAX_FILES: usize = 1000;
 
 /// What the files, the listing and the main class link to, or the first condition that fails. The conditions are tried
@@ -49,31 +49,53 @@ pub fn link(
     ensures named { IfOk result (IsLinkedOf side listing main.now) }
     ensures order { IfOk result (λ program. (text : List ℕ) → SpellsListing text listing → IsInOrder program) }
 {
-    linked_operands_are_right();
-    linked_programs_are_named();
-    linked_is_in_order();
-    linked_program(alloc, files, listing, main, side)
-}
-
-fn linked_program(
-    alloc: Global,
-    files: List<ClassFile>,
-    listing: Listing,
-    main: &Bytes,
-    side: Side,
-) -> Result<Program, LinkFault>
-    requires fits { AllByRecursion CanSpell files }
-    requires listed { IsFew listing }
-    ensures exact { Answers LinkFault.Memory result (linked files listing main.now side) }
-    ensures back { IfOk result (λ program. unlinked program ≡ files) }
-    ensures sound { IfOk result IsSound }
-{
     let count = files.len();
     if count > MAX_FILES {
         return Err(LinkFault::TooMany {
             count: count as u64,
         });
     }
+    assemble(alloc, files, listing, main, side)
+}
+
+/// The same of files that were woven, of which there may be one more than may be given.
+pub fn assemble(
+    alloc: Global,
+    files: List<ClassFile>,
+    listing: Listing,
+    main: &Bytes,
+    side: Side,
+) -> Result<Program, LinkFault>
+    requires few { length files ≤ 1001 }
+    requires fits { AllByRecursion CanSpell files }
+    requires listed { IsFew listing }
+    ensures exact { Answers LinkFault.Memory result (assembled files listing main.now side) }
+    ensures back { IfOk result (λ program. unlinked program ≡ files) }
+    ensures sound { IfOk result IsSound }
+    ensures operands { IfOk result AreRightOperands }
+    ensures named { length files ≤ max_files → IfOk result (IsLinkedOf side listing main.now) }
+    ensures order { IfOk result (λ program. (text : List ℕ) → SpellsListing text listing → IsInOrder program) }
+{
+    linked_operands_are_right();
+    linked_programs_are_named();
+    linked_is_in_order();
+    assembled_program(alloc, files, listing, main, side)
+}
+
+fn assembled_program(
+    alloc: Global,
+    files: List<ClassFile>,
+    listing: Listing,
+    main: &Bytes,
+    side: Side,
+) -> Result<Program, LinkFault>
+    requires few { length files ≤ 1001 }
+    requires fits { AllByRecursion CanSpell files }
+    requires listed { IsFew listing }
+    ensures exact { Answers LinkFault.Memory result (assembled files listing main.now side) }
+    ensures back { IfOk result (λ program. unlinked program ≡ files) }
+    ensures sound { IfOk result IsSound }
+{
     let heads = Heads::new(alloc, heads_of(alloc, files.as_slice())?)?;
     classes_linked(
         alloc,
@@ -103,7 +125,7 @@ fn members(
     heads: &[ListedClass],
     listing: &Listing,
 ) -> Result<(List<List<Method>>, List<Bytes>), LinkFault>
-    requires count { length files.now ≤ 1000 }
+    requires count { length files.now ≤ 1001 }
     requires fits { AllByRecursion CanSpell files.now }
     requires heads { heads.now ≡ heads_of files.now }
     requires listed { IsFew listing.now }
@@ -180,7 +202,7 @@ fn class_with(
 
 /// The class and the method, by their indices, that a program begins with.
 fn main_of(files: &[ClassFile], main: &[u8]) -> Option<(u32, u32)>
-    requires count { length files.now ≤ 1000 }
+    requires count { length files.now ≤ 1001 }
     requires fits { AllByRecursion CanSpell files.now }
     ensures { result ≡ main_of files.now main.now }
 {

@@ -1,36 +1,41 @@
 -- What is woven of inputs links to their program with its blocks.
-use Rattle.std.proofs.Common.{◌≡◌, ℕ, List, length, Bool, true, false, cond, Ok, Err, inl, inr, ap, sym, subst, ◌∙◌}
+use Rattle.std.proofs.Common.{◌≡◌, ℕ, ◌+◌, ◌≤◌, List, length, Bool, true, false, cond, Ok, Err, inl, inr, refl, ap, sym, subst, ◌∙◌, arith}
 use Rattle.std.specs.Prelude.{nat_lt, IfOk}
 use Rattle.api_listing.specs.declared.types.Listing.{Listing}
 use Rattle.bytecode_model.specs.declared.program.Program.{Program}
-use Rattle.bytecode_model.specs.declared.program.Side.TheVariants.{Inlined, Original}
-use Rattle.class_linking.specs.Fault.{Linked}
-use Rattle.class_linking.specs.Linking.{linked}
+use Rattle.bytecode_model.specs.declared.program.Side.TheVariants.{Original}
 use Rattle.bytecode_model.specs.Files.{unlinked}
+use Rattle.bytecode_model.specs.Sound.{IsSound}
+use Rattle.bytecode_model.specs.Typed.{IsTyped}
 use Rattle.block_logic.specs.Accepted.{IsAccepted}
+use Rattle.block_template.specs.Blocks.{plan_of}
+use Rattle.block_template.specs.Good.{HasNumbers, PlansAreGood}
 use Rattle.cert_checker.specs.Acceptance.{verdict}
 use Rattle.cert_checker.specs.Secure.{Secure}
 use Rattle.cert_format.specs.declared.certificate.Certificate.{Certificate}
-use Rattle.cert_format.specs.declared.certificate.Mode.TheVariants.{Release}
-use Rattle.cert_format.specs.declared.typing.Typing.{Typing}
-use Rattle.cert_maker.specs.Noting.{certificate_of}
-use Rattle.bytecode_model.specs.Typed.{IsTyped}
-use Rattle.conspec_automaton.specs.declared.policy.Policy.{Policy}
-use Rattle.conspec_automaton.specs.Building.{built}
-use Rattle.block_template.specs.Blocks.{plan_of}
+use Rattle.cert_format.specs.Fits.{CanSpell}
+use Rattle.class_linking.specs.Fault.{Linked}
+use Rattle.class_linking.specs.Linking.{linked}
 use Rattle.class_weaving.specs.declared.woven.Woven.{Woven}
 use Rattle.class_weaving.specs.Outcome.{IsWoven}
 use Rattle.class_weaving.specs.Woven.{woven}
+use Rattle.command_words.specs.InlineWords.{NamedInline}
+use Rattle.conspec_automaton.specs.declared.policy.Policy.{Policy}
+use Rattle.conspec_automaton.specs.Building.{built}
+use Rattle.conspec_automaton.specs.Sound.{IsPolicy}
 use Rattle.input_files.specs.declared.inline_inputs.InlineInputs.{InlineInputs}
+use Rattle.input_files.specs.Forms.{Then}
+use Rattle.input_files.specs.InlineInputs.{InlineSound}
+use Rattle.output_files.specs.Outputs.{is_written, outputs_of}
+use Rattle.woven_linking.specs.Links.{WovenLinks}
 use Rattle.inliner_tool.specs.declared.refusal.Refusal.{Refusal}
 use Rattle.inliner_tool.specs.declared.refusal.Refusal.TheVariants as refusals
+use Rattle.inliner_tool.specs.declared.weaving.Given.{Given}
 use Rattle.inliner_tool.specs.declared.weaving.Ready.{Ready}
-use Rattle.command_words.specs.InlineWords.{NamedInline}
-use Rattle.input_files.specs.Forms.{Then, Gives}
-use Rattle.inliner_tool.specs.Programs.{Equals, Step, Types, UnlessMemory, link_step}
-use Rattle.inliner_tool.specs.Weaving.{Accepts, IsPlanned, IsRewoven, Remakes, original, outputs_step}
-use Rattle.output_files.specs.Outputs.{outputs_of}
-use Rattle.type_infer.specs.Untyped.{IsUntypedAt}
+use Rattle.inliner_tool.specs.Programs.{Equals, Step, UnlessMemory, link_step, woven_links}
+use Rattle.inliner_tool.specs.Weaving.{Accepts, IsPlanned, IsRewoven, Remakes, Told, certificate_for, mode_for, original, outputs_step}
+use Rattle.inliner_tool.proofs.Constants.{has_numbers}
+use Rattle.inliner_tool.proofs.Counting.{assembled_of, files_counted}
 
 -- A step that gives a program comes from files that link to it.
 pub linked_by : (r : Linked Program) (program : Program) → link_step r ≡ Ok program → r ≡ Ok program
@@ -55,79 +60,87 @@ same_program r a b e f =
     let same : ◌≡◌ {A = Linked Program} (Ok a) (Ok b) = sym e ∙ f in
     cc
 
-module _ (named : NamedInline) (inputs : InlineInputs) (client : Program) (made : Woven) (links : original inputs.listing inputs.classes named.main ≡ Ok client)
-    (remade : (new : Program) × ((linked made.files inputs.listing named.main Inlined ≡ Ok new) × IsWoven client (plan_of (built inputs.policy) Release) (built inputs.policy).vars new)) where
-  whole : (ready : Ready) → woven client (plan_of (built inputs.policy) Release) (built inputs.policy).vars ≡ Ok made → IsRewoven named.main named.folder inputs.listing (built inputs.policy) made.files ready → IsPlanned named inputs ready
-  whole ready is rewoven = record {
-    client = client;
+-- ---- what is woven
+
+-- of a program of so many classes one file more is woven
+pub few_woven : (given : Given) (made : Woven) → length given.client.classes ≤ 1000 → woven given.client (plan_of given.policy given.mode) given.policy.vars ≡ Ok made → length made.files ≤ 1001
+few_woven given made few weaves = omega (arith, few, files_counted (plan_of given.policy given.mode) given.policy.vars given.client made weaves)
+
+module _ (links : WovenLinks) (good : PlansAreGood) (inputs : InlineInputs) (known : InlineSound inputs) (main : List ℕ) (given : Given) (made : Woven)
+    (client_links : linked inputs.classes.files inputs.listing main Original ≡ Ok given.client) (sound : IsSound given.client)
+    (is : given.policy ≡ built inputs.policy) (is_policy : IsPolicy given.policy) (weaves : woven given.client (plan_of given.policy given.mode) given.policy.vars ≡ Ok made) where
+  pub numbers : HasNumbers given.policy
+  numbers = subst HasNumbers (sym is) (has_numbers inputs.listing inputs.policy known.policy)
+
+  pub remade : (new : Program) × ((woven_links made.files inputs.listing main ≡ Ok new) × IsWoven given.client (plan_of given.policy given.mode) given.policy.vars new)
+  remade =
+      links known.listed.text inputs.listing inputs.classes.files main given.client (plan_of given.policy given.mode) given.policy.vars made known.listed.spells
+      (assembled_of inputs.classes.files inputs.listing main Original given.client client_links) sound (good given.policy given.mode is_policy numbers) is_policy.few_vars weaves
+
+module _ (named : NamedInline) (inputs : InlineInputs) (given : Given) (made : Woven) (links : original inputs.listing inputs.classes named.main ≡ Ok given.client)
+    (typed : IsTyped given.client given.typing) (is : given.policy ≡ built inputs.policy) (chosen : mode_for named.weaving inputs.policy ≡ Ok given.mode) (listing : given.client.listing ≡ inputs.listing)
+    (weaves : woven given.client (plan_of given.policy given.mode) given.policy.vars ≡ Ok made)
+    (remade : (new : Program) × ((woven_links made.files inputs.listing named.main ≡ Ok new) × IsWoven given.client (plan_of given.policy given.mode) given.policy.vars new)) where
+  whole : (ready : Ready) → IsRewoven named given made.files ready → IsPlanned named inputs ready
+  whole ready rewoven = record {
+    given = given;
     links = links;
+    listing = listing;
+    typed = typed;
+    policy = is;
+    chosen = chosen;
     made = made;
-    woven = is;
+    woven = weaves;
     rewoven = rewoven;
     blocks =
-        subst (λ (p : Program). IsWoven client (plan_of (built inputs.policy) Release) (built inputs.policy).vars p)
-        (same_program (linked made.files inputs.listing named.main Inlined) remade.0 rewoven.program remade.1.0 rewoven.links) remade.1.1;
+        subst (λ (p : Program). IsWoven given.client (plan_of given.policy given.mode) given.policy.vars p)
+        (same_program (woven_links made.files inputs.listing named.main) remade.0 rewoven.program remade.1.0 (ap (λ (l : Listing). woven_links made.files l named.main) (sym listing) ∙ rewoven.links)) remade.1.1;
   }
 
-  each : (r : Step Ready) → woven client (plan_of (built inputs.policy) Release) (built inputs.policy).vars ≡ Ok made
-      → IfOk r (λ ready. IsRewoven named.main named.folder inputs.listing (built inputs.policy) made.files ready) → IfOk r (λ ready. IsPlanned named inputs ready)
-  each (Ok ready) is rewoven = whole ready is rewoven
-  each (Err refusal) is rewoven = tt
-
-  pub planned : (policy : Policy) (r : Step Ready) → policy ≡ built inputs.policy → client.listing ≡ inputs.listing → woven client (plan_of policy Release) policy.vars ≡ Ok made
-      → IfOk r (λ ready. IsRewoven named.main named.folder client.listing policy made.files ready) → IfOk r (λ ready. IsPlanned named inputs ready)
-  planned policy r automaton listing is rewoven =
-      each r (subst (λ (p : Policy). woven client (plan_of p Release) p.vars ≡ Ok made) automaton is)
-      (subst (λ (l : Listing). IfOk r (λ ready. IsRewoven named.main named.folder l (built inputs.policy) made.files ready)) listing
-      (subst (λ (p : Policy). IfOk r (λ ready. IsRewoven named.main named.folder client.listing p made.files ready)) automaton rewoven))
+  pub planned : (r : Step Ready) → IfOk r (λ ready. IsRewoven named given made.files ready) → IfOk r (λ ready. IsPlanned named inputs ready)
+  planned (Ok ready) rewoven = whole ready rewoven
+  planned (Err refusal) rewoven = tt
 
 -- ---- what is woven again
 
--- A program that can be typed is: a refusal of its types is want of memory.
-pub types_memory : (program : Program) (e : Refusal) → ((class method at : ℕ) → IsUntypedAt program class method at → ⊥) → UnlessMemory (Types program) (Err e) → e ≡ refusals.Memory
-types_memory program (refusals.Untyped label method at) typable (inl told) = absurd (typable told.0 method at told.2)
-types_memory program (refusals.TotalLong len) typable (inl told) = absurd told
-types_memory program (refusals.Link fault) typable (inl told) = absurd told
-types_memory program refusals.NotBuilt typable (inl told) = absurd told
-types_memory program (refusals.Overflow class method what value) typable (inl told) = absurd told
-types_memory program (refusals.LongCertificate value) typable (inl told) = absurd told
-types_memory program (refusals.NotEnabled index) typable (inl told) = absurd told
-types_memory program refusals.Memory typable (inl told) = absurd told
-types_memory program e typable (inr memory) = memory
-
-module _ (main folder : List ℕ) (client : Program) (policy : Policy) (made : Woven) (program : Program) (certificate : Certificate) where
+module _ (main folder : List ℕ) (given : Given) (made : Woven) (program : Program) (links : woven_links made.files given.client.listing main ≡ Ok program)
+    (accepts : IsAccepted program given.policy (certificate_for given program)) where
   -- What is judged is what is made anew.
-  pub remakes : (typing : Typing) → linked made.files client.listing main Inlined ≡ Ok program → IsTyped program typing → certificate ≡ certificate_of client.classes policy made.origins typing
-      → (result : Step Ready) → Accepts folder policy program certificate result → UnlessMemory (Remakes main folder client policy made) result
-  remakes typing links typed of result (accepted, verdict, told) = by result told
+  pub remakes : (result : Step Ready) → Accepts folder given.policy program (certificate_for given program) result → UnlessMemory (Remakes main folder given made) result
+  remakes result (accepted, verdict, told) = by result told
     where
-      by : (r : Step Ready) → UnlessMemory (Then (Equals (outputs_step folder program certificate)) (λ outputs. Gives (record { outputs = outputs; accepted = accepted; classes = length program.classes }))) r
-          → UnlessMemory (Remakes main folder client policy made) r
+      by : (r : Step Ready) → UnlessMemory (Then (Equals (outputs_step folder program (certificate_for given program))) (Told program accepted)) r → UnlessMemory (Remakes main folder given made) r
       by (Ok ready) fits = record {
         program = program;
-        certificate = certificate;
         accepted = accepted;
-        remade = record { links = links; typing = typing; typed = typed; of = of; verdict = verdict };
+        remade = record { links = links; typed = accepts.typed; verdict = verdict };
         fits = fits;
       }
       by (Err e) (inl fits) = inl (record {
         program = program;
-        certificate = certificate;
         accepted = accepted;
-        remade = record { links = links; typing = typing; typed = typed; of = of; verdict = verdict };
+        remade = record { links = links; typed = accepts.typed; verdict = verdict };
         fits = fits;
       })
       by (Err e) (inr memory) = inr memory
 
-  pub known_rewoven : linked made.files client.listing main Inlined ≡ Ok program → unlinked program ≡ made.files → IsAccepted program policy certificate → Secure certificate.mode program policy
-      → (r : Step Ready) → IfOk r (λ ready. ready.outputs ≡ outputs_of folder program certificate) → IfOk r (λ ready. IsRewoven main folder client.listing policy made.files ready)
-  known_rewoven links back accepted secure (Ok ready) outputs = record {
-    program = program;
-    links = links;
-    same = back;
-    certificate = certificate;
-    accepted = accepted;
-    secure = secure;
-    outputs = outputs;
-  }
-  known_rewoven links back accepted secure (Err e) outputs = tt
+pub known_rewoven : (named : NamedInline) (given : Given) (made : Woven) (program : Program) → woven_links made.files given.client.listing named.main ≡ Ok program → unlinked program ≡ made.files
+    → IsSound program → IsAccepted program given.policy (certificate_for given program) → Secure given.mode program given.policy
+    → (is_written (certificate_for given program) ≡ true → CanSpell (length given.policy.vars) (certificate_for given program))
+    → (r : Step Ready) → IfOk r (λ ready. verdict program given.policy (certificate_for given program) ≡ Ok ready.accepted) → IfOk r (λ ready. is_written (certificate_for given program) ≡ true) → IfOk r (λ ready. ready.outputs ≡ outputs_of named.folder program (certificate_for given program))
+    → IfOk r (λ ready. IsRewoven named given made.files ready)
+known_rewoven named given made program links back sound accepted secure spells (Ok ready) judged written outputs = record {
+  program = program;
+  links = links;
+  same = back;
+  sound = sound;
+  certificate = certificate_for given program;
+  mode_is = refl;
+  accepted = accepted;
+  verdict = judged;
+  secure = secure;
+  spells = spells written;
+  written = written;
+  outputs = outputs;
+}
+known_rewoven named given made program links back sound accepted secure spells (Err e) judged written outputs = tt

@@ -1,7 +1,6 @@
 -- How many class files are woven, and what files link to of which there are few enough.
 use Rattle.std.proofs.Common.{◌≡◌, ℕ, ◌+◌, ◌≤◌, List, [], ◌∷◌, length, Ok, sym, ap, ◌∙◌, inl, inr, arith, length-append}
 use Rattle.std.specs.Prelude.{nat_lt, not}
-use Rattle.std.proofs.lemmas.Bool.{cases_Bool, ltb-true}
 use Rattle.mon_base.specs.Reading.{◌>>=◌, need}
 use Rattle.mon_base.proofs.Reading.{bind_ok, need_ok, ok_is}
 use Rattle.api_listing.specs.declared.types.Listing.{Listing}
@@ -51,10 +50,3 @@ module _ (files : List ClassFile) (listing : Listing) (main : List ℕ) (side : 
   assembled_of e =
       let fewer = not (nat_lt max_files (length files)) in
       (need_ok fewer (faults.TooMany (length files)) (λ few. assembled files listing main side) program e).1
-
-  pub linked_of : length files ≤ max_files → assembled files listing main side ≡ Ok program → linked files listing main side ≡ Ok program
-  linked_of few e =
-      elim (cases_Bool (nat_lt max_files (length files))) [
-        | inl is ↦ absurd (omega (arith, few, ltb-true _ _ is))
-        | inr fails ↦ ap (λ b. need (not b) (faults.TooMany (length files)) >>= λ few. assembled files listing main side) fails ∙ e
-      ]

@@ -18,7 +18,7 @@ use Rattle.race_free_check.specs.Deciding.{decided}
 use Rattle.inliner_tool.specs.declared.answer.Answer.{Answer}
 use Rattle.inliner_tool.specs.declared.answer.Answer.TheVariants as answers
 use Rattle.inliner_tool.specs.Answers.{stopped}
-use Rattle.inliner_tool.proofs.Told.{says_of, stops_once, tree_once}
+use Rattle.inliner_tool.proofs.Told.{may_read, says_of, stops_once, tree_once}
 use Rattle.inliner_tool.specs.Decision.{IsDecision, NamesPolicy, RaceDecides}
 use Rattle.inliner_tool.specs.Race.{decided_answer, race_answer}
 use Rattle.inliner_tool.specs.Tool.{CarriesOut, Ends, status_of}
@@ -33,13 +33,13 @@ verdict_decides inputs (Err faults.Memory) = inr (inr refl)
 
 module _ (files : Files) (count : Count) (named : NamedRace) (quiet : Rose count.before count.now → ⊥) (names : NamesPolicy files named) where
   listing_stops : (stop : Stop) → ReadsForm files count named.listing listing_form (Err stop) → stop ≡ stops.Memory
-  listing_stops stop is = stops_once files count named.listing listing_form names.listing names.told names.listing_read quiet stop is
+  listing_stops stop is = stops_once files count named.listing listing_form names.listing names.told (may_read files named.listing listing_form names.listing names.listing_read) quiet stop is
 
   policy_stops : (listing : Listing) (stop : Stop) → ReadsForm files count named.listing listing_form (Ok listing) → ReadsForm files count named.policy (policy_form listing) (Err stop) → stop ≡ stops.Memory
   policy_stops listing stop first is =
-      let same = tree_once files count named.listing listing_form names.listing names.told names.listing_read quiet listing first in
+      let same = tree_once files count named.listing listing_form names.listing names.told (may_read files named.listing listing_form names.listing names.listing_read) quiet listing first in
       let here = subst (λ (l : Listing). ReadsForm files count named.policy (policy_form l) (Err stop)) same is in
-      stops_once files count named.policy (policy_form names.listing) names.policy names.told names.policy_read quiet stop here
+      stops_once files count named.policy (policy_form names.listing) names.policy names.told (may_read files named.policy (policy_form names.listing) names.policy names.policy_read) quiet stop here
 
   race_stops : (stop : Stop) → ReadsRace files count named (Err stop) → stop ≡ stops.Memory
   race_stops stop (inl first) = listing_stops stop first

@@ -4,6 +4,17 @@ pub mod Replying
 pub mod Decision
 pub mod RunDecision
 pub mod Told
+pub mod ToldClasses
+mod Constants
+mod Listed
 mod Counting
 mod Blocks
+mod Bases
+mod Notes
+mod Names
+mod Spelled
 mod Expected
+mod Rewoven
+mod Planned
+pub mod CheckDecision
+pub mod InlineDecision

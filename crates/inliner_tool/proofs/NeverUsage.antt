@@ -1,6 +1,6 @@
 -- What is answered to inputs is never that the words are no command's.
 use Rattle.std.proofs.Common.{◌≡◌, ℕ, Bool, true, false, cond, List, Ok, Err, sym}
-use Rattle.std.specs.Prelude.{◌&&◌, nat_lt}
+use Rattle.std.specs.Prelude.{nat_lt}
 use Rattle.class_linking.specs.declared.fault.LinkFault.{LinkFault}
 use Rattle.class_linking.specs.declared.fault.LinkFault.TheVariants as links
 use Rattle.bytecode_model.specs.declared.program.Program.{Program}
@@ -11,14 +11,12 @@ use Rattle.cert_checker.specs.Acceptance.{verdict}
 use Rattle.std.specs.Prelude.{Result}
 use Rattle.cert_format.specs.declared.certificate.Certificate.{Certificate}
 use Rattle.conspec_automaton.specs.Building.{built}
-use Rattle.conspec_automaton.specs.Denying.{denies_only}
 use Rattle.conspec_tree.specs.declared.types.PolicyTree.{PolicyTree}
 use Rattle.inliner_tool.specs.declared.answer.Answer.{Answer}
 use Rattle.inliner_tool.specs.declared.answer.Answer.TheVariants as answers
 use Rattle.input_files.specs.declared.check_inputs.CheckInputs.{CheckInputs}
-use Rattle.built_form.specs.Built.{is_built}
 use Rattle.inliner_tool.specs.Answers.{Is}
-use Rattle.inliner_tool.specs.Check.{check_answer, linked_answer, link_answer, link_inputs, verdict_answer}
+use Rattle.inliner_tool.specs.Check.{check_answer, is_judged, linked_answer, link_answer, link_inputs, verdict_answer}
 use Rattle.inliner_tool.specs.Race.{decided_answer, fault_answer, race_answer, verdict_answer as race_verdict_answer}
 use Rattle.inliner_tool.specs.Tool.{IsAnswer}
 use Rattle.input_files.specs.declared.race_inputs.RaceInputs.{RaceInputs}
@@ -52,7 +50,7 @@ no_link links.Memory e = absurd cc
 
 no_linked : (policy : PolicyTree) (certificate : Certificate) (linked : Linked Program) → linked_answer policy certificate linked ≡ answers.Usage → ⊥
 no_linked policy certificate (Ok program) e =
-    no_choice (is_built program && denies_only policy) (verdict_answer program (verdict program (built policy) certificate)) (no_verdict program (verdict program (built policy) certificate)) e
+    no_choice (is_judged certificate.mode policy) (verdict_answer program (verdict program (built policy) certificate)) (no_verdict program (verdict program (built policy) certificate)) e
 no_linked policy certificate (Err fault) e = no_link fault e
 
 no_total : (b : Bool) (total : ℕ) (other : Answer) → (other ≡ answers.Usage → ⊥) → cond b (answers.TotalLong total) other ≡ answers.Usage → ⊥

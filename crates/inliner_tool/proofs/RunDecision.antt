@@ -33,55 +33,14 @@ use Rattle.inliner_tool.specs.Programs.{Step, Types, program_of}
 use Rattle.inliner_tool.specs.Replay.{Replays, Tells, replay_answer, run_told, steps_told}
 use Rattle.inliner_tool.specs.ReplayDecision.{NamesRun, ReplayDecides}
 use Rattle.inliner_tool.specs.Tool.{CarriesOut, status_of}
-use Rattle.inliner_tool.proofs.Told.{says_of, stops_once, tree_once}
+use Rattle.inliner_tool.proofs.Told.{may_read, says_of, stops_once, tree_once}
+use Rattle.inliner_tool.proofs.ToldClasses.{classes_stop, may_classes, same_classes}
 use Rattle.type_infer.specs.Untyped.{IsTypable, IsUntypedAt}
-
--- ---- class files
-
--- one class file among those that are read
-record OneRead (files : Files) (name : List ℕ) : Type 0 where
-  pub class : ReadClass
-  pub read : IsRead files name class_form (Ok class)
-
-one_of : (files : Files) (before : List (List ℕ)) (name : List ℕ) (later : List (List ℕ)) (classes : List ClassFile) (total : ℕ) → AreClasses files (before ++ name ∷ later) classes total → OneRead files name
-one_of files [] name later [] total are = absurd are
-one_of files [] name later (class ∷ classes) total are = record { class = record { file = class; len = are.0 }; read = are.3 }
-one_of files (first ∷ before) name later [] total are = absurd are
-one_of files (first ∷ before) name later (class ∷ classes) total are = one_of files before name later classes are.1 are.4
-
-module _ (files : Files) (count : Count) (told : IsSome files) (quiet : Rose count.before count.now → ⊥) where
-  -- what else the files are read as is the same
-  classes_once : (names : List (List ℕ)) (cs ds : List ClassFile) (m n : ℕ) → AreClasses files names cs m → AreClasses files names ds n → (cs ≡ ds) × (m ≡ n)
-  classes_once [] [] [] m n a b = (refl, a ∙ sym b)
-  classes_once [] [] (y ∷ ds) m n a b = absurd b
-  classes_once [] (x ∷ cs) ds m n a b = absurd a
-  classes_once (name ∷ names) [] ds m n a b = absurd a
-  classes_once (name ∷ names) (x ∷ cs) [] m n a b = absurd b
-  classes_once (name ∷ names) (x ∷ cs) (y ∷ ds) m n a b =
-      let first : ReadClass = record { file = x; len = a.0 } in
-      let second : ReadClass = record { file = y; len = b.0 } in
-      let same : first ≡ second = tree_once files count name class_form second told b.3 quiet first a.3 in
-      let file : x ≡ y = ap (λ (c : ReadClass). c.file) same in
-      let len : a.0 ≡ b.0 = ap (λ (c : ReadClass). c.len) same in
-      let others = classes_once names cs ds a.1 b.1 a.4 b.4 in
-      let sum : a.0 + a.1 ≡ b.0 + b.1 = rw (len, others.1) refl in
-      (rw (file, others.0) refl, a.2 ∙ sum ∙ sym b.2)
-
-  -- only memory stops the reading of them
-  among : (names : List (List ℕ)) (classes : List ClassFile) (total : ℕ) (stop : Stop) → AreClasses files names classes total → StopsAmong files count names stop → stop ≡ stops.Memory
-  among names classes total stop are stops =
-      let one = one_of files stops.before stops.name stops.later classes total (subst (λ (ns : List (List ℕ)). AreClasses files ns classes total) stops.whole are) in
-      stops_once files count stops.name class_form one.class told one.read quiet stop stops.stops
-
-  classes_stop : (names : List (List ℕ)) (classes : List ClassFile) (total : ℕ) (stop : Stop) → AreClasses files names classes total → ReadsClasses files count names (Err stop) → stop ≡ stops.Memory
-  classes_stop names classes total (stops.Input bad fault) are reads = among names classes total (stops.Input bad fault) are reads
-  classes_stop names classes total (stops.Unread bad) are reads = among names classes total (stops.Unread bad) are reads
-  classes_stop names classes total stops.Memory are reads = refl
 
 -- ---- types
 
 -- A program with types is untyped nowhere.
-typed_nowhere : (program : Program) (class method at : ℕ) → IsTypable program → IsUntypedAt program class method at → ⊥
+pub typed_nowhere : (program : Program) (class method at : ℕ) → IsTypable program → IsUntypedAt program class method at → ⊥
 typed_nowhere program class method at (typing, typed) untyped =
     untyped.fails (frames_in untyped.of.methods (frames_told typing class) method, λ i below. rw (untyped.class_there, untyped.method_there) at (typed class method i))
 
@@ -99,12 +58,13 @@ module _ (files : Files) (count : Count) (named : NamedReplay) (quiet : Rose cou
 
   -- the inputs are those that the files are
   same_listing : (listing : Listing) → ReadsForm files count named.listing listing_form (Ok listing) → listing ≡ names.listing
-  same_listing listing read = tree_once files count named.listing listing_form names.listing names.told names.listing_read quiet listing read
+  same_listing listing read =
+      tree_once files count named.listing listing_form names.listing names.told (may_read files named.listing listing_form names.listing names.listing_read) quiet listing read
 
   linked_same : (listing : Listing) (classes : Classes) → listing ≡ names.listing → ReadsClasses files count named.classes (Ok classes) → program_of listing classes named.main Inlined ≡ Ok names.program
   linked_same listing classes same read =
-      let both = classes_once files count names.told quiet named.classes classes.files names.classes.files classes.total names.classes.total read names.classes_read in
-      let is : classes ≡ names.classes = rw (← both.0, ← both.1) refl in
+      let is : classes ≡ names.classes =
+      same_classes files count names.told quiet named.classes classes names.classes read (may_classes files named.classes names.classes.files names.classes.total names.classes_read) in
       rw (same, is) names.links
 
   -- the program has types
@@ -139,12 +99,14 @@ module _ (files : Files) (count : Count) (named : NamedReplay) (quiet : Rose cou
   record_stops : (listing : Listing) (stop : Stop) → ReadsForm files count named.listing listing_form (Ok listing) → ReadsForm files count named.recorded (record_form listing) (Err stop) → stop ≡ stops.Memory
   record_stops listing stop first is =
       let here = subst (λ (l : Listing). ReadsForm files count named.recorded (record_form l) (Err stop)) (same_listing listing first) is in
-      stops_once files count named.recorded (record_form names.listing) names.recorded names.told names.record_read quiet stop here
+      stops_once files count named.recorded (record_form names.listing) names.recorded names.told (may_read files named.recorded (record_form names.listing) names.recorded names.record_read) quiet stop here
 
   run_stops : (stop : Stop) → ReadsReplay files count named (Err stop) → stop ≡ stops.Memory
-  run_stops stop (inl first) = stops_once files count named.listing listing_form names.listing names.told names.listing_read quiet stop first
+  run_stops stop (inl first) =
+      stops_once files count named.listing listing_form names.listing names.told (may_read files named.listing listing_form names.listing names.listing_read) quiet stop first
   run_stops stop (inr (listing, first, inl second)) = record_stops listing stop first second
-  run_stops stop (inr (listing, first, inr (recorded, second, inl third))) = classes_stop files count names.told quiet named.classes names.classes.files names.classes.total stop names.classes_read third
+  run_stops stop (inr (listing, first, inr (recorded, second, inl third))) =
+      classes_stop files count names.told quiet named.classes names.classes.files names.classes.total stop (may_classes files named.classes names.classes.files names.classes.total names.classes_read) third
   run_stops stop (inr (listing, first, inr (recorded, second, inr (classes, third, none)))) = absurd none
 
   replays_decide : (answer : Answer) → Replays files count named answer → IsDecision (status_of answer)

@@ -1,5 +1,6 @@
 -- What is answered to a check.
-use Rattle.std.specs.Prelude.{◌≡◌, ℕ, ◌&&◌, nat_lt, List, if◌then◌else◌, Result, Ok, Err}
+use Rattle.std.specs.Prelude.{◌≡◌, ℕ, ◌||◌, nat_lt, Bool, true, false, codes, List, if◌then◌else◌, Option, Some, None, Result, Ok, Err}
+use Rattle.std.specs.Option.{option_map_or}
 use Rattle.class_linking.specs.declared.fault.LinkFault.{LinkFault}
 use Rattle.class_linking.specs.declared.fault.LinkFault.TheVariants as links
 use Rattle.bytecode_model.specs.declared.program.Program.{Program}
@@ -8,36 +9,49 @@ use Rattle.class_linking.specs.Fault.{Linked}
 use Rattle.class_linking.specs.Linking.{linked}
 use Rattle.cert_checker.specs.declared.checking.Accepted.{Accepted}
 use Rattle.cert_checker.specs.declared.fault.CheckFault.{CheckFault}
-use Rattle.cert_checker.specs.declared.fault.CheckFault.TheVariants.{Shape, Typing, Local}
+use Rattle.cert_checker.specs.declared.fault.CheckFault.TheVariants.{Shape, StateClass, Typing, Local}
 use Rattle.block_logic.specs.Accepted.{IsAccepted}
 use Rattle.cert_checker.specs.Acceptance.{verdict}
 use Rattle.cert_checker.specs.Secure.{Secure}
 use Rattle.cert_format.specs.declared.certificate.Certificate.{Certificate}
+use Rattle.cert_format.specs.declared.certificate.Mode.{Mode}
+use Rattle.cert_format.specs.declared.certificate.Mode.TheVariants.{Hold, Release}
 use Rattle.conspec_automaton.specs.Building.{built}
 use Rattle.conspec_automaton.specs.Denying.{denies_only}
 use Rattle.conspec_tree.specs.declared.types.PolicyTree.{PolicyTree}
 use Rattle.inliner_tool.specs.declared.answer.Answer.{Answer}
 use Rattle.inliner_tool.specs.declared.answer.Answer.TheVariants as answers
 use Rattle.input_files.specs.declared.check_inputs.CheckInputs.{CheckInputs}
-use Rattle.built_form.specs.Built.{is_built}
 use Rattle.inliner_tool.specs.Classes.{label_of}
 
-abbrev pub number_of_class : CheckFault → ℕ
-number_of_class (Shape class method) = class
-number_of_class (Typing class method at rule) = class
-number_of_class (Local class method at rule) = class
+-- the number of the class that a fault is told of, if it is of one
+abbrev pub class_of : CheckFault → Option ℕ
+class_of (Shape class method) = Some class
+class_of (Typing class method at rule) = Some class
+class_of (StateClass field) = None
+class_of (Local class method at rule) = Some class
+
+abbrev pub label_for : Program → CheckFault → List ℕ
+label_for program fault = option_map_or (λ (class : ℕ). label_of program class) (class_of fault) (codes "-")
 
 abbrev pub denied_answer : Program → CheckFault → Answer
-denied_answer program fault = answers.Denied fault (label_of program (number_of_class fault))
+denied_answer program fault = answers.Denied fault (label_for program fault)
 
 abbrev pub verdict_answer : Program → Result Accepted CheckFault → Answer
 verdict_answer program (Ok accepted) = answers.Accepted accepted
 verdict_answer program (Err fault) = denied_answer program fault
 
--- a program and a policy of the built forms are checked
+abbrev pub is_hold : Mode → Bool
+is_hold Hold = true
+is_hold Release = false
+
+-- whether certificates of this mode are judged: those of mode hold, and those of policies that deny calls outright
+abbrev pub is_judged : Mode → PolicyTree → Bool
+is_judged mode policy = is_hold mode || denies_only policy
+
 abbrev pub program_answer : PolicyTree → Certificate → Program → Answer
 program_answer policy certificate program =
-    if is_built program && denies_only policy then verdict_answer program (verdict program (built policy) certificate) else answers.NotBuilt
+    if is_judged certificate.mode policy then verdict_answer program (verdict program (built policy) certificate) else answers.NotBuilt
 
 abbrev pub link_answer : LinkFault → Answer
 link_answer links.Memory = answers.Memory

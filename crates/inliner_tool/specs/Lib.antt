@@ -7,11 +7,14 @@ pub mod Race
 pub mod Numbers
 pub mod Replies
 pub mod Status
-pub mod Expected
 pub mod Programs
 pub mod Weaving
+pub mod Expected
 pub mod Inline
 pub mod Replay
 pub mod Tool
 pub mod Decision
 pub mod ReplayDecision
+pub mod CheckDecision
+pub mod InlineDecision
+pub mod Rechecking

@@ -9,6 +9,8 @@ use Rattle.class_linking.specs.declared.fault.LinkFault.{LinkFault}
 use Rattle.class_linking.specs.declared.fault.LinkFault.TheVariants as links
 use Rattle.cert_checker.specs.declared.fault.CheckFault.{CheckFault}
 use Rattle.cert_checker.specs.declared.fault.CheckFault.TheVariants as checks
+use Rattle.cert_format.specs.declared.fault.CertForm.{CertForm}
+use Rattle.cert_format.specs.declared.fault.CertForm.TheVariants as certificates
 use Rattle.class_codec.specs.declared.fault.ClassFault.{ClassFault}
 use Rattle.class_codec.specs.declared.fault.ClassFault.TheVariants as classes
 use Rattle.conspec_parse.specs.declared.fault.PolicyFault.{PolicyFault}
@@ -56,11 +58,15 @@ policy_report (policies.Limit at) = report 187 (Count at ∷ [])
 policy_report (policies.Builtin at) = report 188 (Count at ∷ [])
 policy_report policies.Memory = no_report
 
+abbrev pub certificate_report : CertForm → Report
+certificate_report (certificates.Form at) = report 241 (Count at ∷ [])
+certificate_report certificates.Memory = no_report
+
 abbrev pub record_report : RecordFault → Report
 record_report (records.Line line) = report 261 (Count line ∷ [])
 record_report records.Memory = no_report
 
--- what is not of the form that is built so far
+-- a policy or a mode that is not built yet
 abbrev pub unbuilt_report : Report
 unbuilt_report = report 199 []
 
@@ -69,8 +75,8 @@ input_report (inputs.TooLong len) = report 107 (Count len ∷ [])
 input_report (inputs.Class fault) = class_report fault
 input_report (inputs.Listing fault) = listing_report fault
 input_report (inputs.Policy fault) = policy_report fault
+input_report (inputs.Certificate fault) = certificate_report fault
 input_report (inputs.Record fault) = record_report fault
-input_report inputs.NotBuilt = unbuilt_report
 input_report inputs.Memory = no_report
 
 -- ---- programs
@@ -108,10 +114,11 @@ untyped_report class method at = report 201 (Name class ∷ Count method ∷ Cou
 
 -- ---- answers that are no
 
--- the first test of a certificate that fails, in the class of this name
+-- the first test of a certificate that fails, in the class of this name where it is of one
 abbrev pub check_report : CheckFault → List ℕ → Report
 check_report (checks.Typing class method at rule) name = report 202 (Name name ∷ Count method ∷ Count at ∷ Count rule ∷ [])
 check_report (checks.Shape class method) name = report 242 (Name name ∷ Count method ∷ [])
+check_report (checks.StateClass field) name = report 244 (Count field ∷ [])
 check_report (checks.Local class method at rule) name = report 243 (Name name ∷ Count method ∷ Count at ∷ Count rule ∷ [])
 
 -- the first event of a run that is refused

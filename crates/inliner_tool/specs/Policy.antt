@@ -1,5 +1,11 @@
 -- What a policy says of the events of a run.
+use Rattle.std.specs.Prelude.{length}
+use Rattle.std.specs.List.{AllByRecursion}
+use Rattle.api_listing.specs.declared.types.Listing.{Listing}
+use Rattle.block_logic.specs.Obeying.{FitsListing}
+use Rattle.conspec_automaton.specs.declared.policy.Policy.{Policy}
 use Rattle.conspec_automaton.specs.Building.{built}
+use Rattle.conspec_automaton.specs.Sound.{IsPolicy, NamesMethods}
 use Rattle.conspec_automaton.specs.Verdict.{verdict as judged}
 use Rattle.inliner_tool.specs.declared.answer.Answer.{Answer}
 use Rattle.inliner_tool.specs.declared.answer.Answer.TheVariants as answers
@@ -7,3 +13,9 @@ use Rattle.input_files.specs.declared.policy_inputs.PolicyInputs.{PolicyInputs}
 
 abbrev pub policy_answer : PolicyInputs → Answer
 policy_answer inputs = answers.Judged (judged (built inputs.policy) inputs.recorded.events)
+
+-- What is known of a policy that was read over a listing.
+pub record IsSoundFor (listing : Listing) (policy : Policy) : Type 0 where
+  pub read : IsPolicy policy
+  pub named : NamesMethods (length listing.methods) policy
+  pub fits : AllByRecursion (FitsListing listing) policy.clauses

@@ -3,12 +3,14 @@ use Rattle.std.specs.Prelude.{◌≡◌, ◌⊎◌, ℕ, nat_lt, List, if◌then
 use Rattle.api_listing.specs.declared.types.Listing.{Listing}
 use Rattle.bytecode_model.specs.declared.program.Program.{Program}
 use Rattle.bytecode_model.specs.declared.program.Side.{Side}
+use Rattle.bytecode_model.specs.declared.program.Side.TheVariants.{Inlined}
 use Rattle.bytecode_model.specs.Typed.{IsTyped}
 use Rattle.cert_format.specs.declared.typing.Typing.{Typing}
 use Rattle.class_linking.specs.declared.fault.LinkFault.{LinkFault}
 use Rattle.class_linking.specs.declared.fault.LinkFault.TheVariants as links
 use Rattle.class_linking.specs.Fault.{Linked}
-use Rattle.class_linking.specs.Linking.{linked}
+use Rattle.class_linking.specs.Linking.{assembled, linked}
+use Rattle.class_codec.specs.declared.tree.ClassFile.{ClassFile}
 use Rattle.input_files.specs.declared.named.ReadClasses.{ReadClasses as Classes}
 use Rattle.inliner_tool.specs.declared.refusal.Refusal.{Refusal}
 use Rattle.inliner_tool.specs.declared.refusal.Refusal.TheVariants as refusals
@@ -44,6 +46,10 @@ link_step (Err fault) = Err (link_refusal fault)
 abbrev pub program_of : Listing → Classes → List ℕ → Side → Step Program
 program_of listing classes main side =
     if nat_lt 16777216 classes.total then Err (refusals.TotalLong classes.total) else link_step (linked classes.files listing main side)
+
+-- what class files that were woven link to, which may be one more than may be given
+abbrev pub woven_links : List ClassFile → Listing → List ℕ → Linked Program
+woven_links files listing main = assembled files listing main Inlined
 
 -- Types fit; or none do, and the first instruction is told up to which none fit, of the first method without types.
 abbrev pub Types : Program → Step Typing → Type 0

@@ -61,7 +61,7 @@ pub enum Answer {
         method: u32,
         at: u32,
     },
-    /// The program, the policy, or the mode, is not of the form that is built so far.
+    /// The policy, in this mode, is not built yet.
     NotBuilt,
     /// A method, by its class and its index there, would have this size, which does not fit.
     Overflow {

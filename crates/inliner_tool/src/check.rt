@@ -1,6 +1,8 @@
 //! The command `check`: its inputs, what they link to, and what is answered.
 
-ghost use Rattle.std.specs.Prelude.{◌≡◌, ◌≤◌};
+ghost use Rattle.std.specs.Prelude.{◌≡◌, ◌≤◌, IfOk, IsTrue};
+ghost use Rattle.block_logic.specs.Meaning.{Promised};
+ghost use Rattle.conspec_automaton.specs.Building.{built};
 ghost use Rattle.bytecode_model.specs.Classes.{classes_of};
 ghost use Rattle.bytecode_model.specs.Sound.{IsSound};
 ghost use Rattle.command_words.specs.Words.{Check, check_named};
@@ -9,25 +11,30 @@ ghost use Rattle.inliner_tool.specs.Check.{
   IsChecked,
   ProgramIsChecked,
   check_answer,
+  class_of,
   denied_answer,
+  is_hold,
+  is_judged,
+  label_for,
   link_answer,
-  number_of_class,
   program_answer,
 };
+ghost use Rattle.inliner_tool.specs.CheckDecision.{CheckDecides};
 ghost use Rattle.inliner_tool.specs.Tool.{CarriesOut, Holds, IsAnswer};
 ghost use Rattle.input_files.specs.CheckInputs.{AreSound};
 ghost use Rattle.input_files.specs.Forms.{since};
+ghost use Rattle.input_files.specs.Named.{IsListed, IsPolicyOf};
 ghost use Rattle.bytecode_model.specs.Order.{EachWayEnds};
 
 use crate::answer::{Answer, stopped};
 use crate::classes::{TOTAL_LIMIT, label_of};
-use built_form::is_built;
 use bytecode_model::{Program, Side};
 use cert_checker::{CheckFault, check};
-use cert_format::Certificate;
+use cert_format::{Certificate, Mode};
 use class_linking::{LinkFault, link};
 use command_words::CheckWords;
 use conspec_automaton::{build, denies_only};
+use conspec_parse::kinds_are_told;
 use conspec_tree::PolicyTree;
 use input_files::{CheckInputs, read_check};
 use mon_base::{Bytes, NoMemory};
@@ -91,6 +98,8 @@ fn indexed_answer(
     certificate: &Certificate,
 ) -> Answer
     requires sound { IsSound program }
+    requires listed { IsListed program.listing }
+    requires policy { IsPolicyOf program.listing policy.now }
     requires ends { EachWayEnds (classes_of program) }
     ensures is { Is result (program_answer policy.now certificate.now program) }
     ensures checked { EndsWell result → ProgramIsChecked policy.now certificate.now program }
@@ -108,45 +117,73 @@ fn program_answer(
     policy: &PolicyTree,
     certificate: &Certificate,
 ) -> Answer
-    requires { IsSound program.now }
+    requires sound { IsSound program.now }
+    requires listed { IsListed program.now.listing }
+    requires policy { IsPolicyOf program.now.listing policy.now }
     ensures is { Is result (program_answer policy.now certificate.now program.now) }
     ensures checked { EndsWell result → ProgramIsChecked policy.now certificate.now program.now }
 {
-    match is_built(alloc, program.program()) {
-        Ok(built) => {
-            if !built || !denies_only(policy) {
-                return Answer::NotBuilt;
-            }
-        }
-        Err(NoMemory) => return Answer::Memory,
+    if !is_judged(certificate.mode, policy) {
+        return Answer::NotBuilt;
     }
     let Ok(policy) = build(alloc, policy) else {
         return Answer::Memory;
     };
+    kinds_are_told();
     match check(program, &policy, certificate) {
         Ok(accepted) => Answer::Accepted(accepted),
         Err(fault) => denied(alloc, program.program(), fault),
     }
 }
 
-/// The answer no, with the name of the class that it speaks of.
+fn is_hold(mode: Mode) -> bool
+    ensures { result ≡ is_hold mode }
+{
+    matches!(mode, Mode::Hold)
+}
+
+/// Whether certificates of this mode are judged.
+fn is_judged(mode: Mode, policy: &PolicyTree) -> bool
+    ensures is { result ≡ is_judged mode policy.now }
+    ensures promised { IsTrue result → Promised mode (built policy.now) }
+{
+    is_hold(mode) || denies_only(policy)
+}
+
+/// The answer no, with the name of the class that it is told of.
 fn denied(alloc: Global, program: &Program, fault: CheckFault) -> Answer
     ensures is { Is result (denied_answer program.now fault) }
     ensures no { EndsWell result → ⊥ }
 {
-    match label_of(alloc, program, class_of(&fault)) {
+    match label_for(alloc, program, &fault) {
         Ok(label) => Answer::Denied(fault, label),
         Err(NoMemory) => Answer::Memory,
     }
 }
 
-/// The number of the class that a fault speaks of.
-fn class_of(fault: &CheckFault) -> u32
-    ensures { result ≡ number_of_class fault.now }
+fn label_for(alloc: Global, program: &Program, fault: &CheckFault) -> Result<Bytes, NoMemory>
+    ensures { IfOk result (λ label. label ≡ label_for program.now fault.now) }
 {
-    match fault {
-        CheckFault::Shape { class, .. } => *class,
-        CheckFault::Typing { class, .. } => *class,
-        CheckFault::Local { class, .. } => *class,
+    match class_of(fault) {
+        Some(class) => label_of(alloc, program, class),
+        None => Bytes::from_slice(alloc, b"-"),
     }
 }
+
+/// The number of the class that a fault is told of, if it is of one.
+fn class_of(fault: &CheckFault) -> Option<u32>
+    ensures { result ≡ class_of fault.now }
+{
+    match fault {
+        CheckFault::Shape { class, .. } => Some(*class),
+        CheckFault::Typing { class, .. } => Some(*class),
+        CheckFault::StateClass { .. } => None,
+        CheckFault::Local { class, .. } => Some(*class),
+    }
+}
+
+/// To files in their grammars and limits that link, with a certificate that is judged, where the store tells them and counts no
+/// fault, `check` answers yes or no, or that memory ran out: its status is 0, 1 or 7.
+pub fn check_decides()
+    ensures { CheckDecides }
+{}

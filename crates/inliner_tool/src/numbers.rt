@@ -5,6 +5,7 @@ ghost use Rattle.answer_text.specs.declared.field.Field.TheVariants.{Count, Name
 ghost use Rattle.answer_text.specs.Fields.{report};
 ghost use Rattle.inliner_tool.specs.Numbers.{
   cells_report,
+  certificate_report,
   check_report,
   class_report,
   code_report,
@@ -27,6 +28,7 @@ ghost use Rattle.inliner_tool.specs.Numbers.{
 
 use answer_text::{Field, Report};
 use cert_checker::CheckFault;
+use cert_format::CertForm;
 use class_codec::ClassFault;
 use class_linking::LinkFault;
 use conspec_parse::PolicyFault;
@@ -88,6 +90,16 @@ pub fn policy_report(alloc: Global, fault: PolicyFault) -> Result<Report, NoMemo
     }
 }
 
+/// What is wrong with a certificate.
+pub fn certificate_report(alloc: Global, fault: CertForm) -> Result<Report, NoMemory>
+    ensures { IfOk result (λ r. r ≡ certificate_report fault) }
+{
+    match fault {
+        CertForm::Form { at } => Report::new(alloc, 241, [Field::Count(at)]),
+        CertForm::Memory => Report::new(alloc, 0, []),
+    }
+}
+
 /// What is wrong with a record.
 pub fn record_report(alloc: Global, fault: RecordFault) -> Result<Report, NoMemory>
     ensures { IfOk result (λ r. r ≡ record_report fault) }
@@ -98,7 +110,7 @@ pub fn record_report(alloc: Global, fault: RecordFault) -> Result<Report, NoMemo
     }
 }
 
-/// What is not of the form that is built so far.
+/// A policy or a mode that is not built yet.
 pub fn unbuilt_report(alloc: Global) -> Result<Report, NoMemory>
     ensures { IfOk result (λ r. r ≡ unbuilt_report) }
 {
@@ -114,8 +126,8 @@ pub fn input_report(alloc: Global, fault: InputFault) -> Result<Report, NoMemory
         InputFault::Class(fault) => class_report(alloc, fault),
         InputFault::Listing(fault) => listing_report(alloc, fault),
         InputFault::Policy(fault) => policy_report(alloc, fault),
+        InputFault::Certificate(fault) => certificate_report(alloc, fault),
         InputFault::Record(fault) => record_report(alloc, fault),
-        InputFault::NotBuilt => unbuilt_report(alloc),
         InputFault::Memory => Report::new(alloc, 0, []),
     }
 }
@@ -205,7 +217,7 @@ pub fn untyped_report(alloc: Global, class: Bytes, method: u32, at: u32) -> Resu
 
 // ---- answers that are no
 
-/// The first test of a certificate that fails, in the class of this name.
+/// The first test of a certificate that fails, in the class of this name where it is of one.
 pub fn check_report(alloc: Global, fault: CheckFault, name: Bytes) -> Result<Report, NoMemory>
     ensures { IfOk result (λ r. r ≡ check_report fault name) }
 {
@@ -222,6 +234,9 @@ pub fn check_report(alloc: Global, fault: CheckFault, name: Bytes) -> Result<Rep
                 242,
                 [Field::Name(name), Field::Count(u64::from(method))],
             )
+        }
+        CheckFault::StateClass { field } => {
+            Report::new(alloc, 244, [Field::Count(u64::from(field))])
         }
         CheckFault::Local {
             method,

@@ -1,17 +1,25 @@
 //! What is woven of inputs, and judged before anything is written.
 
-ghost use Rattle.std.specs.Prelude.{◌≡◌, IfOk, OnOk, Ok};
+ghost use Rattle.std.specs.Prelude.{◌≡◌, ◌≤◌, IfOk, Ok, length, true};
 ghost use Rattle.std.specs.List.{AllByRecursion};
 ghost use Rattle.api_listing.specs.Listing.{IsFew};
-ghost use Rattle.built_form.specs.Built.{is_built_client};
+ghost use Rattle.block_logic.specs.Accepted.{IsAccepted};
+ghost use Rattle.block_logic.specs.Meaning.{Promised};
+ghost use Rattle.block_template.specs.Blocks.{plan_of};
 ghost use Rattle.bytecode_model.specs.Sound.{IsSound};
+ghost use Rattle.cert_checker.specs.Acceptance.{verdict};
 ghost use Rattle.cert_checker.specs.Secure.{Secure};
 ghost use Rattle.class_codec.specs.Fits.{CanSpell};
-ghost use Rattle.conspec_automaton.specs.Building.{built};
-ghost use Rattle.conspec_automaton.specs.Denying.{DeniesOnly};
-ghost use Rattle.input_files.specs.InlineInputs.{InlineSound};
+ghost use Rattle.class_weaving.specs.Woven.{woven};
 ghost use Rattle.command_words.specs.InlineWords.{inline_named};
+ghost use Rattle.conspec_automaton.specs.Building.{built};
+ghost use Rattle.conspec_automaton.specs.Sound.{IsPolicy};
+ghost use Rattle.input_files.specs.InlineInputs.{InlineSound};
 ghost use Rattle.input_files.specs.Named.{IsListed};
+ghost use Rattle.mon_base.specs.Answer.{Answers};
+ghost use Rattle.output_files.specs.Outputs.{is_written, outputs_of};
+ghost use Rattle.inliner_tool.specs.Expected.{IsExpected};
+ghost use Rattle.inliner_tool.specs.Policy.{IsSoundFor};
 ghost use Rattle.inliner_tool.specs.Programs.{Equals, UnlessMemory};
 ghost use Rattle.inliner_tool.specs.Weaving.{
   Accepts,
@@ -19,47 +27,37 @@ ghost use Rattle.inliner_tool.specs.Weaving.{
   IsRewoven,
   Plans,
   Remakes,
-  denying,
-  lets_go,
+  mode_for,
   outputs_step,
+  releasing,
+  splice_refusal,
   weave_step,
 };
-ghost use Rattle.class_linking.specs.Linking.{linked};
-ghost use Rattle.bytecode_model.specs.Files.{unlinked};
-ghost use Rattle.block_logic.specs.Accepted.{IsAccepted};
-ghost use Rattle.bytecode_model.specs.Shape.{IsShaped};
-ghost use Rattle.inliner_tool.specs.Expected.{IsExpected};
-ghost use Rattle.output_files.specs.Outputs.{outputs_of};
-ghost use Rattle.type_infer.specs.Untyped.{IsLeast};
-ghost use Rattle.bytecode_model.specs.Order.{IsInOrder};
-ghost use Rattle.block_template.specs.Blocks.{plan_of};
-ghost use Rattle.cert_format.specs.declared.certificate.Mode.TheVariants.{Release};
-ghost use Rattle.class_weaving.specs.Woven.{woven};
-ghost use Rattle.conspec_automaton.specs.Sound.{IsPolicy};
-ghost use Rattle.conspec_tree.specs.Tree.{IsPolicyTree};
 
-use crate::programs::{linked, program_of, types_of};
+use crate::programs::{assembled, program_of, types_of};
 use crate::refusal::Refusal;
 use block_template::plans_are_good;
-use built_form::is_built_client;
 use bytecode_model::{Program, Side};
 use cert_checker::{Accepted, check};
-use cert_format::{CertLong, Certificate};
-use cert_maker::{make, policy_tells_arguments, woven_is_accepted, woven_is_typed};
-use class_linking::{linked_is_in_order, linked_operands_are_right, linked_programs_are_named};
+use cert_format::{CertLong, Certificate, Mode, Typing};
+use cert_maker::{make, woven_is_accepted};
+use class_linking::{linked_is_in_order, linked_operands_are_right};
 use class_weaving::Woven;
 use command_words::{InlineWords, Weaving};
 use conspec_automaton::{Policy, build, denies_only};
 use conspec_parse::kinds_are_told;
 use conspec_tree::PolicyTree;
-use inline_release::inline;
 use input_files::InlineInputs;
 use mon_base::{Bytes, List};
 use mon_store::Output;
 use offset_patch::SpliceFault;
 use std::alloc::Global;
+use told_typing::{told, told_is_typed};
 use type_lattice::Indexed;
 use woven_linking::{original_is_free, woven_files_link};
+use woven_typing::{
+    items_are_reached, listings_know_throwable, policies_tell, typing_of, woven_is_typed,
+};
 
 /// What is to be written, and what is said of it.
 #[derive(Debug, Drop, PartialEq, Eq)]
@@ -70,7 +68,16 @@ pub struct Ready {
     pub classes: u64,
 }
 
-/// Links and types the inputs, weaves them, and links, types and checks what is woven.
+/// What is woven: a program with its types, a policy, and the mode.
+#[derive(Drop)]
+pub struct Given {
+    pub client: Program,
+    pub typing: Typing,
+    pub policy: Policy,
+    pub mode: Mode,
+}
+
+/// Links and types the inputs, weaves them, and links and checks what is woven.
 pub fn plan(alloc: Global, inputs: InlineInputs, words: &InlineWords) -> Result<Ready, Refusal>
     requires { InlineSound inputs }
     // The first step that fails is told.
@@ -84,115 +91,145 @@ pub fn plan(alloc: Global, inputs: InlineInputs, words: &InlineWords) -> Result<
         classes,
     } = inputs;
     let client = program_of(alloc, listing, classes, words.main, Side::Original)?;
-    types_of(alloc, &client)?;
-    let policy = denying(alloc, words.weaving, &policy, &client)?;
-    let made = woven(alloc, &client, &policy)?;
+    let typing = types_of(alloc, &client)?;
+    let mode = mode_for(words.weaving, &policy)?;
+    let policy = build(alloc, &policy)?;
+    let made = woven(alloc, client.program(), &policy, mode)?;
     plans_are_good();
     woven_files_link();
     original_is_free();
     linked_is_in_order();
     linked_operands_are_right();
-    linked_programs_are_named();
     kinds_are_told();
-    policy_tells_arguments();
+    policies_tell();
+    listings_know_throwable();
     woven_is_typed();
+    items_are_reached();
+    told_is_typed();
     woven_is_accepted();
-    rewoven(
-        alloc,
-        words.main,
-        words.folder,
-        client.into_program(),
-        &policy,
-        made,
-    )
+    let given = Given {
+        client: client.into_program(),
+        typing,
+        policy,
+        mode,
+    };
+    rewoven(alloc, words, given, made)
 }
 
-/// The policy, where what is asked for is of the form that is built so far.
-fn denying(
-    alloc: Global,
-    weaving: Weaving,
-    policy: &PolicyTree,
-    program: &Indexed,
-) -> Result<Policy, Refusal>
-    requires { IsPolicyTree program.now.listing policy.now }
-    ensures is { UnlessMemory (Equals (denying weaving policy.now program.now)) result }
-    ensures built { IfOk result (λ made. made ≡ built policy.now) }
-    ensures sound { IfOk result IsPolicy }
-    ensures denies { IfOk result DeniesOnly }
+/// The mode in which a policy is woven, where that is built.
+fn mode_for(weaving: Weaving, policy: &PolicyTree) -> Result<Mode, Refusal>
+    ensures is { result ≡ mode_for weaving policy.now }
+    ensures promised { IfOk result (λ mode. Promised mode (built policy.now)) }
 {
-    if !lets_go(weaving) || !is_built_client(program.program()) || !denies_only(policy) {
-        return Err(Refusal::NotBuilt);
+    match weaving {
+        Weaving::Hold => Ok(Mode::Hold),
+        Weaving::Release => releasing(policy),
+        Weaving::Auto => releasing(policy),
     }
-    let policy = build(alloc, policy)?;
-    Ok(policy)
 }
 
-fn lets_go(weaving: Weaving) -> bool
-    ensures { result ≡ lets_go weaving }
+/// The lock is let go where calls are denied outright.
+fn releasing(policy: &PolicyTree) -> Result<Mode, Refusal>
+    ensures is { result ≡ releasing policy.now }
+    ensures promised { IfOk result (λ mode. Promised mode (built policy.now)) }
 {
-    !matches!(weaving, Weaving::Hold)
+    if denies_only(policy) {
+        Ok(Mode::Release)
+    } else {
+        Err(Refusal::NotBuilt)
+    }
 }
 
 /// The woven files.
-fn woven(alloc: Global, client: &Indexed, policy: &Policy) -> Result<Woven, Refusal>
+fn woven(
+    alloc: Global,
+    client: &Program,
+    policy: &Policy,
+    mode: Mode,
+) -> Result<Woven, Refusal>
     requires sound { IsSound client.now }
     requires policy { IsPolicy policy.now }
-    ensures is { UnlessMemory (Equals (weave_step (woven client.now (plan_of policy.now Release) policy.now.vars))) result }
-    ensures exact { IfOk result (λ made. woven client.now (plan_of policy.now Release) policy.now.vars ≡ Ok made) }
+    ensures is { UnlessMemory (Equals (weave_step (woven client.now (plan_of policy.now mode) policy.now.vars))) result }
+    ensures exact { IfOk result (λ made. woven client.now (plan_of policy.now mode) policy.now.vars ≡ Ok made) }
     ensures fits { IfOk result (λ made. AllByRecursion CanSpell made.files) }
 {
-    let client = client.program();
-    match inline(alloc, client, policy) {
+    match inlined(alloc, client, policy, mode) {
         Ok(made) => Ok(made),
-        Err(
-            SpliceFault::Overflow {
-                class,
-                method,
-                what,
-                value,
-            },
-        ) => Err(Refusal::Overflow {
+        Err(fault) => Err(unfit(fault)),
+    }
+}
+
+/// The same in the words of the inliners, each of which weaves in its mode.
+fn inlined(
+    alloc: Global,
+    client: &Program,
+    policy: &Policy,
+    mode: Mode,
+) -> Result<Woven, SpliceFault>
+    requires sound { IsSound client.now }
+    requires policy { IsPolicy policy.now }
+    ensures exact { Answers SpliceFault.Memory result (woven client.now (plan_of policy.now mode) policy.now.vars) }
+    ensures fits { IfOk result (λ made. AllByRecursion CanSpell made.files) }
+{
+    match mode {
+        Mode::Hold => inline_hold::inline(alloc, client, policy),
+        Mode::Release => inline_release::inline(alloc, client, policy),
+    }
+}
+
+/// Why nothing is woven.
+fn unfit(fault: SpliceFault) -> Refusal
+    ensures { result ≡ splice_refusal fault }
+{
+    match fault {
+        SpliceFault::Overflow {
             class,
             method,
             what,
             value,
-        }),
-        Err(SpliceFault::Memory) => Err(Refusal::Memory),
+        } => Refusal::Overflow {
+            class,
+            method,
+            what,
+            value,
+        },
+        SpliceFault::Memory => Refusal::Memory,
     }
 }
 
-/// What is woven, linked and typed, with its certificate, which is accepted.
+/// What is woven, linked again, with its certificate, which is accepted.
 fn rewoven(
     alloc: Global,
-    main: &Bytes,
-    folder: &Bytes,
-    client: Program,
-    policy: &Policy,
+    words: &InlineWords,
+    given: Given,
     made: Woven,
 ) -> Result<Ready, Refusal>
-    requires few { IsFew client.listing }
-    requires listed { IsListed client.listing }
+    requires few { IsFew given.client.listing }
+    requires listed { IsListed given.client.listing }
+    requires policy { IsSoundFor given.client.listing given.policy }
+    requires promised { Promised given.mode given.policy }
+    requires count { length made.files ≤ 1001 }
     requires fits { AllByRecursion CanSpell made.files }
-    requires expected { IsExpected main.now client policy.now made }
-    ensures steps { UnlessMemory (Remakes main.now folder.now client policy.now made) result }
-    ensures rewoven { IfOk result (λ ready. IsRewoven main.now folder.now client.listing policy.now made.files ready) }
+    requires expected { IsExpected (inline_named words.now).main given made }
+    ensures steps { UnlessMemory (Remakes (inline_named words.now).main (inline_named words.now).folder given made) result }
+    ensures rewoven { IfOk result (λ ready. IsRewoven (inline_named words.now) given made.files ready) }
 {
+    let Given {
+        client,
+        typing,
+        policy,
+        mode,
+    } = given;
+    let typing = typing_of(alloc, &client, &policy, mode, &typing)?;
     let Program {
         classes,
         listing,
         ..
     } = client;
-    let Woven { files, origins } = made;
-    let program = linked(alloc, files, listing, main, Side::Inlined)?;
-    let typing = types_of(alloc, &program)?;
-    let certificate = make(
-        alloc,
-        classes.as_slice(),
-        policy,
-        origins.as_slice(),
-        typing,
-    )?;
-    judged(alloc, folder, policy, &program, &certificate)
+    let program = assembled(alloc, made.files, listing, words.main)?;
+    let typing = told(alloc, program.program(), typing)?;
+    let certificate = make(alloc, classes.as_slice(), &policy, mode, typing)?;
+    judged(alloc, words.folder, &policy, &program, &certificate)
 }
 
 /// What is to be written of a woven program, which is checked with its certificate.
@@ -204,10 +241,14 @@ fn judged(
     certificate: &Certificate,
 ) -> Result<Ready, Refusal>
     requires sound { IsSound program.now }
+    requires policy { IsSoundFor program.now.listing policy.now }
+    requires promised { Promised certificate.now.mode policy.now }
     requires accepted { IsAccepted program.now policy.now certificate.now }
     ensures accepts { Accepts folder.now policy.now program.now certificate.now result }
     ensures accepted { IsAccepted program.now policy.now certificate.now }
     ensures secure { Secure certificate.now.mode program.now policy.now }
+    ensures verdict { IfOk result (λ ready. verdict program.now policy.now certificate.now ≡ Ok ready.accepted) }
+    ensures written { IfOk result (λ ready. is_written certificate.now ≡ true) }
     ensures outputs { IfOk result (λ ready. ready.outputs ≡ outputs_of folder.now program.now certificate.now) }
 {
     let accepted = check(program, policy, certificate).unwrap();
@@ -228,6 +269,7 @@ fn outputs_of(
     certificate: &Certificate,
 ) -> Result<List<Output>, Refusal>
     ensures is { UnlessMemory (Equals (outputs_step folder.now program.now certificate.now)) result }
+    ensures written { IfOk result (λ outputs. is_written certificate.now ≡ true) }
     ensures outputs { IfOk result (λ outputs. outputs ≡ outputs_of folder.now program.now certificate.now) }
 {
     match output_files::outputs_of(alloc, folder, program, certificate) {

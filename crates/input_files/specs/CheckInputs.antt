@@ -7,7 +7,7 @@ use Rattle.class_codec.specs.Fits.{CanSpell}
 use Rattle.input_files.specs.declared.files.Stop.{Stop}
 use Rattle.input_files.specs.Forms.{Count, ReadsForm, Then, Gives}
 use Rattle.input_files.specs.Kinds.{certificate_form, listing_form, policy_form}
-use Rattle.input_files.specs.Named.{IsListed, ReadsClasses}
+use Rattle.input_files.specs.Named.{IsListed, IsPolicyOf, ReadsClasses}
 use Rattle.input_files.specs.declared.check_inputs.CheckInputs.{CheckInputs}
 use Rattle.command_words.specs.Words.{NamedCheck}
 
@@ -24,4 +24,5 @@ ReadsCheck files count named =
 pub record AreSound (inputs : CheckInputs) : Type 0 where
   pub listing : IsFew inputs.listing
   pub listed : IsListed inputs.listing
+  pub policy : IsPolicyOf inputs.listing inputs.policy
   pub classes : AllByRecursion CanSpell inputs.classes.files

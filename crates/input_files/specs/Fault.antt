@@ -1,6 +1,8 @@
 -- How the faults of texts are those of files.
 use Rattle.listing_text.specs.declared.fault.ListFault.{ListFault}
 use Rattle.listing_text.specs.declared.fault.ListFault.TheVariants as listings
+use Rattle.cert_format.specs.declared.fault.CertForm.{CertForm}
+use Rattle.cert_format.specs.declared.fault.CertForm.TheVariants as certificates
 use Rattle.class_codec.specs.declared.fault.ClassFault.{ClassFault}
 use Rattle.class_codec.specs.declared.fault.ClassFault.TheVariants as classes
 use Rattle.conspec_parse.specs.declared.fault.PolicyFault.{PolicyFault}
@@ -19,6 +21,10 @@ listing_told fault = faults.Listing fault
 abbrev pub policy_told : PolicyFault → InputFault
 policy_told policies.Memory = faults.Memory
 policy_told fault = faults.Policy fault
+
+abbrev pub certificate_told : CertForm → InputFault
+certificate_told certificates.Memory = faults.Memory
+certificate_told fault = faults.Certificate fault
 
 abbrev pub class_told : ClassFault → InputFault
 class_told classes.Memory = faults.Memory

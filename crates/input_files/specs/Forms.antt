@@ -46,10 +46,15 @@ since before now last = record { before = before; now = now; last = last }
 abbrev pub IsUnread : Files → Count → List ℕ → Type 0
 IsUnread files count name = Caused count.before count.now count.last name ⊎ Lacks files name
 
+-- The fault is not that memory ran out.
+abbrev pub IsNoMemory : InputFault → Type 0
+IsNoMemory faults.Memory = ⊥
+IsNoMemory fault = Unit {0}
+
 -- What reading the file of a name as a kind of file answers.
 abbrev pub ReadsForm : {A : Type 0} → Files → Count → List ℕ → Form A → Result A Stop → Type 0
 ReadsForm files count name form (Ok tree) = IsRead files name form (Ok tree)
-ReadsForm files count name form (Err (Input bad fault)) = (bad ≡ name) × IsRefused files name form fault
+ReadsForm files count name form (Err (Input bad fault)) = (bad ≡ name) × IsRefused files name form fault × IsNoMemory fault
 ReadsForm files count name form (Err (Unread bad)) = (bad ≡ name) × IsUnread files count name
 ReadsForm files count name form (Err Memory) = Unit {0}
 

@@ -1,11 +1,10 @@
 -- The kinds of files: how long they may be, and what they are read as.
-use Rattle.std.specs.Prelude.{ℕ, length, Result, Ok, Err, if◌then◌else◌}
+use Rattle.std.specs.Prelude.{ℕ, length, Result, Ok, Err}
 use Rattle.listing_text.specs.declared.fault.ListFault.{ListFault}
 use Rattle.api_listing.specs.declared.types.Listing.{Listing}
 use Rattle.listing_text.specs.Reading.{reading}
 use Rattle.cert_format.specs.declared.certificate.Certificate.{Certificate}
 use Rattle.cert_format.specs.declared.fault.CertForm.{CertForm}
-use Rattle.cert_format.specs.declared.fault.CertForm.TheVariants as forms
 use Rattle.cert_format.specs.Reading.{certificate_of}
 use Rattle.class_codec.specs.declared.fault.ClassFault.{ClassFault}
 use Rattle.class_codec.specs.declared.tree.ClassFile.{ClassFile}
@@ -17,10 +16,8 @@ use Rattle.event_record.specs.declared.fault.RecordFault.{RecordFault}
 use Rattle.event_record.specs.declared.reading.Record.{Record}
 use Rattle.event_record.specs.Record.{reading as record_of}
 use Rattle.input_files.specs.declared.fault.InputFault.{InputFault}
-use Rattle.input_files.specs.declared.fault.InputFault.TheVariants as faults
 use Rattle.input_files.specs.declared.forms.ReadClass.{ReadClass}
-use Rattle.input_files.specs.BuiltCertificate.{is_built_certificate}
-use Rattle.input_files.specs.Fault.{class_told, listing_told, policy_told, record_told}
+use Rattle.input_files.specs.Fault.{certificate_told, class_told, listing_told, policy_told, record_told}
 use Rattle.input_files.specs.Forms.{Form}
 
 -- ---- listings, of at most 1 MiB
@@ -41,17 +38,10 @@ policy_read (Err fault) = Err (policy_told fault)
 abbrev pub policy_form : Listing → Form PolicyTree
 policy_form listing = record { limit = 65536; reads = λ text. policy_read (policy_of text listing) }
 
--- ---- certificates, of at most 64 MiB, for a number of variables; those that are built so far
-
-abbrev pub built_only : Certificate → Result Certificate InputFault
-built_only certificate = if is_built_certificate certificate then Ok certificate else Err faults.NotBuilt
-
-abbrev pub certificate_told : CertForm → InputFault
-certificate_told (forms.Form at) = faults.NotBuilt
-certificate_told forms.Memory = faults.Memory
+-- ---- certificates, of at most 64 MiB, for a number of variables
 
 abbrev pub certificate_read : Result Certificate CertForm → Result Certificate InputFault
-certificate_read (Ok certificate) = built_only certificate
+certificate_read (Ok certificate) = Ok certificate
 certificate_read (Err fault) = Err (certificate_told fault)
 
 abbrev pub certificate_form : ℕ → Form Certificate

@@ -1,6 +1,5 @@
 pub mod Fault
 pub mod Forms
-pub mod BuiltCertificate
 pub mod Kinds
 pub mod Named
 pub mod CheckInputs

@@ -5,14 +5,13 @@ use Rattle.api_listing.specs.declared.types.Listing.{Listing}
 use Rattle.api_listing.specs.Listing.{SpellsListing}
 use Rattle.class_codec.specs.declared.tree.ClassFile.{ClassFile}
 use Rattle.input_files.specs.declared.fault.InputFault.{InputFault}
-use Rattle.input_files.specs.declared.fault.InputFault.TheVariants as faults
 use Rattle.input_files.specs.declared.files.Stop.{Stop}
 use Rattle.input_files.specs.declared.files.Stop.TheVariants.{Input, Unread, Memory}
 use Rattle.conspec_tree.specs.declared.types.PolicyTree.{PolicyTree}
 use Rattle.conspec_parse.specs.Meaning.{SpellsPolicy}
 use Rattle.conspec_tree.specs.Tree.{IsPolicyTree}
 use Rattle.input_files.specs.declared.named.ReadClasses.{ReadClasses as Classes}
-use Rattle.input_files.specs.Forms.{Count, IsRead, ReadsForm}
+use Rattle.input_files.specs.Forms.{Count, IsNoMemory, IsRead, ReadsForm}
 use Rattle.input_files.specs.Kinds.{class_form}
 
 -- ---- class files
@@ -42,11 +41,6 @@ ReadsClasses files count names (Err Memory) = Unit {0}
 ReadsClasses files count names (Err stop) = StopsAmong files count names stop
 
 -- ---- how calls report
-
--- The fault is not that memory ran out.
-abbrev pub IsNoMemory : InputFault → Type 0
-IsNoMemory faults.Memory = ⊥
-IsNoMemory fault = Unit {0}
 
 -- What was read from the text of a name, or that it was refused.
 abbrev pub IsOfName : {A : Type 0} → List ℕ → Result A InputFault → Result A Stop → Type 0

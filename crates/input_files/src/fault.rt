@@ -1,8 +1,9 @@
 //! Why a file is not read as what it is named for.
 
 ghost use Rattle.std.specs.Prelude.{◌≡◌};
-ghost use Rattle.input_files.specs.Fault.{class_told, listing_told, policy_told, record_told};
+ghost use Rattle.input_files.specs.Fault.{certificate_told, class_told, listing_told, policy_told, record_told};
 
+use cert_format::CertForm;
 use class_codec::ClassFault;
 use conspec_parse::PolicyFault;
 use event_record::RecordFault;
@@ -15,10 +16,9 @@ pub enum InputFault {
     TooLong { len: u64 },
     Listing(ListFault),
     Policy(PolicyFault),
+    Certificate(CertForm),
     Class(ClassFault),
     Record(RecordFault),
-    /// It is not of the form that is built so far.
-    NotBuilt,
     /// Memory ran out.
     Memory,
 }
@@ -40,6 +40,16 @@ pub fn policy_told(fault: PolicyFault) -> InputFault
     match fault {
         PolicyFault::Memory => InputFault::Memory,
         fault => InputFault::Policy(fault),
+    }
+}
+
+/// The fault of a certificate.
+pub fn certificate_told(fault: CertForm) -> InputFault
+    ensures { result ≡ certificate_told fault }
+{
+    match fault {
+        CertForm::Memory => InputFault::Memory,
+        fault => InputFault::Certificate(fault),
     }
 }
 

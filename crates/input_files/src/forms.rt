@@ -9,10 +9,11 @@ ghost use Rattle.conspec_tree.specs.Tree.{IsPolicyTree};
 ghost use Rattle.input_files.specs.Kinds.{certificate_form, class_form, listing_form, policy_form, record_form};
 ghost use Rattle.mon_base.specs.Answer.{Answers};
 
-use crate::built_certificate::is_built_certificate;
-use crate::fault::{InputFault, class_told, listing_told, policy_told, record_told};
+use crate::fault::{
+    InputFault, certificate_told, class_told, listing_told, policy_told, record_told,
+};
 use api_listing::Listing;
-use cert_format::{CertForm, Certificate};
+use cert_format::Certificate;
 use class_codec::ClassFile;
 use conspec_parse::parse;
 use conspec_tree::PolicyTree;
@@ -68,20 +69,13 @@ pub fn policy_read(alloc: Global, text: &[u8], listing: &Listing) -> Result<Poli
     }
 }
 
-/// The certificate that a text spells for a policy of so many variables, where it is of the form that is built so far.
+/// The certificate that a text spells for a policy of so many variables.
 pub fn certificate_read(alloc: Global, text: &[u8], vars: u32) -> Result<Certificate, InputFault>
     ensures read { Answers InputFault.Memory result ((certificate_form vars).reads text.now) }
 {
     match cert_format::decode(alloc, text, vars) {
-        Ok(certificate) => {
-            if is_built_certificate(&certificate) {
-                Ok(certificate)
-            } else {
-                Err(InputFault::NotBuilt)
-            }
-        }
-        Err(CertForm::Form { .. }) => Err(InputFault::NotBuilt),
-        Err(CertForm::Memory) => Err(InputFault::Memory),
+        Ok(certificate) => Ok(certificate),
+        Err(fault) => Err(certificate_told(fault)),
     }
 }
 

@@ -5,7 +5,6 @@
 //! give or that is wrong.
 #![tactic(auto)]
 
-mod built_certificate;
 mod check_inputs;
 mod fault;
 mod files;

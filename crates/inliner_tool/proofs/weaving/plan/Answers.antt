@@ -1,30 +1,33 @@
-use Rattle.std.proofs.Common.{Err, subst, sym}
+use Rattle.std.proofs.Common.{◌≡◌, Ok, sym}
 use Rattle.std.proofs.lemmas.Result.{err_from_is_err_and}
-use Rattle.conspec_automaton.specs.declared.policy.Policy.{Policy}
 use Rattle.block_template.specs.Blocks.{plan_of}
-use Rattle.cert_format.specs.declared.certificate.Mode.TheVariants.{Release}
-use Rattle.class_weaving.specs.Outcome.{IsWoven}
 use Rattle.class_weaving.specs.Woven.{woven}
 use Rattle.command_words.specs.InlineWords.{NamedInline, inline_named}
-use Rattle.inliner_tool.specs.Programs.{Equals, Types}
-use Rattle.inliner_tool.specs.Weaving.{Denying, Remakes, Typed, Weaves, denying, original, weave_step}
-use Rattle.inliner_tool.proofs.Blocks.{inputs_link, planned}
-use Rattle.inliner_tool.proofs.Expected.{expected, one_file, remade}
-use Rattle.inliner_tool.proofs.Planning.{first_fails, later}
+use Rattle.inliner_tool.specs.declared.weaving.Given.{Given}
+use Rattle.inliner_tool.specs.Policy.{IsSoundFor}
+use Rattle.inliner_tool.proofs.Blocks.{few_woven, inputs_link, planned, remade}
+use Rattle.inliner_tool.proofs.Expected.{expected}
+use Rattle.inliner_tool.proofs.Planned.{given_for, plan_fails, plan_goes, sound_for}
 use Rattle.inliner_tool.proofs.weaving.plan.Goals as goal
+
+pub woven-requires-clause-policy : goal.woven-requires-clause-policy
+woven-requires-clause-policy c = (c.in_ok-policy.ensures.sound c.args.inputs.listing c.requires.policy.sound).0
 
 pub returns-in_err-made-clause-plans : goal.returns-in_err-made-clause-plans
 returns-in_err-made-clause-plans c =
     let p = err_from_is_err_and c.from_residual-in_err-made.result c.from_residual-in_err-made.ensures.1 in
-    let named : NamedInline = inline_named c.args.words.now in
-    let inputs = c.args.inputs in
-    let client = c.in_ok-client.client in
-    let policy = c.in_ok-policy.policy in
-    let e = c.in_err-made.field-0.0 in
-    rw (p.1, p.2) (later (Equals (original inputs.listing inputs.classes named.main)) (Typed named inputs.policy) client c.in_ok-client.ensures.is (Err e)
-    (later (Types client) (λ typing. Denying named inputs.policy client) c.in_ok-types_of.field-0 c.in_ok-types_of.ensures.is (Err e)
-    (later (Equals (denying named.weaving inputs.policy client)) (Weaves named.main named.folder client) policy c.in_ok-policy.ensures.is (Err e)
-    (first_fails (Equals (weave_step (woven client (plan_of policy Release) policy.vars))) (Remakes named.main named.folder client policy) e c.in_err-made.ensures.is))))
+    rw (p.1, p.2) (plan_fails (inline_named c.args.words.now) c.args.inputs c.in_ok-client.client c.in_ok-typing.typing c.in_ok-policy.policy c.in_ok-mode.mode c.in_ok-client.ensures.is c.in_ok-typing.ensures.is
+    c.in_ok-mode.ensures.is c.in_ok-policy.ensures.is c.in_err-made.field-0.0 (rw (← c.program.ensures) c.in_err-made.ensures.is))
+
+pub rewoven-requires-clause-policy : goal.rewoven-requires-clause-policy
+rewoven-requires-clause-policy c =
+    rw c.into_program.ensures
+    (sound_for c.kinds_are_told.ensures.arguments c.kinds_are_told.ensures.results c.args.inputs c.requires c.in_ok-policy.policy c.in_ok-policy.ensures.is
+    (c.in_ok-policy.ensures.sound c.args.inputs.listing c.requires.policy.sound) c.in_ok-client.client.listing c.in_ok-client.ensures.listing)
+
+pub rewoven-requires-clause-count : goal.rewoven-requires-clause-count
+rewoven-requires-clause-count c =
+    few_woven (given_for c.in_ok-client.client c.in_ok-typing.typing c.in_ok-policy.policy c.in_ok-mode.mode) c.in_ok-made.made c.in_ok-client.ensures.links.few (rw (← c.program.ensures) c.in_ok-made.ensures.exact)
 
 pub rewoven-requires-clause-expected : goal.rewoven-requires-clause-expected
 rewoven-requires-clause-expected c =
@@ -32,24 +35,20 @@ rewoven-requires-clause-expected c =
     let inputs = c.args.inputs in
     let client = c.in_ok-client.client in
     let policy = c.in_ok-policy.policy in
+    let given : Given = given_for client c.in_ok-typing.typing policy c.in_ok-mode.mode in
+    let good : IsSoundFor client.listing policy =
+    sound_for c.kinds_are_told.ensures.arguments c.kinds_are_told.ensures.results inputs c.requires policy c.in_ok-policy.ensures.is
+    (c.in_ok-policy.ensures.sound inputs.listing c.requires.policy.sound) client.listing c.in_ok-client.ensures.listing in
     rw c.into_program.ensures
-    (expected c.woven_files_link.ensures.links c.plans_are_good.ensures inputs c.requires named.main client policy c.in_ok-made.made (inputs_link named inputs client (sym c.in_ok-client.ensures.is))
-    c.in_ok-client.ensures.sound (one_file named.weaving inputs.policy client policy (sym c.in_ok-policy.ensures.is)) c.in_ok-policy.ensures.sound c.in_ok-policy.ensures.denies
-    c.in_ok-made.ensures.exact c.original_is_free.ensures.free c.linked_is_in_order.ensures.ordered c.linked_operands_are_right.ensures.right c.linked_programs_are_named.ensures.named c.kinds_are_told.ensures.arguments c.policy_tells_arguments.ensures.tells c.woven_is_typed.ensures.typed
-    c.woven_is_accepted.ensures.accepted c.in_ok-types_of.field-0 c.in_ok-client.ensures.listing c.in_ok-policy.ensures.built c.in_ok-types_of.ensures.is c.in_ok-types_of.ensures.shaped)
+    (expected c.woven_files_link.ensures.links c.plans_are_good.ensures c.original_is_free.ensures.free c.linked_is_in_order.ensures.ordered c.linked_operands_are_right.ensures.right
+    c.kinds_are_told.ensures.arguments c.kinds_are_told.ensures.results c.policies_tell.ensures c.listings_know_throwable.ensures c.woven_is_typed.ensures c.items_are_reached.ensures
+    c.told_is_typed.ensures c.woven_is_accepted.ensures.accepted inputs c.requires named.main given c.in_ok-made.made (inputs_link named inputs client (sym c.in_ok-client.ensures.is))
+    c.in_ok-client.ensures.sound c.in_ok-client.ensures.links c.in_ok-policy.ensures.is good (rw (← c.program.ensures) c.in_ok-made.ensures.exact) c.in_ok-typing.ensures.is c.in_ok-typing.ensures.shaped)
 
 pub returns-clause-plans : goal.returns-clause-plans
 returns-clause-plans c =
-    let named : NamedInline = inline_named c.args.words.now in
-    let inputs = c.args.inputs in
-    let client = c.in_ok-client.client in
-    let policy = c.in_ok-policy.policy in
-    let made = c.in_ok-made.made in
-    let result = c.rewoven.result in
-    later (Equals (original inputs.listing inputs.classes named.main)) (Typed named inputs.policy) client c.in_ok-client.ensures.is result
-    (later (Types client) (λ typing. Denying named inputs.policy client) c.in_ok-types_of.field-0 c.in_ok-types_of.ensures.is result
-    (later (Equals (denying named.weaving inputs.policy client)) (Weaves named.main named.folder client) policy c.in_ok-policy.ensures.is result
-    (later (Equals (weave_step (woven client (plan_of policy Release) policy.vars))) (Remakes named.main named.folder client policy) made c.in_ok-made.ensures.is result (rw c.into_program.ensures at c.rewoven.ensures.steps))))
+    plan_goes (inline_named c.args.words.now) c.args.inputs c.in_ok-client.client c.in_ok-typing.typing c.in_ok-policy.policy c.in_ok-mode.mode c.in_ok-client.ensures.is c.in_ok-typing.ensures.is
+    c.in_ok-mode.ensures.is c.in_ok-policy.ensures.is c.in_ok-made.made (rw (← c.program.ensures) c.in_ok-made.ensures.is) c.rewoven.result (rw c.into_program.ensures at c.rewoven.ensures.steps)
 
 pub returns-clause-planned : goal.returns-clause-planned
 returns-clause-planned c =
@@ -58,7 +57,9 @@ returns-clause-planned c =
     let client = c.in_ok-client.client in
     let policy = c.in_ok-policy.policy in
     let made = c.in_ok-made.made in
-    let again = remade c.woven_files_link.ensures.links c.plans_are_good.ensures inputs c.requires named.main client policy made (inputs_link named inputs client (sym c.in_ok-client.ensures.is))
-    c.in_ok-client.ensures.sound (one_file named.weaving inputs.policy client policy (sym c.in_ok-policy.ensures.is)) c.in_ok-policy.ensures.sound c.in_ok-policy.ensures.denies c.in_ok-made.ensures.exact in
-    planned named inputs client made (sym c.in_ok-client.ensures.is) (again.0, (again.1.0, subst (λ (p : Policy). IsWoven client (plan_of p Release) p.vars again.0) c.in_ok-policy.ensures.built again.1.1))
-    policy c.rewoven.result c.in_ok-policy.ensures.built c.in_ok-client.ensures.listing c.in_ok-made.ensures.exact (rw c.into_program.ensures at c.rewoven.ensures.rewoven)
+    let given : Given = given_for client c.in_ok-typing.typing policy c.in_ok-mode.mode in
+    let exact : woven client (plan_of policy c.in_ok-mode.mode) policy.vars ≡ Ok made = rw (← c.program.ensures) c.in_ok-made.ensures.exact in
+    let links = sym c.in_ok-client.ensures.is in
+    planned named inputs given made links c.in_ok-typing.ensures.is c.in_ok-policy.ensures.is (sym c.in_ok-mode.ensures.is) c.in_ok-client.ensures.listing exact
+    (remade c.woven_files_link.ensures.links c.plans_are_good.ensures inputs c.requires named.main given made (inputs_link named inputs client links) c.in_ok-client.ensures.sound c.in_ok-policy.ensures.is
+    (c.in_ok-policy.ensures.sound inputs.listing c.requires.policy.sound).0 exact) c.rewoven.result (rw c.into_program.ensures at c.rewoven.ensures.rewoven)

@@ -1,60 +1,52 @@
-use Rattle.std.proofs.Common.{◌≡◌, ◌∙◌, ℕ, Ok, ap, inr, subst, sym}
-use Rattle.std.proofs.lemmas.Result.{err_from_is_err_and}
+use Rattle.std.proofs.Common.{◌≡◌, ◌∙◌, Ok, ap, subst, sym}
+use Rattle.bytecode_model.specs.declared.program.LinkedClass.{LinkedClass}
 use Rattle.bytecode_model.specs.declared.program.Program.{Program}
-use Rattle.bytecode_model.specs.declared.program.Side.TheVariants.{Inlined}
-use Rattle.class_linking.specs.Linking.{linked}
-use Rattle.bytecode_model.specs.Sound.{IsSound}
 use Rattle.block_logic.specs.Accepted.{IsAccepted}
+use Rattle.cert_checker.specs.Acceptance.{verdict}
+use Rattle.cert_checker.specs.Secure.{Secure}
 use Rattle.cert_format.specs.declared.certificate.Certificate.{Certificate}
+use Rattle.cert_format.specs.declared.certificate.Mode.{Mode}
 use Rattle.cert_format.specs.declared.typing.Typing.{Typing}
 use Rattle.cert_maker.specs.Noting.{certificate_of}
-use Rattle.bytecode_model.specs.Shape.{IsShaped}
-use Rattle.bytecode_model.specs.Typed.{IsTyped}
-use Rattle.type_infer.specs.Untyped.{IsLeast, IsUntypedAt}
-use Rattle.inliner_tool.proofs.Blocks.{linked_by, same_program, types_memory, remakes, known_rewoven}
+use Rattle.command_words.specs.InlineWords.{inline_named}
+use Rattle.output_files.specs.Outputs.{is_written, outputs_of}
+use Rattle.std.specs.Prelude.{IfOk, true}
+use Rattle.told_typing.specs.Told.{FitsTyping, told}
+use Rattle.woven_typing.specs.Framing.{typing_of}
+use Rattle.inliner_tool.specs.declared.weaving.Ready.{Ready}
+use Rattle.inliner_tool.specs.Programs.{woven_links}
+use Rattle.inliner_tool.specs.Weaving.{Accepts, certificate_for}
+use Rattle.inliner_tool.proofs.Blocks.{known_rewoven, linked_by, remakes}
+use Rattle.inliner_tool.proofs.Rewoven.{spells_for}
 use Rattle.inliner_tool.proofs.weaving.rewoven.Goals as goal
-
-pub returns-in_err-typing-clause-steps : goal.returns-in_err-typing-clause-steps
-returns-in_err-typing-clause-steps c =
-    let p = err_from_is_err_and c.from_residual-in_err-typing.result c.from_residual-in_err-typing.ensures.1 in
-    let program = c.in_ok-program.program in
-    let expected = c.requires.expected in
-    let links : linked c.args.made.files c.args.client.listing c.args.main.now Inlined ≡ Ok program = linked_by _ program (sym c.in_ok-program.ensures.is) in
-    let same : expected.program ≡ program = same_program _ expected.program program expected.links links in
-    let typable = subst (λ (q : Program). (class method at : ℕ) → IsUntypedAt q class method at → ⊥) same expected.typable in
-    rw (p.1, p.2) (inr (types_memory program c.in_err-typing.field-0.0 typable c.in_err-typing.ensures.is))
-
-pub judged-requires-clause-accepted : goal.judged-requires-clause-accepted
-judged-requires-clause-accepted c =
-    let client = c.args.client in
-    let policy = c.args.policy.now in
-    let made = c.args.made in
-    let program = c.in_ok-program.program in
-    let typing = c.in_ok-typing.typing in
-    let expected = c.requires.expected in
-    let links : linked made.files client.listing c.args.main.now Inlined ≡ Ok program = linked_by _ program (sym c.in_ok-program.ensures.is) in
-    let same : expected.program ≡ program = same_program _ expected.program program expected.links links in
-    let accepted =
-    subst (λ (q : Program). (typing : Typing) → IsSound q → IsTyped q typing → IsShaped q typing.frames → IsLeast q typing → IsAccepted q policy (certificate_of client.classes policy made.origins typing)) same
-    expected.accepted in
-    let is : c.in_ok-certificate.certificate ≡ certificate_of client.classes policy made.origins typing =
-    c.in_ok-certificate.ensures ∙ ap (λ cs. certificate_of cs policy c.as_slice-2.result.now typing) c.as_slice.ensures ∙ ap (λ os. certificate_of client.classes policy os typing) c.as_slice-2.ensures in
-    subst (λ (certificate : Certificate). IsAccepted program policy certificate) (sym is)
-    (accepted typing c.in_ok-program.ensures.sound c.in_ok-typing.ensures.is c.in_ok-typing.ensures.shaped c.in_ok-typing.ensures.least)
 
 pub returns-clause-steps : goal.returns-clause-steps
 returns-clause-steps c =
-    let client = c.args.client in
-    let policy = c.args.policy.now in
-    let made = c.args.made in
+    let given = c.args.given in
     let program = c.in_ok-program.program in
-    let typing = c.in_ok-typing.typing in
-    let is : c.in_ok-certificate.certificate ≡ certificate_of client.classes policy made.origins typing =
-    c.in_ok-certificate.ensures ∙ ap (λ cs. certificate_of cs policy c.as_slice-2.result.now typing) c.as_slice.ensures ∙ ap (λ os. certificate_of client.classes policy os typing) c.as_slice-2.ensures in
-    remakes c.args.main.now c.args.folder.now client policy made program c.in_ok-certificate.certificate typing (linked_by _ program (sym c.in_ok-program.ensures.is)) c.in_ok-typing.ensures.is is
-    c.judged.result c.judged.ensures.accepts
+    let links : woven_links c.args.made.files given.client.listing c.args.words.now.main.now ≡ Ok program = linked_by _ program (sym c.in_ok-program.ensures.is) in
+    let typing : c.in_ok-typing-2.typing ≡ told program (typing_of given.client given.policy given.mode given.typing) =
+    c.in_ok-typing-2.ensures.is ∙ ap (λ (p : Program). told p c.in_ok-typing.typing) c.program-2.ensures ∙ ap (told program) c.in_ok-typing.ensures in
+    let is : c.in_ok-certificate.certificate ≡ certificate_for given program =
+    c.in_ok-certificate.ensures ∙ ap (λ cs. certificate_of cs given.policy given.mode c.in_ok-typing-2.typing) c.as_slice.ensures ∙ ap (certificate_of given.client.classes given.policy given.mode) typing in
+    remakes c.args.words.now.main.now c.args.words.now.folder.now given c.args.made program links
+    (subst (λ (x : Certificate). IsAccepted program given.policy x) is c.judged.ensures.accepted) c.judged.result
+    (subst (λ (x : Certificate). Accepts c.args.words.now.folder.now given.policy program x c.judged.result) is c.judged.ensures.accepts)
 
 pub returns-clause-rewoven : goal.returns-clause-rewoven
 returns-clause-rewoven c =
-    known_rewoven c.args.main.now c.args.folder.now c.args.client c.args.policy.now c.args.made c.in_ok-program.program c.in_ok-certificate.certificate
-    (linked_by _ c.in_ok-program.program (sym c.in_ok-program.ensures.is)) c.in_ok-program.ensures.back c.judged.ensures.accepted c.judged.ensures.secure c.judged.result c.judged.ensures.outputs
+    let given = c.args.given in
+    let program = c.in_ok-program.program in
+    let links : woven_links c.args.made.files given.client.listing c.args.words.now.main.now ≡ Ok program = linked_by _ program (sym c.in_ok-program.ensures.is) in
+    let typing : c.in_ok-typing-2.typing ≡ told program (typing_of given.client given.policy given.mode given.typing) =
+    c.in_ok-typing-2.ensures.is ∙ ap (λ (p : Program). told p c.in_ok-typing.typing) c.program-2.ensures ∙ ap (told program) c.in_ok-typing.ensures in
+    let is : c.in_ok-certificate.certificate ≡ certificate_for given program =
+    c.in_ok-certificate.ensures ∙ ap (λ cs. certificate_of cs given.policy given.mode c.in_ok-typing-2.typing) c.as_slice.ensures ∙ ap (certificate_of given.client.classes given.policy given.mode) typing in
+    let sound = c.in_ok-program.ensures.sound in
+    known_rewoven (inline_named c.args.words.now) given c.args.made program links c.in_ok-program.ensures.back sound
+    (subst (λ (x : Certificate). IsAccepted program given.policy x) is c.judged.ensures.accepted)
+    (subst (λ (m : Mode). Secure m program given.policy) (ap (λ (x : Certificate). x.mode) is) c.judged.ensures.secure)
+    (spells_for c.args.words.now.main.now given c.args.made c.requires.expected program links sound (subst FitsTyping typing c.in_ok-typing-2.ensures.fits)) c.judged.result
+    (subst (λ (x : Certificate). IfOk c.judged.result (λ (ready : Ready). verdict program given.policy x ≡ Ok ready.accepted)) is c.judged.ensures.verdict)
+    (subst (λ (x : Certificate). IfOk c.judged.result (λ (ready : Ready). is_written x ≡ true)) is c.judged.ensures.written)
+    (subst (λ (x : Certificate). IfOk c.judged.result (λ (ready : Ready). ready.outputs ≡ outputs_of c.args.words.now.folder.now program x)) is c.judged.ensures.outputs)

@@ -1,0 +1,42 @@
+-- That `check` decides: of files in their grammars and limits that link, with a certificate that is judged, it answers yes or no, or
+-- memory runs out.
+use Rattle.std.specs.Prelude.{◌≡◌, true, length, Ok, IsSome}
+use Rattle.api_listing.specs.declared.types.Listing.{Listing}
+use Rattle.bytecode_model.specs.declared.program.Program.{Program}
+use Rattle.bytecode_model.specs.declared.program.Side.TheVariants.{Inlined}
+use Rattle.cert_format.specs.declared.certificate.Certificate.{Certificate}
+use Rattle.command_words.specs.Words.{Check, NamedCheck}
+use Rattle.conspec_tree.specs.declared.types.PolicyTree.{PolicyTree}
+use Rattle.mon_store.specs.Store.{Files, Rose}
+use Rattle.input_files.specs.declared.named.ReadClasses.{ReadClasses as Classes}
+use Rattle.input_files.specs.Forms.{Count, IsRead}
+use Rattle.input_files.specs.Kinds.{certificate_form, listing_form, policy_form}
+use Rattle.input_files.specs.Named.{AreClasses}
+use Rattle.inliner_tool.specs.declared.answer.Answer.{Answer}
+use Rattle.inliner_tool.specs.Check.{is_judged}
+use Rattle.inliner_tool.specs.Decision.{IsDecision}
+use Rattle.inliner_tool.specs.Programs.{program_of}
+use Rattle.inliner_tool.specs.Tool.{CarriesOut, IsAnswer, status_of}
+
+-- The files are told, and those of these names are a listing, a policy over it, a certificate for its variables and class files, in
+-- their grammars and limits; the class files link; and the certificate is of mode hold, or the policy denies calls outright.
+pub record NamesChecked (files : Files) (named : NamedCheck) : Type 0 where
+  pub told : IsSome files
+  pub listing : Listing
+  pub listing_read : IsRead files named.listing listing_form (Ok listing)
+  pub policy : PolicyTree
+  pub policy_read : IsRead files named.policy (policy_form listing) (Ok policy)
+  pub certificate : Certificate
+  pub certificate_read : IsRead files named.certificate (certificate_form (length policy.vars)) (Ok certificate)
+  pub classes : Classes
+  pub classes_read : AreClasses files named.classes classes.files classes.total
+  pub program : Program
+  pub links : program_of listing classes named.main Inlined ≡ Ok program
+  pub judged : is_judged certificate.mode policy ≡ true
+
+-- What `check` answers to such files, without a fault of the store, is a decision.
+abbrev pub CheckDecides : Type 0
+CheckDecides =
+    (old new : Files) (count : Count) (named : NamedCheck) (answer : Answer)
+    → IsAnswer (λ answer. CarriesOut old new count (Check named) answer) answer
+    → (Rose count.before count.now → ⊥) → NamesChecked old named → IsDecision (status_of answer)

@@ -1,0 +1,55 @@
+-- That `inline` weaves: of files in their grammars and limits that link to a program with types, a policy that is woven in this mode,
+-- and sizes that fit, everything is written, or the certificate is too long, or memory runs out.
+use Rattle.std.specs.Prelude.{◌≡◌, Ok, IsSome}
+use Rattle.api_listing.specs.declared.types.Listing.{Listing}
+use Rattle.bytecode_model.specs.declared.program.Program.{Program}
+use Rattle.block_template.specs.Blocks.{plan_of}
+use Rattle.cert_format.specs.declared.certificate.Mode.{Mode}
+use Rattle.class_weaving.specs.declared.woven.Woven.{Woven}
+use Rattle.class_weaving.specs.Woven.{woven}
+use Rattle.command_words.specs.InlineWords.{NamedInline}
+use Rattle.command_words.specs.Words.{Inline}
+use Rattle.conspec_automaton.specs.Building.{built}
+use Rattle.conspec_tree.specs.declared.types.PolicyTree.{PolicyTree}
+use Rattle.mon_store.specs.Store.{Files, Rose}
+use Rattle.input_files.specs.declared.named.ReadClasses.{ReadClasses as Classes}
+use Rattle.input_files.specs.Forms.{Count, IsRead}
+use Rattle.input_files.specs.Kinds.{listing_form, policy_form}
+use Rattle.input_files.specs.Named.{AreClasses}
+use Rattle.type_infer.specs.Untyped.{IsTypable}
+use Rattle.inliner_tool.specs.declared.answer.Answer.{Answer}
+use Rattle.inliner_tool.specs.declared.answer.Answer.TheVariants as answers
+use Rattle.inliner_tool.specs.Tool.{CarriesOut, IsAnswer}
+use Rattle.inliner_tool.specs.Weaving.{mode_for, original}
+
+-- The files are told, and those of these names are a listing, a policy over it and class files, in their grammars and limits; the
+-- class files link to a program with types; the policy is woven in this mode; and the sizes of what is woven fit.
+pub record NamesWoven (files : Files) (named : NamedInline) : Type 0 where
+  pub told : IsSome files
+  pub listing : Listing
+  pub listing_read : IsRead files named.listing listing_form (Ok listing)
+  pub policy : PolicyTree
+  pub policy_read : IsRead files named.policy (policy_form listing) (Ok policy)
+  pub classes : Classes
+  pub classes_read : AreClasses files named.classes classes.files classes.total
+  pub client : Program
+  pub links : original listing classes named.main ≡ Ok client
+  pub typable : IsTypable client
+  pub mode : Mode
+  pub chosen : mode_for named.weaving policy ≡ Ok mode
+  pub made : Woven
+  pub fits : woven client (plan_of (built policy) mode) (built policy).vars ≡ Ok made
+
+-- Everything is written, a certificate is too long, or memory ran out: the statuses 0, 4 and 7.
+abbrev pub IsWeaving : Answer → Type 0
+IsWeaving (answers.Inlined accepted classes) = Unit {0}
+IsWeaving (answers.LongCertificate value) = Unit {0}
+IsWeaving answers.Memory = Unit {0}
+IsWeaving other = ⊥
+
+-- What `inline` answers to such files, without a fault of the store, is such an answer.
+abbrev pub InlineDecides : Type 0
+InlineDecides =
+    (old new : Files) (count : Count) (named : NamedInline) (answer : Answer)
+    → IsAnswer (λ answer. CarriesOut old new count (Inline named) answer) answer
+    → (Rose count.before count.now → ⊥) → NamesWoven old named → IsWeaving answer

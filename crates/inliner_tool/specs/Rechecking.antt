@@ -1,0 +1,41 @@
+-- That `check` accepts what `inline` wrote.
+use Rattle.std.specs.Prelude.{◌≡◌, ◌⊎◌, ◌≤◌, ℕ, length, map, sum_by, Ok, IsSome}
+use Rattle.std.specs.List.{AllByRecursion}
+use Rattle.bytecode_model.specs.declared.program.LinkedClass.{LinkedClass}
+use Rattle.bytecode_model.specs.declared.program.Program.{Program}
+use Rattle.bytecode_model.specs.Files.{max_files}
+use Rattle.class_codec.specs.Spelling.{spelling}
+use Rattle.command_words.specs.InlineWords.{NamedInline}
+use Rattle.command_words.specs.Words.{Check, NamedCheck}
+use Rattle.mon_store.specs.Store.{Files, Rose}
+use Rattle.input_files.specs.Forms.{Count, IsRead}
+use Rattle.input_files.specs.Kinds.{listing_form, policy_form}
+use Rattle.output_files.specs.Outputs.{certificate_name, class_name}
+use Rattle.inliner_tool.specs.declared.answer.Answer.{Answer}
+use Rattle.inliner_tool.specs.declared.tool.Status.TheVariants as statuses
+use Rattle.inliner_tool.specs.Inline.{IsInlined}
+use Rattle.inliner_tool.specs.Tool.{CarriesOut, IsAnswer, status_of}
+
+-- how many bytes a class file has
+abbrev pub size_of : LinkedClass → ℕ
+size_of class = length (spelling class.file)
+
+-- These words name what was written of the program, in its order, with the same main class, and a listing and a policy that are read
+-- as those of which it was woven; there are no more class files than may be given, and they are not too long.
+pub record NamesWritten {old new : Files} {count : Count} {named : NamedInline} (inlined : IsInlined old new count named) (check : NamedCheck) : Type 0 where
+  pub listing : IsRead new check.listing listing_form (Ok inlined.inputs.listing)
+  pub policy : IsRead new check.policy (policy_form inlined.inputs.listing) (Ok inlined.inputs.policy)
+  pub certificate : check.certificate ≡ certificate_name named.folder
+  pub main : check.main ≡ named.main
+  pub classes : check.classes ≡ map (class_name named.folder) inlined.planned.rewoven.program.classes
+  pub few : length inlined.planned.rewoven.program.classes ≤ max_files
+  pub short : AllByRecursion (λ (c : LinkedClass). size_of c ≤ 1048576) inlined.planned.rewoven.program.classes
+  pub total : sum_by size_of inlined.planned.rewoven.program.classes ≤ 16777216
+
+-- What `check` answers then, without a fault of the store, is yes, or memory ran out: its status is 0 or 7.
+abbrev pub WrittenIsAccepted : Type 0
+WrittenIsAccepted =
+    (old new : Files) (count : Count) (named : NamedInline) → IsSome old → (inlined : IsInlined old new count named)
+    → (check : NamedCheck) → NamesWritten inlined check → (later : Files) (again : Count) (answer : Answer)
+    → IsAnswer (λ answer. CarriesOut new later again (Check check) answer) answer → (Rose again.before again.now → ⊥)
+    → (status_of answer ≡ statuses.Done) ⊎ (status_of answer ≡ statuses.Memory)

@@ -1,0 +1,5 @@
+pub mod Trimming
+pub mod Rows
+pub mod Passing
+pub mod Methods
+pub mod Programs
