@@ -35,8 +35,8 @@ CLASS_FILES = {
             "A `module-info.class` is among the files.",
         ),
         (
-            "Compile for version 49, with `ecj -source 1.5 -target 1.5` or the javac of JDK 5 to 8, and leave "
-            "`module-info.class` out."
+            "Compile for version 49, with `tools/compile`, `ecj -source 1.5 -target 1.5` or the javac of JDK 5 to 8, "
+            "and leave `module-info.class` out."
         ),
     ),
     103: Refusal(

@@ -1,6 +1,6 @@
 -- What the rules of the notes tell of an instruction at which a frame of an accepted program stands.
-use Rattle.std.proofs.Common.{◌≡◌, ℕ, ◌+◌, ◌<◌, ◌==◌, Bool, true, false, List, [], ◌∷◌, length, Option, Some, None}
-use Rattle.std.specs.Prelude.{◌&&◌, ◌||◌, Contains, if◌then◌else◌, is_some, slice_get}
+use Rattle.std.proofs.Common.{◌≡◌, ℕ, ◌+◌, ◌<◌, true, false, length, Some, None}
+use Rattle.std.specs.Prelude.{◌&&◌, ◌||◌, Contains}
 use Rattle.insn_codec.specs.declared.insn.Insn.{Insn}
 use Rattle.insn_codec.specs.Control.{jump_targets}
 use Rattle.insn_codec.specs.Opcodes.{goes_on}
@@ -22,7 +22,6 @@ use Rattle.guest_model.specs.Throwing.{handler_of}
 use Rattle.block_logic.specs.Accepted.{rules_of}
 use Rattle.block_logic.specs.Meaning.{note_at, note_of}
 use Rattle.block_logic.specs.Notes.{is_free, is_granted, is_stop, meets}
-use Rattle.block_logic.specs.Obeying.{IsObeying}
 use Rattle.block_logic.specs.Operands.{calls, has_clause, is_way_out, variable_named}
 use Rattle.block_logic.specs.Rows.{Asked, Row, Rules, is_duty, row}
 use Rattle.block_logic.specs.Standing.{is_open}

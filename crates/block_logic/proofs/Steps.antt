@@ -1,9 +1,8 @@
 -- What the steps of threads change, by whether the thread holds the lock.
-use Rattle.std.specs.Prelude.{◌≡◌, ◌≢◌, ◌⊎◌, ℕ, false, true, IfSome, List, [], ◌∷◌, ◌++◌, Option, Some, None, is_some, slice_get}
+use Rattle.std.specs.Prelude.{◌≡◌, ◌≢◌, ◌⊎◌, ℕ, false, true, IfSome, List, [], ◌++◌, Option, Some, None, slice_get}
 use Rattle.std.specs.Option.{option_to_list}
 use Rattle.api_listing.specs.declared.events.Event.{Event}
 use Rattle.insn_codec.specs.declared.insn.Insn.{Insn}
-use Rattle.insn_codec.specs.Shapes.{shape_of}
 use Rattle.bytecode_model.specs.declared.program.Program.{Program}
 use Rattle.bytecode_model.specs.declared.program.Target.{Target}
 use Rattle.cert_format.specs.declared.certificate.Certificate.{Certificate}
@@ -14,7 +13,6 @@ use Rattle.conspec_automaton.specs.declared.policy.Policy.{Policy}
 use Rattle.conspec_automaton.specs.Next.{Values, has_clause}
 use Rattle.conspec_automaton.specs.Obeys.{IsFollowed}
 use Rattle.conspec_automaton.specs.Range.{in_range}
-use Rattle.guest_heap.specs.declared.frame.Frame.{Frame}
 use Rattle.guest_heap.specs.declared.thread.Thread.{Thread}
 use Rattle.guest_heap.specs.declared.value.Value.{Value}
 use Rattle.guest_model.specs.declared.machine.Choice.{Choice}
@@ -23,9 +21,8 @@ use Rattle.guest_model.specs.Changes.{Change, World, world_of}
 use Rattle.guest_model.specs.Places.{insn_at}
 use Rattle.guest_model.specs.Runs.{start_of}
 use Rattle.guest_model.specs.Stepping.{Acting, call_stepped, insn_stepped}
-use Rattle.block_logic.specs.Fitting.{AreBelow, AreOwnerCall, AreOwnerFrames, ArePassed, Fits, IsClient, IsClientCall, IsCleanWorld, IsOwner, held_locks, locked_by, state_of}
+use Rattle.block_logic.specs.Fitting.{AreBelow, AreOwnerCall, ArePassed, Fits, IsClient, IsClientCall, IsCleanWorld, IsOwner, held_locks, locked_by, state_of}
 use Rattle.block_logic.specs.Meaning.{AreState, IsFrame, IsFree, Leads, Owns, note_of}
-use Rattle.block_logic.specs.Operands.{pushes_state}
 use Rattle.conspec_automaton.specs.Next.{has_clauses}
 
 module _ (program : Program) (policy : Policy) (certificate : Certificate) where

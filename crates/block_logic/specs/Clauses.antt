@@ -1,5 +1,5 @@
 -- What a policy tells of a site: its clause, and the arguments and the result of its method.
-use Rattle.std.specs.Prelude.{ℕ, ◌==◌, ◌&&◌, Bool, true, false, List, length, Option, find, option_and_then}
+use Rattle.std.specs.Prelude.{ℕ, ◌==◌, ◌&&◌, Bool, true, false, length, Option, find, option_and_then}
 use Rattle.std.specs.Option.{option_map_or}
 use Rattle.cert_format.specs.declared.note.Phase8.{Phase8}
 use Rattle.cert_format.specs.declared.note.Phase8.TheVariants as sites
@@ -28,9 +28,13 @@ clause_of policy site = clause_at policy site.method site.phase
 abbrev pub needs : Policy → ℕ → ℕ
 needs policy method = option_map_or (λ (c : Clause). length c.args) (clause_at policy method sites.Before) 0
 
+-- the first clause of the method
+abbrev pub clause_for : Policy → ℕ → Option Clause
+clause_for policy method = find (λ (c : Clause). c.method == method) policy.clauses
+
 -- what a method gives that the policy has a clause for; each of its clauses tells the same
 abbrev pub result_of : Policy → ℕ → Option Kind
-result_of policy method = option_and_then (λ (c : Clause). c.result) (find (λ (c : Clause). c.method == method) policy.clauses)
+result_of policy method = option_and_then (λ (c : Clause). c.result) (clause_for policy method)
 
 abbrev pub is_number : Kind → Bool
 is_number kinds.Object = false

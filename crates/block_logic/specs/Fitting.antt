@@ -1,5 +1,5 @@
 -- When a machine is as the notes of its threads say, and what of it is no part of any block.
-use Rattle.std.specs.Prelude.{◌≡◌, ◌≢◌, ◌⊎◌, ℕ, true, false, IfSome, List, [], ◌∷◌, ◌++◌, length, filter, Option, Some, None, slice_get}
+use Rattle.std.specs.Prelude.{◌≡◌, ◌≢◌, ◌⊎◌, ℕ, true, false, IfSome, List, [], ◌∷◌, filter, Option, Some, None, slice_get}
 use Rattle.std.specs.List.{AllByRecursion}
 use Rattle.api_listing.specs.declared.events.Event.{Event}
 use Rattle.insn_codec.specs.declared.insn.Insn.{Insn}
@@ -7,7 +7,6 @@ use Rattle.insn_codec.specs.Shapes.{shape_of}
 use Rattle.bytecode_model.specs.declared.program.Program.{Program}
 use Rattle.bytecode_model.specs.declared.program.Target.TheVariants as target
 use Rattle.cert_format.specs.declared.certificate.Certificate.{Certificate}
-use Rattle.cert_format.specs.declared.certificate.Mode.{Mode}
 use Rattle.cert_format.specs.declared.certificate.Mode.TheVariants as modes
 use Rattle.cert_format.specs.declared.note.Note.{Note}
 use Rattle.cert_format.specs.declared.note.Note.TheVariants as notes
@@ -29,7 +28,7 @@ use Rattle.guest_model.specs.declared.machine.Machine.{Machine}
 use Rattle.guest_model.specs.Changes.{World, world_of}
 use Rattle.guest_model.specs.Places.{insn_at}
 use Rattle.block_logic.specs.Accepted.{rules_of}
-use Rattle.block_logic.specs.Clauses.{clause_at, needs}
+use Rattle.block_logic.specs.Clauses.{needs}
 use Rattle.block_logic.specs.Meaning.{AreClean, AreState, IsBelow, IsClean, IsFrame, IsFree, Leads, Owns, lock_of, note_of}
 use Rattle.block_logic.specs.Operands.{calls}
 

@@ -3,6 +3,7 @@ pub mod Operands
 pub mod Terms
 pub mod Standing
 pub mod Rows
+pub mod Lent
 pub mod Notes
 pub mod State
 pub mod Accepted

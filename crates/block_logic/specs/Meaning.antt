@@ -1,10 +1,8 @@
 -- What a note means for the machine, where the lock is held round each call that has clauses (mode hold), or where each such call is
 -- denied: what its thread owns, what stands on its stack, what is granted and owed. (docs/CERTIFICATES.md)
-use Rattle.std.specs.Bool.{beq}
-use Rattle.std.specs.Prelude.{◌≡◌, ◌⊎◌, ⊤, ℕ, zero, suc, ◌+◌, ◌+ℤ◌, ◌<◌, ◌≤◌, ◌==◌, ◌&&◌, not, pos, Bool, true, false, if◌then◌else◌, IfSome, IsTrue, List, [], ◌∷◌, ◌++◌, length, map, reverse, filter, Option, Some, None, is_some, option_map, option_and_then, slice_get}
+use Rattle.std.specs.Prelude.{◌≡◌, ◌⊎◌, ℕ, zero, suc, ◌+◌, ◌+ℤ◌, ◌<◌, ◌≤◌, pos, Bool, true, false, if◌then◌else◌, IfSome, List, [], ◌∷◌, ◌++◌, length, map, reverse, Option, Some, None, option_map, option_and_then, slice_get}
 use Rattle.std.specs.List.{AllByRecursion}
 use Rattle.std.specs.Option.{option_map_or}
-
 use Rattle.api_listing.specs.declared.events.Event.{Event}
 use Rattle.insn_codec.specs.declared.insn.Insn.{Insn}
 use Rattle.insn_codec.specs.Shapes.{shape_of}
@@ -12,7 +10,6 @@ use Rattle.bytecode_model.specs.declared.program.LinkedClass.{LinkedClass}
 use Rattle.bytecode_model.specs.declared.program.Method.{Method}
 use Rattle.bytecode_model.specs.declared.program.Program.{Program}
 use Rattle.bytecode_model.specs.declared.program.Target.{Target}
-use Rattle.bytecode_model.specs.declared.program.Target.TheVariants as target
 use Rattle.bytecode_model.specs.Classes.{classes_of}
 use Rattle.bytecode_model.specs.Typed.{reached}
 use Rattle.cert_format.specs.declared.certificate.Certificate.{Certificate}
@@ -31,10 +28,10 @@ use Rattle.conspec_automaton.specs.declared.policy.Branch.{Branch}
 use Rattle.conspec_automaton.specs.declared.policy.Clause.{Clause}
 use Rattle.conspec_automaton.specs.declared.policy.Policy.{Policy}
 use Rattle.conspec_automaton.specs.Denying.{DeniesOnly}
-use Rattle.conspec_automaton.specs.Next.{Values, argument, has_clauses, holds, initial, is_taken, next, returned}
+use Rattle.conspec_automaton.specs.Next.{Values, argument, holds, initial, is_taken, next, returned}
 use Rattle.conspec_automaton.specs.Obeys.{IsFollowed, after, spoken}
 use Rattle.conspec_automaton.specs.Range.{in_range}
-use Rattle.conspec_automaton.specs.Sight.{Sight, sight_of}
+use Rattle.conspec_automaton.specs.Sight.{sight_of}
 use Rattle.guest_heap.specs.declared.frame.Frame.{Frame}
 use Rattle.guest_heap.specs.declared.value.Value.{Value}
 use Rattle.guest_heap.specs.declared.value.Value.TheVariants as values

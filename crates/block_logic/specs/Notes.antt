@@ -15,12 +15,10 @@ use Rattle.bytecode_model.specs.declared.program.Target.TheVariants as target
 use Rattle.bytecode_model.specs.Rules.{covers}
 use Rattle.cert_format.specs.declared.note.Note.{Note}
 use Rattle.cert_format.specs.declared.note.Note.TheVariants as notes
-use Rattle.cert_format.specs.declared.note.Phase8.TheVariants.{Exceptional}
 use Rattle.cert_format.specs.declared.note.Site.{Site}
-use Rattle.conspec_automaton.specs.declared.policy.Policy.{Policy}
 use Rattle.block_logic.specs.Clauses.{needs}
 use Rattle.block_logic.specs.Operands.{calls, enters, has_clause, is_way_out, leaves, pushes_state, variable_named, writes_static}
-use Rattle.block_logic.specs.Rows.{Asked, Nothing, Open, Given, Taking, Row, Rules, calls_of, is_duty, row, thrown}
+use Rattle.block_logic.specs.Rows.{Asked, Nothing, Open, Given, Taking, Row, Rules, is_duty, row, thrown}
 use Rattle.block_logic.specs.Standing.{is_exceptional, is_hold, is_open, may_stand, takes_for_call}
 
 -- an instruction: its index, itself, and what its operand names

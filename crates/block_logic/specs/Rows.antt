@@ -3,7 +3,6 @@
 use Rattle.std.specs.Bool.{beq}
 use Rattle.std.specs.Prelude.{ℕ, ℤ, pos, ◌+◌, ◌-◌, ◌-ℤ◌, ◌==◌, ◌&&◌, ◌||◌, not, nat_lt, nat_le, int_le, Bool, true, false, if◌then◌else◌, List, [], ◌∷◌, ◌++◌, length, Option, Some, None, is_some, option_and_then, option_map, slice_get, slice_set, take}
 use Rattle.std.specs.Option.{option_map_or, option_or}
-use Rattle.std.specs.Ordering.{int_eq}
 use Rattle.insn_codec.specs.declared.shape.Relation.{Relation}
 use Rattle.insn_codec.specs.declared.shape.Relation.TheVariants as relations
 use Rattle.insn_codec.specs.declared.shape.Shape.{Shape}
@@ -17,7 +16,6 @@ use Rattle.cert_format.specs.declared.note.Site.{Site}
 use Rattle.cert_format.specs.declared.note.Term.{Term}
 use Rattle.cert_format.specs.declared.note.Term.TheVariants as terms
 use Rattle.conspec_tree.specs.declared.types.Atom.{Atom}
-use Rattle.conspec_tree.specs.declared.types.Kind.{Kind}
 use Rattle.conspec_tree.specs.declared.types.Rel.{Rel}
 use Rattle.conspec_tree.specs.declared.types.Rel.TheVariants as rels
 use Rattle.conspec_automaton.specs.declared.policy.Branch.{Branch}
@@ -211,14 +209,28 @@ abbrev pub leaves_done : Policy → Check → Option Row
 leaves_done policy c =
     only_if (is_done policy c.site c.failed c.holding c.map && same_terms c.terms (terms.Lock ∷ [])) (leads (left c.site))
 
+-- a term is pushed
+abbrev pub pushing_row : Rules → Check → Shape → Target → Option Row
+pushing_row rules c shape ref = option_and_then (λ (t : Term). gives (with_terms c (c.terms ++ t ∷ []))) (term_pushed rules c.site c.clause c.map shape ref)
+
+-- the sum of the two topmost terms is made
+abbrev pub adding_row : Check → Shape → Option Row
+adding_row c shape = only_if (adds shape) (option_and_then (λ (t : Term). gives (with_terms c (without 2 c.terms ++ t ∷ []))) (sum_on_top c.terms))
+
+abbrev pub comparing_row : Policy → Check → Shape → Option Row
+comparing_row policy c shape = option_and_then (tests policy c) (compared shape)
+
+abbrev pub writing_row : Rules → Check → Shape → Target → Option Row
+writing_row rules c shape ref = only_if (writes_static shape) (option_and_then (writes rules.policy c) (variable_named rules.state ref))
+
 -- the row of a check by what its instruction does
 abbrev pub check_row : Rules → Check → Shape → Target → Option Row
 check_row rules c shape ref =
-    first_row (option_and_then (λ (t : Term). gives (with_terms c (c.terms ++ t ∷ []))) (term_pushed rules c.site c.clause c.map shape ref))
-    (first_row (only_if (adds shape) (option_and_then (λ (t : Term). gives (with_terms c (without 2 c.terms ++ t ∷ []))) (sum_on_top c.terms)))
+    first_row (pushing_row rules c shape ref)
+    (first_row (adding_row c shape)
     (first_row (only_if (goes shape) (gives (with_terms c c.terms)))
-    (first_row (option_and_then (tests rules.policy c) (compared shape))
-    (first_row (only_if (writes_static shape) (option_and_then (writes rules.policy c) (variable_named rules.state ref)))
+    (first_row (comparing_row rules.policy c shape)
+    (first_row (writing_row rules c shape ref)
     (only_if (leaves shape) (leaves_done rules.policy c))))))
 
 -- A check without a clause has no row.

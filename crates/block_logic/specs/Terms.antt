@@ -1,6 +1,6 @@
 -- What stands on the stack above the client's operands while a check is made, and what the policy's variables are, told by what
 -- stood when the lock was taken.
-use Rattle.std.specs.Prelude.{ℕ, ℤ, zero, suc, ◌+◌, ◌==◌, ◌&&◌, Bool, true, false, List, [], ◌∷◌, length, find}
+use Rattle.std.specs.Prelude.{ℕ, zero, suc, ◌+◌, ◌==◌, ◌&&◌, Bool, true, false, List, [], ◌∷◌, length, find, Option, slice_get}
 use Rattle.std.specs.Option.{option_map_or}
 use Rattle.std.specs.Ordering.{int_eq}
 use Rattle.cert_format.specs.declared.note.Term.{Term}
@@ -29,6 +29,10 @@ same_terms [] (u ∷ us) = false
 same_terms (t ∷ ts) [] = false
 same_terms (t ∷ ts) (u ∷ us) = same_term t u && same_terms ts us
 
+-- One term stands in this place of both.
+abbrev pub same_at : List Term → List Term → ℕ → Bool
+same_at ts us at = option_map_or (λ (t : Term). option_map_or (same_term t) (slice_get us at) false) (slice_get ts at) false
+
 -- ---- what an atom compares
 
 abbrev pub base_term : Base → Term
@@ -43,9 +47,13 @@ abbrev pub written : Update → Term
 written (Set var value) = terms.Const value
 written (Add var by) = terms.VarAdd var by
 
+-- the first update of the variable
+abbrev pub update_of : List Update → ℕ → Option Update
+update_of updates var = find (λ (u : Update). target u == var) updates
+
 -- what a variable is once the updates are made: each is of another variable
 abbrev pub variable_after : List Update → ℕ → Term
-variable_after updates var = option_map_or written (find (λ (u : Update). target u == var) updates) (terms.Var var)
+variable_after updates var = option_map_or written (update_of updates var) (terms.Var var)
 
 -- so many variables, the first of them with this number, once the updates are made
 abbrev pub variables_after : List Update → ℕ → ℕ → List Term

@@ -1,12 +1,27 @@
-//! The notes of a certificate: what each means for the instructions that come next, and the rules that they meet.
+//! The notes of a certificate: the table of what they ask, what each means for the machine, and that accepted programs obey.
 //!
-//! So far they are the notes of policies that deny calls outright. (docs/CERTIFICATES.md)
+//! The rules are read off the table, and asked of a program, in cert_checker. (docs/CERTIFICATES.md)
 #![tactic(auto)]
 
-mod note_rules;
+mod checks;
+mod clauses;
+mod laws;
+mod lent;
 mod operands;
-mod wanted;
+mod rules;
+mod standing;
+mod terms;
 
-pub use note_rules::note_fault;
-pub use operands::{has_clause, is_way_out};
-pub use wanted::Wanted;
+pub use checks::check_row;
+pub use clauses::{clause_at, clause_of, needs, result_of};
+pub use laws::{accepted_obeys, lock_orders};
+pub use lent::{AskedRef, CheckRef, HeldRef, NoteRef, RowRef, TermsRef, WideTerm, gives, leads};
+pub use operands::{
+    STATE, calls, enters, has_clause, is_way_out, leaves, loaded, pushes, pushes_null,
+    pushes_state, stored, throws, variable_named, writes_static,
+};
+pub use rules::{Here, Rules};
+pub use standing::{
+    asks_kept, begun, in_phase, is_after, is_exceptional, is_hold, is_open, may_stand,
+    takes_for_call,
+};

@@ -2,15 +2,16 @@
 
 ghost use Rattle.std.specs.Prelude.{◌≡◌};
 ghost use Rattle.guest_model.specs.Parts.{is_exit};
-ghost use Rattle.block_logic.specs.Operands.{calls, enters, has_clause, is_state, is_state_name, is_variable, is_way_out, leaves};
-ghost use Rattle.block_logic.specs.Operands.{loads_constant, pushes, pushes_null, pushes_state, throws, writes_static};
+ghost use Rattle.block_logic.specs.Operands.{adds, calls, compared, enters, goes, has_clause, is_state_name, is_way_out, leaves};
+ghost use Rattle.block_logic.specs.Operands.{loaded, loaded_number, loads_constant, number_named, number_pushed, pushes, pushes_null};
+ghost use Rattle.block_logic.specs.Operands.{pushes_state, reads_static, stored, throws, variable_named, writes_static};
 
-use bytecode_model::{LinkedClass, Target};
+use bytecode_model::Target;
 use conspec_automaton::{Policy, has_clauses};
-use insn_codec::{Heap, Shape};
+use insn_codec::{Heap, Kind, Relation, Shape, Two};
 
 /// The name of the class that holds the policy's variables, and whose monitor is the lock.
-const STATE: &[u8] = b"conspec/State";
+pub const STATE: &[u8] = b"conspec/State";
 
 /// The place of the method that stops the program in the table of built-in methods.
 const EXIT: u32 = 7;
@@ -63,6 +64,70 @@ pub fn throws(shape: Shape) -> bool
     matches!(shape, Shape::Heap(Heap::Throw))
 }
 
+/// Whether it reads a static field.
+pub fn reads_static(shape: Shape) -> bool
+    ensures { result ≡ reads_static shape }
+{
+    matches!(shape, Shape::Heap(Heap::ReadStatic))
+}
+
+/// Whether it adds the two topmost numbers.
+pub fn adds(shape: Shape) -> bool
+    ensures { result ≡ adds shape }
+{
+    matches!(shape, Shape::Two(Two::Add))
+}
+
+/// Whether it goes elsewhere, whatever stands on the stack.
+pub fn goes(shape: Shape) -> bool
+    ensures { result ≡ goes shape }
+{
+    matches!(shape, Shape::Goto { .. })
+}
+
+/// The relation by which it compares two numbers.
+pub fn compared(shape: Shape) -> Option<Relation>
+    ensures { result ≡ compared shape }
+{
+    match shape {
+        Shape::Compare { relation, .. } => Some(relation),
+        _ => None,
+    }
+}
+
+/// The local that it loads.
+pub fn loaded(shape: Shape) -> Option<u16>
+    ensures { result ≡ loaded shape }
+{
+    match shape {
+        Shape::Load { slot, .. } => Some(slot),
+        _ => None,
+    }
+}
+
+/// The local that it loads a number from.
+pub fn loaded_number(shape: Shape) -> Option<u16>
+    ensures { result ≡ loaded_number shape }
+{
+    match shape {
+        Shape::Load {
+            kind: Kind::Int,
+            slot,
+        } => Some(slot),
+        _ => None,
+    }
+}
+
+/// The local that it stores into.
+pub fn stored(shape: Shape) -> Option<u16>
+    ensures { result ≡ stored shape }
+{
+    match shape {
+        Shape::Store { slot, .. } => Some(slot),
+        _ => None,
+    }
+}
+
 /// Whether the instruction pushes the object of the class that holds the policy's variables.
 pub fn pushes_state(shape: Shape, target: &Target) -> bool
     ensures { result ≡ pushes_state shape target.now }
@@ -79,23 +144,13 @@ fn is_state_name(target: &Target) -> bool
     }
 }
 
-/// Whether the given class of this number holds the policy's variables.
-fn is_state(classes: &[LinkedClass], class: u32) -> bool
-    ensures { result ≡ is_state classes.now class }
-{
-    match classes.get(class as usize) {
-        Some(class) => class.name.as_slice() == STATE,
-        None => false,
-    }
-}
-
-/// Whether the operand names one of the policy's variables.
-pub fn is_variable(classes: &[LinkedClass], target: &Target) -> bool
-    ensures { result ≡ is_variable classes.now target.now }
+/// The policy's variable that is named, where the class of this number holds them.
+pub fn variable_named(state: u32, target: &Target) -> Option<u32>
+    ensures { result ≡ variable_named state target.now }
 {
     match target {
-        Target::Field { class, .. } => is_state(classes, *class),
-        _ => false,
+        Target::Field { class, field } => if *class == state { Some(*field) } else { None },
+        _ => None,
     }
 }
 
@@ -126,13 +181,32 @@ fn is_exit(index: u32) -> bool
     index == EXIT
 }
 
+/// The number that the instruction pushes.
+pub fn number_pushed(shape: Shape, target: &Target) -> Option<i32>
+    ensures { result ≡ number_pushed shape target.now }
+{
+    match shape {
+        Shape::Push(n) => Some(n),
+        Shape::Heap(Heap::Constant) => number_named(target),
+        _ => None,
+    }
+}
+
+fn number_named(target: &Target) -> Option<i32>
+    ensures { result ≡ number_named target.now }
+{
+    match target {
+        Target::Number(n) => Some(*n),
+        _ => None,
+    }
+}
+
 /// Whether the instruction pushes this number.
 pub fn pushes(n: i32, shape: Shape, target: &Target) -> bool
     ensures { result ≡ pushes n shape target.now }
 {
-    match shape {
-        Shape::Push(m) => m == n,
-        Shape::Heap(Heap::Constant) => matches!(target, Target::Number(m) if *m == n),
-        _ => false,
+    match number_pushed(shape, target) {
+        Some(m) => m == n,
+        None => false,
     }
 }

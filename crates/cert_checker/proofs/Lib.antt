@@ -1,6 +1,7 @@
 mod Options
 mod Differing
 mod Noted
-mod Calls
+mod Accepting
 mod Security
 mod Denied
+pub mod Covering

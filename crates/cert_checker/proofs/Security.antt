@@ -1,67 +1,27 @@
--- An accepted program obeys a policy that denies only.
-use Rattle.std.proofs.Common.{◌≡◌, ℕ, zero, suc, ◌<◌, Bool, true, false, List, [], ◌∷◌, length, filter, Option, Some, None, refl, sym, ap, subst, ◌∙◌, arith, inl, inr}
-use Rattle.std.specs.Prelude.{◌&&◌, ◌||◌, ◌==◌, Contains, find, get_or, is_some, slice_get, option_map}
-use Rattle.std.specs.List.{AllByRecursion, list_any}
-use Rattle.std.proofs.lemmas.Bool.{and_parts}
+-- An accepted program obeys, whatever its steps are.
+use Rattle.std.proofs.Common.{◌≡◌, ℕ, zero, suc, ◌<◌, Bool, List, [], ◌∷◌, length, Option, Some, None, refl, ap, subst, ◌∙◌, arith, inl, inr}
+use Rattle.std.specs.Prelude.{Contains, get_or, option_map, slice_get}
+use Rattle.std.specs.List.{AllByRecursion}
 use Rattle.std.proofs.lemmas.Option.{slice_get_cases}
-use Rattle.api_listing.specs.declared.events.Event.{Event}
-use Rattle.api_listing.specs.declared.events.Event.TheVariants as events
 use Rattle.insn_codec.specs.declared.insn.Insn.{Insn}
 use Rattle.insn_codec.specs.Fits.{IsInsn}
 use Rattle.bytecode_model.specs.declared.program.LinkedClass.{LinkedClass}
 use Rattle.bytecode_model.specs.declared.program.Method.{Method}
 use Rattle.bytecode_model.specs.declared.program.Program.{Program}
 use Rattle.bytecode_model.specs.declared.program.Target.{Target}
-use Rattle.bytecode_model.specs.declared.program.Target.TheVariants as target
 use Rattle.bytecode_model.specs.Sound.{IsSound, IsSoundClass, IsSoundMethod, IsWithin}
+use Rattle.bytecode_model.specs.Typed.{reached}
 use Rattle.cert_format.specs.declared.certificate.Certificate.{Certificate}
 use Rattle.code_typing.specs.Closed.{BeginsReached, GoesToReached, IsCaughtReached}
-use Rattle.bytecode_model.specs.Shape.{has_code}
-use Rattle.bytecode_model.specs.Rules.{frame_of}
-use Rattle.bytecode_model.specs.Typed.{frames_in, frames_told, reached}
-use Rattle.conspec_automaton.specs.declared.policy.Clause.{Clause}
 use Rattle.conspec_automaton.specs.declared.policy.Policy.{Policy}
-use Rattle.conspec_automaton.specs.Next.{has_clause, has_clauses, method_of, speaks_of}
-use Rattle.cert_format.specs.declared.certificate.Mode.{Mode}
-use Rattle.cert_format.specs.declared.certificate.Mode.TheVariants as modes
-use Rattle.conspec_automaton.specs.Obeys.{Obeys, spoken}
+use Rattle.conspec_automaton.specs.Sound.{IsPolicy, NamesMethods}
 use Rattle.guest_model.specs.Places.{method_at, insn_in}
-use Rattle.guest_model.specs.Standing.{HasInsns, IsCalled, method_of as method_seen, IsClosed, SeesOnlyCalled}
-use Rattle.guest_model.specs.Runs.{trace}
-use Rattle.block_logic.specs.Accepted.{IsAccepted, note_fault_at, notes_in, notes_told, reached_fault}
-use Rattle.block_logic.specs.Notes.{Here, note_fault, told_fault}
+use Rattle.guest_model.specs.Standing.{HasInsns, IsClosed}
+use Rattle.block_logic.specs.Accepted.{IsAccepted}
+use Rattle.block_logic.specs.Meaning.{Promised}
+use Rattle.block_logic.specs.Obeying.{AcceptedObeys, FitsListing}
 use Rattle.cert_checker.specs.Secure.{Secure}
-use Rattle.cert_checker.proofs.Calls.{no_clause}
 use Rattle.cert_checker.proofs.Options.{all_at, and_then_of}
-
--- ---- events
-
-any_false : (policy : Bool) (later : Bool) → (policy || later) ≡ false → (policy ≡ false) × (later ≡ false)
-any_false true later e = absurd cc
-any_false false later e = (refl, e)
-
-none_speaks : (event : Event) (clauses : List Clause) → list_any (λ (clause : Clause). clause.method == method_of event) clauses ≡ false → find (speaks_of event) clauses ≡ None
-none_speaks event [] e = refl
-none_speaks event (clause ∷ clauses) e =
-    let both = any_false (clause.method == method_of event) (list_any (λ (c : Clause). c.method == method_of event) clauses) e in
-    rw both.0 (none_speaks event clauses both.1)
-
-seen_is : (event : Event) → method_seen event ≡ method_of event
-seen_is (events.Call thread method arguments) = refl
-seen_is (events.Return thread method value) = refl
-seen_is (events.Except thread method) = refl
-
-unspoken : (policy : Policy) (event : Event) → has_clauses policy (method_seen event) ≡ false → has_clause policy event ≡ false
-unspoken policy event e = rw (none_speaks event policy.clauses (subst (λ (m : ℕ). has_clauses policy m ≡ false) (seen_is event) e)) refl
-
--- events without a clause
-none_left : (policy : Policy) (seen : List Event) → AllByRecursion (λ event. has_clause policy event ≡ false) seen → filter (has_clause policy) seen ≡ []
-none_left policy [] all = refl
-none_left policy (event ∷ seen) all = rw all.0 (none_left policy seen all.1)
-
-each_unspoken : (policy : Policy) (P : Event → Type 0) → ((event : Event) → P event → has_clause policy event ≡ false) → (seen : List Event) → AllByRecursion P seen → AllByRecursion (λ event. has_clause policy event ≡ false) seen
-each_unspoken policy P none [] all = tt
-each_unspoken policy P none (event ∷ seen) all = (none event all.0, each_unspoken policy P none seen all.1)
 
 -- ---- places
 
@@ -96,17 +56,19 @@ all_contains P xs x all has = at_place P xs x has.0 all has.1 has.2 where
 
 -- the laws of lower crates that this stands on
 pub record Laws : Type 0 where
-  pub sees : (program : Program) (set : ℕ → ℕ → ℕ → Bool) → HasInsns program → IsClosed program set → SeesOnlyCalled program set
+  pub obeys : AcceptedObeys
   pub begin : BeginsReached
   pub next : GoesToReached
   pub caught : IsCaughtReached
 
--- Where no event has a clause, they obey.
-obeyed : (mode : Mode) (policy : Policy) (seen : List Event) → spoken policy seen ≡ [] → Obeys mode policy seen
-obeyed modes.Release policy seen none = rw none refl
-obeyed modes.Hold policy seen none = inl (rw none refl)
+-- what is known of a program and a policy before the check
+pub record IsGiven (program : Program) (policy : Policy) : Type 0 where
+  pub sound : IsSound program
+  pub good : IsPolicy policy
+  pub named : NamesMethods (length program.listing.methods) policy
+  pub listed : AllByRecursion (FitsListing program.listing) policy.clauses
 
-module _ (laws : Laws) (program : Program) (policy : Policy) (certificate : Certificate) (sound : IsSound program) (accepted : IsAccepted program policy certificate) where
+module _ (laws : Laws) (program : Program) (policy : Policy) (certificate : Certificate) (given : IsGiven program policy) (accepted : IsAccepted program policy certificate) where
   abbrev set : ℕ → ℕ → ℕ → Bool
   set = reached program certificate.typing
 
@@ -124,7 +86,7 @@ module _ (laws : Laws) (program : Program) (policy : Policy) (certificate : Cert
         c = h.0;
         class_there = h.1;
         in_class = h.2;
-        well = all_at IsSoundMethod h.0.methods method m (all_at IsSoundClass program.classes class h.0 sound.classes h.1).methods h.2;
+        well = all_at IsSoundMethod h.0.methods method m (all_at IsSoundClass program.classes class h.0 given.sound.classes h.1).methods h.2;
       }
 
   has_insns : HasInsns program
@@ -152,25 +114,14 @@ module _ (laws : Laws) (program : Program) (policy : Policy) (certificate : Cert
         laws.caught program certificate.typing accepted.typed class method at of i.0 handler there i.1 inside has from to;
   }
 
-  -- a method that is called at a place of the set has no clause
-  no_clause_called : (listed : ℕ) → IsCalled program set listed → has_clauses policy listed ≡ false
-  no_clause_called listed called =
-      let m = called.there.of in
-      let f = found called.class called.method m called.there.there in
-      let i = insn_there m called.at called.insn (target.ApiMethod listed) called.there.is in
-      let frames = frames_in f.c.methods (frames_told certificate.typing called.class) called.method in
-      let told = notes_in f.c.methods (notes_told certificate called.class) called.method in
-      let reached_is : set called.class called.method called.at ≡ (has_code m && is_some (frame_of frames called.at)) = rw (f.class_there, f.in_class) refl in
-      let framed : is_some (frame_of frames called.at) ≡ true = (and_parts (has_code m) (is_some (frame_of frames called.at)) (sym reached_is ∙ called.inside)).1 in
-      let at_method : note_fault_at program policy certificate called.class called.method called.at ≡ reached_fault program policy frames told m called.at = rw (f.class_there, f.in_class) refl in
-      let with_frame : reached_fault program policy frames told m called.at ≡ note_fault program.classes policy told m called.at = rw framed refl in
-      let here : Here = record { at = called.at; insn = called.insn; ref = target.ApiMethod listed } in
-      let with_note : note_fault program.classes policy told m called.at ≡ told_fault program.classes policy told m here (slice_get told called.at) = rw (i.insn_there, i.ref_there) refl in
-      no_clause program.classes policy told m here listed called.how called.calls refl (slice_get told called.at)
-      (sym with_note ∙ sym with_frame ∙ sym at_method ∙ accepted.noted called.class called.method called.at)
-
-  pub secure : (mode : Mode) → Secure mode program policy
-  secure mode steps =
-      let all = laws.sees program set has_insns closed steps in
-      let none = none_left policy (trace program steps) (each_unspoken policy (λ event. IsCalled program set (method_seen event)) (λ event called. unspoken policy event (no_clause_called (method_seen event) called)) (trace program steps) all) in
-      obeyed mode policy (trace program steps) none
+  pub secure : Promised certificate.mode policy → Secure certificate.mode program policy
+  secure promised steps = laws.obeys program policy certificate (record {
+    promised = promised;
+    sound = given.sound;
+    good = given.good;
+    named = given.named;
+    listed = given.listed;
+    accepted = accepted;
+    insns = has_insns;
+    closed = closed;
+  }) steps

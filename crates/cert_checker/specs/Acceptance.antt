@@ -12,10 +12,12 @@ use Rattle.code_typing.specs.First.{typing_fault}
 use Rattle.bytecode_model.specs.Typed.{list_at}
 use Rattle.conspec_automaton.specs.declared.policy.Policy.{Policy}
 use Rattle.cert_checker.specs.declared.fault.CheckFault.{CheckFault}
-use Rattle.cert_checker.specs.declared.fault.CheckFault.TheVariants.{Shape, Typing, Local}
+use Rattle.cert_checker.specs.declared.fault.CheckFault.TheVariants.{Shape, Typing, StateClass, Local}
 use Rattle.cert_checker.specs.declared.checking.Accepted.{Accepted}
-use Rattle.block_logic.specs.Accepted.{reached_fault}
+use Rattle.block_logic.specs.Accepted.{reached_fault, rules_of}
 use Rattle.block_logic.specs.Operands.{has_clause}
+use Rattle.block_logic.specs.Rows.{Rules}
+use Rattle.block_logic.specs.State.{state_fault}
 use Rattle.cert_checker.specs.Places.{or_else, placed, first_from}
 
 -- ---- shape
@@ -42,24 +44,24 @@ shape_fault program certificate = classes_differ 0 program.classes certificate.t
 -- ---- notes
 
 -- the first instruction of a method whose note is wrong, and its rule
-abbrev pub in_method : Program → Policy → List (Option FrameType) → List Note → Method → Option (ℕ × ℕ)
-in_method program policy frames told method = first_from (reached_fault program policy frames told method) 0 (length method.insns)
+abbrev pub in_method : Rules → List (Option FrameType) → List Note → Method → Option (ℕ × ℕ)
+in_method rules frames told method = first_from (reached_fault rules frames told method) 0 (length method.insns)
 
 -- the same of the methods of a class, of which the first has this index
-abbrev pub in_methods : Program → Policy → ℕ → List Method → List (List (Option FrameType)) → List (List Note) → Option (ℕ × (ℕ × ℕ))
-in_methods program policy at [] frames notes = None
-in_methods program policy at (m ∷ ms) frames notes =
-    if has_code m then or_else (placed at (in_method program policy (list_at frames 0) (list_at notes 0) m)) (in_methods program policy (at + 1) ms (drop 1 frames) (drop 1 notes))
-    else in_methods program policy (at + 1) ms frames notes
+abbrev pub in_methods : Rules → ℕ → List Method → List (List (Option FrameType)) → List (List Note) → Option (ℕ × (ℕ × ℕ))
+in_methods rules at [] frames notes = None
+in_methods rules at (m ∷ ms) frames notes =
+    if has_code m then or_else (placed at (in_method rules (list_at frames 0) (list_at notes 0) m)) (in_methods rules (at + 1) ms (drop 1 frames) (drop 1 notes))
+    else in_methods rules (at + 1) ms frames notes
 
-abbrev pub in_classes : Program → Policy → ℕ → List LinkedClass → List (List (List (Option FrameType))) → List (List (List Note)) → Option (ℕ × (ℕ × (ℕ × ℕ)))
-in_classes program policy at [] frames notes = None
-in_classes program policy at (c ∷ cs) frames notes =
-    or_else (placed at (in_methods program policy 0 c.methods (list_at frames 0) (list_at notes 0))) (in_classes program policy (at + 1) cs (drop 1 frames) (drop 1 notes))
+abbrev pub in_classes : Rules → ℕ → List LinkedClass → List (List (List (Option FrameType))) → List (List (List Note)) → Option (ℕ × (ℕ × (ℕ × ℕ)))
+in_classes rules at [] frames notes = None
+in_classes rules at (c ∷ cs) frames notes =
+    or_else (placed at (in_methods rules 0 c.methods (list_at frames 0) (list_at notes 0))) (in_classes rules (at + 1) cs (drop 1 frames) (drop 1 notes))
 
 -- class, method, instruction and rule of the first note that is wrong
 abbrev pub notes_fault : Program → Policy → Certificate → Option (ℕ × (ℕ × (ℕ × ℕ)))
-notes_fault program policy certificate = in_classes program policy 0 program.classes certificate.typing.frames certificate.notes
+notes_fault program policy certificate = in_classes (rules_of program policy certificate) 0 program.classes certificate.typing.frames certificate.notes
 
 -- ---- the answer
 
@@ -75,6 +77,11 @@ abbrev pub typing_verdict : Option TypeFault → Result Accepted CheckFault → 
 typing_verdict None later = later
 typing_verdict (Some fault) later = Err (Typing fault.class fault.method fault.at fault.rule)
 
+-- by the first field that is not as a variable of the policy has it
+abbrev pub state_verdict : Option ℕ → Result Accepted CheckFault → Result Accepted CheckFault
+state_verdict None later = later
+state_verdict (Some field) later = Err (StateClass field)
+
 abbrev pub notes_verdict : Option (ℕ × (ℕ × (ℕ × ℕ))) → Result Accepted CheckFault → Result Accepted CheckFault
 notes_verdict None later = later
 notes_verdict (Some found) later = Err (Local found.0 found.1.0 found.1.1.0 found.1.1.1)
@@ -84,5 +91,6 @@ abbrev pub verdict : Program → Policy → Certificate → Result Accepted Chec
 verdict program policy certificate =
     shape_verdict (shape_fault program certificate)
     (typing_verdict (typing_fault program certificate.typing)
+    (state_verdict (state_fault program.classes policy)
     (notes_verdict (notes_fault program policy certificate)
-    (Ok (record { mode = certificate.mode; sites = sites_of program policy }))))
+    (Ok (record { mode = certificate.mode; sites = sites_of program policy })))))

@@ -1,23 +1,26 @@
 //! The check as a whole.
 
-ghost use Rattle.std.specs.Prelude.{◌≡◌, ◌↔◌, ◌<◌, ◌≤◌, ◌^◌, IsOk, IfOk, length, count_by, sum_by};
+ghost use Rattle.std.specs.Prelude.{◌≡◌, ◌↔◌, ◌<◌, ◌^◌, IsOk, length, count_by, sum_by};
+ghost use Rattle.std.specs.List.{AllByRecursion};
 ghost use Rattle.bytecode_model.specs.declared.program.Method.{Method as AMethod};
 ghost use Rattle.bytecode_model.specs.Sound.{IsSound, IsSoundClass};
-ghost use Rattle.code_typing.specs.First.{typing_fault};
+ghost use Rattle.conspec_automaton.specs.Sound.{IsPolicy, NamesMethods};
 ghost use Rattle.block_logic.specs.Accepted.{IsAccepted};
-ghost use Rattle.cert_checker.specs.Acceptance.{notes_fault, shape_fault, sites_of, verdict};
+ghost use Rattle.block_logic.specs.Meaning.{Promised};
+ghost use Rattle.block_logic.specs.Obeying.{FitsListing};
 ghost use Rattle.block_logic.specs.Operands.{has_clause};
+ghost use Rattle.cert_checker.specs.Acceptance.{sites_of, verdict};
 ghost use Rattle.cert_checker.specs.Secure.{Secure};
 
 use crate::fault::CheckFault;
 use crate::notes::notes_fault;
 use crate::shape::shape_fault;
-use block_logic::has_clause;
+use crate::state::state_fault;
+use block_logic::{accepted_obeys, has_clause};
 use bytecode_model::{LinkedClass, Method, Program};
 use cert_format::{Certificate, Mode};
 use code_typing::{check_typing, typed_is_closed};
 use conspec_automaton::Policy;
-use guest_model::sees_only_what_is_called;
 use type_lattice::Indexed;
 
 /// The answer yes.
@@ -35,10 +38,13 @@ pub fn check(
     policy: &Policy,
     certificate: &Certificate,
 ) -> Result<Accepted, CheckFault>
-    requires { IsSound program.now }
+    requires sound { IsSound program.now }
+    requires policy { IsPolicy policy.now }
+    requires named { NamesMethods (length program.now.listing.methods) policy.now }
+    requires listed { AllByRecursion (FitsListing program.now.listing) policy.now.clauses }
     // It is accepted exactly where the conditions hold, and then every list of steps obeys, as the mode promises.
     ensures ok { IsOk result ↔ IsAccepted program.now policy.now certificate.now }
-    ensures secure { IsOk result → Secure certificate.now.mode program.now policy.now }
+    ensures secure { IsOk result → Promised certificate.now.mode policy.now → Secure certificate.now.mode program.now policy.now }
 
     // Which answer it is: the first test that fails, with its first place.
     ensures exact { result ≡ verdict program.now policy.now certificate.now }
@@ -55,6 +61,9 @@ pub fn check(
             rule: fault.rule,
         });
     }
+    if let Some(field) = state_fault(linked.classes.as_slice(), policy) {
+        return Err(CheckFault::StateClass { field });
+    }
     if let Some((class, (method, (at, rule)))) = notes_fault(linked, policy, certificate) {
         return Err(CheckFault::Local {
             class,
@@ -64,7 +73,7 @@ pub fn check(
         });
     }
     typed_is_closed();
-    sees_only_what_is_called();
+    accepted_obeys();
     Ok(Accepted {
         mode: certificate.mode,
         sites: sites_of(linked, policy),

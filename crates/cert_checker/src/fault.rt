@@ -20,6 +20,12 @@ pub enum CheckFault {
         at: u32,
         rule: u8,
     },
+    /// The class of the policy's variables is missing, or is not as they have it: the first variable whose field is
+    /// missing or wrong, or the number of the variables.
+    #[error("the class of the policy's variables is not as they have it")]
+    StateClass {
+        field: u32,
+    },
     /// A rule of the notes fails.
     #[error("rule {rule} of the notes fails")]
     Local {

@@ -7,9 +7,15 @@
 mod checking;
 mod fault;
 mod laws;
+mod note_rules;
 mod notes;
+mod passing;
+mod rows;
 mod shape;
+mod state;
 
 pub use checking::{Accepted, check};
 pub use fault::CheckFault;
 pub use laws::denied_call_disobeys;
+pub use note_rules::note_fault;
+pub use state::{state_at, state_fault};

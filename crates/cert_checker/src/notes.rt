@@ -1,14 +1,15 @@
 //! The first note of a certificate that is wrong.
 
-ghost use Rattle.std.specs.Prelude.{◌≡◌, ◌<◌, ◌≤◌, ◌^◌, drop, is_some, length};
-ghost use Rattle.std.specs.List.{AllByRecursion};
+ghost use Rattle.std.specs.Prelude.{◌≡◌, drop, is_some};
 ghost use Rattle.bytecode_model.specs.Sound.{IsSound, IsSoundClass, IsSoundMethod};
 ghost use Rattle.bytecode_model.specs.Rules.{frame_of};
 ghost use Rattle.bytecode_model.specs.Typed.{list_at};
-ghost use Rattle.block_logic.specs.Accepted.{reached_fault};
+ghost use Rattle.block_logic.specs.Accepted.{reached_fault, rules_of};
 ghost use Rattle.cert_checker.specs.Acceptance.{in_classes, in_method, in_methods, notes_fault};
 
-use block_logic::note_fault;
+use crate::note_rules::note_fault;
+use crate::state::state_at;
+use block_logic::Rules;
 use bytecode_model::{LinkedClass, Method, Program};
 use cert_format::{Certificate, FrameType, Note};
 use conspec_automaton::Policy;
@@ -23,12 +24,43 @@ pub fn notes_fault(
     requires { IsSound program.now }
     ensures { result ≡ notes_fault program.now policy.now certificate.now }
 {
+    let rules = rules_of(program, policy, certificate);
+    in_classes(&rules, program, certificate)
+}
+
+/// What the rules are told. Where the program has no class of the policy's variables, the number behind its classes
+/// names none.
+fn rules_of<'a>(program: &Program, policy: &'a Policy, certificate: &Certificate) -> Rules<'a>
+    requires { IsSound program.now }
+    ensures { result ≡ rules_of program.now policy.now certificate.now }
+{
+    let classes = program.classes.as_slice();
+    let state = match state_at(classes) {
+        Some(at) => at,
+        None => classes.len() as u32,
+    };
+    Rules {
+        mode: certificate.mode,
+        policy,
+        state,
+    }
+}
+
+/// Class, method, instruction and rule of the first note that is wrong, by the rules.
+fn in_classes(
+    rules: &Rules<'_>,
+    program: &Program,
+    certificate: &Certificate,
+) -> Option<(u32, (u32, (u32, u8)))>
+    requires { IsSound program.now }
+    ensures { result ≡ in_classes rules.now 0 program.now.classes certificate.now.typing.frames certificate.now.notes }
+{
     let mut at = 0u32;
     let mut frames = certificate.typing.frames.as_slice();
     let mut notes = certificate.notes.as_slice();
     let mut classes = program.classes.as_slice();
     while let [class, later @ ..] = classes {
-        if let Some(found) = in_methods(program, policy, class, first_of(frames), first_of(notes)) {
+        if let Some(found) = in_methods(rules, class, first_of(frames), first_of(notes)) {
             return Some((at, found));
         }
         classes = later;
@@ -41,14 +73,13 @@ pub fn notes_fault(
 
 /// Method, instruction and rule of the first note of a class that is wrong.
 fn in_methods(
-    program: &Program,
-    policy: &Policy,
+    rules: &Rules<'_>,
     class: &LinkedClass,
     frames: &[List<Option<FrameType>>],
     notes: &[List<Note>],
 ) -> Option<(u32, (u32, u8))>
     requires { IsSoundClass class.now }
-    ensures { result ≡ in_methods program.now policy.now 0 class.now.methods frames.now notes.now }
+    ensures { result ≡ in_methods rules.now 0 class.now.methods frames.now notes.now }
 {
     let mut at = 0u32;
     let mut frames = frames;
@@ -56,13 +87,7 @@ fn in_methods(
     let mut methods = class.methods.as_slice();
     while let [method, later @ ..] = methods {
         if !method.insns.is_empty() {
-            if let Some(found) = in_method(
-                program,
-                policy,
-                first_of(frames),
-                first_of(notes),
-                method,
-            ) {
+            if let Some(found) = in_method(rules, first_of(frames), first_of(notes), method) {
                 return Some((at, found));
             }
             frames = behind_first(frames);
@@ -76,19 +101,18 @@ fn in_methods(
 
 /// Instruction and rule of the first note of a method that is wrong.
 fn in_method(
-    program: &Program,
-    policy: &Policy,
+    rules: &Rules<'_>,
     frames: &[Option<FrameType>],
     told: &[Note],
     method: &Method,
 ) -> Option<(u32, u8)>
     requires { IsSoundMethod method.now }
-    ensures { result ≡ in_method program.now policy.now frames.now told.now method.now }
+    ensures { result ≡ in_method rules.now frames.now told.now method.now }
 {
     let mut at = 0u32;
     let mut left = method.insns.len();
     while left > 0 {
-        if let Some(rule) = reached_fault(program, policy, frames, told, method, at) {
+        if let Some(rule) = reached_fault(rules, frames, told, method, at) {
             return Some((at, rule));
         }
         at += 1;
@@ -98,17 +122,16 @@ fn in_method(
 }
 
 fn reached_fault(
-    program: &Program,
-    policy: &Policy,
+    rules: &Rules<'_>,
     frames: &[Option<FrameType>],
     told: &[Note],
     method: &Method,
     at: u32,
 ) -> Option<u8>
-    ensures { result ≡ reached_fault program.now policy.now frames.now told.now method.now at }
+    ensures { result ≡ reached_fault rules.now frames.now told.now method.now at }
 {
     if has_frame(frames, at) {
-        note_fault(program.classes.as_slice(), policy, told, method, at)
+        note_fault(rules, told, method, at)
     } else {
         None
     }

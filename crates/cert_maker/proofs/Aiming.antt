@@ -1,119 +1,28 @@
--- An instruction whose targets are at their fronts: what of it stays.
-use Rattle.std.proofs.Common.{◌≡◌, ℕ, ◌+◌, ◌<◌, Bool, true, false, cond, List, [], ◌∷◌, ◌++◌, map, refl, sym, ap, ◌∙◌}
+-- An instruction whose targets are at their fronts: where it goes, and that a call stays as it is.
+use Rattle.std.proofs.Common.{◌≡◌, ℕ, ◌<◌, Bool, true, false, cond, List, [], ◌∷◌, map, refl, ap, sym, ◌∙◌}
 use Rattle.std.specs.Prelude.{◌==◌, nat_lt, slice_index}
 use Rattle.std.specs.List.{AllByRecursion}
-use Rattle.std.proofs.lemmas.List.{map-append}
+use Rattle.std.proofs.lemmas.Bool.{false≢true}
 use Rattle.insn_codec.specs.declared.insn.Insn.{Insn}
 use Rattle.insn_codec.specs.declared.insn.Insn.TheVariants as insns
-use Rattle.insn_codec.specs.Fits.{AimsWithin}
-use Rattle.insn_codec.specs.Opcodes.{goes_on}
-use Rattle.insn_codec.specs.Spelling.{opcode_of}
+use Rattle.insn_codec.specs.declared.shape.Heap.TheVariants as heap
+use Rattle.insn_codec.specs.declared.shape.How.{How}
 use Rattle.insn_codec.specs.declared.shape.Shape.{Shape}
 use Rattle.insn_codec.specs.declared.shape.Shape.TheVariants as shapes
-use Rattle.insn_codec.specs.Control.{jump_targets, successors}
-use Rattle.insn_codec.specs.Shapes.{shape_of, test_shape, comparing_shape, branch_shape}
-use Rattle.bytecode_model.specs.Operands.{index_of}
+use Rattle.insn_codec.specs.Control.{jump_targets}
+use Rattle.insn_codec.specs.Fits.{AimsWithin}
+use Rattle.insn_codec.specs.Shapes.{branch_shape, comparing_shape, shape_of, test_shape}
 use Rattle.offset_patch.specs.Splicing.{aimed}
-use Rattle.cert_maker.proofs.Kept.{retargeted}
+use Rattle.block_logic.specs.Operands.{calls}
 
-module _ (fronts : List ℕ) where
-  pub opcode_stays : (x : Insn) → opcode_of (aimed fronts x) ≡ opcode_of x
-  opcode_stays (insns.Branch op to) = refl
-  opcode_stays (insns.GotoW to) = refl
-  opcode_stays (insns.Table other low targets) = refl
-  opcode_stays (insns.Lookup other keys targets) = refl
-  opcode_stays (insns.Plain op) = refl
-  opcode_stays (insns.Byte n) = refl
-  opcode_stays (insns.Short n) = refl
-  opcode_stays (insns.Ldc index) = refl
-  opcode_stays (insns.Pool op index) = refl
-  opcode_stays (insns.Iface index count) = refl
-  opcode_stays (insns.Local op slot wide) = refl
-  opcode_stays (insns.Inc slot by wide) = refl
-  opcode_stays (insns.NewArray kind) = refl
-
-  pub index_stays : (x : Insn) → index_of (aimed fronts x) ≡ index_of x
-  index_stays (insns.Branch op to) = refl
-  index_stays (insns.GotoW to) = refl
-  index_stays (insns.Table other low targets) = refl
-  index_stays (insns.Lookup other keys targets) = refl
-  index_stays (insns.Plain op) = refl
-  index_stays (insns.Byte n) = refl
-  index_stays (insns.Short n) = refl
-  index_stays (insns.Ldc index) = refl
-  index_stays (insns.Pool op index) = refl
-  index_stays (insns.Iface index count) = refl
-  index_stays (insns.Local op slot wide) = refl
-  index_stays (insns.Inc slot by wide) = refl
-  index_stays (insns.NewArray kind) = refl
-
--- ---- shapes
-
-itself : (s : Shape) → s ≡ retargeted (λ to. to) s
-itself shapes.Nothing = refl
-itself (shapes.Push n) = refl
-itself shapes.PushNull = refl
-itself (shapes.Load k slot) = refl
-itself (shapes.Store k slot) = refl
-itself (shapes.Move form) = refl
-itself (shapes.Two op) = refl
-itself (shapes.One op) = refl
-itself (shapes.Increment slot by) = refl
-itself (shapes.Test relation to) = refl
-itself (shapes.Compare relation to) = refl
-itself (shapes.CompareReferences same to) = refl
-itself (shapes.TestNull null to) = refl
-itself (shapes.Goto to) = refl
-itself shapes.Switch = refl
-itself (shapes.Heap what) = refl
-
-module _ (f : ℕ → ℕ) where
-  pick : (b : Bool) (x y v w : Shape) → v ≡ retargeted f x → w ≡ retargeted f y → cond b v w ≡ retargeted f (cond b x y)
-  pick true x y v w e g = e
-  pick false x y v w e g = g
-
-  tests : (op to : ℕ) → test_shape op (f to) ≡ retargeted f (test_shape op to)
-  tests op to =
-      pick (op == 153) _ _ _ _ refl (pick (op == 154) _ _ _ _ refl (pick (op == 155) _ _ _ _ refl (pick (op == 156) _ _ _ _ refl (pick (op == 157) _ _ _ _ refl
-      (pick (op == 158) _ _ _ _ refl refl)))))
-
-  compares : (op to : ℕ) → comparing_shape op (f to) ≡ retargeted f (comparing_shape op to)
-  compares op to =
-      pick (op == 159) _ _ _ _ refl (pick (op == 160) _ _ _ _ refl (pick (op == 161) _ _ _ _ refl (pick (op == 162) _ _ _ _ refl (pick (op == 163) _ _ _ _ refl
-      (pick (op == 164) _ _ _ _ refl (pick (op == 165) _ _ _ _ refl (pick (op == 166) _ _ _ _ refl (pick (op == 167) _ _ _ _ refl
-      (pick (op == 198) _ _ _ _ refl (pick (op == 199) _ _ _ _ refl refl))))))))))
-
-  branches : (op to : ℕ) → branch_shape op (f to) ≡ retargeted f (branch_shape op to)
-  branches op to = pick (nat_lt op 159) _ _ _ _ (tests op to) (compares op to)
-
--- The shape is the same, but for its target.
-pub record HasShape (fronts : List ℕ) (x : Insn) : Type 0 where
-  pub to : ℕ → ℕ
-  pub is : shape_of (aimed fronts x) ≡ retargeted to (shape_of x)
-
-pub has_shape : (fronts : List ℕ) (x : Insn) → HasShape fronts x
-has_shape fronts (insns.Branch op to) = record { to = slice_index fronts; is = branches (slice_index fronts) op to }
-has_shape fronts (insns.GotoW to) = record { to = slice_index fronts; is = refl }
-has_shape fronts (insns.Table other low targets) = record { to = λ t. t; is = refl }
-has_shape fronts (insns.Lookup other keys targets) = record { to = λ t. t; is = refl }
-has_shape fronts (insns.Plain op) = record { to = λ t. t; is = itself (shape_of (insns.Plain op)) }
-has_shape fronts (insns.Byte n) = record { to = λ t. t; is = refl }
-has_shape fronts (insns.Short n) = record { to = λ t. t; is = refl }
-has_shape fronts (insns.Ldc index) = record { to = λ t. t; is = refl }
-has_shape fronts (insns.Pool op index) = record { to = λ t. t; is = itself (shape_of (insns.Pool op index)) }
-has_shape fronts (insns.Iface index count) = record { to = λ t. t; is = refl }
-has_shape fronts (insns.Local op slot wide) = record { to = λ t. t; is = itself (shape_of (insns.Local op slot wide)) }
-has_shape fronts (insns.Inc slot by wide) = record { to = λ t. t; is = refl }
-has_shape fronts (insns.NewArray kind) = record { to = λ t. t; is = refl }
-
--- ---- successors
+-- ---- where it goes
 
 module _ (fronts : List ℕ) (n : ℕ) (moved : ℕ → ℕ) (same : (i : ℕ) → i < n → slice_index fronts i ≡ moved i) where
   all_moved : (targets : List ℕ) → AllByRecursion (λ to. to < n) targets → map (slice_index fronts) targets ≡ map moved targets
   all_moved [] h = refl
   all_moved (to ∷ targets) h = rw (same to h.0, all_moved targets h.1) refl
 
-  jumps_moved : (x : Insn) → AimsWithin n x → jump_targets (aimed fronts x) ≡ map moved (jump_targets x)
+  pub jumps_moved : (x : Insn) → AimsWithin n x → jump_targets (aimed fronts x) ≡ map moved (jump_targets x)
   jumps_moved (insns.Branch op to) h = ap (λ t. t ∷ []) (same to h)
   jumps_moved (insns.GotoW to) h = ap (λ t. t ∷ []) (same to h)
   jumps_moved (insns.Table other low targets) h = rw (same other h.0, all_moved targets h.1) refl
@@ -128,14 +37,42 @@ module _ (fronts : List ℕ) (n : ℕ) (moved : ℕ → ℕ) (same : (i : ℕ) �
   jumps_moved (insns.Inc slot by wide) h = refl
   jumps_moved (insns.NewArray kind) h = refl
 
-  next_moved : (b : Bool) (at next : ℕ) → next ≡ moved at → cond b (next ∷ []) [] ≡ map moved (cond b (at ∷ []) [])
-  next_moved true at next e = ap (λ t. t ∷ []) e
-  next_moved false at next e = refl
+-- ---- calls
 
-  -- Control goes to what control went to, at its front.
-  pub successors_moved : (at : ℕ) (x : Insn) (front : ℕ) → AimsWithin n x → front + 1 ≡ moved (at + 1) → successors front (aimed fronts x) ≡ map moved (successors at x)
-  successors_moved at x front h next =
-      ap (λ (op : ℕ). cond (goes_on op) ((front + 1) ∷ []) [] ++ jump_targets (aimed fronts x)) (opcode_stays fronts x)
-      ∙ ap (λ (ts : List ℕ). cond (goes_on (opcode_of x)) ((front + 1) ∷ []) [] ++ ts) (jumps_moved x h)
-      ∙ ap (λ (ts : List ℕ). ts ++ map moved (jump_targets x)) (next_moved (goes_on (opcode_of x)) (at + 1) (front + 1) next)
-      ∙ sym (map-append moved (cond (goes_on (opcode_of x)) ((at + 1) ∷ []) []) (jump_targets x))
+either : (b : Bool) (x y : Shape) → calls x ≡ false → calls y ≡ false → calls (cond b x y) ≡ false
+either true x y p q = p
+either false x y p q = q
+
+tests : (op to : ℕ) → calls (test_shape op to) ≡ false
+tests op to =
+    either (op == 153) _ _ refl (either (op == 154) _ _ refl (either (op == 155) _ _ refl (either (op == 156) _ _ refl
+    (either (op == 157) _ _ refl (either (op == 158) _ _ refl refl)))))
+
+compares : (op to : ℕ) → calls (comparing_shape op to) ≡ false
+compares op to =
+    either (op == 159) _ _ refl (either (op == 160) _ _ refl (either (op == 161) _ _ refl (either (op == 162) _ _ refl
+    (either (op == 163) _ _ refl (either (op == 164) _ _ refl (either (op == 165) _ _ refl (either (op == 166) _ _ refl
+    (either (op == 167) _ _ refl (either (op == 198) _ _ refl (either (op == 199) _ _ refl refl))))))))))
+
+branches : (op to : ℕ) → calls (branch_shape op to) ≡ false
+branches op to = either (nat_lt op 159) _ _ (tests op to) (compares op to)
+
+-- A call names no target.
+pub record GoesNowhere (x : Insn) : Type 0 where
+  pub stays : (fronts : List ℕ) → aimed fronts x ≡ x
+  pub jumps : jump_targets x ≡ []
+
+pub call_goes : (x : Insn) (how : How) → shape_of x ≡ shapes.Heap (heap.Call how) → GoesNowhere x
+call_goes (insns.Branch op to) how e = absurd (false≢true (sym (branches op to) ∙ ap calls e))
+call_goes (insns.GotoW to) how e = absurd (false≢true (ap calls e))
+call_goes (insns.Table other low targets) how e = absurd (false≢true (ap calls e))
+call_goes (insns.Lookup other keys targets) how e = absurd (false≢true (ap calls e))
+call_goes (insns.Plain op) how e = record { stays = λ fronts. refl; jumps = refl }
+call_goes (insns.Byte k) how e = record { stays = λ fronts. refl; jumps = refl }
+call_goes (insns.Short k) how e = record { stays = λ fronts. refl; jumps = refl }
+call_goes (insns.Ldc index) how e = record { stays = λ fronts. refl; jumps = refl }
+call_goes (insns.Pool op index) how e = record { stays = λ fronts. refl; jumps = refl }
+call_goes (insns.Iface index count) how e = record { stays = λ fronts. refl; jumps = refl }
+call_goes (insns.Local op slot wide) how e = record { stays = λ fronts. refl; jumps = refl }
+call_goes (insns.Inc slot by wide) how e = record { stays = λ fronts. refl; jumps = refl }
+call_goes (insns.NewArray kind) how e = record { stays = λ fronts. refl; jumps = refl }

@@ -1,30 +1,29 @@
-pub mod Kept
-pub mod Taking
-pub mod Yielding
+pub mod Lists
+pub mod Same
+pub mod ClausesAlike
+pub mod Updates
+pub mod Suits
+pub mod Calling
+pub mod Shapes
+pub mod Checks
 pub mod Rows
-pub mod Denying
+pub mod Roles
+pub mod RoleRows
+pub mod CheckRows
+pub mod AllRoles
 pub mod Parts
-pub mod Larger
-pub mod Stacks
-pub mod Steps
 pub mod Unwoven
-pub mod Places
-pub mod Blocks
 pub mod Aiming
+pub mod Covering
+pub mod Plans
 pub mod Body
+pub mod Rules
+pub mod Standing
 pub mod Passing
-pub mod Woven
-pub mod Client
-pub mod Denied
-pub mod Whole
-pub mod Longer
-pub mod Programs
-mod Policies
-mod Linked
-mod Told
-mod Origins
-mod Noted
-mod Rules
-mod Standing
-mod Shape
-mod Accepted
+pub mod WholeMethods
+pub mod StateClass
+pub mod Shape
+pub mod Accepted
+pub mod Small
+pub mod Alike
+pub mod Framed

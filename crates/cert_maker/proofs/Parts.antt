@@ -1,99 +1,23 @@
 -- Where the parts of a woven method stand: the block of an instruction, or the instruction alone.
-use Rattle.std.proofs.Common.{◌≡◌, ℕ, zero, suc, ◌+◌, ◌-◌, ◌<◌, ◌≤◌, List, [], ◌∷◌, ◌++◌, length, map, replicate, Option, Some, None, refl, sym, ap, ◌∙◌, inl, inr, arith, length-append}
-use Rattle.std.specs.Prelude.{nat_lt, slice_get, slice_index, option_map}
-use Rattle.std.specs.List.{range_with_len}
+use Rattle.std.proofs.Common.{◌≡◌, ℕ, zero, suc, ◌+◌, ◌-◌, ◌<◌, ◌≤◌, List, [], ◌∷◌, length, map, refl, ap, ◌∙◌, inl, inr, arith, length-append}
+use Rattle.std.specs.List.{flat_map}
+use Rattle.std.specs.Prelude.{Some, nat_lt, slice_get, slice_index, option_map}
 use Rattle.std.proofs.lemmas.List.{length-map}
 use Rattle.std.proofs.lemmas.Bool.{cases_Bool, ltb-true}
 use Rattle.std.proofs.lemmas.Bool.Decides.{nat_tests}
-use Rattle.std.proofs.lemmas.List.FromFn.{length-map-range_with_len}
-use Rattle.std.proofs.lemmas.Option.{slice_get-map}
+use Rattle.std.proofs.lemmas.Option.{slice_get-map, slice_get_within}
 use Rattle.class_codec.specs.declared.tree.Const.{Const}
-use Rattle.cert_format.specs.declared.typing.FrameType.{FrameType}
 use Rattle.insn_codec.specs.declared.insn.Insn.{Insn}
 use Rattle.bytecode_model.specs.declared.program.Target.{Target}
-use Rattle.conspec_tree.specs.declared.types.Kind.{Kind}
-use Rattle.conspec_automaton.specs.declared.policy.Policy.{Policy}
-use Rattle.bytecode_model.specs.Rules.{Frames}
 use Rattle.offset_patch.specs.declared.block.BlockInsn.{BlockInsn}
-use Rattle.offset_patch.specs.declared.block.BlockInsn.TheVariants.{Call}
-use Rattle.offset_patch.specs.Splicing.{part_of, fronts_from, put, parts_from}
-use Rattle.block_template.specs.Denial.{denial, loaded, locked, saved, stopped, unlocked}
-use Rattle.block_template.specs.Pushing.{store}
+use Rattle.offset_patch.specs.Plan.{Plan}
+use Rattle.offset_patch.specs.Splicing.{fronts_from, part_of, parts_from, put}
 use Rattle.class_weaving.specs.Outcome.{part_named, parts_named}
-use Rattle.cert_maker.specs.Framing.{arguments_of, without, stopping, block_framed, part_framed, parts_framed}
-use Rattle.cert_maker.proofs.Denying.{site, site_told}
+use Rattle.cert_maker.proofs.Lists.{get_left, get_right}
 
--- ---- lists
-
-pub get_left : {A : Type 0} (xs ys : List A) (k : ℕ) → k < length xs → slice_get (xs ++ ys) k ≡ slice_get xs k
-get_left [] ys k lt = absurd (omega arith)
-get_left (x ∷ xs) ys zero lt = refl
-get_left (x ∷ xs) ys (suc k) lt = get_left xs ys k (omega arith)
-
-pub get_right : {A : Type 0} (xs ys : List A) (k : ℕ) → slice_get (xs ++ ys) (length xs + k) ≡ slice_get ys k
-get_right [] ys k =
-    let e : 0 + k ≡ k = omega arith in
-    rw e refl
-get_right (x ∷ xs) ys k =
-    let e : length (x ∷ xs) + k ≡ suc (length xs + k) = omega arith in
-    rw e (get_right xs ys k)
-
-pub some_is : {A : Type 0} (x y : A) → ◌≡◌ {A = Option A} (Some x) (Some y) → x ≡ y
-some_is x y e = cc
-
--- ---- blocks
-
-pub saved_length : (base : ℕ) (kinds : List Kind) → length (saved base kinds) ≡ length kinds
-saved_length base [] = refl
-saved_length base (kind ∷ kinds) = omega (arith, length-append (saved (base + 1) kinds) (store kind base ∷ []), saved_length (base + 1) kinds)
-
-loaded_length : (base : ℕ) (kinds : List Kind) → length (loaded base kinds) ≡ length kinds
-loaded_length base [] = refl
-loaded_length base (kind ∷ kinds) = omega (arith, loaded_length (base + 1) kinds)
-
-pub denial_length : (base : ℕ) (kinds : List Kind) → length (denial base kinds).insns ≡ length kinds + length kinds + 9
-denial_length base kinds =
-    let tail : List BlockInsn = loaded base kinds ++ Call ∷ [] in
-    let a : length tail ≡ length kinds + 1 = omega (arith, length-append (loaded base kinds) (Call ∷ []), loaded_length base kinds) in
-    omega (arith, a, length-append (saved base kinds) (locked ++ (stopped ++ (unlocked ++ tail))), saved_length base kinds)
-
-framed_length : (n : ℕ) (frame : FrameType) → length (block_framed n frame) ≡ n + n + 9
-framed_length n frame =
-    let front : Frames = map (λ k. Some (without k frame)) (range_with_len 0 n) in
-    omega (arith, length-append front (stopping (without n frame) ++ replicate (n + 3) None), length-map-range_with_len (λ k. Some (without k frame)) 0 n, filled (n + 3))
-  where
-    filled : (m : ℕ) → length (replicate {A = Option FrameType} m None) ≡ m
-    filled zero = refl
-    filled (suc m) = ap suc (filled m)
-
-module _ (policy : Policy) (base : ℕ) where
+module _ (plan : Plan) (base : ℕ) where
   abbrev pub part : Target → List BlockInsn
-  part ref = part_of (site policy base ref)
-
-  pub part_alone : (ref : Target) → arguments_of policy ref ≡ None → part ref ≡ Call ∷ []
-  part_alone ref e = ap part_of (site_told policy base ref ∙ ap (option_map (denial base)) e)
-
-  pub part_denied : (ref : Target) (args : List Kind) → arguments_of policy ref ≡ Some args → part ref ≡ (denial base args).insns
-  part_denied ref args e = ap part_of (site_told policy base ref ∙ ap (option_map (denial base)) e)
-
-  pub framed_as_long : (ref : Target) (frame : Option FrameType) → length (part_framed (arguments_of policy ref) frame) ≡ length (part ref)
-  framed_as_long ref frame = by (arguments_of policy ref) refl frame
-    where
-      filled : (m : ℕ) → length (replicate {A = Option FrameType} m None) ≡ m
-      filled zero = refl
-      filled (suc m) = ap suc (filled m)
-
-      by : (o : Option (List Kind)) → arguments_of policy ref ≡ o → (frame : Option FrameType) → length (part_framed o frame) ≡ length (part ref)
-      by None e frame = sym (ap length (part_alone ref e))
-      by (Some args) e None = filled (length args + length args + 9) ∙ sym (denial_length base args) ∙ sym (ap length (part_denied ref args e))
-      by (Some args) e (Some f) = framed_length (length args) f ∙ sym (denial_length base args) ∙ sym (ap length (part_denied ref args e))
-
-  pub part_some : (ref : Target) → 0 < length (part ref)
-  part_some ref = by (arguments_of policy ref) refl
-    where
-      by : (o : Option (List Kind)) → arguments_of policy ref ≡ o → 0 < length (part ref)
-      by None e = omega (arith, ap length (part_alone ref e))
-      by (Some args) e = omega (arith, ap length (part_denied ref args e), denial_length base args)
+  part ref = part_of (plan.block base ref)
 
   -- ---- how many instructions stand before a part
 
@@ -106,7 +30,7 @@ module _ (policy : Policy) (base : ℕ) where
   total [] = 0
   total (ref ∷ refs) = length (part ref) + total refs
 
-  pub front_is : (refs : List Target) (at i : ℕ) → i ≤ length refs → slice_index (fronts_from at (map (site policy base) refs)) i ≡ at + before refs i
+  pub front_is : (refs : List Target) (at i : ℕ) → i ≤ length refs → slice_index (fronts_from at (map (plan.block base) refs)) i ≡ at + before refs i
   front_is [] at zero le = omega arith
   front_is [] at (suc i) le = absurd (omega arith)
   front_is (ref ∷ refs) at zero le = omega arith
@@ -123,13 +47,49 @@ module _ (policy : Policy) (base : ℕ) where
       rw same (omega arith)
   before_next (r ∷ refs) (suc i) ref e = omega (arith, before_next refs i ref e)
 
-  -- Parts that come later stand behind.
-  pub before_grows : (refs : List Target) (i j : ℕ) → i < j → j ≤ length refs → before refs i < before refs j
-  before_grows [] i j lt le = absurd (omega arith)
-  before_grows (ref ∷ refs) zero zero lt le = absurd (omega arith)
-  before_grows (ref ∷ refs) zero (suc j) lt le = omega (arith, part_some ref)
-  before_grows (ref ∷ refs) (suc i) zero lt le = absurd (omega arith)
-  before_grows (ref ∷ refs) (suc i) (suc j) lt le = omega (arith, before_grows refs i j (omega arith) (omega arith))
+  -- ---- each part has an instruction
+
+  module _ (some : (ref : Target) → 0 < length (part ref)) where
+    -- Parts that come later stand behind.
+    pub before_grows : (refs : List Target) (i j : ℕ) → i < j → j ≤ length refs → before refs i < before refs j
+    before_grows [] i j lt le = absurd (omega arith)
+    before_grows (ref ∷ refs) zero zero lt le = absurd (omega arith)
+    before_grows (ref ∷ refs) zero (suc j) lt le = omega (arith, some ref)
+    before_grows (ref ∷ refs) (suc i) zero lt le = absurd (omega arith)
+    before_grows (ref ∷ refs) (suc i) (suc j) lt le = omega (arith, before_grows refs i j (omega arith) (omega arith))
+
+    pub least : (refs : List Target) (i : ℕ) → i ≤ length refs → i ≤ before refs i
+    least [] zero le = omega arith
+    least [] (suc i) le = absurd (omega arith)
+    least (r ∷ refs) zero le = omega arith
+    least (r ∷ refs) (suc i) le = omega (arith, least refs i (omega (arith, le)), some r)
+
+    -- What stands behind a part is behind each earlier part.
+    pub before_reaches : (refs : List Target) (i j : ℕ) (ref : Target) → slice_get refs i ≡ Some ref → i < j → j ≤ length refs
+        → before refs i + length (part ref) ≤ before refs j
+    before_reaches refs i j ref e lt le =
+        let next = before_next refs i ref e in
+        elim (cases_Bool (nat_lt (suc i) j)) [
+          | inl is ↦ omega (arith, next, before_grows refs (suc i) j (ltb-true _ _ is) le)
+          | inr fails ↦
+              let same : suc i ≡ j = grind (arith, nat_tests) in
+              rw (← same) (omega (arith, next))
+        ]
+
+    -- An instruction stands in one part, at one place.
+    pub once : (refs : List Target) (i j k l : ℕ) (r s : Target) → slice_get refs i ≡ Some r → slice_get refs j ≡ Some s
+        → k < length (part r) → l < length (part s) → before refs i + k ≡ before refs j + l → i ≡ j
+    once refs i j k l r s e f lt less same =
+        let few_i : i < length refs = slice_get_within refs i r e in
+        let few_j : j < length refs = slice_get_within refs j s f in
+        elim (cases_Bool (nat_lt i j)) [
+          | inl is ↦ absurd (omega (arith, same, lt, before_reaches refs i j r e (ltb-true _ _ is) (omega (arith, few_j))))
+          | inr fails ↦
+              elim (cases_Bool (nat_lt j i)) [
+                | inl is ↦ absurd (omega (arith, same, less, before_reaches refs j i s f (ltb-true _ _ is) (omega (arith, few_i))))
+                | inr none ↦ grind (arith, nat_tests)
+              ]
+        ]
 
   -- ---- which part an instruction is of
 
@@ -149,31 +109,38 @@ module _ (policy : Policy) (base : ℕ) where
         | inr fails ↦
             let past : length (part ref) ≤ at = grind (arith, nat_tests) in
             let later = locate refs (at - length (part ref)) (omega (arith, past, lt)) in
-            record { own = suc later.own; place = later.place; ref = later.ref; there = later.there; within = later.within; is = omega (arith, past, later.is) }
+            record {
+              own = suc later.own;
+              place = later.place;
+              ref = later.ref;
+              there = later.there;
+              within = later.within;
+              is = omega (arith, past, later.is);
+            }
       ]
 
   -- ---- what stands there
 
-  shifted : (a b c : ℕ) → (a + b) + c ≡ a + (b + c)
-  shifted a b c = omega arith
-
   pub named_at : (state : ℕ) (refs : List Target) (i k : ℕ) (ref : Target) → slice_get refs i ≡ Some ref → k < length (part ref)
-      → slice_get (parts_named state refs (map (site policy base) refs)) (before refs i + k) ≡ option_map (part_named state ref) (slice_get (part ref) k)
+      → slice_get (parts_named state refs (map (plan.block base) refs)) (before refs i + k) ≡ option_map (part_named state ref) (slice_get (part ref) k)
   named_at state [] i k ref e lt = absurd cc
   named_at state (r ∷ refs) zero k ref e lt =
       let same : r ≡ ref = cc in
       let at : 0 + k ≡ k = omega arith in
-      rw (same, at) (get_left (map (part_named state ref) (part ref)) (parts_named state refs (map (site policy base) refs)) k (omega (arith, lt, length-map (part ref) (part_named state ref)))
+      rw (same, at)
+      (get_left (map (part_named state ref) (part ref)) (parts_named state refs (map (plan.block base) refs)) k
+      (omega (arith, lt, length-map (part ref) (part_named state ref)))
       ∙ slice_get-map (part_named state ref) (part ref) k)
   named_at state (r ∷ refs) (suc i) k ref e lt =
       let here : List Target = map (part_named state r) (part r) in
       let len : length here ≡ length (part r) = length-map (part r) (part_named state r) in
       let at : before (r ∷ refs) (suc i) + k ≡ length here + (before refs i + k) = omega (arith, len) in
-      rw at (get_right here (parts_named state refs (map (site policy base) refs)) (before refs i + k) ∙ named_at state refs i k ref e lt)
+      rw at (get_right here (parts_named state refs (map (plan.block base) refs)) (before refs i + k) ∙ named_at state refs i k ref e lt)
 
   pub insn_at : (pool : List Const) (fronts : List ℕ) (begin : ℕ) (own : List Insn) (refs : List Target) (i k : ℕ) (insn : Insn) (ref : Target)
       → slice_get own i ≡ Some insn → slice_get refs i ≡ Some ref → k < length (part ref)
-      → slice_get (parts_from pool fronts begin own (map (site policy base) refs)) (before refs i + k) ≡ option_map (put pool fronts (begin + before refs i) insn) (slice_get (part ref) k)
+      → slice_get (parts_from pool fronts begin own (map (plan.block base) refs)) (before refs i + k)
+      ≡ option_map (put pool fronts (begin + before refs i) insn) (slice_get (part ref) k)
   insn_at pool fronts begin [] refs i k insn ref e f lt = absurd cc
   insn_at pool fronts begin (x ∷ own) [] i k insn ref e f lt = absurd cc
   insn_at pool fronts begin (x ∷ own) (r ∷ refs) zero k insn ref e f lt =
@@ -182,7 +149,8 @@ module _ (policy : Policy) (base : ℕ) where
       let none : begin + 0 ≡ begin = omega arith in
       let at : 0 + k ≡ k = omega arith in
       rw (same, this, none, at)
-      (get_left (map (put pool fronts begin insn) (part ref)) (parts_from pool fronts (begin + length (part ref)) own (map (site policy base) refs)) k
+      (get_left (map (put pool fronts begin insn) (part ref))
+      (parts_from pool fronts (begin + length (part ref)) own (map (plan.block base) refs)) k
       (omega (arith, lt, length-map (part ref) (put pool fronts begin insn)))
       ∙ slice_get-map (put pool fronts begin insn) (part ref) k)
   insn_at pool fronts begin (x ∷ own) (r ∷ refs) (suc i) k insn ref e f lt =
@@ -191,26 +159,11 @@ module _ (policy : Policy) (base : ℕ) where
       let at : before (r ∷ refs) (suc i) + k ≡ length here + (before refs i + k) = omega (arith, len) in
       let from : begin + before (r ∷ refs) (suc i) ≡ (begin + length (part r)) + before refs i = omega arith in
       rw (at, from)
-      (get_right here (parts_from pool fronts (begin + length (part r)) own (map (site policy base) refs)) (before refs i + k)
+      (get_right here (parts_from pool fronts (begin + length (part r)) own (map (plan.block base) refs)) (before refs i + k)
       ∙ insn_at pool fronts (begin + length (part r)) own refs i k insn ref e f lt)
 
-  pub frame_at : (refs : List Target) (frames : Frames) (i k : ℕ) (ref : Target) (frame : Option FrameType) → slice_get refs i ≡ Some ref → slice_get frames i ≡ Some frame
-      → k < length (part ref) → slice_get (parts_framed policy refs frames) (before refs i + k) ≡ slice_get (part_framed (arguments_of policy ref) frame) k
-  frame_at [] frames i k ref frame e f lt = absurd cc
-  frame_at (r ∷ refs) [] i k ref frame e f lt = absurd cc
-  frame_at (r ∷ refs) (x ∷ frames) zero k ref frame e f lt =
-      let same : r ≡ ref = cc in
-      let this : x ≡ frame = cc in
-      let at : 0 + k ≡ k = omega arith in
-      rw (same, this, at) (get_left (part_framed (arguments_of policy ref) frame) (parts_framed policy refs frames) k (omega (arith, lt, framed_as_long ref frame)))
-  frame_at (r ∷ refs) (x ∷ frames) (suc i) k ref frame e f lt =
-      let here : Frames = part_framed (arguments_of policy r) x in
-      let len : length here ≡ length (part r) = framed_as_long r x in
-      let at : before (r ∷ refs) (suc i) + k ≡ length here + (before refs i + k) = omega (arith, len) in
-      rw at (get_right here (parts_framed policy refs frames) (before refs i + k) ∙ frame_at refs frames i k ref frame e f lt)
-
   pub insns_many : (pool : List Const) (fronts : List ℕ) (begin : ℕ) (own : List Insn) (refs : List Target) → length own ≡ length refs
-      → length (parts_from pool fronts begin own (map (site policy base) refs)) ≡ total refs
+      → length (parts_from pool fronts begin own (map (plan.block base) refs)) ≡ total refs
   insns_many pool fronts begin [] [] e = refl
   insns_many pool fronts begin [] (r ∷ refs) e = absurd (omega arith)
   insns_many pool fronts begin (x ∷ own) [] e = absurd (omega arith)
@@ -218,7 +171,25 @@ module _ (policy : Policy) (base : ℕ) where
       let here : List Insn = map (put pool fronts begin x) (part r) in
       omega (
         arith,
-        length-append here (parts_from pool fronts (begin + length (part r)) own (map (site policy base) refs)),
+        length-append here (parts_from pool fronts (begin + length (part r)) own (map (plan.block base) refs)),
         length-map (part r) (put pool fronts begin x),
         insns_many pool fronts (begin + length (part r)) own refs (omega arith),
       )
+
+  -- what is told of each part, and is as long as the part
+  pub told_at : {X : Type 0} (told : Target → List X) → ((ref : Target) → length (told ref) ≡ length (part ref)) → (refs : List Target) (i k : ℕ)
+      (ref : Target) → slice_get refs i ≡ Some ref → k < length (part ref)
+      → slice_get (flat_map told refs) (before refs i + k) ≡ slice_get (told ref) k
+  told_at told long [] i k ref e lt = absurd cc
+  told_at told long (r ∷ refs) zero k ref e lt =
+      let same : r ≡ ref = cc in
+      let at : 0 + k ≡ k = omega arith in
+      rw (same, at) (get_left (told ref) (flat_map told refs) k (omega (arith, lt, long ref)))
+  told_at told long (r ∷ refs) (suc i) k ref e lt =
+      let at : before (r ∷ refs) (suc i) + k ≡ length (told r) + (before refs i + k) = omega (arith, long r) in
+      rw at (get_right (told r) (flat_map told refs) (before refs i + k) ∙ told_at told long refs i k ref e lt)
+
+  pub told_many : {X : Type 0} (told : Target → List X) → ((ref : Target) → length (told ref) ≡ length (part ref)) → (refs : List Target)
+      → length (flat_map told refs) ≡ total refs
+  told_many told long [] = refl
+  told_many told long (ref ∷ refs) = omega (arith, length-append (told ref) (flat_map told refs), long ref, told_many told long refs)

@@ -1,107 +1,153 @@
--- The rules of the notes, at each kind of place.
-use Rattle.std.proofs.Common.{◌≡◌, ℕ, ◌+◌, ◌<◌, Bool, true, false, not, List, [], ◌∷◌, Option, Some, None, refl, ap, ◌∙◌, arith}
-use Rattle.std.specs.Prelude.{◌==◌, ◌&&◌, ◌||◌, slice_get}
-use Rattle.std.specs.List.{AllByRecursion}
+-- Where an instruction has a row, and what comes next meets it, no rule of the notes fails there.
+use Rattle.std.proofs.Common.{◌≡◌, ℕ, ◌+◌, Bool, true, false, cond, List, [], ◌∷◌, Option, Some, None, refl, ap, ◌∙◌}
+use Rattle.std.specs.Prelude.{◌==◌, ◌&&◌, ◌||◌, is_some, not, slice_get}
+use Rattle.std.specs.List.{AllByRecursion, list_all}
 use Rattle.std.specs.Option.{option_map_or}
-use Rattle.std.proofs.lemmas.Bool.{and_from, eq-eqb, ne_eqb}
+use Rattle.std.proofs.lemmas.Bool.{and_from, and_parts}
 use Rattle.insn_codec.specs.declared.insn.Insn.{Insn}
-use Rattle.insn_codec.specs.Control.{successors}
+use Rattle.insn_codec.specs.Control.{jump_targets}
+use Rattle.insn_codec.specs.Opcodes.{goes_on}
+use Rattle.insn_codec.specs.Spelling.{opcode_of}
 use Rattle.insn_codec.specs.Shapes.{shape_of}
-use Rattle.bytecode_model.specs.declared.program.LinkedClass.{LinkedClass}
+use Rattle.bytecode_model.specs.declared.program.Handler.{Handler}
 use Rattle.bytecode_model.specs.declared.program.Method.{Method}
 use Rattle.bytecode_model.specs.declared.program.Target.{Target}
+use Rattle.bytecode_model.specs.Rules.{covers}
 use Rattle.cert_format.specs.declared.note.Note.{Note}
-use Rattle.cert_format.specs.declared.note.Note.TheVariants.{Free, Taking, Stop}
-use Rattle.cert_format.specs.declared.note.Phase8.TheVariants.{Before}
-use Rattle.cert_format.specs.declared.note.Site.{Site}
-use Rattle.conspec_automaton.specs.declared.policy.Policy.{Policy}
-use Rattle.conspec_automaton.specs.Next.{has_clauses}
-use Rattle.block_logic.specs.declared.wanted.Wanted.{Wanted}
-use Rattle.block_logic.specs.declared.wanted.Wanted.TheVariants as wanted
-use Rattle.block_logic.specs.Notes.{Here, next_meet, handlers_meet, free_fault, takes_for_denied, taking_fault, is_on_way, stop_fault, row_fault, note_fault}
-use Rattle.block_logic.specs.Operands.{calls, enters, leaves, writes_static, pushes_state, is_variable, has_clause, is_way_out}
-use Rattle.block_logic.specs.Wanted.{same_site, is_stop_at, meets, denies_site, all_meet, handlers_of}
+use Rattle.block_logic.specs.Notes.{
+  Here,
+  all_pass,
+  calls_well,
+  catches_well,
+  first_broken,
+  is_free,
+  is_held,
+  rules_at,
+  handlers_of,
+  handlers_pass,
+  is_stop,
+  leaves_alone,
+  meets,
+  next_pass,
+  note_fault,
+  note_passes,
+  row_fault,
+  stops_well,
+}
+use Rattle.block_logic.specs.Operands.{enters, leaves, writes_static}
+use Rattle.block_logic.specs.Rows as rows
+use Rattle.block_logic.specs.Rows.{Asked, Row, Rules}
+use Rattle.block_logic.specs.Standing.{is_open}
 
--- ---- the notes that come next
+-- ---- lists
 
-module _ (policy : Policy) (told : List Note) where
-  abbrev pub IsFreeAt : ℕ → Type 0
-  IsFreeAt at = slice_get told at ≡ Some Free
+pub all_hold : {X : Type 0} (p : X → Bool) (xs : List X) → AllByRecursion (λ (x : X). p x ≡ true) xs → list_all p xs ≡ true
+all_hold p [] all = refl
+all_hold p (x ∷ xs) all = and_from (p x) (list_all p xs) all.0 (all_hold p xs all.1)
 
-  -- Where each is Free, none is a place of a way out.
-  pub all_free : (places : List ℕ) → AllByRecursion IsFreeAt places → all_meet policy wanted.Free told places ≡ true
-  all_free [] free = refl
-  all_free (at ∷ places) free = rw (free.0) (all_free places free.1)
+weaker_all : {X : Type 0} (p q : X → Bool) → ((x : X) → p x ≡ true → q x ≡ true) → (xs : List X) → list_all p xs ≡ true → list_all q xs ≡ true
+weaker_all p q weaker [] e = refl
+weaker_all p q weaker (x ∷ xs) e =
+    let both = and_parts (p x) (list_all p xs) e in
+    and_from (q x) (list_all q xs) (weaker x both.0) (weaker_all p q weaker xs both.1)
 
-  pub no_stops : (places : List ℕ) → AllByRecursion IsFreeAt places → all_meet policy wanted.NoStop told places ≡ true
-  no_stops [] free = refl
-  no_stops (at ∷ places) free = rw (free.0) (no_stops places free.1)
+pub or_last : (x y : Bool) → y ≡ true → (x || y) ≡ true
+or_last true y e = refl
+or_last false y e = e
 
-  -- what is wanted of the one instruction that comes next
-  pub one_meets : (wants : Wanted) (places : List ℕ) (at : ℕ) (note : Note) → places ≡ at ∷ [] → slice_get told at ≡ Some note → meets policy wants note ≡ true → all_meet policy wants told places ≡ true
-  one_meets wants places at note is there fits =
-      ap (all_meet policy wants told) is ∙ ap (λ (o : Option Note). option_map_or (meets policy wants) o false && true) there ∙ ap (λ (b : Bool). b && true) fits
+or_weaker : (x y z : Bool) → (y ≡ true → z ≡ true) → (x || y) ≡ true → (x || z) ≡ true
+or_weaker true y z f e = refl
+or_weaker false y z f e = f e
 
-  pub none_meet : (wants : Wanted) (places : List ℕ) → places ≡ [] → all_meet policy wants told places ≡ true
-  none_meet wants places is = ap (all_meet policy wants told) is
+-- the handlers that may take what is thrown at an instruction, where each that covers it passes
+pub caught_all : (p : ℕ → Bool) (at : ℕ) (handlers : List Handler) → AllByRecursion (λ (h : Handler). covers at h ≡ true → p h.at ≡ true) handlers
+    → list_all p (handlers_of at handlers) ≡ true
+caught_all p at [] all = refl
+caught_all p at (h ∷ handlers) all = by (covers at h) refl (is_some h.class) (caught_all p at handlers all.1)
+  where
+    by : (b : Bool) → covers at h ≡ b → (c : Bool) → list_all p (handlers_of at handlers) ≡ true
+        → list_all p (cond b (h.at ∷ cond c (handlers_of at handlers) []) (handlers_of at handlers)) ≡ true
+    by true e true later = and_from (p h.at) (list_all p (handlers_of at handlers)) (all.0 e) later
+    by true e false later = and_from (p h.at) true (all.0 e) refl
+    by false e c later = later
 
--- ---- the notes of a block
+-- No rule is broken where each holds.
+eight : (a b c d e f g h : Bool) → a ≡ true → b ≡ true → c ≡ true → d ≡ true → e ≡ true → f ≡ true → g ≡ true → h ≡ true
+    → first_broken ((1, a) ∷ (2, b) ∷ (3, c) ∷ (4, d) ∷ (5, e) ∷ (6, f) ∷ (7, g) ∷ (8, h) ∷ []) ≡ None
+eight a b c d e f g h p q r s t u v w = rw (p, q, r, s, t, u, v, w) refl
 
-same_itself : (method base : ℕ) → same_site (record { method = method; phase = Before; base = base }) (record { method = method; phase = Before; base = base }) ≡ true
-same_itself method base = rw (eq-eqb method method refl, eq-eqb base base refl) refl
+-- ---- what is asked of a way out is asked at all
 
-module _ (classes : List LinkedClass) (policy : Policy) (told : List Note) (method : Method) (here : Here) where
-  -- An instruction that is not of a block, or stores an argument.
-  pub client_passes : pushes_state (shape_of here.insn) here.ref ≡ false → is_variable classes here.ref ≡ false → (calls (shape_of here.insn) && has_clause policy here.ref) ≡ false
-      → AllByRecursion (IsFreeAt policy told) (successors here.at here.insn) → AllByRecursion (IsFreeAt policy told) (handlers_of here.at method.handlers)
-      → free_fault classes policy told method here ≡ None
-  client_passes pushes names calls next caught =
-      let a : next_meet policy wanted.NoStop told here ≡ true = no_stops policy told (successors here.at here.insn) next in
-      let b : handlers_meet policy wanted.NoStop told method here ≡ true = no_stops policy told (handlers_of here.at method.handlers) caught in
-      let c : next_meet policy wanted.Free told here ≡ true = all_free policy told (successors here.at here.insn) next in
-      let d : handlers_meet policy wanted.Free told method here ≡ true = all_free policy told (handlers_of here.at method.handlers) caught in
-      rw (pushes, names, calls, a, b, c, d) refl
+module _ (told : List Note) (method : Method) (here : Here) where
+  module _ (p q : Asked → Note → Bool) (weaker : (wants : Asked) (note : Note) → p wants note ≡ true → q wants note ≡ true) where
+    place_weaker : (wants : Asked) (at : ℕ) → note_passes p told wants at ≡ true → note_passes q told wants at ≡ true
+    place_weaker wants at = by (slice_get told at)
+      where
+        by : (o : Option Note) → option_map_or (p wants) o false ≡ true → option_map_or (q wants) o false ≡ true
+        by None e = absurd cc
+        by (Some note) e = weaker wants note e
 
-  module _ (site base : ℕ) (denied : has_clauses policy site ≡ true) where
-    abbrev of_site : Site
-    of_site = record { method = site; phase = Before; base = base }
+    handlers_weaker : (o : Option Asked)
+        → option_map_or (λ (wants : Asked). list_all (note_passes p told wants) (handlers_of here.at method.handlers)) o true ≡ true
+        → option_map_or (λ (wants : Asked). list_all (note_passes q told wants) (handlers_of here.at method.handlers)) o true ≡ true
+    handlers_weaker None e = refl
+    handlers_weaker (Some wants) e =
+        weaker_all (note_passes p told wants) (note_passes q told wants) (place_weaker wants) (handlers_of here.at method.handlers) e
 
-    -- The class of the lock is pushed.
-    pub lock_passes : pushes_state (shape_of here.insn) here.ref ≡ true → successors here.at here.insn ≡ (here.at + 1) ∷ [] → slice_get told (here.at + 1) ≡ Some (Taking of_site)
-        → free_fault classes policy told method here ≡ None
-    lock_passes pushes next there =
-        let a : next_meet policy wanted.Taking told here ≡ true = one_meets policy told wanted.Taking (successors here.at here.insn) (here.at + 1) (Taking of_site) next there refl in
-        let b : next_meet policy wanted.TakingForCall told here ≡ true = one_meets policy told wanted.TakingForCall (successors here.at here.insn) (here.at + 1) (Taking of_site) next there denied in
-        rw (pushes, a, b) refl
+    pass_weaker : (row : Row) → all_pass p told (Some row) method here ≡ true → all_pass q told (Some row) method here ≡ true
+    pass_weaker row e =
+        let both = and_parts (next_pass p told (Some row) here) (handlers_pass p told (Some row) method here) e in
+        let goes : Bool = not (goes_on (opcode_of here.insn)) in
+        let next = and_parts (goes || note_passes p told row.past (here.at + 1)) (list_all (note_passes p told row.jump) (jump_targets here.insn)) both.0 in
+        and_from (next_pass q told (Some row) here) (handlers_pass q told (Some row) method here)
+        (and_from (goes || note_passes q told row.past (here.at + 1)) (list_all (note_passes q told row.jump) (jump_targets here.insn))
+        (or_weaker goes (note_passes p told row.past (here.at + 1)) (note_passes q told row.past (here.at + 1)) (place_weaker row.past (here.at + 1)) next.0)
+        (weaker_all (note_passes p told row.jump) (note_passes q told row.jump) (place_weaker row.jump) (jump_targets here.insn) next.1))
+        (handlers_weaker row.thrown both.1)
 
-    -- The lock is taken.
-    pub taking_passes : calls (shape_of here.insn) ≡ false → leaves (shape_of here.insn) ≡ false → writes_static (shape_of here.insn) ≡ false → enters (shape_of here.insn) ≡ true → 0 < here.at
-        → successors here.at here.insn ≡ (here.at + 1) ∷ [] → slice_get told (here.at + 1) ≡ Some (Stop of_site 0) → taking_fault policy told of_site here ≡ None
-    taking_passes call leave write enter behind next there =
-        let itself : is_stop_at of_site 0 (Stop of_site 0) ≡ true = rw (same_itself site base) refl in
-        let takes : takes_for_denied policy of_site here ≡ true = and_from (enters (shape_of here.insn)) (denies_site policy of_site) enter denied in
-        let a : next_meet policy (wanted.NoOtherStop of_site 0) told here ≡ true =
-        one_meets policy told (wanted.NoOtherStop of_site 0) (successors here.at here.insn) (here.at + 1) (Stop of_site 0) next there itself in
-        let b : next_meet policy (wanted.Stop of_site 0) told here ≡ true =
-        one_meets policy told (wanted.Stop of_site 0) (successors here.at here.insn) (here.at + 1) (Stop of_site 0) next there itself in
-        let later : (here.at == 0) ≡ false = ne_eqb here.at 0 (λ e. absurd (omega (arith, e, behind))) in
-        rw (call, leave, write, takes, a, b, later) refl
+  -- ---- the rules
 
-    -- A place of the way out: what is asked of its instruction, and that the next place comes next.
-    pub stop_passes : (place : ℕ) → (not (calls (shape_of here.insn)) || is_way_out here.ref) ≡ true → enters (shape_of here.insn) ≡ false → leaves (shape_of here.insn) ≡ false
-        → writes_static (shape_of here.insn) ≡ false → is_on_way place (shape_of here.insn) here.ref ≡ true → 0 < here.at
-        → next_meet policy (wanted.Stop of_site (place + 1)) told here ≡ true → stop_fault policy told of_site place here ≡ None
-    stop_passes place call enter leave write on behind next =
-        let later : (here.at == 0) ≡ false = ne_eqb here.at 0 (λ e. absurd (omega (arith, e, behind))) in
-        rw (call, enter, leave, write, on, later, next) refl
+  module _ (rules : Rules) (note : Note) where
+    -- What is known where no rule fails.
+    pub record Holds : Type 0 where
+      pub row : Row
+      pub is : rows.row rules note (shape_of here.insn) here.ref ≡ Some row
+      pub alone : leaves_alone rules told note here ≡ true
+      pub called : calls_well rules note here ≡ true
+      pub caught : catches_well rules told method note here ≡ true
+      pub pass : all_pass (meets rules) told (Some row) method here ≡ true
+      pub first : (here.at == 0) ≡ true → is_open rules.mode rules.policy note ≡ true
 
-    pub next_stops : (place : ℕ) → successors here.at here.insn ≡ (here.at + 1) ∷ [] → slice_get told (here.at + 1) ≡ Some (Stop of_site place) → next_meet policy (wanted.Stop of_site place) told here ≡ true
-    next_stops place next there =
-        let itself : is_stop_at of_site place (Stop of_site place) ≡ true = rw (same_itself site base, eq-eqb place place refl) refl in
-        one_meets policy told (wanted.Stop of_site place) (successors here.at here.insn) (here.at + 1) (Stop of_site place) next there itself
+    begins : (b : Bool) → (b ≡ true → is_open rules.mode rules.policy note ≡ true) → (not b || is_open rules.mode rules.policy note) ≡ true
+    begins true f = f refl
+    begins false f = refl
 
--- What stands at an instruction tells which row is asked.
-pub row_at : (classes : List LinkedClass) (policy : Policy) (told : List Note) (method : Method) (at : ℕ) (insn : Insn) (ref : Target) (note : Note) → slice_get method.insns at ≡ Some insn
-    → slice_get method.refs at ≡ Some ref → slice_get told at ≡ Some note → row_fault classes policy told method (record { at = at; insn = insn; ref = ref }) note ≡ None
-    → note_fault classes policy told method at ≡ None
-row_at classes policy told method at insn ref note e f g row = rw (e, f, g) row
+    stops_or_goes : (b c : Bool) → c ≡ true → cond b true c ≡ true
+    stops_or_goes true c e = refl
+    stops_or_goes false c e = e
+
+    has_row : (x y : Bool) → (x || (y || true)) ≡ true
+    has_row true y = refl
+    has_row false true = refl
+    has_row false false = refl
+
+    pub no_fault : Holds → row_fault rules told method here note ≡ None
+    no_fault h =
+        let meet : Bool = all_pass (meets rules) told (Some h.row) method here in
+        let stops : all_pass (stops_well rules) told (Some h.row) method here ≡ true =
+        pass_weaker (meets rules) (stops_well rules) (λ wants n e. or_last _ _ e) h.row h.pass in
+        ap (λ (o : Option Row). first_broken (rules_at rules told method note here o)) h.is
+        ∙ eight (leaves_alone rules told note here) (calls_well rules note here) (catches_well rules told method note here)
+        (not (enters (shape_of here.insn) || leaves (shape_of here.insn)) || (is_free note || true))
+        (not (is_held note) || (writes_static (shape_of here.insn) || true))
+        (not (writes_static (shape_of here.insn)) || (is_free note || true))
+        (cond (is_stop note) true (all_pass (stops_well rules) told (Some h.row) method here))
+        (true && (meet && (not (here.at == 0) || is_open rules.mode rules.policy note)))
+        h.alone h.called h.caught (has_row _ _) (has_row _ _) (has_row _ _) (stops_or_goes (is_stop note) _ stops)
+        (and_from meet _ h.pass (begins (here.at == 0) h.first))
+
+-- What stands at an instruction tells which note is asked.
+pub fault_at : (rules : Rules) (told : List Note) (method : Method) (at : ℕ) (insn : Insn) (ref : Target) (note : Note) → slice_get method.insns at ≡ Some insn
+    → slice_get method.refs at ≡ Some ref → slice_get told at ≡ Some note
+    → row_fault rules told method (record { at = at; insn = insn; ref = ref }) note ≡ None → note_fault rules told method at ≡ None
+fault_at rules told method at insn ref note e f g row = rw (e, f, g) row

@@ -7,20 +7,19 @@ use Rattle.class_codec.specs.declared.tree.Const.{Const}
 use Rattle.bytecode_model.specs.declared.program.LinkedClass.{LinkedClass}
 use Rattle.bytecode_model.specs.declared.program.Method.{Method}
 use Rattle.bytecode_model.specs.declared.program.Target.{Target}
+use Rattle.bytecode_model.specs.Shape.{coded, has_code}
 use Rattle.bytecode_model.specs.Sound.{IsSoundClass, IsSoundMethod}
-use Rattle.cert_format.specs.declared.typing.FrameType.{FrameType}
-use Rattle.bytecode_model.specs.Shape.{has_code, coded}
 use Rattle.bytecode_model.specs.Typed.{list_at}
+use Rattle.cert_format.specs.declared.certificate.Mode.{Mode}
+use Rattle.cert_format.specs.declared.typing.FrameType.{FrameType}
+use Rattle.conspec_tree.specs.declared.types.Var.{Var}
 use Rattle.conspec_automaton.specs.declared.policy.Policy.{Policy}
-use Rattle.bytecode_model.specs.declared.origin.Origin.{Origin}
-use Rattle.class_weaving.specs.Outcome.{Each, IsWovenMethod, IsWovenClass, IsState}
-use Rattle.cert_maker.proofs.Body.{IsStanding, same_length, made_long}
-use Rattle.cert_maker.proofs.Denying.{denying}
-use Rattle.cert_maker.proofs.Parts.{total, part_some}
-use Rattle.cert_maker.specs.Noting.{method_notes, class_notes, notes_of}
-use Rattle.cert_maker.proofs.Noted.{notes_many}
-use Rattle.cert_maker.proofs.Origins.{origins_many}
-use Rattle.cert_maker.proofs.Told.{method_origins, methods_origins, classes_origins}
+use Rattle.block_template.specs.Blocks.{plan_of}
+use Rattle.class_weaving.specs.Outcome.{Each, IsState, IsWovenClass, IsWovenMethod}
+use Rattle.cert_maker.specs.Noting.{class_notes, method_notes, notes_of, parts_notes}
+use Rattle.cert_maker.proofs.Body.{Body, framed_many, made_long, same_length, told_many}
+use Rattle.cert_maker.proofs.Parts.{total}
+use Rattle.cert_maker.proofs.Plans.{some}
 
 abbrev Frames : Type 0
 Frames = List (Option FrameType)
@@ -34,56 +33,69 @@ class_sizes class = map size (coded class.methods)
 
 -- ---- a method
 
-module _ (policy : Policy) (pool : List Const) (method made : Method) (body : IsStanding policy pool method made) where
-  origins_as_long : length (method_origins policy method) ≡ length made.insns
-  origins_as_long = origins_many policy method.max_locals 0 method.refs ∙ sym (made_long policy pool method made body)
-
-  some_total : (refs : List Target) → nat_lt 0 (length refs) ≡ nat_lt 0 (total policy method.max_locals refs)
+module _ (b : Body) where
+  some_total : (refs : List Target) → nat_lt 0 (length refs) ≡ nat_lt 0 (total (plan_of b.policy b.mode) b.method.max_locals refs)
   some_total [] = refl
   some_total (ref ∷ refs) =
-      lt-ltb 0 (length (ref ∷ refs)) (omega arith) ∙ sym (lt-ltb 0 (total policy method.max_locals (ref ∷ refs)) (omega (arith, part_some policy method.max_locals ref)))
+      lt-ltb 0 (length (ref ∷ refs)) (omega arith)
+      ∙ sym (lt-ltb 0 (total (plan_of b.policy b.mode) b.method.max_locals (ref ∷ refs)) (omega (arith, some b.policy b.mode b.method.max_locals ref)))
 
   -- A woven method has code exactly where the method has.
-  pub code_stays : has_code method ≡ has_code made
-  code_stays =
-      ap (nat_lt 0) (sym (same_length policy pool method made body)) ∙ some_total method.refs ∙ ap (nat_lt 0) (sym (made_long policy pool method made body))
+  pub code_stays : has_code b.method ≡ has_code b.made
+  code_stays = ap (nat_lt 0) (sym (same_length b)) ∙ some_total b.method.refs ∙ ap (nat_lt 0) (sym (made_long b))
+
+  -- It has as many notes as instructions.
+  notes_many : (frames : Frames) → length frames ≡ size b.made → length (method_notes b.policy b.mode b.method frames) ≡ size b.made
+  notes_many frames e =
+      framed_many b (parts_notes b.policy b.mode b.method.max_locals b.method.refs) frames (told_many b ∙ sym e) ∙ told_many b
 
 -- ---- the methods of a class
 
-module _ (policy : Policy) (state : ℕ) (pool : List Const) where
-  methods_shaped : (olds news : List Method) → Each (IsWovenMethod (denying policy) state pool) olds news → AllByRecursion IsSoundMethod olds → (frames : List Frames) → map length frames ≡ map size (coded news)
-      → map length (class_notes policy olds (methods_origins policy olds) frames) ≡ map size (coded news)
+module _ (policy : Policy) (mode : Mode) (state : ℕ) (pool : List Const) where
+  body_of : (m x : Method) → IsWovenMethod (plan_of policy mode) state pool m x → IsSoundMethod m → Body
+  body_of m x of sound = record { policy = policy; mode = mode; state = state; pool = pool; method = m; made = x; of_method = of; sound = sound }
+
+  code_of : (m x : Method) → IsWovenMethod (plan_of policy mode) state pool m x → IsSoundMethod m → has_code m ≡ has_code x
+  unfolding body_of
+  code_of m x of sound = code_stays (body_of m x of sound)
+
+  many_of : (m x : Method) → IsWovenMethod (plan_of policy mode) state pool m x → IsSoundMethod m → (frames : Frames) → length frames ≡ size x
+      → length (method_notes policy mode m frames) ≡ size x
+  unfolding body_of
+  many_of m x of sound frames e = notes_many (body_of m x of sound) frames e
+
+  methods_shaped : (olds news : List Method) → Each (IsWovenMethod (plan_of policy mode) state pool) olds news → AllByRecursion IsSoundMethod olds → (frames : List Frames) → map length frames ≡ map size (coded news)
+      → map length (class_notes policy mode olds frames) ≡ map size (coded news)
   methods_shaped [] [] each sound frames e = refl
   methods_shaped [] (x ∷ news) each sound frames e = absurd each
   methods_shaped (m ∷ olds) [] each sound frames e = absurd each
   methods_shaped (m ∷ olds) (x ∷ news) each sound frames e = by (has_code m) refl frames e (methods_shaped olds news each.1 sound.1)
     where
-      body : IsStanding policy pool m x
-      body = record { state = state; of_method = each.0; sound = sound.0 }
+      same_code : has_code m ≡ has_code x
+      same_code = code_of m x each.0 sound.0
 
       by : (b : Bool) → has_code m ≡ b → (frames : List Frames) → map length frames ≡ map size (coded (x ∷ news))
-          → ((later : List Frames) → map length later ≡ map size (coded news) → map length (class_notes policy olds (methods_origins policy olds) later) ≡ map size (coded news))
-          → map length (class_notes policy (m ∷ olds) (methods_origins policy (m ∷ olds)) frames) ≡ map size (coded (x ∷ news))
+          → ((later : List Frames) → map length later ≡ map size (coded news) → map length (class_notes policy mode olds later) ≡ map size (coded news))
+          → map length (class_notes policy mode (m ∷ olds) frames) ≡ map size (coded (x ∷ news))
       by false none frames e later =
-          let other : has_code x ≡ false = sym (code_stays policy pool m x body) ∙ none in
+          let other : has_code x ≡ false = sym same_code ∙ none in
           let rest : map length frames ≡ map size (coded news) = e ∙ ap (λ (b : Bool). map size (cond b (x ∷ coded news) (coded news))) other in
           rw (none, other) (later frames rest)
       by true has [] e later =
-          let other : has_code x ≡ true = sym (code_stays policy pool m x body) ∙ has in
+          let other : has_code x ≡ true = sym same_code ∙ has in
           let no : ◌≡◌ {A = List ℕ} [] (size x ∷ map size (coded news)) = e ∙ ap (λ (b : Bool). map size (cond b (x ∷ coded news) (coded news))) other in
           absurd cc
       by true has (f ∷ frames) e later =
-          let other : has_code x ≡ true = sym (code_stays policy pool m x body) ∙ has in
+          let other : has_code x ≡ true = sym same_code ∙ has in
           let all : length f ∷ map length frames ≡ size x ∷ map size (coded news) = e ∙ ap (λ (b : Bool). map size (cond b (x ∷ coded news) (coded news))) other in
           let here : length f ≡ size x = cc in
           let rest : map length frames ≡ map size (coded news) = cc in
-          let told = origins_as_long policy pool m x body in
-          let first : length (method_notes policy m (method_origins policy m) f) ≡ size x = notes_many policy m (method_origins policy m) f (told ∙ sym here) ∙ told in
+          let first : length (method_notes policy mode m f) ≡ size x = many_of m x each.0 sound.0 f here in
           let last = later frames rest in
           rw (has, other, first, last) refl
 
   -- As many methods with code stand before a method.
-  pub coded_stay : (olds news : List Method) → Each (IsWovenMethod (denying policy) state pool) olds news → AllByRecursion IsSoundMethod olds → (index : ℕ)
+  pub coded_stay : (olds news : List Method) → Each (IsWovenMethod (plan_of policy mode) state pool) olds news → AllByRecursion IsSoundMethod olds → (index : ℕ)
       → length (coded (take index olds)) ≡ length (coded (take index news))
   coded_stay olds news each sound zero = refl
   coded_stay [] [] each sound (suc index) = refl
@@ -93,10 +105,10 @@ module _ (policy : Policy) (state : ℕ) (pool : List Const) where
     where
       by : (b : Bool) → has_code m ≡ b → length (coded (take index olds)) ≡ length (coded (take index news)) → length (coded (m ∷ take index olds)) ≡ length (coded (x ∷ take index news))
       by true has later =
-          let other : has_code x ≡ true = sym (code_stays policy pool m x (record { state = state; of_method = each.0; sound = sound.0 })) ∙ has in
+          let other : has_code x ≡ true = sym (code_of m x each.0 sound.0) ∙ has in
           rw (has, other) (ap suc later)
       by false none later =
-          let other : has_code x ≡ false = sym (code_stays policy pool m x (record { state = state; of_method = each.0; sound = sound.0 })) ∙ none in
+          let other : has_code x ≡ false = sym (code_of m x each.0 sound.0) ∙ none in
           rw (none, other) later
 
 -- the method of an index has as many frames as instructions
@@ -126,15 +138,15 @@ frames_long frames (x ∷ methods) (suc index) m e there has = by (has_code x) r
         let rest : map length frames ≡ map size (coded methods) = cc in
         rw some (later frames rest)
 
-module _ (policy : Policy) where
-  behind_is : {A : Type 0} (told : List (List A)) (k : ℕ) → list_at told (suc k) ≡ list_at (drop 1 told) k
-  behind_is [] k = refl
-  behind_is (f ∷ told) k = refl
+behind_is : {A : Type 0} (told : List (List A)) (k : ℕ) → list_at told (suc k) ≡ list_at (drop 1 told) k
+behind_is [] k = refl
+behind_is (f ∷ told) k = refl
 
+module _ (policy : Policy) (mode : Mode) where
   -- the notes of the method of an index
   pub notes_there : (methods : List Method) (frames : List Frames) (index : ℕ) (m : Method) → slice_get methods index ≡ Some m → has_code m ≡ true
-      → list_at (class_notes policy methods (methods_origins policy methods) frames) (length (coded (take index methods)))
-      ≡ method_notes policy m (method_origins policy m) (list_at frames (length (coded (take index methods))))
+      → list_at (class_notes policy mode methods frames) (length (coded (take index methods)))
+      ≡ method_notes policy mode m (list_at frames (length (coded (take index methods))))
   notes_there [] frames index m there has = absurd cc
   notes_there (x ∷ methods) frames zero m there has =
       let same : x ≡ m = cc in
@@ -142,21 +154,41 @@ module _ (policy : Policy) where
   notes_there (x ∷ methods) frames (suc index) m there has = by (has_code x) refl (λ later. notes_there methods later index m there has)
     where
       by : (b : Bool) → has_code x ≡ b
-          → ((later : List Frames) → list_at (class_notes policy methods (methods_origins policy methods) later) (length (coded (take index methods)))
-          ≡ method_notes policy m (method_origins policy m) (list_at later (length (coded (take index methods)))))
-          → list_at (class_notes policy (x ∷ methods) (methods_origins policy (x ∷ methods)) frames) (length (coded (x ∷ take index methods)))
-          ≡ method_notes policy m (method_origins policy m) (list_at frames (length (coded (x ∷ take index methods))))
+          → ((later : List Frames) → list_at (class_notes policy mode methods later) (length (coded (take index methods)))
+          ≡ method_notes policy mode m (list_at later (length (coded (take index methods)))))
+          → list_at (class_notes policy mode (x ∷ methods) frames) (length (coded (x ∷ take index methods)))
+          ≡ method_notes policy mode m (list_at frames (length (coded (x ∷ take index methods))))
       by true some later = rw (some, behind_is frames (length (coded (take index methods)))) (later (drop 1 frames))
       by false none later = rw none (later frames)
 
--- ---- the classes
+  -- the notes of the class of an index
+  pub class_noted : (classes : List LinkedClass) (frames : List (List Frames)) (own : ℕ) (class : LinkedClass) → slice_get classes own ≡ Some class
+      → list_at (notes_of policy mode classes frames) own ≡ class_notes policy mode class.methods (list_at frames own)
+  class_noted [] frames own class there = absurd cc
+  class_noted (x ∷ classes) frames zero class there =
+      let same : x ≡ class = cc in
+      rw same refl
+  class_noted (x ∷ classes) frames (suc own) class there =
+      class_noted classes (drop 1 frames) own class there ∙ ap (class_notes policy mode class.methods) (sym (behind_is frames own))
 
-abbrev pub told_of : Policy → List LinkedClass → List (List (List Origin))
-told_of policy classes = classes_origins policy classes ++ [] ∷ []
+  pub classes_shaped : (vars : List Var) (count : ℕ) (olds news : List LinkedClass) (state : LinkedClass) → IsState vars state
+      → Each (IsWovenClass (plan_of policy mode) count) olds news → AllByRecursion IsSoundClass olds
+      → (frames : List (List Frames)) → map (map length) frames ≡ map class_sizes (news ++ state ∷ [])
+      → map (map length) (notes_of policy mode olds frames) ≡ map class_sizes (news ++ state ∷ [])
+  classes_shaped vars count [] [] state is each sound frames e = ap (λ (methods : List Method). map size (coded methods) ∷ []) (sym is.methods)
+  classes_shaped vars count [] (x ∷ news) state is each sound frames e = absurd each
+  classes_shaped vars count (class ∷ olds) [] state is each sound frames e = absurd each
+  classes_shaped vars count (class ∷ olds) (x ∷ news) state is each sound [] e = absurd cc
+  classes_shaped vars count (class ∷ olds) (x ∷ news) state is each sound (f ∷ frames) e =
+      let here : map length f ≡ class_sizes x = cc in
+      let rest : map (map length) frames ≡ map class_sizes (news ++ state ∷ []) = cc in
+      let first = methods_shaped policy mode count x.file.pool class.methods x.methods each.0.methods sound.0.methods f here in
+      let last = classes_shaped vars count olds news state is each.1 sound.1 frames rest in
+      rw (first, last) refl
 
 -- the frames of the class of an index
-pub class_framed : (frames : List (List Frames)) (classes : List LinkedClass) (own : ℕ) (class : LinkedClass) → map (map length) frames ≡ map class_sizes classes → slice_get classes own ≡ Some class
-    → map length (list_at frames own) ≡ class_sizes class
+pub class_framed : (frames : List (List Frames)) (classes : List LinkedClass) (own : ℕ) (class : LinkedClass) → map (map length) frames ≡ map class_sizes classes
+    → slice_get classes own ≡ Some class → map length (list_at frames own) ≡ class_sizes class
 class_framed [] [] own class e there = absurd cc
 class_framed [] (x ∷ classes) own class e there = absurd cc
 class_framed (f ∷ frames) [] own class e there = absurd cc
@@ -167,27 +199,3 @@ class_framed (f ∷ frames) (x ∷ classes) zero class e there =
 class_framed (f ∷ frames) (x ∷ classes) (suc own) class e there =
     let rest : map (map length) frames ≡ map class_sizes classes = cc in
     class_framed frames classes own class rest there
-
-module _ (policy : Policy) where
-  -- the notes of the class of an index
-  pub class_noted : (classes : List LinkedClass) (frames : List (List Frames)) (own : ℕ) (class : LinkedClass) → slice_get classes own ≡ Some class
-      → list_at (notes_of policy classes (told_of policy classes) frames) own ≡ class_notes policy class.methods (methods_origins policy class.methods) (list_at frames own)
-  class_noted [] frames own class there = absurd cc
-  class_noted (x ∷ classes) frames zero class there =
-      let same : x ≡ class = cc in
-      rw same refl
-  class_noted (x ∷ classes) frames (suc own) class there = class_noted classes (drop 1 frames) own class there ∙ ap (class_notes policy class.methods (methods_origins policy class.methods)) (sym (behind_is policy frames own))
-
-  pub classes_shaped : (count : ℕ) (olds news : List LinkedClass) (state : LinkedClass) → IsState policy.vars state → Each (IsWovenClass (denying policy) count) olds news → AllByRecursion IsSoundClass olds
-      → (frames : List (List Frames)) → map (map length) frames ≡ map class_sizes (news ++ state ∷ [])
-      → map (map length) (notes_of policy olds (told_of policy olds) frames) ≡ map class_sizes (news ++ state ∷ [])
-  classes_shaped count [] [] state is each sound frames e = ap (λ (methods : List Method). map size (coded methods) ∷ []) (sym is.methods)
-  classes_shaped count [] (x ∷ news) state is each sound frames e = absurd each
-  classes_shaped count (class ∷ olds) [] state is each sound frames e = absurd each
-  classes_shaped count (class ∷ olds) (x ∷ news) state is each sound [] e = absurd cc
-  classes_shaped count (class ∷ olds) (x ∷ news) state is each sound (f ∷ frames) e =
-      let here : map length f ≡ class_sizes x = cc in
-      let rest : map (map length) frames ≡ map class_sizes (news ++ state ∷ []) = cc in
-      let first = methods_shaped policy count x.file.pool class.methods x.methods each.0.methods sound.0.methods f here in
-      let last = classes_shaped count olds news state is each.1 sound.1 frames rest in
-      rw (first, last) refl

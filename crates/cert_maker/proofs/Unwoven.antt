@@ -1,6 +1,6 @@
 -- A method without a block: each part is the instruction alone.
-use Rattle.std.proofs.Common.{◌≡◌, ℕ, zero, suc, ◌+◌, ◌<◌, ◌≤◌, Bool, true, false, List, [], ◌∷◌, ◌++◌, length, map, None, refl, ap, ◌∙◌, arith}
-use Rattle.std.specs.Prelude.{◌||◌, ◌==◌, slice_index, find}
+use Rattle.std.proofs.Common.{◌≡◌, ℕ, zero, suc, ◌+◌, ◌<◌, ◌≤◌, Bool, true, false, List, [], ◌∷◌, ◌++◌, length, map, Option, Some, None, refl, ap, ◌∙◌, arith}
+use Rattle.std.specs.Prelude.{◌||◌, is_some, slice_index}
 use Rattle.std.specs.List.{AllByRecursion, list_any}
 use Rattle.class_codec.specs.declared.tree.Const.{Const}
 use Rattle.insn_codec.specs.declared.insn.Insn.{Insn}
@@ -8,75 +8,76 @@ use Rattle.insn_codec.specs.declared.insn.Insn.TheVariants as insns
 use Rattle.insn_codec.specs.Fits.{AimsWithin}
 use Rattle.bytecode_model.specs.declared.program.Handler.{Handler}
 use Rattle.bytecode_model.specs.declared.program.Target.{Target}
-use Rattle.bytecode_model.specs.declared.program.Target.TheVariants as target
 use Rattle.bytecode_model.specs.Sound.{IsWithin}
-use Rattle.conspec_automaton.specs.declared.policy.Clause.{Clause}
-use Rattle.conspec_automaton.specs.declared.policy.Policy.{Policy}
+use Rattle.offset_patch.specs.declared.block.Block.{Block}
 use Rattle.offset_patch.specs.declared.block.BlockInsn.{BlockInsn}
-use Rattle.offset_patch.specs.Splicing.{fronts_of, aimed, put, parts_from}
-use Rattle.block_template.specs.Blocks.{has_block}
-use Rattle.class_weaving.specs.Outcome.{at_fronts, part_named, parts_named}
-use Rattle.cert_maker.specs.Framing.{arguments_of}
-use Rattle.cert_maker.proofs.Denying.{site}
-use Rattle.cert_maker.proofs.Parts.{part, part_alone, before, front_is}
-
--- ---- which calls have no block
+use Rattle.offset_patch.specs.declared.block.BlockInsn.TheVariants.{Call}
+use Rattle.offset_patch.specs.Plan.{Plan}
+use Rattle.offset_patch.specs.Splicing.{fronts_of, aimed, part_of, put, parts_from}
+use Rattle.class_weaving.specs.Outcome.{at_fronts, own_handlers, part_named, parts_named, site_handlers}
+use Rattle.cert_maker.proofs.Parts.{part, before, front_is}
 
 neither_or : (a b : Bool) → (a || b) ≡ false → (a ≡ false) × (b ≡ false)
 neither_or true b e = absurd cc
 neither_or false b e = (refl, e)
 
-none_found : (p : Clause → Bool) (xs : List Clause) → list_any p xs ≡ false → find p xs ≡ None
-none_found p [] e = refl
-none_found p (x ∷ xs) e =
-    let h = neither_or (p x) (list_any p xs) e in
-    rw h.0 (none_found p xs h.1)
-
-module _ (policy : Policy) (base : ℕ) where
-  no_block : (ref : Target) → has_block policy ref ≡ false → arguments_of policy ref ≡ None
-  no_block (target.ApiMethod method) e = rw (none_found (λ (c : Clause). c.method == method) policy.clauses e) refl
-  no_block target.None e = refl
-  no_block (target.Builtin i) e = refl
-  no_block (target.Method c m) e = refl
-  no_block (target.Field c f) e = refl
-  no_block (target.ApiField i) e = refl
-  no_block (target.ClassName name) e = refl
-  no_block (target.Number n) e = refl
-  no_block (target.Literal i) e = refl
-
+module _ (plan : Plan) (base : ℕ) where
   abbrev pub AreAlone : List Target → Type 0
-  AreAlone refs = AllByRecursion (λ ref. arguments_of policy ref ≡ None) refs
+  AreAlone refs = AllByRecursion (λ ref. plan.block base ref ≡ None) refs
 
-  pub all_alone : (refs : List Target) → list_any (has_block policy) refs ≡ false → AreAlone refs
-  all_alone [] e = tt
-  all_alone (ref ∷ refs) e =
-      let h = neither_or (has_block policy ref) (list_any (has_block policy) refs) e in
-      (no_block ref h.0, all_alone refs h.1)
+  pub part_alone : (ref : Target) → plan.block base ref ≡ None → part plan base ref ≡ Call ∷ []
+  part_alone ref e = ap part_of e
+
+  pub no_block : ((ref : Target) → is_some (plan.block base ref) ≡ plan.has_block ref) → (ref : Target) → plan.has_block ref ≡ false
+      → plan.block base ref ≡ None
+  no_block there ref e = by (plan.block base ref) (there ref ∙ e)
+    where
+      by : (o : Option Block) → is_some o ≡ false → o ≡ None
+      by None h = refl
+      by (Some block) h = absurd cc
+
+  pub all_alone : ((ref : Target) → is_some (plan.block base ref) ≡ plan.has_block ref) → (refs : List Target)
+      → list_any plan.has_block refs ≡ false → AreAlone refs
+  all_alone there [] e = tt
+  all_alone there (ref ∷ refs) e =
+      let h = neither_or (plan.has_block ref) (list_any plan.has_block refs) e in
+      (no_block there ref h.0, all_alone there refs h.1)
 
   -- ---- what stands in such a method
 
-  pub before_alone : (refs : List Target) → AreAlone refs → (i : ℕ) → i ≤ length refs → before policy base refs i ≡ i
+  abbrev sites : List Target → List (Option Block)
+  sites refs = map (plan.block base) refs
+
+  pub before_alone : (refs : List Target) → AreAlone refs → (i : ℕ) → i ≤ length refs → before plan base refs i ≡ i
   before_alone [] a zero le = refl
   before_alone [] a (suc i) le = absurd (omega arith)
   before_alone (ref ∷ refs) a zero le = refl
-  before_alone (ref ∷ refs) a (suc i) le = omega (arith, ap length (part_alone policy base ref a.0), before_alone refs a.1 i (omega arith))
+  before_alone (ref ∷ refs) a (suc i) le = omega (arith, ap length (part_alone ref a.0), before_alone refs a.1 i (omega arith))
 
-  pub front_alone : (refs : List Target) → AreAlone refs → (i : ℕ) → i ≤ length refs → slice_index (fronts_of (map (site policy base) refs)) i ≡ i
-  front_alone refs a i le = front_is policy base refs 0 i le ∙ omega (arith, before_alone refs a i le)
+  pub front_alone : (refs : List Target) → AreAlone refs → (i : ℕ) → i ≤ length refs → slice_index (fronts_of (sites refs)) i ≡ i
+  front_alone refs a i le = front_is plan base refs 0 i le ∙ omega (arith, before_alone refs a i le)
 
-  parts_alone : (pool : List Const) (fronts : List ℕ) (begin : ℕ) (own : List Insn) (refs : List Target) → AreAlone refs → length own ≡ length refs
-      → parts_from pool fronts begin own (map (site policy base) refs) ≡ map (aimed fronts) own
+  parts_alone : (pool : List Const) (fronts : List ℕ) (begin : ℕ) (own : List Insn) (refs : List Target) → AreAlone refs
+      → length own ≡ length refs → parts_from pool fronts begin own (sites refs) ≡ map (aimed fronts) own
   parts_alone pool fronts begin [] refs a e = refl
   parts_alone pool fronts begin (x ∷ own) [] a e = absurd (omega arith)
   parts_alone pool fronts begin (x ∷ own) (ref ∷ refs) a e =
-      ap (λ (b : List BlockInsn). map (put pool fronts begin x) b ++ parts_from pool fronts (begin + length (part policy base ref)) own (map (site policy base) refs)) (part_alone policy base ref a.0)
-      ∙ ap (λ (xs : List Insn). aimed fronts x ∷ xs) (parts_alone pool fronts (begin + length (part policy base ref)) own refs a.1 (omega arith))
+      ap (λ (b : List BlockInsn). map (put pool fronts begin x) b
+      ++ parts_from pool fronts (begin + length (part plan base ref)) own (sites refs)) (part_alone ref a.0)
+      ∙ ap (λ (xs : List Insn). aimed fronts x ∷ xs)
+      (parts_alone pool fronts (begin + length (part plan base ref)) own refs a.1 (omega arith))
 
-  pub named_alone : (state : ℕ) (refs : List Target) → AreAlone refs → parts_named state refs (map (site policy base) refs) ≡ refs
+  pub named_alone : (state : ℕ) (refs : List Target) → AreAlone refs → parts_named state refs (sites refs) ≡ refs
   named_alone state [] a = refl
   named_alone state (ref ∷ refs) a =
-      ap (λ (b : List BlockInsn). map (part_named state ref) b ++ parts_named state refs (map (site policy base) refs)) (part_alone policy base ref a.0)
+      ap (λ (b : List BlockInsn). map (part_named state ref) b ++ parts_named state refs (sites refs)) (part_alone ref a.0)
       ∙ ap (λ (rs : List Target). ref ∷ rs) (named_alone state refs a.1)
+
+  pub own_alone : (begin : ℕ) (refs : List Target) → AreAlone refs → own_handlers begin (sites refs) ≡ []
+  own_alone begin [] a = refl
+  own_alone begin (ref ∷ refs) a =
+      ap (λ (o : Option Block). site_handlers begin o ++ own_handlers (begin + length (part plan base ref)) (sites refs)) a.0
+      ∙ own_alone (begin + length (part plan base ref)) refs a.1
 
   -- ---- targets and handlers stay
 
@@ -109,9 +110,9 @@ module _ (policy : Policy) (base : ℕ) where
     handlers_same (x ∷ handlers) h =
         rw (same x.from (omega (arith, h.0.from)), same x.to h.0.to, same x.at (omega (arith, h.0.at)), handlers_same handlers h.1) refl
 
-  pub insns_alone : (pool : List Const) (own : List Insn) (refs : List Target) → AreAlone refs → length own ≡ length refs → AllByRecursion (AimsWithin (length own)) own
-      → parts_from pool (fronts_of (map (site policy base) refs)) 0 own (map (site policy base) refs) ≡ own
+  pub insns_alone : (pool : List Const) (own : List Insn) (refs : List Target) → AreAlone refs → length own ≡ length refs
+      → AllByRecursion (AimsWithin (length own)) own → parts_from pool (fronts_of (sites refs)) 0 own (sites refs) ≡ own
   insns_alone pool own refs a e h =
-      let fronts : List ℕ = fronts_of (map (site policy base) refs) in
+      let fronts : List ℕ = fronts_of (sites refs) in
       parts_alone pool fronts 0 own refs a e
       ∙ all_aimed_same fronts (length own) (λ i le. front_alone refs a i (omega (arith, le, e))) own h

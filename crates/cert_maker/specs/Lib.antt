@@ -1,6 +1,3 @@
-pub mod Renaming
-pub mod Framing
-pub mod Calls
-pub mod WovenTyping
+pub mod Small
 pub mod Noting
 pub mod Accepting

@@ -1,80 +1,181 @@
--- The certificate of a woven program: its types, and the note of each instruction by where it comes from.
-use Rattle.std.specs.Prelude.{ℕ, ◌+◌, ◌==◌, min, if◌then◌else◌, List, [], ◌∷◌, drop, Option, Some, None, slice_get}
+-- The certificate of a woven program: its types, and the note of each instruction, told by its role in its block.
+use Rattle.std.specs.Prelude.{ℕ, zero, suc, min, Bool, true, false, if◌then◌else◌, List, [], ◌∷◌, ◌++◌, drop, length, map, take, Option, Some, None, slice_get}
+use Rattle.std.specs.Option.{option_map_or}
 use Rattle.bytecode_model.specs.declared.program.LinkedClass.{LinkedClass}
 use Rattle.bytecode_model.specs.declared.program.Method.{Method}
 use Rattle.bytecode_model.specs.declared.program.Target.{Target}
 use Rattle.bytecode_model.specs.declared.program.Target.TheVariants as target
-use Rattle.block_template.specs.Blocks.{locals_used}
-use Rattle.cert_format.specs.declared.certificate.Certificate.{Certificate}
-use Rattle.cert_format.specs.declared.certificate.Mode.TheVariants.{Release}
-use Rattle.cert_format.specs.declared.note.Note.{Note}
-use Rattle.cert_format.specs.declared.note.Note.TheVariants.{Free, Taking, Stop}
-use Rattle.cert_format.specs.declared.note.Phase8.TheVariants.{Before}
-use Rattle.cert_format.specs.declared.note.Site.{Site}
-use Rattle.cert_format.specs.declared.typing.FrameType.{FrameType}
-use Rattle.cert_format.specs.declared.typing.Typing.{Typing}
 use Rattle.bytecode_model.specs.Shape.{has_code}
 use Rattle.bytecode_model.specs.Typed.{list_at}
+use Rattle.cert_format.specs.declared.certificate.Certificate.{Certificate}
+use Rattle.cert_format.specs.declared.certificate.Mode.{Mode}
+use Rattle.cert_format.specs.declared.note.Note.{Note}
+use Rattle.cert_format.specs.declared.note.Note.TheVariants as notes
+use Rattle.cert_format.specs.declared.note.Phase8.{Phase8}
+use Rattle.cert_format.specs.declared.note.Phase8.TheVariants as sites
+use Rattle.cert_format.specs.declared.note.Site.{Site}
+use Rattle.cert_format.specs.declared.note.Term.{Term}
+use Rattle.cert_format.specs.declared.note.Term.TheVariants as terms
+use Rattle.cert_format.specs.declared.typing.FrameType.{FrameType}
+use Rattle.cert_format.specs.declared.typing.Typing.{Typing}
+use Rattle.conspec_tree.specs.declared.types.Atom.{Atom}
+use Rattle.conspec_tree.specs.declared.types.Phase.{Phase}
+use Rattle.conspec_tree.specs.declared.types.Phase.TheVariants.{Before, After, Exceptional}
+use Rattle.conspec_tree.specs.declared.types.Update.{Update}
+use Rattle.conspec_tree.specs.declared.types.Update.TheVariants.{Set, Add}
+use Rattle.conspec_automaton.specs.declared.policy.Branch.{Branch}
 use Rattle.conspec_automaton.specs.declared.policy.Policy.{Policy}
-use Rattle.bytecode_model.specs.declared.origin.Origin.{Origin}
-use Rattle.bytecode_model.specs.declared.origin.Origin.TheVariants as origins
+use Rattle.conspec_automaton.specs.Next.{has_clauses}
+use Rattle.block_template.specs.declared.item.Item.{Item}
+use Rattle.block_template.specs.declared.item.Role.{Role}
+use Rattle.block_template.specs.declared.item.Role.TheVariants as roles
+use Rattle.block_template.specs.Blocks.{bools_of, clauses_of, items}
+use Rattle.cert_maker.specs.declared.called.Called.{Called}
+use Rattle.block_logic.specs.Clauses.{needs}
+use Rattle.block_logic.specs.Standing.{asks_kept, branches_of}
+use Rattle.block_logic.specs.Terms.{after_updates, as_taken, base_term}
 
--- ---- a block
+-- ---- sites
 
--- The place in a block for a denied call of so many arguments: these are stored, the class of the lock is pushed, the lock
--- is taken, and the four instructions of the way out follow. What is behind them is never reached.
-abbrev pub block_note : Site → ℕ → ℕ → Note
-block_note site arguments place =
-    if place == arguments + 1 then Taking site
-    else if place == arguments + 2 then Stop site 0
-    else if place == arguments + 3 then Stop site 1
-    else if place == arguments + 4 then Stop site 2
-    else if place == arguments + 5 then Stop site 3
-    else Free
+abbrev pub phase_of : Phase → Phase8
+phase_of Before = sites.Before
+phase_of After = sites.After
+phase_of Exceptional = sites.Exceptional
 
--- the listed method that an instruction of the client calls
-abbrev pub called : Option Target → ℕ
-called (Some (target.ApiMethod method)) = method
-called other = 0
+-- the site of a call in a phase; there are fewer than 2^16 methods
+abbrev pub site_of : Called → Phase → Site
+site_of call phase = record { method = min call.callee 65535; phase = phase_of phase; base = call.base }
 
--- Before the call of a listed method, of which there are fewer than 2^16; the locals of the block stand behind the client's.
-abbrev pub site_of : Method → ℕ → Site
-site_of method callee = record { method = min callee 65535; phase = Before; base = method.max_locals }
+-- a number that a byte tells
+abbrev pub byte : ℕ → ℕ
+byte n = min n 255
 
-abbrev pub call_note : Policy → Method → ℕ → ℕ → Note
-call_note policy method callee place = block_note (site_of method callee) (locals_used policy callee) place
+-- ---- the lock
 
--- ---- an instruction
+abbrev pub lock_note : Policy → Called → Phase → Bool → Note
+lock_note policy call Before false = notes.Free
+lock_note policy call Before true = notes.Taking (site_of call Before)
+lock_note policy call After pushed = notes.Owed (site_of call After) 0 (asks_kept policy (site_of call After)) pushed
+lock_note policy call Exceptional pushed = notes.Owed (site_of call Exceptional) 0 (asks_kept policy (site_of call Exceptional)) pushed
 
-abbrev pub origin_note : Policy → Method → Origin → Note
-origin_note policy method (origins.Client at) = Free
-origin_note policy method (origins.Block site place) = call_note policy method (called (slice_get method.refs site)) place
+-- behind a check, and where none was made
+abbrev pub left_note : Policy → Site → Bool → Bool → Note
+left_note policy site true pushed = notes.Owed site 2 (asks_kept policy site) pushed
+left_note policy site false pushed = notes.Owed site 1 false pushed
+
+abbrev pub unlock_note : Policy → Called → Phase → Bool → Bool → Note
+unlock_note policy call Before checked pushed = notes.Granted (site_of call Before) true 0 pushed
+unlock_note policy call After checked pushed = left_note policy (site_of call After) checked pushed
+unlock_note policy call Exceptional checked pushed = left_note policy (site_of call Exceptional) checked pushed
+
+-- ---- a check
+
+-- of an atom's base and constant so many are pushed
+abbrev pub asked_terms : ℕ → Atom → List Term
+asked_terms pushed atom = take pushed (base_term atom.base ∷ terms.Const atom.value ∷ [])
+
+-- A role that names no atom, branch or update is that of no item.
+abbrev pub ask_note : Policy → Site → ℕ → ℕ → ℕ → Option Atom → Note
+ask_note policy site branch atom pushed None = notes.Free
+ask_note policy site branch atom pushed (Some asked) = notes.Held site (byte branch) (byte atom) (asked_terms pushed asked) (as_taken policy)
+
+-- The branches before this one fail and its atoms hold, and so many of its updates are made.
+abbrev pub made_note : Policy → Site → ℕ → ℕ → List Term → Branch → Note
+made_note policy site branch update pushed of =
+    notes.Held site (byte branch) (byte (length of.atoms)) pushed (after_updates policy (take update of.updates))
+
+-- of an update so many instructions are done
+abbrev pub update_terms : ℕ → Update → List Term
+update_terms zero update = []
+update_terms (suc done) (Set var value) = terms.Const value ∷ []
+update_terms (suc zero) (Add var by) = terms.Var var ∷ []
+update_terms (suc (suc zero)) (Add var by) = terms.Var var ∷ terms.Const by ∷ []
+update_terms (suc (suc (suc done))) (Add var by) = terms.VarAdd var by ∷ []
+
+abbrev pub branch_at : Policy → Site → ℕ → Option Branch
+branch_at policy site branch = slice_get (branches_of policy site) branch
+
+abbrev pub atom_of : Option Branch → ℕ → Option Atom
+atom_of None atom = None
+atom_of (Some branch) atom = slice_get branch.atoms atom
+
+abbrev pub updating_note : Policy → Site → ℕ → ℕ → ℕ → Branch → Note
+updating_note policy site branch update done of =
+    made_note policy site branch update (option_map_or (update_terms done) (slice_get of.updates update) []) of
+
+abbrev pub update_note : Policy → Site → ℕ → ℕ → ℕ → Note
+update_note policy site branch update done =
+    option_map_or (λ (b : Branch). updating_note policy site branch update done b) (branch_at policy site branch) notes.Free
+
+abbrev pub taken_note : Policy → Site → ℕ → Note
+taken_note policy site branch =
+    option_map_or (λ (b : Branch). made_note policy site branch (length b.updates) [] b) (branch_at policy site branch) notes.Free
+
+-- ---- a role
+
+-- the note of an instruction by its role in the block of a call
+abbrev pub note_of : Policy → Called → Role → Note
+note_of policy call (roles.Save left) = notes.Free
+note_of policy call (roles.Lock phase pushed) = lock_note policy call phase pushed
+note_of policy call (roles.Ask phase branch atom pushed) =
+    ask_note policy (site_of call phase) branch atom pushed (atom_of (branch_at policy (site_of call phase) branch) atom)
+note_of policy call (roles.Update phase branch update done) = update_note policy (site_of call phase) branch update done
+note_of policy call (roles.Taken phase branch) = taken_note policy (site_of call phase) branch
+note_of policy call (roles.Stop phase done) = notes.Stop (site_of call phase) (byte done)
+note_of policy call (roles.Unlock phase checked pushed) = unlock_note policy call phase checked pushed
+note_of policy call (roles.Load n locked) = notes.Granted (site_of call Before) locked (byte n) false
+note_of policy call (roles.Call locked) = notes.Granted (site_of call Before) locked (byte (needs policy (site_of call Before).method)) false
+note_of policy call (roles.Keep locked) = notes.Owed (site_of call After) (if locked then 1 else 0) false false
+note_of policy call roles.Give = notes.Free
+note_of policy call roles.Leave = notes.Free
+note_of policy call roles.Rethrow = notes.Free
+note_of policy call roles.Unreached = notes.Free
+
+-- ---- a method
+
+-- the block of a call of this method, in a method whose own locals end at `base`
+abbrev pub block_notes : Policy → Mode → ℕ → ℕ → List Note
+block_notes policy mode base callee =
+    map (λ (i : Item). note_of policy (record { callee = callee; base = base }) i.role) (items mode (bools_of policy) base (clauses_of policy callee))
+
+-- what stands for an instruction, by what its operand names
+abbrev pub part_notes : Policy → Mode → ℕ → Target → List Note
+part_notes policy mode base (target.ApiMethod callee) =
+    if has_clauses policy callee then block_notes policy mode base callee else notes.Free ∷ []
+part_notes policy mode base other = notes.Free ∷ []
+
+abbrev pub parts_notes : Policy → Mode → ℕ → List Target → List Note
+parts_notes policy mode base [] = []
+parts_notes policy mode base (ref ∷ refs) = part_notes policy mode base ref ++ parts_notes policy mode base refs
 
 -- An instruction without a frame is not reached.
-abbrev pub note_of : Policy → Method → Origin → Option FrameType → Note
-note_of policy method origin None = Free
-note_of policy method origin (Some frame) = origin_note policy method origin
+abbrev pub if_framed : Option FrameType → Note → Note
+if_framed None note = notes.Free
+if_framed (Some frame) note = note
+
+abbrev pub where_framed : List Note → List (Option FrameType) → List Note
+where_framed [] frames = []
+where_framed (note ∷ told) [] = []
+where_framed (note ∷ told) (frame ∷ frames) = if_framed frame note ∷ where_framed told frames
+
+abbrev pub method_notes : Policy → Mode → Method → List (Option FrameType) → List Note
+method_notes policy mode method frames = where_framed (parts_notes policy mode method.max_locals method.refs) frames
 
 -- ---- the program
 
-abbrev pub method_notes : Policy → Method → List Origin → List (Option FrameType) → List Note
-method_notes policy method [] frames = []
-method_notes policy method (origin ∷ others) [] = []
-method_notes policy method (origin ∷ others) (frame ∷ frames) = note_of policy method origin frame ∷ method_notes policy method others frames
-
--- the methods with code; origins and frames are told of these alone
-abbrev pub class_notes : Policy → List Method → List (List Origin) → List (List (Option FrameType)) → List (List Note)
-class_notes policy [] told frames = []
-class_notes policy (method ∷ methods) told frames =
-    if has_code method then method_notes policy method (list_at told 0) (list_at frames 0) ∷ class_notes policy methods (drop 1 told) (drop 1 frames)
-    else class_notes policy methods told frames
+-- the methods with code; frames are told of these alone
+abbrev pub class_notes : Policy → Mode → List Method → List (List (Option FrameType)) → List (List Note)
+class_notes policy mode [] frames = []
+class_notes policy mode (method ∷ methods) frames =
+    if has_code method then method_notes policy mode method (list_at frames 0) ∷ class_notes policy mode methods (drop 1 frames)
+    else class_notes policy mode methods frames
 
 -- the classes, and behind them conspec/State, which has no method
-abbrev pub notes_of : Policy → List LinkedClass → List (List (List Origin)) → List (List (List (Option FrameType))) → List (List (List Note))
-notes_of policy [] told frames = [] ∷ []
-notes_of policy (class ∷ classes) told frames =
-    class_notes policy class.methods (list_at told 0) (list_at frames 0) ∷ notes_of policy classes (drop 1 told) (drop 1 frames)
+abbrev pub notes_of : Policy → Mode → List LinkedClass → List (List (List (Option FrameType))) → List (List (List Note))
+notes_of policy mode [] frames = [] ∷ []
+notes_of policy mode (class ∷ classes) frames =
+    class_notes policy mode class.methods (list_at frames 0) ∷ notes_of policy mode classes (drop 1 frames)
 
--- the certificate of what these classes are woven to, by where its instructions come from and its types
-abbrev pub certificate_of : List LinkedClass → Policy → List (List (List Origin)) → Typing → Certificate
-certificate_of classes policy told typing = record { mode = Release; typing = typing; notes = notes_of policy classes told typing.frames }
+-- the certificate of what these classes are woven to, by its types
+abbrev pub certificate_of : List LinkedClass → Policy → Mode → Typing → Certificate
+certificate_of classes policy mode typing = record { mode = mode; typing = typing; notes = notes_of policy mode classes typing.frames }

@@ -2,28 +2,30 @@
 
 ghost use Rattle.std.specs.Prelude.{◌≡◌, drop, IfOk};
 ghost use Rattle.bytecode_model.specs.Typed.{list_at};
+ghost use Rattle.conspec_automaton.specs.Sound.{IsPolicy};
 ghost use Rattle.cert_maker.specs.Noting.{certificate_of, class_notes, notes_of};
 
-use crate::notes::method_notes;
-use bytecode_model::{LinkedClass, Method, Origin};
+use crate::methods::method_notes;
+use bytecode_model::{LinkedClass, Method};
 use cert_format::{Certificate, FrameType, Mode, Note, Typing};
 use conspec_automaton::Policy;
 use mon_base::{List, NoMemory};
 use std::alloc::Global;
 
-/// The certificate of the program that these classes were woven to, by where its instructions come from, and its types.
+/// The certificate of the program that these classes are woven to in this mode, by its types.
 pub fn make(
     alloc: Global,
     classes: &[LinkedClass],
     policy: &Policy,
-    origins: &[List<List<Origin>>],
+    mode: Mode,
     typing: Typing,
 ) -> Result<Certificate, NoMemory>
-    ensures { IfOk result (λ made. made ≡ certificate_of classes.now policy.now origins.now typing) }
+    requires policy { IsPolicy policy.now }
+    ensures { IfOk result (λ made. made ≡ certificate_of classes.now policy.now mode typing) }
 {
-    let notes = notes_of(alloc, policy, classes, origins, typing.frames.as_slice())?;
+    let notes = notes_of(alloc, policy, mode, classes, typing.frames.as_slice())?;
     Ok(Certificate {
-        mode: Mode::Release,
+        mode,
         typing,
         notes,
     })
@@ -32,21 +34,20 @@ pub fn make(
 fn notes_of(
     alloc: Global,
     policy: &Policy,
+    mode: Mode,
     classes: &[LinkedClass],
-    origins: &[List<List<Origin>>],
     frames: &[List<List<Option<FrameType>>>],
 ) -> Result<List<List<List<Note>>>, NoMemory>
-    ensures { IfOk result (λ notes. notes ≡ notes_of policy.now classes.now origins.now frames.now) }
+    requires policy { IsPolicy policy.now }
+    ensures { IfOk result (λ notes. notes ≡ notes_of policy.now mode classes.now frames.now) }
 {
     let mut notes = List::new(alloc);
     let mut classes = classes;
-    let mut origins = origins;
     let mut frames = frames;
     while let [class, later @ ..] = classes {
         let methods = class.methods.as_slice();
-        notes.push(class_notes(alloc, policy, methods, first_of(origins), first_of(frames))?)?;
+        notes.push(class_notes(alloc, policy, mode, methods, first_of(frames))?)?;
         classes = later;
-        origins = behind_first(origins);
         frames = behind_first(frames);
     }
     notes.push(List::new(alloc))?;
@@ -57,20 +58,19 @@ fn notes_of(
 fn class_notes(
     alloc: Global,
     policy: &Policy,
+    mode: Mode,
     methods: &[Method],
-    origins: &[List<Origin>],
     frames: &[List<Option<FrameType>>],
 ) -> Result<List<List<Note>>, NoMemory>
-    ensures { IfOk result (λ notes. notes ≡ class_notes policy.now methods.now origins.now frames.now) }
+    requires policy { IsPolicy policy.now }
+    ensures { IfOk result (λ notes. notes ≡ class_notes policy.now mode methods.now frames.now) }
 {
     let mut notes = List::new(alloc);
     let mut methods = methods;
-    let mut origins = origins;
     let mut frames = frames;
     while let [method, later @ ..] = methods {
         if !method.insns.is_empty() {
-            notes.push(method_notes(alloc, policy, method, first_of(origins), first_of(frames))?)?;
-            origins = behind_first(origins);
+            notes.push(method_notes(alloc, policy, mode, method, first_of(frames))?)?;
             frames = behind_first(frames);
         }
         methods = later;

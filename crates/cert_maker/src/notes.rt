@@ -1,114 +1,193 @@
-//! The note of an instruction, by where it comes from.
+//! The note of an instruction by its role in the block of a call.
 
-ghost use Rattle.std.specs.Prelude.{◌≡◌, ◌==◌, ◌+◌, IfOk};
-ghost use Rattle.std.specs.Option.{option_copied};
-ghost use Rattle.cert_maker.specs.Noting.{block_note, call_note, called, method_notes, note_of, origin_note, site_of};
+ghost use Rattle.std.specs.Prelude.{◌≡◌, false, if◌then◌else◌, IfOk};
+ghost use Rattle.cert_format.specs.declared.note.Note.TheVariants.{Granted, Owed};
+ghost use Rattle.conspec_tree.specs.declared.types.Phase.TheVariants.{Before, After};
+ghost use Rattle.block_template.specs.declared.item.Role.TheVariants as roles;
+ghost use Rattle.conspec_automaton.specs.Sound.{IsPolicy};
+ghost use Rattle.cert_maker.specs.Noting.{ask_note, atom_of, made_note, note_of, site_of, taken_note, update_note, updating_note};
+ghost use Rattle.cert_maker.specs.Noting.{branch_at};
+ghost use Rattle.cert_maker.specs.Small.{IsSmall};
 
-use block_template::locals_used;
-use bytecode_model::{Method, Origin, Target};
-use cert_format::{FrameType, Note, Phase8, Site};
-use conspec_automaton::Policy;
+use crate::called::{Called, byte, site_of};
+use crate::clauses::{branch_at, needs};
+use crate::locks::{lock_note, unlock_note};
+use crate::terms::{after_updates, asked_terms, first_updates, update_terms};
+use block_template::Role;
+use cert_format::{Note, Site, Term};
+use conspec_automaton::{Branch, Policy};
+use conspec_tree::Phase;
 use mon_base::{List, NoMemory};
 use std::alloc::Global;
 
-/// The notes of the instructions of a method, by where they come from and their frames.
-pub fn method_notes(
+/// The note of an instruction of this role.
+pub fn note_of(alloc: Global, policy: &Policy, call: Called, role: Role) -> Result<Note, NoMemory>
+    requires policy { IsPolicy policy.now }
+    ensures { IfOk result (λ note. note ≡ note_of policy.now call role) }
+{
+    match role {
+        Role::Save { .. } | Role::Give | Role::Leave | Role::Rethrow | Role::Unreached => {
+            Ok(Note::Free)
+        }
+        Role::Lock { phase, pushed } => Ok(lock_note(policy, call, phase, pushed)),
+        Role::Ask {
+            phase,
+            branch,
+            atom,
+            pushed,
+        } => ask_note(alloc, policy, site_of(call, phase), branch, atom, pushed),
+        Role::Update {
+            phase,
+            branch,
+            update,
+            done,
+        } => update_note(alloc, policy, site_of(call, phase), branch, update, done),
+        Role::Taken { phase, branch } => taken_note(alloc, policy, site_of(call, phase), branch),
+        Role::Stop { phase, done } => Ok(Note::Stop {
+            site: site_of(call, phase),
+            place: byte(done),
+        }),
+        Role::Unlock {
+            phase,
+            checked,
+            pushed,
+        } => Ok(unlock_note(policy, call, phase, checked, pushed)),
+        Role::Load { loaded, locked } => Ok(granted(call, locked, byte(loaded))),
+        Role::Call { locked } => Ok(called_note(policy, call, locked)),
+        Role::Keep { locked } => Ok(kept_note(call, locked)),
+    }
+}
+
+fn granted(call: Called, locked: bool, loaded: u8) -> Note
+    ensures { result ≡ Granted (site_of call Before) locked loaded false }
+{
+    Note::Granted {
+        site: site_of(call, Phase::Before),
+        locked,
+        loaded,
+        top: false,
+    }
+}
+
+/// Before the call, with all arguments loaded.
+fn called_note(policy: &Policy, call: Called, locked: bool) -> Note
+    ensures { result ≡ note_of policy.now call (roles.Call locked) }
+{
+    let site = site_of(call, Phase::Before);
+    let loaded = needs(policy, site.method).min(255) as u8;
+    granted(call, locked, loaded)
+}
+
+/// Behind the call, before its result is kept.
+fn kept_note(call: Called, locked: bool) -> Note
+    ensures { result ≡ Owed (site_of call After) (if locked then 1 else 0) false false }
+{
+    Note::Owed {
+        site: site_of(call, Phase::After),
+        stage: u8::from(locked),
+        kept: false,
+        top: false,
+    }
+}
+
+// ---- a check
+
+/// Of an atom's base and constant so many are pushed.
+fn ask_note(
     alloc: Global,
     policy: &Policy,
-    method: &Method,
-    origins: &[Origin],
-    frames: &[Option<FrameType>],
-) -> Result<List<Note>, NoMemory>
-    ensures { IfOk result (λ notes. notes ≡ method_notes policy.now method.now origins.now frames.now) }
+    site: Site,
+    branch: u32,
+    atom: u32,
+    pushed: u32,
+) -> Result<Note, NoMemory>
+    requires policy { IsPolicy policy.now }
+    ensures { IfOk result (λ note. note ≡ ask_note policy.now site branch atom pushed (atom_of (branch_at policy.now site branch) atom)) }
 {
-    let mut notes = List::new(alloc);
-    let mut origins = origins;
-    let mut frames = frames;
-    while let [origin, others @ ..] = origins {
-        let [frame, later @ ..] = frames else {
-            return Ok(notes);
-        };
-        notes.push(note_of(policy, method, *origin, frame))?;
-        origins = others;
-        frames = later;
-    }
-    Ok(notes)
+    let Some(of) = branch_at(policy, site, branch) else {
+        return Ok(Note::Free);
+    };
+    let Some(asked) = of.atoms.as_slice().get(atom as usize) else {
+        return Ok(Note::Free);
+    };
+    Ok(Note::Held {
+        site,
+        failed: byte(branch),
+        holding: byte(atom),
+        terms: asked_terms(alloc, pushed, *asked)?,
+        map: after_updates(alloc, policy, &[])?,
+    })
 }
 
-fn note_of(policy: &Policy, method: &Method, origin: Origin, frame: &Option<FrameType>) -> Note
-    ensures { result ≡ note_of policy.now method.now origin frame.now }
+/// Of an update so many instructions are done.
+fn update_note(
+    alloc: Global,
+    policy: &Policy,
+    site: Site,
+    branch: u32,
+    update: u32,
+    done: u32,
+) -> Result<Note, NoMemory>
+    requires policy { IsPolicy policy.now }
+    ensures { IfOk result (λ note. note ≡ update_note policy.now site branch update done) }
 {
-    match frame {
-        None => Note::Free,
-        Some(_) => origin_note(policy, method, origin),
-    }
-}
-
-fn origin_note(policy: &Policy, method: &Method, origin: Origin) -> Note
-    ensures { result ≡ origin_note policy.now method.now origin }
-{
-    match origin {
-        Origin::Client(_) => Note::Free,
-        Origin::Block { site, place } => {
-            let callee = called(method.refs.as_slice().get(site as usize));
-            call_note(policy, method, callee, place)
-        }
-    }
-}
-
-/// The listed method that an instruction of the client calls.
-fn called(target: Option<&Target>) -> u32
-    ensures { result ≡ called (option_copied target.entry) }
-{
-    match target {
-        Some(Target::ApiMethod(method)) => *method,
-        _ => 0,
+    match branch_at(policy, site, branch) {
+        Some(of) => updating_note(alloc, policy, site, branch, update, done, of),
+        None => Ok(Note::Free),
     }
 }
 
-/// The note at a place of the block for a call of this method.
-fn call_note(policy: &Policy, method: &Method, callee: u32, place: u32) -> Note
-    ensures { result ≡ call_note policy.now method.now callee place }
+fn updating_note(
+    alloc: Global,
+    policy: &Policy,
+    site: Site,
+    branch: u32,
+    update: u32,
+    done: u32,
+    of: &Branch,
+) -> Result<Note, NoMemory>
+    requires policy { IsPolicy policy.now }
+    requires small { IsSmall of.now }
+    ensures { IfOk result (λ note. note ≡ updating_note policy.now site branch update done of.now) }
 {
-    let arguments = locals_used(policy, callee);
-    block_note(site_of(method, callee), arguments as u64, u64::from(place))
+    let terms = match of.updates.as_slice().get(update as usize) {
+        Some(next) => update_terms(alloc, done, *next)?,
+        None => List::new(alloc),
+    };
+    made_note(alloc, policy, site, branch, update as usize, terms, of)
 }
 
-fn site_of(method: &Method, callee: u32) -> Site
-    ensures { result ≡ site_of method.now callee }
+/// All updates of the branch are made.
+fn taken_note(alloc: Global, policy: &Policy, site: Site, branch: u32) -> Result<Note, NoMemory>
+    requires policy { IsPolicy policy.now }
+    ensures { IfOk result (λ note. note ≡ taken_note policy.now site branch) }
 {
-    Site {
-        method: callee.min(65_535) as u16,
-        phase: Phase8::Before,
-        base: method.max_locals,
-    }
+    let Some(of) = branch_at(policy, site, branch) else {
+        return Ok(Note::Free);
+    };
+    let made = of.updates.len();
+    made_note(alloc, policy, site, branch, made, List::new(alloc), of)
 }
 
-/// The note at a place of a block for a call of so many arguments.
-fn block_note(site: Site, arguments: u64, place: u64) -> Note
-    ensures { result ≡ block_note site arguments place }
+/// All atoms of the branch hold, and so many of its updates are made.
+fn made_note(
+    alloc: Global,
+    policy: &Policy,
+    site: Site,
+    branch: u32,
+    made: usize,
+    terms: List<Term>,
+    of: &Branch,
+) -> Result<Note, NoMemory>
+    requires policy { IsPolicy policy.now }
+    ensures { IfOk result (λ note. note ≡ made_note policy.now site branch made terms of.now) }
 {
-    if is_behind(place, arguments, 1) {
-        Note::Taking(site)
-    } else if is_behind(place, arguments, 2) {
-        Note::Stop { site, place: 0 }
-    } else if is_behind(place, arguments, 3) {
-        Note::Stop { site, place: 1 }
-    } else if is_behind(place, arguments, 4) {
-        Note::Stop { site, place: 2 }
-    } else if is_behind(place, arguments, 5) {
-        Note::Stop { site, place: 3 }
-    } else {
-        Note::Free
-    }
-}
-
-/// Whether a place is so far behind the stores of the arguments.
-fn is_behind(place: u64, arguments: u64, by: u64) -> bool
-    ensures { result ≡ (place == arguments + by) }
-{
-    match arguments.checked_add(by) {
-        Some(sum) => place == sum,
-        None => false,
-    }
+    let updates = first_updates(of.updates.as_slice(), made);
+    Ok(Note::Held {
+        site,
+        failed: byte(branch),
+        holding: of.atoms.len().min(255) as u8,
+        terms,
+        map: after_updates(alloc, policy, updates)?,
+    })
 }

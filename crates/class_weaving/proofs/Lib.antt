@@ -3,3 +3,4 @@ pub mod Sites
 pub mod StateFits
 pub mod Spells
 pub mod Sizing
+pub mod Wanted

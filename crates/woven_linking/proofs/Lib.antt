@@ -4,7 +4,6 @@ pub mod Listed
 pub mod Kept
 pub mod Texts
 pub mod Same
-pub mod Wanted
 pub mod Variables
 pub mod Pairs
 pub mod Found

@@ -53,7 +53,7 @@ use Rattle.woven_linking.proofs.Kept.{IsLonger}
 use Rattle.woven_linking.proofs.Pairs.{each_append}
 use Rattle.woven_linking.proofs.Same.{text_longer}
 use Rattle.woven_linking.proofs.Texts.{id_on}
-use Rattle.woven_linking.proofs.Wanted.{name_told, id_told, state_there, field_there, exit_there, number_there}
+use Rattle.class_weaving.proofs.Wanted.{name_told, id_told, state_there, field_there, exit_there, number_there}
 
 -- What of others is as it is of the files, and what they have beside it.
 pub record IsAdded (kinds : List Bool) (files others : List ClassFile) (listing : Listing) : Type 0 where

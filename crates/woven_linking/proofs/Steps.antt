@@ -53,7 +53,7 @@ use Rattle.woven_linking.proofs.Pairs.{each_as, each_append, each_linked, linked
 use Rattle.woven_linking.proofs.Same.{name_kept, desc_kept}
 use Rattle.class_weaving.proofs.FirstCode.{first_fits}
 use Rattle.woven_linking.proofs.Tables.{IsHandlerOf, handlers_of, of_handlers, sites_caught, handlers_kept, handlers_moved}
-use Rattle.woven_linking.proofs.Wanted.{exit_there, reference_told, there_on, all_of}
+use Rattle.class_weaving.proofs.Wanted.{exit_there, reference_told, there_on, all_of}
 use Rattle.std.proofs.lemmas.List.{length-map}
 use Rattle.class_codec.specs.declared.tree.TableEntry.{TableEntry}
 use Rattle.class_codec.specs.Fits.{FitsPool, FitsTableEntry}

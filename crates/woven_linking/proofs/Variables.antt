@@ -15,7 +15,7 @@ use Rattle.offset_patch.specs.Entries.{state_name, variable_name, variable_type}
 use Rattle.class_weaving.specs.State.{head, values_from, variable_text, kind_text, fields_from, state_file}
 use Rattle.class_weaving.proofs.StateFits.{HasNames, names_stand}
 use Rattle.woven_linking.proofs.Above.{other_name}
-use Rattle.woven_linking.proofs.Wanted.{name_told}
+use Rattle.class_weaving.proofs.Wanted.{name_told}
 
 equal_if : (xs ys : List ℕ) → xs ≡ ys → bytes_eq xs ys ≡ true
 equal_if xs ys e = (bytes_eq-Decides xs ys).1 e

@@ -1,33 +1,41 @@
-//! A method with a denied call, and the notes of what it is woven to.
+//! A method with a call that has a clause, and the notes of what it is woven to.
 
-use bytecode_model::{Handlers, LinkedClass, Method, Origin, Target};
-use cert_format::{Certificate, FrameType, Mode, Note, Phase8, Site, Typing};
+ghost use Rattle.conspec_automaton.specs.Sound.{IsPolicy};
+ghost use Rattle.std.specs.Prelude.{◌<◌, ◌^◌, IfOk, length};
+
+use api_listing::Listing;
+use bytecode_model::{Handlers, LinkedClass, Method, Target};
+use cert_format::{Certificate, FrameType, Mode, Note, Phase8, Site, Term, Typing};
 use cert_maker::make;
 use class_codec::ClassFile;
-use conspec_automaton::{Clause, Policy};
-use conspec_tree::{Kind, Phase};
+use conspec_automaton::{Policy, build};
+use conspec_parse::parse;
 use insn_codec::Insn;
+use listing_text::read;
 use mon_base::{Bytes, List, NoMemory};
 use std::alloc::Global;
 use std::test::Fail;
 
-/// No call of the listed method 3, which takes a number, may begin.
-fn policy(alloc: Global) -> Result<Policy, NoMemory> {
-    let mut args = List::new(alloc);
-    args.push(Kind::Int)?;
-    let mut clauses = List::new(alloc);
-    clauses.push(Clause {
-        method: 3,
-        phase: Phase::Before,
-        args,
-        result: None,
-        branches: List::new(alloc),
-    })?;
-    Ok(Policy {
-        maxint: 1,
-        vars: List::new(alloc),
-        clauses,
-    })
+const LISTING: &[u8] = b"class api/Net extends java/lang/Object\nstatic api/Net put (I)V\n\
+    static api/Net send ()V\n";
+
+/// No call of `put` may begin.
+const DENIED: &[u8] =
+    b"MAXINT 1 SCOPE Session SECURITY STATE BEFORE void api.Net.put(int a) PERFORM";
+
+/// A call of `send` sets the variable.
+const SET: &[u8] = b"MAXINT 9 SCOPE Session SECURITY STATE int n = 0; \
+    BEFORE void api.Net.send() PERFORM n <= 2 -> { n = 5; }";
+
+fn policy(alloc: Global, text: &[u8], listing: &Listing) -> Result<Policy, Fail>
+    requires { length listing.now.methods < 2 ^ 32 }
+    ensures { IfOk result IsPolicy }
+{
+    let Ok(tree) = parse(alloc, text, listing) else {
+        return Err("the policy".into());
+    };
+    let policy = build(alloc, &tree)?;
+    Ok(policy)
 }
 
 /// A method with two locals and no code.
@@ -44,23 +52,23 @@ fn bare(alloc: Global, name: &[u8]) -> Result<Method, NoMemory> {
     })
 }
 
-/// `iconst_1`, a call of the method 3, `return`.
-fn calling(alloc: Global) -> Result<Method, NoMemory> {
+/// `iconst_1`, a call of the listed method, `return`.
+fn calling(alloc: Global, callee: u32) -> Result<Method, NoMemory> {
     let mut method = bare(alloc, b"run".as_slice())?;
     method.insns.push(Insn::Plain(0x04))?;
     method.refs.push(Target::None)?;
     method.insns.push(Insn::Pool { op: 0xB8, index: 9 })?;
-    method.refs.push(Target::ApiMethod(3))?;
+    method.refs.push(Target::ApiMethod(callee))?;
     method.insns.push(Insn::Plain(0xB1))?;
     method.refs.push(Target::None)?;
     Ok(method)
 }
 
 /// A class with two methods, of which the second has code.
-fn classes(alloc: Global) -> Result<List<LinkedClass>, NoMemory> {
+fn classes(alloc: Global, callee: u32) -> Result<List<LinkedClass>, NoMemory> {
     let mut methods = List::new(alloc);
     methods.push(bare(alloc, b"still".as_slice())?)?;
-    methods.push(calling(alloc)?)?;
+    methods.push(calling(alloc, callee)?)?;
     let file = ClassFile {
         minor: 0,
         pool: List::new(alloc),
@@ -82,27 +90,10 @@ fn classes(alloc: Global) -> Result<List<LinkedClass>, NoMemory> {
     Ok(classes)
 }
 
-/// The first instruction, the eleven of the block, and the last instruction.
-fn origins(alloc: Global) -> Result<List<List<List<Origin>>>, NoMemory> {
+/// Frames for the first `reached` of `count` instructions.
+fn typing(alloc: Global, reached: usize, count: usize) -> Result<Typing, NoMemory> {
     let mut method = List::new(alloc);
-    method.push(Origin::Client(0))?;
-    for place in 0..10 {
-        method.push(Origin::Block { site: 1, place })?;
-    }
-    method.push(Origin::Client(1))?;
-    method.push(Origin::Client(2))?;
-    let mut class = List::new(alloc);
-    class.push(method)?;
-    let mut all = List::new(alloc);
-    all.push(class)?;
-    all.push(List::new(alloc))?;
-    Ok(all)
-}
-
-/// Frames for so many of the thirteen instructions.
-fn typing(alloc: Global, reached: usize) -> Result<Typing, NoMemory> {
-    let mut method = List::new(alloc);
-    for at in 0..13 {
+    for at in 0..count {
         method.push(if at < reached {
             Some(FrameType {
                 locals: List::new(alloc),
@@ -120,17 +111,21 @@ fn typing(alloc: Global, reached: usize) -> Result<Typing, NoMemory> {
     Ok(Typing { frames })
 }
 
-/// The certificate of the class, where so many instructions are reached.
-fn made(alloc: Global, reached: usize) -> Result<Certificate, NoMemory> {
-    let classes = classes(alloc)?;
-    let origins = origins(alloc)?;
-    make(
-        alloc,
-        classes.as_slice(),
-        &policy(alloc)?,
-        origins.as_slice(),
-        typing(alloc, reached)?,
-    )
+/// The certificate of the class whose method calls this one.
+fn made(
+    alloc: Global,
+    text: &[u8],
+    mode: Mode,
+    callee: u32,
+    typing: Typing,
+) -> Result<Certificate, Fail> {
+    let Ok(listing) = read(alloc, LISTING) else {
+        return Err("the listing".into());
+    };
+    let policy = policy(alloc, text, &listing)?;
+    let classes = classes(alloc, callee)?;
+    let certificate = make(alloc, classes.as_slice(), &policy, mode, typing)?;
+    Ok(certificate)
 }
 
 /// The notes of the method with code.
@@ -147,17 +142,22 @@ fn notes_of(certificate: &Certificate) -> Result<&[Note], Fail> {
     }
 }
 
+fn site(method: u16, phase: Phase8) -> Site {
+    Site {
+        method,
+        phase,
+        base: 2,
+    }
+}
+
 /// The argument is stored at 1, the class of the lock is pushed at 2, and the lock is taken at 3; the way out ends at 7.
 #[test]
 fn a_denied_call_has_its_notes(rt: HostRuntime) -> Result<(), Fail> {
-    let certificate = made(rt.alloc(), 8)?;
+    let alloc = rt.alloc();
+    let certificate = made(alloc, DENIED, Mode::Release, 0, typing(alloc, 8, 13)?)?;
     assert!(&rt; certificate.mode == Mode::Release);
     let notes = notes_of(&certificate)?;
-    let site = Site {
-        method: 3,
-        phase: Phase8::Before,
-        base: 2,
-    };
+    let site = site(0, Phase8::Before);
     let wanted = [
         Note::Free,
         Note::Free,
@@ -179,9 +179,38 @@ fn a_denied_call_has_its_notes(rt: HostRuntime) -> Result<(), Fail> {
 
 #[test]
 fn what_is_not_reached_is_free(rt: HostRuntime) -> Result<(), Fail> {
-    let certificate = made(rt.alloc(), 1)?;
+    let alloc = rt.alloc();
+    let certificate = made(alloc, DENIED, Mode::Release, 0, typing(alloc, 1, 13)?)?;
     let notes = notes_of(&certificate)?;
     assert_eq!(&rt; notes.len(), 13);
     assert!(&rt; notes.iter().all(|note| *note == Note::Free));
+    Ok(())
+}
+
+/// The block begins at 1: the check is done at 8, the call stands at 13, and the handler at 17.
+#[test]
+fn a_call_under_the_lock_has_its_notes(rt: HostRuntime) -> Result<(), Fail> {
+    let alloc = rt.alloc();
+    let certificate = made(alloc, SET, Mode::Hold, 1, typing(alloc, 21, 21)?)?;
+    let notes = notes_of(&certificate)?;
+    assert_eq!(&rt; notes.len(), 21);
+    assert!(&rt;
+        matches!(&notes[8], Note::Held { failed: 0, holding: 1, terms, map, .. }
+        if terms.is_empty() && map.as_slice() == [Term::Const(5)].as_slice())
+    );
+    let call = Note::Granted {
+        site: site(1, Phase8::Before),
+        locked: true,
+        loaded: 0,
+        top: false,
+    };
+    assert!(&rt; notes[13] == call);
+    let caught = Note::Owed {
+        site: site(1, Phase8::Exceptional),
+        stage: 1,
+        kept: false,
+        top: false,
+    };
+    assert!(&rt; notes[17] == caught);
     Ok(())
 }

@@ -1,19 +1,29 @@
-use Rattle.std.proofs.Common.{◌≡◌, ◌∙◌, Some, None, ap, sym, refl}
+use Rattle.std.proofs.Common.{◌≡◌, ◌∙◌, List, Some, ap, sym, refl}
+use Rattle.bytecode_model.specs.declared.program.LinkedClass.{LinkedClass}
 use Rattle.bytecode_model.specs.declared.program.Program.{Program}
 use Rattle.block_logic.specs.Accepted.{IsAccepted}
+use Rattle.block_logic.specs.State.{state_fault}
 use Rattle.cert_checker.specs.Acceptance.{notes_fault, shape_fault}
-use Rattle.cert_checker.proofs.Differing.{none_differ, same_classes}
-use Rattle.cert_checker.proofs.Noted.{none_wrong, wrong_none}
-use Rattle.cert_checker.proofs.Security.{Laws, secure}
+use Rattle.cert_checker.proofs.Accepting.{is_noted, is_shaped, nothing_found}
+use Rattle.cert_checker.proofs.Security.{IsGiven, Laws, secure}
 use Rattle.cert_checker.proofs.checking.check.Goals as goal
 
 pub returns-in-Some-clause-ok : goal.returns-in-Some-clause-ok
 returns-in-Some-clause-ok c = (
   λ e. absurd cc,
   λ accepted.
-      let none : shape_fault c.args.program.now c.args.certificate.now ≡ None =
-      none_differ 0 c.args.program.now.classes c.args.certificate.now.typing.frames c.args.certificate.now.notes accepted.frames accepted.notes in
+      let none = is_shaped c.args.program.now c.args.policy.now c.args.certificate.now accepted in
       let found : shape_fault c.args.program.now c.args.certificate.now ≡ Some (c.in-Some.class, c.in-Some.method) = sym (c.shape_fault.ensures ∙ ap (λ (p : Program). shape_fault p c.args.certificate.now) c.program-linked.ensures) ∙ c.in-Some.is in
+      absurd cc,
+)
+
+pub returns-in-Some-state_fault-clause-ok : goal.returns-in-Some-state_fault-clause-ok
+returns-in-Some-state_fault-clause-ok c = (
+  λ e. absurd cc,
+  λ accepted.
+      let none = accepted.state in
+      let classes : c.as_slice.result.now ≡ c.args.program.now.classes = c.as_slice.ensures ∙ ap (λ (p : Program). p.classes) c.program-linked.ensures in
+      let found = sym (c.state_fault.ensures ∙ ap (λ (cs : List LinkedClass). state_fault cs c.args.policy.now) classes) ∙ c.in-Some-state_fault.is in
       absurd cc,
 )
 
@@ -21,39 +31,38 @@ pub returns-in-Some-notes_fault-clause-ok : goal.returns-in-Some-notes_fault-cla
 returns-in-Some-notes_fault-clause-ok c = (
   λ e. absurd cc,
   λ accepted.
-      let none : notes_fault c.args.program.now c.args.policy.now c.args.certificate.now ≡ None =
-      wrong_none c.args.program.now c.args.policy.now c.args.certificate.now accepted.noted in
-      let found = sym c.notes_fault.ensures ∙ c.in-Some-notes_fault.is in
+      let none = is_noted c.args.program.now c.args.policy.now c.args.certificate.now accepted in
+      let found = sym (c.notes_fault.ensures ∙ ap (λ (p : Program). notes_fault p c.args.policy.now c.args.certificate.now) c.program-linked.ensures) ∙ c.in-Some-notes_fault.is in
       absurd cc,
 )
 
+-- what no test has found anything in is accepted
+accepted_here : (c : goal.After-sites_of) → IsAccepted c.args.program.now c.args.policy.now c.args.certificate.now
+accepted_here c =
+    let program = c.args.program.now in
+    let policy = c.args.policy.now in
+    let certificate = c.args.certificate.now in
+    let shaped = sym (c.shape_fault.ensures ∙ ap (λ (p : Program). shape_fault p certificate) c.program-linked.ensures) ∙ c.in_default.is in
+    let classes : c.as_slice.result.now ≡ program.classes = c.as_slice.ensures ∙ ap (λ (p : Program). p.classes) c.program-linked.ensures in
+    let state = sym (c.state_fault.ensures ∙ ap (λ (cs : List LinkedClass). state_fault cs policy) classes) ∙ c.in_default-state_fault.is in
+    let noted = sym (c.notes_fault.ensures ∙ ap (λ (p : Program). notes_fault p policy certificate) c.program-linked.ensures) ∙ c.in_default-notes_fault.is in
+    nothing_found program policy certificate shaped (c.in_default-check_typing.ensures.ok.0 refl) state noted
+
 pub returns-clause-ok : goal.returns-clause-ok
-returns-clause-ok c =
-    let shapes = same_classes 0 c.args.program.now.classes c.args.certificate.now.typing.frames c.args.certificate.now.notes (sym (c.shape_fault.ensures ∙ ap (λ (p : Program). shape_fault p c.args.certificate.now) c.program-linked.ensures) ∙ c.in_default.is) in
-    let none : notes_fault c.args.program.now c.args.policy.now c.args.certificate.now ≡ None = sym (c.notes_fault.ensures ∙ ap (λ (p : Program). notes_fault p c.args.policy.now c.args.certificate.now) c.program-linked.ensures) ∙ c.in_default-notes_fault.is in (
-      λ e. record {
-        frames = shapes.0;
-        notes = shapes.1;
-        typed = c.in_default-check_typing.ensures.ok.0 refl;
-        noted = none_wrong c.args.program.now c.args.policy.now c.args.certificate.now none;
-      },
-      λ accepted. refl,
-    )
+returns-clause-ok c = (λ e. accepted_here c, λ accepted. refl)
 
 pub returns-clause-secure : goal.returns-clause-secure
-returns-clause-secure c = λ e.
-    let shapes = same_classes 0 c.args.program.now.classes c.args.certificate.now.typing.frames c.args.certificate.now.notes (sym (c.shape_fault.ensures ∙ ap (λ (p : Program). shape_fault p c.args.certificate.now) c.program-linked.ensures) ∙ c.in_default.is) in
-    let none : notes_fault c.args.program.now c.args.policy.now c.args.certificate.now ≡ None = sym (c.notes_fault.ensures ∙ ap (λ (p : Program). notes_fault p c.args.policy.now c.args.certificate.now) c.program-linked.ensures) ∙ c.in_default-notes_fault.is in
+returns-clause-secure c =
     let laws : Laws = record {
-      sees = c.sees_only_what_is_called.ensures.sees;
+      obeys = c.accepted_obeys.ensures.obeys;
       begin = c.typed_is_closed.ensures.begin;
       next = c.typed_is_closed.ensures.next;
       caught = c.typed_is_closed.ensures.caught;
     } in
-    let accepted : IsAccepted c.args.program.now c.args.policy.now c.args.certificate.now = record {
-      frames = shapes.0;
-      notes = shapes.1;
-      typed = c.in_default-check_typing.ensures.ok.0 refl;
-      noted = none_wrong c.args.program.now c.args.policy.now c.args.certificate.now none;
+    let given : IsGiven c.args.program.now c.args.policy.now = record {
+      sound = c.requires.sound;
+      good = c.requires.policy;
+      named = c.requires.named;
+      listed = c.requires.listed;
     } in
-    secure laws c.args.program.now c.args.policy.now c.args.certificate.now c.requires accepted c.args.certificate.now.mode
+    λ e. secure laws c.args.program.now c.args.policy.now c.args.certificate.now given (accepted_here c)

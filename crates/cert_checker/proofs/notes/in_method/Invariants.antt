@@ -6,7 +6,7 @@ use Rattle.cert_checker.proofs.notes.in_method.Given as goal
 
 abbrev pub invariant-loop-left : goal.invariant-loop-left
 invariant-loop-left l = record {
-  same : first_from (reached_fault l.program l.policy l.frames l.told l.method) l.at l.left ≡ in_method l.program l.policy l.frames l.told l.method;
+  same : first_from (reached_fault l.rules l.frames l.told l.method) l.at l.left ≡ in_method l.rules l.frames l.told l.method;
   count : l.at + l.left ≡ length l.method.insns;
 }
 

@@ -6,7 +6,7 @@ use Rattle.cert_checker.proofs.notes.in_methods.Given as goal
 
 abbrev pub invariant-loop-methods : goal.invariant-loop-methods
 invariant-loop-methods l = record {
-  same : in_methods l.program l.policy l.at l.methods l.frames l.notes ≡ in_methods l.program l.policy 0 l.fn.class.methods l.fn.frames l.fn.notes;
+  same : in_methods l.rules l.at l.methods l.frames l.notes ≡ in_methods l.rules 0 l.fn.class.methods l.fn.frames l.fn.notes;
   count : l.at + length l.methods ≡ length l.fn.class.methods;
   sound : AllByRecursion IsSoundMethod l.methods;
 }

@@ -1,0 +1,142 @@
+-- What an accepted program does: its events obey, and the lock orders them.
+use Rattle.std.proofs.Common.{◌≡◌, ◌≢◌, ◌⊎◌, ℕ, ◌==◌, Bool, true, false, List, [], ◌∷◌, ◌++◌, filter, Option, Some, None, refl, sym, ap, subst, ◌∙◌, inl, inr}
+use Rattle.std.specs.Prelude.{IfSome, find, option_map}
+use Rattle.std.specs.List.{AllByRecursion}
+use Rattle.std.specs.Option.{option_map_or, option_to_list}
+use Rattle.std.proofs.lemmas.Bool.{and_parts, cases_Bool}
+use Rattle.api_listing.specs.declared.events.Event.{Event}
+use Rattle.api_listing.specs.declared.events.Event.TheVariants as events
+use Rattle.bytecode_model.specs.declared.program.Program.{Program}
+use Rattle.cert_format.specs.declared.certificate.Certificate.{Certificate}
+use Rattle.cert_format.specs.declared.certificate.Mode.{Mode}
+use Rattle.cert_format.specs.declared.certificate.Mode.TheVariants as modes
+use Rattle.conspec_automaton.specs.declared.policy.Policy.{Policy}
+use Rattle.conspec_automaton.specs.Denying.{Denies, DeniesOnly}
+use Rattle.conspec_automaton.specs.Next.{clause_of, has_clause, is_phase_of, method_of, speaks_of}
+use Rattle.conspec_automaton.specs.Obeys.{IsFollowed, Obeys, is_return}
+use Rattle.conspec_tree.specs.declared.types.Phase.TheVariants.{Before}
+use Rattle.guest_heap.specs.declared.object.Monitor.{Monitor}
+use Rattle.guest_heap.specs.declared.value.Value.{Value}
+use Rattle.guest_model.specs.declared.machine.Machine.{Machine}
+use Rattle.guest_model.specs.declared.machine.Step.{Step}
+use Rattle.guest_model.specs.Changes.{Change, applied, world_of}
+use Rattle.guest_model.specs.Runs.{exec, seen, trace}
+use Rattle.guest_model.specs.Stepping.{changed}
+use Rattle.guest_model.proofs.Options.{some_is}
+use Rattle.block_logic.specs.Fitting.{Fits, IsKept, IsLocked, IsUnlocked, held_locks, locked_by}
+use Rattle.block_logic.specs.Meaning.{Promised}
+use Rattle.block_logic.specs.Obeying.{AcceptedObeys, IsObeying, LockOrders}
+use Rattle.block_logic.proofs.Composing.{StepLaws}
+use Rattle.block_logic.proofs.Keeping.{IsMade, always_kept, client_changes, is_made, moves}
+use Rattle.block_logic.proofs.Steps.{ChangesClient, StartsWell}
+use Rattle.block_logic.proofs.Tests.{it_is_there}
+
+-- ---- lists
+
+-- what is found passes the test, and what holds of all holds of it
+found_of : {A : Type 0} (P : A → Type 0) (test : A → Bool) (xs : List A) (x : A) → AllByRecursion P xs → find test xs ≡ Some x → P x × (test x ≡ true)
+found_of P test [] x all e = absurd cc
+found_of P test (y ∷ ys) x all e =
+    elim (cases_Bool (test y)) [
+      | inl holds ↦ let same : y ≡ x = some_is y x (rw holds at e) in subst (λ z. P z × (test z ≡ true)) same (all.0, holds)
+      | inr fails ↦ found_of P test ys x all.1 (rw fails at e)
+    ]
+
+-- what is kept of a list passes the test
+all_kept : {A : Type 0} (test : A → Bool) (xs : List A) → AllByRecursion (λ x. test x ≡ true) (filter test xs)
+all_kept test [] = tt
+all_kept test (x ∷ xs) =
+    elim (cases_Bool (test x)) [
+      | inl holds ↦ rw holds (holds, all_kept test xs)
+      | inr fails ↦ rw fails (all_kept test xs)
+    ]
+
+of_last : {A : Type 0} (P : A → Type 0) (before : List A) (last : A) → AllByRecursion P (before ++ last ∷ []) → P last
+of_last P [] last all = all.0
+of_last P (x ∷ before) last all = of_last P before last all.1
+
+last_passes : {A : Type 0} (test : A → Bool) (xs before : List A) (last : A) → filter test xs ≡ before ++ last ∷ [] → test last ≡ true
+last_passes test xs before last e = of_last (λ x. test x ≡ true) before last (subst (AllByRecursion (λ x. test x ≡ true)) e (all_kept test xs))
+
+-- ---- policies that deny calls outright
+
+before_call : (event : Event) → is_phase_of event Before ≡ true → is_return event ≡ false
+before_call (events.Call thread method arguments) e = refl
+before_call (events.Return thread method value) e = absurd cc
+before_call (events.Except thread method) e = absurd cc
+
+-- Each event with a clause is a call.
+no_return : (policy : Policy) (event : Event) → DeniesOnly policy → has_clause policy event ≡ true → is_return event ≡ false
+no_return policy event denies has =
+    let c = it_is_there (clause_of policy event) has in
+    let d = found_of Denies (speaks_of event) policy.clauses c.0 denies.clauses c.1 in
+    let of_phase = (and_parts (c.0.method == method_of event) (is_phase_of event c.0.phase) d.1).1 in
+    before_call event (rw d.0.calls at of_phase)
+
+-- So all of them are accepted.
+all_accepted : (policy : Policy) (seen : List Event) → DeniesOnly policy → IsFollowed policy seen → Obeys modes.Release policy seen
+all_accepted policy seen denies (inl all) = all
+all_accepted policy seen denies (inr (before, last, is, returned, led)) =
+    let calls = no_return policy last denies (last_passes (has_clause policy) seen before last is) in
+    absurd cc
+
+obeyed : (mode : Mode) (policy : Policy) (seen : List Event) → Promised mode policy → IsFollowed policy seen → Obeys mode policy seen
+obeyed modes.Hold policy seen promised followed = followed
+obeyed modes.Release policy seen (inl held) followed = absurd cc
+obeyed modes.Release policy seen (inr denies) followed = all_accepted policy seen denies followed
+
+-- ---- the lock
+
+-- Locks that are held by one thread are held by no other.
+one_owner : (program : Program) (number other : ℕ) → locked_by program number ≡ locked_by program other → number ≡ other
+one_owner program number other e = ap owner_in e where
+  owner_in : List Monitor → ℕ
+  owner_in [] = 0
+  owner_in (m ∷ others) = m.owner
+
+module _ (program : Program) (policy : Policy) (certificate : Certificate) (laws : StepLaws program policy certificate) where
+  abbrev IsUnseen : List Event → Type 0
+  IsUnseen events = AllByRecursion (λ (e : Event). has_clause policy e ≡ false) events
+
+  unseen_one : (event : Option Event) → IfSome event (λ (e : Event). has_clause policy e ≡ false) → IsUnseen (option_to_list event)
+  unseen_one None none = tt
+  unseen_one (Some e) none = (none, tt)
+
+  -- A step of another thread than the one that holds the lock.
+  module _ (machine : Machine) (events : List Event) (step : Step) (owner : ℕ) (locked : held_locks program machine.monitors ≡ locked_by program owner) (differ : step.thread ≢ owner) where
+    unlocked_not : (fields : List Value) → IsUnlocked program policy certificate machine events fields → ⊥
+    unlocked_not fields u = let free = u.free in absurd cc
+
+    other_changes : (change : Change) (m : IsMade program policy certificate laws machine step change) (fits : Fits program policy certificate machine events)
+        → IsUnlocked program policy certificate machine events fits.fields ⊎ IsLocked program policy certificate machine events fits.fields
+        → ChangesClient program policy certificate (world_of machine) change
+    other_changes change m fits (inl u) = absurd (unlocked_not fits.fields u)
+    other_changes change m fits (inr l) =
+        let same : l.owner ≡ owner = one_owner program l.owner owner (sym l.locked ∙ locked) in
+        let client = l.others step.thread m.thread (λ number. differ (number ∙ same)) m.there in
+        client_changes program policy certificate laws machine events fits step m.thread change m.there m.made owner locked (λ number. differ (sym number))
+        (moves program policy certificate laws machine events fits step m.thread change m.there m.made client)
+
+    unseen : (kept : IsKept program policy certificate machine events) (change : Option Change) → changed program machine step ≡ change
+        → IsUnseen (option_map_or (λ (made : Machine × Option Event). option_to_list made.1) (option_map (λ (c : Change). (applied step.thread machine c, c.event)) change) [])
+    unseen kept None e = tt
+    unseen kept (Some change) e =
+        let m = is_made program policy certificate laws machine step change e in
+        let fits = kept.fits m.goes in
+        unseen_one change.event (other_changes change m fits fits.lock).event
+
+-- what is proved of steps, and of the start
+pub record Proved : Type 0 where
+  pub steps : (program : Program) (policy : Policy) (certificate : Certificate) → IsObeying program policy certificate → StepLaws program policy certificate
+  pub starts : (program : Program) (policy : Policy) (certificate : Certificate) → IsObeying program policy certificate → StartsWell program policy certificate
+
+pub accepted_obeys : Proved → AcceptedObeys
+accepted_obeys proved program policy certificate o steps =
+    obeyed certificate.mode policy (trace program steps) o.promised
+    (always_kept program policy certificate (proved.steps program policy certificate o) (proved.starts program policy certificate o) steps).followed
+
+pub lock_orders : Proved → LockOrders
+lock_orders proved program policy certificate o steps owner step locked differ =
+    let laws = proved.steps program policy certificate o in
+    unseen program policy certificate laws (exec program steps) (trace program steps) step owner locked differ
+    (always_kept program policy certificate laws (proved.starts program policy certificate o) steps) (changed program (exec program steps) step) refl

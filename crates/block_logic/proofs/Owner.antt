@@ -1,0 +1,22 @@
+-- Steps of the thread that takes, holds or leaves the lock.
+pub mod Acting
+pub mod Answers
+pub mod Checks
+pub mod Events
+pub mod Going
+pub mod Granted
+pub mod GrantedRows
+pub mod Lock
+pub mod Moves
+pub mod Owed
+pub mod Passed
+pub mod Pushes
+pub mod Rows
+pub mod Standing
+pub mod Steps
+pub mod Stop
+pub mod Taking
+pub mod Terms
+pub mod Tests
+pub mod Unlocked
+pub mod Variables

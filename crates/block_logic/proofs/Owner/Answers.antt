@@ -1,0 +1,378 @@
+-- An answer to a call that was granted: the thread goes on behind its call, or in the handler of what is thrown, and the update is due.
+use Rattle.std.proofs.Common.{◌≡◌, ℕ, ◌<◌, ◌+◌, Bool, true, false, cond, List, [], ◌∷◌, ◌++◌, length, Option, Some, None, refl, sym, ap, ◌∙◌, subst, inl, inr, lt-ltb, eqb-true}
+use Rattle.std.specs.Prelude.{◌==◌, IfSome, nat_lt, not, is_some, option_and_then, option_map, slice_get}
+use Rattle.std.specs.Option.{option_map_or, option_to_list}
+use Rattle.std.proofs.lemmas.Bool.{and_parts, cases_Bool}
+use Rattle.api_listing.specs.declared.descriptor.FieldType.{FieldType}
+use Rattle.api_listing.specs.declared.events.ApiAnswer.{ApiAnswer}
+use Rattle.api_listing.specs.declared.events.ApiAnswer.TheVariants as answers
+use Rattle.api_listing.specs.declared.events.Event.{Event}
+use Rattle.api_listing.specs.declared.events.Event.TheVariants as events
+use Rattle.api_listing.specs.declared.types.ListedMethod.{ListedMethod}
+use Rattle.insn_codec.specs.declared.shape.Shape.{Shape}
+use Rattle.insn_codec.specs.declared.shape.Shape.TheVariants as shapes
+use Rattle.insn_codec.specs.declared.shape.Heap.TheVariants as heap
+use Rattle.insn_codec.specs.Shapes.{shape_of}
+use Rattle.insn_codec.specs.Table.{ends}
+use Rattle.bytecode_model.specs.declared.program.Handler.{Handler}
+use Rattle.bytecode_model.specs.declared.program.Method.{Method}
+use Rattle.bytecode_model.specs.declared.program.Program.{Program}
+use Rattle.bytecode_model.specs.declared.program.Target.{Target}
+use Rattle.bytecode_model.specs.declared.program.Target.TheVariants as target
+use Rattle.bytecode_model.specs.SearchOrder.{Name}
+use Rattle.cert_format.specs.declared.certificate.Certificate.{Certificate}
+use Rattle.cert_format.specs.declared.note.Note.{Note}
+use Rattle.cert_format.specs.declared.note.Note.TheVariants as notes
+use Rattle.cert_format.specs.declared.note.Phase8.TheVariants.{After, Exceptional}
+use Rattle.cert_format.specs.declared.note.Site.{Site}
+use Rattle.conspec_tree.specs.declared.types.Kind.{Kind}
+use Rattle.conspec_automaton.specs.declared.policy.Clause.{Clause}
+use Rattle.conspec_automaton.specs.declared.policy.Policy.{Policy}
+use Rattle.conspec_automaton.specs.Next.{has_clauses, number_in as shown_number, returned as event_returned}
+use Rattle.conspec_automaton.proofs.Ranges.{found_is}
+use Rattle.guest_heap.specs.declared.frame.Frame.{Frame}
+use Rattle.guest_heap.specs.declared.object.Object.{Object}
+use Rattle.guest_heap.specs.declared.object.Object.TheVariants as objects
+use Rattle.guest_heap.specs.declared.thread.Thread.{Thread}
+use Rattle.guest_heap.specs.declared.value.Value.{Value}
+use Rattle.guest_heap.specs.declared.value.Value.TheVariants as values
+use Rattle.guest_frames.specs.Stepping.{after, moved_to}
+use Rattle.guest_model.specs.Answering.{answer_fits, answered, answered_well, given, returned_by, thrown_by, thrown_by_library}
+use Rattle.guest_model.specs.Calls.{types_of}
+use Rattle.guest_model.specs.Changes.{Change, World, goes, returned, throws_new, with_event, with_object}
+use Rattle.guest_model.specs.declared.machine.Choice.{Choice}
+use Rattle.guest_model.specs.declared.machine.Choice.TheVariants as choices
+use Rattle.guest_model.specs.Parts.{null_pointer, number_in}
+use Rattle.guest_model.specs.Seen.{value_shown}
+use Rattle.guest_model.specs.Stepping.{call_stepped, is_on_null}
+use Rattle.guest_model.specs.Throwing.{bare_object, caught_in, handler_of}
+use Rattle.guest_model.proofs.Options.{all_append, all_get, and_then_of, map_of, some_is, unless_of}
+use Rattle.block_logic.specs.Accepted.{rules_of}
+use Rattle.block_logic.specs.Clauses.{clause_of, needs}
+use Rattle.block_logic.specs.Fitting.{AreBelow, AreOwnerCall, ArePassed, IsCleanObject, IsCleanWorld, IsOwnerCall, IsOwnerFrame, held_locks, locked_by, state_of}
+use Rattle.block_logic.specs.Meaning.{AreClean, HasResult, HasResultIn, IsClean, IsEventOf, IsOwed, Owns}
+use Rattle.block_logic.specs.Obeying.{FitsListing, IsObeying}
+use Rattle.block_logic.specs.Operands.{calls, pushes_state}
+use Rattle.block_logic.specs.Rows.{Given, Row, Rules, granted_row, is_duty, returned as asked_behind, thrown as asked_thrown}
+use Rattle.block_logic.specs.Standing.{in_phase, is_before, is_hold}
+use Rattle.block_logic.proofs.Owner.Events.{has_its_clause, is_pending, leads_still}
+use Rattle.block_logic.proofs.Owner.Going.{IsHeldBy, goes_behind, owner_frame}
+use Rattle.block_logic.proofs.Owner.GrantedRows.{CallsMethod, granted_cases}
+use Rattle.block_logic.proofs.Owner.Passed.{shown_as}
+use Rattle.block_logic.proofs.Owner.Standing.{owned_followed}
+use Rattle.block_logic.proofs.Ruled.{IsRuled, LeadsTo, RulesHold}
+use Rattle.block_logic.proofs.Steps.{ChangesOwner, OwnerAnswers}
+
+-- ---- the row of the call
+
+call_not_pushed : (shape : Shape) (ref : Target) → calls shape ≡ true → pushes_state shape ref ≡ false
+call_not_pushed (shapes.Heap (heap.Call how)) ref e = refl
+call_not_pushed shape ref e = absurd cc
+
+call_row : (rules : Rules) (site : Site) (count : ℕ) (shape : Shape) (ref : Target) (r : Row) → calls shape ≡ true
+    → granted_row rules site true count false shape ref ≡ Some r → CallsMethod rules site true count false shape ref r
+call_row rules site count shape ref r call e = elim (granted_cases rules site true count false shape ref r e) [
+  | inl loads ↦ let not_so : false ≡ true = ap calls (sym loads.is) ∙ call in absurd cc
+  | inr (inl pushes) ↦ let not_so : false ≡ true = sym (call_not_pushed shape ref call) ∙ pushes.pushes in absurd cc
+  | inr (inr (inl leaves)) ↦ let not_so : false ≡ true = leaves.on in absurd cc
+  | inr (inr (inr c)) ↦ c
+]
+
+call_stays : (shape : Shape) → calls shape ≡ true → ends shape ≡ false
+call_stays (shapes.Heap (heap.Call how)) e = refl
+call_stays shape e = absurd cc
+
+-- what is asked behind the call, and of its handlers, where the lock is held
+behind_held : (rules : Rules) (site : Site) → is_hold rules.mode ≡ true → asked_behind rules site ≡ Given (notes.Owed (in_phase After site) 1 false false)
+behind_held rules site hold = rw hold refl
+
+duty_held : (rules : Rules) (method : ℕ) → is_hold rules.mode ≡ true → is_duty rules method ≡ true
+duty_held rules method hold = rw hold refl
+
+thrown_held : (rules : Rules) (site : Site) → is_hold rules.mode ≡ true → asked_thrown rules site ≡ Given (notes.Owed (in_phase Exceptional site) 1 false false)
+thrown_held rules site hold = rw hold refl
+
+-- what is thrown is caught in the frame that called
+throws_caught : (program : Program) (world : World) (number : ℕ) (thread : Thread) (frame : Frame) (below : List Frame) (class : Name) (e : Event) (f : Frame)
+    → caught_in program (values.Ref (length world.heap)) class frame ≡ Some f
+    → throws_new program world number thread (frame ∷ below) class (Some e) ≡ with_event (goes (with_object world (bare_object class)) thread (f ∷ below)) (Some e)
+throws_caught program world number thread frame below class e f is = rw is refl
+
+-- ---- what an answer gives
+
+-- of an answer that is no exception what is shared is clean, but for the heap as it was, and the result is no lock
+record GivesClean (program : Program) (state : ℕ) (world : World) (gave : World × Option Value) : Type 0 where
+  pub clean : IsCleanWorld program state gave.0
+  pub monitors : gave.0.monitors ≡ world.monitors
+  pub statics : gave.0.statics ≡ world.statics
+  pub result : IfSome gave.1 (IsClean program)
+
+with_clean : (program : Program) (state : ℕ) (world : World) (object : Object) → IsCleanWorld program state world → IsCleanObject program object
+    → IsCleanWorld program state (with_object world object)
+with_clean program state world object clean this =
+    record { heap = all_append (IsCleanObject program) world.heap (object ∷ []) clean.heap (this, tt); statics = clean.statics }
+
+module _ (program : Program) (state : ℕ) (world : World) (clean : IsCleanWorld program state world) where
+  unchanged : (v : Option Value) → IfSome v (IsClean program) → GivesClean program state world (world, v)
+  unchanged v result = record { clean = clean; monitors = refl; statics = refl; result = result }
+
+  new_object : (object : Object) → IsCleanObject program object → GivesClean program state world (with_object world object, Some (values.Ref (length world.heap)))
+  new_object object this = record { clean = with_clean program state world object clean this; monitors = refl; statics = refl; result = refl }
+
+  gives_clean : (receiver : Option Value) (arguments : List Value) (answer : ApiAnswer) (gave : World × Option Value) → ArePassed program receiver arguments
+      → given world receiver arguments answer ≡ Some gave → GivesClean program state world gave
+  gives_clean receiver arguments answers.Nothing gave passed e = subst (GivesClean program state world) (some_is _ gave e) (unchanged None tt)
+  gives_clean receiver arguments (answers.Int n) gave passed e = subst (GivesClean program state world) (some_is _ gave e) (unchanged (Some (values.Int n)) refl)
+  gives_clean receiver arguments answers.Null gave passed e = subst (GivesClean program state world) (some_is _ gave e) (unchanged (Some values.Null) refl)
+  gives_clean receiver arguments (answers.Text text) gave passed e = subst (GivesClean program state world) (some_is _ gave e) (new_object (objects.Text text) tt)
+  gives_clean receiver arguments (answers.Fresh class) gave passed e = subst (GivesClean program state world) (some_is _ gave e) (new_object (bare_object class) (tt, refl))
+  gives_clean receiver arguments (answers.Arg i) gave passed e =
+      let v = map_of (λ (v : Value). (world, Some v)) (slice_get arguments i) gave e in
+      subst (GivesClean program state world) v.2 (unchanged (Some v.0) (all_get (IsClean program) arguments i v.0 passed.1 v.1))
+  gives_clean None arguments answers.Receiver gave passed e = absurd cc
+  gives_clean (Some v) arguments answers.Receiver gave passed e = subst (GivesClean program state world) (some_is _ gave e) (unchanged (Some v) passed.0)
+  gives_clean receiver arguments (answers.Throws class) gave passed e = absurd cc
+
+-- where the method gives something, so does the answer
+gives_something : (program : Program) (world : World) (result : Option FieldType) (receiver : Option Value) (arguments : List Value) (answer : ApiAnswer) (gave : World × Option Value)
+    → answer_fits program world.heap result receiver arguments answer ≡ true → is_some result ≡ true → given world receiver arguments answer ≡ Some gave
+    → (v : Value) × (gave.1 ≡ Some v)
+gives_something program world result receiver arguments answers.Nothing gave fits some e = let not_so : false ≡ true = subst (λ (b : Bool). not b ≡ true) some fits in absurd cc
+gives_something program world result receiver arguments (answers.Int n) gave fits some e = (values.Int n, ap (λ (g : World × Option Value). g.1) (sym (some_is _ gave e)))
+gives_something program world result receiver arguments answers.Null gave fits some e = (values.Null, ap (λ (g : World × Option Value). g.1) (sym (some_is _ gave e)))
+gives_something program world result receiver arguments (answers.Text text) gave fits some e =
+    (values.Ref (length world.heap), ap (λ (g : World × Option Value). g.1) (sym (some_is _ gave e)))
+gives_something program world result receiver arguments (answers.Fresh class) gave fits some e =
+    (values.Ref (length world.heap), ap (λ (g : World × Option Value). g.1) (sym (some_is _ gave e)))
+gives_something program world result receiver arguments (answers.Arg i) gave fits some e =
+    let v = map_of (λ (v : Value). (world, Some v)) (slice_get arguments i) gave e in
+    (v.0, ap (λ (g : World × Option Value). g.1) (sym v.2))
+gives_something program world result receiver arguments answers.Receiver gave fits some e =
+    let v = map_of (λ (v : Value). (world, Some v)) receiver gave e in
+    (v.0, ap (λ (g : World × Option Value). g.1) (sym v.2))
+gives_something program world result receiver arguments (answers.Throws class) gave fits some e = absurd cc
+
+-- ---- the frame that waited
+
+module _ (program : Program) (policy : Policy) (certificate : Certificate) (o : IsObeying program policy certificate) (rules_hold : RulesHold program policy certificate)
+    (number : ℕ) (thread : Thread) (method : ℕ) (seen : List Event) (fields : List Value) (frame : Frame) (below : List Frame) (under : AreBelow program policy certificate below)
+    (c : IsOwnerCall program policy certificate seen fields method frame) (has : has_clauses policy method ≡ true) where
+  abbrev rules : Rules
+  rules = rules_of program policy certificate
+
+  abbrev note : Note
+  note = notes.Granted c.site true (needs policy method) false
+
+  ruled : IsRuled program policy certificate frame (c.at_call.insn, target.ApiMethod method) note
+  ruled = rules_hold frame (c.at_call.insn, target.ApiMethod method) note c.at_call.there c.at_call.told
+
+  row_is : CallsMethod rules c.site true (needs policy method) false (shape_of c.at_call.insn) (target.ApiMethod method) ruled.r
+  row_is = call_row rules c.site (needs policy method) (shape_of c.at_call.insn) (target.ApiMethod method) ruled.r c.at_call.call ruled.has
+
+  -- the update is due
+  owes : (site : Site) (e : Event) (at : ℕ) (items : List Value) → is_before site.phase ≡ false → IsEventOf site e → AreClean program items
+      → ((clause : Clause) → clause_of policy site ≡ Some clause → HasResultIn clause site.phase false site.base frame.locals items e)
+      → Owns program policy certificate.mode (seen ++ e ∷ []) fields (moved_to frame at frame.locals items) (notes.Owed site 1 false false)
+  owes site e at items behind of clean tells = (
+    c.hold,
+    record {
+      behind = behind;
+      state = c.state;
+      ranged = c.ranged;
+      variables = c.variables;
+      above = record { rest = items; is = refl; clean = clean };
+      owed = by (clause_of policy site) refl;
+    },
+  ) where
+    by : (clause : Option Clause) → clause_of policy site ≡ clause → IsOwed policy site 1 clause (seen ++ e ∷ []) c.state false frame.locals items
+    by None there = leads_still policy seen e c.state c.led (has_its_clause policy site e of ∙ ap is_some there)
+    by (Some clause) there = record { event = e; pends = is_pending policy seen site e c.state c.led (has_its_clause policy site e of ∙ ap is_some there) of; told = tells clause there }
+
+  -- the thread goes on, and the library saw an event
+  goes_seen : (world : World) (e : Event) (f : Frame) → IsHeldBy program policy certificate o number fields world → IsOwnerFrame program policy certificate (seen ++ e ∷ []) fields f
+      → ChangesOwner program policy certificate number seen (with_event (goes world thread (f ∷ below)) (Some e))
+  goes_seen world e f held top = record {
+    begins = refl;
+    followed = owned_followed program policy certificate o (seen ++ e ∷ []) fields f top.note top.owns;
+    goes = λ on. (held.clean, inl (record { locks = held.locks; fields = fields; variables = held.variables; owns = (top, under) }));
+  }
+
+  -- ---- the method returns
+
+  module _ (receiver : Option Value) (arguments : List Value) (answer : ApiAnswer) (world : World) (listed : ListedMethod)
+      (there : slice_get program.listing.methods method ≡ Some listed)
+      (fits : answer_fits program world.heap (types_of listed.id.desc).result receiver arguments answer ≡ true)
+      (gave : World × Option Value) (given_is : given world receiver arguments answer ≡ Some gave)
+      (clean : GivesClean program (state_of program policy certificate) world gave)
+      (locked : held_locks program world.monitors ≡ locked_by program number) (variables : slice_get world.statics (state_of program policy certificate) ≡ Some fields) where
+    abbrev event : Event
+    event = events.Return number method (option_map (value_shown program gave.0.heap) gave.1)
+
+    abbrev items : List Value
+    items = option_to_list gave.1 ++ frame.stack.items
+
+    abbrev site : Site
+    site = in_phase After c.site
+
+    result_shown : (v : Value) → gave.1 ≡ Some v → option_and_then number_in (slice_get items 0) ≡ event_returned event
+    result_shown v is =
+        let first : slice_get items 0 ≡ Some v = ap (λ (r : Option Value). slice_get (option_to_list r ++ frame.stack.items) 0) is in
+        let told : event_returned event ≡ shown_number (value_shown program gave.0.heap v) =
+        ap (λ (r : Option Value). option_and_then shown_number (option_map (value_shown program gave.0.heap) r)) is in
+        ap (option_and_then number_in) first ∙ sym (told ∙ shown_as program gave.0.heap v)
+
+    has_result : (clause : Clause) (result : Option Kind) → (is_some result ≡ true → is_some (types_of listed.id.desc).result ≡ true)
+        → HasResult result false site.base frame.locals items event
+    has_result clause None gives = tt
+    has_result clause (Some kind) gives =
+        let v = gives_something program world (types_of listed.id.desc).result receiver arguments answer gave fits (gives refl) given_is in
+        result_shown v.0 v.1
+
+    tells_result : (clause : Clause) → clause_of policy site ≡ Some clause → HasResult clause.result false site.base frame.locals items event
+    tells_result clause is =
+        let found = found_is (FitsListing program.listing) _ policy.clauses clause o.listed is in
+        let p = and_parts (clause.method == c.site.method) _ found.passes in
+        let same : slice_get program.listing.methods clause.method ≡ Some listed =
+        ap (slice_get program.listing.methods) (eqb-true clause.method c.site.method p.0 ∙ c.of) ∙ there in
+        let agree = (found.so listed same).1 in
+        has_result clause clause.result (λ some. sym agree ∙ some)
+
+    result_clean : AreClean program items
+    result_clean = all_append (IsClean program) (option_to_list gave.1) frame.stack.items (by gave.1 clean.result) c.at_call.clean where
+      by : (r : Option Value) → IfSome r (IsClean program) → AreClean program (option_to_list r)
+      by None is = tt
+      by (Some v) is = (is, tt)
+
+    leads : LeadsTo program policy certificate frame (frame.at + 1) (Given (notes.Owed site 1 false false))
+    leads =
+        let asked : ruled.r.past ≡ Given (notes.Owed site 1 false false) = ap (λ (r : Row). r.past) row_is.is ∙ behind_held rules c.site (ap is_hold c.hold) in
+        subst (LeadsTo program policy certificate frame (frame.at + 1)) asked
+        (ruled.past (goes_behind program policy certificate o frame (c.at_call.insn, target.ApiMethod method) c.at_call.there (call_stays (shape_of c.at_call.insn) c.at_call.call)))
+
+    returns : ChangesOwner program policy certificate number seen (with_event (goes gave.0 thread (moved_to frame (frame.at + 1) frame.locals items ∷ below)) (Some event))
+    returns =
+        let of : IsEventOf site event = record { method = sym c.of; phase = refl } in
+        goes_seen gave.0 event (moved_to frame (frame.at + 1) frame.locals items)
+        (record {
+          clean = clean.clean;
+          locks = ap (held_locks program) clean.monitors ∙ locked;
+          variables = ap (λ (statics : List (List Value)). slice_get statics (state_of program policy certificate)) clean.statics ∙ variables;
+        })
+        (owner_frame program policy certificate o frame c.well (seen ++ event ∷ []) fields (frame.at + 1) frame.locals items (notes.Owed site 1 false false) c.well.locals leads
+        (owes site event (frame.at + 1) items refl of result_clean tells_result))
+
+    returns_change : (change : Change) → returned program gave.0 thread (frame ∷ below) gave.1 (Some event) ≡ Some change → ChangesOwner program policy certificate number seen change
+    returns_change change e =
+        let onward = λ (f : Frame). with_event (goes gave.0 thread (f ∷ below)) (Some event) in
+        let m = map_of onward (after frame items) change e in
+        let f : moved_to frame (frame.at + 1) frame.locals items ≡ m.0 = unless_of (nat_lt frame.stack.size (length items)) _ _ m.1 in
+        subst (ChangesOwner program policy certificate number seen) (ap onward f ∙ m.2) returns
+
+  -- ---- the method throws
+
+  module _ (world : World) (clean : IsCleanWorld program (state_of program policy certificate) world)
+      (locked : held_locks program world.monitors ≡ locked_by program number) (variables : slice_get world.statics (state_of program policy certificate) ≡ Some fields)
+      (class : Name) where
+    abbrev thrown : Value
+    thrown = values.Ref (length world.heap)
+
+    abbrev excepted : Event
+    excepted = events.Except number method
+
+    abbrev thrown_site : Site
+    thrown_site = in_phase Exceptional c.site
+
+    catches : (handler : Handler) × (handler_of program frame class ≡ Some handler)
+    catches =
+        ruled.duty method refl c.at_call.call has (duty_held rules method (ap is_hold c.hold)) class
+
+    abbrev caught : Frame
+    caught = moved_to frame catches.0.at frame.locals (thrown ∷ [])
+
+    caught_is : caught_in program thrown class frame ≡ Some caught
+    caught_is =
+        let size : frame.stack.size ≡ ruled.of.max_stack = by _ ruled.there c.well.size in
+        let room : 0 < frame.stack.size = subst (λ (n : ℕ). 0 < n) (sym size) (ruled.room class catches.0 catches.1) in
+        let fits : nat_lt 0 frame.stack.size ≡ true = lt-ltb 0 frame.stack.size room in
+        ap (option_and_then (λ (handler : Handler). cond (nat_lt 0 frame.stack.size) (Some (moved_to frame handler.at frame.locals (thrown ∷ []))) None)) catches.1
+        ∙ ap (λ (b : Bool). cond b (Some caught) None) fits where
+          by : (m : Option Method) → m ≡ Some ruled.of → IfSome m (λ n. frame.stack.size ≡ n.max_stack) → frame.stack.size ≡ ruled.of.max_stack
+          by None e size = absurd cc
+          by (Some n) e size = let same : n ≡ ruled.of = cc in subst (λ (x : Method). frame.stack.size ≡ x.max_stack) same size
+
+    leads_caught : LeadsTo program policy certificate frame catches.0.at (Given (notes.Owed thrown_site 1 false false))
+    leads_caught =
+        ruled.caught (Given (notes.Owed thrown_site 1 false false)) class catches.0
+        (ap (λ (r : Row). r.thrown) row_is.is ∙ ap Some (thrown_held rules c.site (ap is_hold c.hold))) catches.1
+
+    throws_well : ChangesOwner program policy certificate number seen (with_event (goes (with_object world (bare_object class)) thread (caught ∷ below)) (Some excepted))
+    throws_well =
+        let of : IsEventOf thrown_site excepted = record { method = sym c.of; phase = refl } in
+        goes_seen (with_object world (bare_object class)) excepted caught
+        (record { clean = with_clean program (state_of program policy certificate) world (bare_object class) clean (tt, refl); locks = locked; variables = variables })
+        (owner_frame program policy certificate o frame c.well (seen ++ excepted ∷ []) fields catches.0.at frame.locals (thrown ∷ []) (notes.Owed thrown_site 1 false false) c.well.locals leads_caught
+        (owes thrown_site excepted catches.0.at (thrown ∷ []) refl of (refl, tt) (λ clause is. tt)))
+
+    throws_change : ChangesOwner program policy certificate number seen (throws_new program world number thread (frame ∷ below) class (Some excepted))
+    throws_change = subst (ChangesOwner program policy certificate number seen) (sym (throws_caught program world number thread frame below class excepted caught caught_is)) throws_well
+
+  -- ---- any answer
+
+  module _ (world : World) (clean : IsCleanWorld program (state_of program policy certificate) world)
+      (locked : held_locks program world.monitors ≡ locked_by program number) (variables : slice_get world.statics (state_of program policy certificate) ≡ Some fields)
+      (frames : thread.frames ≡ frame ∷ below) (receiver : Option Value) (arguments : List Value) (passed : ArePassed program receiver arguments) (change : Change) where
+    abbrev Changes : Type 0
+    Changes = ChangesOwner program policy certificate number seen change
+
+    throws : (class : Name) → Some (throws_new program world number thread thread.frames class (Some (events.Except number method))) ≡ Some change → Changes
+    throws class e =
+        let same : throws_new program world number thread (frame ∷ below) class (Some (events.Except number method)) ≡ change =
+        ap (λ (fs : List Frame). throws_new program world number thread fs class (Some (events.Except number method))) (sym frames) ∙ some_is _ change e in
+        subst (ChangesOwner program policy certificate number seen) same (throws_change world clean locked variables class)
+
+    answers_well : (listed : ListedMethod) (answer : ApiAnswer) → slice_get program.listing.methods method ≡ Some listed
+        → answer_fits program world.heap (types_of listed.id.desc).result receiver arguments answer ≡ true
+        → answered_well program world number thread method receiver arguments answer ≡ Some change → Changes
+    answers_well listed answer there fits e = by (thrown_by answer) e where
+      by : (o : Option Name)
+          → option_map_or (thrown_by_library program world number thread method) o (option_and_then (returned_by program number thread method) (given world receiver arguments answer)) ≡ Some change
+          → Changes
+      by (Some class) e = throws class e
+      by None e =
+          let gave = and_then_of (returned_by program number thread method) (given world receiver arguments answer) change e in
+          let returns : returned program gave.0.0 thread (frame ∷ below) gave.0.1 (Some (events.Return number method (option_map (value_shown program gave.0.0.heap) gave.0.1))) ≡ Some change =
+          subst (λ (fs : List Frame). returned program gave.0.0 thread fs gave.0.1 (Some (events.Return number method (option_map (value_shown program gave.0.0.heap) gave.0.1))) ≡ Some change) frames gave.2 in
+          returns_change receiver arguments answer world listed there fits gave.0 gave.1
+          (gives_clean program (state_of program policy certificate) world clean receiver arguments answer gave.0 passed gave.1) locked variables change returns
+
+    answers_fit : (answer : ApiAnswer) → answered program world number thread method receiver arguments answer ≡ Some change → Changes
+    answers_fit answer e =
+        let test = λ (listed : ListedMethod). answer_fits program world.heap (types_of listed.id.desc).result receiver arguments answer in
+        let listed = and_then_of (λ (listed : ListedMethod). cond (test listed) (answered_well program world number thread method receiver arguments answer) None)
+        (slice_get program.listing.methods method) change e in
+        by (test listed.0) listed.0 refl listed.1 listed.2 where
+          by : (b : Bool) (listed : ListedMethod) → answer_fits program world.heap (types_of listed.id.desc).result receiver arguments answer ≡ b
+              → slice_get program.listing.methods method ≡ Some listed
+              → cond (answer_fits program world.heap (types_of listed.id.desc).result receiver arguments answer) (answered_well program world number thread method receiver arguments answer) None ≡ Some change
+              → Changes
+          by true listed fits there e = let well : answered_well program world number thread method receiver arguments answer ≡ Some change = rw fits at e in answers_well listed answer there fits well
+          by false listed fits there e = let none : None ≡ Some change = rw fits at e in absurd cc
+
+    steps : (choice : Choice) → call_stepped program world number thread method receiver arguments choice ≡ Some change → Changes
+    steps choices.Plain e = elim (cases_Bool (is_on_null receiver)) [
+      | inl null ↦ let thrown : Some (throws_new program world number thread thread.frames null_pointer (Some (events.Except number method))) ≡ Some change = rw null at e in throws null_pointer thrown
+      | inr there ↦ let none : None ≡ Some change = rw there at e in absurd cc
+    ]
+    steps (choices.Answer answer) e = elim (cases_Bool (is_on_null receiver)) [
+      | inl null ↦ let none : None ≡ Some change = rw null at e in absurd cc
+      | inr there ↦ let answers : answered program world number thread method receiver arguments answer ≡ Some change = rw there at e in answers_fit answer answers
+    ]
+
+module _ (program : Program) (policy : Policy) (certificate : Certificate) (o : IsObeying program policy certificate) (rules_hold : RulesHold program policy certificate) where
+  -- An answer to a call that was granted changes what it may.
+  pub owner_answers : OwnerAnswers program policy certificate
+  owner_answers world number thread method receiver arguments choice change seen fields clean has call passed locked variables step = by thread.frames refl call where
+    by : (frames : List Frame) → thread.frames ≡ frames → AreOwnerCall program policy certificate seen fields method frames → ChangesOwner program policy certificate number seen change
+    by [] is call = absurd call
+    by (frame ∷ below) is call =
+        steps program policy certificate o rules_hold number thread method seen fields frame below call.1 call.0 has world clean locked variables is receiver arguments passed change choice step

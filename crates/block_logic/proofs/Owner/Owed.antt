@@ -1,0 +1,230 @@
+-- Steps behind a call: its result is kept, and the lock is left once nothing is due any more.
+use Rattle.std.proofs.Common.{◌≡◌, ℕ, zero, suc, ◌<◌, ◌+◌, Bool, true, false, List, [], ◌∷◌, ◌++◌, length, drop, Option, Some, None, refl, sym, ap, ◌∙◌, subst, arith, inl, inr, eqb-true, ltb-true}
+use Rattle.std.specs.Prelude.{◌==◌, ◌&&◌, ◌||◌, ◌⊎◌, nat_lt, not, is_some, option_and_then, slice_get, slice_set}
+use Rattle.std.proofs.lemmas.Bool.{and_parts, not-true}
+use Rattle.api_listing.specs.declared.events.Event.{Event}
+use Rattle.insn_codec.specs.declared.insn.Insn.{Insn}
+use Rattle.insn_codec.specs.declared.shape.Heap.TheVariants as heap
+use Rattle.insn_codec.specs.declared.shape.Kind.{Kind}
+use Rattle.insn_codec.specs.declared.shape.Shape.{Shape}
+use Rattle.insn_codec.specs.declared.shape.Shape.TheVariants as shapes
+use Rattle.insn_codec.specs.Shapes.{shape_of}
+use Rattle.insn_codec.specs.Table.{ends}
+use Rattle.bytecode_model.specs.declared.program.Program.{Program}
+use Rattle.bytecode_model.specs.declared.program.Target.{Target}
+use Rattle.cert_format.specs.declared.certificate.Certificate.{Certificate}
+use Rattle.cert_format.specs.declared.certificate.Mode.TheVariants as modes
+use Rattle.cert_format.specs.declared.note.Note.TheVariants as notes
+use Rattle.cert_format.specs.declared.note.Phase8.{Phase8}
+use Rattle.cert_format.specs.declared.note.Phase8.TheVariants.{Before, After, Exceptional}
+use Rattle.cert_format.specs.declared.note.Site.{Site}
+use Rattle.conspec_tree.specs.declared.types.Kind.{Kind as ResultKind}
+use Rattle.conspec_automaton.specs.declared.policy.Clause.{Clause}
+use Rattle.conspec_automaton.specs.declared.policy.Policy.{Policy}
+use Rattle.guest_heap.specs.declared.value.Value.{Value}
+use Rattle.guest_model.specs.declared.machine.Machine.{Machine}
+use Rattle.guest_model.specs.Changes.{Change}
+use Rattle.guest_model.specs.Parts.{number_in}
+use Rattle.guest_model.specs.Stepping.{Acting}
+use Rattle.guest_model.proofs.Options.{all_drop, all_get, all_set}
+use Rattle.block_logic.specs.Accepted.{rules_of}
+use Rattle.block_logic.specs.Clauses.{clause_of}
+use Rattle.block_logic.specs.Meaning.{AreClean, HasResult, HasResultIn, IsAbove, IsClean, IsOwed, Leads, MeansOwed, lock_of, lock_on}
+use Rattle.block_logic.specs.Obeying.{IsObeying}
+use Rattle.block_logic.specs.Operands.{pushes_state, stored}
+use Rattle.block_logic.specs.Rows.{Given, Open, Row, Rules, may_keep, may_leave, may_push, owed_row}
+use Rattle.block_logic.specs.Standing.{is_after}
+use Rattle.block_logic.proofs.Owner.Acting.{ActsHolding, gives_up, goes_with, goes_with_behind, leads_behind}
+use Rattle.block_logic.proofs.Owner.GrantedRows.{this_slot}
+use Rattle.block_logic.proofs.Owner.Moves.{stores}
+use Rattle.block_logic.proofs.Owner.Pushes.{pushes_lock}
+use Rattle.block_logic.proofs.Owner.Rows.{Asks, gives_asks, leads_asks, leaves_is, one_row, where_so}
+use Rattle.block_logic.proofs.Owner.Variables.{set_there}
+use Rattle.block_logic.proofs.Ruled.{OpenIsFree}
+use Rattle.block_logic.proofs.Steps.{ChangesOwner}
+
+-- ---- the rows
+
+stores_is : (shape : Shape) (slot : ℕ) → stored shape ≡ Some slot → (kind : Kind) × (shape ≡ shapes.Store kind slot)
+stores_is (shapes.Store kind place) slot e = let same : place ≡ slot = cc in (kind, ap (shapes.Store kind) same)
+stores_is shape slot e = absurd cc
+
+module _ (rules : Rules) (site : Site) (stage : ℕ) (kept top : Bool) (shape : Shape) (ref : Target) (r : Row) where
+  -- The result is put into its local,
+  record KeepsResult : Type 0 where
+    pub behind : is_after site.phase ≡ true
+    pub early : nat_lt stage 2 ≡ true
+    pub loose : kept ≡ false
+    pub bare : top ≡ false
+    pub kind : Kind
+    pub is : shape ≡ shapes.Store kind site.base
+    pub asks : Asks r (Given (notes.Owed site stage true false))
+
+  -- the lock is pushed,
+  record PushesLock : Type 0 where
+    pub bare : top ≡ false
+    pub pushes : pushes_state shape ref ≡ true
+    pub asks : Asks r (Given (notes.Owed site stage kept true))
+
+  -- taken, which it is not where it is held,
+  record TakesLock : Type 0 where
+    pub none : stage ≡ 0
+
+  -- or left.
+  record LeavesLock : Type 0 where
+    pub on : top ≡ true
+    pub may : may_leave rules.policy site stage ≡ true
+    pub is : shape ≡ shapes.Heap heap.Exit
+    pub asks : Asks r Open
+
+  owed_cases : owed_row rules site stage kept top shape ref ≡ Some r → KeepsResult ⊎ (PushesLock ⊎ (TakesLock ⊎ LeavesLock))
+  owed_cases e = elim (one_row _ _ r e) [
+    | inl keeping ↦
+        let w = where_so _ _ r keeping in
+        let p = and_parts (may_keep rules.policy site stage kept top) _ w.0 in
+        let q = and_parts (is_after site.phase) _ p.0 in
+        let u = and_parts (nat_lt stage 2) _ q.1 in
+        let v = and_parts (not kept) _ u.1 in
+        let x = and_parts (not top) _ v.1 in
+        let is = stores_is shape site.base (this_slot (stored shape) site.base p.1) in
+        inl (record {
+          behind = q.0;
+          early = u.0;
+          loose = not-true kept v.0;
+          bare = not-true top x.0;
+          kind = is.0;
+          is = is.1;
+          asks = gives_asks (notes.Owed site stage true false) r w.1;
+        })
+    | inr others ↦ inr (elim (one_row _ _ r others) [
+      | inl pushing ↦
+          let w = where_so _ _ r pushing in
+          let p = and_parts (not top) _ w.0 in
+          let q = and_parts (may_push rules.policy site stage) _ p.1 in
+          inl (record { bare = not-true top p.0; pushes = q.1; asks = gives_asks (notes.Owed site stage kept true) r w.1 })
+      | inr rest ↦ inr (elim (one_row _ _ r rest) [
+        | inl taking ↦
+            let w = where_so _ _ r taking in
+            let p = and_parts top _ w.0 in
+            let q = and_parts (stage == 0) _ p.1 in
+            inl (record { none = eqb-true stage 0 q.0 })
+        | inr leaving ↦
+            let w = where_so _ _ r leaving in
+            let p = and_parts top _ w.0 in
+            let q = and_parts (may_leave rules.policy site stage) _ p.1 in
+            inr (record { on = p.0; may = q.0; is = leaves_is shape q.1; asks = leads_asks Open r w.1 })
+      ])
+    ])
+  ]
+
+-- ---- the steps
+
+module _ (program : Program) (policy : Policy) (certificate : Certificate) (o : IsObeying program policy certificate) (open_is_free : OpenIsFree program policy certificate)
+    (machine : Machine) (a : Acting) (next : Insn × Target) (change : Change) (fields : List Value) (seen : List Event)
+    (site : Site) (stage : ℕ) (kept top : Bool) (h : ActsHolding program policy certificate machine a next change (notes.Owed site stage kept top) fields)
+    (hold : certificate.mode ≡ modes.Hold) (m : MeansOwed program policy seen fields a.frame site stage kept top) where
+  abbrev rules : Rules
+  rules = rules_of program policy certificate
+
+  abbrev Changes : Type 0
+  Changes = ChangesOwner program policy certificate a.number seen change
+
+  abbrev r : Row
+  r = h.ruled.r
+
+  -- ---- the result is kept
+
+  module _ (v : Value) (rest : List Value) (inside : site.base < length a.frame.locals) where
+    abbrev locals : List Value
+    locals = slice_set a.frame.locals site.base v
+
+    keeps : (clause : Clause) (result : Option ResultKind) (event : Event) → slice_get m.above.rest 0 ≡ Some v
+        → HasResult result false site.base a.frame.locals m.above.rest event → HasResult result true site.base locals rest event
+    keeps clause None event first has = tt
+    keeps clause (Some kind) event first has =
+        ap (option_and_then number_in) (set_there a.frame.locals site.base v inside ∙ sym first) ∙ has
+
+    keeps_in : (clause : Clause) (phase : Phase8) (event : Event) → is_after phase ≡ true → slice_get m.above.rest 0 ≡ Some v
+        → HasResultIn clause phase false site.base a.frame.locals m.above.rest event → HasResultIn clause phase true site.base locals rest event
+    keeps_in clause Before event after first has = absurd cc
+    keeps_in clause After event after first has = keeps clause clause.result event first has
+    keeps_in clause Exceptional event after first has = absurd cc
+
+    keeps_owed : (n : ℕ) (clause : Option Clause) → nat_lt n 2 ≡ true → is_after site.phase ≡ true → slice_get m.above.rest 0 ≡ Some v
+        → IsOwed policy site n clause seen m.state false a.frame.locals m.above.rest → IsOwed policy site n clause seen m.state true locals rest
+    keeps_owed zero clause early after first owed = owed
+    keeps_owed (suc zero) None early after first owed = owed
+    keeps_owed (suc zero) (Some clause) early after first owed =
+        record { event = owed.event; pends = owed.pends; told = keeps_in clause site.phase owed.event after first owed.told }
+    keeps_owed (suc (suc n)) clause early after first owed = absurd (omega (arith, ltb-true (suc (suc n)) 2 early))
+
+  bare_above : top ≡ false → a.frame.stack.items ≡ m.above.rest
+  bare_above bare = m.above.is ∙ ap (λ (on : Bool). lock_on program on ++ m.above.rest) bare
+
+  keeping : KeepsResult rules site stage kept top (shape_of next.0) next.1 r → Changes
+  keeping c =
+      let s = stores program machine a change next h.step c.kind site.base c.is in
+      let same = bare_above c.bare in
+      let items = drop 1 a.frame.stack.items in
+      let first : slice_get m.above.rest 0 ≡ Some s.0 = subst (λ (vs : List Value). slice_get vs 0 ≡ Some s.0) same s.1 in
+      let clean : AreClean program a.frame.stack.items = subst (AreClean program) (sym same) m.above.clean in
+      let value : IsClean program s.0 = all_get (IsClean program) a.frame.stack.items 0 s.0 clean s.1 in
+      let owed : IsOwed policy site stage (clause_of policy site) seen m.state false a.frame.locals m.above.rest =
+      subst (λ (b : Bool). IsOwed policy site stage (clause_of policy site) seen m.state b a.frame.locals m.above.rest) c.loose m.owed in
+      goes_with program policy certificate o machine a next change _ fields h seen (a.frame.at + 1) (slice_set a.frame.locals site.base s.0) items (notes.Owed site stage true false)
+      (all_set (IsClean program) a.frame.locals site.base s.0 h.acts.well.locals value)
+      (leads_behind program policy certificate o machine a next change _ fields h seen (Given (notes.Owed site stage true false)) (ap ends c.is) c.asks.past) s.3 (
+        hold,
+        record {
+          behind = m.behind;
+          state = m.state;
+          ranged = m.ranged;
+          variables = m.variables;
+          above = record { rest = items; is = refl; clean = all_drop (IsClean program) 1 a.frame.stack.items clean };
+          owed = keeps_owed s.0 items s.2 stage (clause_of policy site) c.early c.behind first owed;
+        },
+      )
+
+  -- ---- the lock is pushed
+
+  pushing : PushesLock rules site stage kept top (shape_of next.0) next.1 r → Changes
+  pushing c =
+      let p = pushes_lock program policy certificate machine a change next h.step c.pushes in
+      let items = lock_of program ∷ a.frame.stack.items in
+      goes_with_behind program policy certificate o machine a next change _ fields h seen items (notes.Owed site stage kept true) p.1 c.asks p.0 (
+        hold,
+        record {
+          behind = m.behind;
+          state = m.state;
+          ranged = m.ranged;
+          variables = m.variables;
+          above = record { rest = m.above.rest; is = ap (λ (vs : List Value). lock_of program ∷ vs) (bare_above c.bare); clean = m.above.clean };
+          owed = m.owed;
+        },
+      )
+
+  -- ---- it is left
+
+  led_with : (n : ℕ) (clause : Option Clause) → (((n == 1) && not (is_some clause)) || (n == 2)) ≡ true
+      → IsOwed policy site n clause seen m.state kept a.frame.locals m.above.rest → Leads policy seen m.state
+  led_with zero clause may owed = absurd owed
+  led_with (suc zero) None may owed = owed
+  led_with (suc zero) (Some clause) may owed = absurd cc
+  led_with (suc (suc zero)) clause may owed = owed
+  led_with (suc (suc (suc n))) clause may owed = absurd owed
+
+  leaving : LeavesLock rules site stage kept top (shape_of next.0) next.1 r → Changes
+  leaving c =
+      let above : IsAbove program (lock_of program ∷ []) a.frame.stack.items =
+      record { rest = m.above.rest; is = m.above.is ∙ ap (λ (on : Bool). lock_on program on ++ m.above.rest) c.on; clean = m.above.clean } in
+      gives_up program policy certificate o machine a next change _ fields h seen open_is_free c.is c.asks above m.state m.ranged
+      (led_with stage (clause_of policy site) c.may m.owed) m.variables
+
+  -- An instruction behind a call changes what it may.
+  pub owed_steps : Changes
+  owed_steps = elim (owed_cases rules site stage kept top (shape_of next.0) next.1 r h.ruled.has) [
+    | inl c ↦ keeping c
+    | inr (inl c) ↦ pushing c
+    | inr (inr (inl c)) ↦ absurd (subst (λ (n : ℕ). IsOwed policy site n (clause_of policy site) seen m.state kept a.frame.locals m.above.rest) c.none m.owed)
+    | inr (inr (inr c)) ↦ leaving c
+  ]

@@ -1,0 +1,50 @@
+-- What is proved of the steps of accepted programs, and of their start, from what the policy sees of events.
+use Rattle.bytecode_model.specs.declared.program.Program.{Program}
+use Rattle.cert_format.specs.declared.certificate.Certificate.{Certificate}
+use Rattle.conspec_automaton.specs.declared.policy.Policy.{Policy}
+use Rattle.block_logic.specs.Obeying.{IsObeying}
+use Rattle.block_logic.proofs.Client.Answers.{client_answers}
+use Rattle.block_logic.proofs.Client.Steps.{client_steps}
+use Rattle.block_logic.proofs.Composing.{StepLaws}
+use Rattle.block_logic.proofs.Obeyed.{Proved}
+use Rattle.block_logic.proofs.Owner.Answers.{owner_answers}
+use Rattle.block_logic.proofs.Owner.Granted.{SeenIsEnough}
+use Rattle.block_logic.proofs.Owner.Steps.{owner_steps}
+use Rattle.block_logic.proofs.Owner.Taking.{taking_steps, taking_waits}
+use Rattle.block_logic.proofs.Ruled.{BeginsOpen, OpenIsFree, RulesHold}
+use Rattle.block_logic.proofs.RulesHold.{begins_open, open_is_free, rules_hold}
+use Rattle.block_logic.proofs.Starting.{starts_well}
+use Rattle.block_logic.proofs.Client.Begins.{rests_client}
+use Rattle.block_logic.proofs.Client.Frames.{Laws}
+use Rattle.block_logic.proofs.Steps.{StartsWell}
+
+module _ (program : Program) (policy : Policy) (certificate : Certificate) (o : IsObeying program policy certificate) where
+  ruled : RulesHold program policy certificate
+  ruled = rules_hold program policy certificate o
+
+  begin : BeginsOpen program policy certificate
+  begin = begins_open program policy certificate o
+
+  free : OpenIsFree program policy certificate
+  free = open_is_free program policy certificate o
+
+  pub step_laws : SeenIsEnough → StepLaws program policy certificate
+  step_laws seen = record {
+    client_steps = client_steps program policy certificate o ruled begin free;
+    client_answers = client_answers program policy certificate o ruled begin free;
+    taking_steps = taking_steps program policy certificate o ruled;
+    taking_waits = taking_waits program policy certificate o ruled;
+    owner_steps = owner_steps program policy certificate o ruled free seen;
+    owner_answers = owner_answers program policy certificate o ruled;
+  }
+
+  pub starts : StartsWell program policy certificate
+  starts =
+      let laws : Laws program policy certificate = record { obeys = o; rules_hold = ruled; begins_open = begin; open_free = free } in
+      starts_well program policy certificate o (rests_client program policy certificate laws)
+
+pub proved : SeenIsEnough → Proved
+proved seen = record {
+  steps = λ program policy certificate o. step_laws program policy certificate o seen;
+  starts = λ program policy certificate o. starts program policy certificate o;
+}

@@ -1,0 +1,67 @@
+-- What the code tells of terms, notes and rows without building them, and what each is.
+use Rattle.std.specs.Prelude.{List, [], ◌∷◌, ◌++◌, option_map, slice_set}
+use Rattle.cert_format.specs.declared.note.Note.{Note}
+use Rattle.cert_format.specs.declared.note.Note.TheVariants as notes
+use Rattle.cert_format.specs.declared.note.Term.{Term}
+use Rattle.cert_format.specs.declared.note.Term.TheVariants as terms
+use Rattle.block_logic.specs.declared.lent.AskedRef.{AskedRef}
+use Rattle.block_logic.specs.declared.lent.AskedRef.TheVariants as asked
+use Rattle.block_logic.specs.declared.lent.CheckRef.{CheckRef}
+use Rattle.block_logic.specs.declared.lent.HeldRef.{HeldRef}
+use Rattle.block_logic.specs.declared.lent.NoteRef.{NoteRef}
+use Rattle.block_logic.specs.declared.lent.NoteRef.TheVariants as lent
+use Rattle.block_logic.specs.declared.lent.RowRef.{RowRef}
+use Rattle.block_logic.specs.declared.lent.TermsRef.{TermsRef}
+use Rattle.block_logic.specs.declared.lent.TermsRef.TheVariants as lists
+use Rattle.block_logic.specs.declared.lent.WideTerm.{WideTerm}
+use Rattle.block_logic.specs.declared.lent.WideTerm.TheVariants as wide
+use Rattle.block_logic.specs.Rows.{Asked, Check, Given, Nothing, Open, Row, Taking}
+use Rattle.block_logic.specs.Terms.{after_updates}
+
+-- ---- terms
+
+abbrev pub term_lent : WideTerm → Term
+term_lent (wide.Const n) = terms.Const n
+term_lent (wide.Var var) = terms.Var var
+term_lent (wide.VarAdd var n) = terms.VarAdd var n
+term_lent (wide.Arg i) = terms.Arg i
+term_lent wide.Result = terms.Result
+term_lent wide.Lock = terms.Lock
+
+abbrev pub terms_lent : TermsRef → List Term
+terms_lent (lists.Told told) = told.now
+terms_lent (lists.Pushed below top) = below.now ++ term_lent top ∷ []
+terms_lent (lists.Written map var term) = slice_set map.now var (term_lent term)
+terms_lent (lists.After policy updates) = after_updates policy.now updates.now
+
+-- ---- notes
+
+abbrev pub held_lent : HeldRef → Note
+held_lent h = notes.Held h.site h.failed h.holding (terms_lent h.terms) (terms_lent h.map)
+
+abbrev pub note_lent : NoteRef → Note
+note_lent (lent.Held held) = held_lent held
+note_lent (lent.Granted site locked loaded top) = notes.Granted site locked loaded top
+note_lent (lent.Owed site stage kept top) = notes.Owed site stage kept top
+note_lent (lent.Stop site place) = notes.Stop site place
+
+-- ---- rows
+
+abbrev pub asked_lent : AskedRef → Asked
+asked_lent asked.Open = Open
+asked_lent asked.Taking = Taking
+asked_lent (asked.Given note) = Given (note_lent note)
+asked_lent asked.Nothing = Nothing
+
+abbrev pub row_lent : RowRef → Row
+row_lent row = record { past = asked_lent row.past; jump = asked_lent row.jump; thrown = option_map asked_lent row.thrown }
+
+abbrev pub check_lent : CheckRef → Check
+check_lent c = record {
+  site = c.site;
+  clause = c.clause.now;
+  failed = c.failed;
+  holding = c.holding;
+  terms = c.terms.now;
+  map = c.map.now;
+}

@@ -1,0 +1,134 @@
+//! Terms, notes and rows that stand nowhere as a whole. The table asks for notes with lists of terms that no certificate
+//! has; what is told here takes no memory, and is compared with the note that stands there.
+
+ghost use Rattle.std.specs.Prelude.{◌≡◌, option_map};
+ghost use Rattle.block_logic.specs.Lent.{asked_lent, note_lent, row_lent};
+ghost use Rattle.block_logic.specs.Rows.{gives, leads};
+
+use cert_format::{Site, Term};
+use conspec_automaton::{Clause, Policy};
+use conspec_tree::Update;
+
+/// A term, whose numbers may be larger than those that a certificate tells.
+#[derive(Clone, Copy)]
+pub enum WideTerm {
+    /// This number.
+    Const(i32),
+    /// The policy's variable of this number.
+    Var(usize),
+    /// That variable and this addend.
+    VarAdd(usize, i32),
+    /// The argument of this number of the method.
+    Arg(usize),
+    /// What the method returned.
+    Result,
+    /// The class whose monitor is the lock.
+    Lock,
+}
+
+/// A list of terms.
+#[derive(Clone, Copy)]
+pub enum TermsRef<'a> {
+    /// These.
+    Told(&'a [Term]),
+    /// These, and another one on top.
+    Pushed {
+        below: &'a [Term],
+        top: WideTerm,
+    },
+    /// These, with another one in the place of this number.
+    Written {
+        map: &'a [Term],
+        var: usize,
+        term: WideTerm,
+    },
+    /// The policy's variables once the updates are made.
+    After {
+        policy: &'a Policy,
+        updates: &'a [Update],
+    },
+}
+
+/// The note of a check that was made so far.
+#[derive(Clone, Copy)]
+pub struct HeldRef<'a> {
+    pub site: Site,
+    pub failed: usize,
+    pub holding: usize,
+    pub terms: TermsRef<'a>,
+    pub map: TermsRef<'a>,
+}
+
+/// A note that is given to the instructions that come next.
+#[derive(Clone, Copy)]
+pub enum NoteRef<'a> {
+    Held(HeldRef<'a>),
+    Granted {
+        site: Site,
+        locked: bool,
+        loaded: usize,
+        top: bool,
+    },
+    Owed {
+        site: Site,
+        stage: usize,
+        kept: bool,
+        top: bool,
+    },
+    Stop {
+        site: Site,
+        place: usize,
+    },
+}
+
+/// What is asked of a note.
+#[derive(Clone, Copy)]
+pub enum AskedRef<'a> {
+    /// That the thread is in no block.
+    Open,
+    /// That the lock is about to be taken, for a call with a clause.
+    Taking,
+    /// That it may stand for this one.
+    Given(NoteRef<'a>),
+    /// What no note is.
+    Nothing,
+}
+
+/// What is asked of the next instruction, of those that are jumped to, and, of an instruction that may throw, of its
+/// handlers.
+#[derive(Clone, Copy)]
+pub struct RowRef<'a> {
+    pub past: AskedRef<'a>,
+    pub jump: AskedRef<'a>,
+    pub thrown: Option<AskedRef<'a>>,
+}
+
+/// A check: its site and clause, how many branches fail, how many atoms of the next one hold, what is pushed, and the
+/// variables.
+#[derive(Clone, Copy)]
+pub struct CheckRef<'a> {
+    pub site: Site,
+    pub clause: &'a Clause,
+    pub failed: u8,
+    pub holding: u8,
+    pub terms: &'a [Term],
+    pub map: &'a [Term],
+}
+
+/// The same is asked of each instruction that may come next, of an instruction that throws nothing.
+pub fn leads(asked: AskedRef<'_>) -> Option<RowRef<'_>>
+    ensures { option_map row_lent result ≡ leads (asked_lent asked.entry) }
+{
+    Some(RowRef {
+        past: asked,
+        jump: asked,
+        thrown: None,
+    })
+}
+
+/// The note is given to each of them.
+pub fn gives(note: NoteRef<'_>) -> Option<RowRef<'_>>
+    ensures { option_map row_lent result ≡ gives (note_lent note.entry) }
+{
+    leads(AskedRef::Given(note))
+}

@@ -1,0 +1,176 @@
+//! The notes of a method: of each instruction, or of its block.
+
+ghost use Rattle.std.specs.Prelude.{◌≡◌, ◌++◌, ◌∷◌, [], drop, IfOk, length, map, OnOk};
+ghost use Rattle.bytecode_model.specs.declared.program.Target.TheVariants as target;
+ghost use Rattle.cert_format.specs.declared.note.Note.TheVariants.{Free};
+ghost use Rattle.conspec_automaton.specs.Sound.{IsPolicy};
+ghost use Rattle.block_template.specs.declared.item.Item.{Item as SpecItem};
+ghost use Rattle.cert_maker.specs.Noting.{block_notes, if_framed, method_notes, note_of, part_notes, parts_notes, where_framed};
+
+use crate::called::Called;
+use crate::notes::note_of;
+use block_template::{Item, Role, items};
+use bytecode_model::{Method, Target};
+use cert_format::{FrameType, Mode, Note};
+use conspec_automaton::{Policy, has_clauses};
+use mon_base::{List, NoMemory};
+use std::alloc::Global;
+
+/// The notes of the instructions that a method is woven to, by their frames.
+pub fn method_notes(
+    alloc: Global,
+    policy: &Policy,
+    mode: Mode,
+    method: &Method,
+    frames: &[Option<FrameType>],
+) -> Result<List<Note>, NoMemory>
+    requires policy { IsPolicy policy.now }
+    ensures { IfOk result (λ notes. notes ≡ method_notes policy.now mode method.now frames.now) }
+{
+    let mut notes = List::new(alloc);
+    let mut refs = method.refs.as_slice();
+    let mut left = frames;
+    while let [target, others @ ..] = refs {
+        let count = put_part(
+            alloc,
+            &mut notes,
+            policy,
+            mode,
+            method.max_locals,
+            target,
+            left,
+        )?;
+        left = behind(left, count);
+        refs = others;
+    }
+    Ok(notes)
+}
+
+/// Appends the notes of what stands for an instruction, and tells how many instructions that are.
+fn put_part(
+    alloc: Global,
+    notes: &mut List<Note>,
+    policy: &Policy,
+    mode: Mode,
+    base: u16,
+    target: &Target,
+    frames: &[Option<FrameType>],
+) -> Result<usize, NoMemory>
+    requires policy { IsPolicy policy.now }
+    ensures notes { OnOk result (notes.new ≡ notes.old ++ where_framed (part_notes policy.now mode base target.now) frames.now) }
+    ensures count { IfOk result (λ count. count ≡ length (part_notes policy.now mode base target.now)) }
+{
+    match target {
+        Target::ApiMethod(callee) => put_call(alloc, notes, policy, mode, base, *callee, frames),
+        _ => put_alone(notes, frames),
+    }
+}
+
+fn put_call(
+    alloc: Global,
+    notes: &mut List<Note>,
+    policy: &Policy,
+    mode: Mode,
+    base: u16,
+    callee: u32,
+    frames: &[Option<FrameType>],
+) -> Result<usize, NoMemory>
+    requires policy { IsPolicy policy.now }
+    ensures notes { OnOk result (notes.new ≡ notes.old ++ where_framed (part_notes policy.now mode base (target.ApiMethod callee)) frames.now) }
+    ensures count { IfOk result (λ count. count ≡ length (part_notes policy.now mode base (target.ApiMethod callee))) }
+{
+    if !has_clauses(policy, callee) {
+        return put_alone(notes, frames);
+    }
+    put_block(alloc, notes, policy, mode, base, callee, frames)
+}
+
+/// Appends the notes of a block. Its roles do not depend on where its locals begin.
+fn put_block(
+    alloc: Global,
+    notes: &mut List<Note>,
+    policy: &Policy,
+    mode: Mode,
+    base: u16,
+    callee: u32,
+    frames: &[Option<FrameType>],
+) -> Result<usize, NoMemory>
+    requires policy { IsPolicy policy.now }
+    ensures notes { OnOk result (notes.new ≡ notes.old ++ where_framed (block_notes policy.now mode base callee) frames.now) }
+    ensures count { IfOk result (λ count. count ≡ length (block_notes policy.now mode base callee)) }
+{
+    let block = items(alloc, policy, mode, callee, 0)?;
+    put_items(
+        alloc,
+        notes,
+        policy,
+        Called { callee, base },
+        block.as_slice(),
+        frames,
+    )?;
+    Ok(block.len())
+}
+
+/// Appends the note of an instruction without a block.
+fn put_alone(notes: &mut List<Note>, frames: &[Option<FrameType>]) -> Result<usize, NoMemory>
+    ensures notes { OnOk result (notes.new ≡ notes.old ++ where_framed (Free ∷ []) frames.now) }
+    ensures count { IfOk result (λ count. count ≡ 1) }
+{
+    if !frames.is_empty() {
+        notes.push(Note::Free)?;
+    }
+    Ok(1)
+}
+
+/// Appends the notes of the items of a block.
+fn put_items(
+    alloc: Global,
+    notes: &mut List<Note>,
+    policy: &Policy,
+    call: Called,
+    items: &[Item],
+    frames: &[Option<FrameType>],
+) -> Result<(), NoMemory>
+    requires policy { IsPolicy policy.now }
+    ensures { OnOk result (notes.new ≡ notes.old ++ where_framed (map (λ (i : SpecItem). note_of policy.now call i.role) items.now) frames.now) }
+{
+    let mut items = items;
+    let mut frames = frames;
+    while let [item, others @ ..] = items {
+        let [frame, later @ ..] = frames else {
+            return Ok(());
+        };
+        notes.push(framed_note(alloc, policy, call, item.role, frame)?)?;
+        items = others;
+        frames = later;
+    }
+    Ok(())
+}
+
+/// The note of an instruction of this role; one without a frame is not reached.
+fn framed_note(
+    alloc: Global,
+    policy: &Policy,
+    call: Called,
+    role: Role,
+    frame: &Option<FrameType>,
+) -> Result<Note, NoMemory>
+    requires policy { IsPolicy policy.now }
+    ensures { IfOk result (λ note. note ≡ if_framed frame.now (note_of policy.now call role)) }
+{
+    match frame {
+        None => Ok(Note::Free),
+        Some(_) => note_of(alloc, policy, call, role),
+    }
+}
+
+/// The frames behind so many.
+fn behind(frames: &[Option<FrameType>], count: usize) -> &[Option<FrameType>]
+    ensures { result.now ≡ drop count frames.now }
+{
+    if count < frames.len() {
+        &frames[count..]
+    } else {
+        &[]
+    }
+}

@@ -1,0 +1,162 @@
+-- The plan of a policy: which calls have a block, and that each block has an instruction.
+use Rattle.std.proofs.Common.{◌≡◌, ℕ, zero, suc, ◌<◌, ◌≤◌, Bool, true, false, cond, List, [], ◌∷◌, length, map, Option, Some, None, refl, sym, ap, ◌∙◌, arith}
+use Rattle.std.specs.Prelude.{is_some, max, slice_get, option_map}
+use Rattle.std.specs.List.{Contains, cons_option, filter_map}
+use Rattle.std.proofs.lemmas.List.{length-map}
+use Rattle.std.proofs.lemmas.List.Elements.{Contains-append_left, Contains-append_right}
+use Rattle.std.proofs.lemmas.Option.{slice_get-map}
+use Rattle.bytecode_model.specs.declared.program.Target.{Target}
+use Rattle.bytecode_model.specs.declared.program.Target.TheVariants as target
+use Rattle.cert_format.specs.declared.certificate.Mode.{Mode}
+use Rattle.conspec_automaton.specs.declared.policy.Policy.{Policy}
+use Rattle.conspec_automaton.specs.Next.{has_clauses}
+use Rattle.offset_patch.specs.declared.block.Block.{Block}
+use Rattle.offset_patch.specs.declared.block.BlockInsn.{BlockInsn}
+use Rattle.offset_patch.specs.declared.block.PoolWant.{PoolWant}
+use Rattle.offset_patch.specs.Plan.{Plan}
+use Rattle.offset_patch.specs.Splicing.{part_of, want_of, block_wants, wants_of}
+use Rattle.block_template.specs.declared.item.Item.{Item}
+use Rattle.block_template.specs.Blocks.{block_with, bools_of, clauses_of, has_block, plan_of, site, site_locals}
+use Rattle.class_weaving.specs.Woven.{most_locals}
+use Rattle.woven_typing.specs.Framing.{items_of}
+use Rattle.woven_typing.proofs.Calling.{count_is}
+use Rattle.woven_typing.proofs.Parts.{part}
+
+module _ (policy : Policy) (mode : Mode) where
+  abbrev plan : Plan
+  plan = plan_of policy mode
+
+  there_by : (b : Bool) (block : Block) → is_some (cond b (Some block) None) ≡ b
+  there_by true block = refl
+  there_by false block = refl
+
+  pub there : (base : ℕ) (ref : Target) → is_some (site policy mode base ref) ≡ has_block policy ref
+  there base (target.ApiMethod callee) = there_by (has_clauses policy callee) (block_with mode (bools_of policy) base (clauses_of policy callee))
+  there base target.None = refl
+  there base (target.Builtin i) = refl
+  there base (target.Method c m) = refl
+  there base (target.Field c f) = refl
+  there base (target.ApiField i) = refl
+  there base (target.ClassName name) = refl
+  there base (target.Number n) = refl
+  there base (target.Literal i) = refl
+
+  module _ (base : ℕ) where
+    -- The block of a call of a method that a clause names.
+    pub site_is : (callee : ℕ) → has_clauses policy callee ≡ true
+        → site policy mode base (target.ApiMethod callee) ≡ Some (block_with mode (bools_of policy) base (clauses_of policy callee))
+    site_is callee has =
+        ap (λ (b : Bool). cond b (Some (block_with mode (bools_of policy) base (clauses_of policy callee))) None) has
+
+    pub part_is : (callee : ℕ) → has_clauses policy callee ≡ true
+        → part plan base (target.ApiMethod callee) ≡ map (λ (i : Item). i.insn) (items_of policy mode base callee)
+    part_is callee has = ap part_of (site_is callee has)
+
+    pub part_length : (callee : ℕ) → has_clauses policy callee ≡ true
+        → length (part plan base (target.ApiMethod callee)) ≡ length (items_of policy mode base callee)
+    part_length callee has = ap length (part_is callee has) ∙ length-map (items_of policy mode base callee) (λ (i : Item). i.insn)
+
+    pub part_item : (callee : ℕ) → has_clauses policy callee ≡ true → (k : ℕ) (item : Item)
+        → slice_get (items_of policy mode base callee) k ≡ Some item → slice_get (part plan base (target.ApiMethod callee)) k ≡ Some item.insn
+    part_item callee has k item e =
+        ap (λ (xs : List BlockInsn). slice_get xs k) (part_is callee has)
+        ∙ slice_get-map (λ (i : Item). i.insn) (items_of policy mode base callee) k ∙ ap (option_map (λ (i : Item). i.insn)) e
+
+    site_some : (o : Option Block) → ((block : Block) → o ≡ Some block → 0 < length block.insns) → 0 < length (part_of o)
+    site_some None some = omega arith
+    site_some (Some block) some = some block refl
+
+    block_some : (callee : ℕ) (b : Bool) → 0 < length (part_of (cond b (Some (block_with mode (bools_of policy) base (clauses_of policy callee))) None))
+    block_some callee false = omega arith
+    block_some callee true =
+        omega (
+          arith,
+          length-map (items_of policy mode base callee) (λ (i : Item). i.insn),
+          count_is mode (bools_of policy) base (clauses_of policy callee),
+        )
+
+    pub some : (ref : Target) → 0 < length (part plan base ref)
+    some (target.ApiMethod callee) = block_some callee (has_clauses policy callee)
+    some target.None = omega arith
+    some (target.Builtin i) = omega arith
+    some (target.Method c m) = omega arith
+    some (target.Field c f) = omega arith
+    some (target.ApiField i) = omega arith
+    some (target.ClassName name) = omega arith
+    some (target.Number n) = omega arith
+    some (target.Literal i) = omega arith
+
+  -- What has a block is a call of a method that a clause names.
+  pub record IsBlockOf (base : ℕ) (ref : Target) (block : Block) : Type 0 where
+    pub callee : ℕ
+    pub names : ref ≡ target.ApiMethod callee
+    pub has : has_clauses policy callee ≡ true
+    pub is : block ≡ block_with mode (bools_of policy) base (clauses_of policy callee)
+
+  pub site_back : (base : ℕ) (ref : Target) (block : Block) → site policy mode base ref ≡ Some block → IsBlockOf base ref block
+  site_back base (target.ApiMethod callee) block e = by (has_clauses policy callee) refl e
+    where
+      by : (b : Bool) → has_clauses policy callee ≡ b
+          → cond b (Some (block_with mode (bools_of policy) base (clauses_of policy callee))) None ≡ Some block
+          → IsBlockOf base (target.ApiMethod callee) block
+      by true has e =
+          let same : block ≡ block_with mode (bools_of policy) base (clauses_of policy callee) = cc in
+          record { callee = callee; names = refl; has = has; is = same }
+      by false has e = absurd cc
+  site_back base target.None block e = absurd cc
+  site_back base (target.Builtin i) block e = absurd cc
+  site_back base (target.Method c m) block e = absurd cc
+  site_back base (target.Field c f) block e = absurd cc
+  site_back base (target.ApiField i) block e = absurd cc
+  site_back base (target.ClassName name) block e = absurd cc
+  site_back base (target.Number n) block e = absurd cc
+  site_back base (target.Literal i) block e = absurd cc
+
+  -- ---- locals
+
+  max_left : (a b : ℕ) → a ≤ max a b
+  max_left a b = omega arith
+
+  max_right : (a b c : ℕ) → c ≤ b → c ≤ max a b
+  max_right a b c le = omega (arith, le)
+
+  pub most_there : (refs : List Target) (i : ℕ) (ref : Target) → slice_get refs i ≡ Some ref → site_locals policy ref ≤ most_locals plan refs
+  most_there [] i ref e = absurd cc
+  most_there (r ∷ refs) zero ref e =
+      let same : r ≡ ref = cc in
+      rw same (max_left (site_locals policy ref) (most_locals plan refs))
+  most_there (r ∷ refs) (suc i) ref e =
+      max_right (site_locals policy r) (most_locals plan refs) (site_locals policy ref) (most_there refs i ref e)
+
+-- ---- what a part names
+
+wants_here : (insns : List BlockInsn) (k : ℕ) (insn : BlockInsn) (want : PoolWant) → slice_get insns k ≡ Some insn → want_of insn ≡ Some want
+    → Contains (filter_map want_of insns) want
+wants_here [] k insn want e f = absurd cc
+wants_here (x ∷ insns) zero insn want e f =
+    let same : x ≡ insn = cc in
+    by (want_of x) (ap want_of same ∙ f)
+  where
+    by : (o : Option PoolWant) → o ≡ Some want → Contains (cons_option o (filter_map want_of insns)) want
+    by None g = absurd cc
+    by (Some w) g =
+        let same : w ≡ want = cc in
+        (0, omega arith, same)
+wants_here (x ∷ insns) (suc k) insn want e f = by (want_of x) (wants_here insns k insn want e f)
+  where
+    by : (o : Option PoolWant) → Contains (filter_map want_of insns) want
+        → Contains (cons_option o (filter_map want_of insns)) want
+    by None c = c
+    by (Some w) c = (suc c.0, omega (arith, c.1), c.2)
+
+pub wants_there : (plan : Plan) (base : ℕ) (refs : List Target) (i k : ℕ) (ref : Target) (insn : BlockInsn) (want : PoolWant)
+    → slice_get refs i ≡ Some ref → slice_get (part plan base ref) k ≡ Some insn → want_of insn ≡ Some want
+    → Contains (wants_of (map (plan.block base) refs)) want
+wants_there plan base [] i k ref insn want e f g = absurd cc
+wants_there plan base (r ∷ refs) zero k ref insn want e f g =
+    let same : ref ≡ r = cc in
+    Contains-append_left (block_wants (plan.block base r)) (wants_of (map (plan.block base) refs)) want
+    (wants_here (part plan base r) k insn want (ap (λ (t : Target). slice_get (part plan base t) k) (sym same) ∙ f) g)
+wants_there plan base (r ∷ refs) (suc i) k ref insn want e f g =
+    Contains-append_right (block_wants (plan.block base r)) (wants_of (map (plan.block base) refs)) want
+    (wants_there plan base refs i k ref insn want e f g)

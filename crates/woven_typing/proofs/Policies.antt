@@ -1,0 +1,131 @@
+-- What a policy that was read tells of its methods, and that Throwable is a class of each listing.
+use Rattle.std.proofs.Common.{◌≡◌, ℕ, zero, suc, Bool, true, false, cond, List, [], ◌∷◌, ◌++◌, length, map, filter, replicate, Option, Some, None, refl, sym, ap, subst, ◌∙◌, append_assoc}
+use Rattle.std.specs.Prelude.{ℤ, IfSome, bytes_eq, codes, option_map, slice_get}
+use Rattle.std.specs.List.{AllByRecursion, filter_map, list_any}
+use Rattle.api_listing.specs.declared.descriptor.Element.{Element}
+use Rattle.api_listing.specs.declared.descriptor.Element.TheVariants as elements
+use Rattle.api_listing.specs.declared.descriptor.FieldType.{FieldType}
+use Rattle.api_listing.specs.declared.descriptor.MethodType.{MethodType}
+use Rattle.api_listing.specs.declared.declaration.Declaration.{Declaration}
+use Rattle.api_listing.specs.declared.declaration.Declaration.TheVariants as declared
+use Rattle.api_listing.specs.declared.types.ListedClass.{ListedClass}
+use Rattle.api_listing.specs.declared.types.ListedMethod.{ListedMethod}
+use Rattle.api_listing.specs.declared.types.Listing.{Listing}
+use Rattle.api_listing.specs.BuiltIn.{built_in_classes, class_rows, throwable}
+use Rattle.api_listing.specs.Descriptor as listed
+use Rattle.api_listing.specs.Descriptor.{SpellsDescriptor}
+use Rattle.api_listing.specs.Lines.{says_something}
+use Rattle.api_listing.specs.Listing.{AreSaid, SpellsListing, class_declared, method_declared}
+use Rattle.api_listing.specs.Nearest.{upwards}
+use Rattle.bytecode_model.specs.declared.program.LinkedClass.{LinkedClass}
+use Rattle.bytecode_model.specs.Described.{Descriptor, arguments, result_text, type_described}
+use Rattle.bytecode_model.specs.Heads.{head_of}
+use Rattle.bytecode_model.proofs.Lists.{all_get}
+use Rattle.conspec_tree.specs.declared.types.Kind.{Kind}
+use Rattle.conspec_tree.specs.declared.types.TreeClause.{TreeClause}
+use Rattle.conspec_tree.specs.Kinds.{array_kind, kind_of}
+use Rattle.conspec_tree.specs.Telling.{ClauseTellsKinds, ClauseTellsResult}
+use Rattle.conspec_automaton.specs.Building.{clause_built}
+use Rattle.code_typing.proofs.Descriptors.{described_so}
+use Rattle.woven_typing.specs.Telling.{AreOfKinds, ClauseTells, IsOfKind, IsOfResult, ListingsKnowThrowable, PoliciesTell}
+
+-- ---- kinds
+
+kind_fits : (n : ℕ) (e : Element) → IsOfKind (array_kind n e) (type_described (replicate n 91 ++ listed.element_spelled e))
+kind_fits (suc n) e = (_, refl)
+kind_fits zero elements.Boolean = refl
+kind_fits zero elements.Byte = refl
+kind_fits zero elements.Char = refl
+kind_fits zero elements.Short = refl
+kind_fits zero elements.Int = refl
+kind_fits zero (elements.Class name) = (_, refl)
+
+kinds_fit : (ts : List FieldType) → AreOfKinds (map kind_of ts) (map listed.type_spelled ts)
+kinds_fit [] = tt
+kinds_fit (t ∷ ts) = (kind_fits t.dimensions t.element, kinds_fit ts)
+
+-- A type is spelled other than nothing is.
+not_nothing : (n : ℕ) (e : Element) → bytes_eq (replicate n 91 ++ listed.element_spelled e) (codes "V") ≡ false
+not_nothing (suc n) e = refl
+not_nothing zero elements.Boolean = refl
+not_nothing zero elements.Byte = refl
+not_nothing zero elements.Char = refl
+not_nothing zero elements.Short = refl
+not_nothing zero elements.Int = refl
+not_nothing zero (elements.Class name) = refl
+
+-- ---- the methods of the listing
+
+-- The descriptor of the method spells types.
+abbrev IsSpelled : ListedMethod → Type 0
+IsSpelled m = (types : MethodType) × SpellsDescriptor m.id.desc types
+
+methods_said : (lines : List (List ℕ)) (said : List Declaration) → AreSaid lines said → AllByRecursion IsSpelled (filter_map method_declared said)
+methods_said [] [] are = tt
+methods_said [] (d ∷ said) are = absurd are
+methods_said (line ∷ lines) [] are = absurd are
+methods_said (line ∷ lines) (declared.Class c ∷ said) are = methods_said lines said are.1
+methods_said (line ∷ lines) (declared.Method m types ∷ said) are = ((types, are.0.1), methods_said lines said are.1)
+methods_said (line ∷ lines) (declared.Field id class ∷ said) are = methods_said lines said are.1
+
+listed_spelled : (text : List ℕ) (listing : Listing) (index : ℕ) (m : ListedMethod) → SpellsListing text listing → slice_get listing.methods index ≡ Some m → IsSpelled m
+listed_spelled text listing index m spells there =
+    let all = methods_said (filter says_something spells.lines) spells.said spells.spelled in
+    all_get IsSpelled (filter_map method_declared spells.said) index m all (ap (λ (l : Listing). slice_get l.methods index) (sym spells.listed) ∙ there)
+
+-- ---- clauses
+
+arguments_told : (args : List Kind) (desc : List ℕ) (types : MethodType) → SpellsDescriptor desc types → args ≡ map kind_of types.arguments
+    → AreOfKinds args (arguments desc)
+arguments_told args desc types spells is =
+    let told : arguments desc ≡ map listed.type_spelled types.arguments = (described_so desc types spells).0 in
+    subst (λ (ks : List Kind). AreOfKinds ks (arguments desc)) (sym is)
+    (subst (λ (ds : List Descriptor). AreOfKinds (map kind_of types.arguments) ds) (sym told) (kinds_fit types.arguments))
+
+result_told : (result : Option Kind) (desc : List ℕ) (types : MethodType) → SpellsDescriptor desc types → result ≡ option_map kind_of types.result
+    → IfSome result (IsOfResult desc)
+result_told result desc types spells is = subst (λ (o : Option Kind). IfSome o (IsOfResult desc)) (sym is) (by types.result (described_so desc types spells).1)
+  where
+    by : (o : Option FieldType) → result_text desc ≡ listed.result_spelled o → IfSome (option_map kind_of o) (IsOfResult desc)
+    by None e = tt
+    by (Some t) e = (
+      type_described (listed.type_spelled t),
+      ap (λ (text : List ℕ). cond (bytes_eq text (codes "V")) None (Some (type_described text))) e
+          ∙ ap (λ (b : Bool). cond b None (Some (type_described (listed.type_spelled t)))) (not_nothing t.dimensions t.element),
+      kind_fits t.dimensions t.element,
+    )
+
+module _ (text : List ℕ) (listing : Listing) (spells : SpellsListing text listing) (maxint : ℤ) where
+  clause_tells : (clause : TreeClause) → ClauseTellsKinds listing clause → ClauseTellsResult listing clause
+      → ClauseTells listing (clause_built maxint clause)
+  clause_tells clause kinds results method there =
+      let spelled = listed_spelled text listing clause.method method spells there in
+      record {
+        arguments = arguments_told clause.args method.id.desc spelled.0 spelled.1 (kinds method spelled.0 there spelled.1);
+        result = result_told clause.result method.id.desc spelled.0 spelled.1 (results method spelled.0 there spelled.1);
+      }
+
+  clauses_tell : (clauses : List TreeClause) → AllByRecursion (ClauseTellsKinds listing) clauses
+      → AllByRecursion (ClauseTellsResult listing) clauses → AllByRecursion (ClauseTells listing) (map (clause_built maxint) clauses)
+  clauses_tell [] kinds results = tt
+  clauses_tell (clause ∷ clauses) kinds results = (clause_tells clause kinds.0 results.0, clauses_tell clauses kinds.1 results.1)
+
+pub policies_tell : PoliciesTell
+policies_tell text listing tree spells kinds results = clauses_tell text listing spells tree.maxint tree.clauses kinds results
+
+-- ---- Throwable
+
+built_in_known : (more : List ListedClass)
+    → list_any (λ (c : ListedClass). bytes_eq c.name throwable)
+    (upwards (length (built_in_classes ++ more)) (built_in_classes ++ more) throwable) ≡ true
+unfolding class_rows
+built_in_known more = refl
+
+pub throwable_known : ListingsKnowThrowable
+throwable_known text program spells =
+    let heads : List ListedClass = map (λ (c : LinkedClass). head_of c.file) program.classes in
+    let said : List ListedClass = filter_map class_declared spells.said in
+    let is : program.listing.classes ++ heads ≡ built_in_classes ++ (said ++ heads) =
+    ap (λ (l : Listing). l.classes ++ heads) spells.listed ∙ append_assoc built_in_classes said heads in
+    ap (λ (cs : List ListedClass). list_any (λ (c : ListedClass). bytes_eq c.name throwable) (upwards (length cs) cs throwable)) is
+    ∙ built_in_known (said ++ heads)

@@ -1,0 +1,5 @@
+pub mod Renaming
+pub mod Telling
+pub mod Behind
+pub mod Framing
+pub mod WovenTyping

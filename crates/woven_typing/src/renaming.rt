@@ -1,0 +1,84 @@
+//! Types of instructions that stand elsewhere: an object that is not made yet is told by the index of its `new`.
+
+ghost use Rattle.std.specs.Prelude.{◌≡◌, ◌-◌, IfOk, map, slice_index};
+ghost use Rattle.woven_typing.specs.Framing.{moved_by};
+ghost use Rattle.woven_typing.specs.Renaming.{frame_renamed, renamed};
+
+use bytecode_model::{lend, own};
+use cert_format::{FrameType, VType};
+use mon_base::{List, NoMemory};
+use std::alloc::Global;
+
+/// Where the instructions of a method stand in the woven one: the front of each of so many, and where the last part ends.
+#[derive(Drop)]
+pub struct Fronts {
+    pub list: List<u32>,
+    pub count: usize,
+}
+
+fn front(fronts: &[u32], at: usize) -> u32
+    ensures { result ≡ slice_index fronts.now at }
+{
+    match fronts.get(at) {
+        Some(front) => *front,
+        None => 0,
+    }
+}
+
+/// By how much the code has grown. No code has more instructions than a number of 32 bits counts.
+fn growth(last: u32, count: usize) -> Result<u32, NoMemory>
+    ensures { IfOk result (λ more. more ≡ last - count) }
+{
+    match u32::try_from(count) {
+        Ok(count) => Ok(last.saturating_sub(count)),
+        Err(_) => Ok(0),
+    }
+}
+
+/// Where what stands at the index stands now.
+fn moved(fronts: &Fronts, at: u32) -> Result<u32, NoMemory>
+    ensures { IfOk result (λ to. to ≡ moved_by fronts.now.list fronts.now.count at) }
+{
+    let list = fronts.list.as_slice();
+    if (at as usize) < fronts.count {
+        return Ok(front(list, at as usize));
+    }
+    let more = growth(front(list, fronts.count), fronts.count)?;
+    match at.checked_add(more) {
+        Some(to) => Ok(to),
+        None => Err(NoMemory),
+    }
+}
+
+fn renamed(alloc: Global, fronts: &Fronts, t: &VType) -> Result<VType, NoMemory>
+    ensures { IfOk result (λ made. made ≡ renamed (moved_by fronts.now.list fronts.now.count) t.now) }
+{
+    match t {
+        VType::Uninit(at) => Ok(VType::Uninit(moved(fronts, *at)?)),
+        _ => own(alloc, lend(t)),
+    }
+}
+
+fn all_renamed(alloc: Global, fronts: &Fronts, types: &[VType]) -> Result<List<VType>, NoMemory>
+    ensures { IfOk result (λ made. made ≡ map (renamed (moved_by fronts.now.list fronts.now.count)) types.now) }
+{
+    let mut made = List::new(alloc);
+    for t in types {
+        made.push(renamed(alloc, fronts, t)?)?;
+    }
+    Ok(made)
+}
+
+/// The frame, where each index has become another.
+pub fn frame_renamed(
+    alloc: Global,
+    fronts: &Fronts,
+    frame: &FrameType,
+) -> Result<FrameType, NoMemory>
+    ensures { IfOk result (λ made. made ≡ frame_renamed (moved_by fronts.now.list fronts.now.count) frame.now) }
+{
+    Ok(FrameType {
+        locals: all_renamed(alloc, fronts, frame.locals.as_slice())?,
+        stack: all_renamed(alloc, fronts, frame.stack.as_slice())?,
+    })
+}

@@ -1,0 +1,147 @@
+//! The typing of a woven program.
+
+ghost use Rattle.std.specs.Prelude.{◌≡◌, drop, IfOk};
+ghost use Rattle.conspec_automaton.specs.Sound.{IsPolicy};
+ghost use Rattle.bytecode_model.specs.Typed.{list_at};
+ghost use Rattle.woven_typing.specs.Framing.{
+  classes_framed,
+  client_of,
+  frames_woven,
+  methods_framed,
+  typing_of,
+};
+
+use crate::framing::{Client, Frames, frames_woven};
+use bytecode_model::{LinkedClass, Method, Program};
+use cert_format::{Mode, Typing};
+use conspec_automaton::Policy;
+use mon_base::{List, NoMemory};
+use std::alloc::Global;
+
+/// The items of the first list, or none where there is no list.
+fn first_of<T>(lists: &[List<T>]) -> &[T]
+    ensures { result.now ≡ list_at lists.now 0 }
+{
+    match lists {
+        [] => &[],
+        [first, ..] => first.as_slice(),
+    }
+}
+
+/// The lists behind the first.
+fn behind_first<T>(lists: &[List<T>]) -> &[List<T>]
+    ensures { result.now ≡ drop 1 lists.now }
+{
+    match lists {
+        [] => lists,
+        [_, others @ ..] => others,
+    }
+}
+
+/// The frames of a method with its blocks, where the first of these are its own.
+fn method_framed(
+    alloc: Global,
+    program: &Program,
+    policy: &Policy,
+    mode: Mode,
+    own: u32,
+    class: &LinkedClass,
+    method: &Method,
+    told: &[Frames],
+) -> Result<Frames, NoMemory>
+    requires { IsPolicy policy.now }
+    ensures { IfOk result (λ made. made
+        ≡ frames_woven (client_of program.now policy.now mode own class.now method.now) (list_at told.now 0)) }
+{
+    let client = Client::new(alloc, program, policy, mode, own, class, method)?;
+    frames_woven(alloc, &client, first_of(told))
+}
+
+/// Those of the methods with code.
+fn methods_framed(
+    alloc: Global,
+    program: &Program,
+    policy: &Policy,
+    mode: Mode,
+    own: u32,
+    class: &LinkedClass,
+    methods: &[Method],
+    told: &[Frames],
+) -> Result<List<Frames>, NoMemory>
+    requires { IsPolicy policy.now }
+    ensures { IfOk result (λ made. made ≡ methods_framed program.now policy.now mode own class.now methods.now told.now) }
+{
+    let mut made = List::new(alloc);
+    let mut methods = methods;
+    let mut told = told;
+    while let [method, later @ ..] = methods {
+        if !method.insns.is_empty() {
+            made.push(method_framed(alloc, program, policy, mode, own, class, method, told)?)?;
+            told = behind_first(told);
+        }
+        methods = later;
+    }
+    Ok(made)
+}
+
+/// Those of the classes, of which the first has the index 0.
+fn classes_framed(
+    alloc: Global,
+    program: &Program,
+    policy: &Policy,
+    mode: Mode,
+    classes: &[LinkedClass],
+    told: &[List<Frames>],
+) -> Result<List<List<Frames>>, NoMemory>
+    requires { IsPolicy policy.now }
+    ensures { IfOk result (λ made. made ≡ classes_framed program.now policy.now mode 0 classes.now told.now) }
+{
+    let mut made = List::new(alloc);
+    let mut own: u32 = 0;
+    let mut classes = classes;
+    let mut told = told;
+    while let [class, later @ ..] = classes {
+        let methods = class.methods.as_slice();
+        made.push(methods_framed(
+            alloc,
+            program,
+            policy,
+            mode,
+            own,
+            class,
+            methods,
+            first_of(told),
+        )?)?;
+        let Some(next) = own.checked_add(1) else {
+            return Err(NoMemory);
+        };
+        own = next;
+        classes = later;
+        told = behind_first(told);
+    }
+    made.push(List::new(alloc))?;
+    Ok(made)
+}
+
+/// The typing of what is woven of the program, where this is the program's own.
+pub fn typing_of(
+    alloc: Global,
+    program: &Program,
+    policy: &Policy,
+    mode: Mode,
+    typing: &Typing,
+) -> Result<Typing, NoMemory>
+    requires { IsPolicy policy.now }
+    ensures { IfOk result (λ made. made ≡ typing_of program.now policy.now mode typing.now) }
+{
+    Ok(Typing {
+        frames: classes_framed(
+            alloc,
+            program,
+            policy,
+            mode,
+            program.classes.as_slice(),
+            typing.frames.as_slice(),
+        )?,
+    })
+}

@@ -1,0 +1,4 @@
+package api;
+
+/** The host takes no connection. */
+public class Refused extends Exception {}

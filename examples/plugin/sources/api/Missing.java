@@ -1,0 +1,4 @@
+package api;
+
+/** There is no such note. */
+public class Missing extends Exception {}
