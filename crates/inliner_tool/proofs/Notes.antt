@@ -25,7 +25,8 @@ use Rattle.cert_format.specs.declared.note.Site.{Site}
 use Rattle.cert_format.specs.declared.note.Term.{Term}
 use Rattle.cert_format.specs.declared.note.Term.TheVariants as terms
 use Rattle.cert_format.specs.Fits.{FitsNote, FitsSite, FitsTerm}
-use Rattle.cert_maker.specs.Noting.{Called, ask_note, asked_terms, atom_of, block_notes, branch_at, byte, left_note, lock_note, made_note, note_of, part_notes, parts_notes, site_of, taken_note, unlock_note, update_note, update_terms, updating_note}
+use Rattle.cert_maker.specs.declared.called.Called.{Called}
+use Rattle.cert_maker.specs.Noting.{ask_note, asked_terms, atom_of, block_notes, branch_at, byte, left_note, lock_note, made_note, note_of, part_notes, parts_notes, site_of, taken_note, unlock_note, update_note, update_terms, updating_note}
 use Rattle.conspec_automaton.specs.declared.policy.Branch.{Branch}
 use Rattle.conspec_automaton.specs.declared.policy.Clause.{Clause}
 use Rattle.conspec_automaton.specs.declared.policy.Policy.{Policy}
