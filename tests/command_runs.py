@@ -1,7 +1,7 @@
 """Runs the built program over files in a folder of its own, and counts what it answers otherwise than expected.
 
-Most runs begin with the files of one denied call: two classes, the first with a block too, and the class of the lock. They
-are those of examples/denied, written by hand, and so are their certificates.
+Most runs begin with the files of one denied call: two classes, the second also with a block of each mode, and the class of
+the lock. They are those of examples/denied, written by hand, and so are their certificates.
 """
 import os
 import subprocess
@@ -14,23 +14,12 @@ DENIED = os.path.join(HERE, "..", "examples", "denied")
 LISTING = b"class api/Net extends java/lang/Object\nstatic api/Net send ()V\n"
 POLICY = b"MAXINT 1 SCOPE Session SECURITY STATE BEFORE void api.Net.send() PERFORM"
 
-# The certificate of the class with its block, as `inline` is to write it: up to `athrow` the notes are Free, Taking, and the
-# four places of Stop, each with local 1 as the first behind the client's; the rest is not reached.
-WOVEN_CERTIFICATE = bytes.fromhex(
-    "43535043 0001 01 00000002" + "0013" + b"[Ljava/lang/String;".hex() + "000f" + b"java/lang/Class".hex() + "0002 0001 0000000a"
-    "01 0001 0300000000 0000 00"
-    "01 0001 0300000000 0001 0300000001 01 00000000 01"
-    "01 0001 0300000000 0000 05 00000000 01 00"
-    "01 0001 0300000000 0001 01 05 00000000 01 01"
-    "01 0001 0300000000 0000 05 00000000 01 02"
-    "01 0001 0300000000 0001 02 05 00000000 01 03"
-    "0000 0000 0000 0000 0000"
-)
-
-# the checks of a class that calls nothing, of one that calls the denied method, and of the same with a block before the call
+# the checks of a class that calls nothing, of one that calls the denied method, and of the same with a block, which lets the
+# lock go before the call, or holds it
 QUIET = ["check", "POLICY", "LISTING", "CERT", "a/E", "E.class", "State.class"]
 SENDS = ["check", "POLICY", "LISTING", "S.CERT", "a/S", "S.class", "State.class"]
 WOVEN = ["check", "POLICY", "LISTING", "W.CERT", "a/S", "W.class", "State.class"]
+HELD = ["check", "POLICY", "LISTING", "H.CERT", "a/S", "H.class", "State.class"]
 
 # the class that calls the denied method is woven
 WEAVE = ["inline", "POLICY", "LISTING", "a/S", "new", "auto", "S.class"]
@@ -46,9 +35,11 @@ def read(name):
 def denied():
     """The files of the three checks, by their names."""
     files = {"LISTING": LISTING, "POLICY": POLICY}
-    for name in ("E.class", "S.class", "W.class", "State.class"):
+    for name in ("E.class", "S.class", "W.class", "H.class", "State.class"):
         files[name] = read(name)
-    files["CERT"], files["S.CERT"], files["W.CERT"] = read("E.certificate"), read("S.certificate"), WOVEN_CERTIFICATE
+    files["CERT"] = read("E.certificate")
+    for name in "SWH":
+        files[f"{name}.CERT"] = read(f"{name}.certificate")
     return files
 
 

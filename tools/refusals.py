@@ -43,18 +43,14 @@ CLASS_FILES = {
         "a class file that is cut short",
         ("byte",),
         "The file, or the code of a method in it, ends within a number or a text; the byte where that begins is told.",
-        (
-            "A download or a copy ended too early, or the disk was full.",
-        ),
+        ("A download or a copy ended too early, or the disk was full.",),
         "Fetch or compile the file again, and compare its length with that of the original.",
     ),
     104: Refusal(
         "bytes behind the end",
         ("byte",),
         "Bytes stand behind the end of the class, or behind that of a method's code; the first of them is told.",
-        (
-            "An editor put a newline behind the file, or two files were put together.",
-        ),
+        ("An editor put a newline behind the file, or two files were put together.",),
         "Take the file from where it was compiled.",
     ),
     105: Refusal(
@@ -121,18 +117,14 @@ CODES = {
         "an instruction that is cut off",
         ("byte",),
         "The code ends within an instruction.",
-        (
-            "The file was changed, or made by a tool that counts wrongly.",
-        ),
+        ("The file was changed, or made by a tool that counts wrongly.",),
         "Take the file from where it was compiled.",
     ),
     123: Refusal(
         "a jump into an instruction",
         ("byte",),
         "A branch or a switch goes to a byte where no instruction begins; the branch is told.",
-        (
-            "The file was changed, or made by a tool that counts wrongly.",
-        ),
+        ("The file was changed, or made by a tool that counts wrongly.",),
         "Take the file from where it was compiled.",
     ),
     124: Refusal(
@@ -156,18 +148,14 @@ CODES = {
             "The operands of the instruction are none that it may have, such as a `newarray` of no type or a "
             "`lookupswitch` whose keys do not ascend."
         ),
-        (
-            "The file was changed, or made by a tool that counts wrongly.",
-        ),
+        ("The file was changed, or made by a tool that counts wrongly.",),
         "Take the file from where it was compiled, or tell the tool's maker the place.",
     ),
     126: Refusal(
         "code without an end",
         ("byte",),
         "Control can go on past the last instruction, which is told.",
-        (
-            "The code was cut between two instructions.",
-        ),
+        ("The code was cut between two instructions.",),
         "Take the file from where it was compiled.",
     ),
 }
@@ -270,18 +258,14 @@ LINKING = {
         "too many class files",
         ("number of files",),
         "There are more than 1,000 class files.",
-        (
-            "Tests, examples or a whole library are among the files.",
-        ),
+        ("Tests, examples or a whole library are among the files.",),
         "Leave out what the main class does not need, and tell a library by the listing.",
     ),
     148: Refusal(
         "code that is refused",
         ("class", "method", "code fault"),
         "The code of this method is refused; what is wrong with it stands behind, as a number from 121 to 126.",
-        (
-            "Most often 121 or 124: the class was compiled for a later Java, or has a long, float or double.",
-        ),
+        ("Most often 121 or 124: the class was compiled for a later Java, or has a long, float or double.",),
         "See the number behind the method's.",
     ),
     149: Refusal(
@@ -301,9 +285,7 @@ LINKING = {
         "a name that is none",
         ("class",),
         "The name of the class is not made of ASCII letters, digits, `_` and `$`, in parts joined by `/`.",
-        (
-            "The source has letters with accents, or the file is of another language, whose names have `-`.",
-        ),
+        ("The source has letters with accents, or the file is of another language, whose names have `-`.",),
         "Rename the class.",
     ),
     151: Refusal(
@@ -326,9 +308,7 @@ LINKING = {
         "too many bytes of class files",
         ("number of bytes",),
         "The class files have more than 16,777,216 bytes in all; their number of bytes is told.",
-        (
-            "Tests, examples or a whole library are among the files.",
-        ),
+        ("Tests, examples or a whole library are among the files.",),
         "Leave out what the main class does not need, and tell a library by the listing.",
     ),
 }
@@ -385,9 +365,7 @@ LISTINGS = {
         "too many lines",
         ("number of lines",),
         "The listing has more than 20,000 lines.",
-        (
-            "It lists a whole library, and not what the program calls.",
-        ),
+        ("It lists a whole library, and not what the program calls.",),
         "List what the program calls: `tools/listing` does.",
     ),
 }
@@ -467,9 +445,7 @@ POLICIES = {
             "A variable or a parameter stands twice; or a parameter or the result has the name of a variable; or a "
             "block updates a variable twice; or a method has a second clause of one kind."
         ),
-        (
-            "Two clauses of BEFORE for one method, in place of two guards in one.",
-        ),
+        ("Two clauses of BEFORE for one method, in place of two guards in one.",),
         "Rename it; put the guards of both clauses into one.",
     ),
     187: Refusal(
@@ -479,18 +455,14 @@ POLICIES = {
             "There are more than 16 variables, 64 clauses, 64 branches in a clause or 16 atoms in a branch (one "
             "more for each `+` and `-` of the block), or a name has more than 64 bytes."
         ),
-        (
-            "A clause tells single values where two comparisons would do.",
-        ),
+        ("A clause tells single values where two comparisons would do.",),
         "Ask for ranges with `<=` and `>=`; put what is common into fewer variables.",
     ),
     188: Refusal(
         "a clause for a built-in method",
         ("byte",),
         "The method is built in, and built-in methods have no clauses.",
-        (
-            "A clause for `java.lang.System.exit` or `java.lang.Thread.start`.",
-        ),
+        ("A clause for `java.lang.System.exit` or `java.lang.Thread.start`.",),
         "Leave the clause out: these calls cannot be denied (docs/LIMITS.md).",
     ),
 }
@@ -545,18 +517,14 @@ CHECKS = {
         "not built yet",
         (),
         (
-            "The policy, the program or the certificate is not of the form that `check` and `inline` judge so far, "
-            "or the certificate is none. It says nothing about whether the program is right."
+            "The mode release is not built for this policy, since it has a variable, a branch, or a clause for an "
+            "end of a call. It says nothing about whether the program is right."
         ),
         (
-            "The policy has a variable or a branch.",
-            "The program has more classes than the main class, or MODE is `hold`.",
-            "The certificate is of another command's output, or is cut short.",
+            "MODE is `auto`, which is release so far.",
+            "A certificate of mode release is given with another policy than its own.",
         ),
-        (
-            "See docs/FORMS.md for what is taken today. With the name of a file, that file is meant; with `-`, "
-            "policy and program."
-        ),
+        "Weave with MODE `hold`, which takes every policy (docs/FORMS.md).",
     ),
     201: Refusal(
         "no types fit",
@@ -589,13 +557,21 @@ CHECKS = {
             "Whether the policy is race-free is not decided: these two clauses, counted from 0, would have to be "
             "tried at more than 1,000,000 states and events."
         ),
-        (
-            "A clause asks about many arguments, or compares one with many constants.",
-        ),
+        ("A clause asks about many arguments, or compares one with many constants.",),
         (
             "Ask for fewer variables and arguments in one clause, or compare them with fewer constants; or hold the"
             " lock during calls."
         ),
+    ),
+    241: Refusal(
+        "no certificate",
+        ("byte",),
+        "The file is no certificate of a program under this policy; the first byte that fits none is told.",
+        (
+            "Another file is given, or the words stand in another order than the command's.",
+            "It was cut short, or is of a policy with another number of variables.",
+        ),
+        "Give the certificate that `inline` wrote, with the policy for which it did.",
     ),
     242: Refusal(
         "the certificate is of another shape",
@@ -624,8 +600,19 @@ CHECKS = {
                 "or woven for another policy."
             ),
             "The certificate is of another version of the class.",
+            "Rule 1: the program names a variable of `conspec/State` by itself.",
         ),
         "Weave the files with `inline` for this policy; do not run a file that stays refused.",
+    ),
+    244: Refusal(
+        "`conspec/State` is not that of the policy",
+        ("field",),
+        (
+            "The class `conspec/State` has not just the policy's variables, with their types and first values. The "
+            "first field that is missing or wrong is told, from 0, or how many there should be."
+        ),
+        ("`conspec/State.class` is of another policy, or of an older text of it, or is not given.",),
+        "Give the file that was written with the others, and the policy for which they were woven.",
     ),
     245: Refusal(
         "the policy is not race-free",
@@ -678,9 +665,7 @@ COMMANDS = {
             "What was to be woven is larger than a class file may be: this size of this method has the value that "
             "is told. Nothing was written."
         ),
-        (
-            "The method is very long: each block adds bytes to it, and more if it has arguments.",
-        ),
+        ("The method is very long: each block adds bytes to it, and more if it has arguments.",),
         "Split the method; for `pool` split the class; for `certificate` give fewer classes at once.",
     ),
 }
@@ -691,9 +676,7 @@ SILENT = {
         "standard output failed",
         (),
         "Standard output could not be written; what is printed may be a front of the line.",
-        (
-            "The disk is full, or the program behind a pipe ended.",
-        ),
+        ("The disk is full, or the program behind a pipe ended.",),
         "Run it again with another output. After `inline` all files are written by then.",
     ),
     7: Refusal(
