@@ -4,9 +4,11 @@ ghost use Rattle.std.specs.Prelude.{◌≡◌, ◌∷◌, [], ◌++◌, if◌the
 ghost use Rattle.cert_format.specs.declared.note.Term.TheVariants as terms;
 ghost use Rattle.block_logic.specs.Lent.{asked_lent, check_lent, note_lent, row_lent, term_lent};
 ghost use Rattle.block_logic.specs.Operands.{loaded_number};
-ghost use Rattle.block_logic.specs.Rows.{adding_row, all_hold, argument_in, asks_atom, check_row, comparing_row, failing, field_term, gives, holding_on};
+ghost use Rattle.block_logic.specs.Rows.{adding_row, all_hold, argument_in, asks_atom, check_row, comparing_row};
+ghost use Rattle.block_logic.specs.Rows.{failing, field_term, gives, holding_on};
 ghost use Rattle.block_logic.specs.Rows.{is_addend, is_negation, is_relation, leaves_done, left, local_term, next_atom};
-ghost use Rattle.block_logic.specs.Rows.{pushing_row, result_in, sum_of, sum_on_top, term_pushed, tested, tests, with_terms, writes, writing_row};
+ghost use Rattle.block_logic.specs.Rows.{pushing_row, result_in, sum_of, sum_on_top, term_pushed, tested};
+ghost use Rattle.block_logic.specs.Rows.{tests, with_terms, writes, writing_row};
 ghost use Rattle.block_logic.specs.Standing.{is_done};
 ghost use Rattle.block_logic.specs.Terms.{same_terms};
 
@@ -90,7 +92,8 @@ fn term_pushed(
     shape: Shape,
     target: &Target,
 ) -> Option<WideTerm>
-    ensures { option_map term_lent result ≡ term_pushed rules.now check.entry.site check.entry.clause.now check.entry.map.now shape target.now }
+    ensures { option_map term_lent result
+        ≡ term_pushed rules.now check.entry.site check.entry.clause.now check.entry.map.now shape target.now }
 {
     if pushes_state(shape, target) {
         return Some(WideTerm::Lock);

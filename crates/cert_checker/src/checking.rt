@@ -42,7 +42,8 @@ pub fn check(
     requires policy { IsPolicy policy.now }
     requires named { NamesMethods (length program.now.listing.methods) policy.now }
     requires listed { AllByRecursion (FitsListing program.now.listing) policy.now.clauses }
-    // It is accepted exactly where the conditions hold, and then every list of steps obeys, as the mode promises.
+    // It is accepted exactly where the conditions hold. Then, in mode hold or where calls are denied outright, every list of steps
+    // obeys; of another policy in mode release nothing is promised, since its races are not decided here.
     ensures ok { IsOk result ↔ IsAccepted program.now policy.now certificate.now }
     ensures secure { IsOk result → Promised certificate.now.mode policy.now → Secure certificate.now.mode program.now policy.now }
 

@@ -4,7 +4,8 @@ ghost use Rattle.std.specs.Prelude.{◌≡◌, ◌==◌, ◌&&◌, ◌||◌, not
 ghost use Rattle.insn_codec.specs.Shapes.{shape_of};
 ghost use Rattle.cert_checker.specs.declared.passing.Test.TheVariants.{Meets, StopsWell};
 ghost use Rattle.block_logic.specs.Lent.{asked_lent, row_lent};
-ghost use Rattle.block_logic.specs.Notes.{all_pass, calls_well, catches_all, catches_well, first_broken, is_duty_of, is_free, is_granted, is_held, is_owed_for_throw};
+ghost use Rattle.block_logic.specs.Notes.{all_pass, calls_well, catches_all, catches_well, first_broken};
+ghost use Rattle.block_logic.specs.Notes.{is_duty_of, is_free, is_granted, is_held, is_owed_for_throw};
 ghost use Rattle.block_logic.specs.Notes.{is_stop, leaves_alone, names_method, note_fault, row_fault, rules_at, thrown_by};
 ghost use Rattle.block_logic.specs.Operands.{calls, enters, has_clause, leaves, writes_static};
 ghost use Rattle.block_logic.specs.Standing.{is_open};
@@ -70,7 +71,8 @@ fn table_fault(
     note: &Note,
     row: Option<&RowRef<'_>>,
 ) -> Option<u8>
-    ensures { result ≡ first_broken (drop 3 (rules_at rules.now told.now method.now note.now here.now (option_map row_lent (option_copied row.entry)))) }
+    ensures { result
+        ≡ first_broken (drop 3 (rules_at rules.now told.now method.now note.now here.now (option_map row_lent (option_copied row.entry)))) }
 {
     let shape = here.shape;
     let has_row = row.is_some();
@@ -269,7 +271,8 @@ fn stops_as_asked(
     here: &Here<'_>,
     row: Option<&RowRef<'_>>,
 ) -> bool
-    ensures { result ≡ (if is_stop note.now then is_some row.entry else all_pass (passes rules.now StopsWell) told.now (option_map row_lent (option_copied row.entry)) method.now here.now) }
+    ensures { result ≡ (if is_stop note.now then is_some row.entry
+        else all_pass (passes rules.now StopsWell) told.now (option_map row_lent (option_copied row.entry)) method.now here.now) }
 {
     if is_stop(note) {
         row.is_some()
@@ -287,7 +290,8 @@ fn goes_as_asked(
     here: &Here<'_>,
     row: Option<&RowRef<'_>>,
 ) -> bool
-    ensures { result ≡ (is_some row.entry && (all_pass (passes rules.now Meets) told.now (option_map row_lent (option_copied row.entry)) method.now here.now
+    ensures { result ≡ (is_some row.entry
+        && (all_pass (passes rules.now Meets) told.now (option_map row_lent (option_copied row.entry)) method.now here.now
         && (not (here.now.at == 0) || is_open rules.now.mode rules.now.policy note.now))) }
 {
     row.is_some()

@@ -4,7 +4,8 @@ ghost use Rattle.std.specs.Prelude.{◌≡◌, option_copied, option_map};
 ghost use Rattle.std.specs.List.{list_all};
 ghost use Rattle.insn_codec.specs.Control.{jump_targets};
 ghost use Rattle.block_logic.specs.Lent.{asked_lent, row_lent};
-ghost use Rattle.block_logic.specs.Notes.{all_pass, first_handler, handlers_of, handlers_pass, is_stop, is_taking, jump_of, meets, next_pass};
+ghost use Rattle.block_logic.specs.Notes.{all_pass, first_handler, handlers_of, handlers_pass, is_stop};
+ghost use Rattle.block_logic.specs.Notes.{is_taking, jump_of, meets, next_pass};
 ghost use Rattle.block_logic.specs.Notes.{note_passes, past_of, thrown_of};
 ghost use Rattle.cert_checker.specs.Testing.{passes};
 

@@ -8,7 +8,8 @@ ghost use Rattle.cert_format.specs.declared.note.Note.TheVariants as notes;
 ghost use Rattle.block_logic.specs.Clauses.{needs};
 ghost use Rattle.block_logic.specs.Lent.{asked_lent, note_lent, row_lent};
 ghost use Rattle.block_logic.specs.Operands.{loaded, stored};
-ghost use Rattle.block_logic.specs.Rows.{Given, begins_owed, calls_of, free_row, gives, granted_row, held_row, is_duty, is_on_way, may_keep};
+ghost use Rattle.block_logic.specs.Rows.{Given, begins_owed, calls_of, free_row, gives, granted_row};
+ghost use Rattle.block_logic.specs.Rows.{held_row, is_duty, is_on_way, may_keep};
 ghost use Rattle.block_logic.specs.Rows.{may_leave, may_push, owed_row, returned, row, stage_behind, stop_row, taken, taking_row, thrown};
 ghost use Rattle.block_logic.specs.Standing.{is_hold};
 
@@ -251,7 +252,8 @@ fn granted<'a>(site: Site, locked: bool, loaded: usize, top: bool) -> Option<Row
 
 /// Whether the next argument is loaded.
 fn loads_next(policy: &Policy, site: Site, count: u8, shape: Shape) -> bool
-    ensures { result ≡ (nat_lt count (needs policy.now site.method) && option_map_or (λ slot. slot == site.base + count) (loaded shape) false) }
+    ensures { result ≡ (nat_lt count (needs policy.now site.method)
+        && option_map_or (λ slot. slot == site.base + count) (loaded shape) false) }
 {
     match loaded(shape) {
         Some(slot) => {

@@ -76,7 +76,8 @@ fn put_call(
     frames: &[Option<FrameType>],
 ) -> Result<usize, NoMemory>
     requires policy { IsPolicy policy.now }
-    ensures notes { OnOk result (notes.new ≡ notes.old ++ where_framed (part_notes policy.now mode base (target.ApiMethod callee)) frames.now) }
+    ensures notes { OnOk result (notes.new ≡ notes.old
+        ++ where_framed (part_notes policy.now mode base (target.ApiMethod callee)) frames.now) }
     ensures count { IfOk result (λ count. count ≡ length (part_notes policy.now mode base (target.ApiMethod callee))) }
 {
     if !has_clauses(policy, callee) {
@@ -132,7 +133,8 @@ fn put_items(
     frames: &[Option<FrameType>],
 ) -> Result<(), NoMemory>
     requires policy { IsPolicy policy.now }
-    ensures { OnOk result (notes.new ≡ notes.old ++ where_framed (map (λ (i : SpecItem). note_of policy.now call i.role) items.now) frames.now) }
+    ensures { OnOk result (notes.new ≡ notes.old
+        ++ where_framed (map (λ (i : SpecItem). note_of policy.now call i.role) items.now) frames.now) }
 {
     let mut items = items;
     let mut frames = frames;

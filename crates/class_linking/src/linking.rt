@@ -10,7 +10,8 @@ ghost use Rattle.bytecode_model.specs.Named.{AreRightOperands};
 ghost use Rattle.bytecode_model.specs.Order.{IsInOrder};
 ghost use Rattle.bytecode_model.specs.Sound.{IsSoundMethod, IsSound};
 ghost use Rattle.bytecode_model.specs.Standing.{IsLinkedOf};
-ghost use Rattle.class_linking.specs.Linking.{if_static, static_main, main_of, each_linked, class_with, classes_with, members_of, assembled, linked};
+ghost use Rattle.class_linking.specs.Linking.{if_static, static_main, main_of, each_linked, class_with, classes_with};
+ghost use Rattle.class_linking.specs.Linking.{members_of, assembled, linked};
 ghost use Rattle.bytecode_model.specs.Files.{max_files, unlinked};
 
 use crate::class_conditions::classes_linked;
