@@ -10,6 +10,7 @@ type_lent lent.Top = types.Top
 type_lent lent.Int = types.Int
 type_lent lent.Null = types.Null
 type_lent (lent.Ref name) = types.Ref name.now
+type_lent (lent.Shared name) = types.Ref name.now
 type_lent (lent.ArrayOf item) = types.Ref (array_of item.now)
 type_lent lent.UninitThis = types.UninitThis
 type_lent (lent.Uninit at) = types.Uninit at

@@ -4,7 +4,7 @@ ghost use Rattle.std.specs.Prelude.{◌≡◌, IfOk};
 ghost use Rattle.bytecode_model.specs.Lending.{type_lent};
 
 use crate::arrays::push_described;
-use cert_format::VType;
+use cert_format::{Name, VType};
 use mon_base::{Bytes, NoMemory};
 use std::alloc::Global;
 
@@ -15,6 +15,8 @@ pub enum TypeRef<'a> {
     Int,
     Null,
     Ref(&'a [u8]),
+    /// The same, of a name that can be shared.
+    Shared(&'a Name),
     /// A reference to an array of items of this class, or of this array type.
     ArrayOf(&'a [u8]),
     UninitThis,
@@ -29,13 +31,13 @@ pub fn lend(of: &VType) -> TypeRef<'_>
         VType::Top => TypeRef::Top,
         VType::Int => TypeRef::Int,
         VType::Null => TypeRef::Null,
-        VType::Ref(name) => TypeRef::Ref(name.as_slice()),
+        VType::Ref(name) => TypeRef::Shared(name),
         VType::UninitThis => TypeRef::UninitThis,
         VType::Uninit(at) => TypeRef::Uninit(*at),
     }
 }
 
-/// The type, with a copy of the name that is lent.
+/// The type, with the name that is lent: it is shared where it can be, and else copied.
 pub fn own(alloc: Global, lent: TypeRef) -> Result<VType, NoMemory>
     ensures { IfOk result (λ t. t ≡ type_lent lent.entry) }
 {
@@ -43,12 +45,13 @@ pub fn own(alloc: Global, lent: TypeRef) -> Result<VType, NoMemory>
         TypeRef::Top => Ok(VType::Top),
         TypeRef::Int => Ok(VType::Int),
         TypeRef::Null => Ok(VType::Null),
-        TypeRef::Ref(name) => Ok(VType::Ref(Bytes::from_slice(alloc, name)?)),
+        TypeRef::Ref(name) => Ok(VType::Ref(Name::from_slice(alloc, name)?)),
+        TypeRef::Shared(name) => Ok(VType::Ref(name.share()?)),
         TypeRef::ArrayOf(item) => {
             let mut name = Bytes::new(alloc);
             name.push(b'[')?;
             push_described(&mut name, item)?;
-            Ok(VType::Ref(name))
+            Ok(VType::Ref(Name::from_bytes(alloc, name)?))
         }
         TypeRef::UninitThis => Ok(VType::UninitThis),
         TypeRef::Uninit(at) => Ok(VType::Uninit(at)),

@@ -1,6 +1,6 @@
 -- The places of names.
-use Rattle.std.proofs.Common.{◌≡◌, ℕ, zero, suc, ◌+◌, ◌<◌, ◌≤◌, Bool, true, false, cond, ltb, List, [], ◌∷◌, ◌++◌, length, map, take, get_or, ◌-◌, Option, Some, None, Result, Ok, Err, OnOk, inl, inr, refl, sym, ap, ◌∙◌, Bor, arith}
-use Rattle.std.specs.Prelude.{bytes_eq, is_some, is_err}
+use Rattle.std.proofs.Common.{◌≡◌, ℕ, zero, suc, ◌+◌, ◌<◌, ◌≤◌, Bool, true, false, cond, ltb, List, [], ◌∷◌, ◌++◌, length, map, take, get_or, ◌-◌, Option, Some, None, Result, Ok, Err, OnOk, inl, inr, refl, sym, ap, subst, ◌∙◌, Bor, arith}
+use Rattle.std.specs.Prelude.{bytes_eq, is_some, is_err, slice_index_or, slice_set}
 use Rattle.std.specs.BTreeMap.{BTreeMap, get_by}
 use Rattle.std.specs.BTreeSet.{BTreeSet, contains_by}
 use Rattle.std.specs.Ordering.{nat_cmp, is_eq}
@@ -11,7 +11,8 @@ use Rattle.std.proofs.lemmas.Bool.{cases_lt, le-ltb, lt-ltb, ltb-true, ltb-false
 use Rattle.std.proofs.lemmas.List.{length-append, take_all}
 use Rattle.std.proofs.lemmas.Slice.Eq.{bytes_eq-Decides}
 use Rattle.cert_format.specs.Names.{Name, name_index, with_name}
-use Rattle.cert_format.specs.Index.{found, stands, HasNames, HasPlaces}
+use Rattle.cert_format.specs.declared.index.Known.{Known}
+use Rattle.cert_format.specs.Index.{found, stands, HasNames, HasPlaces, IsKnown, AreKnown}
 use Rattle.cert_format.specs.Spelling.{u4, spell_name, spell_names}
 
 -- where the name stands it is found no later
@@ -151,22 +152,6 @@ now-more : (names : List (Bor Name)) (x : Bor Name) → map (λ name. name.now) 
 now-more [] x = refl
 now-more (y ∷ names) x = ap (λ (t : List Name). y.now ∷ t) (now-more names x)
 
-none_is : {A : Type 0} (r : Option A) → is_some r ≡ false → r ≡ None
-none_is None e = refl
-none_is (Some x) e = absurd (false≢true (sym e))
-
-pub places_next : (names all : List (Bor Name)) (old new : BTreeMap (Bor Name) ℕ) (x : Bor Name) (len : ℕ)
-    → HasPlaces (map (λ name. name.now) names) old → is_some (get_by (λ key. slice_cmp nat_cmp x.now key.now) old) ≡ false
-    → all ≡ names ++ x ∷ [] → len ≡ length all
-    → ((q : Bor Name) → get_by (λ key. slice_cmp nat_cmp q.now key.now) new ≡ cond (is_eq (slice_cmp nat_cmp x.now q.now)) (Some (len - 1)) (get_by (λ key. slice_cmp nat_cmp q.now key.now) old))
-    → HasPlaces (map (λ name. name.now) all) new
-places_next names all old new x len has absent is len_is updates name =
-    let ns : List Name = map (λ name. name.now) names in
-    let q : Bor Name = record { ref_ptr = (0, 0); now = name } in
-    let new_one : stands ns x.now ≡ false = not_there ns x.now (sym (has x.now) ∙ none_is _ absent) in
-    let place : len - 1 ≡ length ns = omega (arith, len_is, ap length is, length-append names (x ∷ []), length-now names) in
-    updates q ∙ rw (is_eq-slice_cmp x.now name, has name, place) (rw (is, now-more names x) (sym (found-more ns x.now name new_one)))
-
 pub on_ok : {A E : Type 0} (r : Result A E) (P : Type 0) → is_err r ≡ false → OnOk r P → P
 on_ok (Ok x) P e h = h
 on_ok (Err x) P e h = absurd (false≢true (sym e))
@@ -178,3 +163,81 @@ pub table_is : (out old : List ℕ) (names : List (Bor Name)) (i : ℕ) → leng
     → out ≡ old ++ spell_names (map (λ name. name.now) names)
 table_is out old names i le so_far =
     rw (length-now names, spelled-now spell_name names) (so_far ∙ ap (λ (ns : List (Bor Name)). old ++ (u4 (length names) ++ flat_map (λ name. spell_name name.now) ns)) (take_all i names le))
+
+-- ---- names that are found sooner
+
+-- a name that has a place stands there
+pub is_there : (names : List Name) (name : Name) (place : ℕ) → found names name ≡ Some place → stands names name ≡ true
+is_there names name place e = by (stands names name) e where
+  by : (s : Bool) → cond s (Some (name_index names name)) None ≡ Some place → s ≡ true
+  by true e = refl
+  by false e = absurd cc
+
+pub place_is : (names : List Name) (name : Name) (place : ℕ) → found names name ≡ Some place → place ≡ name_index names name
+place_is names name place e = by (stands names name) e where
+  by : (s : Bool) → cond s (Some (name_index names name)) None ≡ Some place → place ≡ name_index names name
+  by true e = some_is _ _ (sym e)
+  by false e = absurd cc
+
+known_one : (names : List Name) (x : Name) (slot : Option Known) → stands names x ≡ false → IsKnown names slot → IsKnown (names ++ x ∷ []) slot
+known_one names x None new h = h
+known_one names x (Some known) new h = found-more names x known.name.now new ∙ by (bytes_eq x known.name.now) refl where
+  by : (b : Bool) → bytes_eq x known.name.now ≡ b → cond b (Some (length names)) (found names known.name.now) ≡ Some known.place
+  by true e = absurd (false≢true (sym new ∙ ap (stands names) ((bytes_eq-Decides x known.name.now).0 e) ∙ there)) where
+    there : stands names known.name.now ≡ true
+    there = is_there names known.name.now known.place h
+  by false e = h
+
+-- what is known of names stays so as one more comes
+pub known_more : (names : List Name) (x : Name) (slots : List (Option Known)) → stands names x ≡ false → AreKnown names slots → AreKnown (names ++ x ∷ []) slots
+known_more names x [] new h = h
+known_more names x (slot ∷ slots) new h = (known_one names x slot new h.0, known_more names x slots new h.1)
+
+pub known_at : (names : List Name) (slots : List (Option Known)) (i : ℕ) (slot other : Option Known)
+    → AreKnown names slots → i < length slots → slot ≡ slice_index_or slots i other → IsKnown names slot
+known_at names [] i slot other h lt e = absurd (omega (arith, lt))
+known_at names (first ∷ slots) zero slot other h lt e = subst (λ s. IsKnown names s) (sym e) h.0
+known_at names (first ∷ slots) (suc i) slot other h lt e = known_at names slots i slot other h.1 (omega (arith, lt)) e
+
+pub known_set : (names : List Name) (slots : List (Option Known)) (i : ℕ) (slot : Option Known) → AreKnown names slots → IsKnown names slot → AreKnown names (slice_set slots i slot)
+known_set names [] i slot h one = h
+known_set names (first ∷ slots) zero slot h one = (one, h.1)
+known_set names (first ∷ slots) (suc i) slot h one = (h.0, known_set names slots i slot h.1 one)
+
+pub known_end : (names : List Name) (slots : List (Option Known)) (slot : Option Known) → AreKnown names slots → IsKnown names slot → AreKnown names (slots ++ slot ∷ [])
+known_end names [] slot h one = (one, tt)
+known_end names (first ∷ slots) slot h one = (h.0, known_end names slots slot h.1 one)
+
+-- ---- one name more
+
+module _ (names all : List (Bor Name)) (x : Bor Name) (new : found (map (λ name. name.now) names) x.now ≡ None) (is : all ≡ names ++ x ∷ []) where
+  abbrev before : List Name
+  before = map (λ name. name.now) names
+
+  is_new_there : stands before x.now ≡ false
+  is_new_there = not_there before x.now new
+
+  after : map (λ name. name.now) all ≡ before ++ x.now ∷ []
+  after = ap (λ (ns : List (Bor Name)). map (λ name. name.now) ns) is ∙ now-more names x
+
+  pub known_next : (slots : List (Option Known)) → AreKnown before slots → AreKnown (map (λ name. name.now) all) slots
+  known_next slots h = subst (λ (ns : List Name). AreKnown ns slots) (sym after) (known_more before x.now slots is_new_there h)
+
+  pub found_last : (len : ℕ) → len ≡ length names → found (map (λ name. name.now) all) x.now ≡ Some len
+  found_last len e =
+      ap (λ (ns : List Name). found ns x.now) after ∙ found-more before x.now x.now is_new_there
+      ∙ ap (λ b. cond b (Some (length before)) (found before x.now)) ((bytes_eq-Decides x.now x.now).1 refl)
+      ∙ ap Some (length-now names ∙ sym e)
+
+  pub places_more : (old new_places : BTreeMap (Bor Name) ℕ) (len : ℕ) → HasPlaces before old → len ≡ length names
+      → ((q : Bor Name) → get_by (λ key. slice_cmp nat_cmp q.now key.now) new_places ≡ cond (is_eq (slice_cmp nat_cmp x.now q.now)) (Some len) (get_by (λ key. slice_cmp nat_cmp q.now key.now) old))
+      → HasPlaces (map (λ name. name.now) all) new_places
+  places_more old new_places len has e updates name =
+      let q : Bor Name = record { ref_ptr = (0, 0); now = name } in
+      updates q ∙ rw (is_eq-slice_cmp x.now name, has name, e ∙ sym (length-now names)) (rw after (sym (found-more before x.now name is_new_there)))
+
+pub none_known : (names : List Name) (slots more : List (Option Known)) → more ≡ slots ++ None ∷ [] → AreKnown names slots → AreKnown names more
+none_known names slots more e h = subst (AreKnown names) (sym e) (known_end names slots None h tt)
+
+pub one : (names : List Name) (slot : Option Known) (known : Known) → slot ≡ Some known → IsKnown names slot → found names known.name.now ≡ Some known.place
+one names slot known e h = subst (IsKnown names) e h

@@ -1,5 +1,7 @@
 -- Names in a map or a set.
-use Rattle.std.specs.Prelude.{◌≡◌, ℕ, Bool, List, length, Option, Some, None, nat_lt, if◌then◌else◌}
+use Rattle.std.specs.Prelude.{◌≡◌, ℕ, Bool, List, length, Option, Some, None, nat_lt, if◌then◌else◌, ⊤}
+use Rattle.std.specs.List.{AllByRecursion}
+use Rattle.cert_format.specs.declared.index.Known.{Known}
 use Rattle.std.specs.Borrow.{Bor}
 use Rattle.std.specs.BTreeMap.{BTreeMap, get_by}
 use Rattle.std.specs.BTreeSet.{BTreeSet, contains_by}
@@ -22,3 +24,13 @@ stands names name = nat_lt (name_index names name) (length names)
 -- The set has each of the names, and nothing else.
 abbrev pub HasNames : List Name → BTreeSet (Bor Name) → Type 0
 HasNames names seen = (name : Name) → contains_by (λ key. slice_cmp nat_cmp name key.now) seen ≡ stands names name
+
+-- ---- names that are found sooner
+
+-- What is known of a name is its place.
+abbrev pub IsKnown : List Name → Option Known → Type 0
+IsKnown names None = ⊤
+IsKnown names (Some known) = found names known.name.now ≡ Some known.place
+
+abbrev pub AreKnown : List Name → List (Option Known) → Type 0
+AreKnown names slots = AllByRecursion (IsKnown names) slots

@@ -12,13 +12,14 @@ ghost use Rattle.cert_format.specs.Reading.{classes_at, head_at, body_at, certif
 use crate::certificate::{Certificate, Mode};
 use crate::fault::CertForm;
 use crate::items::{Item, Table, long_list, short_list};
+use crate::name::Name;
 use crate::names::read_names;
 use crate::note::Note;
 use crate::note_reading::{free, note};
 use crate::pairs::unzip;
 use crate::place::{flag, u1, u2, u4};
 use crate::typing::{FrameType, Typing, VType};
-use mon_base::{Bytes, Cursor, List};
+use mon_base::{Cursor, List};
 use std::alloc::Global;
 
 /// The first bytes of each certificate, "CSPC".
@@ -31,7 +32,7 @@ const VERSION: u16 = 1;
 #[tactic(auto, unfolding(crate::specs::Reading::reference_at))]
 fn reference(
     alloc: Global,
-    names: &[Bytes],
+    names: &[Name],
     at: u64,
     used: &mut usize,
     from: &mut Cursor,
@@ -42,7 +43,7 @@ fn reference(
     if place > *used || place >= names.len() {
         return Err(CertForm::Form { at });
     }
-    let name = names[place].copy(alloc)?;
+    let name = names[place].share()?;
     if place == *used {
         *used += 1;
     }
@@ -53,7 +54,7 @@ fn reference(
 #[tactic(auto, unfolding(crate::specs::Reading::type_of_kind))]
 fn type_of_kind(
     alloc: Global,
-    names: &[Bytes],
+    names: &[Name],
     at: u64,
     used: &mut usize,
     kind: u8,

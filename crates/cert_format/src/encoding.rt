@@ -214,7 +214,7 @@ fn written(alloc: Global, cert: &Certificate) -> Result<Bytes, NoMemory>
     ensures { IfOk result (λ bytes. bytes ≡ spell_certificate cert.now) }
 {
     let frames = cert.typing.frames.as_slice();
-    let mut index = Index::new(alloc);
+    let mut index = Index::new(alloc)?;
     add_all(frames, &mut index)?;
     let mut out = Bytes::new(alloc);
     put_head(&mut out, cert.mode)?;

@@ -1,16 +1,18 @@
 //! Items that use names of the table, one after another.
 
+ghost use Rattle.std.specs.Prelude.{◌≡◌, [], IfOk};
 ghost use Rattle.cert_format.specs.Reading.{Uses, several_at, short_list_at, long_list_at};
 
 use crate::fault::CertForm;
+use crate::name::Name;
 use crate::place::{u2, u4};
-use mon_base::{Bytes, Cursor, List};
+use mon_base::{Cursor, List, NoMemory};
 use std::alloc::Global;
 
 /// What the items of a certificate are read with: the table of names, and the number of the policy's variables.
 #[derive(Clone, Copy)]
 pub struct Table<'a> {
-    pub names: &'a [Bytes],
+    pub names: &'a [Name],
     pub vars: u32,
 }
 
@@ -63,7 +65,17 @@ pub fn long_list<T: Item>(
     several(alloc, table, count, used, from)
 }
 
-/// That many items. There is no more memory taken than what is read needs.
+/// How many items there is room for at most before they are read: as many as a method has instructions, or less than one more.
+const MOST_ROOM: usize = 65_536;
+
+/// A list without items that takes so many without being moved.
+pub fn with_room<T>(alloc: Global, n: usize) -> Result<List<T>, NoMemory>
+    ensures { IfOk result (λ list. list ≡ []) }
+{
+    Ok(List::from_vec(Vec::with_capacity(alloc, n)?))
+}
+
+/// That many items. Memory is taken for some before they are read, so for more than there are only where reading fails.
 fn several<T: Item>(
     alloc: Global,
     table: &Table,
@@ -73,7 +85,7 @@ fn several<T: Item>(
 ) -> Result<List<T>, CertForm>
     ensures { Uses result (several_at (T.item_at table.now.vars table.now.names.now) count used.old from.old) used.new from.new }
 {
-    let mut items = List::new(alloc);
+    let mut items = with_room(alloc, (count as usize).min(MOST_ROOM))?;
     for _ in 0..count {
         let item = T::read(alloc, table, used, from)?;
         items.push(item)?;

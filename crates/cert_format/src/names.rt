@@ -1,20 +1,21 @@
 //! The table of names of a certificate.
 
 ghost use Rattle.std.specs.Prelude.{List as Items, [], ◌∷◌, ◌++◌, IfOk};
-ghost use Rattle.cert_format.specs.Names.{Name};
+ghost use Rattle.cert_format.specs.Names.{Name as Text};
 ghost use Rattle.cert_format.specs.Index.{HasNames};
 ghost use Rattle.mon_base.specs.Answer.{Reads, ReadsAs};
 ghost use Rattle.cert_format.specs.Reading.{told_name, more_names_at, names_at};
 
 use crate::fault::CertForm;
+use crate::name::Name;
 use crate::place::{taken, u2, u4};
-use mon_base::{Bytes, Cursor, List};
+use mon_base::{Cursor, List};
 use std::alloc::Global;
 use std::collections::BTreeSet;
 
 /// The names, each of which stands once.
 #[tactic(auto, unfolding(crate::specs::Reading::names_at))]
-pub fn read_names(alloc: Global, from: &mut Cursor) -> Result<List<Bytes>, CertForm>
+pub fn read_names(alloc: Global, from: &mut Cursor) -> Result<List<Name>, CertForm>
     ensures { Reads CertForm.Memory result (names_at from.old) from.new }
 {
     let count = u4(from)?;
@@ -22,14 +23,14 @@ pub fn read_names(alloc: Global, from: &mut Cursor) -> Result<List<Bytes>, CertF
 }
 
 /// That many names.
-fn several_names(alloc: Global, count: u32, from: &mut Cursor) -> Result<List<Bytes>, CertForm>
+fn several_names(alloc: Global, count: u32, from: &mut Cursor) -> Result<List<Name>, CertForm>
     ensures { Reads CertForm.Memory result (more_names_at count [] from.old) from.new }
 {
     let mut seen = BTreeSet::new(alloc);
     let mut names = List::new(alloc);
     for _ in 0..count {
         let name = next_name(&mut seen, from)?;
-        names.push(Bytes::from_slice(alloc, name)?)?;
+        names.push(Name::from_slice(alloc, name)?)?;
     }
     Ok(names)
 }
@@ -37,9 +38,9 @@ fn several_names(alloc: Global, count: u32, from: &mut Cursor) -> Result<List<By
 /// The next name, which is none of those that were seen. It is one of them then.
 #[tactic(auto, unfolding(crate::specs::Reading::told_name))]
 fn next_name<'a>(seen: &mut BTreeSet<&'a [u8]>, from: &mut Cursor<'a>) -> Result<&'a [u8], CertForm>
-    ensures reads { (before : Items Name) → HasNames before seen.old
+    ensures reads { (before : Items Text) → HasNames before seen.old
         → ReadsAs CertForm.Memory (λ b. b.now) result (told_name before from.old) from.new }
-    ensures seen { (before : Items Name) → HasNames before seen.old → IfOk result (λ name. HasNames (before ++ name.now ∷ []) seen.new) }
+    ensures seen { (before : Items Text) → HasNames before seen.old → IfOk result (λ name. HasNames (before ++ name.now ∷ []) seen.new) }
 {
     let len = u2(from)?;
     let at = from.position();

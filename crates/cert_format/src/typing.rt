@@ -1,6 +1,7 @@
 //! The types of what locals and stack places hold before each instruction.
 
-use mon_base::{Bytes, List};
+use crate::name::Name;
+use mon_base::List;
 
 /// What a local or a stack place holds, as the verifier sees it. (The Java Virtual Machine Specification, section
 /// 4.10.1.2.)
@@ -13,7 +14,7 @@ pub enum VType {
     /// The null reference.
     Null,
     /// A reference to an object of this class, or of this array type, whose name is its descriptor.
-    Ref(Bytes),
+    Ref(Name),
     /// The object that this constructor makes, before the constructor of its superclass is called.
     UninitThis,
     /// What the `new` of this index, counted in instructions, made, before its constructor is called.

@@ -7,8 +7,8 @@ ghost use Rattle.bytecode_model.specs.Lending.{type_lent};
 ghost use Rattle.bytecode_model.specs.Rules.{class_caught, is_alone, is_reference_to, local_caught, when_thrown};
 
 use bytecode_model::{Handler, TypeRef, lend, own};
-use cert_format::VType;
-use mon_base::{Bytes, List, NoMemory};
+use cert_format::{Name, VType};
+use mon_base::{List, NoMemory};
 use std::alloc::Global;
 
 /// The class that each other is below that is caught.
@@ -85,6 +85,6 @@ pub fn stack_thrown(alloc: Global, handler: &Handler) -> Result<List<VType>, NoM
     ensures { IfOk result (λ stack. stack ≡ Ref (class_caught handler.now) ∷ []) }
 {
     let mut stack = List::new(alloc);
-    stack.push(VType::Ref(Bytes::from_slice(alloc, class_caught(handler))?))?;
+    stack.push(VType::Ref(Name::from_slice(alloc, class_caught(handler))?))?;
     Ok(stack)
 }

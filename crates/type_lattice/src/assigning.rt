@@ -49,6 +49,7 @@ pub fn fits_class(program: &Indexed, from: TypeRef, to: &[u8]) -> bool
     match from {
         TypeRef::Null => true,
         TypeRef::Ref(from) => name_fits(program, from, to),
+        TypeRef::Shared(from) => name_fits(program, from.as_slice(), to),
         TypeRef::ArrayOf(item) => array_of_fits(program, item, to),
         _ => false,
     }

@@ -10,7 +10,7 @@ ghost use Rattle.type_lattice.specs.Merging.{both_within, arrays_merged, names_m
 use crate::assigning::{OBJECT, reference_of};
 use crate::indexed::{Indexed, first_above, is_interface};
 use bytecode_model::{is_array, push_described};
-use cert_format::VType;
+use cert_format::{Name, VType};
 use mon_base::{Bytes, NoMemory};
 use std::alloc::Global;
 
@@ -133,14 +133,17 @@ fn names_merged(alloc: Global, program: &Indexed, a: &[u8], b: &[u8]) -> Result<
 fn reference_merged(
     alloc: Global,
     program: &Indexed,
-    a: &[u8],
+    a: &Name,
     b: &VType,
 ) -> Result<VType, NoMemory>
     ensures { IfOk result (λ t. t ≡ merged program.now (Ref a.now) b.now) }
 {
     match b {
-        VType::Null => Ok(VType::Ref(Bytes::from_slice(alloc, a)?)),
-        VType::Ref(b) => Ok(VType::Ref(names_merged(alloc, program, a, b.as_slice())?)),
+        VType::Null => Ok(VType::Ref(a.share()?)),
+        VType::Ref(b) => {
+            let merged = names_merged(alloc, program, a.as_slice(), b.as_slice())?;
+            Ok(VType::Ref(Name::from_bytes(alloc, merged)?))
+        }
         _ => Ok(VType::Top),
     }
 }
@@ -160,11 +163,11 @@ pub fn merge(alloc: Global, program: &Indexed, a: &VType, b: &VType) -> Result<V
         VType::Null => {
             match b {
                 VType::Null => Ok(VType::Null),
-                VType::Ref(b) => Ok(VType::Ref(b.copy(alloc)?)),
+                VType::Ref(b) => Ok(VType::Ref(b.share()?)),
                 _ => Ok(VType::Top),
             }
         }
-        VType::Ref(a) => reference_merged(alloc, program, a.as_slice(), b),
+        VType::Ref(a) => reference_merged(alloc, program, a, b),
         VType::UninitThis => {
             match b {
                 VType::UninitThis => Ok(VType::UninitThis),

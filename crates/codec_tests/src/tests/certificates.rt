@@ -1,6 +1,8 @@
 //! Known certificates both ways, and where bytes that are none differ.
 
-use cert_format::{CertForm, Certificate, Mode, Note, Phase8, Term, Typing, VType, decode, encode};
+use cert_format::{
+    CertForm, Certificate, Mode, Name, Note, Phase8, Term, Typing, VType, decode, encode,
+};
 use mon_base::{Bytes, List};
 use std::alloc::{AllocError, Global};
 use std::process::Abort;
@@ -93,7 +95,7 @@ fn first_certificate(rt: HostRuntime) -> Result<(), Fail> {
 
 /// Each frame has an array of strings in its first local.
 fn has_one_local(rt: &impl Abort, alloc: Global, typing: &Typing) -> Result<(), Fail> {
-    let name = VType::Ref(Bytes::from_slice(alloc, b"[Ljava/lang/String;")?);
+    let name = VType::Ref(Name::from_slice(alloc, b"[Ljava/lang/String;")?);
     assert_eq!(rt; typing.frames.len(), 2);
     let class = typing.frames.as_slice().first().ok_or("a class")?;
     for method in class.as_slice() {

@@ -7,7 +7,7 @@ use Rattle.cert_format.proofs.note_reading.several_terms.Goals as goal
 
 pub returns-in_err-term : goal.returns-in_err-term
 returns-in_err-term c =
-    let p = err_from_is_err_and c.from_residual.result c.from_residual.ensures.1 in
+    let p = err_from_is_err_and c.from_residual-in_err-term.result c.from_residual-in_err-term.ensures.1 in
     rw (p.1, p.2) (counted_ends term_at c.in_err-term.field-0.0 c.loop.terms c.args.count c.loop.counter c.loop.from (counted term_at c.args.count c.args.from.now) c.loop-test.true c.in_err-term.ensures c.loop.invariant)
 
 pub loop-preserved : goal.loop-preserved

@@ -5,5 +5,5 @@ use Rattle.cert_format.proofs.index.Index.place.Goals as goal
 pub returns-in-None : goal.returns-in-None
 returns-in-None c =
     let names = c.self.inside.names.items in
-    let new = is_new (map (λ name. name.now) names) c.args.name.now (sym (c.self.invariant c.args.name.now) ∙ sym c.in-None.ensures.value) in
-    rw (← c.self.view_is) (ap length c.as_slice.ensures.value ∙ sym (length-now names) ∙ sym new)
+    let new = is_new (map (λ name. name.now) names) c.args.name.now (sym (c.self.invariant.0 c.args.name.now) ∙ sym c.in-None.ensures.value) in
+    rw (← c.self.view_is) (ap length c.as_slice-names.ensures.value ∙ sym (length-now names) ∙ sym new)
