@@ -1,36 +1,76 @@
--- First places of bytes in a map.
-use Rattle.std.proofs.Common.{◌≡◌, ℕ, true, false, cond, eqb, List, [], Option, Some, None, sym, ap, ◌∙◌, subst, arith}
-use Rattle.std.specs.Option.{option_or, is_some}
-use Rattle.std.specs.Ordering.{is_eq, nat_cmp}
-use Rattle.std.specs.BTreeMap.{BTreeMap, is_at}
-use Rattle.std.specs.Map.{lookup}
+-- Places of bytes in a list that rises.
+use Rattle.std.proofs.Common.{◌≡◌, ℕ, zero, suc, ◌+◌, ◌<◌, ◌≤◌, true, false, cond, eqb, List, [], ◌∷◌, length, get_or, Option, Some, None, Result, Ok, Err, refl, ap, ◌∙◌, arith}
+use Rattle.std.specs.Prelude.{MatchResult}
+use Rattle.std.specs.List.{position_from}
+use Rattle.std.specs.List.Sorted.{IsBinarySearchResult}
+use Rattle.std.specs.Ordering.{nat_cmp}
 use Rattle.std.proofs.lemmas.Bool.Decides.{nat_tests}
-use Rattle.class_linking.specs.Handlers.{start_in}
-use Rattle.bytecode_model.proofs.Lists.{or_none}
-use Rattle.bytecode_model.proofs.Placing.{test_cases, is_some_or, none_or}
+use Rattle.std.proofs.lemmas.List.Sorted.{searched}
+use Rattle.insn_codec.specs.declared.insn.Insn.{Insn}
+use Rattle.insn_codec.specs.Spelling.{size, starts_from}
+use Rattle.insn_codec.proofs.Standing.{size-some}
+use Rattle.bytecode_model.specs.Starts.{index_at}
+use Rattle.class_linking.specs.Handlers.{RisesFrom}
 
-same_start : (a b : ℕ) → is_eq (nat_cmp a b) ≡ eqb a b
-same_start a b = grind (arith, nat_tests)
+-- Each is as far above the first as it stands behind it.
+above : (low : ℕ) (ns : List ℕ) (i : ℕ) → RisesFrom low ns → i < length ns → low + i ≤ get_or ns i 0
+above low [] i up within = absurd (omega arith)
+above low (n ∷ ns) zero up within = omega (arith, up.0)
+above low (n ∷ ns) (suc i) up within = omega (arith, up.0, above (n + 1) ns i up.1 (omega arith))
 
-is_start : (a b : ℕ) → eqb a b ≡ true → a ≡ b
-is_start a b e = grind (arith, nat_tests)
+never_falls : (low : ℕ) (ns : List ℕ) (i j : ℕ) → RisesFrom low ns → i ≤ j → j < length ns → get_or ns i 0 ≤ get_or ns j 0
+never_falls low [] i j up before within = absurd (omega arith)
+never_falls low (n ∷ ns) zero zero up before within = omega arith
+never_falls low (n ∷ ns) zero (suc j) up before within = omega (arith, above (n + 1) ns j up.1 (omega arith))
+never_falls low (n ∷ ns) (suc i) zero up before within = absurd (omega arith)
+never_falls low (n ∷ ns) (suc i) (suc j) up before within = never_falls (n + 1) ns i j up.1 (omega arith) (omega arith)
 
-pub keeps_start : (places : BTreeMap ℕ ℕ) (start place : ℕ) → is_some (start_in places start) ≡ true → (q : ℕ) → start_in places q ≡ option_or (start_in places q) (cond (eqb start q) (Some place) None)
-keeps_start places start place there q =
-    test_cases (eqb start q) (λ b. start_in places q ≡ option_or (start_in places q) (cond b (Some place) None))
-    (λ e. is_some_or (start_in places q) (Some place) (subst (λ (n : ℕ). is_some (start_in places n) ≡ true) (is_start start q e) there))
-    (λ e. sym (or_none (start_in places q)))
+same : (a b : ℕ) → a ≡ b → eqb a b ≡ true
+same a b e = grind (arith, nat_tests)
 
-pub adds_start : (old new : BTreeMap ℕ ℕ) (start place : ℕ) → is_some (start_in old start) ≡ false
-    → ((q : ℕ) → start_in new q ≡ cond (is_eq (nat_cmp start q)) (Some place) (start_in old q)) → (q : ℕ) → start_in new q ≡ option_or (start_in old q) (cond (eqb start q) (Some place) None)
-adds_start old new start place absent puts q =
-    puts q ∙ ap (λ b. cond b (Some place) (start_in old q)) (same_start start q)
-    ∙ test_cases (eqb start q) (λ b. cond b (Some place) (start_in old q) ≡ option_or (start_in old q) (cond b (Some place) None))
-    (λ e. none_or (start_in old q) (Some place) (subst (λ (n : ℕ). is_some (start_in old n) ≡ false) (is_start start q e) absent))
-    (λ e. sym (or_none (start_in old q)))
+other : (a b : ℕ) → a < b → eqb a b ≡ false
+other a b l = grind (arith, nat_tests)
 
--- a map that is empty
-pub no_start : (places : BTreeMap ℕ ℕ) (q : ℕ) (o : Option ℕ) → places.entries ≡ [] → option_or (start_in places q) o ≡ o
-no_start places q o empty = ap (λ p. option_or p o) (none_in places.entries empty) where
-  none_in : (es : List (ℕ × ℕ)) → es ≡ [] → lookup (is_at (nat_cmp q)) es ≡ None
-  none_in es e = ap (lookup (is_at (nat_cmp q))) e
+-- The first place of a number is that in which it stands.
+stands : (low at : ℕ) (ns : List ℕ) (i q : ℕ) → RisesFrom low ns → i < length ns → get_or ns i 0 ≡ q → position_from (λ (s : ℕ). eqb s q) at ns ≡ Some (at + i)
+stands low at [] i q up within is = absurd (omega arith)
+stands low at (n ∷ ns) zero q up within is =
+    let there : at ≡ at + 0 = omega arith in
+    ap (λ b. cond b (Some at) (position_from (λ (s : ℕ). eqb s q) (at + 1) ns)) (same n q is) ∙ ap Some there
+stands low at (n ∷ ns) (suc i) q up within is =
+    let below : n < q = omega (arith, is, above (n + 1) ns i up.1 (omega arith)) in
+    let there : at + 1 + i ≡ at + suc i = omega arith in
+    ap (λ b. cond b (Some at) (position_from (λ (s : ℕ). eqb s q) (at + 1) ns)) (other n q below) ∙ stands (n + 1) (at + 1) ns i q up.1 (omega arith) is ∙ ap Some there
+
+-- A number between those before a place and those from it on is not among them.
+stands_not : (at : ℕ) (ns : List ℕ) (i q : ℕ) → ((k : ℕ) → k < i → get_or ns k 0 < q) → ((k : ℕ) → i ≤ k → k < length ns → q < get_or ns k 0) → position_from (λ (s : ℕ). eqb s q) at ns ≡ None
+stands_not at [] i q before behind = refl
+stands_not at (n ∷ ns) zero q before behind =
+    ap (λ b. cond b (Some at) (position_from (λ (s : ℕ). eqb s q) (at + 1) ns)) (greater n q (behind 0 (omega arith) (omega arith)))
+    ∙ stands_not (at + 1) ns 0 q (λ k l. absurd (omega arith)) (λ k l m. behind (suc k) (omega arith) (omega arith)) where
+      greater : (a b : ℕ) → b < a → eqb a b ≡ false
+      greater a b l = grind (arith, nat_tests)
+stands_not at (n ∷ ns) (suc i) q before behind =
+    ap (λ b. cond b (Some at) (position_from (λ (s : ℕ). eqb s q) (at + 1) ns)) (other n q (before 0 (omega arith)))
+    ∙ stands_not (at + 1) ns i q (λ k l. before (suc k) (omega arith)) (λ k l m. behind (suc k) (omega arith) (omega arith))
+
+-- What a search by halving finds is the first place, and no further than the number.
+pub halved : (ns : List ℕ) (q : ℕ) (r : Result ℕ ℕ) → RisesFrom 0 ns → IsBinarySearchResult (λ y. nat_cmp y q) ns r
+    → MatchResult r (λ i. (index_at ns q ≡ Some i) × (i ≤ q)) (λ i. index_at ns q ≡ None)
+halved ns q (Ok i) up found =
+    let is = searched ns q (Ok i) found (λ a b l m. never_falls 0 ns a b up l m) in
+    let there : 0 + i ≡ i = omega arith in
+    (stands 0 0 ns i q up is.0 is.1 ∙ ap Some there, omega (arith, is.1, above 0 ns i up is.0))
+halved ns q (Err i) up found =
+    let is = searched ns q (Err i) found (λ a b l m. never_falls 0 ns a b up l m) in
+    stands_not 0 ns i q is.1 is.2
+
+lower : (low least : ℕ) (ns : List ℕ) → least ≤ low → RisesFrom low ns → RisesFrom least ns
+lower low least [] l up = tt
+lower low least (n ∷ ns) l up = (omega (arith, up.0), up.1)
+
+-- The places at which instructions begin rise, since each has a byte or more.
+pub starts_rise : (at : ℕ) (insns : List Insn) → RisesFrom at (starts_from at insns)
+unfolding starts_from
+starts_rise at [] = (omega arith, tt)
+starts_rise at (x ∷ xs) = (omega arith, lower (at + size at x) (at + 1) (starts_from (at + size at x) xs) (omega (arith, size-some at x)) (starts_rise (at + size at x) xs))

@@ -1,7 +1,5 @@
 -- The exception table of a method, by indices of instructions. (The Java Virtual Machine Specification, section 4.7.3.)
-use Rattle.std.specs.Prelude.{◌≡◌, ℕ, true, ◌==◌, if◌then◌else◌, List, Option, Some, None, ok_or, Ok}
-use Rattle.std.specs.Ordering.{nat_cmp}
-use Rattle.std.specs.BTreeMap.{BTreeMap, get}
+use Rattle.std.specs.Prelude.{ℕ, ◌+◌, ◌≤◌, true, ◌==◌, if◌then◌else◌, List, [], ◌∷◌, Option, Some, None, ok_or, Ok, ⊤}
 use Rattle.mon_base.specs.Reading.{◌>>=◌}
 use Rattle.class_codec.specs.declared.tree.Const.{Const}
 use Rattle.class_codec.specs.declared.tree.ClassFile.{ClassFile}
@@ -34,11 +32,9 @@ handler_linked files listing class pool method end starts entry = do
 abbrev pub handlers_linked : List ClassFile → Listing → List ℕ → List Const → ℕ → ℕ → List ℕ → List TableEntry → Linked (List Handler)
 handlers_linked files listing class pool method end starts entries = linked_from (λ at. handler_linked files listing class pool method end starts) 0 entries
 
--- ---- places of bytes
+-- ---- bytes that rise
 
-abbrev pub start_in : BTreeMap ℕ ℕ → ℕ → Option ℕ
-start_in places byte = get nat_cmp places byte
-
--- The map has the first place of each byte.
-abbrev pub StartsPlaced : BTreeMap ℕ ℕ → List ℕ → Type 0
-StartsPlaced places starts = (q : ℕ) → start_in places q ≡ index_at starts q
+-- Each number is above the one before it, and the first is no lower than this one.
+abbrev pub RisesFrom : ℕ → List ℕ → Type 0
+RisesFrom low [] = ⊤
+RisesFrom low (n ∷ ns) = (low ≤ n) × RisesFrom (n + 1) ns

@@ -1,6 +1,7 @@
 pub mod Fault
 pub mod ClassConditions
 pub mod Operands
+pub mod Known
 pub mod Handlers
 pub mod Linking
 pub mod Laws

@@ -95,11 +95,15 @@ abbrev pub is_nothing : Use → Bool
 is_nothing uses.Nothing = true
 is_nothing other = false
 
+-- what the constant of this index names, where it is used so
+abbrev pub used_at : List ClassFile → Listing → List Const → Use → ℕ → Result Target OperandFault
+used_at files listing pool how index = ok_or (slice_get pool index) operand.Wrong >>= used files listing pool how
+
 -- what the operand of an instruction names, in code of a class with this constant pool
 abbrev pub operand_linked : List ClassFile → Listing → List Const → Insn → Result Target OperandFault
 operand_linked files listing pool insn =
     if is_nothing (use_of insn) then Ok target.None
-    else (ok_or (slice_get pool (index_of insn)) operand.Wrong >>= used files listing pool (use_of insn))
+    else used_at files listing pool (use_of insn) (index_of insn)
 
 -- An operand that its instruction does not take is told by its place, and one that has no target by its name.
 abbrev pub operand_fault_told : List ℕ → ℕ → ℕ → OperandFault → LinkFault

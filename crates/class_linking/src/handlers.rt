@@ -1,41 +1,37 @@
 //! The exception table of a method, by indices of instructions. (The Java Virtual Machine Specification, section 4.7.3.)
 
-ghost use Rattle.std.specs.Prelude.{◌≡◌, ◌<◌, ◌^◌, ◌+◌, ℕ, IfOk, OnOk, ok_or, Some, None, if◌then◌else◌, ◌==◌};
-ghost use Rattle.std.specs.Option.{option_or};
+ghost use Rattle.std.specs.Prelude.{◌≡◌, ◌<◌, ◌^◌, IfOk, ok_or};
 ghost use Rattle.insn_codec.specs.Spelling.{len_from, starts_of};
 ghost use Rattle.class_linking.specs.declared.fault.LinkFault.TheVariants.{Operand};
 ghost use Rattle.mon_base.specs.Answer.{Answers};
-ghost use Rattle.class_linking.specs.Handlers.{start_in, StartsPlaced};
 ghost use Rattle.bytecode_model.specs.Starts.{index_at, insn_at};
 ghost use Rattle.class_linking.specs.Handlers.{caught, handler_linked, handlers_linked};
 
 use crate::fault::LinkFault;
 use crate::operands::{class_linked, operand_fault_told};
-use bytecode_model::{Handler, copy_class, next_place};
+use bytecode_model::{Handler, copy_class};
 use class_codec::{Const, TableEntry};
 use class_index::Index;
 use insn_codec::{Insn, starts};
 use mon_base::{Bytes, List, NoMemory};
 use std::alloc::Global;
-use std::collections::BTreeMap;
 use std::marker::Model;
 
 /// Where the instructions of a code begin and where it ends, found by the byte. A contract sees the list.
 #[derive(Drop)]
 pub struct Starts {
     list: List<u32>,
-    places: BTreeMap<u32, u32>,
 }
 
 impl Model for Starts {
     ghost use Rattle.std.specs.Prelude.{ℕ, List};
-    ghost use Rattle.class_linking.specs.Handlers.{StartsPlaced};
+    ghost use Rattle.class_linking.specs.Handlers.{RisesFrom};
 
     ghost Value = { List ℕ };
 
     ghost view = { λ s. s.list };
 
-    ghost invariant = { λ s. StartsPlaced s.places s.list };
+    ghost invariant = { λ s. RisesFrom 0 s.list };
 }
 
 impl Starts {
@@ -45,17 +41,16 @@ impl Starts {
         ensures { IfOk result (λ starts. starts ≡ starts_of insns.now) }
     {
         let list = starts(alloc, insns)?;
-        let places = places_of(alloc, list.as_slice())?;
-        Ok(Starts { list, places })
+        Ok(Starts { list })
     }
 
     /// The index of the instruction that begins at the byte, or the number of instructions for the end.
     pub fn index_at(&self, byte: u16) -> Option<u32>
         ensures { result ≡ index_at self.now byte }
     {
-        match self.places.get(&u32::from(byte)) {
-            Some(place) => Some(*place),
-            None => None,
+        match self.list.as_slice().binary_search(&u32::from(byte)) {
+            Ok(place) => Some(place as u32),
+            Err(_) => None,
         }
     }
 
@@ -72,30 +67,6 @@ impl Starts {
     }
 }
 
-/// The first place of each byte.
-fn places_of(alloc: Global, starts: &[u32]) -> Result<BTreeMap<u32, u32>, NoMemory>
-    ensures { IfOk result (λ places. StartsPlaced places starts.now) }
-{
-    let mut places = BTreeMap::new(alloc);
-    let mut index: u32 = 0;
-    let mut left = starts;
-    while let [start, rest @ ..] = left {
-        add_start(&mut places, *start, index)?;
-        index = next_place(index)?;
-        left = rest;
-    }
-    Ok(places)
-}
-
-fn add_start(places: &mut BTreeMap<u32, u32>, start: u32, place: u32) -> Result<(), NoMemory>
-    ensures { OnOk result ((q : ℕ) → start_in places.new q ≡ option_or (start_in places.old q) (if start == q then Some place else None)) }
-{
-    if !places.contains_key(&start) {
-        places.insert(start, place)?;
-    }
-    Ok(())
-}
-
 /// The handlers of a code, or the first entry that is refused; it is told behind the instructions.
 pub fn handlers_linked(
     alloc: Global,
@@ -110,14 +81,14 @@ pub fn handlers_linked(
     ensures { Answers LinkFault.Memory result
         (handlers_linked index.now.files index.now.listing class.now pool.now method end starts.now entries.now) }
 {
-    let mut handlers = List::new(alloc);
+    let mut handlers = Vec::with_capacity(alloc, entries.len())?;
     let mut left = entries;
     while let [entry, rest @ ..] = left {
         let handler = handler_linked(alloc, index, class, pool, method, end, starts, entry)?;
         handlers.push(handler)?;
         left = rest;
     }
-    Ok(handlers)
+    Ok(List::from_vec(handlers))
 }
 
 fn handler_linked(

@@ -8,6 +8,7 @@
 mod class_conditions;
 mod fault;
 mod handlers;
+mod known;
 mod laws;
 mod linking;
 mod method_conditions;

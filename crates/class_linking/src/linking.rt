@@ -149,14 +149,14 @@ fn each_linked(
     ensures answers { Answers LinkFault.Memory result (each_linked index.now.files index.now.listing files.now) }
     ensures sound { IfOk result (AllByRecursion (AllByRecursion IsSoundMethod)) }
 {
-    let mut classes = List::new(alloc);
+    let mut classes = Vec::with_capacity(alloc, files.len())?;
     let mut left = files;
     while let [file, rest @ ..] = left {
         let methods = methods_linked(alloc, index, file)?;
         classes.push(methods)?;
         left = rest;
     }
-    Ok(classes)
+    Ok(List::from_vec(classes))
 }
 
 /// The classes of the files, each with its methods.
@@ -167,21 +167,21 @@ fn classes_with(
 ) -> Result<List<LinkedClass>, NoMemory>
     ensures { IfOk result (λ classes. classes ≡ classes_with files methods) }
 {
-    let mut classes = List::new(alloc);
     let count = files.len();
+    let mut classes = Vec::with_capacity(alloc, count)?;
     let mut files = VecDeque::from_vec(files.into_vec());
     let mut methods = VecDeque::from_vec(methods.into_vec());
     for _ in 0..count {
         let Some(file) = files.pop_front() else {
-            return Ok(classes);
+            return Ok(List::from_vec(classes));
         };
         let Some(first) = methods.pop_front() else {
-            return Ok(classes);
+            return Ok(List::from_vec(classes));
         };
         let class = class_with(alloc, file, first)?;
         classes.push(class)?;
     }
-    Ok(classes)
+    Ok(List::from_vec(classes))
 }
 
 fn class_with(

@@ -11,10 +11,12 @@ ghost use Rattle.bytecode_model.specs.Heads.{all_classes, head_of};
 ghost use Rattle.bytecode_model.specs.SearchOrder.{search_order};
 ghost use Rattle.class_index.specs.Library.{OverridesAs};
 ghost use Rattle.bytecode_model.specs.Sound.{IsSoundMethod};
+ghost use Rattle.class_linking.specs.Known.{AreKnown};
 ghost use Rattle.class_linking.specs.Linking.{bare, with_code, code_told, read_of, code_linked, method_linked, methods_linked};
 
 use crate::fault::LinkFault;
 use crate::handlers::{Starts, handlers_linked};
+use crate::known::Known;
 use crate::method_conditions::{is_allowed, overrides};
 use crate::operands::operands_linked;
 use bytecode_model::{Handlers, Method, Target, code_of, copy_class, copy_text};
@@ -36,16 +38,26 @@ pub fn methods_linked(
 {
     let class = copy_class(alloc, file.pool.as_slice(), file.this_class)?;
     let order = index.library_above(alloc, &class)?;
-    let mut methods = List::new(alloc);
+    let mut known = Known::new(alloc, file.pool.len())?;
+    let mut methods = Vec::with_capacity(alloc, file.methods.len())?;
     let mut number: u32 = 0;
     let mut left = file.methods.as_slice();
     while let [member, rest @ ..] = left {
-        let method = method_linked(alloc, index, order.as_slice(), file, &class, number, member)?;
+        let method = method_linked(
+            alloc,
+            index,
+            order.as_slice(),
+            file,
+            &class,
+            &mut known,
+            number,
+            member,
+        )?;
         methods.push(method)?;
         number += 1;
         left = rest;
     }
-    Ok(methods)
+    Ok(List::from_vec(methods))
 }
 
 fn method_linked(
@@ -54,14 +66,17 @@ fn method_linked(
     order: &[Bytes],
     file: &ClassFile,
     class: &Bytes,
+    known: &mut Known,
     method: u32,
     member: &Member,
 ) -> Result<Method, LinkFault>
     requires fits { FitsMember file.now.pool true member.now }
     requires name { class.now ≡ (head_of file.now).name }
+    requires known { AreKnown index.now.files index.now.listing file.now.pool known.old }
     requires order { OverridesAs index.now.listing order.now (search_order (all_classes index.now.listing index.now.files) class.now) }
     ensures answers { Answers LinkFault.Memory result (method_linked index.now.files index.now.listing file.now method member.now) }
     ensures sound { IfOk result IsSoundMethod }
+    ensures known { AreKnown index.now.files index.now.listing file.now.pool known.new }
 {
     let pool = file.pool.as_slice();
     if !is_allowed(alloc, pool, member)? {
@@ -77,7 +92,7 @@ fn method_linked(
         });
     }
     match code_of(member.attrs.as_slice()) {
-        Some(code) => code_linked(alloc, index, file, class, method, member, code),
+        Some(code) => code_linked(alloc, index, file, class, known, method, member, code),
         None => {
             let method = bare(alloc, file, member)?;
             Ok(method)
@@ -107,6 +122,7 @@ fn code_linked(
     index: &Index,
     file: &ClassFile,
     class: &Bytes,
+    known: &mut Known,
     method: u32,
     member: &Member,
     code: &Code,
@@ -114,12 +130,14 @@ fn code_linked(
     requires short { length code.now.code ≤ 65535 }
     requires table { length code.now.table < 2 ^ 16 }
     requires name { class.now ≡ (head_of file.now).name }
+    requires known { AreKnown index.now.files index.now.listing file.now.pool known.old }
     ensures answers { Answers LinkFault.Memory result (code_linked index.now.files index.now.listing file.now method member.now code.now) }
     ensures sound { IfOk result IsSoundMethod }
+    ensures known { AreKnown index.now.files index.now.listing file.now.pool known.new }
 {
     let pool = file.pool.as_slice();
     let insns = read_insns(alloc, class, method, code.code.as_slice())?;
-    let refs = operands_linked(alloc, index, class, pool, method, insns.as_slice())?;
+    let refs = operands_linked(alloc, index, class, pool, known, method, insns.as_slice())?;
     let starts = Starts::new(alloc, insns.as_slice())?;
     let end = insns.len() as u32;
     let table = code.table.as_slice();

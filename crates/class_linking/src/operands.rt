@@ -9,43 +9,49 @@ ghost use Rattle.mon_base.specs.Answer.{Answers, Tells};
 ghost use Rattle.bytecode_model.specs.Arrays.{is_array};
 ghost use Rattle.class_linking.specs.Operands.{is_nothing, array_linked, class_linked, field_fits};
 ghost use Rattle.bytecode_model.specs.Operands.{element_is_known};
-ghost use Rattle.class_linking.specs.Operands.{field_linked, call_linked, loaded, typed, field_used, called, used};
+ghost use Rattle.class_linking.specs.Operands.{field_linked, call_linked, loaded, typed, field_used, called, used, used_at};
 ghost use Rattle.bytecode_model.specs.Operands.{known_in};
 ghost use Rattle.bytecode_model.specs.Operands.{index_of};
+ghost use Rattle.class_linking.specs.Known.{AreKnown};
 ghost use Rattle.class_linking.specs.Operands.{operand_fault_told, operand_linked, told_at, operands_linked, operand_at};
 
 use crate::fault::LinkFault;
+use crate::known::{Known, Named};
 use crate::operand_fault::OperandFault;
 use api_listing::{Element, FormFault, parse_descriptor, parse_field_descriptor};
 use bytecode_model::{Found, Target, Use, copy_text, id_at, index_of, is_array, use_of};
-use class_codec::Const;
+use class_codec::{Const, Copied};
 use class_index::Index;
 use insn_codec::Insn;
 use mon_base::{Bytes, List, MethodId, NoMemory};
 use std::alloc::Global;
 
-/// The operands of the instructions of a method, each with its target, or the first that has none.
+/// The operands of the instructions of a method, each with its target, or the first that has none. What was found of the
+/// class is kept.
 pub fn operands_linked(
     alloc: Global,
     index: &Index,
     class: &Bytes,
     pool: &[Const],
+    known: &mut Known,
     method: u32,
     insns: &[Insn],
 ) -> Result<List<Target>, LinkFault>
-    requires { length insns.now < 2 ^ 32 }
-    ensures { Answers LinkFault.Memory result (operands_linked index.now.files index.now.listing class.now pool.now method insns.now) }
+    requires count { length insns.now < 2 ^ 32 }
+    requires known { AreKnown index.now.files index.now.listing pool.now known.old }
+    ensures answers { Answers LinkFault.Memory result (operands_linked index.now.files index.now.listing class.now pool.now method insns.now) }
+    ensures known { AreKnown index.now.files index.now.listing pool.now known.new }
 {
-    let mut targets = List::new(alloc);
+    let mut targets = Vec::with_capacity(alloc, insns.len())?;
     let mut at: u32 = 0;
     let mut left = insns;
     while let [insn, rest @ ..] = left {
-        let target = operand_at(alloc, index, class, pool, method, at, insn)?;
+        let target = operand_at(alloc, index, class, pool, known, method, at, insn)?;
         targets.push(target)?;
         at += 1;
         left = rest;
     }
-    Ok(targets)
+    Ok(List::from_vec(targets))
 }
 
 fn operand_at(
@@ -53,13 +59,16 @@ fn operand_at(
     index: &Index,
     class: &Bytes,
     pool: &[Const],
+    known: &mut Known,
     method: u32,
     at: u32,
     insn: &Insn,
 ) -> Result<Target, LinkFault>
-    ensures { Answers LinkFault.Memory result (operand_at index.now.files index.now.listing class.now pool.now method at insn.now) }
+    requires known { AreKnown index.now.files index.now.listing pool.now known.old }
+    ensures answers { Answers LinkFault.Memory result (operand_at index.now.files index.now.listing class.now pool.now method at insn.now) }
+    ensures known { AreKnown index.now.files index.now.listing pool.now known.new }
 {
-    match operand_linked(alloc, index, pool, insn) {
+    match operand_linked(alloc, index, pool, known, insn) {
         Ok(target) => Ok(target),
         Err(fault) => Err(operand_fault_told(alloc, class, method, at, fault)),
     }
@@ -95,15 +104,57 @@ fn operand_linked(
     alloc: Global,
     index: &Index,
     pool: &[Const],
+    known: &mut Known,
     insn: &Insn,
 ) -> Result<Target, OperandFault>
-    ensures { Answers OperandFault.Memory result (operand_linked index.now.files index.now.listing pool.now insn.now) }
+    requires known { AreKnown index.now.files index.now.listing pool.now known.old }
+    ensures answers { Answers OperandFault.Memory result (operand_linked index.now.files index.now.listing pool.now insn.now) }
+    ensures known { AreKnown index.now.files index.now.listing pool.now known.new }
 {
     let how = use_of(insn);
     if is_nothing(how) {
         return Ok(Target::None);
     }
-    match pool.get(index_of(insn) as usize) {
+    once(alloc, index, pool, known, how, index_of(insn))
+}
+
+/// What the constant names, from what is known or, where it is not, found and kept.
+fn once(
+    alloc: Global,
+    index: &Index,
+    pool: &[Const],
+    known: &mut Known,
+    how: Use,
+    constant: u16,
+) -> Result<Target, OperandFault>
+    requires known { AreKnown index.now.files index.now.listing pool.now known.old }
+    ensures answers { Answers OperandFault.Memory result (used_at index.now.files index.now.listing pool.now how constant) }
+    ensures known { AreKnown index.now.files index.now.listing pool.now known.new }
+{
+    if let Some(target) = known.find(constant, how) {
+        let copy = target.copy(alloc)?;
+        return Ok(copy);
+    }
+    let target = used_at(alloc, index, pool, how, constant)?;
+    let copy = target.copy(alloc)?;
+    known.keep(Named {
+        index: constant,
+        how,
+        target: copy,
+    });
+    Ok(target)
+}
+
+fn used_at(
+    alloc: Global,
+    index: &Index,
+    pool: &[Const],
+    how: Use,
+    constant: u16,
+) -> Result<Target, OperandFault>
+    ensures { Answers OperandFault.Memory result (used_at index.now.files index.now.listing pool.now how constant) }
+{
+    match pool.get(constant as usize) {
         Some(constant) => used(alloc, index, pool, how, constant),
         None => Err(OperandFault::Wrong),
     }

@@ -6,7 +6,7 @@ use Rattle.class_linking.proofs.handlers.handlers_linked.Given as goal
 
 abbrev pub invariant-loop-left : goal.invariant-loop-left
 invariant-loop-left l =
-    (at : ℕ) × (with_front l.handlers (linked_from (λ i. handler_linked l.index.files l.index.listing l.class l.pool l.method l.end l.starts) at l.left)
+    (at : ℕ) × (with_front l.handlers.items (linked_from (λ i. handler_linked l.index.files l.index.listing l.class l.pool l.method l.end l.starts) at l.left)
     ≡ linked_from (λ i. handler_linked l.index.files l.index.listing l.class l.pool l.method l.end l.starts) 0 l.entries)
 
 abbrev pub decreases-loop-left : goal.decreases-loop-left

@@ -4,6 +4,6 @@ use Rattle.class_linking.proofs.linking.classes_with.Given as goal
 
 abbrev pub invariant-loop : goal.invariant-loop
 invariant-loop l = record {
-  so_far : l.classes ++ classes_with l.files.items l.methods.items ≡ l.initial.classes ++ classes_with l.initial.files.items l.initial.methods.items;
+  so_far : l.classes.items ++ classes_with l.files.items l.methods.items ≡ l.initial.classes.items ++ classes_with l.initial.files.items l.initial.methods.items;
   count : l.counter + length l.files.items ≡ length l.initial.files.items;
 }

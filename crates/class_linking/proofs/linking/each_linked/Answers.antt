@@ -14,9 +14,9 @@ loop-left-preserved c =
     let one = λ (i : ℕ). methods_linked c.args.index.now.files c.args.index.now.listing in (
       c.loop-left.invariant.0 + 1,
       record {
-        so_far = rw c.in_ok-push.ensures.ok (goes_on one c.loop-left.classes _ _ _ c.in_ok-methods.methods c.loop-left.invariant.0 _ split c.in_ok-methods.ensures.answers c.loop-left.invariant.1.so_far);
+        so_far = rw c.in_ok-push.ensures.items (goes_on one c.loop-left.classes.items _ _ _ c.in_ok-methods.methods c.loop-left.invariant.0 _ split c.in_ok-methods.ensures.answers c.loop-left.invariant.1.so_far);
         fit = (others_fit CanSpell c.loop-left.left.now _ _ split c.loop-left.invariant.1.fit).1;
-        sound = all_push (AllByRecursion IsSoundMethod) c.loop-left.classes _ _ c.in_ok-push.ensures.ok c.loop-left.invariant.1.sound c.in_ok-methods.ensures.sound;
+        sound = all_push (AllByRecursion IsSoundMethod) c.loop-left.classes.items _ _ c.in_ok-push.ensures.items c.loop-left.invariant.1.sound c.in_ok-methods.ensures.sound;
       },
     )
 
@@ -24,13 +24,13 @@ pub returns-in_err-methods-clause-answers : goal.returns-in_err-methods-clause-a
 returns-in_err-methods-clause-answers c =
     let split = front_is c.loop-left.left.now c.file-item.result c.in-len1-up.len_at_least c.file-item.is in
     let one = λ (i : ℕ). methods_linked c.args.index.now.files c.args.index.now.listing in
-    let p = err_from_is_err_and c.from_residual.result c.from_residual.ensures.1 in
-    rw (p.1, p.2) (ends one c.in_err-methods.field-0.0 c.loop-left.classes _ _ _ c.loop-left.invariant.0 _ split c.in_err-methods.ensures.answers c.loop-left.invariant.1.so_far)
+    let p = err_from_is_err_and c.from_residual-in_err-methods.result c.from_residual-in_err-methods.ensures.1 in
+    rw (p.1, p.2) (ends one c.in_err-methods.field-0.0 c.loop-left.classes.items _ _ _ c.loop-left.invariant.0 _ split c.in_err-methods.ensures.answers c.loop-left.invariant.1.so_far)
 
 pub returns-clause-answers : goal.returns-clause-answers
 returns-clause-answers c =
     let one = λ (i : ℕ). methods_linked c.args.index.now.files c.args.index.now.listing in
-    is_done one c.loop-left.classes c.loop-left.left.now c.loop-left.invariant.0 _ (none_left c.loop-left.left.now c.in_default.len_below) c.loop-left.invariant.1.so_far
+    rw c.from_vec.ensures (is_done one c.loop-left.classes.items c.loop-left.left.now c.loop-left.invariant.0 _ (none_left c.loop-left.left.now c.in_default.len_below) c.loop-left.invariant.1.so_far)
 
 pub methods_linked-requires : goal.methods_linked-requires
 methods_linked-requires c =

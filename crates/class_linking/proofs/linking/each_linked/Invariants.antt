@@ -17,7 +17,7 @@ pub record IsAt (files : List ClassFile) (listing : Listing) (some : List ClassF
   pub sound : AllByRecursion (AllByRecursion IsSoundMethod) classes
 
 abbrev pub invariant-loop-left : goal.invariant-loop-left
-invariant-loop-left l = (at : ℕ) × IsAt l.index.files l.index.listing l.files l.classes l.left at
+invariant-loop-left l = (at : ℕ) × IsAt l.index.files l.index.listing l.files l.classes.items l.left at
 
 abbrev pub decreases-loop-left : goal.decreases-loop-left
 decreases-loop-left l = length l.left

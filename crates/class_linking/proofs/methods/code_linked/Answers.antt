@@ -26,7 +26,7 @@ returns-clause-sound c =
     let operands : operands_linked files listing (head_of file).name file.pool method insns ≡ Ok refs =
     ap (λ cl. operands_linked files listing cl file.pool method insns) name
     ∙ ap (λ p. operands_linked files listing class p method insns) named
-    ∙ ap (λ xs. operands_linked files listing class pool method xs) (sym c.as_slice-2.ensures) ∙ c.in_ok-refs.ensures in
+    ∙ ap (λ xs. operands_linked files listing class pool method xs) (sym c.as_slice-2.ensures) ∙ c.in_ok-refs.ensures.answers in
     let begins : starts_of insns ≡ starts = ap starts_of (sym c.as_slice-3.ensures) ∙ sym c.in_ok-starts.ensures in
     let table : handlers_linked files listing (head_of file).name file.pool method end (starts_of insns) c.args.code.now.table ≡ Ok handlers =
     ap (λ cl. handlers_linked files listing cl file.pool method end (starts_of insns) c.args.code.now.table) name

@@ -12,10 +12,11 @@ loop-left-preserved c =
     let split = front_is c.loop-left.left.now c.member-item.result c.in-len1-up.len_at_least c.member-item.is in
     let one = method_linked c.args.index.now.files c.args.index.now.listing c.args.file.now in
     record {
-      so_far = rw c.in_ok-push.ensures.ok (goes_on one c.loop-left.methods _ _ _ c.in_ok-method.method c.loop-left.number _ split c.in_ok-method.ensures.answers c.loop-left.invariant.so_far);
+      so_far = rw c.in_ok-push.ensures.items (goes_on one c.loop-left.methods.items _ _ _ c.in_ok-method.method c.loop-left.number _ split c.in_ok-method.ensures.answers c.loop-left.invariant.so_far);
       count = omega (arith, rest_length c.loop-left.left.now _ _ split);
       fits = (others_fit (FitsMember c.args.file.now.pool true) c.loop-left.left.now _ _ split c.loop-left.invariant.fits).1;
-      sound = all_push IsSoundMethod c.loop-left.methods _ _ c.in_ok-push.ensures.ok c.loop-left.invariant.sound c.in_ok-method.ensures.sound;
+      sound = all_push IsSoundMethod c.loop-left.methods.items _ _ c.in_ok-push.ensures.items c.loop-left.invariant.sound c.in_ok-method.ensures.sound;
+      known = c.in_ok-method.ensures.known;
     }
 
 pub returns-in_err-method-clause-answers : goal.returns-in_err-method-clause-answers
@@ -23,12 +24,12 @@ returns-in_err-method-clause-answers c =
     let split = front_is c.loop-left.left.now c.member-item.result c.in-len1-up.len_at_least c.member-item.is in
     let one = method_linked c.args.index.now.files c.args.index.now.listing c.args.file.now in
     let p = err_from_is_err_and c.from_residual-in_err-method.result c.from_residual-in_err-method.ensures.1 in
-    rw (p.1, p.2) (ends one c.in_err-method.field-0.0 c.loop-left.methods _ _ _ c.loop-left.number _ split c.in_err-method.ensures.answers c.loop-left.invariant.so_far)
+    rw (p.1, p.2) (ends one c.in_err-method.field-0.0 c.loop-left.methods.items _ _ _ c.loop-left.number _ split c.in_err-method.ensures.answers c.loop-left.invariant.so_far)
 
 pub returns-clause-answers : goal.returns-clause-answers
 returns-clause-answers c =
     let one = method_linked c.args.index.now.files c.args.index.now.listing c.args.file.now in
-    is_done one c.loop-left.methods c.loop-left.left.now c.loop-left.number _ (none_left c.loop-left.left.now c.in_default.len_below) c.loop-left.invariant.so_far
+    rw c.from_vec.ensures (is_done one c.loop-left.methods.items c.loop-left.left.now c.loop-left.number _ (none_left c.loop-left.left.now c.in_default.len_below) c.loop-left.invariant.so_far)
 
 pub method_linked-requires-clause-fits : goal.method_linked-requires-clause-fits
 method_linked-requires-clause-fits c =
