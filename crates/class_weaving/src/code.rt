@@ -123,7 +123,7 @@ fn sites_of<P: Planner>(
     ensures each { IfOk result (λ sites. length sites ≡ length refs.now) }
     ensures fits { IfOk result (AllByRecursion IsSite) }
 {
-    let mut sites = List::new(alloc);
+    let mut sites = List::from_vec(Vec::with_capacity(alloc, refs.len())?);
     let mut left = refs;
     while let [target, rest @ ..] = left {
         sites.push(planner.block(alloc, base, target)?)?;
@@ -137,7 +137,7 @@ fn clients(alloc: Global, insns: &[Insn]) -> Result<List<Origin>, NoMemory>
     requires { length insns.now < 2 ^ 16 }
     ensures { IfOk result (λ origins. origins ≡ clients_from 0 insns.now) }
 {
-    let mut origins = List::new(alloc);
+    let mut origins = List::from_vec(Vec::with_capacity(alloc, insns.len())?);
     let mut at: u32 = 0;
     let mut left = insns;
     while let [_, rest @ ..] = left {

@@ -55,9 +55,10 @@ fn all_woven<P: Planner>(
     requires few { length vars.now ≤ 16 }
     ensures { Answers SpliceFault.Memory result (woven program.now (P.plan planner.now) vars.now) }
 {
+    let count = program.classes.len() + 1;
     let none = Woven {
-        files: List::new(alloc),
-        origins: List::new(alloc),
+        files: List::from_vec(Vec::with_capacity(alloc, count)?),
+        origins: List::from_vec(Vec::with_capacity(alloc, count)?),
     };
     let woven = classes_woven(alloc, planner, none, program.classes.as_slice())?;
     let woven = state_put(alloc, vars, woven)?;
@@ -106,8 +107,8 @@ fn class_woven<P: Planner>(
     let none = Members {
         number: 0,
         entries: Entries::new(copy_list(alloc, &class.file.pool)?),
-        items: List::new(alloc),
-        origins: List::new(alloc),
+        items: List::from_vec(Vec::with_capacity(alloc, class.file.methods.len())?),
+        origins: List::from_vec(Vec::with_capacity(alloc, class.methods.len())?),
     };
     let made = members_woven(alloc, planner, class, none, class.file.methods.as_slice())?;
     let woven = file_put(alloc, woven, class, made)?;

@@ -27,7 +27,7 @@ use Rattle.offset_patch.proofs.Lists.{all_append}
 
 -- ---- the order of the map
 
-then_is : (o p : Ordering) → is_eq (ordering_then o p) ≡ (is_eq o && is_eq p)
+pub then_is : (o p : Ordering) → is_eq (ordering_then o p) ≡ (is_eq o && is_eq p)
 then_is Less p = refl
 then_is Equal p = refl
 then_is Greater p = refl

@@ -1,5 +1,6 @@
 pub mod Lists
 pub mod Steady
+pub mod Knowing
 pub mod Pieces
 pub mod PoolFits
 pub mod Measure

@@ -1,21 +1,17 @@
 -- Lines that are read, moved and written, and where instructions began.
-use Rattle.std.proofs.Common.{◌≡◌, ℕ, ◌+◌, ◌-◌, ◌<◌, ◌≤◌, Bool, true, false, cond, List, [], ◌∷◌, ◌++◌, length, take, drop, Option, Some, None, option_map, Result, Ok, Err, refl, sym, ap, ◌∙◌, append_assoc, append-nil, arith}
-use Rattle.std.specs.Prelude.{slice_index, ◌==◌, option_and_then, IfOk, bytes_eq, codes, if◌then◌else◌}
-use Rattle.std.specs.Ordering.{is_eq, nat_cmp}
-use Rattle.std.specs.BTreeMap.{BTreeMap, is_at}
-use Rattle.std.specs.Map.{lookup}
-use Rattle.std.specs.Cmp.{unsigned_tied, unsigned_Decides}
-use Rattle.std.specs.Option.{option_or, is_some}
-use Rattle.std.specs.List.{position_from, cons_option}
-use Rattle.std.proofs.lemmas.Bool.{false≢true}
+use Rattle.std.proofs.Common.{◌≡◌, ℕ, zero, suc, ◌+◌, ◌-◌, ◌<◌, ◌≤◌, Bool, true, false, List, [], ◌∷◌, ◌++◌, length, get_or, take, drop, Option, Some, None, option_map, Ok, Err, refl, ap, ◌∙◌, append_assoc, append-nil, zero-add, sym, arith}
+use Rattle.std.specs.Prelude.{slice_index, ◌==◌, option_and_then}
+use Rattle.std.specs.Ordering.{nat_cmp}
+use Rattle.std.specs.Cmp.{unsigned_Decides}
+use Rattle.std.specs.List.{position_from}
+use Rattle.std.specs.List.Sorted.{IsBinarySearchResult}
 use Rattle.std.proofs.lemmas.List.{take_all}
-use Rattle.class_codec.specs.declared.tree.Const.{Const}
-use Rattle.class_codec.specs.declared.tree.Other.{Other}
+use Rattle.std.proofs.lemmas.List.Sorted.{searched}
 use Rattle.byteorder.specs.Endian.{big_number}
 use Rattle.insn_codec.specs.declared.insn.Insn.{Insn}
 use Rattle.insn_codec.specs.Spelling.{size, starts_from}
-use Rattle.bytecode_model.specs.Heads.{text_at}
-use Rattle.offset_patch.specs.Lines.{Line, table, lines_in, lines_of, line_moved, before, lines_moved, table_moved, attr_kept, each_kept, few_attrs, attrs_kept, moved_in}
+use Rattle.insn_codec.proofs.Standing.{size-some}
+use Rattle.offset_patch.specs.Lines.{Line, lines_in, line_moved, before, lines_moved, start_moved, RiseFrom}
 
 -- ---- bytes that are lines
 
@@ -67,79 +63,6 @@ unfolding lines_moved
 moved_done f made left total is so_far =
     ap Some (sym (append-nil made)) ∙ ap (λ (xs : List Line). option_map (λ (others : List Line). made ++ others) (lines_moved f xs)) (sym is) ∙ so_far
 
--- ---- where instructions began
-
-or_none : {X : Type 0} (o : Option X) → option_or o None ≡ o
-or_none None = refl
-or_none (Some x) = refl
-
-none_or : {X : Type 0} (o p : Option X) → is_some o ≡ false → p ≡ option_or o p
-none_or None p e = refl
-none_or (Some x) p e = absurd (false≢true (sym e))
-
-test_cases : (b : Bool) (P : Bool → Type 0) → (b ≡ true → P true) → (b ≡ false → P false) → P b
-test_cases true P f g = f refl
-test_cases false P f g = g refl
-
--- a position that is new
-pub adds_move : (old new : BTreeMap ℕ ℕ) (at to : ℕ) → is_some (moved_in old at) ≡ false → ((q : ℕ) → moved_in new q ≡ cond (is_eq (nat_cmp at q)) (Some to) (moved_in old q))
-    → (q : ℕ) → moved_in new q ≡ option_or (moved_in old q) (cond (at == q) (Some to) None)
-adds_move old new at to absent puts q =
-    puts q ∙ ap (λ (b : Bool). cond b (Some to) (moved_in old q)) (unsigned_tied at q)
-    ∙ test_cases (at == q) (λ b. cond b (Some to) (moved_in old q) ≡ option_or (moved_in old q) (cond b (Some to) None))
-    (λ e. none_or (moved_in old q) (Some to) (ap (λ (n : ℕ). is_some (moved_in old n)) (sym ((unsigned_Decides at q).0 e)) ∙ absent))
-    (λ e. sym (or_none (moved_in old q)))
-
--- one position more
-pub moves_on : (g : ℕ → ℕ) (q index : ℕ) (left rest : List ℕ) (old : ℕ) (was now total : Option ℕ) → left ≡ old ∷ rest → now ≡ option_or was (cond (old == q) (Some (g index)) None)
-    → option_or was (option_map g (position_from (λ (n : ℕ). n == q) index left)) ≡ total → option_or now (option_map g (position_from (λ (n : ℕ). n == q) (index + 1) rest)) ≡ total
-moves_on g q index left rest old was now total is more so_far =
-    ap (λ (o : Option ℕ). option_or o (option_map g (position_from (λ (n : ℕ). n == q) (index + 1) rest))) more
-    ∙ by was (old == q) (position_from (λ (n : ℕ). n == q) (index + 1) rest)
-    ∙ ap (λ (xs : List ℕ). option_or was (option_map g (position_from (λ (n : ℕ). n == q) index xs))) (sym is) ∙ so_far
-  where
-    by : (o : Option ℕ) (b : Bool) (r : Option ℕ) → option_or (option_or o (cond b (Some (g index)) None)) (option_map g r) ≡ option_or o (option_map g (cond b (Some index) r))
-    by (Some x) b r = refl
-    by None true r = refl
-    by None false r = refl
-
-pub moves_done : (g : ℕ → ℕ) (q index : ℕ) (left : List ℕ) (was total : Option ℕ) → left ≡ []
-    → option_or was (option_map g (position_from (λ (n : ℕ). n == q) index left)) ≡ total → was ≡ total
-moves_done g q index left was total is so_far =
-    sym (or_none was) ∙ ap (λ (xs : List ℕ). option_or was (option_map g (position_from (λ (n : ℕ). n == q) index xs))) (sym is) ∙ so_far
-
-pub none_moved : (moves : BTreeMap ℕ ℕ) (q : ℕ) (o : Option ℕ) → moves.entries ≡ [] → option_or (moved_in moves q) o ≡ o
-none_moved moves q o empty = ap (λ (es : List (ℕ × ℕ)). option_or (lookup (is_at (nat_cmp q)) es) o) empty
-
--- ---- attributes, where positions are moved alike
-
-module _ (f g : ℕ → Option ℕ) (same : (q : ℕ) → f q ≡ g q) where
-  lines_alike : (lines : List Line) → lines_moved f lines ≡ lines_moved g lines
-  unfolding lines_moved
-  lines_alike [] = refl
-  lines_alike (one ∷ lines) =
-      ap (λ (o : Option (List Line)). option_and_then (λ (first : Line). before first o) (line_moved f one)) (lines_alike lines)
-      ∙ ap (λ (o : Option ℕ). option_and_then (λ (first : Line). before first (lines_moved g lines)) (option_map (λ (s : ℕ). (s, one.1)) o)) (same one.0)
-
-  table_alike : (bytes : List ℕ) → table_moved f bytes ≡ table_moved g bytes
-  table_alike bytes = by (lines_of bytes)
-    where
-      by : (o : Option (List Line)) → option_map table (option_and_then (lines_moved f) o) ≡ option_map table (option_and_then (lines_moved g) o)
-      by None = refl
-      by (Some lines) = ap (option_map table) (lines_alike lines)
-
-  attr_alike : (pool : List Const) (attr : Other) → attr_kept pool f attr ≡ attr_kept pool g attr
-  attr_alike pool attr =
-      ap (λ (o : Option (List ℕ)). if bytes_eq (text_at pool attr.name) (codes "LineNumberTable") then option_map (λ bytes. record { name = attr.name; bytes = bytes }) o else None) (table_alike attr.bytes)
-
-  each_alike : (pool : List Const) (attrs : List Other) → each_kept pool f attrs ≡ each_kept pool g attrs
-  each_alike pool [] = refl
-  each_alike pool (attr ∷ attrs) =
-      ap (λ (o : Option Other). cons_option o (each_kept pool f attrs)) (attr_alike pool attr) ∙ ap (cons_option (attr_kept pool g attr)) (each_alike pool attrs)
-
-  pub attrs_alike : (pool : List Const) (attrs : List Other) → attrs_kept pool f attrs ≡ attrs_kept pool g attrs
-  attrs_alike pool attrs = ap few_attrs (each_alike pool attrs)
-
 -- ---- where the client's instructions began
 
 pub starts_count : (at : ℕ) (xs : List Insn) → length (starts_from at xs) ≡ length xs + 1
@@ -147,7 +70,80 @@ unfolding starts_from
 starts_count at [] = refl
 starts_count at (x ∷ xs) = omega (arith, starts_count (at + size at x) xs)
 
--- what is kept by the map is what is kept
-pub kept_is : {E : Type 0} (r : Result (List Other) E) (a b : List Other) → a ≡ b → IfOk r (λ kept. kept ≡ a) → IfOk r (λ kept. kept ≡ b)
-kept_is (Ok kept) a b e h = h ∙ e
-kept_is (Err fault) a b e h = tt
+rise_less : (most least : ℕ) (xs : List ℕ) → least ≤ most → RiseFrom most xs → RiseFrom least xs
+rise_less most least [] less rise = tt
+rise_less most least (x ∷ xs) less rise = (omega (arith, rise.0), rise.1)
+
+starts_rise : (at : ℕ) (xs : List Insn) → RiseFrom at (starts_from at xs)
+unfolding starts_from
+starts_rise at [] = (omega arith, tt)
+starts_rise at (x ∷ xs) =
+    let next : at + 1 ≤ at + size at x = omega (arith, size-some at x) in
+    (omega arith, rise_less (at + size at x) (at + 1) (starts_from (at + size at x) xs) next (starts_rise (at + size at x) xs))
+
+rise_taken : (n least : ℕ) (xs : List ℕ) → RiseFrom least xs → RiseFrom least (take n xs)
+rise_taken zero least xs rise = tt
+rise_taken (suc n) least [] rise = tt
+rise_taken (suc n) least (x ∷ xs) rise = (rise.0, rise_taken n (x + 1) xs rise.1)
+
+-- each instruction begins behind the one before it
+pub begins_rise : (n : ℕ) (xs : List Insn) → RiseFrom 0 (take n (starts_from 0 xs))
+begins_rise n xs = rise_taken n 0 (starts_from 0 xs) (starts_rise 0 xs)
+
+-- ---- a position among those that rise
+
+least_is : (least : ℕ) (xs : List ℕ) (i : ℕ) → RiseFrom least xs → i < length xs → least ≤ get_or xs i 0
+least_is least [] i rise within = absurd (omega arith)
+least_is least (x ∷ xs) zero rise within = rise.0
+least_is least (x ∷ xs) (suc i) rise within =
+    let later = least_is (x + 1) xs i rise.1 (omega arith) in
+    omega (arith, later, rise.0)
+
+pub none_falls : (least : ℕ) (xs : List ℕ) (i j : ℕ) → RiseFrom least xs → i ≤ j → j < length xs → get_or xs i 0 ≤ get_or xs j 0
+none_falls least [] i j rise before within = absurd (omega arith)
+none_falls least (x ∷ xs) zero zero rise before within = omega arith
+none_falls least (x ∷ xs) zero (suc j) rise before within =
+    let later = least_is (x + 1) xs j rise.1 (omega arith) in
+    omega (arith, later)
+none_falls least (x ∷ xs) (suc i) zero rise before within = absurd (omega arith)
+none_falls least (x ∷ xs) (suc i) (suc j) rise before within = none_falls (x + 1) xs i j rise.1 (omega arith) (omega arith)
+
+differs : (n q : ℕ) → (n ≡ q → ⊥) → (n == q) ≡ false
+differs n q f = by (n == q) refl
+  where
+    by : (b : Bool) → (n == q) ≡ b → (n == q) ≡ false
+    by true e = absurd (f ((unsigned_Decides n q).0 e))
+    by false e = e
+
+-- the one that is there is the first
+found_at : (at least : ℕ) (xs : List ℕ) (q i : ℕ) → RiseFrom least xs → i < length xs → get_or xs i 0 ≡ q → position_from (λ (n : ℕ). n == q) at xs ≡ Some (at + i)
+found_at at least [] q i rise within is = absurd (omega arith)
+found_at at least (x ∷ xs) q zero rise within is =
+    let here : at ≡ at + 0 = omega arith in
+    rw ((unsigned_Decides x q).1 is) (ap Some here)
+found_at at least (x ∷ xs) q (suc i) rise within is =
+    let later = least_is (x + 1) xs i rise.1 (omega arith) in
+    let other : (x == q) ≡ false = differs x q (λ e. omega (arith, later, is, e)) in
+    let place : at + 1 + i ≡ at + suc i = omega arith in
+    rw other (found_at (at + 1) (x + 1) xs q i rise.1 (omega arith) is ∙ ap Some place)
+
+found_none : (at : ℕ) (xs : List ℕ) (q : ℕ) → ((k : ℕ) → k < length xs → get_or xs k 0 ≡ q → ⊥) → position_from (λ (n : ℕ). n == q) at xs ≡ None
+found_none at [] q none = refl
+found_none at (x ∷ xs) q none =
+    let other : (x == q) ≡ false = differs x q (none 0 (omega arith)) in
+    rw other (found_none (at + 1) xs q (λ k within. none (suc k) (omega arith)))
+
+pub move_found : (olds fronts news : List ℕ) (q i : ℕ) → RiseFrom 0 olds → IsBinarySearchResult (λ (n : ℕ). nat_cmp n q) olds (Ok i)
+    → start_moved olds fronts news q ≡ Some (slice_index news (slice_index fronts i))
+move_found olds fronts news q i rise found =
+    let at = searched olds q (Ok i) found (λ a b before within. none_falls 0 olds a b rise before within) in
+    ap (option_map (λ (index : ℕ). slice_index news (slice_index fronts index))) (found_at 0 0 olds q i rise at.0 at.1 ∙ ap Some (zero-add i))
+
+pub move_none : (olds fronts news : List ℕ) (q i : ℕ) → RiseFrom 0 olds → IsBinarySearchResult (λ (n : ℕ). nat_cmp n q) olds (Err i) → start_moved olds fronts news q ≡ None
+move_none olds fronts news q i rise found =
+    let at = searched olds q (Err i) found (λ a b before within. none_falls 0 olds a b rise before within) in
+    ap (option_map (λ (index : ℕ). slice_index news (slice_index fronts index)))
+    (found_none 0 olds q (λ k within is.
+    let behind : k < i → ⊥ = λ less. omega (arith, at.1 k less, is) in
+    let more : i ≤ k = omega (arith, behind) in
+    omega (arith, at.2 k more within, is)))

@@ -1,6 +1,7 @@
 -- How many instructions and bytes the parts of a code have.
-use Rattle.std.proofs.Common.{◌≡◌, ℕ, ◌+◌, ◌*◌, ◌≤◌, true, false, List, [], ◌∷◌, ◌++◌, length, map, Option, refl, ap, arith}
+use Rattle.std.proofs.Common.{◌≡◌, ℕ, ◌+◌, ◌*◌, ◌^◌, ◌≤◌, true, false, List, [], ◌∷◌, ◌++◌, length, map, Option, Some, None, refl, ap, arith}
 use Rattle.std.specs.Prelude.{slice_index}
+use Rattle.std.specs.List.{AllByRecursion}
 use Rattle.std.proofs.lemmas.List.{length-append, length-map}
 use Rattle.class_codec.specs.declared.tree.Const.{Const}
 use Rattle.insn_codec.specs.declared.insn.Insn.{Insn}
@@ -10,6 +11,7 @@ use Rattle.insn_codec.proofs.Standing.{len_first, len_none, size-some}
 use Rattle.offset_patch.specs.declared.block.Block.{Block}
 use Rattle.offset_patch.specs.declared.block.BlockInsn.{BlockInsn}
 use Rattle.offset_patch.specs.declared.block.BlockInsn.TheVariants.{Plain, Byte, Short, Local, Want, Jump, Call}
+use Rattle.offset_patch.specs.Fits.{IsSite}
 use Rattle.offset_patch.specs.Length.{size_in, part_end, end_from, length_of}
 use Rattle.offset_patch.specs.Splicing.{part_of, aimed, put, parts_from, fronts_of, spliced, count_of}
 
@@ -97,3 +99,9 @@ parts_count pool fronts begin (insn ∷ own) (site ∷ sites) e =
 pub count_short : (pool : List Const) (own : List Insn) (sites : List (Option Block)) → length sites ≡ length own → count_of sites ≤ length_of own sites
 count_short pool own sites e =
     omega (arith, length_is pool own sites, count_few 0 (spliced pool own sites), parts_count pool (fronts_of sites) 0 own sites e)
+
+-- there are as many as a number of 64 bits counts
+pub parts_few : (sites : List (Option Block)) → AllByRecursion IsSite sites → count_of sites ≤ length sites * 2 ^ 32
+parts_few [] all = omega arith
+parts_few (None ∷ sites) all = omega (arith, parts_few sites all.1)
+parts_few (Some block ∷ sites) all = omega (arith, all.0.few, parts_few sites all.1)

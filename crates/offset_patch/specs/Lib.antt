@@ -2,6 +2,7 @@ pub mod Fault
 pub mod Added
 pub mod Entries
 pub mod Growth
+pub mod Known
 pub mod Splicing
 pub mod Lines
 pub mod Plan

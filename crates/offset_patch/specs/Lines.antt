@@ -1,8 +1,6 @@
 -- The line numbers of a code with blocks: each line begins at the front of the instruction at which it began.
 -- (The Java Virtual Machine Specification, section 4.7.8.)
-use Rattle.std.specs.Prelude.{ℕ, ◌*◌, ◌+◌, ◌-◌, ◌^◌, ◌==◌, nat_lt, Bool, true, false, bytes_eq, codes, List, [], ◌∷◌, ◌++◌, length, slice_index, if◌then◌else◌, Option, Some, None, option_map, option_and_then}
-use Rattle.std.specs.Ordering.{nat_cmp}
-use Rattle.std.specs.BTreeMap.{BTreeMap, get}
+use Rattle.std.specs.Prelude.{ℕ, ◌*◌, ◌+◌, ◌-◌, ◌^◌, ◌≤◌, ◌==◌, nat_lt, ⊤, Bool, true, false, bytes_eq, codes, List, [], ◌∷◌, ◌++◌, length, slice_index, if◌then◌else◌, Option, Some, None, option_map, option_and_then}
 use Rattle.std.specs.List.{flat_map, filter_map, position_from}
 use Rattle.byteorder.specs.Endian.{big_bytes, big_number}
 use Rattle.class_codec.specs.declared.tree.Const.{Const}
@@ -82,6 +80,16 @@ attrs_kept pool moved attrs = few_attrs (each_kept pool moved attrs)
 abbrev pub start_moved : List ℕ → List ℕ → List ℕ → ℕ → Option ℕ
 start_moved olds fronts news start = option_map (λ index. slice_index news (slice_index fronts index)) (position_from (λ old. old == start) 0 olds)
 
--- the same, from a map
-abbrev pub moved_in : BTreeMap ℕ ℕ → ℕ → Option ℕ
-moved_in moves start = get nat_cmp moves start
+-- the positions of a code, the front of each, and the positions of the code with blocks
+pub record Positions : Type 0 where
+  pub olds : List ℕ
+  pub fronts : List ℕ
+  pub news : List ℕ
+
+abbrev pub moved_in : Positions → ℕ → Option ℕ
+moved_in moves start = start_moved moves.olds moves.fronts moves.news start
+
+-- Each number is more than the one before it, and the first at least this.
+abbrev pub RiseFrom : ℕ → List ℕ → Type 0
+RiseFrom least [] = ⊤
+RiseFrom least (n ∷ numbers) = (least ≤ n) × RiseFrom (n + 1) numbers

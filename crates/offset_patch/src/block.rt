@@ -3,7 +3,7 @@
 use mon_base::List;
 
 /// An entry of the constant pool that a block names.
-#[derive(Clone, Copy, Debug, PartialEq, Eq)]
+#[derive(Clone, Copy, Debug, PartialEq, Eq, PartialOrd, Ord)]
 pub enum PoolWant {
     /// The class `conspec/State`.
     StateClass,

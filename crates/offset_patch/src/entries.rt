@@ -11,6 +11,7 @@ use crate::adding::wanted;
 use crate::block::PoolWant;
 use crate::constants::Added;
 use crate::growth::{Growth, growth_of};
+use crate::known::{Known, known_place, noted};
 use bytecode_model::text_at;
 use class_codec::Const;
 use mon_base::{List, NoMemory};
@@ -20,23 +21,26 @@ use std::marker::Model;
 /// The constant pool of a class, with what is added behind it. A contract sees the list of all the constants.
 ///
 /// Where the first of each constant stands is kept in an ordered map, which is made once an entry is asked for. So the
-/// pool is gone over once, and an entry is found in few steps whatever the number of blocks and of what they name.
+/// pool is gone over once, and an entry is found in few steps whatever the number of blocks and of what they name. Where
+/// an entry stands that was asked for is kept too: what blocks name again and again is looked for once.
 #[derive(Drop)]
 pub struct Entries {
     items: List<Const>,
     growth: Option<Growth>,
+    known: Option<Known>,
 }
 
 impl Model for Entries {
     ghost use Rattle.std.specs.Prelude.{List, IfSome};
     ghost use Rattle.class_codec.specs.declared.tree.Const.{Const};
     ghost use Rattle.offset_patch.specs.Growth.{with_growth, IsGrowth};
+    ghost use Rattle.offset_patch.specs.Known.{AreKnown};
 
     ghost Value = { List Const };
 
     ghost view = { λ e. with_growth e.items e.growth };
 
-    ghost invariant = { λ e. IfSome e.growth (IsGrowth e.items) };
+    ghost invariant = { λ e. IfSome e.growth (IsGrowth e.items) × AreKnown (with_growth e.items e.growth) e.known };
 }
 
 impl Entries {
@@ -47,6 +51,7 @@ impl Entries {
         Entries {
             items,
             growth: None,
+            known: None,
         }
     }
 
@@ -62,10 +67,16 @@ impl Entries {
     pub fn add(&mut self, alloc: Global, want: PoolWant) -> Result<u64, NoMemory>
         ensures { IfOk result (λ at. wanted want self.old ≡ (self.new, at)) }
     {
+        if let Some(place) = known_place(&self.known, want) {
+            return Ok(place);
+        }
+        let known = self.known.take();
         let kept = self.growth.take();
         let mut growth = growth_of(alloc, self.items.as_slice(), kept)?;
         let place = wanted(alloc, self.items.as_slice(), &mut growth, want)?;
+        let known = noted(alloc, known, want, place)?;
         self.growth = Some(growth);
+        self.known = Some(known);
         Ok(place)
     }
 
@@ -97,9 +108,16 @@ impl Entries {
         requires { length self < 2 ^ 16 }
         ensures { IfOk result (λ items. items ≡ self) }
     {
-        let Entries { items, growth } = self;
-        let mut items = items;
-        put_added(alloc, &mut items, added_in(&growth))?;
+        let Entries {
+            items,
+            growth,
+            known,
+        } = self;
+        let added = added_in(&growth);
+        let mut items = items.into_vec();
+        items.reserve_exact(added.len())?;
+        let mut items = List::from_vec(items);
+        put_added(alloc, &mut items, added)?;
         Ok(items)
     }
 }

@@ -31,12 +31,26 @@ pub fn has_block(sites: &[Option<Block>]) -> bool
     sites.iter().any(|site| site.is_some())
 }
 
+/// How many instructions the parts have.
+pub fn count_of(sites: &[Option<Block>]) -> usize
+    requires { count_of sites.now < 2 ^ 64 }
+    ensures { result ≡ count_of sites.now }
+{
+    let mut count = 0;
+    let mut left = sites;
+    while let [site, rest @ ..] = left {
+        count += part_of(site).len();
+        left = rest;
+    }
+    count
+}
+
 /// Where the part of each instruction begins, and where the last one ends.
 pub fn fronts(alloc: Global, sites: &[Option<Block>]) -> Result<List<u32>, NoMemory>
     requires { count_of sites.now < 2 ^ 32 }
     ensures { IfOk result (λ fronts. fronts ≡ fronts_of sites.now) }
 {
-    let mut fronts = List::new(alloc);
+    let mut fronts = List::from_vec(Vec::with_capacity(alloc, sites.len() + 1)?);
     let mut at: u32 = 0;
     let mut left = sites;
     while let [site, rest @ ..] = left {
@@ -61,7 +75,7 @@ pub fn front(fronts: &[u32], to: u32) -> u32
 fn all_fronts(alloc: Global, fronts: &[u32], targets: &[u32]) -> Result<List<u32>, NoMemory>
     ensures { IfOk result (λ all. all ≡ map (slice_index fronts.now) targets.now) }
 {
-    let mut all = List::new(alloc);
+    let mut all = List::from_vec(Vec::with_capacity(alloc, targets.len())?);
     for to in targets {
         all.push(front(fronts, *to))?;
     }
@@ -108,7 +122,7 @@ pub fn origins_of(alloc: Global, sites: &[Option<Block>]) -> Result<List<Origin>
     requires sites { AllByRecursion IsSite sites.now }
     ensures { IfOk result (λ origins. origins ≡ origins_of sites.now) }
 {
-    let mut origins = List::new(alloc);
+    let mut origins = List::from_vec(Vec::with_capacity(alloc, count_of(sites))?);
     let mut site: u32 = 0;
     let mut left = sites;
     while let [first, rest @ ..] = left {

@@ -1,9 +1,7 @@
 //! The line numbers of a code with blocks.
 
-ghost use Rattle.std.specs.Prelude.{◌≡◌, ◌∷◌, [], ◌+◌, ◌<◌, ◌^◌, ◌++◌, ℕ, Some};
-ghost use Rattle.std.specs.Prelude.{None, if◌then◌else◌, ◌==◌, IfOk, OnOk, IfSome, IfNone, length};
+ghost use Rattle.std.specs.Prelude.{◌≡◌, ◌∷◌, [], ◌<◌, ◌^◌, ◌++◌, IfOk, OnOk, IfSome, IfNone, length};
 ghost use Rattle.std.specs.List.{AllByRecursion};
-ghost use Rattle.std.specs.Option.{option_or};
 ghost use Rattle.byteorder.specs.Endian.{big_bytes};
 ghost use Rattle.mon_base.specs.Widths.{IsU2};
 ghost use Rattle.insn_codec.specs.Spelling.{len_from};
@@ -13,54 +11,19 @@ ghost use Rattle.offset_patch.specs.Lines.{are_within, start_moved, moved_in};
 ghost use Rattle.offset_patch.specs.Splicing.{begins};
 
 use crate::entries::Entries;
-use crate::fronts::front;
-use crate::tables::start;
+use crate::moves::Moves;
 use bytecode_model::is_text;
 use byteorder::{BigEndian, ByteOrder};
 use class_codec::Other;
 use insn_codec::{Insn, starts};
 use mon_base::{Bytes, List, NoMemory};
 use std::alloc::Global;
-use std::collections::BTreeMap;
 
 /// Where a line begins, and its number.
 type Line = (u16, u16);
 
-/// Where the front of an instruction begins, by where the instruction began.
-type Moves = BTreeMap<u32, u16>;
-
 /// How many bytes line numbers have at most.
 const MOST: u64 = 1 << 31;
-
-// ---- positions
-
-/// Where the fronts of the instructions begin that began at `olds`; the instructions of the code with blocks begin at
-/// `news`.
-fn moves_of(alloc: Global, olds: &[u32], fronts: &[u32], news: &[u32]) -> Result<Moves, NoMemory>
-    requires few { length olds.now < 2 ^ 32 }
-    requires news { AllByRecursion IsU2 news.now }
-    ensures { IfOk result (λ moves. (q : ℕ) → moved_in moves q ≡ start_moved olds.now fronts.now news.now q) }
-{
-    let mut moves = BTreeMap::new(alloc);
-    let mut index: u32 = 0;
-    let mut left = olds;
-    while let [old, rest @ ..] = left {
-        add_move(&mut moves, *old, start(news, front(fronts, index)))?;
-        index += 1;
-        left = rest;
-    }
-    Ok(moves)
-}
-
-fn add_move(moves: &mut Moves, old: u32, new: u16) -> Result<(), NoMemory>
-    ensures { OnOk result ((q : ℕ) → moved_in moves.new q
-        ≡ option_or (moved_in moves.old q) (if old == q then Some new else None)) }
-{
-    if !moves.contains_key(&old) {
-        moves.insert(old, new)?;
-    }
-    Ok(())
-}
 
 // ---- attributes
 
@@ -80,7 +43,7 @@ pub fn attrs_spliced(
         ≡ attrs_kept entries.now (start_moved (begins insns.now) fronts.now news.now) attrs.now) }
 {
     let olds = starts(alloc, insns)?;
-    let moves = moves_of(alloc, &olds.as_slice()[..insns.len()], fronts, news)?;
+    let moves = Moves::new(&olds.as_slice()[..insns.len()], fronts, news);
     attrs_kept(alloc, entries, &moves, attrs)
 }
 
@@ -109,7 +72,7 @@ fn each_kept(
 ) -> Result<List<Other>, NoMemory>
     ensures { IfOk result (λ kept. kept ≡ each_kept entries.now (moved_in moves.now) attrs.now) }
 {
-    let mut kept = List::new(alloc);
+    let mut kept = List::from_vec(Vec::with_capacity(alloc, attrs.len())?);
     let mut left = attrs;
     while let [attr, rest @ ..] = left {
         if let Some(attr) = attr_kept(alloc, entries, moves, attr)? {
@@ -192,7 +155,7 @@ fn lines_of(alloc: Global, bytes: &[u8]) -> Result<Option<List<Line>>, NoMemory>
 fn lines_in(alloc: Global, bytes: &[u8]) -> Result<List<Line>, NoMemory>
     ensures { IfOk result (λ lines. lines ≡ lines_in bytes.now) }
 {
-    let mut lines = List::new(alloc);
+    let mut lines = List::from_vec(Vec::with_capacity(alloc, bytes.len() / 4)?);
     let mut left = bytes;
     while let Some((line, rest)) = first_line(left) {
         lines.push(line)?;
@@ -221,7 +184,7 @@ fn first_line(bytes: &[u8]) -> Option<(Line, &[u8])>
 fn lines_moved(alloc: Global, moves: &Moves, lines: &[Line]) -> Result<Option<List<Line>>, NoMemory>
     ensures { IfOk result (λ made. made ≡ lines_moved (moved_in moves.now) lines.now) }
 {
-    let mut made = List::new(alloc);
+    let mut made = List::from_vec(Vec::with_capacity(alloc, lines.len())?);
     let mut left = lines;
     while let [line, rest @ ..] = left {
         let Some(line) = line_moved(moves, line) else {
@@ -237,8 +200,8 @@ fn lines_moved(alloc: Global, moves: &Moves, lines: &[Line]) -> Result<Option<Li
 fn line_moved(moves: &Moves, line: &Line) -> Option<Line>
     ensures { result ≡ line_moved (moved_in moves.now) line.now }
 {
-    let start = moves.get(&u32::from(line.0))?;
-    Some((*start, line.1))
+    let start = moves.at(u32::from(line.0))?;
+    Some((start, line.1))
 }
 
 /// The bytes of a table of the lines.

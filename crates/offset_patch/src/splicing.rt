@@ -16,7 +16,7 @@ ghost use Rattle.offset_patch.specs.Splicing.{spliced, wants_of, block_wants, gr
 use crate::block::{Block, BlockInsn};
 use crate::entries::Entries;
 use crate::fault::{Size, SpliceFault};
-use crate::fronts::{aimed, fronts, part_of};
+use crate::fronts::{aimed, count_of, fronts, part_of};
 use crate::length::length_of;
 use crate::lines::attrs_spliced;
 use crate::sizes::{OPERANDS, fitted};
@@ -200,7 +200,7 @@ fn parts(
     ensures each { IfOk result (AllByRecursion IsInsn) }
     ensures kept { OnOk result (entries.new ≡ entries.old) }
 {
-    let mut out = List::new(alloc);
+    let mut out = List::from_vec(Vec::with_capacity(alloc, count_of(sites))?);
     let mut begin: u32 = 0;
     let mut own = insns;
     let mut left = sites;

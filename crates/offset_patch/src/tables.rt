@@ -30,7 +30,8 @@ pub fn table_spliced(
     ensures { IfOk result (λ table. table
         ≡ own_entries starts.now 0 sites.now ++ table_moved starts.now fronts.now handlers.now entries.now) }
 {
-    let mut table = List::new(alloc);
+    let rows = catching(sites) as usize + entries.len();
+    let mut table = List::from_vec(Vec::with_capacity(alloc, rows)?);
     put_own(&mut table, starts, sites)?;
     put_moved(&mut table, starts, fronts, handlers, entries)?;
     Ok(table)
