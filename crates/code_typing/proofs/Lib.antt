@@ -2,6 +2,7 @@ pub mod Covering
 pub mod Choices
 pub mod Describing
 pub mod Fitting
+pub mod Arriving
 pub mod Faults
 pub mod Reaching
 pub mod Closed

@@ -1,5 +1,7 @@
 pub mod Wanted
 pub mod Changing
+pub mod Leaving
+pub mod Catching
 pub mod Steps
 pub mod Closed
 pub mod Moving

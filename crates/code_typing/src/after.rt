@@ -19,7 +19,7 @@ use frame_types::{
     arguments_text, array_named, class_of, constant_type, count_after, is_static, moved_from,
     next_type, put_back, read_type, result_type, split_top, type_at, type_described,
 };
-use insn_codec::{Heap, Shape, StackForm, depth_of, shape_of};
+use insn_codec::{Heap, Shape, StackForm, depth_of};
 use mon_base::{List, NoMemory};
 use std::alloc::Global;
 
@@ -80,7 +80,7 @@ fn push_yields(
 ) -> Result<(), NoMemory>
     ensures { OnOk result (out.new ≡ out.old ++ yields place.now locals.now taken.now) }
 {
-    match shape_of(place.insn) {
+    match place.shape() {
         Shape::Push(_) | Shape::Two(_) | Shape::One(_) => out.push(VType::Int),
         Shape::PushNull => out.push(VType::Null),
         Shape::Load { slot, .. } => { out.push(own(alloc, type_at(locals, usize::from(slot)))?) }
@@ -123,7 +123,7 @@ pub fn locals_after(
 {
     let (_, taken) = split_top(frame.stack.as_slice(), count_taken(place));
     let change = change_of(place, taken);
-    let shape = shape_of(place.insn);
+    let shape = place.shape();
     let found = frame.locals.as_slice();
     let mut locals = List::new(alloc);
     for j in 0..count_after(shape, found.len()) {

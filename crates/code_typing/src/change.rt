@@ -12,7 +12,7 @@ use crate::place::{PlaceRef, calls_maker, class_referred};
 use bytecode_model::{TypeRef, lend};
 use cert_format::VType;
 use frame_types::{is_made_at, is_same_object, new_at};
-use insn_codec::{Heap, Shape, shape_of};
+use insn_codec::{Heap, Shape};
 
 /// What becomes of the types that stay.
 #[derive(Clone, Copy)]
@@ -70,7 +70,7 @@ fn when_called<'a>(place: &PlaceRef<'a>, taken: &'a [VType]) -> Change<'a>
 pub fn change_of<'a>(place: &PlaceRef<'a>, taken: &'a [VType]) -> Change<'a>
     ensures { (t : VType) → change_told result t ≡ changed place.now taken.now t }
 {
-    match shape_of(place.insn) {
+    match place.shape() {
         Shape::Heap(Heap::New) => Change::Forget(place.at),
         Shape::Heap(Heap::Call(_)) => when_called(place, taken),
         _ => Change::Nothing,

@@ -1,7 +1,10 @@
 //! Rule 7: the handlers that cover an instruction. (The Java Virtual Machine Specification, section 4.10.1.6.)
 
-ghost use Rattle.std.specs.Prelude.{◌≡◌};
+ghost use Rattle.std.specs.Prelude.{◌≡◌, IsTrue, true};
 ghost use Rattle.std.specs.List.{list_all};
+ghost use Rattle.api_listing.specs.BuiltIn.{throwable};
+ghost use Rattle.bytecode_model.specs.Classes.{is_below};
+ghost use Rattle.code_typing.specs.Catching.{all_take_thrown, takes_thrown};
 ghost use Rattle.bytecode_model.specs.Rules.{
   Caught,
   is_handled,
@@ -44,12 +47,49 @@ pub fn catches_well(place: &PlaceRef, frame: &FrameType, handler: &Handler, to: 
         && locals_caught(place.program, frame.locals.as_slice(), to.locals.as_slice())
 }
 
+/// Whether the handler takes what may be thrown: its class is Throwable or below it.
+fn takes_thrown(program: &Indexed, handler: &Handler) -> bool
+    ensures { result ≡ takes_thrown program.now handler.now }
+{
+    is_below(program, class_caught(handler), THROWABLE)
+}
+
+/// The same, where it is known whether one that takes any class does.
+fn takes_thrown_by(program: &Indexed, any: bool, handler: &Handler) -> bool
+    requires { any ≡ is_below program.now throwable throwable }
+    ensures { result ≡ takes_thrown program.now handler.now }
+{
+    match &handler.class {
+        Some(class) => is_below(program, class.as_slice(), THROWABLE),
+        None => any,
+    }
+}
+
+/// Whether each of the handlers takes what may be thrown.
+pub fn all_take_thrown(program: &Indexed, handlers: &[Handler]) -> bool
+    ensures { result ≡ all_take_thrown program.now handlers.now }
+{
+    if handlers.is_empty() {
+        return true;
+    }
+    let any = is_below(program, THROWABLE, THROWABLE);
+    for handler in handlers {
+        if !takes_thrown_by(program, any, handler) {
+            return false;
+        }
+    }
+    true
+}
+
+/// Whether the handler is right, if it covers the instruction. It may be known that it takes what may be thrown.
 fn is_handled(
     frames: &[Option<FrameType>],
     place: &PlaceRef,
     frame: &FrameType,
     handler: &Handler,
+    known: bool,
 ) -> bool
+    requires { IsTrue known → takes_thrown place.now.program handler.now ≡ true }
     ensures { result ≡ is_handled frames.now place.now frame.now handler.now }
 {
     if !handler.covers(place.at) {
@@ -58,7 +98,7 @@ fn is_handled(
     if place.method.max_stack < 1 {
         return false;
     }
-    if !is_below(place.program, class_caught(handler), THROWABLE) {
+    if !known && !takes_thrown(place.program, handler) {
         return false;
     }
     match frame_of(frames, handler.at as usize) {
@@ -71,9 +111,10 @@ fn is_handled(
 pub fn is_caught(frames: &[Option<FrameType>], place: &PlaceRef, frame: &FrameType) -> bool
     ensures { result ≡ Caught frames.now place.now frame.now }
 {
+    let known = place.handlers_known();
     let mut near = place.method.handlers.near(place.at);
     while let Some(handler) = near.next() {
-        if !is_handled(frames, place, frame, handler) {
+        if !is_handled(frames, place, frame, handler, known) {
             return false;
         }
     }

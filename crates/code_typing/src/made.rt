@@ -1,22 +1,22 @@
 //! Rule 5: objects that are not made yet. (The Java Virtual Machine Specification, section 4.10.2.4.)
 
 ghost use Rattle.std.specs.Prelude.{◌≡◌};
-ghost use Rattle.bytecode_model.specs.Rules.{Made, made_well, makes_receiver, leaves_made, has_object, taken};
+ghost use Rattle.bytecode_model.specs.Rules.{Made, made_well, makes_receiver, leaves_made, has_object};
+ghost use Rattle.bytecode_model.specs.Rules.{taken as taken_of};
 
 use crate::change::class_made;
-use crate::operands::count_taken;
 use crate::place::{PlaceRef, calls_maker};
-use cert_format::FrameType;
-use frame_types::{has_new, has_receiver, has_this, is_maker, split_top};
-use insn_codec::{Heap, How, Shape, shape_of};
+use cert_format::{FrameType, VType};
+use frame_types::{has_new, has_receiver, has_this, is_maker};
+use insn_codec::{Heap, How, Shape};
 
-fn makes_receiver(place: &PlaceRef, how: How, frame: &FrameType) -> bool
+fn makes_receiver(place: &PlaceRef, how: How, frame: &FrameType, taken: &[VType]) -> bool
+    requires { taken.now ≡ taken_of place.now frame.now }
     ensures { result ≡ makes_receiver place.now how frame.now }
 {
     if !calls_maker(place) {
         return true;
     }
-    let (_, taken) = split_top(frame.stack.as_slice(), count_taken(place));
     match taken {
         [] => false,
         [receiver, ..] => has_receiver(how) && class_made(place, receiver).is_some(),
@@ -30,12 +30,13 @@ fn leaves_made(place: &PlaceRef, frame: &FrameType) -> bool
         || !(has_this(frame.locals.as_slice()) || has_this(frame.stack.as_slice()))
 }
 
-/// Rule 5.
-pub fn is_made(place: &PlaceRef, frame: &FrameType) -> bool
+/// Rule 5, of an instruction that takes these operands.
+pub fn is_made(place: &PlaceRef, frame: &FrameType, taken: &[VType]) -> bool
+    requires { taken.now ≡ taken_of place.now frame.now }
     ensures { result ≡ Made place.now frame.now }
 {
-    match shape_of(place.insn) {
-        Shape::Heap(Heap::Call(how)) => makes_receiver(place, how, frame),
+    match place.shape() {
+        Shape::Heap(Heap::Call(how)) => makes_receiver(place, how, frame, taken),
         Shape::Heap(Heap::New) => !has_new(place.at, frame.stack.as_slice()),
         Shape::Heap(Heap::Return(None)) => leaves_made(place, frame),
         _ => true,

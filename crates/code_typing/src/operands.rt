@@ -32,7 +32,7 @@ use cert_format::VType;
 use frame_types::{
     arguments_text, arity, has_receiver, is_this, next_type, result_text, result_type,
 };
-use insn_codec::{Heap, How, Item, Kind, Shape, depth_of, shape_of};
+use insn_codec::{Heap, How, Item, Kind, Shape, depth_of};
 use type_lattice::Indexed;
 
 // ---- how many
@@ -60,7 +60,7 @@ fn heap_count(place: &PlaceRef, what: Heap) -> usize
 pub fn count_taken(place: &PlaceRef) -> usize
     ensures { result ≡ length (takes place.now) }
 {
-    match shape_of(place.insn) {
+    match place.shape() {
         Shape::Store { .. } | Shape::One(_) | Shape::Test { .. } | Shape::TestNull { .. } => 1,
         Shape::Switch => 1,
         Shape::Two(_) | Shape::Compare { .. } | Shape::CompareReferences { .. } => 2,
@@ -263,7 +263,7 @@ fn is_result_of(kind: Option<Kind>, result_type: Option<TypeRef>) -> bool
         Some(Kind::Reference) => {
             matches!(
                 result_type,
-                Some(TypeRef::Ref(_)) | Some(TypeRef::ArrayOf(_))
+                Some(TypeRef::Ref(_)) | Some(TypeRef::Shared(_)) | Some(TypeRef::ArrayOf(_))
             )
         }
     }
@@ -284,6 +284,6 @@ fn returns_well(place: &PlaceRef, shape: Shape) -> bool
 pub fn are_operands(place: &PlaceRef, taken: &[VType]) -> bool
     ensures { result ≡ (all_met (takes place.now) taken.now && returns_well place.now (shape_of place.now.insn)) }
 {
-    let shape = shape_of(place.insn);
+    let shape = place.shape();
     operands_met(place, shape, taken) && returns_well(place, shape)
 }

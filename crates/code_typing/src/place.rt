@@ -1,13 +1,16 @@
 //! An instruction in its place, and what its operand names.
 
-ghost use Rattle.std.specs.Prelude.{◌≡◌, option_copied};
+ghost use Rattle.std.specs.Prelude.{◌≡◌, IsTrue, option_copied, option_map, slice_get, true};
+ghost use Rattle.insn_codec.specs.Shapes.{shape_of};
 ghost use Rattle.bytecode_model.specs.Operands.{index_of};
 ghost use Rattle.bytecode_model.specs.Place.{class_referred, name_referred, desc_referred};
 ghost use Rattle.bytecode_model.specs.Place.{calls_maker, is_own_field};
+ghost use Rattle.bytecode_model.specs.Typed.{place_at};
+ghost use Rattle.code_typing.specs.Catching.{all_take_thrown};
 
 use bytecode_model::{LinkedClass, Method, Target, index_of};
 use class_codec::{Reference, reference_at};
-use insn_codec::Insn;
+use insn_codec::{Insn, Shape, shape_of};
 use std::marker::Model;
 use type_lattice::Indexed;
 
@@ -22,10 +25,15 @@ pub struct PlaceRef<'a> {
     pub at: u32,
     pub insn: &'a Insn,
     pub target: Option<&'a Target>,
+    shape: Shape,
+    handlers_known: bool,
 }
 
 impl<'a> Model for PlaceRef<'a> {
     ghost use Rattle.std.specs.Prelude.{option_copied};
+    ghost use Rattle.std.specs.Prelude.{◌≡◌, IsTrue, true};
+    ghost use Rattle.code_typing.specs.Catching.{all_take_thrown};
+    ghost use Rattle.insn_codec.specs.Shapes.{shape_of};
     ghost use Rattle.bytecode_model.specs.Place.{Place, target_or_none};
 
     ghost Value = { Place };
@@ -39,6 +47,64 @@ impl<'a> Model for PlaceRef<'a> {
       insn = p.insn.now;
       ref = target_or_none (option_copied p.target);
     } };
+
+    // It may be known that each handler of the method takes what may be thrown.
+    ghost invariant = { λ p. (p.shape ≡ shape_of p.insn.now) × (IsTrue p.handlers_known → all_take_thrown p.program.now p.method.now.handlers ≡ true) };
+}
+
+impl<'a> PlaceRef<'a> {
+    /// The instruction of this index of a method, in its place.
+    pub fn new(
+        program: &'a Indexed,
+        own: u32,
+        class: &'a LinkedClass,
+        method: &'a Method,
+        at: u32,
+    ) -> Option<PlaceRef<'a>>
+        ensures { result ≡ option_map (place_at program.now own class.now method.now at) (slice_get method.now.insns at) }
+    {
+        PlaceRef::known(program, own, class, method, at, false)
+    }
+
+    /// The same. It may be known that each handler of the method takes what may be thrown.
+    pub(crate) fn known(
+        program: &'a Indexed,
+        own: u32,
+        class: &'a LinkedClass,
+        method: &'a Method,
+        at: u32,
+        handlers_known: bool,
+    ) -> Option<PlaceRef<'a>>
+        requires { IsTrue handlers_known → all_take_thrown program.now method.now.handlers ≡ true }
+        ensures { result ≡ option_map (place_at program.now own class.now method.now at) (slice_get method.now.insns at) }
+    {
+        let insn = method.insns.as_slice().get(at as usize)?;
+        Some(PlaceRef {
+            program,
+            own,
+            class,
+            method,
+            at,
+            insn,
+            target: method.refs.as_slice().get(at as usize),
+            shape: shape_of(insn),
+            handlers_known,
+        })
+    }
+
+    /// Whether it is known that each handler of the method takes what may be thrown.
+    pub(crate) fn handlers_known(&self) -> bool
+        ensures { IsTrue result → all_take_thrown self.now.program self.now.method.handlers ≡ true }
+    {
+        self.handlers_known
+    }
+
+    /// What the instruction does.
+    pub(crate) fn shape(&self) -> Shape
+        ensures { result ≡ shape_of self.now.insn }
+    {
+        self.shape
+    }
 }
 
 /// The class of the field or method that is referred to, or none.

@@ -14,38 +14,34 @@ use crate::place::PlaceRef;
 use cert_format::FrameType;
 use frame_types::split_top;
 
-/// Rule 3.
-fn has_operands(place: &PlaceRef, frame: &FrameType) -> bool
-    ensures { result ≡ Operand place.now frame.now }
-{
-    let (_, taken) = split_top(frame.stack.as_slice(), count_taken(place));
-    are_operands(place, taken)
-}
-
 /// The rules 2 to 5, which ask nothing of other instructions.
 pub fn is_alone_met(place: &PlaceRef, frame: &FrameType) -> bool
     ensures { result ≡ (Depth place.now frame.now
         && (Operand place.now frame.now && (Local place.now frame.now && Made place.now frame.now))) }
 {
-    is_deep(place, frame)
-        && has_operands(place, frame)
+    let count = count_taken(place);
+    let (_, taken) = split_top(frame.stack.as_slice(), count);
+    is_deep(place, frame, count)
+        && are_operands(place, taken)
         && has_locals(place, frame)
-        && is_made(place, frame)
+        && is_made(place, frame, taken)
 }
 
 /// The first of the rules 2 to 7 that fails at an instruction that is reached.
 fn rule_failing(frames: &[Option<FrameType>], place: &PlaceRef, frame: &FrameType) -> Option<u8>
     ensures { result ≡ rule_failing frames.now place.now frame.now }
 {
-    if !is_deep(place, frame) {
+    let count = count_taken(place);
+    let (kept, taken) = split_top(frame.stack.as_slice(), count);
+    if !is_deep(place, frame, count) {
         Some(2)
-    } else if !has_operands(place, frame) {
+    } else if !are_operands(place, taken) {
         Some(3)
     } else if !has_locals(place, frame) {
         Some(4)
-    } else if !is_made(place, frame) {
+    } else if !is_made(place, frame, taken) {
         Some(5)
-    } else if !is_followed(frames, place, frame) {
+    } else if !is_followed(frames, place, frame, kept, taken) {
         Some(6)
     } else if !is_caught(frames, place, frame) {
         Some(7)

@@ -1,15 +1,17 @@
 //! The typing of a program.
 
-ghost use Rattle.std.specs.Prelude.{◌≡◌, ◌<◌, ◌≤◌, ◌+◌, ◌^◌, ◌↔◌, ℕ, List, Option, Some, None, IsOk, MatchResult, length, take, drop};
+ghost use Rattle.std.specs.Prelude.{◌≡◌, ◌<◌, ◌≤◌, ◌+◌, ◌^◌, ◌↔◌, ℕ, List, Option, Some, None, IsOk, IsTrue, MatchResult, length, take, drop, true};
 ghost use Rattle.std.specs.List.{AllByRecursion};
 ghost use Rattle.bytecode_model.specs.Sound.{IsSound, IsSoundClass, IsSoundMethod};
 ghost use Rattle.bytecode_model.specs.Rules.{Frames};
 ghost use Rattle.code_typing.specs.First.{first_row, method_fault, methods_fault, classes_fault, typing_fault};
 ghost use Rattle.bytecode_model.specs.Typed.{IsTyped, row_in, row_fault, frames_in, frames_told, list_at};
 ghost use Rattle.bytecode_model.specs.Shape.{coded};
+ghost use Rattle.code_typing.specs.Catching.{all_take_thrown};
 
 use crate::fault::TypeFault;
 use crate::following::frame_of;
+use crate::handlers::all_take_thrown;
 use crate::place::PlaceRef;
 use crate::row::row_failing;
 use bytecode_model::{LinkedClass, Method};
@@ -28,20 +30,25 @@ pub fn row_in(
 ) -> Option<u8>
     ensures { result ≡ row_in program.now own class.now method.now frames.now at }
 {
-    match method.insns.as_slice().get(at as usize) {
+    row_known(program, own, class, method, frames, at, false)
+}
+
+/// The same. It may be known that each handler of the method takes what may be thrown.
+fn row_known(
+    program: &Indexed,
+    own: u32,
+    class: &LinkedClass,
+    method: &Method,
+    frames: &[Option<FrameType>],
+    at: u32,
+    known: bool,
+) -> Option<u8>
+    requires { IsTrue known → all_take_thrown program.now method.now.handlers ≡ true }
+    ensures { result ≡ row_in program.now own class.now method.now frames.now at }
+{
+    match PlaceRef::known(program, own, class, method, at, known) {
         None => None,
-        Some(insn) => {
-            let place = PlaceRef {
-                program,
-                own,
-                class,
-                method,
-                at,
-                insn,
-                target: method.refs.as_slice().get(at as usize),
-            };
-            row_failing(frames, &place, frame_of(frames, at as usize))
-        }
+        Some(place) => row_failing(frames, &place, frame_of(frames, at as usize)),
     }
 }
 
@@ -98,8 +105,9 @@ fn method_fault(
     requires { length method.now.insns < 2 ^ 32 }
     ensures { result ≡ method_fault program.now own class.now method.now frames.now index }
 {
+    let known = all_take_thrown(program, method.handlers.as_slice());
     for at in 0..method.insns.len() as u32 {
-        if let Some(rule) = row_in(program, own, class, method, frames, at) {
+        if let Some(rule) = row_known(program, own, class, method, frames, at, known) {
             return Some(TypeFault {
                 class: own,
                 method: index,

@@ -14,7 +14,7 @@ use frame_types::{
     array_named, class_of, constant_type, moved_from, put_back, read_type, result_type, type_at,
     type_described,
 };
-use insn_codec::{Heap, Shape, depth_of, shape_of};
+use insn_codec::{Heap, Shape, depth_of};
 use type_lattice::{Indexed, lent_fits};
 
 // ---- whether the pushed are assignable
@@ -101,7 +101,7 @@ fn shape_fits(
 pub fn yields_fit(place: &PlaceRef, locals: &[VType], taken: &[VType], to: &[VType]) -> bool
     ensures { result ≡ stack_fits place.now.program (yields place.now locals.now taken.now) to.now }
 {
-    shape_fits(place, locals, taken, shape_of(place.insn), to)
+    shape_fits(place, locals, taken, place.shape(), to)
 }
 
 // ---- how many are pushed
@@ -128,7 +128,7 @@ pub fn count_yielded(place: &PlaceRef) -> usize
     ensures few { result ≤ 6 }
     ensures value { (locals taken : List VType) → result ≡ length (yields place.now locals taken) }
 {
-    match shape_of(place.insn) {
+    match place.shape() {
         Shape::Push(_) | Shape::Two(_) | Shape::One(_) | Shape::PushNull => 1,
         Shape::Load { .. } => 1,
         Shape::Move(form) => put_back(form).len(),

@@ -1,7 +1,8 @@
 -- Control stays in the code.
-use Rattle.std.proofs.Common.{◌≡◌, ◌⊎◌, ℕ, zero, suc, ◌+◌, ◌<◌, Bool, true, false, List, [], ◌∷◌, length, Some, refl, sym, ap, subst, ◌∙◌, inl, inr, arith}
+use Rattle.std.proofs.Common.{◌≡◌, ◌⊎◌, ℕ, ℤ, zero, suc, ◌+◌, ◌<◌, Bool, true, false, List, [], ◌∷◌, length, Some, refl, sym, ap, subst, ◌∙◌, inl, inr, arith}
 use Rattle.std.specs.Prelude.{Contains, slice_get, if◌then◌else◌}
 use Rattle.std.specs.List.{AllByRecursion}
+use Rattle.std.proofs.lemmas.Bool.{false≢true}
 use Rattle.std.proofs.lemmas.List.Elements.{Contains-append_cases}
 use Rattle.std.proofs.lemmas.Option.{slice_get_read}
 use Rattle.insn_codec.specs.declared.insn.Insn.{Insn}
@@ -22,7 +23,7 @@ one_of : {X : Type 0} (y x : X) → Contains (y ∷ []) x → y ≡ x
 one_of y x (zero, within, is) = is
 one_of y x (suc k, within, is) = absurd (omega arith)
 
-none_of : {X : Type 0} (x : X) → Contains [] x → ⊥
+pub none_of : {X : Type 0} (x : X) → Contains [] x → ⊥
 none_of x (k, within, is) = omega arith
 
 pub first_or : {X : Type 0} (y : X) (ys : List X) (x : X) → Contains (y ∷ ys) x → (y ≡ x) ⊎ Contains ys x
@@ -54,9 +55,31 @@ jumps_within n (insns.Lookup other keys targets) to aims c =
     ]
 jumps_within n insn to aims c = absurd (none_of to c)
 
+-- an instruction of no other kind jumps nowhere
+pub no_targets : (insn : Insn) → ((op to : ℕ) → insn ≡ insns.Branch op to → ⊥) → ((to : ℕ) → insn ≡ insns.GotoW to → ⊥)
+    → ((other : ℕ) (low : ℤ) (targets : List ℕ) → insn ≡ insns.Table other low targets → ⊥)
+    → ((other : ℕ) (keys : List ℤ) (targets : List ℕ) → insn ≡ insns.Lookup other keys targets → ⊥) → jump_targets insn ≡ []
+no_targets (insns.Plain op) branch goto table lookup = refl
+no_targets (insns.Byte n) branch goto table lookup = refl
+no_targets (insns.Short n) branch goto table lookup = refl
+no_targets (insns.Ldc index) branch goto table lookup = refl
+no_targets (insns.Pool op index) branch goto table lookup = refl
+no_targets (insns.Iface index count) branch goto table lookup = refl
+no_targets (insns.Local op slot wide) branch goto table lookup = refl
+no_targets (insns.Inc slot amount wide) branch goto table lookup = refl
+no_targets (insns.Branch op to) branch goto table lookup = absurd (branch op to refl)
+no_targets (insns.GotoW to) branch goto table lookup = absurd (goto to refl)
+no_targets (insns.NewArray kind) branch goto table lookup = refl
+no_targets (insns.Table other low targets) branch goto table lookup = absurd (table other low targets refl)
+no_targets (insns.Lookup other keys targets) branch goto table lookup = absurd (lookup other keys targets refl)
+
 pub next_only : (b : Bool) (next to : ℕ) → Contains (if b then next ∷ [] else []) to → (b ≡ true) × (next ≡ to)
 next_only true next to c = (refl, one_of next to c)
 next_only false next to c = absurd (none_of to c)
+
+pub next_there : (b : Bool) (next : ℕ) → b ≡ true → Contains (if b then next ∷ [] else []) next
+next_there true next e = (0, omega arith, refl)
+next_there false next e = absurd (false≢true e)
 
 pub successor_within : (method : Method) (at : ℕ) (insn : Insn) (to : ℕ) → IsSoundMethod method → slice_get method.insns at ≡ Some insn → Contains (successors at insn) to → to < length method.insns
 successor_within method at insn to sound is c =

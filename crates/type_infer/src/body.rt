@@ -30,15 +30,6 @@ impl<'a> Body<'a> {
     pub fn place(&self, at: u32) -> Option<PlaceRef<'a>>
         ensures { result ≡ place_of self.now at }
     {
-        let insn = self.method.insns.as_slice().get(at as usize)?;
-        Some(PlaceRef {
-            program: self.program,
-            own: self.own,
-            class: self.class,
-            method: self.method,
-            at,
-            insn,
-            target: self.method.refs.as_slice().get(at as usize),
-        })
+        PlaceRef::new(self.program, self.own, self.class, self.method, at)
     }
 }

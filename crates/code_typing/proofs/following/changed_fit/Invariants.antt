@@ -1,7 +1,7 @@
 use Rattle.std.proofs.Common.{◌≡◌, length, map}
 use Rattle.code_typing.specs.Changing.{change_told}
 use Rattle.bytecode_model.specs.Rules.{stack_fits}
-use Rattle.code_typing.proofs.following.below_fits.Given as goal
+use Rattle.code_typing.proofs.following.changed_fit.Given as goal
 
 abbrev pub invariant-loop-from : goal.invariant-loop-from
 invariant-loop-from l =

@@ -1,7 +1,7 @@
 use Rattle.std.proofs.Common.{◌≡◌, ◌+◌, length}
 use Rattle.code_typing.specs.Changing.{local_told}
 use Rattle.bytecode_model.specs.Rules.{locals_fit}
-use Rattle.code_typing.proofs.locals.locals_take.Given as goal
+use Rattle.code_typing.proofs.locals.changed_fit.Given as goal
 
 abbrev pub invariant-loop-left : goal.invariant-loop-left
 invariant-loop-left l =
