@@ -1,5 +1,5 @@
 -- What the code tells of terms, notes and rows without building them, and what each is.
-use Rattle.std.specs.Prelude.{List, [], ◌∷◌, ◌++◌, option_map, slice_set}
+use Rattle.std.specs.Prelude.{List, [], ◌∷◌, ◌++◌, Some, None, false, if◌then◌else◌, slice_set}
 use Rattle.cert_format.specs.declared.note.Note.{Note}
 use Rattle.cert_format.specs.declared.note.Note.TheVariants as notes
 use Rattle.cert_format.specs.declared.note.Term.{Term}
@@ -10,12 +10,15 @@ use Rattle.block_logic.specs.declared.lent.CheckRef.{CheckRef}
 use Rattle.block_logic.specs.declared.lent.HeldRef.{HeldRef}
 use Rattle.block_logic.specs.declared.lent.NoteRef.{NoteRef}
 use Rattle.block_logic.specs.declared.lent.NoteRef.TheVariants as lent
+use Rattle.block_logic.specs.declared.lent.DueRef.{DueRef}
+use Rattle.block_logic.specs.declared.lent.DueRef.TheVariants as due
 use Rattle.block_logic.specs.declared.lent.RowRef.{RowRef}
+use Rattle.block_logic.specs.declared.lent.RowRef.TheVariants as rows
 use Rattle.block_logic.specs.declared.lent.TermsRef.{TermsRef}
 use Rattle.block_logic.specs.declared.lent.TermsRef.TheVariants as lists
 use Rattle.block_logic.specs.declared.lent.WideTerm.{WideTerm}
 use Rattle.block_logic.specs.declared.lent.WideTerm.TheVariants as wide
-use Rattle.block_logic.specs.Rows.{Asked, Check, Given, Nothing, Open, Row, Taking}
+use Rattle.block_logic.specs.Rows.{Asked, Check, Given, Nothing, Open, Row, Taking, failing, holding_on}
 use Rattle.block_logic.specs.Terms.{after_updates}
 
 -- ---- terms
@@ -53,9 +56,6 @@ asked_lent asked.Taking = Taking
 asked_lent (asked.Given note) = Given (note_lent note)
 asked_lent asked.Nothing = Nothing
 
-abbrev pub row_lent : RowRef → Row
-row_lent row = record { past = asked_lent row.past; jump = asked_lent row.jump; thrown = option_map asked_lent row.thrown }
-
 abbrev pub check_lent : CheckRef → Check
 check_lent c = record {
   site = c.site;
@@ -65,3 +65,15 @@ check_lent c = record {
   terms = c.terms.now;
   map = c.map.now;
 }
+
+abbrev pub due_lent : DueRef → Asked
+due_lent due.Open = Open
+due_lent (due.Due site stage) = Given (notes.Owed site stage false false)
+
+abbrev pub row_lent : RowRef → Row
+row_lent (rows.Leads asked) = record { past = asked_lent asked; jump = asked_lent asked; thrown = None }
+row_lent rows.Open = record { past = Open; jump = Open; thrown = Some Open }
+row_lent (rows.Tests check jumps) =
+    if jumps then record { past = Given (failing (check_lent check)); jump = Given (holding_on (check_lent check)); thrown = None }
+    else record { past = Given (holding_on (check_lent check)); jump = Given (failing (check_lent check)); thrown = None }
+row_lent (rows.Calls past thrown) = record { past = due_lent past; jump = Nothing; thrown = Some (due_lent thrown) }

@@ -198,7 +198,7 @@ fn is_negation(rel: Rel, relation: Relation) -> bool
 }
 
 /// The check once the atom holds.
-fn holding_on(check: CheckRef<'_>) -> NoteRef<'_>
+pub fn holding_on(check: CheckRef<'_>) -> NoteRef<'_>
     ensures { note_lent result ≡ holding_on (check_lent check.entry) }
 {
     NoteRef::Held(HeldRef {
@@ -211,7 +211,7 @@ fn holding_on(check: CheckRef<'_>) -> NoteRef<'_>
 }
 
 /// The check once the atom does not hold.
-fn failing(check: CheckRef<'_>) -> NoteRef<'_>
+pub fn failing(check: CheckRef<'_>) -> NoteRef<'_>
     ensures { note_lent result ≡ failing (check_lent check.entry) }
 {
     NoteRef::Held(HeldRef {
@@ -227,19 +227,12 @@ fn failing(check: CheckRef<'_>) -> NoteRef<'_>
 fn tested(check: CheckRef<'_>, rel: Rel, relation: Relation) -> Option<RowRef<'_>>
     ensures { option_map row_lent result ≡ tested (check_lent check.entry) rel relation }
 {
-    let holds = AskedRef::Given(holding_on(check));
-    let fails = AskedRef::Given(failing(check));
     if is_relation(rel, relation) {
-        Some(RowRef {
-            past: fails,
-            jump: holds,
-            thrown: None,
-        })
+        Some(RowRef::Tests { check, jumps: true })
     } else if is_negation(rel, relation) {
-        Some(RowRef {
-            past: holds,
-            jump: fails,
-            thrown: None,
+        Some(RowRef::Tests {
+            check,
+            jumps: false,
         })
     } else {
         None
@@ -326,7 +319,7 @@ fn is_updated(policy: &Policy, check: CheckRef<'_>) -> bool
         check.site,
         usize::from(check.failed),
         usize::from(check.holding),
-        TermsRef::Told(check.map),
+        &TermsRef::Told(check.map),
     )
 }
 
@@ -338,7 +331,7 @@ fn is_lock(list: &[Term]) -> bool
         below: &[],
         top: WideTerm::Lock,
     };
-    same_terms(TermsRef::Told(list), lock)
+    same_terms(&TermsRef::Told(list), &lock)
 }
 
 // ---- rows

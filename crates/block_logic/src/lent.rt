@@ -2,7 +2,7 @@
 //! has; what is told here takes no memory, and is compared with the note that stands there.
 
 ghost use Rattle.std.specs.Prelude.{◌≡◌, option_map};
-ghost use Rattle.block_logic.specs.Lent.{asked_lent, note_lent, row_lent};
+ghost use Rattle.block_logic.specs.Lent.{asked_lent, due_lent, note_lent, row_lent};
 ghost use Rattle.block_logic.specs.Rows.{gives, leads};
 
 use cert_format::{Site, Term};
@@ -97,10 +97,24 @@ pub enum AskedRef<'a> {
 /// What is asked of the next instruction, of those that are jumped to, and, of an instruction that may throw, of its
 /// handlers.
 #[derive(Clone, Copy)]
-pub struct RowRef<'a> {
-    pub past: AskedRef<'a>,
-    pub jump: AskedRef<'a>,
-    pub thrown: Option<AskedRef<'a>>,
+pub enum RowRef<'a> {
+    /// The same of each instruction that may come next, of an instruction that throws nothing.
+    Leads(AskedRef<'a>),
+    /// That the thread is in no block, of each instruction that may come next and of the handlers.
+    Open,
+    /// That the check goes on, with its next atom holding where it jumps, or else where it does not.
+    Tests { check: CheckRef<'a>, jumps: bool },
+    /// What is due behind a call, and where it throws. It jumps nowhere.
+    Calls { past: DueRef, thrown: DueRef },
+}
+
+/// What is due behind a call.
+#[derive(Clone, Copy)]
+pub enum DueRef {
+    /// Nothing.
+    Open,
+    /// An update at this stage, for which nothing is done yet.
+    Due { site: Site, stage: usize },
 }
 
 /// A check: its site and clause, how many branches fail, how many atoms of the next one hold, what is pushed, and the
@@ -119,11 +133,22 @@ pub struct CheckRef<'a> {
 pub fn leads(asked: AskedRef<'_>) -> Option<RowRef<'_>>
     ensures { option_map row_lent result ≡ leads (asked_lent asked.entry) }
 {
-    Some(RowRef {
-        past: asked,
-        jump: asked,
-        thrown: None,
-    })
+    Some(RowRef::Leads(asked))
+}
+
+/// What is asked of a note, where that is due.
+pub fn due_asked<'a>(due: DueRef) -> AskedRef<'a>
+    ensures { asked_lent result ≡ due_lent due }
+{
+    match due {
+        DueRef::Open => AskedRef::Open,
+        DueRef::Due { site, stage } => AskedRef::Given(NoteRef::Owed {
+            site,
+            stage,
+            kept: false,
+            top: false,
+        }),
+    }
 }
 
 /// The note is given to each of them.

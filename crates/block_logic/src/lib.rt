@@ -12,10 +12,13 @@ mod rules;
 mod standing;
 mod terms;
 
-pub use checks::check_row;
+pub use checks::{check_row, failing, holding_on};
 pub use clauses::{clause_at, clause_of, needs, result_of};
 pub use laws::{accepted_obeys, lock_orders};
-pub use lent::{AskedRef, CheckRef, HeldRef, NoteRef, RowRef, TermsRef, WideTerm, gives, leads};
+pub use lent::{
+    AskedRef, CheckRef, DueRef, HeldRef, NoteRef, RowRef, TermsRef, WideTerm, due_asked, gives,
+    leads,
+};
 pub use operands::{
     STATE, calls, enters, has_clause, is_way_out, leaves, loaded, pushes, pushes_null,
     pushes_state, stored, throws, variable_named, writes_static,

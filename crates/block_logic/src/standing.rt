@@ -10,7 +10,7 @@ ghost use Rattle.block_logic.specs.Terms.{as_taken};
 
 use crate::clauses::{clause_at, clause_of, result_of};
 use crate::lent::{HeldRef, NoteRef, TermsRef};
-use crate::terms::{length_of, same_terms};
+use crate::terms::{length_of, same_terms, same_told};
 use cert_format::{Mode, Note, Phase8, Site};
 use conspec_automaton::{Branch, Policy, has_clauses};
 
@@ -66,8 +66,8 @@ pub fn in_phase(phase: Phase8, site: Site) -> Site
 
 // ---- the same note
 
-fn same_note(given: NoteRef<'_>, note: &Note) -> bool
-    ensures { result ≡ same_note (note_lent given.entry) note.now }
+fn same_note(given: &NoteRef<'_>, note: &Note) -> bool
+    ensures { result ≡ same_note (note_lent given.now) note.now }
 {
     match given {
         NoteRef::Held(held) => same_held(held, note),
@@ -76,19 +76,19 @@ fn same_note(given: NoteRef<'_>, note: &Note) -> bool
             locked,
             loaded,
             top,
-        } => same_granted(site, locked, loaded, top, note),
+        } => same_granted(*site, *locked, *loaded, *top, note),
         NoteRef::Owed {
             site,
             stage,
             kept,
             top,
-        } => same_owed(site, stage, kept, top, note),
-        NoteRef::Stop { site, place } => same_stop(site, place, note),
+        } => same_owed(*site, *stage, *kept, *top, note),
+        NoteRef::Stop { site, place } => same_stop(*site, *place, note),
     }
 }
 
-fn same_held(held: HeldRef<'_>, note: &Note) -> bool
-    ensures { result ≡ same_note (held_lent held.entry) note.now }
+fn same_held(held: &HeldRef<'_>, note: &Note) -> bool
+    ensures { result ≡ same_note (held_lent held.now) note.now }
 {
     match note {
         Note::Held {
@@ -101,8 +101,8 @@ fn same_held(held: HeldRef<'_>, note: &Note) -> bool
             same_site(held.site, *site)
                 && held.failed == usize::from(*failed)
                 && held.holding == usize::from(*holding)
-                && same_terms(held.terms, TermsRef::Told(terms.as_slice()))
-                && same_terms(held.map, TermsRef::Told(map.as_slice()))
+                && same_told(&held.terms, terms.as_slice())
+                && same_told(&held.map, map.as_slice())
         }
         _ => false,
     }
@@ -196,14 +196,14 @@ pub fn is_done(
     site: Site,
     failed: usize,
     holding: usize,
-    map: TermsRef<'_>,
+    map: &TermsRef<'_>,
 ) -> bool
-    ensures { result ≡ is_done policy.now site failed holding (terms_lent map.entry) }
+    ensures { result ≡ is_done policy.now site failed holding (terms_lent map.now) }
 {
     match branches_of(policy, site).get(failed) {
         Some(branch) => {
             let updates = branch.updates.as_slice();
-            holding == branch.atoms.len() && same_terms(map, TermsRef::After { policy, updates })
+            holding == branch.atoms.len() && same_terms(map, &TermsRef::After { policy, updates })
         }
         None => false,
     }
@@ -248,21 +248,21 @@ fn done(policy: &Policy, site: Site) -> NoteRef<'_>
 
 /// For the note of a check that was made so far: itself; where it is done, and nothing is pushed, what comes then; where
 /// each branch fails, the way out.
-fn stands_for_held(policy: &Policy, held: HeldRef<'_>, note: &Note) -> bool
-    ensures { result ≡ stands_for_held policy.now held.entry.site held.entry.failed held.entry.holding
-        (terms_lent held.entry.terms) (terms_lent held.entry.map) note.now }
+fn stands_for_held(policy: &Policy, held: &HeldRef<'_>, note: &Note) -> bool
+    ensures { result ≡ stands_for_held policy.now held.now.site held.now.failed held.now.holding
+        (terms_lent held.now.terms) (terms_lent held.now.map) note.now }
 {
     same_held(held, note)
-        || is_over(policy, held) && same_note(done(policy, held.site), note)
+        || is_over(policy, held) && same_note(&done(policy, held.site), note)
         || fails(policy, held.site, held.failed) && same_stop(held.site, 0, note)
 }
 
 /// Whether the check is done, and nothing is pushed.
-fn is_over(policy: &Policy, held: HeldRef<'_>) -> bool
-    ensures { result ≡ (is_done policy.now held.entry.site held.entry.failed held.entry.holding (terms_lent held.entry.map)
-        && is_empty (terms_lent held.entry.terms)) }
+fn is_over(policy: &Policy, held: &HeldRef<'_>) -> bool
+    ensures { result ≡ (is_done policy.now held.now.site held.now.failed held.now.holding (terms_lent held.now.map)
+        && is_empty (terms_lent held.now.terms)) }
 {
-    is_done(policy, held.site, held.failed, held.holding, held.map) && length_of(held.terms) == 0
+    is_done(policy, held.site, held.failed, held.holding, &held.map) && length_of(&held.terms) == 0
 }
 
 /// Whether the check of an update that is due with the lock held may have begun.
@@ -273,8 +273,8 @@ fn may_begin(policy: &Policy, site: Site, stage: usize, kept: bool, top: bool) -
 }
 
 /// Whether the note may stand at an instruction in the place of the one that is given.
-pub fn may_stand(policy: &Policy, given: NoteRef<'_>, note: &Note) -> bool
-    ensures { result ≡ may_stand policy.now (note_lent given.entry) note.now }
+pub fn may_stand(policy: &Policy, given: &NoteRef<'_>, note: &Note) -> bool
+    ensures { result ≡ may_stand policy.now (note_lent given.now) note.now }
 {
     match given {
         NoteRef::Held(held) => stands_for_held(policy, held, note),
@@ -284,9 +284,9 @@ pub fn may_stand(policy: &Policy, given: NoteRef<'_>, note: &Note) -> bool
             kept,
             top,
         } => {
-            same_owed(site, stage, kept, top, note)
-                || may_begin(policy, site, stage, kept, top)
-                    && stands_for_held(policy, begun(policy, site), note)
+            same_owed(*site, *stage, *kept, *top, note)
+                || may_begin(policy, *site, *stage, *kept, *top)
+                    && stands_for_held(policy, &begun(policy, *site), note)
         }
         _ => same_note(given, note),
     }

@@ -91,9 +91,61 @@ fn target(update: Update) -> usize
 
 // ---- lists
 
+/// Whether a list is this one.
+pub fn same_told(terms: &TermsRef<'_>, others: &[Term]) -> bool
+    ensures { result ≡ same_terms (terms_lent terms.now) others.now }
+{
+    match terms {
+        TermsRef::Told(told) => same_lists(*told, others),
+        TermsRef::Pushed { below, top } => same_pushed(*below, *top, others),
+        _ => same_terms(terms, &TermsRef::Told(others)),
+    }
+}
+
+/// Whether both are one list.
+fn same_lists(terms: &[Term], others: &[Term]) -> bool
+    ensures { result ≡ same_terms terms.now others.now }
+{
+    let mut terms = terms;
+    let mut others = others;
+    while let [term, later @ ..] = terms {
+        let [other, rest @ ..] = others else {
+            return false;
+        };
+        if !same_term(widened(*term), widened(*other)) {
+            return false;
+        }
+        terms = later;
+        others = rest;
+    }
+    others.is_empty()
+}
+
+/// Whether terms with another one on top are this list.
+fn same_pushed(below: &[Term], top: WideTerm, others: &[Term]) -> bool
+    ensures { result ≡ same_terms (below.now ++ term_lent top ∷ []) others.now }
+{
+    let mut below = below;
+    let mut others = others;
+    while let [term, later @ ..] = below {
+        let [other, rest @ ..] = others else {
+            return false;
+        };
+        if !same_term(widened(*term), widened(*other)) {
+            return false;
+        }
+        below = later;
+        others = rest;
+    }
+    match others {
+        [other, rest @ ..] => same_term(top, widened(*other)) && rest.is_empty(),
+        [] => false,
+    }
+}
+
 /// Whether both lists are one.
-pub fn same_terms(terms: TermsRef<'_>, others: TermsRef<'_>) -> bool
-    ensures { result ≡ same_terms (terms_lent terms.entry) (terms_lent others.entry) }
+pub fn same_terms(terms: &TermsRef<'_>, others: &TermsRef<'_>) -> bool
+    ensures { result ≡ same_terms (terms_lent terms.now) (terms_lent others.now) }
 {
     let count = length_of(terms);
     if count != length_of(others) {
@@ -108,8 +160,8 @@ pub fn same_terms(terms: TermsRef<'_>, others: TermsRef<'_>) -> bool
 }
 
 /// Whether one term stands in this place of both.
-fn same_at(terms: TermsRef<'_>, others: TermsRef<'_>, at: usize) -> bool
-    ensures { result ≡ same_at (terms_lent terms.entry) (terms_lent others.entry) at }
+fn same_at(terms: &TermsRef<'_>, others: &TermsRef<'_>, at: usize) -> bool
+    ensures { result ≡ same_at (terms_lent terms.now) (terms_lent others.now) at }
 {
     let (Some(term), Some(other)) = (term_at(terms, at), term_at(others, at)) else {
         return false;
@@ -118,8 +170,8 @@ fn same_at(terms: TermsRef<'_>, others: TermsRef<'_>, at: usize) -> bool
 }
 
 /// The number of terms of a list.
-pub fn length_of(terms: TermsRef<'_>) -> usize
-    ensures { result ≡ length (terms_lent terms.entry) }
+pub fn length_of(terms: &TermsRef<'_>) -> usize
+    ensures { result ≡ length (terms_lent terms.now) }
 {
     match terms {
         TermsRef::Told(told) => told.len(),
@@ -130,14 +182,14 @@ pub fn length_of(terms: TermsRef<'_>) -> usize
 }
 
 /// The term in this place of a list.
-fn term_at(terms: TermsRef<'_>, at: usize) -> Option<WideTerm>
-    ensures { option_map term_lent result ≡ slice_get (terms_lent terms.entry) at }
+fn term_at(terms: &TermsRef<'_>, at: usize) -> Option<WideTerm>
+    ensures { option_map term_lent result ≡ slice_get (terms_lent terms.now) at }
 {
     match terms {
-        TermsRef::Told(told) => told_at(told, at),
-        TermsRef::Pushed { below, top } => pushed_at(below, top, at),
-        TermsRef::Written { map, var, term } => written_at(map, var, term, at),
-        TermsRef::After { policy, updates } => after_at(policy, updates, at),
+        TermsRef::Told(told) => told_at(*told, at),
+        TermsRef::Pushed { below, top } => pushed_at(*below, *top, at),
+        TermsRef::Written { map, var, term } => written_at(*map, *var, *term, at),
+        TermsRef::After { policy, updates } => after_at(*policy, *updates, at),
     }
 }
 

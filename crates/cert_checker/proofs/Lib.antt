@@ -5,3 +5,4 @@ mod Accepting
 mod Security
 mod Denied
 pub mod Covering
+mod Unbroken

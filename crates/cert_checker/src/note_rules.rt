@@ -1,21 +1,20 @@
 //! The rules of the notes at one instruction.
 
-ghost use Rattle.std.specs.Prelude.{◌≡◌, ◌==◌, ◌&&◌, ◌||◌, not, drop, if◌then◌else◌, is_some, option_copied, option_map};
+ghost use Rattle.std.specs.Prelude.{◌≡◌, ◌&&◌, ◌||◌, false, not, drop, if◌then◌else◌, is_some, option_copied, option_map, Some};
 ghost use Rattle.insn_codec.specs.Shapes.{shape_of};
-ghost use Rattle.cert_checker.specs.declared.passing.Test.TheVariants.{Meets, StopsWell};
+ghost use Rattle.cert_checker.specs.declared.passing.Test.TheVariants.{StopsWell};
 ghost use Rattle.block_logic.specs.Lent.{asked_lent, row_lent};
 ghost use Rattle.block_logic.specs.Notes.{all_pass, calls_well, catches_all, catches_well, first_broken};
 ghost use Rattle.block_logic.specs.Notes.{is_duty_of, is_free, is_granted, is_held, is_owed_for_throw};
 ghost use Rattle.block_logic.specs.Notes.{is_stop, leaves_alone, names_method, note_fault, row_fault, rules_at, thrown_by};
 ghost use Rattle.block_logic.specs.Operands.{calls, enters, has_clause, leaves, writes_static};
-ghost use Rattle.block_logic.specs.Standing.{is_open};
-ghost use Rattle.cert_checker.specs.Testing.{passes};
+ghost use Rattle.cert_checker.specs.Testing.{goes_well, passes};
 
 use crate::passing::{Test, all_pass, first_handler, is_stop, meets, next_pass};
 use crate::rows::{is_duty, is_ready, row, thrown};
 use block_logic::{
-    AskedRef, Here, RowRef, Rules, calls, enters, has_clause, is_exceptional, is_open, is_way_out,
-    leaves, pushes_state, variable_named, writes_static,
+    AskedRef, Here, RowRef, Rules, calls, due_asked, enters, has_clause, is_exceptional, is_open,
+    is_way_out, leaves, pushes_state, variable_named, writes_static,
 };
 use bytecode_model::{Handler, Method, Target};
 use cert_format::{Note, Site};
@@ -74,24 +73,41 @@ fn table_fault(
     ensures { result
         ≡ first_broken (drop 3 (rules_at rules.now told.now method.now note.now here.now (option_map row_lent (option_copied row.entry)))) }
 {
+    // Where what comes next is as the table has it, no rule from the fourth on is broken.
+    if goes_as_asked(rules, told, method, note, here, row) {
+        return None;
+    }
+    Some(rule_broken(rules, told, method, here, note, row))
+}
+
+/// The first of them, where what comes next is not as the table has it.
+fn rule_broken(
+    rules: &Rules<'_>,
+    told: &[Note],
+    method: &Method,
+    here: &Here<'_>,
+    note: &Note,
+    row: Option<&RowRef<'_>>,
+) -> u8
+    requires { goes_well rules.now told.now method.now note.now here.now (option_map row_lent (option_copied row)) ≡ false }
+    ensures { Some result
+        ≡ first_broken (drop 3 (rules_at rules.now told.now method.now note.now here.now (option_map row_lent (option_copied row.entry)))) }
+{
     let shape = here.shape;
     let has_row = row.is_some();
     if !enters_well(note, shape, has_row) {
-        return Some(4);
+        return 4;
     }
     if !checks_well(note, shape, has_row) {
-        return Some(5);
+        return 5;
     }
     if !writes_well(note, shape, has_row) {
-        return Some(6);
+        return 6;
     }
     if !stops_as_asked(rules, told, method, note, here, row) {
-        return Some(7);
+        return 7;
     }
-    if !goes_as_asked(rules, told, method, note, here, row) {
-        return Some(8);
-    }
-    None
+    8
 }
 
 // ---- what a note is
@@ -181,7 +197,7 @@ fn thrown_by<'a>(rules: &Rules<'_>, note: &Note) -> AskedRef<'a>
     ensures { asked_lent result ≡ thrown_by rules.now note.now }
 {
     match note {
-        Note::Granted { site, .. } => thrown(rules, *site),
+        Note::Granted { site, .. } => due_asked(thrown(rules, *site)),
         _ => AskedRef::Nothing,
     }
 }
@@ -290,9 +306,7 @@ fn goes_as_asked(
     here: &Here<'_>,
     row: Option<&RowRef<'_>>,
 ) -> bool
-    ensures { result ≡ (is_some row.entry
-        && (all_pass (passes rules.now Meets) told.now (option_map row_lent (option_copied row.entry)) method.now here.now
-        && (not (here.now.at == 0) || is_open rules.now.mode rules.now.policy note.now))) }
+    ensures { result ≡ goes_well rules.now told.now method.now note.now here.now (option_map row_lent (option_copied row.entry)) }
 {
     row.is_some()
         && all_pass(rules, Test::Meets, told, row, method, here)

@@ -1,15 +1,18 @@
 //! What comes next after an instruction, and whether the notes there are as they are asked to be.
 
-ghost use Rattle.std.specs.Prelude.{◌≡◌, option_copied, option_map};
+ghost use Rattle.std.specs.Prelude.{◌≡◌, option_copied, option_map, Some};
 ghost use Rattle.std.specs.List.{list_all};
 ghost use Rattle.insn_codec.specs.Control.{jump_targets};
+ghost use Rattle.block_logic.specs.declared.lent.RowRef.TheVariants.{Tests};
 ghost use Rattle.block_logic.specs.Lent.{asked_lent, row_lent};
 ghost use Rattle.block_logic.specs.Notes.{all_pass, first_handler, handlers_of, handlers_pass, is_stop};
-ghost use Rattle.block_logic.specs.Notes.{is_taking, jump_of, meets, next_pass};
-ghost use Rattle.block_logic.specs.Notes.{note_passes, past_of, thrown_of};
-ghost use Rattle.cert_checker.specs.Testing.{passes};
+ghost use Rattle.block_logic.specs.Notes.{is_taking, meets, next_pass, note_passes};
+ghost use Rattle.cert_checker.specs.Testing.{go_on_pass, passes};
 
-use block_logic::{AskedRef, Here, RowRef, Rules, is_open, may_stand, takes_for_call};
+use block_logic::{
+    AskedRef, CheckRef, Here, RowRef, Rules, due_asked, failing, holding_on, is_open, may_stand,
+    takes_for_call,
+};
 use bytecode_model::{Handler, Handlers, Method};
 use cert_format::Note;
 use insn_codec::{Insn, goes_on};
@@ -32,7 +35,7 @@ pub fn meets(rules: &Rules<'_>, asked: &AskedRef<'_>, note: &Note) -> bool
     match asked {
         AskedRef::Open => is_open(rules.mode, rules.policy, note),
         AskedRef::Taking => takes_for_call(rules.policy, note),
-        AskedRef::Given(given) => may_stand(rules.policy, *given, note),
+        AskedRef::Given(given) => may_stand(rules.policy, given, note),
         AskedRef::Nothing => false,
     }
 }
@@ -89,28 +92,67 @@ pub fn next_pass(
 ) -> bool
     ensures { result ≡ next_pass (passes rules.now test) told.now (option_map row_lent (option_copied row.entry)) here.now }
 {
-    let past = past_of(row);
+    match row {
+        Some(RowRef::Leads(asked)) => leads_pass(rules, test, told, asked, here),
+        Some(RowRef::Open) => leads_pass(rules, test, told, &AskedRef::Open, here),
+        Some(RowRef::Tests { check, jumps }) => tests_pass(rules, test, told, *check, *jumps, here),
+        Some(RowRef::Calls { past, .. }) => {
+            let past = due_asked(*past);
+            go_on_pass(rules, test, told, &past, &AskedRef::Nothing, here)
+        }
+        None => leads_pass(rules, test, told, &AskedRef::Nothing, here),
+    }
+}
+
+/// The same, where the same is asked of each of them.
+fn leads_pass(
+    rules: &Rules<'_>,
+    test: Test,
+    told: &[Note],
+    asked: &AskedRef<'_>,
+    here: &Here<'_>,
+) -> bool
+    ensures { result ≡ go_on_pass (passes rules.now test) told.now (asked_lent asked.now) (asked_lent asked.now) here.now }
+{
     let next = here.at as usize + 1;
-    (!goes_on(here.insn.opcode()) || note_passes(rules, test, told, &past, next))
-        && jumps_pass(rules, test, told, &jump_of(row), here.insn)
+    (!goes_on(here.insn.opcode()) || note_passes(rules, test, told, asked, next))
+        && jumps_pass(rules, test, told, asked, here.insn)
 }
 
-fn past_of<'a>(row: Option<&RowRef<'a>>) -> AskedRef<'a>
-    ensures { asked_lent result ≡ past_of (option_map row_lent (option_copied row.entry)) }
+/// The same behind a test of the next atom, which holds where it jumps, or else where it does not.
+fn tests_pass(
+    rules: &Rules<'_>,
+    test: Test,
+    told: &[Note],
+    check: CheckRef<'_>,
+    jumps: bool,
+    here: &Here<'_>,
+) -> bool
+    ensures { result ≡ next_pass (passes rules.now test) told.now (Some (row_lent (Tests check.entry jumps))) here.now }
 {
-    match row {
-        Some(row) => row.past,
-        None => AskedRef::Nothing,
+    let holds = AskedRef::Given(holding_on(check));
+    let fails = AskedRef::Given(failing(check));
+    if jumps {
+        go_on_pass(rules, test, told, &fails, &holds, here)
+    } else {
+        go_on_pass(rules, test, told, &holds, &fails, here)
     }
 }
 
-fn jump_of<'a>(row: Option<&RowRef<'a>>) -> AskedRef<'a>
-    ensures { asked_lent result ≡ jump_of (option_map row_lent (option_copied row.entry)) }
+/// Whether the note of the next instruction passes what is asked of it, and those that are jumped to what is asked of them.
+fn go_on_pass(
+    rules: &Rules<'_>,
+    test: Test,
+    told: &[Note],
+    past: &AskedRef<'_>,
+    jump: &AskedRef<'_>,
+    here: &Here<'_>,
+) -> bool
+    ensures { result ≡ go_on_pass (passes rules.now test) told.now (asked_lent past.now) (asked_lent jump.now) here.now }
 {
-    match row {
-        Some(row) => row.jump,
-        None => AskedRef::Nothing,
-    }
+    let next = here.at as usize + 1;
+    (!goes_on(here.insn.opcode()) || note_passes(rules, test, told, past, next))
+        && jumps_pass(rules, test, told, jump, here.insn)
 }
 
 /// Whether the notes of the instructions that are jumped to pass.
@@ -165,18 +207,22 @@ fn handlers_pass(
 ) -> bool
     ensures { result ≡ handlers_pass (passes rules.now test) told.now (option_map row_lent (option_copied row.entry)) method.now here.now }
 {
-    match thrown_of(row) {
-        Some(asked) => covering_pass(rules, test, told, &asked, here.at, &method.handlers),
-        None => true,
-    }
-}
-
-fn thrown_of<'a>(row: Option<&RowRef<'a>>) -> Option<AskedRef<'a>>
-    ensures { option_map asked_lent result ≡ thrown_of (option_map row_lent (option_copied row.entry)) }
-{
     match row {
-        Some(row) => row.thrown,
-        None => None,
+        Some(RowRef::Open) => {
+            covering_pass(
+                rules,
+                test,
+                told,
+                &AskedRef::Open,
+                here.at,
+                &method.handlers,
+            )
+        }
+        Some(RowRef::Calls { thrown, .. }) => {
+            let asked = due_asked(*thrown);
+            covering_pass(rules, test, told, &asked, here.at, &method.handlers)
+        }
+        _ => true,
     }
 }
 

@@ -6,7 +6,7 @@ ghost use Rattle.std.specs.Prelude.{◌≡◌, ◌+◌, ◌==◌, ◌&&◌, fals
 ghost use Rattle.std.specs.Option.{option_map_or};
 ghost use Rattle.cert_format.specs.declared.note.Note.TheVariants as notes;
 ghost use Rattle.block_logic.specs.Clauses.{needs};
-ghost use Rattle.block_logic.specs.Lent.{asked_lent, note_lent, row_lent};
+ghost use Rattle.block_logic.specs.Lent.{asked_lent, due_lent, note_lent, row_lent};
 ghost use Rattle.block_logic.specs.Operands.{loaded, stored};
 ghost use Rattle.block_logic.specs.Rows.{Given, begins_owed, calls_of, free_row, gives, granted_row};
 ghost use Rattle.block_logic.specs.Rows.{held_row, is_duty, is_on_way, may_keep};
@@ -14,9 +14,9 @@ ghost use Rattle.block_logic.specs.Rows.{may_leave, may_push, owed_row, returned
 ghost use Rattle.block_logic.specs.Standing.{is_hold};
 
 use block_logic::{
-    AskedRef, CheckRef, NoteRef, RowRef, Rules, asks_kept, begun, calls, check_row, clause_at,
-    clause_of, enters, gives, in_phase, is_after, is_hold, is_way_out, leads, leaves, loaded,
-    needs, pushes, pushes_null, pushes_state, result_of, stored, throws, variable_named,
+    AskedRef, CheckRef, DueRef, NoteRef, RowRef, Rules, asks_kept, begun, calls, check_row,
+    clause_at, clause_of, enters, gives, in_phase, is_after, is_hold, is_way_out, leads, leaves,
+    loaded, needs, pushes, pushes_null, pushes_state, result_of, stored, throws, variable_named,
 };
 use bytecode_model::Target;
 use cert_format::{Mode, Note, Phase8, Site, Term};
@@ -82,11 +82,7 @@ fn free_row<'a>(rules: &Rules<'_>, shape: Shape, target: &Target) -> Option<RowR
     if variable_named(rules.state, target).is_some() {
         return None;
     }
-    Some(RowRef {
-        past: AskedRef::Open,
-        jump: AskedRef::Open,
-        thrown: Some(AskedRef::Open),
-    })
+    Some(RowRef::Open)
 }
 
 // ---- Taking
@@ -157,8 +153,8 @@ fn calls_of(site: Site, shape: Shape, target: &Target) -> bool
 
 /// Behind the call: in mode hold its lock is still held; in mode release an update is due where a clause is for the
 /// return.
-fn returned<'a>(rules: &Rules<'_>, site: Site) -> AskedRef<'a>
-    ensures { asked_lent result ≡ returned rules.now site }
+fn returned(rules: &Rules<'_>, site: Site) -> DueRef
+    ensures { due_lent result ≡ returned rules.now site }
 {
     let behind = in_phase(Phase8::After, site);
     if is_hold(rules.mode) {
@@ -166,20 +162,15 @@ fn returned<'a>(rules: &Rules<'_>, site: Site) -> AskedRef<'a>
     } else if clause_of(rules.policy, behind).is_some() {
         due(behind, 0)
     } else {
-        AskedRef::Open
+        DueRef::Open
     }
 }
 
 /// An update is due at this stage, and nothing is done for it.
-fn due<'a>(site: Site, stage: usize) -> AskedRef<'a>
-    ensures { asked_lent result ≡ Given (notes.Owed site stage false false) }
+fn due(site: Site, stage: usize) -> DueRef
+    ensures { due_lent result ≡ Given (notes.Owed site stage false false) }
 {
-    AskedRef::Given(NoteRef::Owed {
-        site,
-        stage,
-        kept: false,
-        top: false,
-    })
+    DueRef::Due { site, stage }
 }
 
 /// Whether what the call throws is a duty of its block.
@@ -196,8 +187,8 @@ fn stage_behind(mode: Mode) -> usize
 }
 
 /// What is asked where the call throws.
-pub fn thrown<'a>(rules: &Rules<'_>, site: Site) -> AskedRef<'a>
-    ensures { asked_lent result ≡ thrown rules.now site }
+pub fn thrown(rules: &Rules<'_>, site: Site) -> DueRef
+    ensures { due_lent result ≡ thrown rules.now site }
 {
     if is_duty(rules, u32::from(site.method)) {
         due(
@@ -205,7 +196,7 @@ pub fn thrown<'a>(rules: &Rules<'_>, site: Site) -> AskedRef<'a>
             stage_behind(rules.mode),
         )
     } else {
-        AskedRef::Open
+        DueRef::Open
     }
 }
 
@@ -230,10 +221,9 @@ fn granted_row<'a>(
         return granted(site, false, usize::from(count), false);
     }
     if !top && is_ready(rules, site, locked, count) && calls_of(site, shape, target) {
-        return Some(RowRef {
+        return Some(RowRef::Calls {
             past: returned(rules, site),
-            jump: AskedRef::Nothing,
-            thrown: Some(thrown(rules, site)),
+            thrown: thrown(rules, site),
         });
     }
     None
