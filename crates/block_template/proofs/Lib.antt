@@ -2,6 +2,8 @@ pub mod Saves
 pub mod Sizes
 pub mod Pigeonhole
 pub mod Policies
+pub mod Alike
+pub mod Making
 pub mod Rows
 pub mod Insns
 pub mod Goods
@@ -18,3 +20,4 @@ pub mod RolesTyped
 pub mod CatchesTyped
 pub mod Reaching
 pub mod ItemsTyped
+pub mod Calling

@@ -218,3 +218,22 @@ policy_roomy policy method base read few =
       after = each_short policy base After (clause_at policy method After) read results (clause_is policy method After read);
       exceptional = each_short policy base Exceptional (clause_at policy method Exceptional) read (nothing_needed base (clause_at policy method Exceptional)) (clause_is policy method Exceptional read);
     }
+
+-- ---- a block that begins at local 0
+
+few_before : (policy : Policy) (o : Option Clause) → IfSome o (IsOf policy Before) → option_map_or (λ (c : Clause). length c.args) o 0 ≤ 255
+few_before policy None is = omega arith
+few_before policy (Some clause) is = is.fits.few_args
+
+few_result : (kind : Option Kind) → kept kind ≤ 1
+few_result None = omega arith
+few_result (Some kind) = omega arith
+
+few_after : (o : Option Clause) → option_map_or (λ (c : Clause). kept c.result) o 0 ≤ 1
+few_after None = omega arith
+few_after (Some clause) = few_result clause.result
+
+-- Its locals are few.
+pub few_locals : (policy : Policy) (method : ℕ) → IsPolicy policy → 0 + locals_used policy method < 65536
+few_locals policy method is =
+    omega (arith, few_before policy (clause_at policy method Before) (clause_is policy method Before is), few_after (clause_at policy method After))

@@ -8,3 +8,4 @@ pub mod Flow
 pub mod Reached
 pub mod Frames
 pub mod Typed
+pub mod Made

@@ -48,7 +48,8 @@ pub fn clause_at(policy: &Policy, method: u32, phase: Phase) -> Option<&Clause>
         && is_phase(phase, clause.phase))
 }
 
-fn is_phase(phase: Phase, other: Phase) -> bool
+/// Whether the phases are the same.
+pub fn is_phase(phase: Phase, other: Phase) -> bool
     ensures { result ≡ is_phase phase other }
 {
     match phase {

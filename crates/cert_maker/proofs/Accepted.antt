@@ -41,7 +41,7 @@ use Rattle.cert_maker.specs.Accepting.{IsStopped, WovenIsAccepted}
 use Rattle.cert_maker.specs.Noting.{certificate_of, class_notes, method_notes}
 use Rattle.cert_maker.proofs.Body.{Body, same_length}
 use Rattle.cert_maker.proofs.ClausesAlike.{result_alike}
-use Rattle.cert_maker.proofs.Lists.{each_back, slice_there}
+use Rattle.class_weaving.proofs.Lists.{each_back, slice_there}
 use Rattle.cert_maker.proofs.WholeMethods.{passes}
 use Rattle.cert_maker.proofs.Shape.{class_framed, class_noted, class_sizes, classes_shaped, code_stays, coded_stay, frames_long, notes_there}
 use Rattle.cert_maker.proofs.Standing.{IsReady, told}

@@ -21,9 +21,9 @@ use Rattle.block_template.specs.Blocks.{plan_of}
 use Rattle.class_weaving.specs.Outcome.{IsWovenMethod, at_fronts, handlers_with, own_handlers, part_named, parts_named}
 use Rattle.class_weaving.specs.Woven.{is_woven, sites_of}
 use Rattle.cert_maker.specs.Noting.{method_notes, part_notes, parts_notes, where_framed}
-use Rattle.cert_maker.proofs.Parts as parts
+use Rattle.class_weaving.proofs.Parts as parts
 use Rattle.cert_maker.proofs.Plans as plans
-use Rattle.cert_maker.proofs.Unwoven.{AreAlone, all_alone, front_alone, handlers_same, insns_alone, named_alone, own_alone}
+use Rattle.class_weaving.proofs.Unwoven.{AreAlone, all_alone, front_alone, handlers_same, insns_alone, named_alone, own_alone}
 
 -- A method of a linked program, and what it is in the woven one, whose blocks name constants of the pool.
 pub record Body : Type 0 where

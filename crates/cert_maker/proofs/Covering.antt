@@ -14,7 +14,7 @@ use Rattle.offset_patch.specs.Plan.{Plan}
 use Rattle.offset_patch.specs.Splicing.{call_place, part_of}
 use Rattle.block_logic.specs.Notes.{first_handler, handlers_of}
 use Rattle.class_weaving.specs.Outcome.{handlers_by, own_handler, own_handlers, site_handlers}
-use Rattle.cert_maker.proofs.Parts.{before, part}
+use Rattle.class_weaving.proofs.Parts.{before, part}
 
 abbrev pub Misses : ℕ → Handler → Type 0
 Misses at handler = covers at handler ≡ false

@@ -1,9 +1,7 @@
-pub mod Lists
 pub mod Same
 pub mod ClausesAlike
 pub mod Updates
 pub mod Suits
-pub mod Calling
 pub mod Shapes
 pub mod Checks
 pub mod Rows
@@ -11,8 +9,6 @@ pub mod Roles
 pub mod RoleRows
 pub mod CheckRows
 pub mod AllRoles
-pub mod Parts
-pub mod Unwoven
 pub mod Aiming
 pub mod Covering
 pub mod Plans
@@ -25,5 +21,4 @@ pub mod StateClass
 pub mod Shape
 pub mod Accepted
 pub mod Small
-pub mod Alike
 pub mod Framed

@@ -43,7 +43,7 @@ use Rattle.class_weaving.specs.Outcome.{own_handlers, part_named}
 use Rattle.cert_maker.proofs.Aiming.{jumps_moved}
 use Rattle.cert_maker.proofs.AllRoles.{noted}
 use Rattle.cert_maker.proofs.Body.{Body, base, front, fronts, fronts_are, insn_there, n, next_front, note_there, part, plan, ref_there, refs, sites as sites_in}
-use Rattle.cert_maker.proofs.Calling as calling
+use Rattle.block_template.proofs.Calling as calling
 use Rattle.cert_maker.proofs.Checks.{Arrives, Blocked, clauses, note}
 use Rattle.cert_maker.proofs.Covering.{AllMiss, own_none}
 use Rattle.cert_maker.proofs.Plans.{block_of, none_there, note_alone, part_item, part_length, site_is, within as calls_within}
@@ -53,7 +53,7 @@ use Rattle.cert_maker.proofs.Rules.{all_hold, fault_at, no_fault}
 use Rattle.cert_maker.proofs.Shapes.{goes_past, jumps_to, places_of}
 use Rattle.cert_maker.proofs.Standing.{IsReady, Passes, Reached, all as items_in, blocked, client_catches, contained_right, each_with, entered_at, entered_opens, front_passes, inside, item_reached, item_told, less, rules_in, told, within}
 use Rattle.cert_maker.proofs.Suits.{Suits, items_suit}
-use Rattle.cert_maker.proofs.Unwoven.{part_alone}
+use Rattle.class_weaving.proofs.Unwoven.{part_alone}
 
 pub same_clause : (policy : Policy) (ref : Target) → has_clause policy ref ≡ has_block policy ref
 same_clause policy (target.ApiMethod callee) = refl
@@ -289,7 +289,7 @@ module _ (b : Body) (frames : List (Option FrameType)) (ready : IsReady b frames
             stays : JumpsWithin (length all) item.insn
             stays =
                 elim (calling.each_item b.mode (bools_of b.policy) (base b) (clauses k) place item e) [
-                  | inl is ↦ absurd (false≢true (sym other ∙ ap is_call is.1))
+                  | inl is ↦ absurd (false≢true (sym other ∙ ap (λ (x : Item). is_call x.insn) is.1))
                   | inr is ↦ is.stays
                 ]
 

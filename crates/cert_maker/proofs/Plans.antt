@@ -19,9 +19,9 @@ use Rattle.block_template.specs.declared.item.Item.{Item}
 use Rattle.block_template.specs.Blocks.{block_with, bools_of, clauses_of, has_block, items, plan_of, site}
 use Rattle.cert_maker.specs.declared.called.Called.{Called}
 use Rattle.cert_maker.specs.Noting.{block_notes, note_of, part_notes, parts_notes}
-use Rattle.cert_maker.proofs.Calling.{count_is, place_is}
+use Rattle.block_template.proofs.Calling.{count_is, place_is}
 use Rattle.cert_maker.proofs.Covering.{CallsWithin}
-use Rattle.cert_maker.proofs.Parts.{part}
+use Rattle.class_weaving.proofs.Parts.{part}
 
 module _ (policy : Policy) (mode : Mode) where
   abbrev pub plan : Plan

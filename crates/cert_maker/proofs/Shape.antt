@@ -18,7 +18,7 @@ use Rattle.block_template.specs.Blocks.{plan_of}
 use Rattle.class_weaving.specs.Outcome.{Each, IsState, IsWovenClass, IsWovenMethod}
 use Rattle.cert_maker.specs.Noting.{class_notes, method_notes, notes_of, parts_notes}
 use Rattle.cert_maker.proofs.Body.{Body, framed_many, made_long, same_length, told_many}
-use Rattle.cert_maker.proofs.Parts.{total}
+use Rattle.class_weaving.proofs.Parts.{total}
 use Rattle.cert_maker.proofs.Plans.{some}
 
 abbrev Frames : Type 0

@@ -74,22 +74,3 @@ module _ (policy : Policy) (read : IsPolicy policy) where
 
   pub small_branch : (site : Site) (n : ℕ) → IfSome (branch_at policy site n) IsSmall
   small_branch site n = of_clause site n (clause_of policy site) refl
-
-  -- ---- locals
-
-  few_before : (method : ℕ) (o : Option Clause) → IfSome o (IsOf policy Before) → option_map_or (λ (c : Clause). length c.args) o 0 ≤ 255
-  few_before method None is = omega arith
-  few_before method (Some clause) is = is.fits.few_args
-
-  few_result : (kind : Option Kind) → kept kind ≤ 1
-  few_result None = omega arith
-  few_result (Some kind) = omega arith
-
-  few_after : (o : Option Clause) → option_map_or (λ (c : Clause). kept c.result) o 0 ≤ 1
-  few_after None = omega arith
-  few_after (Some clause) = few_result clause.result
-
-  -- A block that begins at local 0 has few locals.
-  pub few_locals : (method : ℕ) → 0 + locals_used policy method < 65536
-  few_locals method =
-      omega (arith, few_before method (clause_at policy method Before) (clause_is policy method Before read), few_after (clause_at policy method After))

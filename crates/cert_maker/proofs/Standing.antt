@@ -48,7 +48,7 @@ use Rattle.cert_maker.proofs.Body.{Body, base, end_is, front, fronts, fronts_are
 use Rattle.cert_maker.proofs.Checks.{Arrives, Blocked, Inside, clauses, note, rules}
 use Rattle.cert_maker.proofs.ClausesAlike.{clause_alike}
 use Rattle.cert_maker.proofs.Covering.{AllMiss, missed}
-use Rattle.cert_maker.proofs.Lists.{slice_there}
+use Rattle.class_weaving.proofs.Lists.{slice_there}
 use Rattle.cert_maker.proofs.Plans.{items_of, note_alone, note_item, part_length, some}
 use Rattle.cert_maker.proofs.Roles.{call_note, count_is}
 use Rattle.cert_maker.proofs.Rules.{caught_all}

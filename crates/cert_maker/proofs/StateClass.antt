@@ -22,7 +22,7 @@ use Rattle.class_weaving.specs.State.{field, fields_from, head, kind_text, value
 use Rattle.class_weaving.proofs.StateFits.{HasNames, names_stand}
 use Rattle.block_logic.specs.Operands.{state_name}
 use Rattle.block_logic.specs.State.{class_fault, field_name, field_type, has_no_more, has_none, is_field_of, is_first, names_first, state_at, state_fault, tells_first, wrong_field}
-use Rattle.cert_maker.proofs.Lists.{get_right}
+use Rattle.class_weaving.proofs.Lists.{get_right}
 use Rattle.cert_maker.proofs.Same.{same_int}
 
 -- ---- names

@@ -35,18 +35,18 @@ use Rattle.class_weaving.specs.Outcome.{at_fronts, own_handler}
 use Rattle.cert_maker.proofs.Aiming.{call_goes}
 use Rattle.cert_maker.proofs.AllRoles.{call_granted, call_row, call_told, granted, returns, throws, throws_on}
 use Rattle.cert_maker.proofs.Body.{Body, base, front, fronts, handlers_are, insn_there, made_long, n, part, plan, ref_there, refs, same_length}
-use Rattle.cert_maker.proofs.Calling as calling
+use Rattle.block_template.proofs.Calling as calling
 use Rattle.cert_maker.proofs.Checks.{Blocked, clauses, note, site}
 use Rattle.cert_maker.proofs.Checks.{rules as rules_of}
 use Rattle.cert_maker.proofs.Covering.{AllMiss, first_missed, missed, own_covers, own_stands}
-use Rattle.cert_maker.proofs.Lists.{slice_there}
-use Rattle.cert_maker.proofs.Parts.{locate}
+use Rattle.class_weaving.proofs.Lists.{slice_there}
+use Rattle.class_weaving.proofs.Parts.{locate}
 use Rattle.cert_maker.proofs.Passing.{alone_passes, first_opens, flows, led, next_passes, other_passes, own_missed, part_count, place_few, place_passes, reached_role, stands}
 use Rattle.cert_maker.proofs.Plans.{block_of, none_there, part_length, site_is, within as calls_within}
 use Rattle.cert_maker.proofs.Rows.{and_false, called}
 use Rattle.cert_maker.proofs.Rules.{fault_at, no_fault, or_last}
 use Rattle.cert_maker.proofs.Standing.{few, IsReady, Passes, Reached, all as items_in, blocked, client_catches, contained_right, item_told, rules_in, told, within}
-use Rattle.cert_maker.proofs.Unwoven.{part_alone}
+use Rattle.class_weaving.proofs.Unwoven.{part_alone}
 
 module _ (b : Body) (frames : List (Option FrameType)) (ready : IsReady b frames) where
   abbrev notes_told : List Note
@@ -284,7 +284,7 @@ module _ (b : Body) (frames : List (Option FrameType)) (ready : IsReady b frames
       let k = blocked b frames ready i callee names has in
       let item = slice_there (items_in b frames ready i callee names has) place (omega (arith, lt, part_length b.policy b.mode (base b) callee has)) in
       elim (calling.each_item b.mode (bools_of b.policy) (base b) (clauses k) place item.0 item.1) [
-        | inl is ↦ call_passes i callee own there names has place item.0 item.1 reached is.1 is.0
+        | inl is ↦ call_passes i callee own there names has place item.0 item.1 reached (ap (λ (x : Item). x.insn) is.1) is.0
         | inr other ↦ other_passes b frames ready i callee own there names has place item.0 item.1 reached other.other
       ]
 

@@ -4,30 +4,19 @@ ghost use Rattle.std.specs.Prelude.{◌≡◌, ◌==◌, find, IfSome, is_some};
 ghost use Rattle.std.specs.Option.{option_copied};
 ghost use Rattle.conspec_automaton.specs.declared.policy.Clause.{Clause as SpecClause};
 ghost use Rattle.conspec_automaton.specs.Sound.{IsPolicy};
-ghost use Rattle.block_logic.specs.Clauses.{clause_at, clause_of, is_of_phase, needs, result_of};
+ghost use Rattle.block_logic.specs.Clauses.{clause_at, clause_of, needs, result_of};
 ghost use Rattle.block_logic.specs.Standing.{asks_kept};
 ghost use Rattle.cert_maker.specs.Noting.{branch_at};
 ghost use Rattle.cert_maker.specs.Small.{IsSmall};
 
+use crate::called::phase_in;
 use cert_format::{Phase8, Site};
 use conspec_automaton::{Branch, Clause, Policy};
-use conspec_tree::Phase;
-
-fn is_of_phase(site: Phase8, phase: Phase) -> bool
-    ensures { result ≡ is_of_phase site phase }
-{
-    match site {
-        Phase8::Before => matches!(phase, Phase::Before),
-        Phase8::After => matches!(phase, Phase::After),
-        Phase8::Exceptional => matches!(phase, Phase::Exceptional),
-    }
-}
 
 fn clause_at(policy: &Policy, method: u32, phase: Phase8) -> Option<&Clause>
     ensures { option_copied result ≡ clause_at policy.now method phase }
 {
-    policy.clauses.as_slice().iter().find(|clause| clause.method == method
-        && is_of_phase(phase, clause.phase))
+    block_template::clause_at(policy, method, phase_in(phase))
 }
 
 /// The branch of this number of the site's clause.

@@ -6,6 +6,7 @@
 mod called;
 mod clauses;
 mod laws;
+mod lists;
 mod locks;
 mod making;
 mod methods;

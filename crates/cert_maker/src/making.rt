@@ -5,7 +5,9 @@ ghost use Rattle.bytecode_model.specs.Typed.{list_at};
 ghost use Rattle.conspec_automaton.specs.Sound.{IsPolicy};
 ghost use Rattle.cert_maker.specs.Noting.{certificate_of, class_notes, notes_of};
 
+use crate::lists::with_room;
 use crate::methods::method_notes;
+use block_template::PolicyItems;
 use bytecode_model::{LinkedClass, Method};
 use cert_format::{Certificate, FrameType, Mode, Note, Typing};
 use conspec_automaton::Policy;
@@ -23,7 +25,8 @@ pub fn make(
     requires policy { IsPolicy policy.now }
     ensures { IfOk result (λ made. made ≡ certificate_of classes.now policy.now mode typing) }
 {
-    let notes = notes_of(alloc, policy, mode, classes, typing.frames.as_slice())?;
+    let items = PolicyItems::new(alloc, policy, mode)?;
+    let notes = notes_of(alloc, &items, classes, typing.frames.as_slice())?;
     Ok(Certificate {
         mode,
         typing,
@@ -33,20 +36,19 @@ pub fn make(
 
 fn notes_of(
     alloc: Global,
-    policy: &Policy,
-    mode: Mode,
+    items: &PolicyItems,
     classes: &[LinkedClass],
     frames: &[List<List<Option<FrameType>>>],
 ) -> Result<List<List<List<Note>>>, NoMemory>
-    requires policy { IsPolicy policy.now }
-    ensures { IfOk result (λ notes. notes ≡ notes_of policy.now mode classes.now frames.now) }
+    requires policy { IsPolicy items.now.policy }
+    ensures { IfOk result (λ notes. notes ≡ notes_of items.now.policy items.now.mode classes.now frames.now) }
 {
-    let mut notes = List::new(alloc);
+    let mut notes = with_room(alloc, classes.len().saturating_add(1))?;
     let mut classes = classes;
     let mut frames = frames;
     while let [class, later @ ..] = classes {
         let methods = class.methods.as_slice();
-        notes.push(class_notes(alloc, policy, mode, methods, first_of(frames))?)?;
+        notes.push(class_notes(alloc, items, methods, first_of(frames))?)?;
         classes = later;
         frames = behind_first(frames);
     }
@@ -57,20 +59,19 @@ fn notes_of(
 /// The notes of the methods with code.
 fn class_notes(
     alloc: Global,
-    policy: &Policy,
-    mode: Mode,
+    items: &PolicyItems,
     methods: &[Method],
     frames: &[List<Option<FrameType>>],
 ) -> Result<List<List<Note>>, NoMemory>
-    requires policy { IsPolicy policy.now }
-    ensures { IfOk result (λ notes. notes ≡ class_notes policy.now mode methods.now frames.now) }
+    requires policy { IsPolicy items.now.policy }
+    ensures { IfOk result (λ notes. notes ≡ class_notes items.now.policy items.now.mode methods.now frames.now) }
 {
-    let mut notes = List::new(alloc);
+    let mut notes = with_room(alloc, frames.len())?;
     let mut methods = methods;
     let mut frames = frames;
     while let [method, later @ ..] = methods {
         if !method.insns.is_empty() {
-            notes.push(method_notes(alloc, policy, mode, method, first_of(frames))?)?;
+            notes.push(method_notes(alloc, items, method, first_of(frames))?)?;
             frames = behind_first(frames);
         }
         methods = later;

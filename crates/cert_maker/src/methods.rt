@@ -4,42 +4,35 @@ ghost use Rattle.std.specs.Prelude.{◌≡◌, ◌++◌, ◌∷◌, [], drop, If
 ghost use Rattle.bytecode_model.specs.declared.program.Target.TheVariants as target;
 ghost use Rattle.cert_format.specs.declared.note.Note.TheVariants.{Free};
 ghost use Rattle.conspec_automaton.specs.Sound.{IsPolicy};
+ghost use Rattle.block_template.specs.Blocks.{bools_of, clauses_of, items};
 ghost use Rattle.block_template.specs.declared.item.Item.{Item as SpecItem};
 ghost use Rattle.cert_maker.specs.Noting.{block_notes, if_framed, method_notes, note_of, part_notes, parts_notes, where_framed};
 
 use crate::called::Called;
+use crate::lists::with_room;
 use crate::notes::note_of;
-use block_template::{Item, Role, items};
+use block_template::{Item, PolicyItems, Role};
 use bytecode_model::{Method, Target};
-use cert_format::{FrameType, Mode, Note};
-use conspec_automaton::{Policy, has_clauses};
+use cert_format::{FrameType, Note};
+use conspec_automaton::Policy;
 use mon_base::{List, NoMemory};
 use std::alloc::Global;
 
 /// The notes of the instructions that a method is woven to, by their frames.
 pub fn method_notes(
     alloc: Global,
-    policy: &Policy,
-    mode: Mode,
+    items: &PolicyItems,
     method: &Method,
     frames: &[Option<FrameType>],
 ) -> Result<List<Note>, NoMemory>
-    requires policy { IsPolicy policy.now }
-    ensures { IfOk result (λ notes. notes ≡ method_notes policy.now mode method.now frames.now) }
+    requires policy { IsPolicy items.now.policy }
+    ensures { IfOk result (λ notes. notes ≡ method_notes items.now.policy items.now.mode method.now frames.now) }
 {
-    let mut notes = List::new(alloc);
+    let mut notes = with_room(alloc, frames.len())?;
     let mut refs = method.refs.as_slice();
     let mut left = frames;
     while let [target, others @ ..] = refs {
-        let count = put_part(
-            alloc,
-            &mut notes,
-            policy,
-            mode,
-            method.max_locals,
-            target,
-            left,
-        )?;
+        let count = put_part(alloc, &mut notes, items, method.max_locals, target, left)?;
         left = behind(left, count);
         refs = others;
     }
@@ -50,18 +43,24 @@ pub fn method_notes(
 fn put_part(
     alloc: Global,
     notes: &mut List<Note>,
-    policy: &Policy,
-    mode: Mode,
+    items: &PolicyItems,
     base: u16,
     target: &Target,
     frames: &[Option<FrameType>],
 ) -> Result<usize, NoMemory>
-    requires policy { IsPolicy policy.now }
-    ensures notes { OnOk result (notes.new ≡ notes.old ++ where_framed (part_notes policy.now mode base target.now) frames.now) }
-    ensures count { IfOk result (λ count. count ≡ length (part_notes policy.now mode base target.now)) }
+    requires policy { IsPolicy items.now.policy }
+    ensures notes { OnOk result (notes.new
+        ≡ notes.old ++ where_framed (part_notes items.now.policy items.now.mode base target.now) frames.now) }
+    ensures count { IfOk result (λ count. count ≡ length (part_notes items.now.policy items.now.mode base target.now)) }
 {
     match target {
-        Target::ApiMethod(callee) => put_call(alloc, notes, policy, mode, base, *callee, frames),
+        Target::ApiMethod(callee) => {
+            let call = Called {
+                callee: *callee,
+                base,
+            };
+            put_call(alloc, notes, items, call, frames)
+        }
         _ => put_alone(notes, frames),
     }
 }
@@ -69,47 +68,23 @@ fn put_part(
 fn put_call(
     alloc: Global,
     notes: &mut List<Note>,
-    policy: &Policy,
-    mode: Mode,
-    base: u16,
-    callee: u32,
+    items: &PolicyItems,
+    call: Called,
     frames: &[Option<FrameType>],
 ) -> Result<usize, NoMemory>
-    requires policy { IsPolicy policy.now }
+    requires policy { IsPolicy items.now.policy }
     ensures notes { OnOk result (notes.new ≡ notes.old
-        ++ where_framed (part_notes policy.now mode base (target.ApiMethod callee)) frames.now) }
-    ensures count { IfOk result (λ count. count ≡ length (part_notes policy.now mode base (target.ApiMethod callee))) }
+        ++ where_framed (part_notes items.now.policy items.now.mode call.base (target.ApiMethod call.callee)) frames.now) }
+    ensures count { IfOk result (λ count. count
+        ≡ length (part_notes items.now.policy items.now.mode call.base (target.ApiMethod call.callee))) }
 {
-    if !has_clauses(policy, callee) {
-        return put_alone(notes, frames);
+    match items.of(call.callee) {
+        Some(block) => {
+            put_items(alloc, notes, items.policy(), call, block, frames)?;
+            Ok(block.len())
+        }
+        None => put_alone(notes, frames),
     }
-    put_block(alloc, notes, policy, mode, base, callee, frames)
-}
-
-/// Appends the notes of a block. Its roles do not depend on where its locals begin.
-fn put_block(
-    alloc: Global,
-    notes: &mut List<Note>,
-    policy: &Policy,
-    mode: Mode,
-    base: u16,
-    callee: u32,
-    frames: &[Option<FrameType>],
-) -> Result<usize, NoMemory>
-    requires policy { IsPolicy policy.now }
-    ensures notes { OnOk result (notes.new ≡ notes.old ++ where_framed (block_notes policy.now mode base callee) frames.now) }
-    ensures count { IfOk result (λ count. count ≡ length (block_notes policy.now mode base callee)) }
-{
-    let block = items(alloc, policy, mode, callee, 0)?;
-    put_items(
-        alloc,
-        notes,
-        policy,
-        Called { callee, base },
-        block.as_slice(),
-        frames,
-    )?;
-    Ok(block.len())
 }
 
 /// Appends the note of an instruction without a block.

@@ -4,3 +4,6 @@ pub mod StateFits
 pub mod Spells
 pub mod Sizing
 pub mod Wanted
+pub mod Lists
+pub mod Parts
+pub mod Unwoven

@@ -1,3 +1,4 @@
+pub mod InPlace
 pub mod Trimming
 pub mod Rows
 pub mod Passing

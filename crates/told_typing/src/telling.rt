@@ -63,27 +63,34 @@ fn methods_told(
                 Some(first) => first,
                 None => List::new(alloc),
             };
-            made.push(method_told(alloc, method, first)?)?;
+            made.push(method_told(method, first))?;
         }
         left = later;
     }
     Ok(made)
 }
 
-/// The frames of a method.
-fn method_told(
-    alloc: Global,
-    method: &Method,
-    frames: List<Option<FrameType>>,
-) -> Result<List<Option<FrameType>>, NoMemory>
-    ensures is { IfOk result (λ made. made ≡ map (frame_told method.now) frames) }
-    ensures fits { IfOk result (AllByRecursion FitsTold) }
+/// The frames of a method, each told in its place.
+fn method_told(method: &Method, frames: List<Option<FrameType>>) -> List<Option<FrameType>>
+    ensures is { result ≡ map (frame_told method.now) frames }
+    ensures fits { AllByRecursion FitsTold result }
 {
-    let mut made = List::new(alloc);
-    for frame in frames.into_vec() {
-        made.push(frame_told(method, frame))?;
+    let mut frames = frames;
+    let mut at = 0;
+    while at < frames.len() {
+        tell(method, frames.item_mut(at));
+        at += 1;
     }
-    Ok(made)
+    frames
+}
+
+/// The frame becomes what is told of it.
+fn tell(method: &Method, frame: &mut Option<FrameType>)
+    ensures is { frame.new ≡ frame_told method.now frame.old }
+    ensures fits { FitsTold frame.new }
+{
+    let whole = frame.take();
+    *frame = frame_told(method, whole);
 }
 
 /// A frame as it is told, if it is.

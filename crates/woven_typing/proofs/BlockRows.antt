@@ -37,12 +37,12 @@ use Rattle.woven_typing.proofs.Aiming.{opcode_stays}
 use Rattle.woven_typing.proofs.Blocks.{arrives, bools, client_caught, frame_role, frame_there, goes_from, is_insn, items, mode, near, part_long, phases, reached_to, start, thrown_not, told}
 use Rattle.woven_typing.proofs.Body as of
 use Rattle.woven_typing.proofs.Called.{CallAt, calls, fits, is_call as called_there, kept, listed, p, q, ref, room, shape_there}
-use Rattle.woven_typing.proofs.Calling.{call_item, call_there, each_item, index}
+use Rattle.block_template.proofs.Calling.{call_item, call_there, each_item, index}
 use Rattle.woven_typing.proofs.Client.{Typed, again, aim, b, entry_there, moved, row_here, woven}
 use Rattle.woven_typing.proofs.Fronts.{IsFrontOf, entered_is}
 use Rattle.woven_typing.proofs.Handlers.{Throws, all_caught}
 use Rattle.woven_typing.proofs.Leaving.{goes_next}
-use Rattle.woven_typing.proofs.Lists.{slice_there}
+use Rattle.class_weaving.proofs.Lists.{slice_there}
 use Rattle.woven_typing.proofs.Passing.{Passes, row_met}
 use Rattle.woven_typing.proofs.Plans.{part_item}
 use Rattle.woven_typing.proofs.Rows.{depth_kept, made_kept, operand_kept}

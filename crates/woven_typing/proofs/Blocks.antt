@@ -52,7 +52,7 @@ use Rattle.woven_typing.proofs.Client.{Typed, again, b, frame_front, front_moved
 use Rattle.woven_typing.proofs.Frames as frames
 use Rattle.woven_typing.proofs.Fronts.{goes_front}
 use Rattle.woven_typing.proofs.Leaving.{goes_next, goes_out, locals_through}
-use Rattle.woven_typing.proofs.Lists.{slice_there}
+use Rattle.class_weaving.proofs.Lists.{slice_there}
 use Rattle.woven_typing.proofs.Plans.{part_length}
 use Rattle.woven_typing.proofs.Rows.{goes_kept}
 

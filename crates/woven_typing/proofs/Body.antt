@@ -34,9 +34,9 @@ use Rattle.class_weaving.specs.Woven.{is_woven, locals_of, sites_of}
 use Rattle.woven_typing.specs.Framing.{Client, client_of, moved_in}
 use Rattle.woven_typing.specs.Telling.{KnowsThrowable, TellsKinds}
 use Rattle.woven_typing.proofs.Larger.{IsLarger}
-use Rattle.woven_typing.proofs.Parts as parts
+use Rattle.class_weaving.proofs.Parts as parts
 use Rattle.woven_typing.proofs.Plans as plans
-use Rattle.woven_typing.proofs.Unwoven.{AreAlone, all_alone, front_alone, handlers_same, insns_alone, named_alone, own_alone}
+use Rattle.class_weaving.proofs.Unwoven.{AreAlone, all_alone, front_alone, handlers_same, insns_alone, named_alone, own_alone}
 
 -- A method of a linked program, and what it is in the woven one.
 pub record Body : Type 0 where

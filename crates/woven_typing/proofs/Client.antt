@@ -1,5 +1,5 @@
 -- The places of a woven method, the frames at their fronts, and the rows of the client's instructions without a block.
-use Rattle.std.proofs.Common.{◌≡◌, ℕ, suc, ◌+◌, ◌<◌, ◌≤◌, Bool, true, false, cond, List, [], ◌∷◌, length, map, Option, Some, None, refl, sym, ap, ◌∙◌, inl, inr, arith}
+use Rattle.std.proofs.Common.{◌≡◌, ℕ, zero, suc, ◌+◌, ◌<◌, ◌≤◌, Bool, true, false, cond, List, [], ◌∷◌, length, map, Option, Some, None, refl, sym, ap, ◌∙◌, inl, inr, arith}
 use Rattle.std.specs.Prelude.{◌==◌, nat_le, slice_get, option_map, option_and_then}
 use Rattle.std.specs.List.{list_all}
 use Rattle.std.specs.Option.{option_map_or}
@@ -37,12 +37,12 @@ use Rattle.woven_typing.specs.Renaming.{frame_renamed}
 use Rattle.woven_typing.proofs.Aiming.{has_shape, opcode_stays, index_stays, successors_moved}
 use Rattle.woven_typing.proofs.Body as of
 use Rattle.woven_typing.proofs.Body.{Body}
-use Rattle.woven_typing.proofs.Calling.{count_is}
+use Rattle.block_template.proofs.Calling.{count_is}
 use Rattle.woven_typing.proofs.Frames as frames
 use Rattle.woven_typing.proofs.Fronts.{IsFrontOf, entered_is, entry_front, front_itself, goes_front}
 use Rattle.woven_typing.proofs.Kept.{IsKept, and_kept}
 use Rattle.woven_typing.proofs.Larger.{assigns_kept}
-use Rattle.woven_typing.proofs.Lists.{slice_there, frame_is}
+use Rattle.class_weaving.proofs.Lists.{slice_there}
 use Rattle.woven_typing.proofs.News.{news}
 use Rattle.woven_typing.proofs.Passing.{Passes, passes}
 use Rattle.woven_typing.proofs.Rows.{entry_kept, goes_kept}
@@ -71,6 +71,11 @@ pub record Typed : Type 0 where
   pub frames : Frames
   pub told : length frames ≡ length body.method.insns
   pub met : (at : ℕ) → at < length body.method.insns → row_in body.old body.own body.class body.method frames at ≡ None
+
+frame_is : (frames : Frames) (i : ℕ) (f : FrameType) → frame_of frames i ≡ Some f → slice_get frames i ≡ Some (Some f)
+frame_is [] i f e = absurd cc
+frame_is (x ∷ frames) zero f e = ap Some e
+frame_is (x ∷ frames) (suc i) f e = frame_is frames i f e
 
 module _ (t : Typed) where
   abbrev pub b : Body

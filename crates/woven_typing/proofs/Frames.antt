@@ -16,8 +16,8 @@ use Rattle.block_template.specs.Blocks.{block_with, bools_of, clauses_of, has_bl
 use Rattle.woven_typing.specs.Framing.{alone_framed, block_framed, front_in, frames_woven, insn_framed, item_framed, items_of, low, parts_framed, insn_place}
 use Rattle.woven_typing.specs.Renaming.{frame_renamed}
 use Rattle.woven_typing.proofs.Body.{Body, base, client, front, moved, part, plan, refs, same_length}
-use Rattle.woven_typing.proofs.Lists.{get_left, get_right}
-use Rattle.woven_typing.proofs.Parts as parts
+use Rattle.class_weaving.proofs.Lists.{get_left, get_right}
+use Rattle.class_weaving.proofs.Parts as parts
 use Rattle.woven_typing.proofs.Plans.{part_length}
 
 abbrev pub frame_or_none : Option (Option FrameType) → Option FrameType

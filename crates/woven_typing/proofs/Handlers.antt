@@ -28,11 +28,11 @@ use Rattle.class_weaving.specs.Outcome.{at_fronts, handlers_by, own_handler, own
 use Rattle.woven_typing.specs.Framing.{items_of}
 use Rattle.woven_typing.proofs.Body as of
 use Rattle.woven_typing.proofs.Body.{Body}
-use Rattle.woven_typing.proofs.Calling.{count_is, index, place_is}
+use Rattle.block_template.proofs.Calling.{count_is, index, place_is}
 use Rattle.woven_typing.proofs.Client.{Typed, again, aim, alone_height, b, frame_front, front_moved, here, kept_at, moved, old, woven}
 use Rattle.woven_typing.proofs.Fronts.{catches_front}
 use Rattle.woven_typing.proofs.Larger.{below_kept}
-use Rattle.woven_typing.proofs.Parts as parts
+use Rattle.class_weaving.proofs.Parts as parts
 use Rattle.woven_typing.proofs.Passing.{Passes, all_also}
 use Rattle.woven_typing.proofs.Plans as plans
 use Rattle.woven_typing.proofs.Rows.{catches_kept, le_more}

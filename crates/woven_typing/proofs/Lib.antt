@@ -1,4 +1,4 @@
-pub mod Lists
+pub mod Caught
 pub mod Kept
 pub mod Taking
 pub mod Yielding
@@ -7,10 +7,7 @@ pub mod Passing
 pub mod Larger
 pub mod Longer
 pub mod Aiming
-pub mod Parts
-pub mod Unwoven
 pub mod Making
-pub mod Calling
 pub mod Plans
 pub mod Body
 pub mod News

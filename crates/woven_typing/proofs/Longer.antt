@@ -8,7 +8,7 @@ use Rattle.class_codec.specs.declared.tree.Const.{Const}
 use Rattle.class_codec.specs.declared.tree.Const.TheVariants as constants
 use Rattle.class_codec.specs.Fits.{IsNamed, FitsPool}
 use Rattle.class_codec.specs.Pool.{is_of, is_one_of, names, text_of, utf8_at, class_name_of, class_name_at, name_and_type_of, name_and_type_at, reference_of, reference_at}
-use Rattle.woven_typing.proofs.Lists.{get_left, slice_there}
+use Rattle.class_weaving.proofs.Lists.{get_left, slice_there}
 use Rattle.bytecode_model.proofs.Lists.{all_get}
 
 module _ (pool more : List Const) (fits : FitsPool pool) where

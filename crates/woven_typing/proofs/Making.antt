@@ -1,11 +1,18 @@
 -- Objects that are made: by a `new`, wherever it stands.
-use Rattle.std.proofs.Common.{◌≡◌, ℕ, [], refl}
+use Rattle.std.proofs.Common.{◌≡◌, ℕ, List, [], refl}
+use Rattle.class_codec.specs.declared.tree.Const.{Const}
+use Rattle.insn_codec.specs.declared.insn.Insn.{Insn}
 use Rattle.insn_codec.specs.declared.shape.Heap.TheVariants as heap
 use Rattle.insn_codec.specs.declared.shape.Shape.{Shape}
 use Rattle.insn_codec.specs.declared.shape.Shape.TheVariants as shapes
 use Rattle.bytecode_model.specs.declared.program.Target.{Target}
 use Rattle.bytecode_model.specs.Makes.{made_by}
 use Rattle.bytecode_model.specs.Place.{class_of}
+use Rattle.insn_codec.specs.Shapes.{shape_of}
+use Rattle.offset_patch.specs.declared.block.BlockInsn.{BlockInsn}
+use Rattle.offset_patch.specs.Splicing.{put}
+use Rattle.class_weaving.specs.Outcome.{part_named}
+use Rattle.block_template.proofs.Calling.{HoldsOfAll}
 use Rattle.woven_typing.proofs.Kept.{retargeted}
 
 pub made_nothing : (s : Shape) (ref : Target) → class_of ref ≡ [] → made_by s ref ≡ []
@@ -61,3 +68,30 @@ made_elsewhere to (shapes.CompareReferences same from) ref = refl
 made_elsewhere to (shapes.TestNull null from) ref = refl
 made_elsewhere to (shapes.Goto from) ref = refl
 made_elsewhere to shapes.Switch ref = refl
+
+-- ---- blocks
+
+-- It makes no object, wherever it stands.
+pub record MakesNothing (insn : BlockInsn) : Type 0 where
+  pub is : (pool : List Const) (fronts : List ℕ) (begin : ℕ) (own : Insn) (state : ℕ) (ref : Target)
+      → made_by (shape_of (put pool fronts begin own insn)) (part_named state ref insn) ≡ []
+
+-- what names no class
+nameless : (insn : BlockInsn) → ((state : ℕ) (ref : Target) → class_of (part_named state ref insn) ≡ []) → MakesNothing insn
+nameless insn none = record {
+  is = λ pool fronts begin own state ref.
+      made_nothing (shape_of (put pool fronts begin own insn)) (part_named state ref insn) (none state ref);
+}
+
+pub blocks_make : (count : ℕ) → HoldsOfAll MakesNothing count
+blocks_make count = record {
+  plain = λ op. nameless _ (λ state ref. refl);
+  in_local = λ op slot wide. nameless _ (λ state ref. refl);
+  byte = λ n. nameless _ (λ state ref. refl);
+  short = λ n. nameless _ (λ state ref. refl);
+  number = λ n. nameless _ (λ state ref. refl);
+  variable = λ bools op var. nameless _ (λ state ref. refl);
+  class = record { is = λ pool fronts begin own state ref. refl };
+  way_out = nameless _ (λ state ref. refl);
+  jump = λ op place within. nameless _ (λ state ref. refl);
+}

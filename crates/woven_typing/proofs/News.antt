@@ -18,11 +18,11 @@ use Rattle.block_template.specs.Blocks.{bools_of, clauses_of, has_block}
 use Rattle.woven_typing.specs.Framing.{items_of}
 use Rattle.woven_typing.proofs.Aiming.{has_shape}
 use Rattle.woven_typing.proofs.Body.{Body, base, fronts, front, insn_there, moved, moved_is, moved_past, part, plan, pool, ref_there, same_length, state, there}
-use Rattle.woven_typing.proofs.Calling.{count_is, each_item}
-use Rattle.woven_typing.proofs.Lists.{slice_there}
-use Rattle.woven_typing.proofs.Making.{made_elsewhere, made_nothing}
+use Rattle.block_template.proofs.Calling.{count_is, each_holds}
+use Rattle.class_weaving.proofs.Lists.{slice_there}
+use Rattle.woven_typing.proofs.Making.{MakesNothing, blocks_make, made_elsewhere, made_nothing}
 use Rattle.woven_typing.proofs.Plans.{part_item}
-use Rattle.woven_typing.proofs.Unwoven.{no_block, part_alone}
+use Rattle.class_weaving.proofs.Unwoven.{no_block, part_alone}
 
 module _ (b : Body) where
   -- what the client's instruction makes, at its front
@@ -44,13 +44,13 @@ module _ (b : Body) where
       omega (arith, count_is b.mode (bools_of b.policy) (base b) (clauses_of b.policy callee)) in
       let first = slice_there (items_of b.policy b.mode (base b) callee) 0 some in
       let there : slice_get (part b ref) 0 ≡ Some first.0.insn = part_item b.policy b.mode (base b) callee has 0 first.0 first.1 in
-      elim (each_item b.mode (bools_of b.policy) (base b) (clauses_of b.policy callee) 0 first.0 first.1) [
+      elim (each_holds b.mode (bools_of b.policy) (base b) (clauses_of b.policy callee) MakesNothing (blocks_make _) 0 first.0 first.1) [
         | inl call ↦ client_makes i insn ref e f (there ∙ ap (λ (x : Item). Some x.insn) call.1)
         | inr other ↦
             ap (λ (o : Option Insn). new_in o (slice_get b.made.refs (front b i + 0))) (insn_there b i 0 insn ref first.0.insn e f there)
             ∙ ap (λ (o : Option Target). new_in (Some (put (pool b) (fronts b) (front b i) insn first.0.insn)) o)
             (ref_there b i 0 ref first.0.insn f there)
-            ∙ other.makes (pool b) (fronts b) (front b i) insn (state b) ref
+            ∙ other.is (pool b) (fronts b) (front b i) insn (state b) ref
             ∙ sym (made_nothing (shape_of insn) ref refl)
       ]
 

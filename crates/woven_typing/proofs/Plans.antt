@@ -19,8 +19,8 @@ use Rattle.block_template.specs.declared.item.Item.{Item}
 use Rattle.block_template.specs.Blocks.{block_with, bools_of, clauses_of, has_block, plan_of, site, site_locals}
 use Rattle.class_weaving.specs.Woven.{most_locals}
 use Rattle.woven_typing.specs.Framing.{items_of}
-use Rattle.woven_typing.proofs.Calling.{count_is}
-use Rattle.woven_typing.proofs.Parts.{part}
+use Rattle.block_template.proofs.Calling.{count_is}
+use Rattle.class_weaving.proofs.Parts.{part}
 
 module _ (policy : Policy) (mode : Mode) where
   abbrev plan : Plan

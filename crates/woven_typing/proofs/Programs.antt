@@ -34,7 +34,7 @@ use Rattle.woven_typing.proofs.Body as of
 use Rattle.woven_typing.proofs.Body.{Body}
 use Rattle.woven_typing.proofs.Frames.{long}
 use Rattle.woven_typing.proofs.Larger.{woven_larger}
-use Rattle.woven_typing.proofs.Lists.{slice_there}
+use Rattle.class_weaving.proofs.Lists.{slice_there}
 use Rattle.woven_typing.proofs.Longer.{reference_longer}
 
 -- ---- what the blocks of a class name

@@ -26,12 +26,12 @@ use Rattle.woven_typing.proofs.Client.{Typed, again, aim, b, entry_there, goes_t
 use Rattle.woven_typing.proofs.Frames as frames
 use Rattle.woven_typing.proofs.Fronts.{front_itself}
 use Rattle.woven_typing.proofs.Handlers.{all_caught}
-use Rattle.woven_typing.proofs.Lists.{slice_there}
-use Rattle.woven_typing.proofs.Parts as parts
+use Rattle.class_weaving.proofs.Lists.{slice_there}
+use Rattle.class_weaving.proofs.Parts as parts
 use Rattle.woven_typing.proofs.Passing.{row_met}
 use Rattle.woven_typing.proofs.Plans.{part_length}
 use Rattle.woven_typing.proofs.Rows.{depth_kept, local_kept, made_kept, operand_kept}
-use Rattle.woven_typing.proofs.Unwoven.{no_block, part_alone}
+use Rattle.class_weaving.proofs.Unwoven.{no_block, part_alone}
 
 module _ (t : Typed) where
   abbrev Met : ℕ → Type 0

@@ -32,7 +32,7 @@ use Rattle.woven_typing.proofs.Body as of
 use Rattle.woven_typing.proofs.Body.{Body}
 use Rattle.woven_typing.proofs.Client.{Typed}
 use Rattle.woven_typing.proofs.Frames as frames
-use Rattle.woven_typing.proofs.Lists.{each_back, each_on, get_left, get_right, slice_there}
+use Rattle.class_weaving.proofs.Lists.{each_back, each_on, get_left, get_right, slice_there}
 use Rattle.woven_typing.proofs.Programs.{body_of, code_same, frames_are, shaped}
 use Rattle.woven_typing.proofs.Whole.{all_met}
 

@@ -14,6 +14,7 @@ ghost use Rattle.woven_typing.specs.Behind.{
   types_behind,
 };
 
+use crate::lists::with_room;
 use bytecode_model::{LinkedClass, Method, Program, Target, TypeRef, index_of, lend, own};
 use cert_format::{FrameType, VType};
 use class_codec::reference_at;
@@ -193,7 +194,7 @@ fn stack_behind(alloc: Global, place: &CallPlace, stack: &[VType]) -> Result<Lis
     ensures { IfOk result (λ made. made ≡ stack_behind place.now stack.now) }
 {
     let (below, taken) = split_top(stack, count_taken(place));
-    let mut made = List::new(alloc);
+    let mut made = with_room(alloc, below.len().saturating_add(1))?;
     put_behind(alloc, &mut made, place, taken, below)?;
     put_given(alloc, &mut made, place)?;
     Ok(made)
@@ -207,7 +208,7 @@ fn locals_behind(
     ensures { IfOk result (λ made. made ≡ (frame_behind place.now frame.now).locals) }
 {
     let (_, taken) = split_top(frame.stack.as_slice(), count_taken(place));
-    let mut made = List::new(alloc);
+    let mut made = with_room(alloc, frame.locals.len())?;
     put_behind(alloc, &mut made, place, taken, frame.locals.as_slice())?;
     Ok(made)
 }

@@ -1,10 +1,9 @@
 //! The frames of a method with its blocks.
 
-ghost use Rattle.std.specs.Prelude.{◌≡◌, ◌++◌, ◌<◌, ◌+◌, ◌^◌, IfOk, None, OnOk, length, map, true};
+ghost use Rattle.std.specs.Prelude.{◌≡◌, ◌+◌, ◌++◌, IfOk, None, OnOk, length, map};
 ghost use Rattle.std.specs.Option.{option_copied};
-ghost use Rattle.conspec_automaton.specs.Sound.{IsPolicy};
 ghost use Rattle.offset_patch.specs.Splicing.{fronts_from, fronts_of, part_of};
-ghost use Rattle.block_template.specs.Blocks.{block, clauses_of, locals_used, plan_of};
+ghost use Rattle.block_template.specs.Blocks.{block, clauses_of, plan_of};
 ghost use Rattle.block_template.specs.declared.item.Item.{Item as SpecItem};
 ghost use Rattle.block_template.specs.Frames.{frame_at};
 ghost use Rattle.woven_typing.specs.Renaming.{frame_renamed};
@@ -23,12 +22,12 @@ ghost use Rattle.woven_typing.specs.Framing.{
 };
 
 use crate::behind::{CallPlace, frame_behind};
+use crate::lists::with_room;
 use crate::renaming::{Fronts, frame_renamed};
-use crate::roles::{Around, Keeps, frame_at};
-use block_template::{Item, block, items, locals_used};
+use crate::roles::{CallTypes, Names};
+use block_template::{Item, PolicyItems, clauses_of};
 use bytecode_model::{LinkedClass, Method, Program, Target};
-use cert_format::{FrameType, Mode};
-use conspec_automaton::{Policy, has_clauses};
+use cert_format::FrameType;
 use insn_codec::Insn;
 use mon_base::{List, NoMemory};
 use std::alloc::Global;
@@ -37,32 +36,33 @@ use std::marker::Model;
 /// The frame of each instruction of a method, or nothing where it is not reached.
 pub type Frames = List<Option<FrameType>>;
 
-// ---- where instructions stand
-
-/// A block needs this many locals at most. (A method without room for them is not woven.)
-fn has_room(policy: &Policy, base: u16, callee: u32) -> bool
-    ensures { result ≡ true → base + locals_used policy.now callee < 2 ^ 16 }
-{
-    locals_used(policy, callee) < 65_536 - usize::from(base)
+/// A program, the blocks of its policy, and the names that all frames share.
+#[derive(Drop)]
+pub struct Weaving<'a> {
+    pub program: &'a Program,
+    pub items: &'a PolicyItems<'a>,
+    pub names: &'a Names,
 }
 
-fn block_size(
-    alloc: Global,
-    policy: &Policy,
-    mode: Mode,
-    base: u16,
-    callee: u32,
-) -> Result<u32, NoMemory>
-    requires { IsPolicy policy.now }
-    ensures { IfOk result (λ n. n ≡ length (part_of (block policy.now mode callee base))) }
+// ---- where instructions stand
+
+/// How many instructions stand for one whose operand names this. A block has as many wherever its locals begin.
+fn part_size(items: &PolicyItems, target: &Target) -> Result<u32, NoMemory>
+    ensures { IfOk result (λ n. n ≡ length (part_of ((plan_of items.now.policy items.now.mode).block 0 target.now))) }
 {
-    if !has_room(policy, base, callee) {
-        return Err(NoMemory);
+    match target {
+        Target::ApiMethod(callee) => block_size(items, *callee),
+        _ => Ok(1),
     }
-    match block(alloc, policy, mode, callee, base)? {
+}
+
+fn block_size(items: &PolicyItems, callee: u32) -> Result<u32, NoMemory>
+    ensures { IfOk result (λ n. n ≡ length (part_of (block items.now.policy items.now.mode callee 0))) }
+{
+    match items.of(callee) {
         None => Ok(1),
         Some(block) => {
-            match u32::try_from(block.insns.len()) {
+            match u32::try_from(block.len()) {
                 Ok(n) => Ok(n),
                 Err(_) => Err(NoMemory),
             }
@@ -70,40 +70,16 @@ fn block_size(
     }
 }
 
-/// How many instructions stand for one whose operand names this.
-fn part_size(
-    alloc: Global,
-    policy: &Policy,
-    mode: Mode,
-    base: u16,
-    target: &Target,
-) -> Result<u32, NoMemory>
-    requires { IsPolicy policy.now }
-    ensures { IfOk result (λ n. n ≡ length (part_of ((plan_of policy.now mode).block base target.now))) }
-{
-    match target {
-        Target::ApiMethod(callee) => block_size(alloc, policy, mode, base, *callee),
-        _ => Ok(1),
-    }
-}
-
 /// The fronts of the parts, and where the last one ends.
-fn fronts_of(
-    alloc: Global,
-    policy: &Policy,
-    mode: Mode,
-    base: u16,
-    refs: &[Target],
-) -> Result<List<u32>, NoMemory>
-    requires { IsPolicy policy.now }
-    ensures { IfOk result (λ made. made ≡ fronts_of (map ((plan_of policy.now mode).block base) refs.now)) }
+fn fronts_of(alloc: Global, items: &PolicyItems, refs: &[Target]) -> Result<List<u32>, NoMemory>
+    ensures { IfOk result (λ made. made ≡ fronts_of (map ((plan_of items.now.policy items.now.mode).block 0) refs.now)) }
 {
-    let mut fronts = List::new(alloc);
+    let mut fronts = with_room(alloc, refs.len().saturating_add(1))?;
     let mut at: u32 = 0;
     let mut left = refs;
     while let [target, rest @ ..] = left {
         fronts.push(at)?;
-        at = sum(at, part_size(alloc, policy, mode, base, target)?)?;
+        at = sum(at, part_size(items, target)?)?;
         left = rest;
     }
     fronts.push(at)?;
@@ -122,12 +98,10 @@ fn sum(a: u32, b: u32) -> Result<u32, NoMemory>
 
 // ---- a method
 
-/// A method of a class of the program, its policy, and where its instructions stand with their blocks.
+/// A method of a class of the program, and where its instructions stand with their blocks.
 #[derive(Drop)]
 pub struct Client<'a> {
-    program: &'a Program,
-    policy: &'a Policy,
-    mode: Mode,
+    weaving: &'a Weaving<'a>,
     own: u32,
     class: &'a LinkedClass,
     method: &'a Method,
@@ -136,57 +110,47 @@ pub struct Client<'a> {
 
 impl<'a> Model for Client<'a> {
     ghost use Rattle.std.specs.Prelude.{◌≡◌, length};
-    ghost use Rattle.conspec_automaton.specs.Sound.{IsPolicy};
     ghost use Rattle.offset_patch.specs.Splicing.{fronts_of};
     ghost use Rattle.block_template.specs.Blocks.{plan_of};
     ghost use Rattle.class_weaving.specs.Woven.{sites_of};
-    ghost use Rattle.block_template.specs.declared.item.Item.{Item as SpecItem};
-    ghost use Rattle.block_template.specs.Frames.{frame_at};
-    ghost use Rattle.woven_typing.specs.Renaming.{frame_renamed};
     ghost use Rattle.woven_typing.specs.Framing.{Client as Told};
 
     ghost Value = { Told };
 
     ghost view = { λ c. record {
-      program = c.program.now;
-      policy = c.policy.now;
-      mode = c.mode;
+      program = c.weaving.now.program.now;
+      policy = c.weaving.now.items.now.policy;
+      mode = c.weaving.now.items.now.mode;
       own = c.own;
       class = c.class.now;
       method = c.method.now;
     } };
 
-    ghost invariant = { λ c. IsPolicy c.policy.now
-        × (c.fronts.list ≡ fronts_of (sites_of (plan_of c.policy.now c.mode) c.method.now.max_locals c.method.now))
-        × (c.fronts.count ≡ length c.method.now.insns) };
+    ghost invariant = { λ c.
+        (c.fronts.list ≡ fronts_of (sites_of (plan_of c.weaving.now.items.now.policy c.weaving.now.items.now.mode)
+        c.method.now.max_locals c.method.now)) × (c.fronts.count ≡ length c.method.now.insns) };
 }
 
 impl<'a> Client<'a> {
     /// The method, with where its instructions stand.
     pub fn new(
         alloc: Global,
-        program: &'a Program,
-        policy: &'a Policy,
-        mode: Mode,
+        weaving: &'a Weaving<'a>,
         own: u32,
         class: &'a LinkedClass,
         method: &'a Method,
     ) -> Result<Client<'a>, NoMemory>
-        requires { IsPolicy policy.now }
-        ensures { IfOk result (λ made. made ≡ client_of program.now policy.now mode own class.now method.now) }
+        ensures { IfOk result (λ made. made ≡ client_of weaving.now.program.now
+            weaving.now.items.now.policy weaving.now.items.now.mode own class.now method.now) }
     {
-        let refs = method.refs.as_slice();
-        let list = fronts_of(alloc, policy, mode, method.max_locals, refs)?;
+        let list = fronts_of(alloc, weaving.items, method.refs.as_slice())?;
         let count = method.insns.len();
-        let fronts = Fronts { list, count };
         Ok(Client {
-            program,
-            policy,
-            mode,
+            weaving,
             own,
             class,
             method,
-            fronts,
+            fronts: Fronts { list, count },
         })
     }
 
@@ -194,7 +158,7 @@ impl<'a> Client<'a> {
         ensures { result ≡ insn_place self.now at insn.now target.now }
     {
         CallPlace {
-            program: self.program,
+            program: self.weaving.program,
             own: self.own,
             class: self.class,
             method: self.method,
@@ -210,35 +174,26 @@ impl<'a> Client<'a> {
         frame_renamed(alloc, &self.fronts, frame)
     }
 
-    fn around(
+    fn call_types(
         &self,
         alloc: Global,
         place: &CallPlace,
+        callee: u32,
         frame: &FrameType,
-    ) -> Result<Around, NoMemory>
-        ensures { IfOk result (λ made. made ≡ around_of (front_in self.now) place.now frame.now) }
+    ) -> Result<CallTypes<'a>, NoMemory>
+        ensures { IfOk result (λ made. made ≡ record {
+          clauses = clauses_of self.now.policy callee;
+          around = around_of (front_in self.now) place.now frame.now;
+        }) }
     {
         let behind = frame_behind(alloc, place, frame)?;
-        Ok(Around {
+        Ok(CallTypes {
+            names: self.weaving.names,
+            clauses: clauses_of(self.weaving.items.policy(), callee),
             before: self.renamed(alloc, frame)?,
             after: self.renamed(alloc, &behind)?,
             base: place.method.max_locals,
         })
-    }
-
-    fn keeps(&self, callee: u32) -> Keeps<'a>
-        ensures { result ≡ clauses_of self.now.policy callee }
-    {
-        Keeps::new(self.policy, callee)
-    }
-
-    fn items(&self, alloc: Global, base: u16, callee: u32) -> Result<List<Item>, NoMemory>
-        ensures { IfOk result (λ made. made ≡ items_of self.now.policy self.now.mode base callee) }
-    {
-        if !has_room(self.policy, base, callee) {
-            return Err(NoMemory);
-        }
-        items(alloc, self.policy, self.mode, callee, base)
     }
 }
 
@@ -275,37 +230,37 @@ fn put_none(out: &mut Frames, items: &[Item]) -> Result<(), NoMemory>
 fn put_items(
     alloc: Global,
     out: &mut Frames,
-    keeps: &Keeps,
-    around: &Around,
+    call: &CallTypes,
     items: &[Item],
 ) -> Result<(), NoMemory>
-    ensures { OnOk result (out.new ≡ out.old ++ map (λ (i : SpecItem). frame_at keeps.now around.now i.role) items.now) }
+    ensures { OnOk result (out.new ≡ out.old
+        ++ map (λ (i : SpecItem). frame_at call.now.clauses call.now.around i.role) items.now) }
 {
     for item in items {
-        out.push(frame_at(alloc, keeps, around, item.role)?)?;
+        out.push(call.frame_at(alloc, item.role)?)?;
     }
     Ok(())
 }
 
-/// Appends the frames of the block of a call.
+/// Appends the frames of the block of a call, which has the roles of these items.
 fn put_block(
     alloc: Global,
     out: &mut Frames,
     client: &Client,
     place: &CallPlace,
     callee: u32,
+    items: &[Item],
     frame: Option<&FrameType>,
 ) -> Result<(), NoMemory>
+    requires { items.now ≡ items_of client.now.policy client.now.mode 0 callee }
     ensures { OnOk result (out.new ≡ out.old
         ++ block_framed client.now.policy client.now.mode (front_in client.now) place.now callee (option_copied frame.entry)) }
 {
-    let items = client.items(alloc, place.method.max_locals, callee)?;
     match frame {
-        None => put_none(out, items.as_slice()),
+        None => put_none(out, items),
         Some(frame) => {
-            let around = client.around(alloc, place, frame)?;
-            let keeps = client.keeps(callee);
-            put_items(alloc, out, &keeps, &around, items.as_slice())
+            let call = client.call_types(alloc, place, callee, frame)?;
+            put_items(alloc, out, &call, items)
         }
     }
 }
@@ -340,14 +295,13 @@ fn put_insn(
 {
     let kept = low(client.method.max_stack, frame);
     match target {
-        Target::ApiMethod(callee) => {
-            if has_clauses(client.policy, *callee) {
+        Target::ApiMethod(callee) => match client.weaving.items.of(*callee) {
+            Some(items) => {
                 let place = client.insn_place(at, insn, target);
-                put_block(alloc, out, client, &place, *callee, kept)
-            } else {
-                put_alone(alloc, out, client, kept)
+                put_block(alloc, out, client, &place, *callee, items, kept)
             }
-        }
+            None => put_alone(alloc, out, client, kept),
+        },
         _ => put_alone(alloc, out, client, kept),
     }
 }
@@ -364,7 +318,7 @@ fn parts_framed(
 ) -> Result<Frames, NoMemory>
     ensures { IfOk result (λ made. made ≡ parts_framed client.now 0 insns.now refs.now frames.now) }
 {
-    let mut out = List::new(alloc);
+    let mut out = with_room(alloc, client.fronts.end())?;
     let mut at: u32 = 0;
     let mut insns = insns;
     let mut refs = refs;

@@ -8,6 +8,7 @@
 mod behind;
 mod framing;
 mod laws;
+mod lists;
 mod renaming;
 mod roles;
 mod typing;

@@ -4,7 +4,7 @@ ghost use Rattle.std.specs.Prelude.{◌≡◌, ◌-◌, IfOk, map, slice_index};
 ghost use Rattle.woven_typing.specs.Framing.{moved_by};
 ghost use Rattle.woven_typing.specs.Renaming.{frame_renamed, renamed};
 
-use bytecode_model::{lend, own};
+use crate::lists::{shared, with_room};
 use cert_format::{FrameType, VType};
 use mon_base::{List, NoMemory};
 use std::alloc::Global;
@@ -14,6 +14,16 @@ use std::alloc::Global;
 pub struct Fronts {
     pub list: List<u32>,
     pub count: usize,
+}
+
+impl Fronts {
+    /// Where the last part ends.
+    pub fn end(&self) -> usize {
+        match self.list.as_slice().last() {
+            Some(end) => *end as usize,
+            None => 0,
+        }
+    }
 }
 
 fn front(fronts: &[u32], at: usize) -> u32
@@ -50,21 +60,21 @@ fn moved(fronts: &Fronts, at: u32) -> Result<u32, NoMemory>
     }
 }
 
-fn renamed(alloc: Global, fronts: &Fronts, t: &VType) -> Result<VType, NoMemory>
+fn renamed(fronts: &Fronts, t: &VType) -> Result<VType, NoMemory>
     ensures { IfOk result (λ made. made ≡ renamed (moved_by fronts.now.list fronts.now.count) t.now) }
 {
     match t {
         VType::Uninit(at) => Ok(VType::Uninit(moved(fronts, *at)?)),
-        _ => own(alloc, lend(t)),
+        _ => shared(t),
     }
 }
 
 fn all_renamed(alloc: Global, fronts: &Fronts, types: &[VType]) -> Result<List<VType>, NoMemory>
     ensures { IfOk result (λ made. made ≡ map (renamed (moved_by fronts.now.list fronts.now.count)) types.now) }
 {
-    let mut made = List::new(alloc);
+    let mut made = with_room(alloc, types.len())?;
     for t in types {
-        made.push(renamed(alloc, fronts, t)?)?;
+        made.push(renamed(fronts, t)?)?;
     }
     Ok(made)
 }

@@ -1,11 +1,11 @@
 //! The types of the instructions of a block, by their roles.
 
-ghost use Rattle.std.specs.Prelude.{◌≡◌, ◌-◌, ◌++◌, IfOk, OnOk, codes, drop, replicate};
-ghost use Rattle.std.specs.Option.{option_copied};
+ghost use Rattle.std.specs.Prelude.{◌≡◌, ◌-◌, ◌++◌, IfOk, OnOk, codes, drop, map, replicate};
+ghost use Rattle.api_listing.specs.BuiltIn.{throwable};
 ghost use Rattle.cert_format.specs.declared.typing.VType.TheVariants.{Ref, Top};
 ghost use Rattle.bytecode_model.specs.Makes.{below};
+ghost use Rattle.bytecode_model.specs.Rules.{when_thrown};
 ghost use Rattle.conspec_tree.specs.declared.types.Phase.TheVariants.{After, Exceptional};
-ghost use Rattle.block_template.specs.Blocks.{clause_at, clauses_of, is_phase};
 ghost use Rattle.block_template.specs.Flow.{keeps_result};
 ghost use Rattle.block_template.specs.Frames.{
   class_pushed,
@@ -19,132 +19,121 @@ ghost use Rattle.block_template.specs.Frames.{
   update_pushed,
   with_pushed,
 };
+ghost use Rattle.woven_typing.specs.Pushed.{types_pushed};
 
-use block_template::Role;
-use bytecode_model::{lend, own};
-use cert_format::{FrameType, VType};
-use conspec_automaton::{Clause, Policy};
+use crate::lists::{put_types, with_room};
+use block_template::{MethodClauses, Role};
+use bytecode_model::own;
+use cert_format::{FrameType, Name, VType};
 use conspec_tree::Phase;
-use frame_types::{THROWABLE, locals_thrown, split_top};
-use mon_base::{Bytes, List, NoMemory};
+use frame_types::{THROWABLE, split_top, when_thrown};
+use mon_base::{List, NoMemory};
 use std::alloc::Global;
 use std::marker::Model;
 
 /// The class of the lock, while it stands on the stack.
 const CLASS: &[u8] = b"java/lang/Class";
 
-// ---- what a block keeps
-
-fn is_phase(phase: Phase, other: Phase) -> bool
-    ensures { result ≡ is_phase phase other }
-{
-    match phase {
-        Phase::Before => matches!(other, Phase::Before),
-        Phase::After => matches!(other, Phase::After),
-        Phase::Exceptional => matches!(other, Phase::Exceptional),
-    }
-}
-
-fn clause_at(policy: &Policy, method: u32, phase: Phase) -> Option<&Clause>
-    ensures { option_copied result ≡ clause_at policy.now method phase }
-{
-    policy.clauses.as_slice().iter().find(|clause| clause.method == method
-        && is_phase(phase, clause.phase))
-}
-
-/// How many arguments the block of a method keeps, and whether it keeps what the call gives.
+/// The names of the classes that blocks push, and of what they catch, which all frames share.
 #[derive(Drop)]
-pub struct Keeps<'a> {
-    policy: &'a Policy,
-    callee: u32,
-    arguments: usize,
-    result: bool,
+pub struct Names {
+    class: Name,
+    thrown: Name,
 }
 
-impl<'a> Model for Keeps<'a> {
-    ghost use Rattle.std.specs.Prelude.{◌≡◌};
-    ghost use Rattle.block_template.specs.Blocks.{Clauses, clauses_of};
-    ghost use Rattle.block_template.specs.Flow.{keeps_result};
-    ghost use Rattle.block_template.specs.Frames.{kept_arguments};
+impl Model for Names {
+    ghost use Rattle.std.specs.Prelude.{◌≡◌, ◌∷◌, [], ℕ, List, codes};
+    ghost use Rattle.api_listing.specs.BuiltIn.{throwable};
 
-    ghost Value = { Clauses };
+    ghost Value = { List (List ℕ) };
 
-    ghost view = { λ k. clauses_of k.policy.now k.callee };
+    ghost view = { λ n. n.class ∷ n.thrown ∷ [] };
 
-    ghost invariant = { λ k. (k.arguments ≡ kept_arguments (clauses_of k.policy.now k.callee))
-        × (k.result ≡ keeps_result (clauses_of k.policy.now k.callee)) };
+    ghost invariant = { λ n. (n.class ≡ codes "java/lang/Class") × (n.thrown ≡ throwable) };
 }
 
-impl<'a> Keeps<'a> {
-    /// Those of the method's block.
-    pub fn new(policy: &'a Policy, callee: u32) -> Keeps<'a>
-        ensures { result ≡ clauses_of policy.now callee }
-    {
-        let arguments = match clause_at(policy, callee, Phase::Before) {
-            Some(clause) => clause.args.len(),
-            None => 0,
-        };
-        let result = match clause_at(policy, callee, Phase::After) {
-            Some(clause) => clause.result.is_some(),
-            None => false,
-        };
-        Keeps {
-            policy,
-            callee,
-            arguments,
-            result,
-        }
+impl Names {
+    /// The names.
+    pub fn new(alloc: Global) -> Result<Names, NoMemory> {
+        Ok(Names {
+            class: Name::from_slice(alloc, CLASS)?,
+            thrown: Name::from_slice(alloc, THROWABLE)?,
+        })
     }
 
-    fn arguments(&self) -> usize
-        ensures { result ≡ kept_arguments self.now }
+    fn class(&self) -> Result<VType, NoMemory>
+        ensures { IfOk result (λ t. t ≡ Ref (codes "java/lang/Class")) }
     {
-        self.arguments
+        Ok(VType::Ref(self.class.share()?))
     }
 
-    fn result(&self) -> bool
-        ensures { result ≡ keeps_result self.now }
+    fn thrown(&self) -> Result<VType, NoMemory>
+        ensures { IfOk result (λ t. t ≡ Ref throwable) }
     {
-        self.result
+        Ok(VType::Ref(self.thrown.share()?))
     }
 }
 
-/// The types before a call and behind it, and where the client's locals end.
-#[derive(Drop)]
-pub struct Around {
-    pub before: FrameType,
-    pub after: FrameType,
-    pub base: u16,
+// ---- what a block has pushed
+
+/// What a block has pushed on the operands.
+#[derive(Clone, Copy, Debug, PartialEq, Eq)]
+pub enum Pushed {
+    /// The class of the lock.
+    Class,
+    Null,
+    /// So many numbers.
+    Numbers(u32),
 }
 
-impl Model for Around {
-    ghost use Rattle.block_template.specs.Frames.{Around as Types};
-
-    ghost Value = { Types };
-
-    ghost view = { λ a. record { before = a.before; after = a.after; base = a.base } };
-}
-
-// ---- lists of types
-
-fn put_types(alloc: Global, out: &mut List<VType>, types: &[VType]) -> Result<(), NoMemory>
-    ensures { OnOk result (out.new ≡ out.old ++ types.now) }
+fn class_pushed(pushed: bool) -> Pushed
+    ensures { types_pushed result ≡ class_pushed pushed }
 {
-    for t in types {
-        out.push(own(alloc, lend(t))?)?;
+    if pushed {
+        Pushed::Class
+    } else {
+        Pushed::Numbers(0)
     }
-    Ok(())
 }
 
-fn put_tops(out: &mut List<VType>, n: usize) -> Result<(), NoMemory>
-    ensures { OnOk result (out.new ≡ out.old ++ replicate n Top) }
+fn update_pushed(done: u32) -> Pushed
+    ensures { types_pushed result ≡ update_pushed done }
 {
-    let mut left = n;
-    while left > 0 {
-        out.push(VType::Top)?;
-        left -= 1;
+    match done {
+        0 => Pushed::Numbers(0),
+        2 => Pushed::Numbers(2),
+        _ => Pushed::Numbers(1),
     }
-    Ok(())
+}
+
+fn stop_pushed(done: u32) -> Pushed
+    ensures { types_pushed result ≡ stop_pushed done }
+{
+    match done {
+        0 => Pushed::Numbers(0),
+        1 => Pushed::Numbers(1),
+        2 => Pushed::Numbers(0),
+        _ => Pushed::Null,
+    }
+}
+
+/// How many operands that are.
+fn count_pushed(pushed: Pushed) -> usize {
+    match pushed {
+        Pushed::Class => 1,
+        Pushed::Null => 1,
+        Pushed::Numbers(n) => n as usize,
+    }
+}
+
+fn put_pushed(out: &mut List<VType>, names: &Names, pushed: Pushed) -> Result<(), NoMemory>
+    ensures { OnOk result (out.new ≡ out.old ++ types_pushed pushed) }
+{
+    match pushed {
+        Pushed::Class => out.push(names.class()?),
+        Pushed::Null => out.push(VType::Null),
+        Pushed::Numbers(n) => put_numbers(out, n),
+    }
 }
 
 fn put_numbers(out: &mut List<VType>, n: u32) -> Result<(), NoMemory>
@@ -158,301 +147,264 @@ fn put_numbers(out: &mut List<VType>, n: u32) -> Result<(), NoMemory>
     Ok(())
 }
 
+// ---- what a block keeps
+
+fn kept_arguments(clauses: &MethodClauses) -> usize
+    ensures { result ≡ kept_arguments clauses.now }
+{
+    match clauses.before {
+        Some(clause) => clause.args.len(),
+        None => 0,
+    }
+}
+
+fn keeps_result(clauses: &MethodClauses) -> bool
+    ensures { result ≡ keeps_result clauses.now }
+{
+    match clauses.after {
+        Some(clause) => clause.result.is_some(),
+        None => false,
+    }
+}
+
+// ---- lists of types
+
+fn put_tops(out: &mut List<VType>, n: usize) -> Result<(), NoMemory>
+    ensures { OnOk result (out.new ≡ out.old ++ replicate n Top) }
+{
+    let mut left = n;
+    while left > 0 {
+        out.push(VType::Top)?;
+        left -= 1;
+    }
+    Ok(())
+}
+
 fn behind(types: &[VType], n: usize) -> &[VType]
     ensures { result.now ≡ drop n types.now }
 {
     if n <= types.len() { &types[n..] } else { &[] }
 }
 
-// ---- locals
-
-/// Appends the client's locals, up to where they end.
-fn put_padded(
-    alloc: Global,
-    out: &mut List<VType>,
-    base: u16,
-    locals: &[VType],
-) -> Result<(), NoMemory>
-    ensures { OnOk result (out.new ≡ out.old ++ padded base locals.now) }
+/// The types, in a list that takes so many more without being moved.
+fn copied(alloc: Global, types: &[VType], more: usize) -> Result<List<VType>, NoMemory>
+    ensures { IfOk result (λ made. made ≡ types.now) }
 {
-    put_types(alloc, out, locals)?;
-    put_tops(out, usize::from(base).saturating_sub(locals.len()))
-}
-
-/// The locals where so many arguments are not kept yet.
-fn saved_locals(
-    alloc: Global,
-    keeps: &Keeps,
-    around: &Around,
-    left: usize,
-) -> Result<List<VType>, NoMemory>
-    ensures { IfOk result (λ made. made ≡ saved_locals keeps.now around.now left) }
-{
-    let (_, kept) = split_top(around.before.stack.as_slice(), keeps.arguments());
-    let mut made = List::new(alloc);
-    put_padded(
-        alloc,
-        &mut made,
-        around.base,
-        around.before.locals.as_slice(),
-    )?;
-    put_tops(&mut made, left)?;
-    put_types(alloc, &mut made, behind(kept, left))?;
+    let mut made = with_room(alloc, types.len().saturating_add(more))?;
+    put_types(&mut made, types)?;
     Ok(made)
 }
 
-// ---- a phase
-
-/// Where so many arguments are on the stack no more, and these are not kept yet.
-fn without(
+/// The client's locals up to where they end, in a list that takes so many more without being moved.
+fn locals_padded(
     alloc: Global,
-    keeps: &Keeps,
-    around: &Around,
-    left: usize,
-    taken: usize,
-) -> Result<FrameType, NoMemory>
-    ensures { IfOk result (λ made. made
-        ≡ record { locals = saved_locals keeps.now around.now left; stack = below taken around.now.before.stack }) }
+    base: u16,
+    locals: &[VType],
+    more: usize,
+) -> Result<List<VType>, NoMemory>
+    ensures { IfOk result (λ made. made ≡ padded base locals.now) }
 {
-    let (below, _) = split_top(around.before.stack.as_slice(), taken);
-    let mut stack = List::new(alloc);
-    put_types(alloc, &mut stack, below)?;
-    Ok(FrameType {
-        locals: saved_locals(alloc, keeps, around, left)?,
-        stack,
-    })
+    let tops = usize::from(base).saturating_sub(locals.len());
+    let mut made = copied(alloc, locals, tops.saturating_add(more))?;
+    put_tops(&mut made, tops)?;
+    Ok(made)
 }
 
-/// Where the result is kept, and is on the stack no more.
-fn behind_call(alloc: Global, keeps: &Keeps, around: &Around) -> Result<FrameType, NoMemory>
-    ensures { IfOk result (λ made. made ≡ phase_frame keeps.now around.now After) }
+/// Appends the locals as a handler finds them.
+fn put_thrown(alloc: Global, out: &mut List<VType>, locals: &[VType]) -> Result<(), NoMemory>
+    ensures { OnOk result (out.new ≡ out.old ++ map when_thrown locals.now) }
 {
-    let count = if keeps.result() { 1 } else { 0 };
-    let (below, top) = split_top(around.after.stack.as_slice(), count);
-    let mut locals = List::new(alloc);
-    let mut stack = List::new(alloc);
-    put_padded(
-        alloc,
-        &mut locals,
-        around.base,
-        around.after.locals.as_slice(),
-    )?;
-    put_types(alloc, &mut locals, top)?;
-    put_types(alloc, &mut stack, below)?;
-    Ok(FrameType { locals, stack })
-}
-
-/// Where the call gave its result, or its block is left.
-fn given(alloc: Global, around: &Around) -> Result<FrameType, NoMemory>
-    ensures { IfOk result (λ made. made
-        ≡ record { locals = padded around.now.base around.now.after.locals; stack = around.now.after.stack }) }
-{
-    let mut locals = List::new(alloc);
-    let mut stack = List::new(alloc);
-    put_padded(
-        alloc,
-        &mut locals,
-        around.base,
-        around.after.locals.as_slice(),
-    )?;
-    put_types(alloc, &mut stack, around.after.stack.as_slice())?;
-    Ok(FrameType { locals, stack })
-}
-
-/// Where the call threw.
-fn thrown(alloc: Global, keeps: &Keeps, around: &Around) -> Result<FrameType, NoMemory>
-    ensures { IfOk result (λ made. made ≡ phase_frame keeps.now around.now Exceptional) }
-{
-    let mut found = List::new(alloc);
-    let mut stack = List::new(alloc);
-    put_padded(
-        alloc,
-        &mut found,
-        around.base,
-        around.before.locals.as_slice(),
-    )?;
-    stack.push(VType::Ref(Bytes::from_slice(alloc, THROWABLE)?))?;
-    Ok(FrameType {
-        locals: locals_thrown(alloc, found.as_slice())?,
-        stack,
-    })
-}
-
-/// While a check of this phase is made.
-fn phase_frame(
-    alloc: Global,
-    keeps: &Keeps,
-    around: &Around,
-    phase: Phase,
-) -> Result<FrameType, NoMemory>
-    ensures { IfOk result (λ made. made ≡ phase_frame keeps.now around.now phase) }
-{
-    match phase {
-        Phase::Before => without(alloc, keeps, around, 0, keeps.arguments()),
-        Phase::After => behind_call(alloc, keeps, around),
-        Phase::Exceptional => thrown(alloc, keeps, around),
+    for t in locals {
+        out.push(own(alloc, when_thrown(t))?)?;
     }
+    Ok(())
 }
 
-// ---- what a block has pushed
-
-fn class_type(alloc: Global) -> Result<VType, NoMemory>
-    ensures { IfOk result (λ t. t ≡ Ref (codes "java/lang/Class")) }
+/// The locals that a handler finds, up to where the client's end.
+#[tactic(auto, using(crate::proofs::Caught::thrown_padded))]
+fn locals_caught(alloc: Global, base: u16, locals: &[VType]) -> Result<List<VType>, NoMemory>
+    ensures { IfOk result (λ made. made ≡ map when_thrown (padded base locals.now)) }
 {
-    Ok(VType::Ref(Bytes::from_slice(alloc, CLASS)?))
+    let tops = usize::from(base).saturating_sub(locals.len());
+    let mut made = with_room(alloc, locals.len().saturating_add(tops))?;
+    put_thrown(alloc, &mut made, locals)?;
+    put_tops(&mut made, tops)?;
+    Ok(made)
 }
 
-fn put_class(alloc: Global, out: &mut List<VType>, pushed: bool) -> Result<(), NoMemory>
-    ensures { OnOk result (out.new ≡ out.old ++ class_pushed pushed) }
-{
-    if pushed {
-        out.push(class_type(alloc)?)
-    } else {
-        Ok(())
+// ---- a call
+
+/// What the types of a block are told of: the clauses of the method that is called, the types before the call and behind
+/// it, and where the client's locals end.
+#[derive(Drop)]
+pub struct CallTypes<'a> {
+    pub names: &'a Names,
+    pub clauses: MethodClauses<'a>,
+    pub before: FrameType,
+    pub after: FrameType,
+    pub base: u16,
+}
+
+impl<'a> Model for CallTypes<'a> {
+    ghost use Rattle.woven_typing.specs.Pushed.{CallTypes as Types};
+
+    ghost Value = { Types };
+
+    ghost view = { λ c. record {
+      clauses = c.clauses;
+      around = record { before = c.before; after = c.after; base = c.base };
+    } };
+}
+
+impl<'a> CallTypes<'a> {
+    /// The locals where so many arguments are not kept yet.
+    fn saved_locals(&self, alloc: Global, left: usize) -> Result<List<VType>, NoMemory>
+        ensures { IfOk result (λ made. made ≡ saved_locals self.now.clauses self.now.around left) }
+    {
+        let count = kept_arguments(&self.clauses);
+        let (_, kept) = split_top(self.before.stack.as_slice(), count);
+        let mut made = locals_padded(alloc, self.base, self.before.locals.as_slice(), count)?;
+        put_tops(&mut made, left)?;
+        put_types(&mut made, behind(kept, left))?;
+        Ok(made)
     }
-}
 
-fn put_update(out: &mut List<VType>, done: u32) -> Result<(), NoMemory>
-    ensures { OnOk result (out.new ≡ out.old ++ update_pushed done) }
-{
-    match done {
-        0 => Ok(()),
-        2 => {
-            out.push(VType::Int)?;
-            out.push(VType::Int)
+    /// Where so many arguments are on the stack no more, and these are not kept yet. So many operands are pushed then.
+    fn without(
+        &self,
+        alloc: Global,
+        left: usize,
+        taken: usize,
+        more: usize,
+    ) -> Result<FrameType, NoMemory>
+        ensures { IfOk result (λ made. made ≡ record {
+          locals = saved_locals self.now.clauses self.now.around left;
+          stack = below taken self.now.around.before.stack;
+        }) }
+    {
+        let (below, _) = split_top(self.before.stack.as_slice(), taken);
+        Ok(FrameType {
+            locals: self.saved_locals(alloc, left)?,
+            stack: copied(alloc, below, more)?,
+        })
+    }
+
+    /// Where the result is kept, and is on the stack no more.
+    fn behind_call(&self, alloc: Global, more: usize) -> Result<FrameType, NoMemory>
+        ensures { IfOk result (λ made. made ≡ phase_frame self.now.clauses self.now.around After) }
+    {
+        let count = if keeps_result(&self.clauses) { 1 } else { 0 };
+        let (below, top) = split_top(self.after.stack.as_slice(), count);
+        let mut locals = locals_padded(alloc, self.base, self.after.locals.as_slice(), count)?;
+        put_types(&mut locals, top)?;
+        Ok(FrameType {
+            locals,
+            stack: copied(alloc, below, more)?,
+        })
+    }
+
+    /// Where the call gave its result, or its block is left.
+    fn given(&self, alloc: Global) -> Result<FrameType, NoMemory>
+        ensures { IfOk result (λ made. made ≡ record {
+          locals = padded self.now.around.base self.now.around.after.locals;
+          stack = self.now.around.after.stack;
+        }) }
+    {
+        Ok(FrameType {
+            locals: locals_padded(alloc, self.base, self.after.locals.as_slice(), 0)?,
+            stack: copied(alloc, self.after.stack.as_slice(), 0)?,
+        })
+    }
+
+    /// Where the call threw.
+    fn thrown(&self, alloc: Global, more: usize) -> Result<FrameType, NoMemory>
+        ensures { IfOk result (λ made. made ≡ phase_frame self.now.clauses self.now.around Exceptional) }
+    {
+        let mut stack = with_room(alloc, more.saturating_add(1))?;
+        stack.push(self.names.thrown()?)?;
+        Ok(FrameType {
+            locals: locals_caught(alloc, self.base, self.before.locals.as_slice())?,
+            stack,
+        })
+    }
+
+    /// While a check of this phase is made. So many operands are pushed then.
+    fn phase_frame(&self, alloc: Global, phase: Phase, more: usize) -> Result<FrameType, NoMemory>
+        ensures { IfOk result (λ made. made ≡ phase_frame self.now.clauses self.now.around phase) }
+    {
+        match phase {
+            Phase::Before => self.without(alloc, 0, kept_arguments(&self.clauses), more),
+            Phase::After => self.behind_call(alloc, more),
+            Phase::Exceptional => self.thrown(alloc, more),
         }
-        _ => out.push(VType::Int),
     }
-}
 
-fn put_stop(out: &mut List<VType>, done: u32) -> Result<(), NoMemory>
-    ensures { OnOk result (out.new ≡ out.old ++ stop_pushed done) }
-{
-    match done {
-        0 => Ok(()),
-        1 => out.push(VType::Int),
-        2 => Ok(()),
-        _ => out.push(VType::Null),
+    /// While a check of this phase is made, where this is pushed.
+    fn with_pushed(
+        &self,
+        alloc: Global,
+        phase: Phase,
+        pushed: Pushed,
+    ) -> Result<FrameType, NoMemory>
+        ensures { IfOk result (λ made. made
+            ≡ with_pushed (phase_frame self.now.clauses self.now.around phase) (types_pushed pushed)) }
+    {
+        let FrameType { locals, stack } = self.phase_frame(alloc, phase, count_pushed(pushed))?;
+        let mut stack = stack;
+        put_pushed(&mut stack, self.names, pushed)?;
+        Ok(FrameType { locals, stack })
     }
-}
 
-// ---- while a check is made
+    /// Where all arguments are kept, and stand on the stack.
+    fn at_call(&self, alloc: Global) -> Result<FrameType, NoMemory>
+        ensures { IfOk result (λ made. made ≡ record {
+          locals = saved_locals self.now.clauses self.now.around 0;
+          stack = self.now.around.before.stack;
+        }) }
+    {
+        Ok(FrameType {
+            locals: self.saved_locals(alloc, 0)?,
+            stack: copied(alloc, self.before.stack.as_slice(), 0)?,
+        })
+    }
 
-fn with_class(
-    alloc: Global,
-    keeps: &Keeps,
-    around: &Around,
-    phase: Phase,
-    pushed: bool,
-) -> Result<FrameType, NoMemory>
-    ensures { IfOk result (λ made. made ≡ with_pushed (phase_frame keeps.now around.now phase) (class_pushed pushed)) }
-{
-    let FrameType { locals, stack } = phase_frame(alloc, keeps, around, phase)?;
-    let mut stack = stack;
-    put_class(alloc, &mut stack, pushed)?;
-    Ok(FrameType { locals, stack })
-}
+    /// Where so many of the arguments are kept, or stand on the stack again.
+    fn among(&self, alloc: Global, left: u32, loaded: u32) -> Result<FrameType, NoMemory>
+        ensures { IfOk result (λ made. made ≡ record {
+          locals = saved_locals self.now.clauses self.now.around left;
+          stack = below (kept_arguments self.now.clauses - loaded) self.now.around.before.stack;
+        }) }
+    {
+        let taken = kept_arguments(&self.clauses).saturating_sub(loaded as usize);
+        self.without(alloc, left as usize, taken, 0)
+    }
 
-fn with_numbers(
-    alloc: Global,
-    keeps: &Keeps,
-    around: &Around,
-    phase: Phase,
-    pushed: u32,
-) -> Result<FrameType, NoMemory>
-    ensures { IfOk result (λ made. made ≡ with_pushed (phase_frame keeps.now around.now phase) (numbers pushed)) }
-{
-    let FrameType { locals, stack } = phase_frame(alloc, keeps, around, phase)?;
-    let mut stack = stack;
-    put_numbers(&mut stack, pushed)?;
-    Ok(FrameType { locals, stack })
-}
-
-fn with_update(
-    alloc: Global,
-    keeps: &Keeps,
-    around: &Around,
-    phase: Phase,
-    done: u32,
-) -> Result<FrameType, NoMemory>
-    ensures { IfOk result (λ made. made ≡ with_pushed (phase_frame keeps.now around.now phase) (update_pushed done)) }
-{
-    let FrameType { locals, stack } = phase_frame(alloc, keeps, around, phase)?;
-    let mut stack = stack;
-    put_update(&mut stack, done)?;
-    Ok(FrameType { locals, stack })
-}
-
-fn with_stop(
-    alloc: Global,
-    keeps: &Keeps,
-    around: &Around,
-    phase: Phase,
-    done: u32,
-) -> Result<FrameType, NoMemory>
-    ensures { IfOk result (λ made. made ≡ with_pushed (phase_frame keeps.now around.now phase) (stop_pushed done)) }
-{
-    let FrameType { locals, stack } = phase_frame(alloc, keeps, around, phase)?;
-    let mut stack = stack;
-    put_stop(&mut stack, done)?;
-    Ok(FrameType { locals, stack })
-}
-
-// ---- a role
-
-/// Where all arguments are kept, and stand on the stack.
-fn at_call(alloc: Global, keeps: &Keeps, around: &Around) -> Result<FrameType, NoMemory>
-    ensures { IfOk result (λ made. made ≡ record { locals = saved_locals keeps.now around.now 0; stack = around.now.before.stack }) }
-{
-    let mut stack = List::new(alloc);
-    put_types(alloc, &mut stack, around.before.stack.as_slice())?;
-    Ok(FrameType {
-        locals: saved_locals(alloc, keeps, around, 0)?,
-        stack,
-    })
-}
-
-/// Where so many of the arguments are kept, or stand on the stack again.
-fn among(
-    alloc: Global,
-    keeps: &Keeps,
-    around: &Around,
-    left: u32,
-    loaded: u32,
-) -> Result<FrameType, NoMemory>
-    ensures { IfOk result (λ made. made ≡ record {
-      locals = saved_locals keeps.now around.now left;
-      stack = below (kept_arguments keeps.now - loaded) around.now.before.stack;
-    }) }
-{
-    let taken = keeps.arguments().saturating_sub(loaded as usize);
-    without(alloc, keeps, around, left as usize, taken)
-}
-
-/// The types before an instruction of this role, if it is reached.
-pub fn frame_at(
-    alloc: Global,
-    keeps: &Keeps,
-    around: &Around,
-    role: Role,
-) -> Result<Option<FrameType>, NoMemory>
-    ensures { IfOk result (λ made. made ≡ frame_at keeps.now around.now role) }
-{
-    let frame = match role {
-        Role::Save { left } => among(alloc, keeps, around, left, left)?,
-        Role::Lock { phase, pushed } => with_class(alloc, keeps, around, phase, pushed)?,
-        Role::Ask { phase, pushed, .. } => with_numbers(alloc, keeps, around, phase, pushed)?,
-        Role::Update { phase, done, .. } => with_update(alloc, keeps, around, phase, done)?,
-        Role::Taken { phase, .. } => phase_frame(alloc, keeps, around, phase)?,
-        Role::Stop { phase, done } => with_stop(alloc, keeps, around, phase, done)?,
-        Role::Unlock { phase, pushed, .. } => with_class(alloc, keeps, around, phase, pushed)?,
-        Role::Load { loaded, .. } => among(alloc, keeps, around, 0, loaded)?,
-        Role::Call { .. } => at_call(alloc, keeps, around)?,
-        Role::Keep { .. } => given(alloc, around)?,
-        Role::Give => behind_call(alloc, keeps, around)?,
-        Role::Leave => given(alloc, around)?,
-        Role::Rethrow => thrown(alloc, keeps, around)?,
-        Role::Unreached => return Ok(None),
-    };
-    Ok(Some(frame))
+    /// The types before an instruction of this role, if it is reached.
+    pub fn frame_at(&self, alloc: Global, role: Role) -> Result<Option<FrameType>, NoMemory>
+        ensures { IfOk result (λ made. made ≡ frame_at self.now.clauses self.now.around role) }
+    {
+        let frame = match role {
+            Role::Save { left } => self.among(alloc, left, left)?,
+            Role::Lock { phase, pushed } => self.with_pushed(alloc, phase, class_pushed(pushed))?,
+            Role::Ask { phase, pushed, .. } => {
+                self.with_pushed(alloc, phase, Pushed::Numbers(pushed))?
+            }
+            Role::Update { phase, done, .. } => {
+                self.with_pushed(alloc, phase, update_pushed(done))?
+            }
+            Role::Taken { phase, .. } => self.phase_frame(alloc, phase, 0)?,
+            Role::Stop { phase, done } => self.with_pushed(alloc, phase, stop_pushed(done))?,
+            Role::Unlock { phase, pushed, .. } => {
+                self.with_pushed(alloc, phase, class_pushed(pushed))?
+            }
+            Role::Load { loaded, .. } => self.among(alloc, 0, loaded)?,
+            Role::Call { .. } => self.at_call(alloc)?,
+            Role::Keep { .. } => self.given(alloc)?,
+            Role::Give => self.behind_call(alloc, 0)?,
+            Role::Leave => self.given(alloc)?,
+            Role::Rethrow => self.thrown(alloc, 0)?,
+            Role::Unreached => return Ok(None),
+        };
+        Ok(Some(frame))
+    }
 }

@@ -11,7 +11,10 @@ ghost use Rattle.woven_typing.specs.Framing.{
   typing_of,
 };
 
-use crate::framing::{Client, Frames, frames_woven};
+use crate::framing::{Client, Frames, Weaving, frames_woven};
+use crate::lists::with_room;
+use crate::roles::Names;
+use block_template::PolicyItems;
 use bytecode_model::{LinkedClass, Method, Program};
 use cert_format::{Mode, Typing};
 use conspec_automaton::Policy;
@@ -41,42 +44,39 @@ fn behind_first<T>(lists: &[List<T>]) -> &[List<T>]
 /// The frames of a method with its blocks, where the first of these are its own.
 fn method_framed(
     alloc: Global,
-    program: &Program,
-    policy: &Policy,
-    mode: Mode,
+    weaving: &Weaving,
     own: u32,
     class: &LinkedClass,
     method: &Method,
     told: &[Frames],
 ) -> Result<Frames, NoMemory>
-    requires { IsPolicy policy.now }
     ensures { IfOk result (λ made. made
-        ≡ frames_woven (client_of program.now policy.now mode own class.now method.now) (list_at told.now 0)) }
+        ≡ frames_woven (client_of weaving.now.program.now weaving.now.items.now.policy weaving.now.items.now.mode
+        own class.now method.now) (list_at told.now 0)) }
 {
-    let client = Client::new(alloc, program, policy, mode, own, class, method)?;
+    let client = Client::new(alloc, weaving, own, class, method)?;
     frames_woven(alloc, &client, first_of(told))
 }
 
 /// Those of the methods with code.
 fn methods_framed(
     alloc: Global,
-    program: &Program,
-    policy: &Policy,
-    mode: Mode,
+    weaving: &Weaving,
     own: u32,
     class: &LinkedClass,
     methods: &[Method],
     told: &[Frames],
 ) -> Result<List<Frames>, NoMemory>
-    requires { IsPolicy policy.now }
-    ensures { IfOk result (λ made. made ≡ methods_framed program.now policy.now mode own class.now methods.now told.now) }
+    ensures { IfOk result (λ made. made
+        ≡ methods_framed weaving.now.program.now weaving.now.items.now.policy weaving.now.items.now.mode
+        own class.now methods.now told.now) }
 {
-    let mut made = List::new(alloc);
+    let mut made = with_room(alloc, told.len())?;
     let mut methods = methods;
     let mut told = told;
     while let [method, later @ ..] = methods {
         if !method.insns.is_empty() {
-            made.push(method_framed(alloc, program, policy, mode, own, class, method, told)?)?;
+            made.push(method_framed(alloc, weaving, own, class, method, told)?)?;
             told = behind_first(told);
         }
         methods = later;
@@ -87,31 +87,21 @@ fn methods_framed(
 /// Those of the classes, of which the first has the index 0.
 fn classes_framed(
     alloc: Global,
-    program: &Program,
-    policy: &Policy,
-    mode: Mode,
+    weaving: &Weaving,
     classes: &[LinkedClass],
     told: &[List<Frames>],
 ) -> Result<List<List<Frames>>, NoMemory>
-    requires { IsPolicy policy.now }
-    ensures { IfOk result (λ made. made ≡ classes_framed program.now policy.now mode 0 classes.now told.now) }
+    ensures { IfOk result (λ made. made
+        ≡ classes_framed weaving.now.program.now weaving.now.items.now.policy weaving.now.items.now.mode
+        0 classes.now told.now) }
 {
-    let mut made = List::new(alloc);
+    let mut made = with_room(alloc, classes.len().saturating_add(1))?;
     let mut own: u32 = 0;
     let mut classes = classes;
     let mut told = told;
     while let [class, later @ ..] = classes {
         let methods = class.methods.as_slice();
-        made.push(methods_framed(
-            alloc,
-            program,
-            policy,
-            mode,
-            own,
-            class,
-            methods,
-            first_of(told),
-        )?)?;
+        made.push(methods_framed(alloc, weaving, own, class, methods, first_of(told))?)?;
         let Some(next) = own.checked_add(1) else {
             return Err(NoMemory);
         };
@@ -134,14 +124,18 @@ pub fn typing_of(
     requires { IsPolicy policy.now }
     ensures { IfOk result (λ made. made ≡ typing_of program.now policy.now mode typing.now) }
 {
-    Ok(Typing {
-        frames: classes_framed(
-            alloc,
-            program,
-            policy,
-            mode,
-            program.classes.as_slice(),
-            typing.frames.as_slice(),
-        )?,
-    })
+    let items = PolicyItems::new(alloc, policy, mode)?;
+    let names = Names::new(alloc)?;
+    let weaving = Weaving {
+        program,
+        items: &items,
+        names: &names,
+    };
+    let frames = classes_framed(
+        alloc,
+        &weaving,
+        program.classes.as_slice(),
+        typing.frames.as_slice(),
+    )?;
+    Ok(Typing { frames })
 }

@@ -5,7 +5,7 @@ use Rattle.cert_maker.proofs.methods.method_notes.Given as goal
 
 abbrev pub invariant-loop-refs : goal.invariant-loop-refs
 invariant-loop-refs l =
-    l.notes ++ where_framed (parts_notes l.policy l.mode l.method.max_locals l.refs) l.left ≡ method_notes l.policy l.mode l.method l.frames
+    l.notes ++ where_framed (parts_notes l.items.policy l.items.mode l.method.max_locals l.refs) l.left ≡ method_notes l.items.policy l.items.mode l.method l.frames
 
 abbrev pub decreases-loop-refs : goal.decreases-loop-refs
 decreases-loop-refs l = length l.refs

@@ -5,8 +5,8 @@ use Rattle.woven_typing.proofs.framing.fronts_of.Given as goal
 
 abbrev pub invariant-loop-left : goal.invariant-loop-left
 invariant-loop-left l =
-    l.fronts ++ fronts_from l.at (map ((plan_of l.policy l.mode).block l.base) l.left)
-    ≡ fronts_from 0 (map ((plan_of l.policy l.mode).block l.base) l.refs)
+    l.fronts ++ fronts_from l.at (map ((plan_of l.items.policy l.items.mode).block 0) l.left)
+    ≡ fronts_from 0 (map ((plan_of l.items.policy l.items.mode).block 0) l.refs)
 
 abbrev pub decreases-loop-left : goal.decreases-loop-left
 decreases-loop-left l = length l.left

@@ -5,8 +5,8 @@ use Rattle.woven_typing.proofs.typing.classes_framed.Given as goal
 
 abbrev pub invariant-loop-classes : goal.invariant-loop-classes
 invariant-loop-classes l =
-    l.made ++ classes_framed l.program l.policy l.mode l.own l.classes l.told
-    ≡ classes_framed l.program l.policy l.mode 0 l.fn.classes l.fn.told
+    l.made ++ classes_framed l.weaving.program.now l.weaving.items.now.policy l.weaving.items.now.mode l.own l.classes l.told
+    ≡ classes_framed l.weaving.program.now l.weaving.items.now.policy l.weaving.items.now.mode 0 l.fn.classes l.fn.told
 
 abbrev pub decreases-loop-classes : goal.decreases-loop-classes
 decreases-loop-classes l = length l.classes

@@ -5,8 +5,8 @@ use Rattle.woven_typing.proofs.typing.methods_framed.Given as goal
 
 abbrev pub invariant-loop-methods : goal.invariant-loop-methods
 invariant-loop-methods l =
-    l.made ++ methods_framed l.program l.policy l.mode l.own l.class l.methods l.told
-    ≡ methods_framed l.program l.policy l.mode l.own l.class l.fn.methods l.fn.told
+    l.made ++ methods_framed l.weaving.program.now l.weaving.items.now.policy l.weaving.items.now.mode l.own l.class l.methods l.told
+    ≡ methods_framed l.weaving.program.now l.weaving.items.now.policy l.weaving.items.now.mode l.own l.class l.fn.methods l.fn.told
 
 abbrev pub decreases-loop-methods : goal.decreases-loop-methods
 decreases-loop-methods l = length l.methods

@@ -1,9 +1,10 @@
 -- The roles of a block do not depend on where its locals begin.
 use Rattle.std.proofs.Common.{◌≡◌, ℕ, ◌+◌, Bool, true, false, cond, List, [], ◌∷◌, ◌++◌, length, map, Option, Some, None, refl, sym, ap, ◌∙◌}
-use Rattle.std.proofs.lemmas.List.{map-append}
+use Rattle.std.proofs.lemmas.List.{length-map, map-append}
+use Rattle.bytecode_model.specs.declared.program.Target.{Target}
+use Rattle.bytecode_model.specs.declared.program.Target.TheVariants as target
 use Rattle.cert_format.specs.declared.certificate.Mode.{Mode}
 use Rattle.cert_format.specs.declared.certificate.Mode.TheVariants.{Hold, Release}
-use Rattle.cert_format.specs.declared.note.Note.{Note}
 use Rattle.conspec_tree.specs.declared.types.Atom.{Atom}
 use Rattle.conspec_tree.specs.declared.types.Kind.{Kind}
 use Rattle.conspec_tree.specs.declared.types.Phase.{Phase}
@@ -11,12 +12,15 @@ use Rattle.conspec_tree.specs.declared.types.Phase.TheVariants.{Before, After, E
 use Rattle.conspec_automaton.specs.declared.policy.Branch.{Branch}
 use Rattle.conspec_automaton.specs.declared.policy.Clause.{Clause}
 use Rattle.conspec_automaton.specs.declared.policy.Policy.{Policy}
+use Rattle.conspec_automaton.specs.Next.{has_clauses}
+use Rattle.offset_patch.specs.Splicing.{fronts_from, fronts_of, part_of}
 use Rattle.block_template.specs.declared.item.Item.{Item}
 use Rattle.block_template.specs.declared.item.Role.{Role}
 use Rattle.block_template.specs.declared.item.Role.TheVariants as roles
 use Rattle.block_template.specs.Blocks.{
   Clauses,
   behind,
+  block_with,
   bools_of,
   call,
   called,
@@ -30,12 +34,13 @@ use Rattle.block_template.specs.Blocks.{
   items,
   leave,
   lets_pass,
+  plan_of,
   released,
   rethrow,
+  site,
   with_handler,
 }
 use Rattle.block_template.specs.Parts.{asks, branch_size, branches, branches_size, check, give, if_reached, keep, loads, lock, save, tried, unlock, unreached, writes}
-use Rattle.cert_maker.specs.Noting.{block_notes, note_of}
 
 abbrev roles_in : List Item → List Role
 roles_in xs = map (λ (i : Item). i.role) xs
@@ -171,16 +176,50 @@ module _ (bools : List Bool) (base other : ℕ) where
         (front_alike mode clauses.before)
         (reached (lets_pass clauses.before) (from_call mode bools base at clauses) (from_call mode bools other there clauses) (from_alike at there))
 
-told_alike : {X : Type 0} (f : Role → X) (xs : List Item) → map (λ (i : Item). f i.role) xs ≡ map f (roles_in xs)
-told_alike f [] = refl
-told_alike {X = X} f (x ∷ xs) = ap (λ (rest : List X). f x.role ∷ rest) (told_alike f xs)
+told_by : {X : Type 0} (f : Role → X) (xs : List Item) → map (λ (i : Item). f i.role) xs ≡ map f (roles_in xs)
+told_by f [] = refl
+told_by {X = X} f (x ∷ xs) = ap (λ (rest : List X). f x.role ∷ rest) (told_by f xs)
 
--- So its notes are told of the block whose locals begin at 0.
-pub notes_alike : (policy : Policy) (mode : Mode) (base callee : ℕ)
-    → map (λ (i : Item). note_of policy (record { callee = callee; base = base }) i.role) (items mode (bools_of policy) 0 (clauses_of policy callee))
-    ≡ block_notes policy mode base callee
-notes_alike policy mode base callee =
-    let f : Role → Note = note_of policy (record { callee = callee; base = base }) in
-    told_alike f (items mode (bools_of policy) 0 (clauses_of policy callee))
-    ∙ ap (map f) (items_alike (bools_of policy) 0 base mode (clauses_of policy callee))
-    ∙ sym (told_alike f (items mode (bools_of policy) base (clauses_of policy callee)))
+-- So what is told of roles alone is told alike of the blocks of a method, wherever their locals begin.
+pub told_alike : {X : Type 0} (f : Role → X) (policy : Policy) (mode : Mode) (base other method : ℕ)
+    → map (λ (i : Item). f i.role) (items mode (bools_of policy) base (clauses_of policy method))
+    ≡ map (λ (i : Item). f i.role) (items mode (bools_of policy) other (clauses_of policy method))
+told_alike f policy mode base other method =
+    told_by f (items mode (bools_of policy) base (clauses_of policy method))
+    ∙ ap (map f) (items_alike (bools_of policy) base other mode (clauses_of policy method))
+    ∙ sym (told_by f (items mode (bools_of policy) other (clauses_of policy method)))
+
+-- They are as long.
+pub long_alike : (policy : Policy) (mode : Mode) (base other method : ℕ)
+    → length (items mode (bools_of policy) base (clauses_of policy method)) ≡ length (items mode (bools_of policy) other (clauses_of policy method))
+long_alike policy mode base other method =
+    sym (length-map (items mode (bools_of policy) base (clauses_of policy method)) (λ (i : Item). i.role))
+    ∙ ap length (items_alike (bools_of policy) base other mode (clauses_of policy method))
+    ∙ length-map (items mode (bools_of policy) other (clauses_of policy method)) (λ (i : Item). i.role)
+
+-- ---- where parts stand
+
+part_alike : (policy : Policy) (mode : Mode) (base other : ℕ) (ref : Target)
+    → length (part_of (site policy mode base ref)) ≡ length (part_of (site policy mode other ref))
+part_alike policy mode base other (target.ApiMethod method) = by (has_clauses policy method)
+  where
+    by : (b : Bool) → length (part_of (cond b (Some (block_with mode (bools_of policy) base (clauses_of policy method))) None))
+        ≡ length (part_of (cond b (Some (block_with mode (bools_of policy) other (clauses_of policy method))) None))
+    by true =
+        length-map (items mode (bools_of policy) base (clauses_of policy method)) (λ (i : Item). i.insn)
+        ∙ long_alike policy mode base other method
+        ∙ sym (length-map (items mode (bools_of policy) other (clauses_of policy method)) (λ (i : Item). i.insn))
+    by false = refl
+part_alike policy mode base other ref = refl
+
+fronts_alike_from : (policy : Policy) (mode : Mode) (base other at : ℕ) (refs : List Target)
+    → fronts_from at (map (site policy mode base) refs) ≡ fronts_from at (map (site policy mode other) refs)
+fronts_alike_from policy mode base other at [] = refl
+fronts_alike_from policy mode base other at (ref ∷ refs) =
+    ap (λ (n : ℕ). at ∷ fronts_from (at + n) (map (site policy mode base) refs)) (part_alike policy mode base other ref)
+    ∙ ap (λ (fronts : List ℕ). at ∷ fronts) (fronts_alike_from policy mode base other (at + length (part_of (site policy mode other ref))) refs)
+
+-- The fronts of parts are the same.
+pub fronts_alike : (policy : Policy) (mode : Mode) (base other : ℕ) (refs : List Target)
+    → fronts_of (map ((plan_of policy mode).block base) refs) ≡ fronts_of (map ((plan_of policy mode).block other) refs)
+fronts_alike policy mode base other refs = fronts_alike_from policy mode base other 0 refs

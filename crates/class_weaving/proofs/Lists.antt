@@ -1,7 +1,6 @@
 -- Lists, and what stands in them.
-use Rattle.std.proofs.Common.{◌≡◌, ℕ, zero, suc, ◌+◌, ◌<◌, List, [], ◌∷◌, ◌++◌, length, Some, refl, ap, subst, inl, inr, arith}
-use Rattle.std.specs.Prelude.{◌⊎◌, slice_get}
-use Rattle.std.specs.List.{AllByRecursion}
+use Rattle.std.proofs.Common.{◌≡◌, ℕ, zero, suc, ◌+◌, ◌<◌, List, [], ◌∷◌, ◌++◌, length, Some, refl, subst, arith}
+use Rattle.std.specs.Prelude.{slice_get}
 use Rattle.class_weaving.specs.Outcome.{Each}
 
 pub get_left : {A : Type 0} (xs ys : List A) (k : ℕ) → k < length xs → slice_get (xs ++ ys) k ≡ slice_get xs k
@@ -22,27 +21,6 @@ slice_there [] i lt = absurd (omega arith)
 slice_there (x ∷ xs) zero lt = (x, refl)
 slice_there (x ∷ xs) (suc i) lt = slice_there xs i (omega arith)
 
--- An item of a list is one that stands out, or one of the others, of which this holds.
-pub either_side : {X : Type 0} (P : X → Type 0) (xs : List X) (y : X) (zs : List X) → AllByRecursion P xs → AllByRecursion P zs
-    → (k : ℕ) (x : X) → slice_get (xs ++ y ∷ zs) k ≡ Some x → ((k ≡ length xs) × (x ≡ y)) ⊎ P x
-either_side {X = X} P [] y zs a b zero x e = inl (refl, cc)
-either_side {X = X} P [] y zs a b (suc k) x e = inr (later zs b k e)
-  where
-    later : (zs : List X) → AllByRecursion P zs → (k : ℕ) → slice_get zs k ≡ Some x → P x
-    later [] all k e = absurd cc
-    later (z ∷ zs) all zero e =
-        let same : z ≡ x = cc in
-        subst P same all.0
-    later (z ∷ zs) all (suc k) e = later zs all.1 k e
-either_side {X = X} P (w ∷ xs) y zs a b zero x e =
-    let same : w ≡ x = cc in
-    inr (subst P same a.0)
-either_side {X = X} P (w ∷ xs) y zs a b (suc k) x e =
-    elim (either_side P xs y zs a.1 b k x e) [
-      | inl is ↦ inl (ap suc is.0, is.1)
-      | inr other ↦ inr other
-    ]
-
 -- ---- items that belong together
 
 pub each_back : {X Y : Type 0} (Belong : X → Y → Type 0) (xs : List X) (ys : List Y) (i : ℕ) (y : Y) → Each Belong xs ys
@@ -54,3 +32,12 @@ each_back Belong (x ∷ xs) (z ∷ ys) zero y e f =
     let same : z ≡ y = cc in
     (x, refl, subst (Belong x) same e.0)
 each_back Belong (x ∷ xs) (z ∷ ys) (suc i) y e f = each_back Belong xs ys i y e.1 f
+
+pub each_on : {X Y : Type 0} (Belong : X → Y → Type 0) (xs : List X) (ys : List Y) (i : ℕ) (x : X) → Each Belong xs ys
+    → slice_get xs i ≡ Some x → (y : Y) × (slice_get ys i ≡ Some y) × Belong x y
+each_on {X = X} Belong [] ys i x e f = absurd cc
+each_on {X = X} Belong (z ∷ xs) [] i x e f = absurd e
+each_on {X = X} Belong (z ∷ xs) (y ∷ ys) zero x e f =
+    let same : z ≡ x = cc in
+    (y, refl, subst (λ (w : X). Belong w y) same e.0)
+each_on {X = X} Belong (z ∷ xs) (y ∷ ys) (suc i) x e f = each_on Belong xs ys i x e.1 f

@@ -1,5 +1,6 @@
 -- Where the parts of a woven method stand: the block of an instruction, or the instruction alone.
 use Rattle.std.proofs.Common.{◌≡◌, ℕ, zero, suc, ◌+◌, ◌-◌, ◌<◌, ◌≤◌, List, [], ◌∷◌, length, map, refl, ap, ◌∙◌, inl, inr, arith, length-append}
+use Rattle.std.specs.List.{flat_map}
 use Rattle.std.specs.Prelude.{Some, nat_lt, slice_get, slice_index, option_map}
 use Rattle.std.proofs.lemmas.List.{length-map}
 use Rattle.std.proofs.lemmas.Bool.{cases_Bool, ltb-true}
@@ -12,7 +13,7 @@ use Rattle.offset_patch.specs.declared.block.BlockInsn.{BlockInsn}
 use Rattle.offset_patch.specs.Plan.{Plan}
 use Rattle.offset_patch.specs.Splicing.{fronts_from, part_of, parts_from, put}
 use Rattle.class_weaving.specs.Outcome.{part_named, parts_named}
-use Rattle.woven_typing.proofs.Lists.{get_left, get_right}
+use Rattle.class_weaving.proofs.Lists.{get_left, get_right}
 
 module _ (plan : Plan) (base : ℕ) where
   abbrev pub part : Target → List BlockInsn
@@ -174,3 +175,21 @@ module _ (plan : Plan) (base : ℕ) where
         length-map (part r) (put pool fronts begin x),
         insns_many pool fronts (begin + length (part r)) own refs (omega arith),
       )
+
+  -- what is told of each part, and is as long as the part
+  pub told_at : {X : Type 0} (told : Target → List X) → ((ref : Target) → length (told ref) ≡ length (part ref)) → (refs : List Target) (i k : ℕ)
+      (ref : Target) → slice_get refs i ≡ Some ref → k < length (part ref)
+      → slice_get (flat_map told refs) (before refs i + k) ≡ slice_get (told ref) k
+  told_at told long [] i k ref e lt = absurd cc
+  told_at told long (r ∷ refs) zero k ref e lt =
+      let same : r ≡ ref = cc in
+      let at : 0 + k ≡ k = omega arith in
+      rw (same, at) (get_left (told ref) (flat_map told refs) k (omega (arith, lt, long ref)))
+  told_at told long (r ∷ refs) (suc i) k ref e lt =
+      let at : before (r ∷ refs) (suc i) + k ≡ length (told r) + (before refs i + k) = omega (arith, long r) in
+      rw at (get_right (told r) (flat_map told refs) (before refs i + k) ∙ told_at told long refs i k ref e lt)
+
+  pub told_many : {X : Type 0} (told : Target → List X) → ((ref : Target) → length (told ref) ≡ length (part ref)) → (refs : List Target)
+      → length (flat_map told refs) ≡ total refs
+  told_many told long [] = refl
+  told_many told long (ref ∷ refs) = omega (arith, length-append (told ref) (flat_map told refs), long ref, told_many told long refs)
