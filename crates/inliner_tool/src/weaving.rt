@@ -206,11 +206,12 @@ fn rewoven(alloc: Global, words: &InlineWords, given: Given, made: Woven) -> Res
 {
     let Given {
         client,
-        typing,
+        typing: before,
         policy,
         mode,
     } = given;
-    let typing = typing_of(alloc, &client, &policy, mode, &typing)?;
+    let typing = typing_of(alloc, &client, &policy, mode, &before)?;
+    drop(before);
     let Program {
         classes,
         listing,
