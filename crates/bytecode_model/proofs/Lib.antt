@@ -3,6 +3,7 @@ pub mod Codes
 pub mod Ending
 pub mod Lists
 pub mod Names
+pub mod Passing
 pub mod Picking
 pub mod Placing
 pub mod Staying

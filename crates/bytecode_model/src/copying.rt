@@ -6,7 +6,7 @@ use crate::program::{Handler, LinkedClass, Method, Program};
 use api_listing::{ListedClass, ListedMethod, Listing};
 use class_codec::{Copied, copy_list};
 use insn_codec::Insn;
-use mon_base::{Bytes, List, MethodId, NoMemory};
+use mon_base::{BoxedList, Bytes, List, MethodId, NoMemory};
 use std::alloc::Global;
 
 impl Program {
@@ -117,7 +117,7 @@ pub fn copy_insn(alloc: Global, insn: &Insn) -> Result<Insn, NoMemory>
         } => Ok(Insn::Table {
             other: *other,
             low: *low,
-            targets: copy_targets(alloc, targets)?,
+            targets: copy_targets(alloc, targets.as_slice())?,
         }),
         Insn::Lookup {
             other,
@@ -125,25 +125,25 @@ pub fn copy_insn(alloc: Global, insn: &Insn) -> Result<Insn, NoMemory>
             targets,
         } => Ok(Insn::Lookup {
             other: *other,
-            keys: copy_keys(alloc, keys)?,
-            targets: copy_targets(alloc, targets)?,
+            keys: copy_keys(alloc, keys.as_slice())?,
+            targets: copy_targets(alloc, targets.as_slice())?,
         }),
     }
 }
 
-fn copy_targets(alloc: Global, targets: &List<u32>) -> Result<List<u32>, NoMemory>
+fn copy_targets(alloc: Global, targets: &[u32]) -> Result<BoxedList<u32>, NoMemory>
     ensures { IfOk result (λ copy. copy ≡ targets.now) }
 {
-    let items = Vec::from_slice(alloc, targets.as_slice())?;
-    Ok(List::from_vec(items))
+    let items = Vec::from_slice(alloc, targets)?;
+    BoxedList::new(alloc, List::from_vec(items))
 }
 
 /// The keys of a `lookupswitch` again.
-pub fn copy_keys(alloc: Global, keys: &List<i32>) -> Result<List<i32>, NoMemory>
+pub fn copy_keys(alloc: Global, keys: &[i32]) -> Result<BoxedList<i32>, NoMemory>
     ensures { IfOk result (λ copy. copy ≡ keys.now) }
 {
-    let items = Vec::from_slice(alloc, keys.as_slice())?;
-    Ok(List::from_vec(items))
+    let items = Vec::from_slice(alloc, keys)?;
+    BoxedList::new(alloc, List::from_vec(items))
 }
 
 fn copy_listing(alloc: Global, listing: &Listing) -> Result<Listing, NoMemory>

@@ -1,5 +1,5 @@
 -- Loops that read items, one after another.
-use Rattle.std.proofs.Common.{◌≡◌, ℕ, suc, ◌-◌, ◌+◌, ◌≤◌, ◌<◌, List, [], ◌∷◌, ◌++◌, length, get_or, take, min, Result, Ok, Err, refl, sym, ap, subst, ◌∙◌, append_assoc, arith}
+use Rattle.std.proofs.Common.{◌≡◌, ℕ, suc, ◌-◌, ◌+◌, ◌≤◌, ◌<◌, List, [], ◌∷◌, ◌++◌, length, map, get_or, take, min, Result, Ok, Err, refl, sym, ap, subst, ◌∙◌, append_assoc, arith}
 use Rattle.std.specs.List.{flat_map, zip}
 use Rattle.std.proofs.lemmas.List.{append-nil, take_all, take_more}
 use Rattle.std.proofs.lemmas.Grind.{flat_map-append}
@@ -53,6 +53,50 @@ unfolding several_at
 is_done {X = X} item front count i used place total le so_far =
     let k : count - i ≡ 0 = omega arith in
     let one : with_front front (several_at item (count - i) used place) ≡ Ok ((front, used), place) = rw k (ap (λ (xs : List X). answer ((xs, used), place)) (append-nil front)) in
+    sym so_far ∙ one
+
+-- ---- pairs, whose halves go into two lists
+
+-- what was read before, and what is still read
+abbrev pub with_fronts : {F N : Type 0} → List F → List N → Decoded (List (F × N) × ℕ) → Decoded ((List F × List N) × ℕ)
+with_fronts firsts seconds read =
+    read >>= λ x. Ok (((firsts ++ map (λ pair. pair.0) x.0.0, seconds ++ map (λ pair. pair.1) x.0.0), x.0.1), x.1)
+
+regroup_both : {F N : Type 0} (firsts : List F) (seconds : List N) (pair : F × N) (read : Decoded (List (F × N) × ℕ))
+    → with_fronts firsts seconds (read >>= λ x. Ok ((pair ∷ x.0.0, x.0.1), x.1)) ≡ with_fronts (firsts ++ pair.0 ∷ []) (seconds ++ pair.1 ∷ []) read
+regroup_both {F = F} {N = N} firsts seconds pair (Ok x) =
+    let one = sym (append_assoc firsts (pair.0 ∷ []) (map (λ (p : F × N). p.0) x.0.0)) in
+    let two = sym (append_assoc seconds (pair.1 ∷ []) (map (λ (p : F × N). p.1) x.0.0)) in
+    rw (one, two) refl
+regroup_both firsts seconds pair (Err e) = refl
+
+pub both_go_on : {F N : Type 0} (item : ℕ → Place → Decoded ((F × N) × ℕ)) (firsts : List F) (seconds : List N) (count i used : ℕ) (place : Place)
+    (pair : F × N) (after : ℕ) (next : Place) (total : Decoded ((List F × List N) × ℕ)) → i < count → item used place ≡ Ok ((pair, after), next)
+    → with_fronts firsts seconds (several_at item (count - i) used place) ≡ total
+    → with_fronts (firsts ++ pair.0 ∷ []) (seconds ++ pair.1 ∷ []) (several_at item (count - (i + 1)) after next) ≡ total
+unfolding several_at
+both_go_on item firsts seconds count i used place pair after next total lt h so_far =
+    let k : count - i ≡ suc (count - (i + 1)) = omega arith in
+    let one : with_fronts firsts seconds (several_at item (count - i) used place)
+    ≡ with_fronts (firsts ++ pair.0 ∷ []) (seconds ++ pair.1 ∷ []) (several_at item (count - (i + 1)) after next) = rw (k, h) (regroup_both firsts seconds pair (several_at item (count - (i + 1)) after next)) in
+    sym one ∙ so_far
+
+pub both_end : {F N : Type 0} (item : ℕ → Place → Decoded ((F × N) × ℕ)) (e : CertForm) (firsts : List F) (seconds : List N) (count i used : ℕ)
+    (place : Place) (total : Decoded ((List F × List N) × ℕ)) → i < count → Fails Memory e (item used place)
+    → with_fronts firsts seconds (several_at item (count - i) used place) ≡ total → Fails Memory e total
+unfolding several_at
+both_end {F = F} {N = N} item e firsts seconds count i used place total lt h so_far =
+    let k : count - i ≡ suc (count - (i + 1)) = omega arith in
+    let one = failed Memory e (several_at item (suc (count - (i + 1))) used place) (λ x. Ok (((firsts ++ map (λ (p : F × N). p.0) x.0.0, seconds ++ map (λ (p : F × N). p.1) x.0.0), x.0.1), x.1)) (failed Memory e (item used place) (λ first. several_at item (count - (i + 1)) first.0.1 first.1 >>= λ others. Ok ((first.0.0 ∷ others.0.0, others.0.1), others.1)) h) in
+    along Memory e (with_fronts firsts seconds (several_at item (suc (count - (i + 1))) used place)) total (subst (λ (n : ℕ). with_fronts firsts seconds (several_at item n used place) ≡ total) k so_far) one
+
+pub both_done : {F N : Type 0} (item : ℕ → Place → Decoded ((F × N) × ℕ)) (firsts : List F) (seconds : List N) (count i used : ℕ) (place : Place)
+    (total : Decoded ((List F × List N) × ℕ)) → count ≤ i → with_fronts firsts seconds (several_at item (count - i) used place) ≡ total
+    → total ≡ Ok (((firsts, seconds), used), place)
+unfolding several_at
+both_done item firsts seconds count i used place total le so_far =
+    let k : count - i ≡ 0 = omega arith in
+    let one : with_fronts firsts seconds (several_at item (count - i) used place) ≡ Ok (((firsts, seconds), used), place) = rw (k, append-nil firsts, append-nil seconds) refl in
     sym so_far ∙ one
 
 -- ---- items that use none

@@ -276,6 +276,12 @@ instruction_at vars names used p = do
   reached ← flag_at p
   if reached.0 then reached_at vars names used reached.1 else not_reached_at used reached.1
 
+-- the frames and the notes of so many instructions
+unfoldable pub instructions_at : ℕ → List Name → ℕ → ℕ → Place → Decoded ((List (Option FrameType) × List Note) × ℕ)
+instructions_at vars names n used p = do
+  pairs ← several_at (instruction_at vars names) n used p
+  Ok ((unzipped pairs.0.0, pairs.0.1), pairs.1)
+
 unfoldable pub told_method : ℕ → List Name → ℕ → Place → Decoded ((List (Option FrameType) × List Note) × ℕ)
 told_method vars names used p = do
   pairs ← long_list_at (instruction_at vars names) used p

@@ -6,20 +6,21 @@ ghost use Rattle.cert_format.specs.Fits as fits;
 ghost use Rattle.cert_format.specs.Fits.{SpellsCertificate};
 ghost use Rattle.mon_base.specs.Answer.{Reads, Answers};
 ghost use Rattle.cert_format.specs.Reading.{Uses, reference_at, type_of_kind, told_type, types_at, locals_at};
-ghost use Rattle.cert_format.specs.Reading.{frame_at, not_reached_at, reached_at, instruction_at, told_method, told_class};
+ghost use Rattle.cert_format.specs.Reading.{frame_at, not_reached_at, reached_at, instruction_at, instructions_at, told_method, told_class};
 ghost use Rattle.cert_format.specs.Reading.{classes_at, head_at, body_at, certificate_at, certificate_of};
 
 use crate::certificate::{Certificate, Mode};
 use crate::fault::CertForm;
-use crate::items::{Item, Table, long_list, short_list};
+use crate::items::{Item, Table, room_for, short_list};
 use crate::name::Name;
 use crate::names::read_names;
 use crate::note::Note;
 use crate::note_reading::{free, note};
 use crate::pairs::unzip;
 use crate::place::{flag, u1, u2, u4};
+use crate::sharing::push_frame;
 use crate::typing::{FrameType, Typing, VType};
-use mon_base::{Cursor, List};
+use mon_base::{Cursor, List, SharedList};
 use std::alloc::Global;
 
 /// The first bytes of each certificate, "CSPC".
@@ -140,7 +141,10 @@ fn frame(
 {
     let locals = locals(alloc, table, used, from)?;
     let stack = types(alloc, table, used, from)?;
-    Ok(FrameType { locals, stack })
+    Ok(FrameType {
+        locals: SharedList::new(alloc, locals)?,
+        stack,
+    })
 }
 
 /// The frame and the note of an instruction that is reached.
@@ -158,36 +162,57 @@ fn reached(
     Ok((Some(frame), note))
 }
 
-impl Item for (Option<FrameType>, Note) {
-    ghost item_at = { instruction_at };
-
-    #[tactic(auto, unfolding(crate::specs::Reading::instruction_at, crate::specs::Reading::not_reached_at))]
-    fn read(
-        alloc: Global,
-        table: &Table,
-        used: &mut usize,
-        from: &mut Cursor,
-    ) -> Result<(Option<FrameType>, Note), CertForm> {
-        if flag(from)? {
-            reached(alloc, table, used, from)
-        } else {
-            Ok((None, free(from)?))
-        }
+/// The frame and the note of an instruction, where it is reached, and else Free.
+#[tactic(auto, unfolding(crate::specs::Reading::instruction_at, crate::specs::Reading::not_reached_at))]
+fn instruction(
+    alloc: Global,
+    table: &Table,
+    used: &mut usize,
+    from: &mut Cursor,
+) -> Result<(Option<FrameType>, Note), CertForm>
+    ensures { Uses result (instruction_at table.now.vars table.now.names.now used.old from.old) used.new from.new }
+{
+    if flag(from)? {
+        reached(alloc, table, used, from)
+    } else {
+        Ok((None, free(from)?))
     }
+}
+
+/// The frames and the notes of that many instructions.
+#[tactic(auto, unfolding(crate::specs::Reading::instructions_at))]
+fn instructions(
+    alloc: Global,
+    table: &Table,
+    count: u32,
+    used: &mut usize,
+    from: &mut Cursor,
+) -> Result<(List<Option<FrameType>>, List<Note>), CertForm>
+    ensures { Uses result (instructions_at table.now.vars table.now.names.now count used.old from.old) used.new from.new }
+{
+    let room = room_for(count);
+    let mut frames = List::with_room(alloc, room)?;
+    let mut notes = List::with_room(alloc, room)?;
+    for _ in 0..count {
+        let (frame, note) = instruction(alloc, table, used, from)?;
+        push_frame(&mut frames, frame)?;
+        notes.push(note)?;
+    }
+    Ok((frames, notes))
 }
 
 impl Item for (List<Option<FrameType>>, List<Note>) {
     ghost item_at = { told_method };
 
-    #[tactic(auto, unfolding(crate::specs::Reading::told_method))]
+    #[tactic(auto, unfolding(crate::specs::Reading::told_method, crate::specs::Reading::long_list_at, crate::specs::Reading::instructions_at))]
     fn read(
         alloc: Global,
         table: &Table,
         used: &mut usize,
         from: &mut Cursor,
     ) -> Result<(List<Option<FrameType>>, List<Note>), CertForm> {
-        let pairs = long_list(alloc, table, used, from)?;
-        Ok(unzip(alloc, pairs)?)
+        let count = u4(from)?;
+        instructions(alloc, table, count, used, from)
     }
 }
 

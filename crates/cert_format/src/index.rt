@@ -5,7 +5,6 @@ ghost use Rattle.cert_format.specs.Names.{Name, name_index, with_name};
 ghost use Rattle.cert_format.specs.Index.{found, AreKnown};
 ghost use Rattle.cert_format.specs.Spelling.{spell_names};
 
-use crate::items::with_room;
 use crate::writing::{put_u2, put_u4};
 use mon_base::{Bytes, List, NoMemory};
 use std::alloc::Global;
@@ -57,7 +56,7 @@ fn slot_of(name: &[u8]) -> usize {
 fn no_slots<'a>(alloc: Global) -> Result<List<Option<Known<'a>>>, NoMemory>
     ensures { IfOk result (λ slots. (names : Items Name) → AreKnown names slots) }
 {
-    let mut slots = with_room(alloc, SLOTS)?;
+    let mut slots = List::with_room(alloc, SLOTS)?;
     for _ in 0..SLOTS {
         slots.push(None)?;
     }

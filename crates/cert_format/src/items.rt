@@ -1,12 +1,12 @@
 //! Items that use names of the table, one after another.
 
-ghost use Rattle.std.specs.Prelude.{◌≡◌, [], IfOk};
-ghost use Rattle.cert_format.specs.Reading.{Uses, several_at, short_list_at, long_list_at};
+ghost use Rattle.std.specs.Prelude.{◌≤◌};
+ghost use Rattle.cert_format.specs.Reading.{Uses, several_at, short_list_at};
 
 use crate::fault::CertForm;
 use crate::name::Name;
-use crate::place::{u2, u4};
-use mon_base::{Cursor, List, NoMemory};
+use crate::place::u2;
+use mon_base::{Cursor, List};
 use std::alloc::Global;
 
 /// What the items of a certificate are read with: the table of names, and the number of the policy's variables.
@@ -51,28 +51,14 @@ pub fn short_list<T: Item>(
     several(alloc, table, count as u32, used, from)
 }
 
-/// The items that four bytes count.
-#[tactic(auto, unfolding(crate::specs::Reading::long_list_at))]
-pub fn long_list<T: Item>(
-    alloc: Global,
-    table: &Table,
-    used: &mut usize,
-    from: &mut Cursor,
-) -> Result<List<T>, CertForm>
-    ensures { Uses result (long_list_at (T.item_at table.now.vars table.now.names.now) used.old from.old) used.new from.new }
-{
-    let count = u4(from)?;
-    several(alloc, table, count, used, from)
-}
-
 /// How many items there is room for at most before they are read: as many as a method has instructions, or less than one more.
 const MOST_ROOM: usize = 65_536;
 
-/// A list without items that takes so many without being moved.
-pub fn with_room<T>(alloc: Global, n: usize) -> Result<List<T>, NoMemory>
-    ensures { IfOk result (λ list. list ≡ []) }
+/// For how many of so many items there is room before they are read.
+pub fn room_for(count: u32) -> usize
+    ensures { result ≤ 65536 }
 {
-    Ok(List::from_vec(Vec::with_capacity(alloc, n)?))
+    (count as usize).min(MOST_ROOM)
 }
 
 /// That many items. Memory is taken for some before they are read, so for more than there are only where reading fails.
@@ -85,7 +71,7 @@ fn several<T: Item>(
 ) -> Result<List<T>, CertForm>
     ensures { Uses result (several_at (T.item_at table.now.vars table.now.names.now) count used.old from.old) used.new from.new }
 {
-    let mut items = with_room(alloc, (count as usize).min(MOST_ROOM))?;
+    let mut items = List::with_room(alloc, room_for(count))?;
     for _ in 0..count {
         let item = T::read(alloc, table, used, from)?;
         items.push(item)?;

@@ -17,6 +17,7 @@ mod note_reading;
 mod note_writing;
 mod pairs;
 mod place;
+mod sharing;
 mod typing;
 mod writing;
 
@@ -26,4 +27,5 @@ pub use encoding::{MAX_LEN, encode, one_spelling};
 pub use fault::{CertForm, CertLong};
 pub use name::Name;
 pub use note::{Note, Phase8, Site, Term};
+pub use sharing::{are_same, copied_types, push_frame, put_types};
 pub use typing::{FrameType, Typing, VType};

@@ -6,7 +6,6 @@ ghost use Rattle.cert_format.specs.Reading.{term_at, term_of_kind, terms_at, pha
 ghost use Rattle.cert_format.specs.Reading.{held_at, granted_at, owed_at, stop_at, note_of_kind, note_at, free_at};
 
 use crate::fault::CertForm;
-use crate::items::with_room;
 use crate::note::{Note, Phase8, Site, Term};
 use crate::place::{flag, i4, u1, u2};
 use mon_base::{Cursor, List};
@@ -48,7 +47,7 @@ const MOST_TERMS: usize = 256;
 fn several_terms(alloc: Global, count: u32, from: &mut Cursor) -> Result<List<Term>, CertForm>
     ensures { Reads CertForm.Memory result (counted term_at count from.old) from.new }
 {
-    let mut terms = with_room(alloc, (count as usize).min(MOST_TERMS))?;
+    let mut terms = List::with_room(alloc, (count as usize).min(MOST_TERMS))?;
     for _ in 0..count {
         terms.push(term(from)?)?;
     }

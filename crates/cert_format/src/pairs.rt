@@ -3,7 +3,6 @@
 ghost use Rattle.std.specs.Prelude.{◌≡◌, IfOk};
 ghost use Rattle.cert_format.specs.Reading.{unzipped};
 
-use crate::items::with_room;
 use mon_base::{List, NoMemory};
 use std::alloc::Global;
 
@@ -14,8 +13,8 @@ pub fn unzip<F: Drop, N: Drop>(
 ) -> Result<(List<F>, List<N>), NoMemory>
     ensures { IfOk result (λ lists. lists ≡ unzipped pairs) }
 {
-    let mut firsts = with_room(alloc, pairs.len())?;
-    let mut seconds = with_room(alloc, pairs.len())?;
+    let mut firsts = List::with_room(alloc, pairs.len())?;
+    let mut seconds = List::with_room(alloc, pairs.len())?;
     for (first, second) in pairs.into_vec() {
         firsts.push(first)?;
         seconds.push(second)?;

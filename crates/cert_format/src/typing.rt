@@ -1,7 +1,9 @@
 //! The types of what locals and stack places hold before each instruction.
 
+ghost use Rattle.std.specs.Prelude.{◌≡◌, IfOk};
+
 use crate::name::Name;
-use mon_base::List;
+use mon_base::{List, NoMemory, SharedList};
 
 /// What a local or a stack place holds, as the verifier sees it. (The Java Virtual Machine Specification, section
 /// 4.10.1.2.)
@@ -21,10 +23,27 @@ pub enum VType {
     Uninit(u32),
 }
 
-/// The types before an instruction: of the locals, and of the operand stack from its bottom.
+impl VType {
+    /// The type once more, with the same name.
+    pub fn share(&self) -> Result<VType, NoMemory>
+        ensures { IfOk result (λ t. t ≡ self.now) }
+    {
+        match self {
+            VType::Top => Ok(VType::Top),
+            VType::Int => Ok(VType::Int),
+            VType::Null => Ok(VType::Null),
+            VType::Ref(name) => Ok(VType::Ref(name.share()?)),
+            VType::UninitThis => Ok(VType::UninitThis),
+            VType::Uninit(at) => Ok(VType::Uninit(*at)),
+        }
+    }
+}
+
+/// The types before an instruction: of the locals, and of the operand stack from its bottom. Instructions that follow one
+/// another mostly have the same locals, and share them.
 #[derive(Debug, Drop, PartialEq, Eq)]
 pub struct FrameType {
-    pub locals: List<VType>,
+    pub locals: SharedList<VType>,
     pub stack: List<VType>,
 }
 

@@ -6,7 +6,7 @@ ghost use Rattle.insn_codec.specs.Spelling.{opcode_of};
 use crate::opcodes::{
     BIPUSH, GOTO_W, IINC, INVOKEINTERFACE, LDC, LOOKUPSWITCH, NEWARRAY, SIPUSH, TABLESWITCH,
 };
-use mon_base::List;
+use mon_base::BoxedList;
 
 /// An instruction. Targets are indices into the code's list of instructions.
 ///
@@ -59,13 +59,13 @@ pub enum Insn {
     Table {
         other: u32,
         low: i32,
-        targets: List<u32>,
+        targets: BoxedList<u32>,
     },
     /// `lookupswitch`: the keys ascend, and each has its target; `other` is that of all other numbers.
     Lookup {
         other: u32,
-        keys: List<i32>,
-        targets: List<u32>,
+        keys: BoxedList<i32>,
+        targets: BoxedList<u32>,
     },
 }
 

@@ -12,7 +12,7 @@ use crate::fault::CodeFault;
 use crate::insn::{Case, Insn};
 use crate::place::{i4, padding};
 use crate::targets::Targets;
-use mon_base::{Cursor, List, NoMemory};
+use mon_base::{BoxedList, Cursor, List, NoMemory};
 use std::alloc::Global;
 
 /// What is counted in a switch.
@@ -127,7 +127,7 @@ fn ranged(
     Ok(Insn::Table {
         other,
         low,
-        targets: List::from_vec(all),
+        targets: BoxedList::new(alloc, List::from_vec(all))?,
     })
 }
 
@@ -165,10 +165,10 @@ fn ascend(keys: &[Case]) -> bool
 }
 
 /// The keys of the cases.
-fn keys_of(alloc: Global, cases: &[Case]) -> Result<Vec<i32>, NoMemory>
-    ensures { IfOk result (λ keys. keys.items ≡ map (λ one. one.key) cases.now) }
+fn keys_of(alloc: Global, cases: &[Case]) -> Result<List<i32>, NoMemory>
+    ensures { IfOk result (λ keys. keys ≡ map (λ one. one.key) cases.now) }
 {
-    let mut keys = Vec::new(alloc);
+    let mut keys = List::with_room(alloc, cases.len())?;
     for one in cases {
         keys.push(one.key)?;
     }
@@ -176,10 +176,10 @@ fn keys_of(alloc: Global, cases: &[Case]) -> Result<Vec<i32>, NoMemory>
 }
 
 /// The targets of the cases.
-fn targets_of(alloc: Global, cases: &[Case]) -> Result<Vec<u32>, NoMemory>
-    ensures { IfOk result (λ targets. targets.items ≡ map (λ one. one.to) cases.now) }
+fn targets_of(alloc: Global, cases: &[Case]) -> Result<List<u32>, NoMemory>
+    ensures { IfOk result (λ targets. targets ≡ map (λ one. one.to) cases.now) }
 {
-    let mut targets = Vec::new(alloc);
+    let mut targets = List::with_room(alloc, cases.len())?;
     for one in cases {
         targets.push(one.to)?;
     }
@@ -238,8 +238,8 @@ fn keyed(
     }
     Ok(Insn::Lookup {
         other,
-        keys: List::from_vec(keys_of(alloc, &all)?),
-        targets: List::from_vec(targets_of(alloc, &all)?),
+        keys: BoxedList::new(alloc, keys_of(alloc, &all)?)?,
+        targets: BoxedList::new(alloc, targets_of(alloc, &all)?)?,
     })
 }
 

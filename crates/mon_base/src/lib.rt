@@ -5,6 +5,7 @@
 //! [`List`] as the list of its items, so definitions speak of trees that hold them directly.
 #![tactic(auto)]
 
+mod boxed_list;
 mod bytes;
 mod cursor;
 mod list;
@@ -12,7 +13,9 @@ mod memory;
 mod method;
 mod number;
 mod room;
+mod shared_list;
 
+pub use boxed_list::BoxedList;
 pub use bytes::Bytes;
 pub use cursor::Cursor;
 pub use list::List;
@@ -20,3 +23,4 @@ pub use memory::NoMemory;
 pub use method::MethodId;
 pub use number::{push_count, push_number, read_number};
 pub use room::Room;
+pub use shared_list::SharedList;

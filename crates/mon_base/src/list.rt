@@ -38,6 +38,15 @@ impl<T> List<T> {
         }
     }
 
+    /// The list without items that takes so many without being moved.
+    pub fn with_room(alloc: Global, n: usize) -> Result<List<T>, NoMemory>
+        ensures { IfOk result (λ list. list ≡ []) }
+    {
+        Ok(List {
+            items: Vec::with_capacity(alloc, n)?,
+        })
+    }
+
     /// The items of the vector, which is not copied.
     pub fn from_vec(items: Vec<T>) -> List<T>
         ensures { result ≡ items.items }

@@ -1,6 +1,4 @@
-pub mod InPlace
 pub mod Trimming
 pub mod Rows
-pub mod Passing
 pub mod Methods
 pub mod Programs

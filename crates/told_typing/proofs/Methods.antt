@@ -1,6 +1,7 @@
 -- The frames of a method, as they are told, meet the rules that they met.
 use Rattle.std.proofs.Common.{◌≡◌, ℕ, zero, suc, ◌<◌, ◌≤◌, Bool, true, false, cond, List, [], ◌∷◌, length, map, Option, Some, None, refl, sym, ap, ◌∙◌, arith}
 use Rattle.std.specs.Prelude.{◌&&◌, ◌||◌, ◌==◌, not, nat_le, option_and_then, slice_get}
+use Rattle.std.specs.List.{list_all}
 use Rattle.std.specs.Option.{option_map_or}
 use Rattle.std.proofs.lemmas.Bool.{and_parts, eqb-true, leb-true, le-leb}
 use Rattle.api_listing.specs.BuiltIn.{throwable}
@@ -20,11 +21,17 @@ use Rattle.bytecode_model.specs.Rules.{Frames, catches_well, class_caught, cover
 use Rattle.bytecode_model.specs.Typed.{place_at, row_in}
 use Rattle.bytecode_model.specs.Wants.{takes}
 use Rattle.told_typing.specs.Told.{frame_told, frame_trimmed, has_room, trimmed}
-use Rattle.told_typing.proofs.Passing.{Passes, all_too, passes, row_met}
+use Rattle.bytecode_model.proofs.Passing.{Passes, passes, row_met}
 use Rattle.told_typing.proofs.Rows.{caught_same, depth_same, entry_trimmed, local_room, local_same, local_trimmed, made_same, stack_same}
 use Rattle.told_typing.proofs.Trimming.{fit_alike, fit_trimmed, trimmed_short}
 
 -- ---- lists of frames
+
+all_too : {A : Type 0} (p q : A → Bool) → ((x : A) → p x ≡ true → q x ≡ true) → (xs : List A) → list_all p xs ≡ true → list_all q xs ≡ true
+all_too p q also [] e = refl
+all_too p q also (x ∷ xs) e =
+    let both = and_parts (p x) (list_all p xs) e in
+    rw (also x both.0, all_too p q also xs both.1) refl
 
 pub frame_map : (f : Option FrameType → Option FrameType) → f None ≡ None → (frames : Frames) (at : ℕ) → frame_of (map f frames) at ≡ f (frame_of frames at)
 frame_map f none [] at = sym none

@@ -1,5 +1,5 @@
 -- Types without the Tops behind the last other type.
-use Rattle.std.proofs.Common.{◌≡◌, ℕ, zero, suc, ◌+◌, ◌-◌, ◌≤◌, Bool, true, false, List, [], ◌∷◌, ◌++◌, length, Option, Some, None, refl, sym, ap, ◌∙◌, arith}
+use Rattle.std.proofs.Common.{◌≡◌, ℕ, zero, suc, ◌+◌, ◌-◌, ◌≤◌, Bool, true, false, List, [], ◌∷◌, length, take, Option, Some, None, refl, sym, ap, ◌∙◌, arith}
 use Rattle.std.specs.Prelude.{slice_get, ◌||◌}
 use Rattle.std.specs.List.{list_any}
 use Rattle.std.proofs.lemmas.Bool.{and_parts}
@@ -10,7 +10,6 @@ use Rattle.bytecode_model.specs.declared.program.Program.{Program}
 use Rattle.bytecode_model.specs.Assigning.{assignable}
 use Rattle.bytecode_model.specs.Makes.{is_same_object, type_at}
 use Rattle.bytecode_model.specs.Rules.{has_object, locals_fit}
-use Rattle.mon_base.specs.Popping.{IsPopped}
 use Rattle.told_typing.specs.Told.{before_others, trimmed}
 
 -- ---- the end of a list
@@ -20,11 +19,6 @@ ends_later : (t u : VType) (list : List VType) → ends_with_top (t ∷ u ∷ li
 ends_later t u list =
     let last : length (t ∷ u ∷ list) - 1 ≡ suc (length (u ∷ list) - 1) = omega arith in
     ap (λ (i : ℕ). is_top (slice_get (t ∷ u ∷ list) i)) last
-
--- a Top behind is left out
-pub trimmed_behind : (list : List VType) → trimmed (list ++ types.Top ∷ []) ≡ trimmed list
-trimmed_behind [] = refl
-trimmed_behind (t ∷ list) = ap (before_others t) (trimmed_behind list)
 
 -- what does not end with Top stays
 pub trimmed_stays : (list : List VType) → ends_with_top list ≡ false → trimmed list ≡ list
@@ -44,11 +38,6 @@ trimmed_stays (t ∷ u ∷ list) e = rw (trimmed_stays (u ∷ list) (sym (ends_l
   others types.UninitThis u list = refl
   others (types.Uninit at) u list = refl
 
-last_of : (less : List VType) (t : VType) → ends_with_top (less ++ t ∷ []) ≡ is_top (Some t)
-last_of [] t = refl
-last_of (u ∷ []) t = refl
-last_of (u ∷ w ∷ less) t = ends_later u w (less ++ t ∷ []) ∙ last_of (w ∷ less) t
-
 top_is : (t : VType) → is_top (Some t) ≡ true → t ≡ types.Top
 top_is types.Top e = refl
 top_is types.Int e = absurd cc
@@ -58,14 +47,12 @@ top_is types.UninitThis e = absurd cc
 top_is (types.Uninit at) e = absurd cc
 
 -- a list that ends with Top, without its last type
-pub trimmed_popped : (list less : List VType) (r : Option VType) → ends_with_top list ≡ true → IsPopped r list less → trimmed less ≡ trimmed list
-trimmed_popped list less None top popped =
-    let e : false ≡ true = ap ends_with_top (sym popped.0) ∙ top in
-    absurd cc
-trimmed_popped list less (Some t) top popped =
-    let last : t ≡ types.Top = top_is t (sym (last_of less t) ∙ ap ends_with_top (sym popped) ∙ top) in
-    let whole : list ≡ less ++ types.Top ∷ [] = popped ∙ ap (λ (u : VType). less ++ u ∷ []) last in
-    sym (trimmed_behind less) ∙ ap trimmed (sym whole)
+pub trimmed_shorter : (list : List VType) → ends_with_top list ≡ true → trimmed (take (length list - 1) list) ≡ trimmed list
+trimmed_shorter [] e = absurd cc
+trimmed_shorter (t ∷ []) e = rw (top_is t e) refl
+trimmed_shorter (t ∷ u ∷ list) e =
+    let n : length (t ∷ u ∷ list) - 1 ≡ suc (length (u ∷ list) - 1) = omega arith in
+    rw n (ap (before_others t) (trimmed_shorter (u ∷ list) (sym (ends_later t u list) ∙ e)))
 
 -- ---- what is seen of types
 

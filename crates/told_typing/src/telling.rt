@@ -6,8 +6,8 @@ ghost use Rattle.cert_format.specs.Fits.{FitsType, ends_with_top};
 ghost use Rattle.told_typing.specs.Told.{FitsTold, FitsTyping, classes_told, frame_told, has_room, if_room, methods_told, told, trimmed};
 
 use bytecode_model::{LinkedClass, Method, Program};
-use cert_format::{FrameType, Typing, VType};
-use mon_base::{List, NoMemory};
+use cert_format::{FrameType, Typing, VType, are_same, copied_types};
+use mon_base::{List, NoMemory, SharedList};
 use std::alloc::Global;
 use std::collections::VecDeque;
 
@@ -63,53 +63,82 @@ fn methods_told(
                 Some(first) => first,
                 None => List::new(alloc),
             };
-            made.push(method_told(method, first))?;
+            made.push(method_told(alloc, method, first)?)?;
         }
         left = later;
     }
     Ok(made)
 }
 
-/// The frames of a method, each told in its place.
-fn method_told(method: &Method, frames: List<Option<FrameType>>) -> List<Option<FrameType>>
-    ensures is { result ≡ map (frame_told method.now) frames }
-    ensures fits { AllByRecursion FitsTold result }
+/// The frames of a method.
+fn method_told(
+    alloc: Global,
+    method: &Method,
+    frames: List<Option<FrameType>>,
+) -> Result<List<Option<FrameType>>, NoMemory>
+    ensures is { IfOk result (λ made. made ≡ map (frame_told method.now) frames) }
+    ensures fits { IfOk result (AllByRecursion FitsTold) }
 {
-    let mut frames = frames;
-    let mut at = 0;
-    while at < frames.len() {
-        tell(method, frames.item_mut(at));
-        at += 1;
+    let mut made = List::with_room(alloc, frames.len())?;
+    for frame in frames.into_vec() {
+        let told = frame_told(alloc, method, made.as_slice(), frame)?;
+        made.push(told)?;
     }
-    frames
+    Ok(made)
 }
 
-/// The frame becomes what is told of it.
-fn tell(method: &Method, frame: &mut Option<FrameType>)
-    ensures is { frame.new ≡ frame_told method.now frame.old }
-    ensures fits { FitsTold frame.new }
-{
-    let whole = frame.take();
-    *frame = frame_told(method, whole);
-}
-
-/// A frame as it is told, if it is.
-fn frame_told(method: &Method, frame: Option<FrameType>) -> Option<FrameType>
-    ensures is { result ≡ frame_told method.now frame }
-    ensures fits { FitsTold result }
+/// A frame as it is told, if it is. Where its locals change, it shares those of the last of the frames before.
+fn frame_told(
+    alloc: Global,
+    method: &Method,
+    before: &[Option<FrameType>],
+    frame: Option<FrameType>,
+) -> Result<Option<FrameType>, NoMemory>
+    ensures is { IfOk result (λ told. told ≡ frame_told method.now frame) }
+    ensures fits { IfOk result FitsTold }
 {
     match frame {
         Some(FrameType { locals, stack }) => {
-            if_room(
-                method,
-                FrameType {
-                    locals: trimmed(locals),
-                    stack,
-                },
-            )
+            let frame = FrameType {
+                locals: locals_told(alloc, before, locals)?,
+                stack,
+            };
+            Ok(if_room(method, frame))
         }
-        None => None,
+        None => Ok(None),
     }
+}
+
+/// The locals as they are told.
+#[tactic(auto, using(crate::proofs::Trimming::trimmed_stays))]
+fn locals_told(
+    alloc: Global,
+    before: &[Option<FrameType>],
+    locals: SharedList<VType>,
+) -> Result<SharedList<VType>, NoMemory>
+    ensures is { IfOk result (λ told. told ≡ trimmed locals) }
+    ensures last { IfOk result (λ told. ends_with_top told ≡ false) }
+{
+    if !ends_with_top(locals.as_slice()) {
+        return Ok(locals);
+    }
+    alike(alloc, before, trimmed(locals.as_slice()))
+}
+
+/// The types, with those of the last of the frames before where they are the same.
+fn alike(
+    alloc: Global,
+    before: &[Option<FrameType>],
+    types: &[VType],
+) -> Result<SharedList<VType>, NoMemory>
+    ensures { IfOk result (λ made. made ≡ types.now) }
+{
+    if let Some(Some(frame)) = before.last() {
+        if are_same(frame.locals.as_slice(), types) {
+            return frame.locals.share();
+        }
+    }
+    SharedList::new(alloc, copied_types(alloc, types, 0)?)
 }
 
 /// The frame, where the method has room for it.
@@ -136,15 +165,15 @@ fn has_room(method: &Method, frame: &FrameType) -> bool
 }
 
 /// The types without the Tops behind the last other type.
-fn trimmed(types: List<VType>) -> List<VType>
-    ensures is { result ≡ trimmed types }
-    ensures last { ends_with_top result ≡ false }
+fn trimmed(types: &[VType]) -> &[VType]
+    ensures is { result.now ≡ trimmed types.now }
+    ensures last { ends_with_top result.now ≡ false }
 {
-    let mut types = types;
-    while ends_with_top(types.as_slice()) {
-        types.pop();
+    let mut kept = types;
+    while ends_with_top(kept) {
+        kept = &kept[..kept.len() - 1];
     }
-    types
+    kept
 }
 
 fn ends_with_top(types: &[VType]) -> bool

@@ -59,35 +59,39 @@ fn without(object: &VType, types: List<VType>) -> List<VType>
 
 /// The frame with these locals and operands before the instruction: where a rule lets an object that is not made yet
 /// pass as Top alone, it is Top.
-fn settled(place: &PlaceRef, locals: List<VType>, stack: List<VType>) -> Option<Told>
-    ensures some { length locals ≤ place.now.method.max_locals → length stack ≤ place.now.method.max_stack → IsSome result }
-    ensures within { IfSome result (λ told. length told.locals ≤ place.now.method.max_locals) }
-    ensures locals { IfSome result (λ told. (j : ℕ)
-        → type_at told.locals j ≡ local_settled place.now (shape_of place.now.insn) (type_at locals j)) }
-    ensures height { IfSome result (λ told. length told.stack ≡ length stack) }
-    ensures stack { IfSome result (λ told. (j : ℕ)
-        → type_at told.stack j ≡ operand_settled place.now (shape_of place.now.insn) (type_at stack j)) }
+fn settled(
+    alloc: Global,
+    place: &PlaceRef,
+    locals: List<VType>,
+    stack: List<VType>,
+) -> Result<Option<Told>, NoMemory>
+    ensures some { length locals ≤ place.now.method.max_locals → length stack ≤ place.now.method.max_stack → IfOk result IsSome }
+    ensures within { IfOk result (λ made. IfSome made (λ told. length told.locals ≤ place.now.method.max_locals)) }
+    ensures locals { IfOk result (λ made. IfSome made (λ told. (j : ℕ)
+        → type_at told.locals j ≡ local_settled place.now (shape_of place.now.insn) (type_at locals j))) }
+    ensures height { IfOk result (λ made. IfSome made (λ told. length told.stack ≡ length stack)) }
+    ensures stack { IfOk result (λ made. IfSome made (λ told. (j : ℕ)
+        → type_at told.stack j ≡ operand_settled place.now (shape_of place.now.insn) (type_at stack j))) }
 {
     match shape_of(place.insn) {
         Shape::Heap(Heap::Return(None)) => {
             if is_maker(place.method) {
                 Told::new(
+                    alloc,
                     place.method,
                     without(&VType::UninitThis, locals),
                     without(&VType::UninitThis, stack),
                 )
             } else {
-                Told::new(place.method, locals, stack)
+                Told::new(alloc, place.method, locals, stack)
             }
         }
         Shape::Heap(Heap::New) => {
-            Told::new(
-                place.method,
-                locals,
-                without(&VType::Uninit(place.at), stack),
-            )
+            let stack = without(&VType::Uninit(place.at), stack);
+            let told = Told::new(alloc, place.method, locals, stack)?;
+            Ok(told)
         }
-        _ => Told::new(place.method, locals, stack),
+        _ => Told::new(alloc, place.method, locals, stack),
     }
 }
 
@@ -163,7 +167,8 @@ fn merged(
     let program = place.program;
     let locals = types_joined(alloc, program, old.locals.as_slice(), locals.as_slice())?;
     let stack = types_joined(alloc, program, old.stack.as_slice(), stack.as_slice())?;
-    Ok(unless_below(program, old, settled(place, locals, stack)))
+    let told = settled(alloc, place, locals, stack)?;
+    Ok(unless_below(program, old, told))
 }
 
 /// The frame that is to stand before the instruction, where these locals and operands come to it. There is none where
@@ -184,7 +189,10 @@ pub fn joined(
     assignable_is_an_order();
     rows_follow_the_order();
     match old {
-        None => Ok(settled(place, locals, stack)),
+        None => {
+            let told = settled(alloc, place, locals, stack)?;
+            Ok(told)
+        }
         Some(old) => merged(alloc, place, old, locals, stack),
     }
 }

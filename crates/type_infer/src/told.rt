@@ -1,6 +1,6 @@
 //! A frame as a certificate can tell it.
 
-ghost use Rattle.std.specs.Prelude.{◌≡◌, ◌≤◌, ◌<◌, ℕ, false, length, take, IfSome, IsSome};
+ghost use Rattle.std.specs.Prelude.{◌≡◌, ◌≤◌, ◌<◌, ℕ, false, length, take, IfOk, IfSome, IsSome};
 ghost use Rattle.std.specs.List.{AllByRecursion};
 ghost use Rattle.cert_format.specs.Fits.{FitsType, FitsFrame, ends_with_top};
 ghost use Rattle.cert_format.specs.declared.typing.VType.TheVariants.{Top};
@@ -8,7 +8,8 @@ ghost use Rattle.bytecode_model.specs.Makes.{type_at};
 
 use bytecode_model::Method;
 use cert_format::{FrameType, VType};
-use mon_base::List;
+use mon_base::{List, NoMemory, SharedList};
+use std::alloc::Global;
 use std::marker::Model;
 
 /// A frame as a certificate can tell it: its last local is not Top.
@@ -71,23 +72,29 @@ fn trimmed(types: List<VType>) -> List<VType>
 impl Told {
     /// The frame of these locals and operands. Where they are more than the method has, there is none: no frame that
     /// meets the rules has so many.
-    pub fn new(method: &Method, locals: List<VType>, stack: List<VType>) -> Option<Told>
-        ensures some { length locals ≤ method.now.max_locals → length stack ≤ method.now.max_stack → IsSome result }
-        ensures within { IfSome result (λ told. length told.locals ≤ method.now.max_locals) }
-        ensures locals { IfSome result (λ told. (j : ℕ) → type_at told.locals j ≡ type_at locals j) }
-        ensures stack { IfSome result (λ told. told.stack ≡ stack) }
+    pub fn new(
+        alloc: Global,
+        method: &Method,
+        locals: List<VType>,
+        stack: List<VType>,
+    ) -> Result<Option<Told>, NoMemory>
+        ensures some { length locals ≤ method.now.max_locals → length stack ≤ method.now.max_stack → IfOk result IsSome }
+        ensures within { IfOk result (λ made. IfSome made (λ told. length told.locals ≤ method.now.max_locals)) }
+        ensures locals { IfOk result (λ made. IfSome made (λ told. (j : ℕ) → type_at told.locals j ≡ type_at locals j)) }
+        ensures stack { IfOk result (λ made. IfSome made (λ told. told.stack ≡ stack)) }
     {
         let most_locals = usize::from(method.max_locals);
         let most_operands = usize::from(method.max_stack);
         if locals.len() > most_locals || stack.len() > most_operands {
-            return None;
+            return Ok(None);
         }
         let locals = trimmed(locals);
         read_types(locals.as_slice());
         read_types(stack.as_slice());
-        Some(Told {
+        let locals = SharedList::new(alloc, locals)?;
+        Ok(Some(Told {
             frame: FrameType { locals, stack },
-        })
+        }))
     }
 
     /// The frame.

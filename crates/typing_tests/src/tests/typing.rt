@@ -11,7 +11,7 @@ use class_codec::{ClassFile, Const};
 use code_typing::check_row;
 use insn_codec::Insn;
 use listing_text::read;
-use mon_base::{Bytes, List, NoMemory};
+use mon_base::{BoxedList, Bytes, List, NoMemory, SharedList};
 use std::alloc::Global;
 use std::process::Abort;
 use std::test::Fail;
@@ -111,7 +111,7 @@ impl Draft {
     ) -> Result<(), NoMemory> {
         self.insns.push(insn)?;
         self.refs.push(target)?;
-        let locals = types_of(alloc, locals)?;
+        let locals = SharedList::new(alloc, types_of(alloc, locals)?)?;
         let stack = types_of(alloc, stack)?;
         self.frames.push(Some(FrameType { locals, stack }))
     }

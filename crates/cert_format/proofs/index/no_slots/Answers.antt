@@ -1,6 +1,6 @@
 use Rattle.std.proofs.Common.{sym, subst}
 use Rattle.cert_format.specs.Index.{AreKnown}
-use Rattle.cert_format.proofs.Places.{known_end, none_known}
+use Rattle.cert_format.proofs.Places.{none_known}
 use Rattle.cert_format.proofs.index.no_slots.Goals as goal
 
 pub loop-init : goal.loop-init

@@ -19,16 +19,16 @@ returns-clause-kept c order =
     merge_from place reflexive transitive itself above least c.place.inside.program.now c.args.old.now c.args.locals c.args.stack c.in_ok-locals.locals c.in_ok-stack.stack program height
     (rw (c.as_slice.ensures, c.as_slice-2.ensures) at c.in_ok-locals.ensures.merged) (rw (c.as_slice.ensures, c.as_slice-2.ensures) at c.in_ok-locals.ensures.count)
     (rw (c.as_slice-3.ensures, c.as_slice-4.ensures) at c.in_ok-stack.ensures.merged) (rw (c.as_slice-3.ensures, c.as_slice-4.ensures) at c.in_ok-stack.ensures.count) in
-    let told : IsSettledBy place c.in_ok-locals.locals c.in_ok-stack.stack c.settled.result =
+    let told : IsSettledBy place c.in_ok-locals.locals c.in_ok-stack.stack c.in_ok-told.told =
     record {
-      some = c.settled.ensures.some;
-      within = c.settled.ensures.within;
-      height = c.settled.ensures.height;
-      types = c.settled.ensures.locals;
-      stack = c.settled.ensures.stack;
+      some = c.in_ok-told.ensures.some;
+      within = c.in_ok-told.ensures.within;
+      height = c.in_ok-told.ensures.height;
+      types = c.in_ok-told.ensures.locals;
+      stack = c.in_ok-told.ensures.stack;
     } in
-    let left = subst (λ (p : Program). IsUnlessBelow p c.args.old.now c.settled.result c.unless_below.result) program c.unless_below.ensures in
-    merged_kept place reflexive transitive itself above least c.args.old.now c.args.locals c.args.stack c.in_ok-locals.locals c.in_ok-stack.stack merge c.settled.result told c.unless_below.result left
+    let left = subst (λ (p : Program). IsUnlessBelow p c.args.old.now c.in_ok-told.told c.unless_below.result) program c.unless_below.ensures in
+    merged_kept place reflexive transitive itself above least c.args.old.now c.args.locals c.args.stack c.in_ok-locals.locals c.in_ok-stack.stack merge c.in_ok-told.told told c.unless_below.result left
 
 pub returns-clause-raised : goal.returns-clause-raised
 returns-clause-raised c order l s h =
@@ -44,14 +44,14 @@ returns-clause-raised c order l s h =
     merge_from place reflexive transitive itself above least c.place.inside.program.now c.args.old.now c.args.locals c.args.stack c.in_ok-locals.locals c.in_ok-stack.stack program height
     (rw (c.as_slice.ensures, c.as_slice-2.ensures) at c.in_ok-locals.ensures.merged) (rw (c.as_slice.ensures, c.as_slice-2.ensures) at c.in_ok-locals.ensures.count)
     (rw (c.as_slice-3.ensures, c.as_slice-4.ensures) at c.in_ok-stack.ensures.merged) (rw (c.as_slice-3.ensures, c.as_slice-4.ensures) at c.in_ok-stack.ensures.count) in
-    let told : IsSettledBy place c.in_ok-locals.locals c.in_ok-stack.stack c.settled.result =
+    let told : IsSettledBy place c.in_ok-locals.locals c.in_ok-stack.stack c.in_ok-told.told =
     record {
-      some = c.settled.ensures.some;
-      within = c.settled.ensures.within;
-      height = c.settled.ensures.height;
-      types = c.settled.ensures.locals;
-      stack = c.settled.ensures.stack;
+      some = c.in_ok-told.ensures.some;
+      within = c.in_ok-told.ensures.within;
+      height = c.in_ok-told.ensures.height;
+      types = c.in_ok-told.ensures.locals;
+      stack = c.in_ok-told.ensures.stack;
     } in
-    let left = subst (λ (p : Program). IsUnlessBelow p c.args.old.now c.settled.result c.unless_below.result) program c.unless_below.ensures in
-    merged_told place reflexive transitive itself above least c.args.old.now c.args.locals c.args.stack c.in_ok-locals.locals c.in_ok-stack.stack merge c.settled.result told c.unless_below.result left
+    let left = subst (λ (p : Program). IsUnlessBelow p c.args.old.now c.in_ok-told.told c.unless_below.result) program c.unless_below.ensures in
+    merged_told place reflexive transitive itself above least c.args.old.now c.args.locals c.args.stack c.in_ok-locals.locals c.in_ok-stack.stack merge c.in_ok-told.told told c.unless_below.result left
     l s

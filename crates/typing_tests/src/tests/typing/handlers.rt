@@ -50,7 +50,7 @@ fn switched(alloc: Global, reaches_case: bool, reaches_other: bool) -> Result<Op
         Insn::Table {
             other: 3,
             low: 0,
-            targets,
+            targets: BoxedList::new(alloc, targets)?,
         },
         &[],
         &[Told::Int],

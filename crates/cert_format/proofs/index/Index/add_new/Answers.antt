@@ -1,6 +1,6 @@
-use Rattle.std.proofs.Common.{◌≡◌, sym, ap, ◌∙◌, map, length, None, ◌++◌, ◌∷◌, [], cond}
+use Rattle.std.proofs.Common.{◌≡◌, ap, ◌∙◌, map, length, None, ◌++◌, ◌∷◌, [], cond}
 use Rattle.std.specs.Result.{is_ok}
-use Rattle.cert_format.specs.Index.{AreKnown, HasPlaces, found}
+use Rattle.cert_format.specs.Index.{found}
 use Rattle.cert_format.proofs.Places.{known_next, found_last, places_more}
 use Rattle.cert_format.proofs.index.Index.add_new.Goals as goal
 

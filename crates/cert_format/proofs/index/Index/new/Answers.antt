@@ -1,4 +1,4 @@
-use Rattle.std.proofs.Common.{rules, ◌≡◌, map}
+use Rattle.std.proofs.Common.{rules, map}
 use Rattle.cert_format.specs.Index.{HasPlaces}
 use Rattle.cert_format.proofs.index.Index.new.Goals as goal
 

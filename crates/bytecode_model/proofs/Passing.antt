@@ -1,8 +1,6 @@
 -- A row that does not fail: each of its rules is met.
-use Rattle.std.proofs.Common.{◌≡◌, ℕ, Bool, true, false, cond, List, [], ◌∷◌, Option, Some, None, refl, ◌∙◌}
+use Rattle.std.proofs.Common.{◌≡◌, ℕ, Bool, true, false, cond, Option, Some, None, refl, ◌∙◌}
 use Rattle.std.specs.Prelude.{◌&&◌, ◌==◌, not}
-use Rattle.std.specs.List.{list_all}
-use Rattle.std.proofs.lemmas.Bool.{and_parts}
 use Rattle.cert_format.specs.declared.typing.FrameType.{FrameType}
 use Rattle.bytecode_model.specs.Place.{Place}
 use Rattle.bytecode_model.specs.Rules.{Frames, Entry, Depth, Operand, Local, Made, Successor, Caught, rule_failing, row_failing}
@@ -53,11 +51,3 @@ module _ (frames : Frames) (place : Place) (frame : FrameType) where
       after_entry (place.at == 0) (Entry place frame) (rule_failing frames place frame) p.entry
       ∙ pass (Depth place frame) 2 _ p.depth (pass (Operand place frame) 3 _ p.operand (pass (Local place frame) 4 _ p.local (pass (Made place frame) 5 _ p.made
       (pass (Successor frames place frame) 6 _ p.successor (pass (Caught frames place frame) 7 None p.caught refl)))))
-
--- ---- lists
-
-pub all_too : {A : Type 0} (p q : A → Bool) → ((x : A) → p x ≡ true → q x ≡ true) → (xs : List A) → list_all p xs ≡ true → list_all q xs ≡ true
-all_too p q also [] e = refl
-all_too p q also (x ∷ xs) e =
-    let both = and_parts (p x) (list_all p xs) e in
-    rw (also x both.0, all_too p q also xs both.1) refl
