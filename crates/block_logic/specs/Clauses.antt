@@ -33,8 +33,8 @@ abbrev pub clause_for : Policy → ℕ → Option Clause
 clause_for policy method = find (λ (c : Clause). c.method == method) policy.clauses
 
 -- what a method gives that the policy has a clause for; each of its clauses tells the same
-abbrev pub result_of : Policy → ℕ → Option Kind
-result_of policy method = option_and_then (λ (c : Clause). c.result) (clause_for policy method)
+abbrev pub result_kind : Policy → ℕ → Option Kind
+result_kind policy method = option_and_then (λ (c : Clause). c.result) (clause_for policy method)
 
 abbrev pub is_number : Kind → Bool
 is_number kinds.Object = false

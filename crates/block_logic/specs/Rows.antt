@@ -21,7 +21,7 @@ use Rattle.conspec_tree.specs.declared.types.Rel.TheVariants as rels
 use Rattle.conspec_automaton.specs.declared.policy.Branch.{Branch}
 use Rattle.conspec_automaton.specs.declared.policy.Clause.{Clause}
 use Rattle.conspec_automaton.specs.declared.policy.Policy.{Policy}
-use Rattle.block_logic.specs.Clauses.{clause_at, clause_of, is_number, needs, result_of}
+use Rattle.block_logic.specs.Clauses.{clause_at, clause_of, is_number, needs, result_kind}
 use Rattle.block_logic.specs.Operands.{adds, calls, compared, enters, goes, is_way_out, leaves, loaded, loaded_number, number_pushed, pushes, pushes_null, pushes_state, reads_static, stored, throws, variable_named, writes_static}
 use Rattle.block_logic.specs.Standing.{asks_kept, begun, branches_of, is_after, is_before, is_done, is_hold, in_phase}
 use Rattle.block_logic.specs.Terms.{base_term, same_term, same_terms}
@@ -76,11 +76,11 @@ free_row rules shape ref =
 -- ---- Taking
 
 -- The lock is taken: the check begins, or there is none before the call.
-abbrev pub taken : Policy → Site → Note
-taken policy site = if is_some (clause_at policy site.method Before) then begun policy site else notes.Granted site true 0 false
+abbrev pub note_taken : Policy → Site → Note
+note_taken policy site = if is_some (clause_at policy site.method Before) then begun policy site else notes.Granted site true 0 false
 
 abbrev pub taking_row : Rules → Site → Shape → Option Row
-taking_row rules site shape = only_if (enters shape) (gives (taken rules.policy site))
+taking_row rules site shape = only_if (enters shape) (gives (note_taken rules.policy site))
 
 -- ---- Held
 
@@ -293,7 +293,7 @@ may_leave policy site stage = ((stage == 1) && not (is_some (clause_of policy si
 -- the result may be put into its local
 abbrev pub may_keep : Policy → Site → ℕ → Bool → Bool → Bool
 may_keep policy site stage kept top =
-    is_after site.phase && (nat_lt stage 2 && (not kept && (not top && is_some (result_of policy site.method))))
+    is_after site.phase && (nat_lt stage 2 && (not kept && (not top && is_some (result_kind policy site.method))))
 
 -- the check of a return begins with the result kept
 abbrev pub begins_owed : Policy → Site → Bool → Asked

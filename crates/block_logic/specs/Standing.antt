@@ -14,7 +14,7 @@ use Rattle.conspec_automaton.specs.declared.policy.Branch.{Branch}
 use Rattle.conspec_automaton.specs.declared.policy.Clause.{Clause}
 use Rattle.conspec_automaton.specs.declared.policy.Policy.{Policy}
 use Rattle.conspec_automaton.specs.Next.{has_clauses}
-use Rattle.block_logic.specs.Clauses.{clause_at, clause_of, result_of}
+use Rattle.block_logic.specs.Clauses.{clause_at, clause_of, result_kind}
 use Rattle.block_logic.specs.Terms.{after_updates, as_taken, same_terms}
 
 -- ---- sites
@@ -80,7 +80,7 @@ fails policy site failed = is_some (clause_of policy site) && (failed == length 
 
 -- Behind a call that gave a result, the result is kept while a check is made.
 abbrev pub asks_kept : Policy → Site → Bool
-asks_kept policy site = is_after site.phase && is_some (result_of policy site.method)
+asks_kept policy site = is_after site.phase && is_some (result_kind policy site.method)
 
 -- what is so once the check is done, with the lock still held
 abbrev pub done : Policy → Site → Note

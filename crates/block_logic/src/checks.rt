@@ -109,13 +109,6 @@ fn term_pushed(
 
 // ---- sums
 
-/// Whether a constant may be added: one of at most 1,000,000,000, or that is taken away.
-fn is_addend(n: i32) -> bool
-    ensures { result ≡ is_addend n }
-{
-    -1_000_000_000 <= n && n <= 1_000_000_000
-}
-
 /// The sum of a variable and a constant, in either order.
 fn sum_of(term: Term, other: Term) -> Option<WideTerm>
     ensures { option_map term_lent result ≡ sum_of term other }
@@ -133,11 +126,11 @@ fn sum_of(term: Term, other: Term) -> Option<WideTerm>
     }
 }
 
-/// The sum of a variable and a constant, where it may be added.
+/// The sum of a variable and a constant, where it may be added: one of at most 1,000,000,000, or that is taken away.
 fn sum(var: u8, n: i32) -> Option<WideTerm>
     ensures { option_map term_lent result ≡ (if is_addend n then Some (terms.VarAdd var n) else None) }
 {
-    if is_addend(n) {
+    if -1_000_000_000 <= n && n <= 1_000_000_000 {
         Some(WideTerm::VarAdd(usize::from(var), n))
     } else {
         None
@@ -299,39 +292,23 @@ fn left<'a>(site: Site) -> AskedRef<'a>
     }
 }
 
-/// The row where the lock is left once the updates are made.
+/// The row where the lock is left once the updates are made: its class is all that is pushed.
 fn leaves_done<'a>(policy: &Policy, check: CheckRef<'a>) -> Option<RowRef<'a>>
     ensures { option_map row_lent result ≡ leaves_done policy.now (check_lent check.entry) }
 {
-    if is_updated(policy, check) && is_lock(check.terms) {
-        leads(left(check.site))
-    } else {
-        None
-    }
-}
-
-/// Whether the updates are made.
-fn is_updated(policy: &Policy, check: CheckRef<'_>) -> bool
-    ensures { result ≡ is_done policy.now check.entry.site check.entry.failed check.entry.holding check.entry.map.now }
-{
-    is_done(
-        policy,
-        check.site,
-        usize::from(check.failed),
-        usize::from(check.holding),
-        &TermsRef::Told(check.map),
-    )
-}
-
-/// Whether the lock's class is all that is pushed.
-fn is_lock(list: &[Term]) -> bool
-    ensures { result ≡ same_terms list.now (terms.Lock ∷ []) }
-{
+    let failed = usize::from(check.failed);
+    let holding = usize::from(check.holding);
+    let map = TermsRef::Told(check.map);
+    let pushed = TermsRef::Told(check.terms);
     let lock = TermsRef::Pushed {
         below: &[],
         top: WideTerm::Lock,
     };
-    same_terms(&TermsRef::Told(list), &lock)
+    if is_done(policy, check.site, failed, holding, &map) && same_terms(&pushed, &lock) {
+        leads(left(check.site))
+    } else {
+        None
+    }
 }
 
 // ---- rows

@@ -1,7 +1,7 @@
 //! What a policy tells of a site: its clause, and the arguments and the result of its method.
 
 ghost use Rattle.std.specs.Prelude.{◌≡◌, option_copied};
-ghost use Rattle.block_logic.specs.Clauses.{clause_at, clause_of, is_number, is_of_phase, needs, result_of, clause_for};
+ghost use Rattle.block_logic.specs.Clauses.{clause_at, clause_of, is_number, is_of_phase, needs, result_kind, clause_for};
 
 use cert_format::{Phase8, Site};
 use conspec_automaton::{Clause, Policy};
@@ -43,8 +43,8 @@ pub fn needs(policy: &Policy, method: u32) -> usize
 }
 
 /// What a method gives that the policy has a clause for.
-pub fn result_of(policy: &Policy, method: u32) -> Option<Kind>
-    ensures { result ≡ result_of policy.now method }
+pub fn result_kind(policy: &Policy, method: u32) -> Option<Kind>
+    ensures { result ≡ result_kind policy.now method }
 {
     match clause_for(policy, method) {
         Some(clause) => clause.result,

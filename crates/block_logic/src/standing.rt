@@ -8,7 +8,7 @@ ghost use Rattle.block_logic.specs.Standing.{is_empty, is_exceptional, is_hold, 
 ghost use Rattle.block_logic.specs.Standing.{same_note, same_phase, same_site, stands_for_held, takes_for_call};
 ghost use Rattle.block_logic.specs.Terms.{as_taken};
 
-use crate::clauses::{clause_at, clause_of, result_of};
+use crate::clauses::{clause_at, clause_of, result_kind};
 use crate::lent::{HeldRef, NoteRef, TermsRef};
 use crate::terms::{length_of, same_terms, same_told};
 use cert_format::{Mode, Note, Phase8, Site};
@@ -220,7 +220,7 @@ fn fails(policy: &Policy, site: Site, failed: usize) -> bool
 pub fn asks_kept(policy: &Policy, site: Site) -> bool
     ensures { result ≡ asks_kept policy.now site }
 {
-    is_after(site.phase) && result_of(policy, u32::from(site.method)).is_some()
+    is_after(site.phase) && result_kind(policy, u32::from(site.method)).is_some()
 }
 
 /// What is so once the check is done, with the lock still held.

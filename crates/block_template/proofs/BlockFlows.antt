@@ -53,7 +53,7 @@ use Rattle.block_template.specs.Blocks.{
   rethrow,
   with_handler,
 }
-use Rattle.block_template.specs.Flow.{AreForPhases, BlocksFlow, entered, keeps_result, locked_for, returned, role_at, thrown}
+use Rattle.block_template.specs.Flow.{AreForPhases, BlocksFlow, entered, keeps_result, locked_for, behind_return, role_at, thrown}
 use Rattle.block_template.specs.Parts.{give, if_reached, keep, loads, lock, save, unlock, unreached}
 use Rattle.block_template.proofs.Laying.{Laid, entry, laid_all, laid_end, laid_entry, laid_left, laid_right, row_got}
 use Rattle.block_template.proofs.Sizes.{keep_length, reached_length, save_length}
@@ -111,7 +111,7 @@ module _ (bools : List Bool) (base : ℕ) (clauses : Clauses) (end : ℕ) (there
   behind_leads : (mode : Mode) (o : Option Clause) → clauses.after ≡ o → IfSome o (λ c. c.phase ≡ After) → (at : ℕ) (t : Role)
       → (lets_pass o ≡ true → t ≡ roles.Leave)
       → Laid there role_of at (behind mode bools base at o) t
-      → Led mode bools base clauses end there (returned mode o) (behind mode bools base at o) t
+      → Led mode bools base clauses end there (behind_return mode o) (behind mode bools base at o) t
   behind_leads Release None is for at t ends placed =
       ended Release bools base clauses end there [] (sym (ends refl)) (empty Release bools base clauses end there roles.Leave)
   behind_leads Hold None is for at t ends placed =

@@ -71,7 +71,7 @@ use Rattle.conspec_automaton.specs.declared.policy.Clause.{Clause}
 use Rattle.block_template.specs.declared.item.Role.{Role}
 use Rattle.block_template.specs.declared.item.Role.TheVariants as roles
 use Rattle.block_template.specs.Blocks.{Clauses, is_locked}
-use Rattle.block_template.specs.Flow.{check_behind, keeps_result, returned, thrown}
+use Rattle.block_template.specs.Flow.{check_behind, keeps_result, behind_return, thrown}
 use Rattle.block_template.specs.Frames.{Around, frame, frame_at, kept_types, padded, phase_frame, saved_locals}
 use Rattle.block_template.specs.Typed.{
   CallIsTyped,
@@ -241,12 +241,12 @@ module _ (mode : Mode) (clauses : Clauses) (around : Around) (locked : Bool) (fi
   abbrev left : Option FrameType
   left = Some (frame (padded around.base around.after.locals) around.after.stack)
 
-  returned_of : (o : Option Clause) → clauses.after ≡ o → frame_at clauses around (returned mode o) ≡ left
+  returned_of : (o : Option Clause) → clauses.after ≡ o → frame_at clauses around (behind_return mode o) ≡ left
   returned_of None e =
       let none : keeps_result clauses ≡ false = ap (λ (o : Option Clause). option_map_or (λ (c : Clause). is_some c.result) o false) e in
       by mode (at.nothing_pushed clauses around fits (phase_frame clauses around After) ∙ ap Some (at.not_kept clauses around fits none))
     where
-      by : (m : Mode) → frame_at clauses around (roles.Unlock After false false) ≡ left → frame_at clauses around (returned m None) ≡ left
+      by : (m : Mode) → frame_at clauses around (roles.Unlock After false false) ≡ left → frame_at clauses around (behind_return m None) ≡ left
       by Release is = refl
       by Hold is = is
   returned_of (Some clause) e =
@@ -289,7 +289,7 @@ module _ (mode : Mode) (clauses : Clauses) (around : Around) (locked : Bool) (fi
       (ap (λ (s : List VType). stack_fits place.program s around.after.stack) (same_stack ∙ sym call.stack)
       ∙ stack_itself place.program around.after.stack) returns_locals
 
-  returns : IfSome (frame_at clauses around (returned mode clauses.after)) (λ to. goes_well place these to ≡ true)
+  returns : IfSome (frame_at clauses around (behind_return mode clauses.after)) (λ to. goes_well place these to ≡ true)
   returns =
       subst (λ (o : Option FrameType). IfSome o (λ to. goes_well place these to ≡ true)) (sym (returned_of clauses.after refl)) returns_well
 

@@ -15,7 +15,7 @@ use Rattle.offset_patch.specs.declared.block.BlockInsn.{BlockInsn}
 use Rattle.offset_patch.specs.declared.block.BlockInsn.TheVariants.{Call}
 use Rattle.block_template.specs.declared.item.Item.{Item}
 use Rattle.block_template.specs.Blocks.{Clauses, block, block_with, bools_of, clause_at, clauses_of, is_phase, items}
-use Rattle.block_template.specs.Denial.{DenialIsBlock, clause_of, denial, loaded, locked, saved, stopped, unlocked}
+use Rattle.block_template.specs.Denial.{DenialIsBlock, first_clause, denial, loaded, locked, saved, stopped, unlocked}
 use Rattle.block_template.specs.Parts.{loads, lock, save, stop, unlock, unreached}
 use Rattle.block_template.specs.Pushing.{load, store}
 use Rattle.block_template.proofs.Goods.{insns_of, same_reached}
@@ -114,18 +114,18 @@ block_denied bools base clause denies =
     ap (λ (c : Clause). block_with Release bools base (alone c)) same ∙ ap made (insns_denied bools base clause.method clause.args clause.result)
 
 pub denial_is : DenialIsBlock
-denial_is policy method base deny = by (clause_of policy method) refl
+denial_is policy method base deny = by (first_clause policy method) refl
   where
-    clauses_are : clauses_of policy method ≡ record { before = clause_of policy method; after = None; exceptional = None }
+    clauses_are : clauses_of policy method ≡ record { before = first_clause policy method; after = None; exceptional = None }
     clauses_are =
         let b = before_found method policy.clauses deny.clauses in
         let a = none_found method After policy.clauses refl deny.clauses in
         let x = none_found method Exceptional policy.clauses refl deny.clauses in
         ap (λ o. record { before = o; after = clause_at policy method After; exceptional = clause_at policy method Exceptional }) b
-        ∙ ap (λ o. record { before = clause_of policy method; after = o; exceptional = clause_at policy method Exceptional }) a
-        ∙ ap (λ o. record { before = clause_of policy method; after = None; exceptional = o }) x
+        ∙ ap (λ o. record { before = first_clause policy method; after = o; exceptional = clause_at policy method Exceptional }) a
+        ∙ ap (λ o. record { before = first_clause policy method; after = None; exceptional = o }) x
 
-    by : (o : Option Clause) → clause_of policy method ≡ o → block policy Release method base ≡ option_map (λ (c : Clause). denial base c.args) o
+    by : (o : Option Clause) → first_clause policy method ≡ o → block policy Release method base ≡ option_map (λ (c : Clause). denial base c.args) o
     by None e =
         let none : has_clauses policy method ≡ false = found_any (λ (c : Clause). c.method == method) policy.clauses ∙ ap is_some e in
         ap (λ (b : Bool). if b then Some (block_with Release (bools_of policy) base (clauses_of policy method)) else None) none

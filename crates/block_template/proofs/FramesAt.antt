@@ -82,7 +82,7 @@ use Rattle.block_template.specs.Frames.{
   saved_locals,
   with_pushed,
 }
-use Rattle.block_template.specs.Typed.{FitsAround, holds}
+use Rattle.block_template.specs.Typed.{FitsAround, kept_kind}
 use Rattle.block_template.proofs.Acting.{met_length}
 use Rattle.block_template.proofs.Types.{
   below_none,
@@ -105,7 +105,7 @@ is_number (types.Ref name) e = absurd cc
 is_number types.UninitThis e = absurd cc
 is_number (types.Uninit i) e = absurd cc
 
-pub holds_number : (kind : Kind) (t : VType) → kind ≢ kinds.Object → holds kind t ≡ true → t ≡ types.Int
+pub holds_number : (kind : Kind) (t : VType) → kind ≢ kinds.Object → kept_kind kind t ≡ true → t ≡ types.Int
 holds_number kinds.Object t other e = absurd (other refl)
 holds_number kinds.Int t other e = is_number t e
 holds_number kinds.Bool t other e = is_number t e
@@ -113,16 +113,16 @@ holds_number kinds.Byte t other e = is_number t e
 holds_number kinds.Short t other e = is_number t e
 holds_number kinds.Char t other e = is_number t e
 
-pub held_at : (args : List Kind) (ts : List VType) (n : ℕ) (kind : Kind) → all_met (map holds args) ts ≡ true
-    → slice_get args n ≡ Some kind → holds kind (type_at ts n) ≡ true
+pub held_at : (args : List Kind) (ts : List VType) (n : ℕ) (kind : Kind) → all_met (map kept_kind args) ts ≡ true
+    → slice_get args n ≡ Some kind → kept_kind kind (type_at ts n) ≡ true
 held_at [] ts n kind met e = absurd cc
 held_at (k ∷ args) [] n kind met e = absurd cc
 held_at (k ∷ args) (t ∷ ts) zero kind met e =
-    subst (λ (x : Kind). holds x t ≡ true) (same k kind e) (and_parts (holds k t) (all_met (map holds args) ts) met).0
+    subst (λ (x : Kind). kept_kind x t ≡ true) (same k kind e) (and_parts (kept_kind k t) (all_met (map kept_kind args) ts) met).0
   where
     same : (k kind : Kind) → ◌≡◌ {A = Option Kind} (Some k) (Some kind) → k ≡ kind
     same k kind e = cc
-held_at (k ∷ args) (t ∷ ts) (suc n) kind met e = held_at args ts n kind (and_parts (holds k t) (all_met (map holds args) ts) met).1 e
+held_at (k ∷ args) (t ∷ ts) (suc n) kind met e = held_at args ts n kind (and_parts (kept_kind k t) (all_met (map kept_kind args) ts) met).1 e
 
 pub past_end : (args : List Kind) (n : ℕ) → slice_get args n ≡ None → length args ≤ n
 past_end [] n e = omega arith
@@ -157,7 +157,7 @@ module _ (clauses : Clauses) (around : Around) (fits : FitsAround clauses around
       )
 
   pub kept_length : length kept ≡ count
-  kept_length = sym (met_length (map holds (argument_kinds clauses)) kept fits.arguments) ∙ length-map (argument_kinds clauses) holds
+  kept_length = sym (met_length (map kept_kind (argument_kinds clauses)) kept fits.arguments) ∙ length-map (argument_kinds clauses) kept_kind
 
   pub operands_there : count ≤ length stack
   operands_there = topmost_there count stack kept_length
@@ -170,7 +170,7 @@ module _ (clauses : Clauses) (around : Around) (fits : FitsAround clauses around
   pub argument_few : (n : ℕ) (kind : Kind) → argument_at clauses n ≡ Some kind → n < count
   argument_few n kind e = slice_get_within (argument_kinds clauses) n kind (argument_there n kind e)
 
-  pub argument_held : (n : ℕ) (kind : Kind) → argument_at clauses n ≡ Some kind → holds kind (type_at kept n) ≡ true
+  pub argument_held : (n : ℕ) (kind : Kind) → argument_at clauses n ≡ Some kind → kept_kind kind (type_at kept n) ≡ true
   argument_held n kind e = held_at (argument_kinds clauses) kept n kind fits.arguments (argument_there n kind e)
 
   pub argument_pushed : (n : ℕ) → n < count → below (count - suc n) stack ≡ below (count - n) stack ++ type_at kept n ∷ []
@@ -269,24 +269,24 @@ module _ (clauses : Clauses) (around : Around) (fits : FitsAround clauses around
   -- With a result it is on top behind the call, and kept in the local behind the client's.
   pub record IsKept (kind : Kind) : Type 0 where
     pub type : VType
-    pub held : holds kind type ≡ true
+    pub held : kept_kind kind type ≡ true
     pub pushed : around.after.stack ≡ below 1 around.after.stack ++ type ∷ []
     pub phase : phase_frame clauses around After ≡ frame (padded around.base around.after.locals ++ type ∷ []) (below 1 around.after.stack)
 
   pub result_kept : (kind : Kind) → result_in clauses ≡ Some kind → IsKept kind
   result_kept kind e =
       by (topmost 1 around.after.stack) refl
-      (subst (λ (o : Option Kind). IfSome o (λ k. all_met (holds k ∷ []) (topmost 1 around.after.stack) ≡ true)) e fits.result)
+      (subst (λ (o : Option Kind). IfSome o (λ k. all_met (kept_kind k ∷ []) (topmost 1 around.after.stack) ≡ true)) e fits.result)
     where
       keeps : keeps_result clauses ≡ true
       keeps = keeps_is ∙ ap is_some e
 
-      by : (top : List VType) → topmost 1 around.after.stack ≡ top → all_met (holds kind ∷ []) top ≡ true → IsKept kind
+      by : (top : List VType) → topmost 1 around.after.stack ≡ top → all_met (kept_kind kind ∷ []) top ≡ true → IsKept kind
       by [] is met = absurd cc
-      by (t ∷ u ∷ top) is met = absurd (omega (arith, met_length (holds kind ∷ []) (t ∷ u ∷ top) met))
+      by (t ∷ u ∷ top) is met = absurd (omega (arith, met_length (kept_kind kind ∷ []) (t ∷ u ∷ top) met))
       by (t ∷ []) is met = record {
         type = t;
-        held = (and_parts (holds kind t) true met).0;
+        held = (and_parts (kept_kind kind t) true met).0;
         pushed = split_top 1 around.after.stack ∙ ap (λ (top : List VType). below 1 around.after.stack ++ top) is;
         phase =
             ap (λ (b : Bool). frame (padded around.base around.after.locals ++ cond b (topmost 1 around.after.stack) [])

@@ -50,7 +50,7 @@ use Rattle.block_template.specs.Flow.{
   locked_for,
   next,
   result_in,
-  returned,
+  behind_return,
   saving,
   tries,
   unlocked_in,
@@ -216,7 +216,7 @@ module _ (mode : Mode) (bools : List Bool) (base : ℕ) (clauses : Clauses) (end
 
   -- ---- the call, and the ends
 
-  pub call_row : Row mode bools base clauses end there (call mode) (returned mode clauses.after)
+  pub call_row : Row mode bools base clauses end there (call mode) (behind_return mode clauses.after)
   call_row = plain mode bools base clauses end there Call (roles.Call (is_locked mode)) _ refl refl refl
 
   pub rethrow_leads : (t : Role) → LeadsTo roles.Rethrow rethrow t

@@ -83,7 +83,7 @@ use Rattle.block_template.specs.Flow.{
   made,
   may_pass,
   next,
-  returned,
+  behind_return,
   role_at,
   saving,
   stop_insn,
@@ -156,7 +156,7 @@ either : (b : Bool) (x y : Role) → IsReached x → IsReached y → IsReached (
 either true x y p q = p
 either false x y p q = q
 
-returned_reached : (mode : Mode) (o : Option Clause) → IsReached (returned mode o)
+returned_reached : (mode : Mode) (o : Option Clause) → IsReached (behind_return mode o)
 returned_reached Release None = λ e. absurd cc
 returned_reached Hold None = λ e. absurd cc
 returned_reached Release (Some clause) =

@@ -113,7 +113,7 @@ use Rattle.block_template.specs.Frames.{
   with_pushed,
 }
 use Rattle.block_template.specs.Pushing.{field, load as loads, negated, push, push_base, store}
-use Rattle.block_template.specs.Typed.{AreClausesIn, BlocksAreTyped, FitsAround, HasRoom, IsTyped, Stands, holds}
+use Rattle.block_template.specs.Typed.{AreClausesIn, BlocksAreTyped, FitsAround, HasRoom, IsTyped, Stands, kept_kind}
 use Rattle.block_template.proofs.Acting.{Acts, alone, goes}
 use Rattle.block_template.proofs.CheckFlows.{base_stays, load_stays, push_stays, store_stays}
 use Rattle.block_template.proofs.Doing as does
@@ -613,7 +613,7 @@ module _ (mode : Mode) (bools : List Bool) (vars : List Var) (maxint : ℤ) (cla
       let acts : Acts place locals [] (t ∷ []) (type_at locals) =
       subst (λ (u : VType). Acts place locals [] (u ∷ []) (type_at locals)) there
       (does.loads place locals kind (base + n) stands (omega (arith, room.arguments, lt))
-      (ap (holds kind) there ∙ at.argument_held clauses around fits n kind e)) in
+      (ap (kept_kind kind) there ∙ at.argument_held clauses around fits n kind e)) in
       step (roles.Load n locked) (loads kind (base + n)) place locals rest [] (t ∷ []) (type_at locals) told acts
       (omega (arith, room.before, length-append rest (t ∷ []), below_few (count - n) around.before.stack))
       (phase_few place.method room Before)
@@ -654,7 +654,7 @@ module _ (mode : Mode) (bools : List Bool) (vars : List Var) (maxint : ℤ) (cla
       let there : type_at locals base ≡ t = result_local t in
       let acts : Acts place locals [] (t ∷ []) (type_at locals) =
       subst (λ (u : VType). Acts place locals [] (u ∷ []) (type_at locals)) there
-      (does.loads place locals kind base stands (result_room place.method room kind e) (ap (holds kind) there ∙ result.held)) in
+      (does.loads place locals kind base stands (result_room place.method room kind e) (ap (kept_kind kind) there ∙ result.held)) in
       step roles.Give (loads kind base) place locals rest [] (t ∷ []) (type_at locals) told acts
       (omega (arith, room.after, length-append rest (t ∷ []), below_few 1 around.after.stack))
       (omega (arith, long, length-append client (t ∷ []), result_room place.method room kind e))

@@ -43,11 +43,11 @@ denial base arguments = record {
 }
 
 -- the first clause of a method
-abbrev pub clause_of : Policy → ℕ → Option Clause
-clause_of policy method = find (λ (c : Clause). c.method == method) policy.clauses
+abbrev pub first_clause : Policy → ℕ → Option Clause
+first_clause policy method = find (λ (c : Clause). c.method == method) policy.clauses
 
 -- In mode release a policy that denies calls outright has this block for each method that it names.
 abbrev pub DenialIsBlock : Type 0
 DenialIsBlock =
     (policy : Policy) (method base : ℕ) → DeniesOnly policy
-    → block policy Release method base ≡ option_map (λ (c : Clause). denial base c.args) (clause_of policy method)
+    → block policy Release method base ≡ option_map (λ (c : Clause). denial base c.args) (first_clause policy method)

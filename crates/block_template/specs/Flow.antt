@@ -147,10 +147,10 @@ check_behind Release phase clause = roles.Lock phase false
 check_behind Hold phase clause = tries phase 0 clause.branches
 
 -- what comes where the call has returned
-abbrev pub returned : Mode → Option Clause → Role
-returned Release None = roles.Leave
-returned Hold None = roles.Unlock After false false
-returned mode (Some clause) = if is_some clause.result then roles.Keep (is_locked mode) else check_behind mode After clause
+abbrev pub behind_return : Mode → Option Clause → Role
+behind_return Release None = roles.Leave
+behind_return Hold None = roles.Unlock After false false
+behind_return mode (Some clause) = if is_some clause.result then roles.Keep (is_locked mode) else check_behind mode After clause
 
 -- what comes once the result is kept
 abbrev pub kept_by : Mode → Option Clause → Role
@@ -187,7 +187,7 @@ next mode clauses (roles.Stop phase done) = roles.Stop phase (done + 1)
 next mode clauses (roles.Unlock phase checked false) = roles.Unlock phase checked true
 next mode clauses (roles.Unlock phase checked true) = unlocked_in clauses phase
 next mode clauses (roles.Load n locked) = loading clauses (n + 1) locked
-next mode clauses (roles.Call locked) = returned mode clauses.after
+next mode clauses (roles.Call locked) = behind_return mode clauses.after
 next mode clauses (roles.Keep locked) = kept_by mode clauses.after
 next mode clauses roles.Give = roles.Leave
 next mode clauses roles.Leave = roles.Unreached

@@ -74,7 +74,7 @@ use Rattle.block_template.specs.Flow.{
   may_pass,
   next,
   result_in,
-  returned,
+  behind_return,
   role_at,
   thrown,
 }
@@ -92,15 +92,15 @@ operand_of kinds.Byte = operands.Int
 operand_of kinds.Short = operands.Int
 operand_of kinds.Char = operands.Int
 
-abbrev pub holds : Kind → Want
-holds kind = of_kind (operand_of kind)
+abbrev pub kept_kind : Kind → Want
+kept_kind kind = of_kind (operand_of kind)
 
 -- The client's locals end at the base. What is kept is on top, and of its kind: the arguments before the call, and the result behind it.
 pub record FitsAround (clauses : Clauses) (around : Around) : Type 0 where
   pub before : length around.before.locals ≤ around.base
   pub after : length around.after.locals ≤ around.base
-  pub arguments : all_met (map holds (argument_kinds clauses)) (kept_types clauses around) ≡ true
-  pub result : IfSome (result_in clauses) (λ kind. all_met (holds kind ∷ []) (topmost 1 around.after.stack) ≡ true)
+  pub arguments : all_met (map kept_kind (argument_kinds clauses)) (kept_types clauses around) ≡ true
+  pub result : IfSome (result_in clauses) (λ kind. all_met (kept_kind kind ∷ []) (topmost 1 around.after.stack) ≡ true)
 
 -- Each clause is one of a policy with such variables.
 abbrev pub AreClausesIn : List Var → ℤ → Clauses → Type 0
@@ -202,7 +202,7 @@ pub record CallIsTyped (mode : Mode) (clauses : Clauses) (around : Around) (lock
   pub operand : TakesOperands place around.before ≡ true → TakesOperands place types ≡ true
   pub local : Local place types ≡ true
   pub made : Made place around.before ≡ true → Made place types ≡ true
-  pub returns : IfSome (frame_at clauses around (returned mode clauses.after)) (λ to. goes_well place types to ≡ true)
+  pub returns : IfSome (frame_at clauses around (behind_return mode clauses.after)) (λ to. goes_well place types to ≡ true)
   pub throws : (handler : Handler) → handler.class ≡ None
       → IfSome (frame_at clauses around (thrown mode clauses.exceptional)) (λ to. catches_well place types handler to ≡ true)
 

@@ -49,7 +49,7 @@ pub fn clause_at(policy: &Policy, method: u32, phase: Phase) -> Option<&Clause>
 }
 
 /// Whether the phases are the same.
-pub fn is_phase(phase: Phase, other: Phase) -> bool
+fn is_phase(phase: Phase, other: Phase) -> bool
     ensures { result ≡ is_phase phase other }
 {
     match phase {

@@ -10,13 +10,14 @@ ghost use Rattle.block_logic.specs.Lent.{asked_lent, due_lent, note_lent, row_le
 ghost use Rattle.block_logic.specs.Operands.{loaded, stored};
 ghost use Rattle.block_logic.specs.Rows.{Given, begins_owed, calls_of, free_row, gives, granted_row};
 ghost use Rattle.block_logic.specs.Rows.{held_row, is_duty, is_on_way, may_keep};
-ghost use Rattle.block_logic.specs.Rows.{may_leave, may_push, owed_row, returned, row, stage_behind, stop_row, taken, taking_row, thrown};
+ghost use Rattle.block_logic.specs.Rows.{may_leave, may_push, note_taken, owed_row, returned, row, stage_behind, stop_row};
+ghost use Rattle.block_logic.specs.Rows.{taking_row, thrown};
 ghost use Rattle.block_logic.specs.Standing.{is_hold};
 
 use block_logic::{
     AskedRef, CheckRef, DueRef, NoteRef, RowRef, Rules, asks_kept, begun, calls, check_row,
     clause_at, clause_of, enters, gives, in_phase, is_after, is_hold, is_way_out, leads, leaves,
-    loaded, needs, pushes, pushes_null, pushes_state, result_of, stored, throws, variable_named,
+    loaded, needs, pushes, pushes_null, pushes_state, result_kind, stored, throws, variable_named,
 };
 use bytecode_model::Target;
 use cert_format::{Mode, Note, Phase8, Site, Term};
@@ -88,8 +89,8 @@ fn free_row<'a>(rules: &Rules<'_>, shape: Shape, target: &Target) -> Option<RowR
 // ---- Taking
 
 /// The lock is taken: the check begins, or there is none before the call.
-fn taken(policy: &Policy, site: Site) -> NoteRef<'_>
-    ensures { note_lent result ≡ taken policy.now site }
+fn note_taken(policy: &Policy, site: Site) -> NoteRef<'_>
+    ensures { note_lent result ≡ note_taken policy.now site }
 {
     if clause_at(policy, u32::from(site.method), Phase8::Before).is_some() {
         NoteRef::Held(begun(policy, site))
@@ -107,7 +108,7 @@ fn taking_row<'a>(rules: &Rules<'a>, site: Site, shape: Shape) -> Option<RowRef<
     ensures { option_map row_lent result ≡ taking_row rules.now site shape }
 {
     if enters(shape) {
-        gives(taken(rules.policy, site))
+        gives(note_taken(rules.policy, site))
     } else {
         None
     }
@@ -286,7 +287,7 @@ fn may_keep(policy: &Policy, site: Site, stage: u8, kept: bool, top: bool) -> bo
         && stage < 2
         && !kept
         && !top
-        && result_of(policy, u32::from(site.method)).is_some()
+        && result_kind(policy, u32::from(site.method)).is_some()
 }
 
 /// The check of a return begins with the result kept.

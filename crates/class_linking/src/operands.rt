@@ -39,7 +39,8 @@ pub fn operands_linked(
 ) -> Result<List<Target>, LinkFault>
     requires count { length insns.now < 2 ^ 32 }
     requires known { AreKnown index.now.files index.now.listing pool.now known.old }
-    ensures answers { Answers LinkFault.Memory result (operands_linked index.now.files index.now.listing class.now pool.now method insns.now) }
+    ensures answers { Answers LinkFault.Memory result
+        (operands_linked index.now.files index.now.listing class.now pool.now method insns.now) }
     ensures known { AreKnown index.now.files index.now.listing pool.now known.new }
 {
     let mut targets = Vec::with_capacity(alloc, insns.len())?;

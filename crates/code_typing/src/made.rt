@@ -23,13 +23,6 @@ fn makes_receiver(place: &PlaceRef, how: How, frame: &FrameType, taken: &[VType]
     }
 }
 
-fn leaves_made(place: &PlaceRef, frame: &FrameType) -> bool
-    ensures { result ≡ leaves_made place.now frame.now }
-{
-    !is_maker(place.method)
-        || !(has_this(frame.locals.as_slice()) || has_this(frame.stack.as_slice()))
-}
-
 /// Rule 5, of an instruction that takes these operands.
 pub fn is_made(place: &PlaceRef, frame: &FrameType, taken: &[VType]) -> bool
     requires { taken.now ≡ taken_of place.now frame.now }
@@ -38,7 +31,10 @@ pub fn is_made(place: &PlaceRef, frame: &FrameType, taken: &[VType]) -> bool
     match place.shape() {
         Shape::Heap(Heap::Call(how)) => makes_receiver(place, how, frame, taken),
         Shape::Heap(Heap::New) => !has_new(place.at, frame.stack.as_slice()),
-        Shape::Heap(Heap::Return(None)) => leaves_made(place, frame),
+        Shape::Heap(Heap::Return(None)) => {
+            !is_maker(place.method)
+                || !(has_this(frame.locals.as_slice()) || has_this(frame.stack.as_slice()))
+        }
         _ => true,
     }
 }

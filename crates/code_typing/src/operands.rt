@@ -148,29 +148,17 @@ fn call_met(place: &PlaceRef, how: How, types: &[VType]) -> bool
     }
 }
 
-fn to_written(place: &PlaceRef, t: &VType) -> bool
-    ensures { result ≡ to_written place.now t.now }
-{
-    is_own_field(place) && is_this(t) || to_class(place.program, class_referred(place), t)
-}
-
 fn write_met(place: &PlaceRef, types: &[VType]) -> bool
     ensures { result ≡ all_met (to_written place.now ∷ to_described place.now.program (desc_referred place.now) ∷ []) types.now }
 {
     match types {
         [] => false,
         [first, rest @ ..] => {
-            to_written(place, first)
+            (is_own_field(place) && is_this(first)
+                || to_class(place.program, class_referred(place), first))
                 && one_is(place.program, Wanted::Described(desc_referred(place)), rest)
         }
     }
-}
-
-fn to_result(place: &PlaceRef, t: &VType) -> bool
-    ensures { result ≡ to_result place.now t.now }
-{
-    let text = result_text(place.method.desc.as_slice());
-    text != b"V".as_slice() && to_described(place.program, text, t)
 }
 
 fn result_met(place: &PlaceRef, types: &[VType]) -> bool
@@ -178,20 +166,11 @@ fn result_met(place: &PlaceRef, types: &[VType]) -> bool
 {
     match types {
         [] => false,
-        [first, rest @ ..] => to_result(place, first) && rest.is_empty(),
+        [first, rest @ ..] => {
+            let text = result_text(place.method.desc.as_slice());
+            text != b"V".as_slice() && to_described(place.program, text, first) && rest.is_empty()
+        }
     }
-}
-
-fn write_item_met(place: &PlaceRef, item: Item, types: &[VType]) -> bool
-    ensures { result ≡ all_met (heap_takes place.now (heap.WriteItem item)) types.now }
-{
-    three_are(
-        place.program,
-        Wanted::Items(item),
-        Wanted::Number,
-        Wanted::Item(item),
-        types,
-    )
 }
 
 fn throw_met(place: &PlaceRef, types: &[VType]) -> bool
@@ -208,7 +187,13 @@ fn heap_met(place: &PlaceRef, what: Heap, types: &[VType]) -> bool
     match what {
         Heap::Constant | Heap::ReadStatic | Heap::New | Heap::Return(None) => types.is_empty(),
         Heap::ReadItem(item) => two_are(program, Wanted::Items(item), Wanted::Number, types),
-        Heap::WriteItem(item) => write_item_met(place, item, types),
+        Heap::WriteItem(item) => three_are(
+            program,
+            Wanted::Items(item),
+            Wanted::Number,
+            Wanted::Item(item),
+            types,
+        ),
         Heap::Divide { .. } => two_are(program, Wanted::Number, Wanted::Number, types),
         Heap::WriteStatic => one_is(program, Wanted::Described(desc_referred(place)), types),
         Heap::ReadField => one_is(program, Wanted::Class(class_referred(place)), types),

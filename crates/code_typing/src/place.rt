@@ -49,7 +49,8 @@ impl<'a> Model for PlaceRef<'a> {
     } };
 
     // It may be known that each handler of the method takes what may be thrown.
-    ghost invariant = { λ p. (p.shape ≡ shape_of p.insn.now) × (IsTrue p.handlers_known → all_take_thrown p.program.now p.method.now.handlers ≡ true) };
+    ghost invariant = { λ p. (p.shape ≡ shape_of p.insn.now)
+        × (IsTrue p.handlers_known → all_take_thrown p.program.now p.method.now.handlers ≡ true) };
 }
 
 impl<'a> PlaceRef<'a> {

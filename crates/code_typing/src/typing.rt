@@ -1,6 +1,7 @@
 //! The typing of a program.
 
-ghost use Rattle.std.specs.Prelude.{◌≡◌, ◌<◌, ◌≤◌, ◌+◌, ◌^◌, ◌↔◌, ℕ, List, Option, Some, None, IsOk, IsTrue, MatchResult, length, take, drop, true};
+ghost use Rattle.std.specs.Prelude.{◌≡◌, ◌<◌, ◌≤◌, ◌+◌, ◌^◌, ◌↔◌, ℕ, List, Option, Some, None, true};
+ghost use Rattle.std.specs.Prelude.{IsOk, IsTrue, MatchResult, length, take, drop};
 ghost use Rattle.std.specs.List.{AllByRecursion};
 ghost use Rattle.bytecode_model.specs.Sound.{IsSound, IsSoundClass, IsSoundMethod};
 ghost use Rattle.bytecode_model.specs.Rules.{Frames};

@@ -27,7 +27,7 @@ use Rattle.conspec_automaton.specs.Sight.{sight_of}
 use Rattle.conspec_automaton.proofs.Ranges.{found_is}
 use Rattle.guest_heap.specs.declared.frame.Frame.{Frame}
 use Rattle.guest_heap.specs.declared.value.Value.{Value}
-use Rattle.block_logic.specs.Clauses.{clause_at, clause_of, is_of_phase, result_of}
+use Rattle.block_logic.specs.Clauses.{clause_at, clause_of, is_of_phase, result_kind}
 use Rattle.block_logic.specs.Meaning.{AreClean, AreState, AreTerms, HasResult, HasResultIn, IsAbove, IsChecked, IsDue, IsEventOf, IsGranted, IsOwed, IsPending, IsTried, Leads, MeansHeld, MeansOwed, Owns, Pends, Promised, TellsArguments, TellsIn, TellsResult}
 use Rattle.block_logic.specs.Obeying.{FitsListing, IsObeying}
 use Rattle.block_logic.specs.Standing.{asks_kept, branches_of, done, fails, in_phase, is_after, is_before, is_done, is_empty, may_begin, may_stand, same_note, same_phase, same_site, stands_for_held}
@@ -293,7 +293,7 @@ module _ (program : Program) (policy : Policy) (certificate : Certificate) (o : 
       (fits m.0 m.1).1 ∙ sym (also m.0 other).1
 
   -- where a clause tells of a result, the policy tells that the method gives one
-  result_told : (site : Site) (clause : Clause) → clause_of policy site ≡ Some clause → is_some clause.result ≡ true → is_some (result_of policy site.method) ≡ true
+  result_told : (site : Site) (clause : Clause) → clause_of policy site ≡ Some clause → is_some clause.result ≡ true → is_some (result_kind policy site.method) ≡ true
   result_told site clause there has =
       let fits = found_is (FitsListing program.listing) _ policy.clauses clause o.listed there in
       let named = found_is (λ (c : Clause). c.method < length program.listing.methods) _ policy.clauses clause o.named there in

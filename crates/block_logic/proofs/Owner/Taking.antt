@@ -37,7 +37,7 @@ use Rattle.guest_model.specs.Stepping.{enters}
 use Rattle.block_logic.specs.Clauses.{clause_at, is_of_phase}
 use Rattle.block_logic.specs.Meaning.{AreClean, AreState, IsAbove, IsDue, IsEventOf, IsGranted, Leads, Owns, Promised, TellsArguments, TellsIn, lock_of}
 use Rattle.block_logic.specs.Obeying.{IsObeying}
-use Rattle.block_logic.specs.Rows.{Given, taken}
+use Rattle.block_logic.specs.Rows.{Given, note_taken}
 use Rattle.block_logic.specs.Standing.{begun, is_before}
 use Rattle.block_logic.proofs.Owner.Going.{goes_behind, goes_holding, owner_frame}
 use Rattle.block_logic.proofs.Owner.Lock.{lock_taken, lock_waits}
@@ -141,24 +141,24 @@ module _ (program : Program) (policy : Policy) (certificate : Certificate) (o : 
           },
         )
 
-    takes : has_clauses policy site.method ≡ true → Owns program policy certificate.mode seen fields frame (taken policy site)
+    takes : has_clauses policy site.method ≡ true → Owns program policy certificate.mode seen fields frame (note_taken policy site)
     takes has = elim (cases_Bool (is_some (clause_at policy site.method Before))) [
       | inl some ↦
           let c = some_there (clause_at policy site.method Before) some in
-          let is : taken policy site ≡ begun policy site = rw some refl in
+          let is : note_taken policy site ≡ begun policy site = rw some refl in
           rw is (checks c.0 c.1)
       | inr none ↦
-          let is : taken policy site ≡ notes.Granted site true 0 false = rw none refl in
+          let is : note_taken policy site ≡ notes.Granted site true 0 false = rw none refl in
           rw is (grants has none)
     ]
 
   module _ (rules_hold : RulesHold program policy certificate) where
     -- an instruction under Taking takes the lock
     enters_here : (frame : Frame) (next : Insn × Target) (site : Site) → (r : IsRuled program policy certificate frame next (notes.Taking site))
-        → (shape_of next.0 ≡ shapes.Heap heap.Enter) × (r.r.past ≡ Given (taken policy site))
+        → (shape_of next.0 ≡ shapes.Heap heap.Enter) × (r.r.past ≡ Given (note_taken policy site))
     enters_here frame next site r =
         let w = where_so _ _ r.r r.has in
-        (enters_is (shape_of next.0) w.0, (gives_asks (taken policy site) r.r w.1).past)
+        (enters_is (shape_of next.0) w.0, (gives_asks (note_taken policy site) r.r w.1).past)
 
     top_is : (frame : Frame) (above : IsAbove program (lock_of program ∷ []) frame.stack.items) → slice_get frame.stack.items 0 ≡ Some (lock_of program)
     top_is frame above = rw above.is refl
@@ -174,10 +174,10 @@ module _ (program : Program) (policy : Policy) (certificate : Certificate) (o : 
         let clean : AreClean program rest = subst (λ (items : List Value). AreClean program (drop 1 items)) (sym free.1.is) free.1.clean in
         let frame = moved_to a.frame (a.frame.at + 1) a.frame.locals rest in
         let owns = takes site (before_is site.phase asks.0) seen fields frame state ranged led are clean asks.1 in
-        let behind : LeadsTo program policy certificate a.frame (a.frame.at + 1) (Given (taken policy site)) =
+        let behind : LeadsTo program policy certificate a.frame (a.frame.at + 1) (Given (note_taken policy site)) =
         subst (LeadsTo program policy certificate a.frame (a.frame.at + 1)) here.1
         (ruled.past (goes_behind program policy certificate o a.frame next acts.there (ap ends here.0))) in
-        let top = owner_frame program policy certificate o a.frame acts.well seen fields (a.frame.at + 1) a.frame.locals rest (taken policy site) acts.well.locals behind owns in
+        let top = owner_frame program policy certificate o a.frame acts.well seen fields (a.frame.at + 1) a.frame.locals rest (note_taken policy site) acts.well.locals behind owns in
         subst (ChangesOwner program policy certificate a.number seen) (sym g.is)
         (goes_holding program policy certificate o a.number seen fields (with_monitors (world_of machine) lock.held) a.thread frame a.below acts.below
         (record { clean = record { heap = acts.world.heap; statics = acts.world.statics }; locks = lock.locks; variables = there }) top)
