@@ -7,3 +7,4 @@ pub mod Wanted
 pub mod Lists
 pub mod Parts
 pub mod Unwoven
+pub mod Known

@@ -1,4 +1,5 @@
 pub mod State
 pub mod Woven
+pub mod Known
 pub mod Sizes
 pub mod Outcome

@@ -1,10 +1,14 @@
 //! The code of a method with its blocks.
 
-ghost use Rattle.std.specs.Prelude.{◌≡◌, ◌+◌, ◌≤◌, ◌<◌, ◌^◌, IfOk, map, length};
+ghost use Rattle.std.specs.Prelude.{◌≡◌, ◌+◌, ◌≤◌, ◌<◌, ◌^◌, ◌∷◌, ◌++◌, [], ℕ, IfOk, OnOk, Some, if◌then◌else◌};
+ghost use Rattle.std.specs.Prelude.{length, map, option_and_then, option_copied, slice_get};
+ghost use Rattle.std.specs.BTreeMap.{get};
+ghost use Rattle.std.specs.Ordering.{is_eq, nat_cmp};
 ghost use Rattle.std.specs.List.{AllByRecursion, list_any};
 ghost use Rattle.bytecode_model.specs.Sound.{IsSoundMethod};
 ghost use Rattle.mon_base.specs.Answer.{Answers};
 ghost use Rattle.offset_patch.specs.Fits.{IsSite};
+ghost use Rattle.class_weaving.specs.Known.{AreKnown};
 ghost use Rattle.class_weaving.specs.Woven.{is_woven, sites_of, most_locals, locals_of, clients_from, blocks_put, code_woven};
 
 use crate::woven::WovenCode;
@@ -14,6 +18,7 @@ use insn_codec::Insn;
 use mon_base::{Bytes, List, NoMemory};
 use offset_patch::{Block, Entries, Planner, SpliceFault, origins_of, room, splice};
 use std::alloc::Global;
+use std::collections::BTreeMap;
 
 /// The code of a method with its blocks, and the constants that these need.
 pub fn code_woven<P: Planner>(
@@ -43,7 +48,7 @@ pub fn code_woven<P: Planner>(
 }
 
 /// Whether one of the instructions has a block.
-fn is_woven<P: Planner>(planner: &P, method: &Method) -> bool
+pub fn is_woven<P: Planner>(planner: &P, method: &Method) -> bool
     ensures { result ≡ is_woven (P.plan planner.now) method.now }
 {
     method
@@ -90,7 +95,7 @@ fn blocks_put<P: Planner>(
 }
 
 /// The greatest number of locals that a block uses. No memory holds more than a number of 32 bits counts.
-fn most_locals<P: Planner>(planner: &P, refs: &[Target]) -> Result<u32, NoMemory>
+pub fn most_locals<P: Planner>(planner: &P, refs: &[Target]) -> Result<u32, NoMemory>
     ensures { IfOk result (λ most. most ≡ most_locals (P.plan planner.now) refs.now) }
 {
     let mut most: u32 = 0;
@@ -111,8 +116,8 @@ fn count(n: usize) -> Result<u32, NoMemory>
     }
 }
 
-/// For each instruction its block, if it has one.
-fn sites_of<P: Planner>(
+/// For each instruction its block, if it has one. For calls of one method it is made once, and copied.
+pub fn sites_of<P: Planner>(
     alloc: Global,
     planner: &P,
     base: u16,
@@ -123,13 +128,99 @@ fn sites_of<P: Planner>(
     ensures each { IfOk result (λ sites. length sites ≡ length refs.now) }
     ensures fits { IfOk result (AllByRecursion IsSite) }
 {
-    let mut sites = List::from_vec(Vec::with_capacity(alloc, refs.len())?);
+    let mut sites = List::with_room(alloc, refs.len())?;
+    let mut places = BTreeMap::new(alloc);
     let mut left = refs;
     while let [target, rest @ ..] = left {
-        sites.push(planner.block(alloc, base, target)?)?;
+        put_site(alloc, planner, base, target, &mut sites, &mut places)?;
         left = rest;
     }
     Ok(sites)
+}
+
+/// Appends the block of an instruction, if it has one.
+fn put_site<P: Planner>(
+    alloc: Global,
+    planner: &P,
+    base: u16,
+    target: &Target,
+    sites: &mut List<Option<Block>>,
+    places: &mut BTreeMap<u32, usize>,
+) -> Result<(), NoMemory>
+    requires room { base + (P.plan planner.now).locals target.now < 2 ^ 16 }
+    requires fits { AllByRecursion IsSite sites.old }
+    requires known { AreKnown ((P.plan planner.now).block base) sites.old places.old }
+    ensures is { OnOk result (sites.new ≡ sites.old ++ (P.plan planner.now).block base target.now ∷ []) }
+    ensures fits { OnOk result (AllByRecursion IsSite sites.new) }
+    ensures known { OnOk result (AreKnown ((P.plan planner.now).block base) sites.new places.new) }
+{
+    let site = site_of(alloc, planner, base, target, sites.as_slice(), places)?;
+    sites.push(site)?;
+    Ok(())
+}
+
+/// The block of an instruction that stands behind these.
+fn site_of<P: Planner>(
+    alloc: Global,
+    planner: &P,
+    base: u16,
+    target: &Target,
+    sites: &[Option<Block>],
+    places: &mut BTreeMap<u32, usize>,
+) -> Result<Option<Block>, NoMemory>
+    requires room { base + (P.plan planner.now).locals target.now < 2 ^ 16 }
+    requires fits { AllByRecursion IsSite sites.now }
+    requires known { AreKnown ((P.plan planner.now).block base) sites.now places.old }
+    ensures is { IfOk result (λ site. site ≡ (P.plan planner.now).block base target.now) }
+    ensures fits { IfOk result IsSite }
+    ensures known { IfOk result (λ site. AreKnown ((P.plan planner.now).block base) (sites.now ++ site ∷ []) places.new) }
+{
+    let Target::ApiMethod(method) = target else {
+        return planner.block(alloc, base, target);
+    };
+    if let Some(site) = known_site(sites, places, *method) {
+        return copy_site(alloc, site);
+    }
+    let site = planner.block(alloc, base, target)?;
+    note_place(places, *method, sites.len())?;
+    Ok(site)
+}
+
+/// What was made for the first call of the method, if there was one.
+fn known_site<'a>(
+    sites: &'a [Option<Block>],
+    places: &BTreeMap<u32, usize>,
+    method: u32,
+) -> Option<&'a Option<Block>>
+    ensures { option_copied result ≡ option_and_then (slice_get sites.now) (get nat_cmp places.now method) }
+{
+    match places.get(&method) {
+        Some(place) => sites.get(*place),
+        None => None,
+    }
+}
+
+fn note_place(places: &mut BTreeMap<u32, usize>, method: u32, place: usize) -> Result<(), NoMemory>
+    ensures { OnOk result ((q : ℕ) → get nat_cmp places.new q
+        ≡ (if is_eq (nat_cmp method q) then Some place else get nat_cmp places.old q)) }
+{
+    places.insert(method, place)?;
+    Ok(())
+}
+
+fn copy_site(alloc: Global, site: &Option<Block>) -> Result<Option<Block>, NoMemory>
+    ensures { IfOk result (λ copy. copy ≡ site.now) }
+{
+    match site {
+        Some(block) => {
+            let insns = Vec::from_slice(alloc, block.insns.as_slice())?;
+            Ok(Some(Block {
+                insns: List::from_vec(insns),
+                handler: block.handler,
+            }))
+        }
+        None => Ok(None),
+    }
 }
 
 /// Each instruction is the client's.
@@ -137,7 +228,7 @@ fn clients(alloc: Global, insns: &[Insn]) -> Result<List<Origin>, NoMemory>
     requires { length insns.now < 2 ^ 16 }
     ensures { IfOk result (λ origins. origins ≡ clients_from 0 insns.now) }
 {
-    let mut origins = List::from_vec(Vec::with_capacity(alloc, insns.len())?);
+    let mut origins = List::with_room(alloc, insns.len())?;
     let mut at: u32 = 0;
     let mut left = insns;
     while let [_, rest @ ..] = left {

@@ -11,6 +11,7 @@ mod state;
 mod weaving;
 mod woven;
 
+pub use code::{is_woven, most_locals, sites_of};
 pub use laws::sizes_decide;
 pub use state::state_file;
 pub use weaving::weave;

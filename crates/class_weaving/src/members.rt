@@ -144,7 +144,7 @@ fn first_code(attrs: &[Attr]) -> Option<&Code>
 fn member_with(alloc: Global, member: &Member, code: Code) -> Result<Member, NoMemory>
     ensures { IfOk result (λ other. other ≡ member_with member.now code) }
 {
-    let mut attrs = List::from_vec(Vec::with_capacity(alloc, member.attrs.len())?);
+    let mut attrs = List::with_room(alloc, member.attrs.len())?;
     for attr in member.attrs.as_slice() {
         attrs.push(attr_with(alloc, &code, attr)?)?;
     }

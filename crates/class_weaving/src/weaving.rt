@@ -57,8 +57,8 @@ fn all_woven<P: Planner>(
 {
     let count = program.classes.len() + 1;
     let none = Woven {
-        files: List::from_vec(Vec::with_capacity(alloc, count)?),
-        origins: List::from_vec(Vec::with_capacity(alloc, count)?),
+        files: List::with_room(alloc, count)?,
+        origins: List::with_room(alloc, count)?,
     };
     let woven = classes_woven(alloc, planner, none, program.classes.as_slice())?;
     let woven = state_put(alloc, vars, woven)?;
@@ -107,8 +107,8 @@ fn class_woven<P: Planner>(
     let none = Members {
         number: 0,
         entries: Entries::new(copy_list(alloc, &class.file.pool)?),
-        items: List::from_vec(Vec::with_capacity(alloc, class.file.methods.len())?),
-        origins: List::from_vec(Vec::with_capacity(alloc, class.methods.len())?),
+        items: List::with_room(alloc, class.file.methods.len())?,
+        origins: List::with_room(alloc, class.methods.len())?,
     };
     let made = members_woven(alloc, planner, class, none, class.file.methods.as_slice())?;
     let woven = file_put(alloc, woven, class, made)?;

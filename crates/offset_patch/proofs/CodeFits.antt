@@ -314,3 +314,20 @@ code_named class number pool method code locals sites new e =
     let two = bind_ok (fitted class number sizes.Pool (length pool)) (λ count. code_fitted class number (written insns) >>= λ bytes. Ok (made bytes)) new one.2 in
     let three = bind_ok (code_fitted class number (written insns)) (λ bytes. Ok (made bytes)) new two.2 in
     ap (λ (c : Code). c.name) (sym (ok_is SpliceFault (made three.0) new three.2))
+
+-- the exception table of a method that was spliced is not too long
+pub rows_short : (class : List ℕ) (number : ℕ) (pool : List Const) (method : Method) (code : Code) (locals : ℕ) (sites : List (Option Block)) (new : Code)
+    → code_spliced class number pool method code locals sites ≡ Ok new → length new.table ≤ 65535
+rows_short class number pool method code locals sites new e =
+    let insns = spliced pool method.insns sites in
+    let made : List ℕ → Code = λ bytes. code_with pool method code locals sites insns bytes in
+    let one = bind_ok (fitted class number sizes.Entries (length code.table + catching sites)) (λ entries. fitted class number sizes.Pool (length pool) >>= λ count. code_fitted class number (written insns) >>= λ bytes. Ok (made bytes)) new e in
+    let two = bind_ok (fitted class number sizes.Pool (length pool)) (λ count. code_fitted class number (written insns) >>= λ bytes. Ok (made bytes)) new one.2 in
+    let three = bind_ok (code_fitted class number (written insns)) (λ bytes. Ok (made bytes)) new two.2 in
+    let rows = fitted_is class number sizes.Entries (length code.table + catching sites) one.1 in
+    let starts = starts_of insns in
+    let own = own_entries starts 0 sites in
+    let others = table_moved starts (fronts_of sites) method.handlers code.table in
+    let count : length (own ++ others) ≤ 65535 =
+    omega (arith, rows, length-append own others, own_count starts 0 sites, table_count starts (fronts_of sites) method.handlers code.table) in
+    subst (λ (c : Code). length c.table ≤ 65535) (ok_is SpliceFault (made three.0) new three.2) count

@@ -8,7 +8,7 @@ ghost use Rattle.offset_patch.specs.Splicing.{part_of, has_block, fronts_of, cou
 use crate::block::{Block, BlockInsn};
 use bytecode_model::{Origin, copy_insn, copy_keys};
 use insn_codec::Insn;
-use mon_base::{List, NoMemory};
+use mon_base::{BoxedList, List, NoMemory};
 use std::alloc::Global;
 
 /// What stands for an instruction that has no block.
@@ -46,11 +46,11 @@ pub fn count_of(sites: &[Option<Block>]) -> usize
 }
 
 /// Where the part of each instruction begins, and where the last one ends.
-pub fn fronts(alloc: Global, sites: &[Option<Block>]) -> Result<List<u32>, NoMemory>
+pub fn fronts_of(alloc: Global, sites: &[Option<Block>]) -> Result<List<u32>, NoMemory>
     requires { count_of sites.now < 2 ^ 32 }
     ensures { IfOk result (λ fronts. fronts ≡ fronts_of sites.now) }
 {
-    let mut fronts = List::from_vec(Vec::with_capacity(alloc, sites.len() + 1)?);
+    let mut fronts = List::with_room(alloc, sites.len() + 1)?;
     let mut at: u32 = 0;
     let mut left = sites;
     while let [site, rest @ ..] = left {
@@ -72,14 +72,14 @@ pub fn front(fronts: &[u32], to: u32) -> u32
     }
 }
 
-fn all_fronts(alloc: Global, fronts: &[u32], targets: &[u32]) -> Result<List<u32>, NoMemory>
+fn all_fronts(alloc: Global, fronts: &[u32], targets: &[u32]) -> Result<BoxedList<u32>, NoMemory>
     ensures { IfOk result (λ all. all ≡ map (slice_index fronts.now) targets.now) }
 {
-    let mut all = List::from_vec(Vec::with_capacity(alloc, targets.len())?);
+    let mut all = List::with_room(alloc, targets.len())?;
     for to in targets {
         all.push(front(fronts, *to))?;
     }
-    Ok(all)
+    BoxedList::new(alloc, all)
 }
 
 /// The instruction, with each target at its front.
@@ -109,7 +109,7 @@ pub fn aimed(alloc: Global, fronts: &[u32], insn: &Insn) -> Result<Insn, NoMemor
             targets,
         } => Ok(Insn::Lookup {
             other: front(fronts, *other),
-            keys: copy_keys(alloc, keys)?,
+            keys: copy_keys(alloc, keys.as_slice())?,
             targets: all_fronts(alloc, fronts, targets.as_slice())?,
         }),
         _ => copy_insn(alloc, insn),
@@ -122,7 +122,7 @@ pub fn origins_of(alloc: Global, sites: &[Option<Block>]) -> Result<List<Origin>
     requires sites { AllByRecursion IsSite sites.now }
     ensures { IfOk result (λ origins. origins ≡ origins_of sites.now) }
 {
-    let mut origins = List::from_vec(Vec::with_capacity(alloc, count_of(sites))?);
+    let mut origins = List::with_room(alloc, count_of(sites))?;
     let mut site: u32 = 0;
     let mut left = sites;
     while let [first, rest @ ..] = left {

@@ -72,7 +72,7 @@ fn each_kept(
 ) -> Result<List<Other>, NoMemory>
     ensures { IfOk result (λ kept. kept ≡ each_kept entries.now (moved_in moves.now) attrs.now) }
 {
-    let mut kept = List::from_vec(Vec::with_capacity(alloc, attrs.len())?);
+    let mut kept = List::with_room(alloc, attrs.len())?;
     let mut left = attrs;
     while let [attr, rest @ ..] = left {
         if let Some(attr) = attr_kept(alloc, entries, moves, attr)? {
@@ -155,7 +155,7 @@ fn lines_of(alloc: Global, bytes: &[u8]) -> Result<Option<List<Line>>, NoMemory>
 fn lines_in(alloc: Global, bytes: &[u8]) -> Result<List<Line>, NoMemory>
     ensures { IfOk result (λ lines. lines ≡ lines_in bytes.now) }
 {
-    let mut lines = List::from_vec(Vec::with_capacity(alloc, bytes.len() / 4)?);
+    let mut lines = List::with_room(alloc, bytes.len() / 4)?;
     let mut left = bytes;
     while let Some((line, rest)) = first_line(left) {
         lines.push(line)?;
@@ -184,7 +184,7 @@ fn first_line(bytes: &[u8]) -> Option<(Line, &[u8])>
 fn lines_moved(alloc: Global, moves: &Moves, lines: &[Line]) -> Result<Option<List<Line>>, NoMemory>
     ensures { IfOk result (λ made. made ≡ lines_moved (moved_in moves.now) lines.now) }
 {
-    let mut made = List::from_vec(Vec::with_capacity(alloc, lines.len())?);
+    let mut made = List::with_room(alloc, lines.len())?;
     let mut left = lines;
     while let [line, rest @ ..] = left {
         let Some(line) = line_moved(moves, line) else {

@@ -16,7 +16,7 @@ ghost use Rattle.offset_patch.specs.Splicing.{spliced, wants_of, block_wants, gr
 use crate::block::{Block, BlockInsn};
 use crate::entries::Entries;
 use crate::fault::{Size, SpliceFault};
-use crate::fronts::{aimed, count_of, fronts, part_of};
+use crate::fronts::{aimed, count_of, fronts_of, part_of};
 use crate::length::length_of;
 use crate::lines::attrs_spliced;
 use crate::sizes::{OPERANDS, fitted};
@@ -90,7 +90,7 @@ fn code_put(
     ensures code { Answers SpliceFault.Memory result (bytes_spliced class.now number entries.old method.now code.now locals sites.now) }
     ensures pool { OnOk result (entries.new ≡ entries.old) }
 {
-    let fronts = fronts(alloc, sites)?;
+    let fronts = fronts_of(alloc, sites)?;
     let insns = parts(
         alloc,
         entries,
@@ -184,7 +184,7 @@ fn add_part(alloc: Global, entries: &mut Entries, part: &[BlockInsn]) -> Result<
 }
 
 /// The parts of the instructions, one after another.
-fn parts(
+pub fn parts(
     alloc: Global,
     entries: &mut Entries,
     fronts: &[u32],
@@ -200,7 +200,7 @@ fn parts(
     ensures each { IfOk result (AllByRecursion IsInsn) }
     ensures kept { OnOk result (entries.new ≡ entries.old) }
 {
-    let mut out = List::from_vec(Vec::with_capacity(alloc, count_of(sites))?);
+    let mut out = List::with_room(alloc, count_of(sites))?;
     let mut begin: u32 = 0;
     let mut own = insns;
     let mut left = sites;

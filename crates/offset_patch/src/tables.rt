@@ -31,7 +31,7 @@ pub fn table_spliced(
         ≡ own_entries starts.now 0 sites.now ++ table_moved starts.now fronts.now handlers.now entries.now) }
 {
     let rows = catching(sites) as usize + entries.len();
-    let mut table = List::from_vec(Vec::with_capacity(alloc, rows)?);
+    let mut table = List::with_room(alloc, rows)?;
     put_own(&mut table, starts, sites)?;
     put_moved(&mut table, starts, fronts, handlers, entries)?;
     Ok(table)
@@ -122,7 +122,7 @@ fn own_entry(starts: &[u32], begin: u32, insns: &[BlockInsn], place: u32) -> Tab
 }
 
 /// The place of the client's instruction.
-fn call_place(insns: &[BlockInsn]) -> u32
+pub fn call_place(insns: &[BlockInsn]) -> u32
     requires { length insns.now < 2 ^ 30 }
     ensures is { result ≡ call_place insns.now }
     ensures bound { result ≤ length insns.now }

@@ -1,5 +1,5 @@
 -- A code with blocks is read as the instructions that were put together.
-use Rattle.std.proofs.Common.{◌≡◌, ℕ, ℤ, ◌+◌, ◌≤◌, Bool, true, false, List, [], ◌∷◌, length, Option, Result, Ok, Err, refl, sym, ap, subst, ◌∙◌, FitsSigned, arith}
+use Rattle.std.proofs.Common.{◌≡◌, ℕ, ℤ, ◌+◌, ◌≤◌, ◌<◌, ◌^◌, Bool, true, false, List, [], ◌∷◌, length, Option, Result, Ok, Err, refl, sym, ap, subst, ◌∙◌, FitsSigned, arith}
 use Rattle.std.specs.Prelude.{nat_le}
 use Rattle.std.specs.Int.{w16, w32}
 use Rattle.std.specs.List.{AllByRecursion}
@@ -19,6 +19,7 @@ use Rattle.insn_codec.specs.Spelling.{size, offset, starts_of, len_from, spellin
 use Rattle.insn_codec.specs.Writing.{held_by_2, held_by_4, near, far, all_far, reach, reach_from, written}
 use Rattle.insn_codec.proofs.CodeLaws.{spelled_code}
 use Rattle.bytecode_model.specs.declared.program.Method.{Method}
+use Rattle.class_linking.proofs.Telling.{count_len}
 use Rattle.bytecode_model.specs.Sound.{IsSoundMethod}
 use Rattle.offset_patch.specs.Fits.{IsSite}
 use Rattle.offset_patch.specs.Plan.{Plan, IsGood}
@@ -27,7 +28,7 @@ use Rattle.offset_patch.specs.declared.fault.Size.TheVariants as sizes
 use Rattle.offset_patch.specs.declared.fault.SpliceFault.{SpliceFault}
 use Rattle.offset_patch.specs.Fault.{fitted, code_fitted}
 use Rattle.offset_patch.specs.Splicing.{grown, fronts_of, origins_of, catching, operands_needed, room, spliced, table_spliced, code_with, bytes_spliced, code_spliced}
-use Rattle.offset_patch.proofs.CodeFits.{room_is, pool_short}
+use Rattle.offset_patch.proofs.CodeFits.{room_is, pool_short, rows_short, written_is}
 use Rattle.offset_patch.proofs.InsnFits.{wants_there, parts_fit}
 use Rattle.class_weaving.specs.declared.woven.WovenCode.{WovenCode}
 use Rattle.class_weaving.specs.Woven.{sites_of, locals_of, blocks_put}
@@ -134,6 +135,13 @@ made_of class number pool method code locals sites new e =
       is = ok_is SpliceFault (made three.0) new three.2;
     }
 
+-- Each instruction is one, and control stays in the code.
+pub record IsSoundCode (insns : List Insn) : Type 0 where
+  pub few : length insns < 2 ^ 16
+  pub each : AllByRecursion IsInsn insns
+  pub targets : AllByRecursion (AimsWithin (length insns)) insns
+  pub ends : Ends insns
+
 -- What is read of a code that was woven with these blocks.
 pub record IsRead (pool : List Const) (method : Method) (code : Code) (locals : ℕ) (sites : List (Option Block)) (w : WovenCode) : Type 0 where
   pub fits : AllByRecursion IsSite sites
@@ -142,6 +150,10 @@ pub record IsRead (pool : List Const) (method : Method) (code : Code) (locals : 
   pub table : w.code.table ≡ table_spliced (starts_of (spliced w.entries method.insns sites)) sites method.handlers code.table
   pub max_stack : w.code.max_stack ≡ code.max_stack + operands_needed
   pub max_locals : w.code.max_locals ≡ code.max_locals + locals
+  pub stack : code.max_stack + operands_needed < 2 ^ 16
+  pub slots : code.max_locals + locals < 2 ^ 16
+  pub rows : length w.code.table < 2 ^ 16
+  pub sound : IsSoundCode (spliced w.entries method.insns sites)
 
 pub put_reads : (kinds : List Bool) (plan : Plan) → IsGood kinds plan → (class : List ℕ) (number : ℕ) (pool : List Const) (method : Method) (code : Code) (w : WovenCode) → IsSoundMethod method
     → LastAlone (sites_of plan code.max_locals method) → blocks_put plan class number pool method code (sites_of plan code.max_locals method) ≡ Ok w
@@ -160,8 +172,12 @@ put_reads kinds plan good class number pool method code w sound last e =
     let fit = refs_fit kinds plan good code.max_locals method.refs (omega (arith, roomy.1)) in
     let count : length sites ≡ length method.insns = length-map method.refs (plan.block code.max_locals) ∙ sound.refs in
     let each = parts_fit all (fronts_of sites) 0 method.insns sites h.short sound.insns fit (wants_there sites pool) in
-    let reads = written_reads (spliced all method.insns sites) h.bytes each (spliced_aims all method.insns sites count sound.targets last fit)
-    (spliced_ends all method.insns sites count sound.ends last fit) h.written in
+    let insns = spliced all method.insns sites in
+    let targets = spliced_aims all method.insns sites count sound.targets last fit in
+    let ends = spliced_ends all method.insns sites count sound.ends last fit in
+    let reads = written_reads insns h.bytes each targets ends h.written in
+    let rows = rows_short class number all method code locals sites new two.1 in
+    let few = (written_is insns h.bytes h.written).0 in
     let there : code_of new.code ≡ Ok (spliced all method.insns sites) = ap (λ (c : Code). code_of c.code) (sym h.is) ∙ reads in
     subst (IsRead pool method code locals sites) is (record {
       fits = fit;
@@ -170,4 +186,8 @@ put_reads kinds plan good class number pool method code w sound last e =
       table = ap (λ (c : Code). c.table) (sym h.is);
       max_stack = ap (λ (c : Code). c.max_stack) (sym h.is);
       max_locals = ap (λ (c : Code). c.max_locals) (sym h.is);
+      stack = omega (arith, roomy.0);
+      slots = omega (arith, roomy.1);
+      rows = omega (arith, rows);
+      sound = record { few = omega (arith, few, count_len 0 insns); each = each; targets = targets; ends = ends };
     })

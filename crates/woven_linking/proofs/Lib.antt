@@ -15,6 +15,8 @@ pub mod Added
 pub mod Tables
 pub mod Again
 pub mod Steps
+pub mod Made
 pub mod Whole
+pub mod Relinked
 pub mod Original
 pub mod Told

@@ -1,5 +1,5 @@
 -- What becomes of a method: its member before and after weaving, and what each links to.
-use Rattle.std.proofs.Common.{◌≡◌, ℕ, ◌+◌, Bool, true, false, List, [], ◌∷◌, ◌++◌, length, map, Option, Some, None, Result, Ok, Err, refl, sym, ap, subst, ◌∙◌, append-nil, arith}
+use Rattle.std.proofs.Common.{◌≡◌, ℕ, ◌+◌, ◌<◌, ◌^◌, Bool, true, false, List, [], ◌∷◌, ◌++◌, length, map, Option, Some, None, Result, Ok, Err, refl, sym, ap, subst, ◌∙◌, append-nil, arith}
 use Rattle.std.specs.Prelude.{slice_get, bytes_eq, ◌&&◌, if◌then◌else◌, not}
 use Rattle.std.specs.List.{AllByRecursion, Contains, filter_map}
 use Rattle.mon_base.specs.Reading.{◌>>=◌, need}
@@ -26,6 +26,8 @@ use Rattle.bytecode_model.specs.Heads.{head_of, all_classes, name_of, desc_of, i
 use Rattle.class_linking.specs.Operands.{operand_linked, operand_at, operands_linked}
 use Rattle.bytecode_model.specs.SearchOrder.{Name}
 use Rattle.class_linking.specs.Handlers.{handlers_linked}
+use Rattle.class_linking.proofs.Loop.{same_length}
+use Rattle.class_linking.proofs.Sound.{handlers_within}
 use Rattle.class_linking.specs.Linking.{bare, with_code, read_of, code_linked, body_linked, method_linked}
 use Rattle.bytecode_model.specs.Sound.{IsSoundMethod}
 use Rattle.offset_patch.specs.Plan.{Plan, IsGood}
@@ -43,7 +45,8 @@ use Rattle.class_weaving.specs.declared.woven.WovenCode.{WovenCode}
 use Rattle.class_weaving.specs.declared.woven.Members.{Members}
 use Rattle.class_weaving.specs.Woven.{is_woven, sites_of, locals_of, clients_from, blocks_put, code_woven, first_code, attr_with, member_with, bare_put, code_put, body_woven}
 use Rattle.class_weaving.specs.Outcome.{Each, way_out, at_fronts, own_handlers, handlers_with, wants_woven, insns_woven, stack_woven, locals_woven, handlers_woven, parts_named, refs_woven, IsWovenMethod}
-use Rattle.woven_linking.proofs.Again.{put_reads}
+use Rattle.woven_linking.specs.Program.{HasRoom, MethodHasRoom}
+use Rattle.woven_linking.proofs.Again.{IsSoundCode, put_reads}
 use Rattle.woven_linking.proofs.Aims.{GoesOn, last_alone, spliced_below, spliced_count, spliced_within}
 use Rattle.woven_linking.proofs.Calls.{call_goes}
 use Rattle.woven_linking.proofs.Free.{IsFree, class_free}
@@ -56,7 +59,7 @@ use Rattle.woven_linking.proofs.Tables.{IsHandlerOf, handlers_of, of_handlers, s
 use Rattle.class_weaving.proofs.Wanted.{exit_there, reference_told, there_on, all_of}
 use Rattle.std.proofs.lemmas.List.{length-map}
 use Rattle.class_codec.specs.declared.tree.TableEntry.{TableEntry}
-use Rattle.class_codec.specs.Fits.{FitsPool, FitsTableEntry}
+use Rattle.class_codec.specs.Fits.{FitCounted, FitsPool, FitsTableEntry}
 use Rattle.class_codec.specs.Pool.{reference_at}
 use Rattle.offset_patch.specs.Splicing.{operands_needed, own_entries, table_moved, table_spliced}
 use Rattle.offset_patch.specs.declared.block.PoolWant.TheVariants as wants
@@ -143,6 +146,23 @@ coded files listing file at member code m e =
       handlers = handlers_of files listing class file.pool at (length a.0) (starts_of a.0) code.table c.0 c.1;
     })
 
+-- what is linked of a sound code is sound
+sound_of : (files : List ClassFile) (listing : Listing) (file : ClassFile) (at : ℕ) (member : Member) (code : Code) (insns : List Insn) (refs : List Target) (handlers : List Handler) → IsSoundCode insns
+    → length code.table < 2 ^ 16 → operands_linked files listing (head_of file).name file.pool at insns ≡ Ok refs
+    → handlers_linked files listing (head_of file).name file.pool at (length insns) (starts_of insns) code.table ≡ Ok handlers → IsSoundMethod (with_code file member code insns refs handlers)
+sound_of files listing file at member code insns refs handlers sound rows operands table =
+    let class = (head_of file).name in
+    let within = handlers_within files listing class file.pool at (length insns) insns code.table handlers table in
+    record {
+      few = sound.few;
+      refs = same_length (operand_at files listing class file.pool at) 0 insns refs operands;
+      insns = sound.each;
+      targets = sound.targets;
+      ends = sound.ends;
+      few_handlers = omega (arith, rows, within.0);
+      handlers = within.1;
+    }
+
 -- the conditions that a method meets, and its body
 pub conditions_of : (files : List ClassFile) (listing : Listing) (file : ClassFile) (at : ℕ) (member : Member) (m : Method) → method_linked files listing file at member ≡ Ok m
     → (is_allowed file.pool member ≡ true) × (not (overrides (all_classes listing files) listing (head_of file).name file.pool member) ≡ true)
@@ -189,6 +209,8 @@ module _ (kinds : List Bool) (plan : Plan) (good : IsGood kinds plan) (file new 
     pub more : (xs : List Const) × (next.entries ≡ made.entries ++ xs)
     pub wanted : next.entries ≡ with_wants made.entries (wants_woven plan m)
     pub is : (ys : List Const) → new.pool ≡ next.entries ++ ys → (at : ℕ) → (other : Method) × (method_linked others listing new at item ≡ Ok other) × IsWovenMethod plan (length files) new.pool m other
+        × IsSoundMethod other
+    pub room : (ys : List Const) → new.pool ≡ next.entries ++ ys → MethodHasRoom plan new.pool m
 
   bare_step : (made : Members) (member : Member) (m : Method) → FitsMember file.pool true member → method_linked files listing file made.number member ≡ Ok m → first_code member.attrs ≡ None
       → bare file member ≡ m → IsStep made (bare_put made member) m
@@ -210,8 +232,13 @@ module _ (kinds : List Bool) (plan : Plan) (good : IsGood kinds plan) (file new 
           handlers = refl;
           refs = refl;
           out = λ c. absurd (omega (arith, c.1));
-        } in
-        (bare new member, links at made.number member member m (bare new member) fits (same_member member) linked body, subst (λ (x : Method). IsWovenMethod plan (length files) new.pool x (bare new member)) is same);
+        } in (
+          bare new member,
+          links at made.number member member m (bare new member) fits (same_member member) linked body,
+          subst (λ (x : Method). IsWovenMethod plan (length files) new.pool x (bare new member)) is same,
+          record { few = omega arith; refs = refl; insns = tt; targets = tt; ends = tt; few_handlers = omega arith; handlers = tt },
+        );
+    room = λ ys grown. subst (MethodHasRoom plan new.pool) is (λ woven. absurd cc);
   }
 
   abbrev Names : Insn → Target → Type 0
@@ -227,9 +254,12 @@ module _ (kinds : List Bool) (plan : Plan) (good : IsGood kinds plan) (file new 
     refs : (ys : List Const) → new.pool ≡ w.entries ++ ys → Each Names (insns_woven plan new.pool m) (refs_woven plan (length files) m)
     handlers : (ys : List Const) → new.pool ≡ w.entries ++ ys → Each (IsHandlerOf others listing new.pool (starts_of (insns_woven plan new.pool m))) w.code.table (handlers_woven plan m)
     out : (ys : List Const) → new.pool ≡ w.entries ++ ys → Contains (wants_woven plan m) wants.Exit → reference_at new.pool (place_in new.pool wants.Exit) ≡ Some way_out
+    rows : length w.code.table < 2 ^ 16
+    sound : (ys : List Const) → new.pool ≡ w.entries ++ ys → IsSoundCode (insns_woven plan new.pool m)
+    room : (ys : List Const) → new.pool ≡ w.entries ++ ys → MethodHasRoom plan new.pool m
 
   woven_is : (class : List ℕ) (number : ℕ) (pool : List Const) (m : Method) (member : Member) (code : Code) (w : WovenCode) → IsSoundMethod m → IsCoded files listing file member code m
-      → AllByRecursion (FitsTableEntry file.pool) code.table → code_woven plan class number pool m code ≡ Ok w → IsWovenCode pool m code w
+      → FitCounted (FitsTableEntry file.pool) code.table → code_woven plan class number pool m code ≡ Ok w → IsWovenCode pool m code w
   woven_is class number pool m member code w sound old fits = by (is_woven plan m) refl
     where
       refs_still : Each Names m.insns m.refs
@@ -276,7 +306,7 @@ module _ (kinds : List Bool) (plan : Plan) (good : IsGood kinds plan) (file new 
                 let within = spliced_within new.pool m.insns sites count in
                 let starts = starts_of xs in
                 let Handled : TableEntry → Handler → Type 0 = IsHandlerOf others listing new.pool starts in
-                let moved = handlers_moved kinds files others listing added file.pool new.pool p longer (starts_of m.insns) fronts (length m.insns) xs below within code.table m.handlers sound.handlers fits old.handlers in
+                let moved = handlers_moved kinds files others listing added file.pool new.pool p longer (starts_of m.insns) fronts (length m.insns) xs below within code.table m.handlers sound.handlers fits.each old.handlers in
                 let own = sites_caught others listing new.pool xs 0 sites h.fits (omega (arith, spliced_count new.pool m.insns sites count)) in
                 let all = each_append Handled (own_entries starts 0 sites) (table_moved starts fronts m.handlers code.table) (own_handlers 0 sites) (map (at_fronts fronts) m.handlers) own moved in
                 let table : w.code.table ≡ table_spliced starts sites m.handlers code.table = h.table ∙ ap (λ (q : List Insn). table_spliced (starts_of q) sites m.handlers code.table) (spliced_same ys grown) in
@@ -287,6 +317,18 @@ module _ (kinds : List Bool) (plan : Plan) (good : IsGood kinds plan) (file new 
                 let among : Contains (wants_of sites) wants.Exit = subst (λ (ws : List PoolWant). Contains ws wants.Exit) wants_is wanted in
                 let exit = exit_there new.pool (all_of (IsThere new.pool) (wants_of sites) wants.Exit (there ys grown) among) in
                 reference_told new.pool (place_in new.pool wants.Exit) way_out.class way_out.name way_out.desc exit;
+            rows = h.rows;
+            sound = λ ys grown. subst IsSoundCode (spliced_same ys grown ∙ sym insns_is) h.sound;
+            room = λ ys grown woven.
+                let stack = h.stack in
+                let slots = h.slots in
+                let few = h.sound.few in
+                subst (HasRoom plan new.pool m) (sym same) (record {
+                  stack = omega (arith, old.max_stack, stack);
+                  locals = omega (arith, old.max_locals, slots);
+                  insns = omega (arith, spliced_count w.entries m.insns sites count, few);
+                  there = there ys grown;
+                });
           }
         where
           grown_by : List (Option Block) → List Const
@@ -304,19 +346,22 @@ module _ (kinds : List Bool) (plan : Plan) (good : IsGood kinds plan) (file new 
             max_locals = sym old.max_locals ∙ sym (ap (λ (b : Bool). if b then m.max_locals + locals_of plan m else m.max_locals) none);
             refs = λ ys grown. subst (λ (q : List Insn). Each Names q (refs_woven plan (length files) m)) (sym insns_is) (subst (Each Names m.insns) (sym refs_is) refs_still);
             handlers = λ ys grown.
-                let all = handlers_kept kinds files others listing added file.pool new.pool p longer (starts_of m.insns) code.table m.handlers fits old.handlers in
+                let all = handlers_kept kinds files others listing added file.pool new.pool p longer (starts_of m.insns) code.table m.handlers fits.each old.handlers in
                 subst (λ (q : List Insn). Each (IsHandlerOf others listing new.pool (starts_of q)) code.table (handlers_woven plan m)) (sym insns_is)
                 (subst (Each (IsHandlerOf others listing new.pool (starts_of m.insns)) code.table) (sym handlers_is) all);
             out = λ ys grown wanted.
                 let nothing : wants_woven plan m ≡ [] = ap (λ (b : Bool). if b then wants_of (sites_of plan m.max_locals m) else []) none in
                 absurd (omega (arith, ap length nothing, wanted.1));
+            rows = fits.count;
+            sound = λ ys grown. subst IsSoundCode (sym insns_is) (record { few = sound.few; each = sound.insns; targets = sound.targets; ends = sound.ends });
+            room = λ ys grown woven. absurd cc;
           })
 
   coded_step : (class : List ℕ) (made : Members) (member : Member) (m : Method) (code : Code) (w : WovenCode) → FitsMember file.pool true member → IsSoundMethod m
       → method_linked files listing file made.number member ≡ Ok m → first_code member.attrs ≡ Some code → IsCoded files listing file member code m
       → code_woven plan class made.number made.entries m code ≡ Ok w → IsStep made (code_put made member w) m
   coded_step class made member m code w fits sound linked first old e =
-      let entries = (first_fits file.pool member.attrs code fits.attrs.each first).1.table.each in
+      let entries = (first_fits file.pool member.attrs code fits.attrs.each first).1.table in
       let h = woven_is class made.number made.entries m member code w sound old entries e in
       record {
         item = member_with member w.code;
@@ -351,7 +396,9 @@ module _ (kinds : List Bool) (plan : Plan) (good : IsGood kinds plan) (file new 
                 refs = refl;
                 out = h.out ys grown;
               },
+              sound_of others listing new at item w.code insns refs handlers (h.sound ys grown) h.rows operands table,
             );
+        room = h.room;
       }
     where
       code_links : (at : ℕ) (item : Member) (code : Code) (insns : List Insn) (refs : List Target) (handlers : List Handler) → code_of code.code ≡ Ok insns

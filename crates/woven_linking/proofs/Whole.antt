@@ -31,9 +31,13 @@ use Rattle.offset_patch.specs.Entries.{with_wants}
 use Rattle.offset_patch.proofs.Pieces.{wants_append}
 use Rattle.class_weaving.specs.State.{state_file}
 use Rattle.class_weaving.specs.declared.woven.Members.{Members}
+use Rattle.class_weaving.specs.declared.woven.Woven.{Woven}
 use Rattle.class_weaving.specs.Woven.{folded, first_code, body_woven, member_woven, none_made}
-use Rattle.class_weaving.specs.Outcome.{Each, wants_woven, class_wants, IsWovenMethod, IsWovenClass}
+use Rattle.class_weaving.specs.Outcome.{Each, wants_woven, class_wants, IsWovenMethod, IsWovenClass, IsWoven}
 use Rattle.woven_linking.specs.Links.{WovenLinks}
+use Rattle.woven_linking.specs.Program.{MethodHasRoom, IsWovenOf}
+use Rattle.woven_linking.specs.Program as program
+use Rattle.woven_linking.proofs.Made.{class_is, HaveMethodsRoom, with_state}
 use Rattle.woven_linking.proofs.Added.{is_added, new_stand}
 use Rattle.woven_linking.proofs.Free.{IsFree}
 use Rattle.woven_linking.proofs.Kept.{IsLonger, IsKept, IsFileOf, members_woven_of, file_kept, file_is, files_made}
@@ -63,9 +67,11 @@ module _ (kinds : List Bool) (plan : Plan) (good : IsGood kinds plan) (class : L
     linked : List Method
     links : linked_from (method_linked others listing new) made.number items ≡ Ok linked
     each : Each (IsWovenMethod plan (length files) new.pool) left linked
+    sound : AllByRecursion IsSoundMethod linked
+    room : AllByRecursion (MethodHasRoom plan new.pool) left
 
   none_left : (made : Members) → IsRest made made []
-  none_left made = record { items = []; are = sym (append-nil made.items); more = ([], sym (append-nil made.entries)); wanted = refl; linked = []; links = refl; each = tt }
+  none_left made = record { items = []; are = sym (append-nil made.items); more = ([], sym (append-nil made.entries)); wanted = refl; linked = []; links = refl; each = tt; sound = tt; room = tt }
 
   members_rest : (members : List Member) (made last : Members) (done left : List Method) → class.methods ≡ done ++ left → length done ≡ made.number → AllByRecursion IsSoundMethod left
       → AllByRecursion (FitsMember class.file.pool true) members → linked_from (method_linked files listing class.file) made.number members ≡ Ok left
@@ -100,6 +106,8 @@ module _ (kinds : List Bool) (plan : Plan) (good : IsGood kinds plan) (class : L
         links = ap (λ (r : Linked Method). r >>= λ x. linked_from (method_linked others listing new) (made.number + 1) later.items >>= λ xs. Ok (x ∷ xs)) first.1
             ∙ ap (λ (r : Linked (List Method)). r >>= λ xs. Ok (first.0 ∷ xs)) again;
         each = (first.2, later.each);
+        sound = (first.3, later.sound);
+        room = (step.room later.more.0 (sym pool ∙ later.more.1), later.room);
       } in
       subst (IsRest made last) a.4 both
 
@@ -114,6 +122,7 @@ pub record IsOf (files : List ClassFile) (listing : Listing) (class : LinkedClas
 module _ (kinds : List Bool) (plan : Plan) (good : IsGood kinds plan) (vars : List Var) (files others : List ClassFile) (listing : Listing) (added : IsAdded kinds files others listing) where
   class_joined : (old : LinkedClass) (new : ClassFile) → IsSoundClass old → IsFree old.file.pool → IsOf files listing old → IsFileOf plan old new
       → (methods : List Method) × (methods_linked others listing new ≡ Ok methods) × IsWovenClass plan (length files) old (class_with new methods)
+      × AllByRecursion IsSoundMethod methods × AllByRecursion (MethodHasRoom plan new.pool) old.methods
   class_joined old new sound free of w =
       let k = file_kept plan old new w in
       let head : head_of new ≡ head_of old.file = head_kept old.file new sound.fits k in
@@ -136,6 +145,8 @@ module _ (kinds : List Bool) (plan : Plan) (good : IsGood kinds plan) (vars : Li
           members = members_woven_of old.file.methods new.methods k.methods;
           methods = rest.each;
         },
+        rest.sound,
+        rest.room,
       )
 
   -- What the files link to, behind which conspec/State stands.
@@ -145,10 +156,13 @@ module _ (kinds : List Bool) (plan : Plan) (good : IsGood kinds plan) (vars : Li
     own : List LinkedClass
     are : classes_with (news ++ state_file vars ∷ []) methods ≡ own ++ class_with (state_file vars) [] ∷ []
     classes : Each (IsWovenClass plan (length files)) olds own
+    with : classes_with (news ++ state_file vars ∷ []) methods ≡ program.classes_with plan (length files) olds (news ++ state_file vars ∷ [])
+    sound : AllByRecursion (AllByRecursion IsSoundMethod) methods
+    room : Each (λ (old : LinkedClass) (new : ClassFile). AllByRecursion (MethodHasRoom plan new.pool) old.methods) olds news
 
   classes_joined : (at : ℕ) (olds : List LinkedClass) (news : List ClassFile) → AllByRecursion IsSoundClass olds → AllByRecursion (λ (c : LinkedClass). IsFree c.file.pool) olds
       → AllByRecursion (IsOf files listing) olds → Each (IsFileOf plan) olds news → AreJoined at olds news
-  classes_joined at [] [] sound free of w = record { methods = [] ∷ []; links = refl; own = []; are = refl; classes = tt }
+  classes_joined at [] [] sound free of w = record { methods = [] ∷ []; links = refl; own = []; are = refl; classes = tt; with = refl; sound = (tt, tt); room = tt }
   classes_joined at [] (new ∷ news) sound free of w = absurd w
   classes_joined at (old ∷ olds) [] sound free of w = absurd w
   classes_joined at (old ∷ olds) (new ∷ news) sound free of w =
@@ -161,6 +175,10 @@ module _ (kinds : List Bool) (plan : Plan) (good : IsGood kinds plan) (vars : Li
         own = class_with new one.0 ∷ rest.own;
         are = ap (λ (xs : List LinkedClass). class_with new one.0 ∷ xs) rest.are;
         classes = (one.2, rest.classes);
+        with = ap (λ (c : LinkedClass). c ∷ classes_with (news ++ state_file vars ∷ []) rest.methods) (class_is plan (length files) old (class_with new one.0) one.2)
+            ∙ ap (λ (cs : List LinkedClass). program.class_with plan (length files) old new ∷ cs) rest.with;
+        sound = (one.3, rest.sound);
+        room = (one.4, rest.room);
       }
 
 -- ---- a program that was linked
@@ -216,12 +234,12 @@ program_of files listing main side p e =
       main_method_is = refl;
     })
 
-assembled_by : (files : List ClassFile) (listing : Listing) (main : List ℕ) (side : Side) (methods : List (List Method)) (begin : ℕ × ℕ)
+pub assembled_by : (files : List ClassFile) (listing : Listing) (main : List ℕ) (side : Side) (methods : List (List Method)) (begin : ℕ × ℕ)
     → classes_linked side (heads_of files) listing.classes files ≡ Ok tt → each_linked files listing files ≡ Ok methods → main_of files main ≡ Some begin
     → assembled files listing main side ≡ Ok (record { classes = classes_with files methods; listing = listing; literals = literals_of files; main_class = begin.0; main_method = begin.1 })
 assembled_by files listing main side methods begin good each is = rw (good, each, is) refl
 
--- ---- the law
+-- ---- the program
 
 module _ (plan : Plan) where
   all_kept : (classes : List LinkedClass) (news : List ClassFile) → Each (IsFileOf plan) classes news → Each IsKept (files_of classes) news
@@ -242,39 +260,63 @@ pub free_classes : (files : List ClassFile) (listing : Listing) (main : List ℕ
 free_classes files listing main p h =
     all_free (heads_of files) p.classes (subst (AllByRecursion (IsGoodClass (heads_of files))) (sym h.files_are) (all_good (heads_of files) listing.classes files h.good))
 
-pub links : WovenLinks
-links text listing files main old plan vars made spelled first sound good few w =
+-- What woven files link to: classes that are sound and have room for their blocks, which make up the woven program.
+pub record IsRelinked (listing : Listing) (main : List ℕ) (old : Program) (plan : Plan) (vars : List Var) (files : List ClassFile) : Type 0 where
+  pub methods : List (List Method)
+  pub begin : ℕ × ℕ
+  pub good : classes_linked sides.Inlined (heads_of files) listing.classes files ≡ Ok tt
+  pub each : each_linked files listing files ≡ Ok methods
+  pub begins : main_of files main ≡ Some begin
+  pub woven : IsWoven old plan vars (record { classes = classes_with files methods; listing = listing; literals = literals_of files; main_class = begin.0; main_method = begin.1 })
+  pub with : classes_with files methods ≡ program.classes_with plan (length old.classes) old.classes files
+  pub sound : AllByRecursion (AllByRecursion IsSoundMethod) methods
+  pub room : HaveMethodsRoom plan old.classes files
+
+pub relinked : (listing : Listing) (files : List ClassFile) (main : List ℕ) (old : Program) (plan : Plan) (vars : List Var) (made : Woven) → IsWovenOf listing files main old plan vars made
+    → IsRelinked listing main old plan vars made.files
+relinked listing files main old plan vars made of =
     let kinds = map (λ (v : Var). v.is_bool) vars in
-    let p = program_of files listing main sides.Original old first in
-    let all = files_made plan vars old made w in
+    let p = program_of files listing main sides.Original old of.links in
+    let all = files_made plan vars old made of.woven in
     let news = all.0 in
     let state = state_file vars in
     let others = news ++ state ∷ [] in
-    let fits : AllByRecursion CanSpell files = subst (AllByRecursion CanSpell) p.files_are (all_fit old.classes sound.classes) in
+    let fits : AllByRecursion CanSpell files = subst (AllByRecursion CanSpell) p.files_are (all_fit old.classes of.sound.classes) in
     let kept : Each IsKept files news = subst (λ (fs : List ClassFile). Each IsKept fs news) p.files_are (all_kept plan old.classes news all.2) in
-    let l = listed text listing spelled in
-    let added = is_added vars few listing l files news fits kept p.good in
+    let l = listed of.text listing of.listed in
+    let added = is_added vars of.few listing l files news fits kept p.good in
     let free = free_classes files listing main old p in
-    let joined = classes_joined kinds plan good vars files others listing added 0 old.classes news sound.classes free p.classes all.2 in
+    let joined = classes_joined kinds plan of.good vars files others listing added 0 old.classes news of.sound.classes free p.classes all.2 in
     let begin = p.begin.0 in
-    let main_is : main_of others main ≡ Some begin = main_kept state main begin 0 files news fits kept p.begin.1 in
     let count : length files ≡ length old.classes = sym (ap length p.files_are) ∙ length-map old.classes (λ (c : LinkedClass). c.file) in
     let new : Program = record { classes = classes_with others joined.methods; listing = listing; literals = literals_of others; main_class = begin.0; main_method = begin.1 } in
-    let linked_is : assembled others listing main sides.Inlined ≡ Ok new =
-    assembled_by others listing main sides.Inlined joined.methods begin (new_stand vars few listing l files news fits kept p.good) joined.links main_is in (
-      new,
-      (
-        subst (λ (fs : List ClassFile). assembled fs listing main sides.Inlined ≡ Ok new) (sym all.1) linked_is,
-        record {
-          own = joined.own;
-          state = class_with state [];
-          are = joined.are;
-          classes = subst (λ (n : ℕ). Each (IsWovenClass plan n) old.classes joined.own) count joined.classes;
-          last = record { name = ap (λ (c : ListedClass). c.name) (state_says vars) ∙ state_head_name; file = refl; methods = refl };
-          listing = sym p.listing_is;
-          literals = literals_kept state (state_strings vars) files news fits kept ∙ sym p.literals_are;
-          main_class = sym p.main_class_is;
-          main_method = sym p.main_method_is;
-        },
-      ),
-    )
+    let is_woven : IsWoven old plan vars new = record {
+      own = joined.own;
+      state = class_with state [];
+      are = joined.are;
+      classes = subst (λ (n : ℕ). Each (IsWovenClass plan n) old.classes joined.own) count joined.classes;
+      last = record { name = ap (λ (c : ListedClass). c.name) (state_says vars) ∙ state_head_name; file = refl; methods = refl };
+      listing = sym p.listing_is;
+      literals = literals_kept state (state_strings vars) files news fits kept ∙ sym p.literals_are;
+      main_class = sym p.main_class_is;
+      main_method = sym p.main_method_is;
+    } in
+    subst (IsRelinked listing main old plan vars) (sym all.1) (record {
+      methods = joined.methods;
+      begin = begin;
+      good = new_stand vars of.few listing l files news fits kept p.good;
+      each = joined.links;
+      begins = main_kept state main begin 0 files news fits kept p.begin.1;
+      woven = is_woven;
+      with = subst (λ (n : ℕ). classes_with others joined.methods ≡ program.classes_with plan n old.classes others) count joined.with;
+      sound = joined.sound;
+      room = with_state plan old.classes news state joined.room;
+    })
+
+-- ---- the laws
+
+pub links : WovenLinks
+links text listing files main old plan vars made spelled first sound good few w =
+    let of : IsWovenOf listing files main old plan vars made = record { text = text; listed = spelled; links = first; sound = sound; good = good; few = few; woven = w } in
+    let h = relinked listing files main old plan vars made of in
+    (_, (assembled_by made.files listing main sides.Inlined h.methods h.begin h.good h.each h.begins, h.woven))

@@ -2,6 +2,12 @@
 
 ghost use Rattle.woven_linking.specs.Links.{OriginalIsFree, WovenLinks};
 ghost use Rattle.woven_linking.specs.Origins.{OriginsAreTrue};
+ghost use Rattle.woven_linking.specs.Program.{
+  WovenFilesComeBack,
+  WovenFilesHaveRoom,
+  WovenProgramIsLinked,
+  WovenProgramIsSound,
+};
 
 /// Class files that were woven link to the program with its blocks.
 pub fn woven_files_link()
@@ -16,4 +22,12 @@ pub fn original_is_free()
 /// Each origin is true of its instruction.
 pub fn origins_are_true()
     ensures true_of { OriginsAreTrue }
+{}
+
+/// Class files that were woven link to the program that is made of them. It is sound, and there is room for its blocks.
+pub fn woven_program_is_linked()
+    ensures linked { WovenProgramIsLinked }
+    ensures back { WovenFilesComeBack }
+    ensures room { WovenFilesHaveRoom }
+    ensures sound { WovenProgramIsSound }
 {}

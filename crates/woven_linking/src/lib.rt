@@ -2,6 +2,10 @@
 //! true. (docs/BLOCKS.md)
 #![tactic(auto)]
 
+mod handlers;
 mod laws;
+mod operands;
+mod program;
 
-pub use laws::{original_is_free, origins_are_true, woven_files_link};
+pub use laws::{original_is_free, origins_are_true, woven_files_link, woven_program_is_linked};
+pub use program::program_with;

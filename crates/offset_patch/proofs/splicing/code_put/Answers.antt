@@ -7,8 +7,8 @@ use Rattle.offset_patch.proofs.Measure.{count_short}
 use Rattle.offset_patch.proofs.Putting.{put_short, starts_two}
 use Rattle.offset_patch.proofs.splicing.code_put.Goals as goal
 
-pub fronts-requires : goal.fronts-requires
-fronts-requires c = omega (arith, count_short c.args.entries.now c.args.method.now.insns c.args.sites.now c.requires.each, c.requires.length)
+pub fronts_of-requires : goal.fronts_of-requires
+fronts_of-requires c = omega (arith, count_short c.args.entries.now c.args.method.now.insns c.args.sites.now c.requires.each, c.requires.length)
 
 pub parts-requires-clause-few : goal.parts-requires-clause-few
 parts-requires-clause-few c = omega (arith, count_short c.args.entries.now c.args.method.now.insns c.args.sites.now c.requires.each, c.requires.length)

@@ -1,6 +1,6 @@
 use Rattle.std.proofs.Common.{◌≡◌, ◌+◌, ◌++◌, length}
 use Rattle.offset_patch.specs.Splicing.{fronts_from, fronts_of, count_of}
-use Rattle.offset_patch.proofs.fronts.fronts.Given as goal
+use Rattle.offset_patch.proofs.fronts.fronts_of.Given as goal
 
 abbrev pub invariant-loop-left : goal.invariant-loop-left
 invariant-loop-left l = record {
