@@ -29,13 +29,13 @@ use Rattle.offset_patch.specs.Splicing.{is_call}
 use Rattle.block_template.specs.declared.item.Role.{Role}
 use Rattle.block_template.specs.declared.item.Role.TheVariants as roles
 use Rattle.block_template.specs.Blocks.{bools_of, catches, is_locked}
-use Rattle.block_template.specs.Flow.{returned, thrown, tries, argument_at, ask_insn, branch_at as branch_in, check_behind, clause_in, insn_of, kept_by, result_in, update_insn}
+use Rattle.block_template.specs.Flow.{behind_return, thrown, tries, argument_at, ask_insn, branch_at as branch_in, check_behind, clause_in, insn_of, kept_by, result_in, update_insn}
 use Rattle.block_template.specs.Pushing.{load as load_insn, store as store_insn}
-use Rattle.block_logic.specs.Clauses.{clause_at, needs, result_of}
+use Rattle.block_logic.specs.Clauses.{clause_at, needs, result_kind}
 use Rattle.block_logic.specs.Notes.{is_granted}
 use Rattle.block_logic.specs.Operands.{calls}
 use Rattle.block_logic.specs.Rows as rows
-use Rattle.block_logic.specs.Rows.{Asked, Given, Nothing, Open, Taking, Row, gives, is_addend, leads, may_leave, may_push, taken, term_pushed}
+use Rattle.block_logic.specs.Rows.{Asked, Given, Nothing, Open, Taking, Row, gives, is_addend, leads, may_leave, may_push, note_taken, term_pushed}
 use Rattle.block_logic.specs.Standing.{asks_kept, is_hold, done}
 use Rattle.cert_maker.proofs.Checks.{Arrives, Blocked, branch_is, clause_of_site, clauses, note, rules, same_inside, site, tries_arrives}
 use Rattle.cert_maker.proofs.RoleRows.{give, leave, load, lock_class, lock_taken, of_does, rethrow, save, stop, unlock_class, unlock_left}
@@ -95,15 +95,15 @@ module _ (b : Blocked) where
       cond (is_hold mode) (Given (notes.Owed (site b After) 1 false false))
       (cond (is_some o) (Given (notes.Owed (site b After) 0 false false)) Open)
 
-  returns_by : (mode : Mode) (o : Option Clause) → (clauses b).after ≡ o → Arrives b (behind mode o) (returned mode o)
+  returns_by : (mode : Mode) (o : Option Clause) → (clauses b).after ≡ o → Arrives b (behind mode o) (behind_return mode o)
   returns_by Release None e = refl
   returns_by Hold None e = same_inside b (notes.Owed (site b After) 1 false false) (roles.Unlock After false false) refl
   returns_by Release (Some c) e = keeps_or_checks Release c e (is_some c.result) refl
   returns_by Hold (Some c) e = keeps_or_checks Hold c e (is_some c.result) refl
 
-  pub returns : Arrives b (rows.returned (rules b) (site b Before)) (returned b.mode (clauses b).after)
+  pub returns : Arrives b (rows.returned (rules b) (site b Before)) (behind_return b.mode (clauses b).after)
   returns =
-      subst (λ (o : Option Clause). Arrives b (behind b.mode o) (returned b.mode (clauses b).after)) (sym after_is)
+      subst (λ (o : Option Clause). Arrives b (behind b.mode o) (behind_return b.mode (clauses b).after)) (sym after_is)
       (returns_by b.mode (clauses b).after refl)
 
   -- ---- where it throws
@@ -180,7 +180,7 @@ module _ (b : Blocked) (pool : List Const) (fronts : List ℕ) (begin : ℕ) (ow
       (due b b.mode After c e refl true (kept_told b c e true some))
 
   keeps_told : (o : Option Clause) → (clauses b).after ≡ o → is_some (option_and_then (λ (c : Clause). c.result) o) ≡ true
-      → is_some (result_of b.policy (site b After).method) ≡ true
+      → is_some (result_kind b.policy (site b After).method) ≡ true
   keeps_told None e some = absurd (false≢true some)
   keeps_told (Some c) e some = result_told b c e ∙ some
 

@@ -27,7 +27,7 @@ use Rattle.block_template.specs.Blocks.{clause_at as clause_in_block}
 use Rattle.block_template.specs.Flow.{branches_in, clause_in, held, made, tries}
 use Rattle.block_template.specs.Flow.{branches_of as branches_told}
 use Rattle.block_template.proofs.Policies.{IsOf, branches_of_phase, clause_is}
-use Rattle.block_logic.specs.Clauses.{clause_of, result_of}
+use Rattle.block_logic.specs.Clauses.{clause_of, result_kind}
 use Rattle.block_logic.specs.Rows.{Asked, Open, Given, Rules}
 use Rattle.block_logic.specs.Notes.{meets}
 use Rattle.block_logic.specs.Standing.{branches_of, done, fails, is_done, may_stand, same_note, stands_for_held}
@@ -48,7 +48,7 @@ pub record Blocked : Type 0 where
   pub few : (site_of call Before).method ≡ call.callee
   pub has : has_clauses policy call.callee ≡ true
   pub alike : (p : Phase) (c : Clause) → clause_in_block policy call.callee p ≡ Some c
-      → is_some (result_of policy call.callee) ≡ is_some c.result
+      → is_some (result_kind policy call.callee) ≡ is_some c.result
 
 module _ (b : Blocked) where
   abbrev pub rules : Rules

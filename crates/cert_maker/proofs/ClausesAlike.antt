@@ -16,7 +16,7 @@ use Rattle.block_template.specs.Blocks.{clauses_of, is_phase}
 use Rattle.block_template.specs.Blocks.{clause_at as clause_in_block}
 use Rattle.block_template.specs.Flow.{branches_in, clause_in}
 use Rattle.block_template.specs.Flow.{branches_of as branches_told}
-use Rattle.block_logic.specs.Clauses.{clause_at, clause_of, is_of_phase, result_of}
+use Rattle.block_logic.specs.Clauses.{clause_at, clause_of, is_of_phase, result_kind}
 use Rattle.block_logic.specs.Obeying.{FitsListing}
 use Rattle.block_logic.specs.Standing.{branches_of}
 use Rattle.cert_maker.specs.declared.called.Called.{Called}
@@ -104,7 +104,7 @@ module _ (listing : Listing) (policy : Policy) (told : AllByRecursion (FitsListi
 
   -- What is told of the method is what its clause for a phase tells.
   pub result_alike : (p : Phase) (c : Clause) → clause_in_block policy method p ≡ Some c → has_clauses policy method ≡ true
-      → is_some (result_of policy method) ≡ is_some c.result
+      → is_some (result_kind policy method) ≡ is_some c.result
   result_alike p c e has = by (find (λ (c : Clause). c.method == method) policy.clauses) refl (found_some (λ (c : Clause). c.method == method) policy.clauses has)
     where
       by : (o : Option Clause) → find (λ (c : Clause). c.method == method) policy.clauses ≡ o → is_some o ≡ true

@@ -32,7 +32,7 @@ use Rattle.block_template.specs.Pushing.{load as load_insn, store as store_insn}
 use Rattle.block_logic.specs.Clauses.{clause_of, needs}
 use Rattle.block_logic.specs.Operands.{calls, pushes_state}
 use Rattle.block_logic.specs.Rows as rows
-use Rattle.block_logic.specs.Rows.{Asked, Given, Nothing, Open, Taking, Row, gives, is_addend, leads, may_leave, may_push, taken, term_pushed}
+use Rattle.block_logic.specs.Rows.{Asked, Given, Nothing, Open, Taking, Row, gives, is_addend, leads, may_leave, may_push, note_taken, term_pushed}
 use Rattle.block_logic.specs.Standing.{asks_kept, begun, done}
 use Rattle.block_logic.specs.Terms.{as_taken}
 use Rattle.cert_maker.proofs.Checks.{Arrives, Blocked, clause_of_site, clauses, held_wide, note, rules, same_inside, site, tries_arrives}
@@ -119,17 +119,17 @@ module _ (b : Blocked) (pool : List Const) (fronts : List ℕ) (begin : ℕ) (ow
   begins p clause e =
       tries_arrives b (Given (begun b.policy (site b p))) p clause e 0 (omega arith) (held_wide b 0 p 0 (as_taken b.policy))
 
-  taken_for : (o : Option Clause) → (clauses b).before ≡ o → Arrives b (Given (taken b.policy (site b Before))) (locked_for o Before)
+  taken_for : (o : Option Clause) → (clauses b).before ≡ o → Arrives b (Given (note_taken b.policy (site b Before))) (locked_for o Before)
   taken_for o e = by o e (ap is_some (clause_of_site b Before ∙ e))
     where
       by : (o : Option Clause) → (clauses b).before ≡ o → is_some (clause_of b.policy (site b Before)) ≡ is_some o
-          → Arrives b (Given (taken b.policy (site b Before))) (locked_for o Before)
+          → Arrives b (Given (note_taken b.policy (site b Before))) (locked_for o Before)
       by (Some clause) e is =
-          let what : taken b.policy (site b Before) ≡ begun b.policy (site b Before) =
+          let what : note_taken b.policy (site b Before) ≡ begun b.policy (site b Before) =
           ap (λ (c : Bool). cond c (begun b.policy (site b Before)) (notes.Granted (site b Before) true 0 false)) is in
           subst (λ (n : Note). Arrives b (Given n) (locked_for (Some clause) Before)) (sym what) (begins Before clause e)
       by None e is =
-          let what : taken b.policy (site b Before) ≡ notes.Granted (site b Before) true 0 false =
+          let what : note_taken b.policy (site b Before) ≡ notes.Granted (site b Before) true 0 false =
           ap (λ (c : Bool). cond c (begun b.policy (site b Before)) (notes.Granted (site b Before) true 0 false)) is in
           let none : kept_arguments (clauses b) ≡ 0 = ap (λ (o : Option Clause). length (option_map_or (λ (c : Clause). c.args) o [])) e in
           subst (λ (n : Note). Arrives b (Given n) (roles.Call true)) (sym what)

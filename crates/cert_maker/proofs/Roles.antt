@@ -28,11 +28,11 @@ use Rattle.block_template.specs.declared.item.Role.TheVariants as roles
 use Rattle.block_template.specs.Flow.{argument_at, jump_of, jumps, loading, may_pass, next}
 use Rattle.block_template.specs.Frames.{kept_arguments}
 use Rattle.block_template.proofs.Policies.{IsOf}
-use Rattle.block_logic.specs.Clauses.{clause_at, clause_of, needs, result_of}
+use Rattle.block_logic.specs.Clauses.{clause_at, clause_of, needs, result_kind}
 use Rattle.block_logic.specs.Notes.{calls_well, is_duty_of, is_free, meets}
 use Rattle.block_logic.specs.Operands.{calls, has_clause, pushes_state, variable_named}
 use Rattle.block_logic.specs.Rows as rows
-use Rattle.block_logic.specs.Rows.{Asked, Given, Nothing, Open, Taking, Row, gives, is_addend, leads, may_push, taken, term_pushed}
+use Rattle.block_logic.specs.Rows.{Asked, Given, Nothing, Open, Taking, Row, gives, is_addend, leads, may_push, note_taken, term_pushed}
 use Rattle.block_logic.specs.Standing.{asks_kept, done, is_done, may_begin, same_note, stands_for_held}
 use Rattle.block_logic.specs.Terms.{after_updates, as_taken, same_terms}
 use Rattle.cert_maker.specs.Noting.{byte}
@@ -64,7 +64,7 @@ module _ (b : Blocked) where
 
   -- The result is kept where the clause for the return tells one.
   pub result_told : (c : Clause) → (clauses b).after ≡ Some c → asks_kept b.policy (site b After) ≡ is_some c.result
-  result_told c e = ap (λ (m : ℕ). is_some (result_of b.policy m)) b.few ∙ b.alike After c e
+  result_told c e = ap (λ (m : ℕ). is_some (result_kind b.policy m)) b.few ∙ b.alike After c e
 
   pub argument_few : (n : ℕ) (kind : Kind) → argument_at (clauses b) n ≡ Some kind → n < kept_arguments (clauses b)
   argument_few n kind e = by (clauses b).before e

@@ -24,7 +24,7 @@ use Rattle.conspec_tree.specs.declared.types.Rel.{Rel}
 use Rattle.conspec_tree.specs.declared.types.Rel.TheVariants as relations
 use Rattle.conspec_automaton.specs.declared.policy.Branch.{Branch}
 use Rattle.conspec_automaton.specs.declared.policy.Clause.{Clause}
-use Rattle.block_logic.specs.Clauses.{clause_of, is_number, needs, result_of}
+use Rattle.block_logic.specs.Clauses.{clause_of, is_number, needs, result_kind}
 use Rattle.block_logic.specs.Operands.{leaves, loaded, pushes_state, stored}
 use Rattle.block_logic.specs.Rows as rows
 use Rattle.block_logic.specs.Rows.{Asked, Given, Nothing, Open, Row, Rules, asks_atom, begins_owed, gives, is_addend, leads, may_keep, may_leave, may_push, returned, term_pushed, thrown}
@@ -70,7 +70,7 @@ module _ (rules : Rules) where
       rw (keeps_not site 0 kept (shapes.Heap heap.Enter) t refl true, same) refl
 
   pub owed_keeps : (site : Site) (stage : ℕ) (k : Operand) (t : Target) → is_after site.phase ≡ true → nat_lt stage 2 ≡ true
-      → is_some (result_of rules.policy site.method) ≡ true
+      → is_some (result_kind rules.policy site.method) ≡ true
       → rows.owed_row rules site stage false false (shapes.Store k site.base) t ≡ gives (notes.Owed site stage true false)
   owed_keeps site stage k t after early result = rw (after, early, result, same_number site.base) refl
 

@@ -36,7 +36,7 @@ use Rattle.block_template.specs.Blocks.{clause_at as clause_in_block}
 use Rattle.block_template.specs.Flow.{entered, saving}
 use Rattle.block_template.proofs.BlockFlows.{blocks_flow}
 use Rattle.block_template.proofs.ItemsTyped.{clauses_are_asked}
-use Rattle.block_logic.specs.Clauses.{clause_at, needs, result_of}
+use Rattle.block_logic.specs.Clauses.{clause_at, needs, result_kind}
 use Rattle.block_logic.specs.Notes.{handlers_of, meets, note_passes}
 use Rattle.block_logic.specs.Operands.{is_state_name, variable_named}
 use Rattle.block_logic.specs.Rows.{Asked, Open, Rules}
@@ -77,7 +77,7 @@ pub record IsReady (b : Body) (frames : List (Option FrameType)) : Type 0 where
   pub calls : (i callee : ℕ) (insn : Insn) → slice_get b.method.insns i ≡ Some insn → slice_get b.method.refs i ≡ Some (target.ApiMethod callee)
       → (how : How) × (shape_of insn ≡ shapes.Heap (heap.Call how))
   pub alike : (i callee : ℕ) → slice_get b.method.refs i ≡ Some (target.ApiMethod callee) → has_clauses b.policy callee ≡ true
-      → (p : Phase) (c : Clause) → clause_in_block b.policy callee p ≡ Some c → is_some (result_of b.policy callee) ≡ is_some c.result
+      → (p : Phase) (c : Clause) → clause_in_block b.policy callee p ≡ Some c → is_some (result_kind b.policy callee) ≡ is_some c.result
   pub long : length frames ≡ length b.made.insns
   pub next : (at : ℕ) (insn : Insn) → slice_get b.made.insns at ≡ Some insn → is_some (frame_of frames at) ≡ true
       → (to : ℕ) → Contains (successors at insn) to → is_some (frame_of frames to) ≡ true

@@ -25,7 +25,7 @@ use Rattle.offset_patch.specs.Splicing.{aimed, call_place}
 use Rattle.block_template.specs.declared.item.Item.{Item}
 use Rattle.block_template.specs.declared.item.Role.TheVariants as roles
 use Rattle.block_template.specs.Blocks.{bools_of, catches, handler_at, has_block, is_locked}
-use Rattle.block_template.specs.Flow.{may_pass, next, returned, role_at, thrown}
+use Rattle.block_template.specs.Flow.{may_pass, next, behind_return, role_at, thrown}
 use Rattle.block_logic.specs.Notes.{Here, catches_all, catches_well, is_granted, is_owed_for_throw, thrown_by, first_handler, handlers_of, is_duty_of, meets, note_fault, note_passes}
 use Rattle.block_logic.specs.Operands.{calls, has_clause}
 use Rattle.block_logic.specs.Rows as rows
@@ -127,10 +127,10 @@ module _ (b : Body) (frames : List (Option FrameType)) (ready : IsReady b frames
 
     returns_to : R (begin + place + 1) → P row.past (begin + place + 1)
     returns_to r =
-        let to : role_at all (place + 1) ≡ returned b.mode (clauses k).after =
+        let to : role_at all (place + 1) ≡ behind_return b.mode (clauses k).after =
         (led b frames ready i callee own there names has place item e reached).passes (ap may_pass call) ∙ ap (next b.mode (clauses k)) is_called.is in
         subst (P row.past) (sym next_place)
-        (place_passes b frames ready i callee own there names has row.past (place + 1) (returned b.mode (clauses k).after) to (returns k)
+        (place_passes b frames ready i callee own there names has row.past (place + 1) (behind_return b.mode (clauses k).after) to (returns k)
         (omega (arith, place_few b frames ready i callee own there names has place item e reached)) (subst R next_place r))
 
     -- ---- where it throws

@@ -4,7 +4,7 @@ ghost use Rattle.std.specs.Prelude.{◌≡◌, ◌==◌, find, IfSome, is_some};
 ghost use Rattle.std.specs.Option.{option_copied};
 ghost use Rattle.conspec_automaton.specs.declared.policy.Clause.{Clause as SpecClause};
 ghost use Rattle.conspec_automaton.specs.Sound.{IsPolicy};
-ghost use Rattle.block_logic.specs.Clauses.{clause_at, clause_of, needs, result_of};
+ghost use Rattle.block_logic.specs.Clauses.{clause_at, clause_of, needs, result_kind};
 ghost use Rattle.block_logic.specs.Standing.{asks_kept};
 ghost use Rattle.cert_maker.specs.Noting.{branch_at};
 ghost use Rattle.cert_maker.specs.Small.{IsSmall};
@@ -55,7 +55,7 @@ pub fn asks_kept(policy: &Policy, site: Site) -> bool
 
 /// Whether the method gives something, by its first clause.
 fn gives_result(policy: &Policy, method: u32) -> bool
-    ensures { result ≡ is_some (result_of policy.now method) }
+    ensures { result ≡ is_some (result_kind policy.now method) }
 {
     match first_clause(policy, method) {
         Some(clause) => clause.result.is_some(),

@@ -6,7 +6,6 @@
 mod called;
 mod clauses;
 mod laws;
-mod lists;
 mod locks;
 mod making;
 mod methods;

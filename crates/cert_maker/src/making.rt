@@ -5,7 +5,6 @@ ghost use Rattle.bytecode_model.specs.Typed.{list_at};
 ghost use Rattle.conspec_automaton.specs.Sound.{IsPolicy};
 ghost use Rattle.cert_maker.specs.Noting.{certificate_of, class_notes, notes_of};
 
-use crate::lists::with_room;
 use crate::methods::method_notes;
 use block_template::PolicyItems;
 use bytecode_model::{LinkedClass, Method};
@@ -43,7 +42,7 @@ fn notes_of(
     requires policy { IsPolicy items.now.policy }
     ensures { IfOk result (λ notes. notes ≡ notes_of items.now.policy items.now.mode classes.now frames.now) }
 {
-    let mut notes = with_room(alloc, classes.len().saturating_add(1))?;
+    let mut notes = List::with_room(alloc, classes.len().saturating_add(1))?;
     let mut classes = classes;
     let mut frames = frames;
     while let [class, later @ ..] = classes {
@@ -66,7 +65,7 @@ fn class_notes(
     requires policy { IsPolicy items.now.policy }
     ensures { IfOk result (λ notes. notes ≡ class_notes items.now.policy items.now.mode methods.now frames.now) }
 {
-    let mut notes = with_room(alloc, frames.len())?;
+    let mut notes = List::with_room(alloc, frames.len())?;
     let mut methods = methods;
     let mut frames = frames;
     while let [method, later @ ..] = methods {

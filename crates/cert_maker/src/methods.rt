@@ -9,7 +9,6 @@ ghost use Rattle.block_template.specs.declared.item.Item.{Item as SpecItem};
 ghost use Rattle.cert_maker.specs.Noting.{block_notes, if_framed, method_notes, note_of, part_notes, parts_notes, where_framed};
 
 use crate::called::Called;
-use crate::lists::with_room;
 use crate::notes::note_of;
 use block_template::{Item, PolicyItems, Role};
 use bytecode_model::{Method, Target};
@@ -28,7 +27,7 @@ pub fn method_notes(
     requires policy { IsPolicy items.now.policy }
     ensures { IfOk result (λ notes. notes ≡ method_notes items.now.policy items.now.mode method.now frames.now) }
 {
-    let mut notes = with_room(alloc, frames.len())?;
+    let mut notes = List::with_room(alloc, frames.len())?;
     let mut refs = method.refs.as_slice();
     let mut left = frames;
     while let [target, others @ ..] = refs {

@@ -8,7 +8,6 @@ ghost use Rattle.block_logic.specs.Terms.{after_updates, base_term, variable_aft
 ghost use Rattle.cert_maker.specs.Noting.{asked_terms, update_terms};
 ghost use Rattle.cert_maker.specs.Small.{IsSmallBase, IsSmallUpdate};
 
-use crate::lists::with_room;
 use cert_format::Term;
 use conspec_automaton::Policy;
 use conspec_tree::{Atom, Base, Update};
@@ -32,7 +31,7 @@ pub fn asked_terms(alloc: Global, pushed: u32, atom: Atom) -> Result<List<Term>,
     requires { IsSmallBase atom.base }
     ensures { IfOk result (λ terms. terms ≡ asked_terms pushed atom) }
 {
-    let mut terms = with_room(alloc, pushed.min(2) as usize)?;
+    let mut terms = List::with_room(alloc, pushed.min(2) as usize)?;
     if pushed > 0 {
         terms.push(base_term(atom.base))?;
     }
@@ -56,7 +55,7 @@ pub fn update_terms(alloc: Global, done: u32, update: Update) -> Result<List<Ter
 fn set_terms(alloc: Global, done: u32, value: i32) -> Result<List<Term>, NoMemory>
     ensures { IfOk result (λ terms. (var : ℕ) → terms ≡ update_terms done (Set var value)) }
 {
-    let mut terms = with_room(alloc, done.min(1) as usize)?;
+    let mut terms = List::with_room(alloc, done.min(1) as usize)?;
     if done > 0 {
         terms.push(Term::Const(value))?;
     }
@@ -66,7 +65,7 @@ fn set_terms(alloc: Global, done: u32, value: i32) -> Result<List<Term>, NoMemor
 fn add_terms(alloc: Global, done: u32, var: u8, by: i32) -> Result<List<Term>, NoMemory>
     ensures { IfOk result (λ terms. terms ≡ update_terms done (Add var by)) }
 {
-    let mut terms = with_room(alloc, done.min(2) as usize)?;
+    let mut terms = List::with_room(alloc, done.min(2) as usize)?;
     match done {
         0 => {}
         1 => terms.push(Term::Var(var))?,
@@ -88,7 +87,7 @@ pub fn after_updates(
     requires { length policy.now.vars ≤ 16 }
     ensures { IfOk result (λ terms. terms ≡ after_updates policy.now updates.now) }
 {
-    let mut terms = with_room(alloc, policy.vars.len())?;
+    let mut terms = List::with_room(alloc, policy.vars.len())?;
     let mut var: u8 = 0;
     let mut left = policy.vars.as_slice();
     while let [_, others @ ..] = left {

@@ -26,6 +26,7 @@ use Rattle.input_files.specs.Forms.{Then}
 use Rattle.input_files.specs.InlineInputs.{InlineSound}
 use Rattle.output_files.specs.Outputs.{is_written, outputs_of}
 use Rattle.woven_linking.specs.Links.{WovenLinks}
+use Rattle.woven_linking.specs.Program.{IsWovenOf}
 use Rattle.inliner_tool.specs.declared.refusal.Refusal.TheVariants as refusals
 use Rattle.inliner_tool.specs.declared.weaving.Given.{Given}
 use Rattle.inliner_tool.specs.declared.weaving.Ready.{Ready}
@@ -68,6 +69,17 @@ module _ (links : WovenLinks) (good : PlansAreGood) (inputs : InlineInputs) (kno
     (is : given.policy ≡ built inputs.policy) (is_policy : IsPolicy given.policy) (weaves : woven given.client (plan_of given.policy given.mode) given.policy.vars ≡ Ok made) where
   pub numbers : HasNumbers given.policy
   numbers = subst HasNumbers (sym is) (has_numbers inputs.listing inputs.policy known.policy)
+
+  pub of_inputs : IsWovenOf inputs.listing inputs.classes.files main given.client (plan_of given.policy given.mode) given.policy.vars made
+  of_inputs = record {
+    text = known.listed.text;
+    listed = known.listed.spells;
+    links = assembled_of inputs.classes.files inputs.listing main Original given.client client_links;
+    sound = sound;
+    good = good given.policy given.mode is_policy numbers;
+    few = is_policy.few_vars;
+    woven = weaves;
+  }
 
   pub remade : (new : Program) × ((woven_links made.files inputs.listing main ≡ Ok new) × IsWoven given.client (plan_of given.policy given.mode) given.policy.vars new)
   remade =

@@ -1,5 +1,5 @@
 -- What is woven of inputs is typed and accepted, and its certificate can be spelled.
-use Rattle.std.proofs.Common.{◌≡◌, ℕ, zero, suc, ◌+◌, ◌<◌, Bool, true, false, List, [], ◌∷◌, length, Some, Ok, refl, ap, sym, subst, ◌∙◌, arith}
+use Rattle.std.proofs.Common.{◌≡◌, ℕ, zero, suc, ◌+◌, ◌<◌, ◌≤◌, Bool, true, false, List, [], ◌∷◌, length, Some, Ok, refl, ap, sym, subst, ◌∙◌, arith}
 use Rattle.std.specs.Prelude.{◌&&◌, is_some, slice_get}
 use Rattle.std.proofs.lemmas.Option.{slice_get_within}
 use Rattle.api_listing.specs.declared.types.Listing.{Listing}
@@ -30,17 +30,22 @@ use Rattle.conspec_parse.specs.Telling.{KindsAreTold, ResultsAreTold}
 use Rattle.input_files.specs.declared.inline_inputs.InlineInputs.{InlineInputs}
 use Rattle.input_files.specs.InlineInputs.{InlineSound}
 use Rattle.told_typing.specs.Laws.{IsTypedStill, ToldIsTyped}
-use Rattle.told_typing.specs.Told.{told}
 use Rattle.woven_linking.specs.Links.{OriginalIsFree, WovenLinks}
+use Rattle.woven_linking.specs.Program.{IsWovenOf, WovenFilesComeBack, WovenFilesHaveRoom, WovenProgramIsLinked, WovenProgramIsSound}
+use Rattle.output_files.specs.Outputs.{is_written}
+use Rattle.told_typing.specs.Told.{FitsTyping, told}
+use Rattle.cert_format.specs.Fits as spell
+use Rattle.class_codec.specs.Fits.{CanSpell}
+use Rattle.std.specs.List.{AllByRecursion}
 use Rattle.woven_typing.specs.Framing.{typing_of}
 use Rattle.woven_typing.specs.Telling.{ListingsKnowThrowable, PoliciesTell, TellsKinds}
 use Rattle.woven_typing.specs.WovenTyping.{BlocksAreReachedSo, IsGiven, IsTypedSo, WovenIsTyped, front, is_reached, kept_frame}
 use Rattle.inliner_tool.specs.declared.weaving.Given.{Given}
-use Rattle.inliner_tool.specs.Expected.{IsExpected}
+use Rattle.inliner_tool.specs.Expected.{IsExpected, woven_program}
 use Rattle.inliner_tool.specs.Policy.{IsSoundFor}
 use Rattle.inliner_tool.specs.Programs.{woven_links}
 use Rattle.inliner_tool.specs.Weaving.{certificate_for}
-use Rattle.inliner_tool.proofs.Blocks.{numbers, remade}
+use Rattle.inliner_tool.proofs.Blocks.{numbers, of_inputs, remade, same_program}
 use Rattle.inliner_tool.proofs.Counting.{assembled_of}
 use Rattle.inliner_tool.proofs.Spelled.{can_spell}
 
@@ -71,11 +76,12 @@ module _ (old new : Program) (policy : Policy) (mode : Mode) (typing : Typing) (
 
 module _ (links : WovenLinks) (good : PlansAreGood) (free : OriginalIsFree) (order : LinkedIsInOrder) (right : LinkedOperandsAreRight)
     (kinds : KindsAreTold) (results : ResultsAreTold) (tells : PoliciesTell) (knows : ListingsKnowThrowable) (types : WovenIsTyped) (reaches : BlocksAreReachedSo)
-    (stays : ToldIsTyped) (accepts : WovenIsAccepted)
+    (stays : ToldIsTyped) (accepts : WovenIsAccepted) (linked_so : WovenProgramIsLinked) (back : WovenFilesComeBack) (room : WovenFilesHaveRoom) (sound_so : WovenProgramIsSound)
     (inputs : InlineInputs) (known : InlineSound inputs) (main : List ℕ) (given : Given) (made : Woven)
     (client_links : linked inputs.classes.files inputs.listing main Original ≡ Ok given.client) (sound : IsSound given.client) (of : IsLinkedOf Original inputs.listing main given.client)
     (is : given.policy ≡ built inputs.policy) (sound_for : IsSoundFor given.client.listing given.policy) (weaves : woven given.client (plan_of given.policy given.mode) given.policy.vars ≡ Ok made)
-    (typed : IsTyped given.client given.typing) (shaped : IsShaped given.client given.typing.frames) where
+    (typed : IsTyped given.client given.typing) (shaped : IsShaped given.client given.typing.frames)
+    (fits : AllByRecursion CanSpell made.files) (few : length made.files ≤ 1001) where
   new : (p : Program) × ((woven_links made.files inputs.listing main ≡ Ok p) × IsWoven given.client (plan_of given.policy given.mode) given.policy.vars p)
   new = remade links good inputs known main given made client_links sound is sound_for.read weaves
 
@@ -114,14 +120,32 @@ module _ (links : WovenLinks) (good : PlansAreGood) (free : OriginalIsFree) (ord
       new.1.1 still.typed still.shaped
       (stopped given.client new.0 given.policy given.mode given.typing reaches so shaped still)
 
+  woven_of : IsWovenOf inputs.listing inputs.classes.files main given.client (plan_of given.policy given.mode) given.policy.vars made
+  woven_of = of_inputs links good inputs known main given made client_links sound is sound_for.read weaves
+
+  linked_again : woven_links made.files inputs.listing main ≡ Ok (woven_program given made)
+  linked_again = linked_so inputs.listing inputs.classes.files main given.client (plan_of given.policy given.mode) given.policy.vars made woven_of
+
+  same : new.0 ≡ woven_program given made
+  same = same_program (woven_links made.files inputs.listing main) new.0 (woven_program given made) new.1.0 linked_again
+
+  new_sound : IsSound (woven_program given made)
+  new_sound = sound_so inputs.listing inputs.classes.files main given.client (plan_of given.policy given.mode) given.policy.vars made woven_of fits few
+
+  spelled : IsSound new.0 → FitsTyping (certificate_for given new.0).typing → is_written (certificate_for given new.0) ≡ true → spell.CanSpell (length given.policy.vars) (certificate_for given new.0)
+  spelled sound_new fits written =
+      can_spell given.client new.0 given.policy given.mode (told new.0 (typing_of given.client given.policy given.mode given.typing)) sound_for.read
+      (numbers links good inputs known main given made client_links sound is sound_for.read weaves) sound of.standing sound_new
+      (accepted sound_new).frames (accepted sound_new).notes fits written
+
   pub expected : IsExpected main given made
   expected = record {
-    program = new.0;
-    links = ap (λ (l : Listing). woven_links made.files l main) of.listing_is ∙ new.1.0;
-    order = so.order;
-    accepted = accepted;
-    spells = λ new_sound fits written.
-        can_spell given.client new.0 given.policy given.mode (told new.0 (typing_of given.client given.policy given.mode given.typing)) sound_for.read
-        (numbers links good inputs known main given made client_links sound is sound_for.read weaves) sound of.standing new_sound
-        (accepted new_sound).frames (accepted new_sound).notes fits written;
+    client = sound;
+    room = room inputs.listing inputs.classes.files main given.client (plan_of given.policy given.mode) given.policy.vars made woven_of fits;
+    links = ap (λ (l : Listing). woven_links made.files l main) of.listing_is ∙ linked_again;
+    back = back inputs.listing inputs.classes.files main given.client (plan_of given.policy given.mode) given.policy.vars made woven_of;
+    sound = new_sound;
+    order = order known.listed.text inputs.listing made.files main Inlined (woven_program given made) known.listed.spells linked_again;
+    accepted = subst (λ (p : Program). IsSound p → IsAccepted p given.policy (certificate_for given p)) same accepted new_sound;
+    spells = subst (λ (p : Program). IsSound p → FitsTyping (certificate_for given p).typing → is_written (certificate_for given p) ≡ true → spell.CanSpell (length given.policy.vars) (certificate_for given p)) same spelled new_sound;
   }

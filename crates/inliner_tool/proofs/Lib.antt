@@ -14,7 +14,6 @@ mod Notes
 mod Names
 mod Spelled
 mod Expected
-mod Rewoven
 mod Planned
 pub mod CheckDecision
 pub mod InlineDecision

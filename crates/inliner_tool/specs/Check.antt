@@ -25,14 +25,14 @@ use Rattle.input_files.specs.declared.check_inputs.CheckInputs.{CheckInputs}
 use Rattle.inliner_tool.specs.Classes.{label_of}
 
 -- the number of the class that a fault is told of, if it is of one
-abbrev pub class_of : CheckFault → Option ℕ
-class_of (Shape class method) = Some class
-class_of (Typing class method at rule) = Some class
-class_of (StateClass field) = None
-class_of (Local class method at rule) = Some class
+abbrev pub faulty_class : CheckFault → Option ℕ
+faulty_class (Shape class method) = Some class
+faulty_class (Typing class method at rule) = Some class
+faulty_class (StateClass field) = None
+faulty_class (Local class method at rule) = Some class
 
 abbrev pub label_for : Program → CheckFault → List ℕ
-label_for program fault = option_map_or (λ (class : ℕ). label_of program class) (class_of fault) (codes "-")
+label_for program fault = option_map_or (λ (class : ℕ). label_of program class) (faulty_class fault) (codes "-")
 
 abbrev pub denied_answer : Program → CheckFault → Answer
 denied_answer program fault = answers.Denied fault (label_for program fault)

@@ -11,7 +11,7 @@ ghost use Rattle.inliner_tool.specs.Check.{
   IsChecked,
   ProgramIsChecked,
   check_answer,
-  class_of,
+  faulty_class,
   denied_answer,
   is_hold,
   is_judged,
@@ -164,15 +164,15 @@ fn denied(alloc: Global, program: &Program, fault: CheckFault) -> Answer
 fn label_for(alloc: Global, program: &Program, fault: &CheckFault) -> Result<Bytes, NoMemory>
     ensures { IfOk result (λ label. label ≡ label_for program.now fault.now) }
 {
-    match class_of(fault) {
+    match faulty_class(fault) {
         Some(class) => label_of(alloc, program, class),
         None => Bytes::from_slice(alloc, b"-"),
     }
 }
 
 /// The number of the class that a fault is told of, if it is of one.
-fn class_of(fault: &CheckFault) -> Option<u32>
-    ensures { result ≡ class_of fault.now }
+fn faulty_class(fault: &CheckFault) -> Option<u32>
+    ensures { result ≡ faulty_class fault.now }
 {
     match fault {
         CheckFault::Shape { class, .. } => Some(*class),

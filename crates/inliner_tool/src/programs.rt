@@ -1,6 +1,6 @@
 //! The program that class files link to, and its types.
 
-ghost use Rattle.std.specs.Prelude.{◌≡◌, ◌≤◌, IfOk, length};
+ghost use Rattle.std.specs.Prelude.{◌≡◌, IfOk};
 ghost use Rattle.std.specs.List.{AllByRecursion};
 ghost use Rattle.api_listing.specs.Listing.{IsFew};
 ghost use Rattle.bytecode_model.specs.Files.{unlinked};
@@ -11,7 +11,7 @@ ghost use Rattle.bytecode_model.specs.Standing.{IsLinkedOf};
 ghost use Rattle.class_codec.specs.Fits.{CanSpell};
 ghost use Rattle.class_linking.specs.Linking.{linked};
 ghost use Rattle.input_files.specs.Named.{IsListed};
-ghost use Rattle.inliner_tool.specs.Programs.{Equals, Types, UnlessMemory, link_refusal, link_step, program_of, woven_links};
+ghost use Rattle.inliner_tool.specs.Programs.{Equals, Types, UnlessMemory, link_refusal, link_step, program_of};
 ghost use Rattle.type_infer.specs.Untyped.{IsLeast};
 
 use crate::classes::{TOTAL_LIMIT, label_of};
@@ -20,7 +20,7 @@ use api_listing::Listing;
 use bytecode_model::Side;
 use cert_format::Typing;
 use class_codec::ClassFile;
-use class_linking::{LinkFault, assemble, link};
+use class_linking::{LinkFault, link};
 use input_files::ReadClasses;
 use mon_base::{Bytes, List};
 use std::alloc::Global;
@@ -71,27 +71,6 @@ pub fn linked(
     ensures links { IfOk result (IsLinkedOf side listing main.now) }
 {
     match link(alloc, files, listing, main, side) {
-        Ok(program) => Ok(Indexed::new(alloc, program)?),
-        Err(fault) => Err(link_refusal(fault)),
-    }
-}
-
-/// The program that files link to which were woven, with an index of its classes.
-pub fn assembled(
-    alloc: Global,
-    files: List<ClassFile>,
-    listing: Listing,
-    main: &Bytes,
-) -> Result<Indexed, Refusal>
-    requires count { length files ≤ 1001 }
-    requires few { IsFew listing }
-    requires listed { IsListed listing }
-    requires fits { AllByRecursion CanSpell files }
-    ensures is { UnlessMemory (Equals (link_step (woven_links files listing main.now))) result }
-    ensures back { IfOk result (λ program. unlinked program ≡ files) }
-    ensures sound { IfOk result IsSound }
-{
-    match assemble(alloc, files, listing, main, Side::Inlined) {
         Ok(program) => Ok(Indexed::new(alloc, program)?),
         Err(fault) => Err(link_refusal(fault)),
     }

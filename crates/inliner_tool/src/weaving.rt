@@ -34,9 +34,9 @@ ghost use Rattle.inliner_tool.specs.Weaving.{
   weave_step,
 };
 
-use crate::programs::{assembled, program_of, types_of};
+use crate::programs::{program_of, types_of};
 use crate::refusal::Refusal;
-use block_template::plans_are_good;
+use block_template::{PolicyPlan, plans_are_good};
 use bytecode_model::{Program, Side};
 use cert_checker::{Accepted, check};
 use cert_format::{CertLong, Certificate, Mode, Typing};
@@ -51,10 +51,11 @@ use input_files::InlineInputs;
 use mon_base::{Bytes, List};
 use mon_store::Output;
 use offset_patch::SpliceFault;
+use policy_weaving::inline;
 use std::alloc::Global;
 use told_typing::{told, told_is_typed};
 use type_lattice::Indexed;
-use woven_linking::{original_is_free, woven_files_link};
+use woven_linking::{original_is_free, program_with, woven_files_link, woven_program_is_linked};
 use woven_typing::{
     items_are_reached, listings_know_throwable, policies_tell, typing_of, woven_is_typed,
 };
@@ -77,7 +78,7 @@ pub struct Given {
     pub mode: Mode,
 }
 
-/// Links and types the inputs, weaves them, and links and checks what is woven.
+/// Links and types the inputs, weaves them, and checks what is woven.
 pub fn plan(alloc: Global, inputs: InlineInputs, words: &InlineWords) -> Result<Ready, Refusal>
     requires { InlineSound inputs }
     // The first step that fails is told.
@@ -97,6 +98,7 @@ pub fn plan(alloc: Global, inputs: InlineInputs, words: &InlineWords) -> Result<
     let made = woven(alloc, client.program(), &policy, mode)?;
     plans_are_good();
     woven_files_link();
+    woven_program_is_linked();
     original_is_free();
     linked_is_in_order();
     linked_operands_are_right();
@@ -148,27 +150,9 @@ fn woven(alloc: Global, client: &Program, policy: &Policy, mode: Mode) -> Result
     ensures exact { IfOk result (λ made. woven client.now (plan_of policy.now mode) policy.now.vars ≡ Ok made) }
     ensures fits { IfOk result (λ made. AllByRecursion CanSpell made.files) }
 {
-    match inlined(alloc, client, policy, mode) {
+    match inline(alloc, client, policy, mode) {
         Ok(made) => Ok(made),
         Err(fault) => Err(unfit(fault)),
-    }
-}
-
-/// The same in the words of the inliners, each of which weaves in its mode.
-fn inlined(
-    alloc: Global,
-    client: &Program,
-    policy: &Policy,
-    mode: Mode,
-) -> Result<Woven, SpliceFault>
-    requires sound { IsSound client.now }
-    requires policy { IsPolicy policy.now }
-    ensures exact { Answers SpliceFault.Memory result (woven client.now (plan_of policy.now mode) policy.now.vars) }
-    ensures fits { IfOk result (λ made. AllByRecursion CanSpell made.files) }
-{
-    match mode {
-        Mode::Hold => inline_hold::inline(alloc, client, policy),
-        Mode::Release => inline_release::inline(alloc, client, policy),
     }
 }
 
@@ -192,7 +176,7 @@ fn unfit(fault: SpliceFault) -> Refusal
     }
 }
 
-/// What is woven, linked again, with its certificate, which is accepted.
+/// What is woven, as the program that it links to, with its certificate, which is accepted.
 fn rewoven(alloc: Global, words: &InlineWords, given: Given, made: Woven) -> Result<Ready, Refusal>
     requires few { IsFew given.client.listing }
     requires listed { IsListed given.client.listing }
@@ -212,12 +196,9 @@ fn rewoven(alloc: Global, words: &InlineWords, given: Given, made: Woven) -> Res
     } = given;
     let typing = typing_of(alloc, &client, &policy, mode, &before)?;
     drop(before);
-    let Program {
-        classes,
-        listing,
-        ..
-    } = client;
-    let program = assembled(alloc, made.files, listing, words.main)?;
+    let plan = PolicyPlan::new(&policy, mode);
+    let (woven, classes) = program_with(alloc, &plan, client, made.files)?;
+    let program = Indexed::new(alloc, woven)?;
     let typing = told(alloc, program.program(), typing)?;
     let certificate = make(alloc, classes.as_slice(), &policy, mode, typing)?;
     judged(alloc, words.folder, &policy, &program, &certificate)

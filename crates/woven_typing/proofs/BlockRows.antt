@@ -24,7 +24,7 @@ use Rattle.block_template.specs.declared.item.Item.{Item}
 use Rattle.block_template.specs.declared.item.Role.{Role}
 use Rattle.block_template.specs.declared.item.Role.TheVariants as roles
 use Rattle.block_template.specs.Blocks.{clauses_of, handler_at, is_locked, lets_pass}
-use Rattle.block_template.specs.Flow.{entered, jump_of, may_pass, returned, role_at, thrown}
+use Rattle.block_template.specs.Flow.{entered, jump_of, may_pass, behind_return, role_at, thrown}
 use Rattle.block_template.specs.Frames.{frame_at}
 use Rattle.block_template.specs.Reached.{IsReached}
 use Rattle.block_template.specs.Typed.{CallIsTyped, GoesTo, ItemIsTyped}
@@ -43,7 +43,7 @@ use Rattle.woven_typing.proofs.Fronts.{IsFrontOf, entered_is}
 use Rattle.woven_typing.proofs.Handlers.{Throws, all_caught}
 use Rattle.woven_typing.proofs.Leaving.{goes_next}
 use Rattle.class_weaving.proofs.Lists.{slice_there}
-use Rattle.woven_typing.proofs.Passing.{Passes, row_met}
+use Rattle.bytecode_model.proofs.Passing.{Passes, row_met}
 use Rattle.woven_typing.proofs.Plans.{part_item}
 use Rattle.woven_typing.proofs.Rows.{depth_kept, made_kept, operand_kept}
 use Rattle.woven_typing.proofs.Standing.{spot, stands}
@@ -182,10 +182,10 @@ module _ (t : Typed) (c : CallAt t) where
       let lt : call < length (items t c) = slice_get_within (items t c) call item e in
       let next : m + 1 ≡ start t c + (call + 1) = omega arith in
       let goes : ℕ → Bool = λ to. option_map_or (goes_well place typed.types) (frame_of (woven t) to) false in
-      let behind : role_at (items t c) (call + 1) ≡ returned (mode t c) (told t c).after =
+      let behind : role_at (items t c) (call + 1) ≡ behind_return (mode t c) (told t c).after =
       (flow_is.goes call item e reached).passes refl ∙ ap (Rattle.block_template.specs.Flow.next (mode t c) (told t c)) role in
       let to : GoesTo (told t c) (near t c) place typed.types (role_at (items t c) (call + 1)) =
-      reached_to (told t c) (near t c) (λ f. goes_well place typed.types f ≡ true) (returned (mode t c) (told t c).after) (role_at (items t c) (call + 1))
+      reached_to (told t c) (near t c) (λ f. goes_well place typed.types f ≡ true) (behind_return (mode t c) (told t c).after) (role_at (items t c) (call + 1))
       behind ((reach_is.goes call item e reached).passes refl) typed.returns in
       met_at call item e reached typed.types types_are
       (record {

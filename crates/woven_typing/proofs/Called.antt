@@ -26,7 +26,7 @@ use Rattle.conspec_automaton.specs.Next.{has_clauses}
 use Rattle.offset_patch.specs.Splicing.{operands_needed}
 use Rattle.block_template.specs.Blocks.{Clauses, clauses_of}
 use Rattle.block_template.specs.Frames.{Around}
-use Rattle.block_template.specs.Typed.{FitsAround, HasRoom, IsCallOf, holds}
+use Rattle.block_template.specs.Typed.{FitsAround, HasRoom, IsCallOf, kept_kind}
 use Rattle.block_template.proofs.ItemsTyped.{clauses_are_asked}
 use Rattle.woven_typing.specs.Behind.{call_operands, count_taken, stack_behind, types_behind}
 use Rattle.woven_typing.specs.Framing.{around_of}
@@ -36,7 +36,7 @@ use Rattle.woven_typing.proofs.CallTypes as behind
 use Rattle.woven_typing.proofs.Body as of
 use Rattle.woven_typing.proofs.Client.{Typed, again, aim, b, here, kept_at, moved, old}
 use Rattle.woven_typing.proofs.Kept.{IsKept, retargeted, same_desc, type_renamed}
-use Rattle.woven_typing.proofs.Passing.{Passes}
+use Rattle.bytecode_model.proofs.Passing.{Passes}
 use Rattle.woven_typing.proofs.Rows.{depth_kept, operand_kept, stack_renamed, taken_renamed}
 use Rattle.woven_typing.proofs.Telling as telling
 use Rattle.woven_typing.proofs.Yielding.{local_left}
@@ -133,7 +133,7 @@ module _ (t : Typed) (c : CallAt t) where
       by (x ∷ s) (suc n) le = by s n (omega (arith, le))
 
   arguments_by : (o : Option Clause) → IfSome o (λ x. TellsOf x listed.method)
-      → all_met (map holds (option_map_or (λ (x : Clause). x.args) o []))
+      → all_met (map kept_kind (option_map_or (λ (x : Clause). x.args) o []))
       (topmost (length (option_map_or (λ (x : Clause). x.args) o [])) (again t c.types).stack) ≡ true
   arguments_by None tells = ap (all_met []) (none_on_top (again t c.types).stack)
   arguments_by (Some clause) tells =
@@ -149,12 +149,12 @@ module _ (t : Typed) (c : CallAt t) where
       (subst (λ ws. all_met ws (topmost (length ws) (again t c.types).stack) ≡ true) takes_these operand.0)
 
   result_by : (o : Option Clause) → IfSome o (λ x. TellsOf x listed.method)
-      → IfSome (option_and_then (λ (x : Clause). x.result) o) (λ kind. all_met (holds kind ∷ []) (topmost 1 around.after.stack) ≡ true)
+      → IfSome (option_and_then (λ (x : Clause). x.result) o) (λ kind. all_met (kept_kind kind ∷ []) (topmost 1 around.after.stack) ≡ true)
   result_by None tells = tt
   result_by (Some clause) tells = by clause.result tells.result
     where
       by : (o : Option Kind) → IfSome o (IsOfResult listed.method.id.desc)
-          → IfSome o (λ kind. all_met (holds kind ∷ []) (topmost 1 around.after.stack) ≡ true)
+          → IfSome o (λ kind. all_met (kept_kind kind ∷ []) (topmost 1 around.after.stack) ≡ true)
       by None is = tt
       by (Some kind) is =
           telling.result_held (moved t) kind (desc_referred p) (types_behind p (call_operands p c.types.stack) (below (count_taken p) c.types.stack))

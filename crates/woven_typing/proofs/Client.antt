@@ -44,7 +44,7 @@ use Rattle.woven_typing.proofs.Kept.{IsKept, and_kept}
 use Rattle.woven_typing.proofs.Larger.{assigns_kept}
 use Rattle.class_weaving.proofs.Lists.{slice_there}
 use Rattle.woven_typing.proofs.News.{news}
-use Rattle.woven_typing.proofs.Passing.{Passes, passes}
+use Rattle.bytecode_model.proofs.Passing.{Passes, passes}
 use Rattle.woven_typing.proofs.Rows.{entry_kept, goes_kept}
 
 -- ---- lists and tests

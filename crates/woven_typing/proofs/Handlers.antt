@@ -1,7 +1,7 @@
 -- What is caught of an instruction of a woven method.
 use Rattle.std.proofs.Common.{◌≡◌, ℕ, suc, ◌+◌, ◌<◌, ◌≤◌, Bool, true, false, List, [], ◌∷◌, ◌++◌, length, map, Option, Some, None, refl, sym, ap, subst, ◌∙◌, inl, inr, arith}
 use Rattle.std.specs.Prelude.{◌&&◌, ◌||◌, not, nat_lt, nat_le, slice_get, slice_index}
-use Rattle.std.specs.List.{list_all}
+use Rattle.std.specs.List.{AllByRecursion, list_all}
 use Rattle.std.specs.Option.{option_map_or}
 use Rattle.std.proofs.lemmas.Bool.{cases_Bool, ltb-true, leb-true, le-leb, and_from, and_parts}
 use Rattle.std.proofs.lemmas.Bool.Decides.{nat_tests}
@@ -31,9 +31,10 @@ use Rattle.woven_typing.proofs.Body.{Body}
 use Rattle.block_template.proofs.Calling.{count_is, index, place_is}
 use Rattle.woven_typing.proofs.Client.{Typed, again, aim, alone_height, b, frame_front, front_moved, here, kept_at, moved, old, woven}
 use Rattle.woven_typing.proofs.Fronts.{catches_front}
+use Rattle.woven_typing.proofs.Kept.{and_kept}
 use Rattle.woven_typing.proofs.Larger.{below_kept}
 use Rattle.class_weaving.proofs.Parts as parts
-use Rattle.woven_typing.proofs.Passing.{Passes, all_also}
+use Rattle.bytecode_model.proofs.Passing.{Passes}
 use Rattle.woven_typing.proofs.Plans as plans
 use Rattle.woven_typing.proofs.Rows.{catches_kept, le_more}
 
@@ -51,6 +52,11 @@ handled_from true roomy below there r b t = rw (r refl, b refl, t refl) refl
 handled_from false roomy below there r b t = refl
 
 -- ---- the blocks' own handlers
+
+all_also : {A B : Type 0} (p : A → Bool) (q : B → Bool) (f : A → B) (P : A → Type 0) → ((x : A) → P x → p x ≡ true → q (f x) ≡ true) → (xs : List A) → AllByRecursion P xs
+    → list_all p xs ≡ true → list_all q (map f xs) ≡ true
+all_also p q f P also [] h e = refl
+all_also p q f P also (x ∷ xs) h e = and_kept (p x) (list_all p xs) _ _ (also x h.0) (all_also p q f P also xs h.1) e
 
 all_both : {X : Type 0} (p : X → Bool) (xs ys : List X) → list_all p xs ≡ true → list_all p ys ≡ true → list_all p (xs ++ ys) ≡ true
 all_both p [] ys e f = f

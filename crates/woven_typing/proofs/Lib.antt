@@ -3,7 +3,6 @@ pub mod Kept
 pub mod Taking
 pub mod Yielding
 pub mod Rows
-pub mod Passing
 pub mod Larger
 pub mod Longer
 pub mod Aiming

@@ -19,7 +19,7 @@ use Rattle.conspec_tree.specs.declared.types.Phase.{Phase}
 use Rattle.conspec_automaton.specs.declared.policy.Clause.{Clause}
 use Rattle.conspec_automaton.specs.declared.policy.Policy.{Policy}
 use Rattle.block_template.specs.Blocks.{clause_at, is_phase}
-use Rattle.block_template.specs.Typed.{holds}
+use Rattle.block_template.specs.Typed.{kept_kind}
 use Rattle.block_template.proofs.Policies.{Found, found_is}
 use Rattle.block_template.proofs.Types.{from_place, top_of}
 use Rattle.woven_typing.specs.Renaming.{renamed}
@@ -64,7 +64,7 @@ module _ (program : Program) where
   number_held : (t u : VType) → u ≡ types.Int → assignable program t u ≡ true → of_kind operands.Int t ≡ true
   number_held t u is fits = to_number program t (subst (λ (v : VType). assignable program t v ≡ true) is fits)
 
-  held : (kind : Kind) (t u : VType) → IsOfKind kind u → assignable program t u ≡ true → holds kind t ≡ true
+  held : (kind : Kind) (t u : VType) → IsOfKind kind u → assignable program t u ≡ true → kept_kind kind t ≡ true
   held kinds.Object t u is fits = to_object program t is.0 (subst (λ (v : VType). assignable program t v ≡ true) is.1 fits)
   held kinds.Int t u is fits = number_held t u is fits
   held kinds.Bool t u is fits = number_held t u is fits
@@ -73,7 +73,7 @@ module _ (program : Program) where
   held kinds.Char t u is fits = number_held t u is fits
 
   all_held : (args : List Kind) (descs : List Descriptor) (ts : List VType) → AreOfKinds args descs
-      → all_met (map (to_described program) descs) ts ≡ true → all_met (map holds args) ts ≡ true
+      → all_met (map (to_described program) descs) ts ≡ true → all_met (map kept_kind args) ts ≡ true
   all_held [] [] [] are met = refl
   all_held [] [] (t ∷ ts) are met = absurd cc
   all_held [] (d ∷ descs) ts are met = absurd are
@@ -81,7 +81,7 @@ module _ (program : Program) where
   all_held (kind ∷ args) (d ∷ descs) [] are met = absurd cc
   all_held (kind ∷ args) (d ∷ descs) (t ∷ ts) are met =
       let parts = and_parts (to_described program d t) (all_met (map (to_described program) descs) ts) met in
-      and_from (holds kind t) (all_met (map holds args) ts) (held kind t (type_described d) are.0 parts.0) (all_held args descs ts are.1 parts.1)
+      and_from (kept_kind kind t) (all_met (map kept_kind args) ts) (held kind t (type_described d) are.0 parts.0) (all_held args descs ts are.1 parts.1)
 
   kinds_count : (args : List Kind) (descs : List Descriptor) → AreOfKinds args descs → length descs ≡ length args
   kinds_count [] [] are = refl
@@ -97,11 +97,11 @@ module _ (program : Program) where
     count : length wanted ≡ length args
     count = length-map descs (to_described program) ∙ kinds_count args descs are
 
-    bare : all_met wanted (topmost (length wanted) stack) ≡ true → all_met (map holds args) (topmost (length args) stack) ≡ true
-    bare e = ap (λ (n : ℕ). all_met (map holds args) (topmost n stack)) (sym count) ∙ all_held args descs (topmost (length wanted) stack) are e
+    bare : all_met wanted (topmost (length wanted) stack) ≡ true → all_met (map kept_kind args) (topmost (length args) stack) ≡ true
+    bare e = ap (λ (n : ℕ). all_met (map kept_kind args) (topmost n stack)) (sym count) ∙ all_held args descs (topmost (length wanted) stack) are e
 
     with_receiver : (w : Want) → length (w ∷ wanted) ≤ length stack → all_met (w ∷ wanted) (topmost (length (w ∷ wanted)) stack) ≡ true
-        → all_met (map holds args) (topmost (length args) stack) ≡ true
+        → all_met (map kept_kind args) (topmost (length args) stack) ≡ true
     with_receiver w le e =
         let n : ℕ = length stack - length (w ∷ wanted) in
         let lower : topmost (length (w ∷ wanted)) stack ≡ type_at stack n ∷ drop (suc n) stack = from_place n stack (omega (arith, le)) in
@@ -111,7 +111,7 @@ module _ (program : Program) where
 
     pub arguments_held : (b : Bool) (w : Want) → length (cond b (w ∷ wanted) wanted) ≤ length stack
         → all_met (cond b (w ∷ wanted) wanted) (topmost (length (cond b (w ∷ wanted) wanted)) stack) ≡ true
-        → all_met (map holds args) (topmost (length args) stack) ≡ true
+        → all_met (map kept_kind args) (topmost (length args) stack) ≡ true
     arguments_held true w le e = with_receiver w le e
     arguments_held false w le e = bare e
 
@@ -121,7 +121,7 @@ module _ (moved : ℕ → ℕ) where
   number_given : (t : VType) → t ≡ types.Int → of_kind operands.Int (renamed moved t) ≡ true
   number_given t is = ap (λ (u : VType). of_kind operands.Int (renamed moved u)) is
 
-  given : (kind : Kind) (t : VType) → IsOfKind kind t → holds kind (renamed moved t) ≡ true
+  given : (kind : Kind) (t : VType) → IsOfKind kind t → kept_kind kind (renamed moved t) ≡ true
   given kinds.Object t is = ap (λ (u : VType). of_kind operands.Reference (renamed moved u)) is.1
   given kinds.Int t is = number_given t is
   given kinds.Bool t is = number_given t is
@@ -131,10 +131,10 @@ module _ (moved : ℕ → ℕ) where
 
   -- What is on top of other operands behind a call is what it gives.
   pub result_held : (kind : Kind) (desc : List ℕ) (below : List VType) → IsOfResult desc kind
-      → all_met (holds kind ∷ []) (topmost 1 (map (renamed moved) (below ++ call_yields (result_type desc)))) ≡ true
+      → all_met (kept_kind kind ∷ []) (topmost 1 (map (renamed moved) (below ++ call_yields (result_type desc)))) ≡ true
   result_held kind desc below is =
       let one : map (renamed moved) (below ++ call_yields (result_type desc)) ≡ map (renamed moved) below ++ renamed moved is.0 ∷ [] =
       ap (λ (o : Option VType). map (renamed moved) (below ++ call_yields o)) is.1 ∙ map-append (renamed moved) below (is.0 ∷ []) in
-      ap (λ (s : List VType). all_met (holds kind ∷ []) (topmost 1 s)) one
-      ∙ ap (all_met (holds kind ∷ [])) (top_of (map (renamed moved) below) (renamed moved is.0 ∷ []))
-      ∙ and_from (holds kind (renamed moved is.0)) true (given kind is.0 is.2) refl
+      ap (λ (s : List VType). all_met (kept_kind kind ∷ []) (topmost 1 s)) one
+      ∙ ap (all_met (kept_kind kind ∷ [])) (top_of (map (renamed moved) below) (renamed moved is.0 ∷ []))
+      ∙ and_from (kept_kind kind (renamed moved is.0)) true (given kind is.0 is.2) refl

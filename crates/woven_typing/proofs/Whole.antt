@@ -28,7 +28,7 @@ use Rattle.woven_typing.proofs.Fronts.{front_itself}
 use Rattle.woven_typing.proofs.Handlers.{all_caught}
 use Rattle.class_weaving.proofs.Lists.{slice_there}
 use Rattle.class_weaving.proofs.Parts as parts
-use Rattle.woven_typing.proofs.Passing.{row_met}
+use Rattle.bytecode_model.proofs.Passing.{row_met}
 use Rattle.woven_typing.proofs.Plans.{part_length}
 use Rattle.woven_typing.proofs.Rows.{depth_kept, local_kept, made_kept, operand_kept}
 use Rattle.class_weaving.proofs.Unwoven.{no_block, part_alone}

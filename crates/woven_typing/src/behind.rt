@@ -14,13 +14,12 @@ ghost use Rattle.woven_typing.specs.Behind.{
   types_behind,
 };
 
-use crate::lists::with_room;
 use bytecode_model::{LinkedClass, Method, Program, Target, TypeRef, index_of, lend, own};
 use cert_format::{FrameType, VType};
 use class_codec::reference_at;
 use frame_types::{arity, has_receiver, is_same_object, new_at, result_type, split_top};
 use insn_codec::{Heap, How, Insn, Shape, shape_of};
-use mon_base::{List, NoMemory};
+use mon_base::{List, NoMemory, SharedList};
 use std::alloc::Global;
 use std::marker::Model;
 
@@ -194,7 +193,7 @@ fn stack_behind(alloc: Global, place: &CallPlace, stack: &[VType]) -> Result<Lis
     ensures { IfOk result (λ made. made ≡ stack_behind place.now stack.now) }
 {
     let (below, taken) = split_top(stack, count_taken(place));
-    let mut made = with_room(alloc, below.len().saturating_add(1))?;
+    let mut made = List::with_room(alloc, below.len().saturating_add(1))?;
     put_behind(alloc, &mut made, place, taken, below)?;
     put_given(alloc, &mut made, place)?;
     Ok(made)
@@ -208,7 +207,7 @@ fn locals_behind(
     ensures { IfOk result (λ made. made ≡ (frame_behind place.now frame.now).locals) }
 {
     let (_, taken) = split_top(frame.stack.as_slice(), count_taken(place));
-    let mut made = with_room(alloc, frame.locals.len())?;
+    let mut made = List::with_room(alloc, frame.locals.len())?;
     put_behind(alloc, &mut made, place, taken, frame.locals.as_slice())?;
     Ok(made)
 }
@@ -222,7 +221,7 @@ pub fn frame_behind(
     ensures { IfOk result (λ made. made ≡ frame_behind place.now frame.now) }
 {
     Ok(FrameType {
-        locals: locals_behind(alloc, place, frame)?,
+        locals: SharedList::new(alloc, locals_behind(alloc, place, frame)?)?,
         stack: stack_behind(alloc, place, frame.stack.as_slice())?,
     })
 }

@@ -22,12 +22,11 @@ ghost use Rattle.woven_typing.specs.Framing.{
 };
 
 use crate::behind::{CallPlace, frame_behind};
-use crate::lists::with_room;
 use crate::renaming::{Fronts, frame_renamed};
 use crate::roles::{CallTypes, Names};
 use block_template::{Item, PolicyItems, clauses_of};
 use bytecode_model::{LinkedClass, Method, Program, Target};
-use cert_format::FrameType;
+use cert_format::{FrameType, push_frame};
 use insn_codec::Insn;
 use mon_base::{List, NoMemory};
 use std::alloc::Global;
@@ -74,7 +73,7 @@ fn block_size(items: &PolicyItems, callee: u32) -> Result<u32, NoMemory>
 fn fronts_of(alloc: Global, items: &PolicyItems, refs: &[Target]) -> Result<List<u32>, NoMemory>
     ensures { IfOk result (λ made. made ≡ fronts_of (map ((plan_of items.now.policy items.now.mode).block 0) refs.now)) }
 {
-    let mut fronts = with_room(alloc, refs.len().saturating_add(1))?;
+    let mut fronts = List::with_room(alloc, refs.len().saturating_add(1))?;
     let mut at: u32 = 0;
     let mut left = refs;
     while let [target, rest @ ..] = left {
@@ -210,7 +209,7 @@ fn put_alone(
 {
     match frame {
         None => out.push(None),
-        Some(frame) => out.push(Some(client.renamed(alloc, frame)?)),
+        Some(frame) => push_frame(out, Some(client.renamed(alloc, frame)?)),
     }
 }
 
@@ -237,7 +236,7 @@ fn put_items(
         ++ map (λ (i : SpecItem). frame_at call.now.clauses call.now.around i.role) items.now) }
 {
     for item in items {
-        out.push(call.frame_at(alloc, item.role)?)?;
+        push_frame(out, call.frame_at(alloc, item.role)?)?;
     }
     Ok(())
 }
@@ -318,7 +317,7 @@ fn parts_framed(
 ) -> Result<Frames, NoMemory>
     ensures { IfOk result (λ made. made ≡ parts_framed client.now 0 insns.now refs.now frames.now) }
 {
-    let mut out = with_room(alloc, client.fronts.end())?;
+    let mut out = List::with_room(alloc, client.fronts.end())?;
     let mut at: u32 = 0;
     let mut insns = insns;
     let mut refs = refs;

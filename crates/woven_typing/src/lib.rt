@@ -8,7 +8,6 @@
 mod behind;
 mod framing;
 mod laws;
-mod lists;
 mod renaming;
 mod roles;
 mod typing;

@@ -1,12 +1,11 @@
 //! Types of instructions that stand elsewhere: an object that is not made yet is told by the index of its `new`.
 
-ghost use Rattle.std.specs.Prelude.{◌≡◌, ◌-◌, IfOk, map, slice_index};
+ghost use Rattle.std.specs.Prelude.{◌≡◌, ◌-◌, IfOk, length, map, slice_index};
 ghost use Rattle.woven_typing.specs.Framing.{moved_by};
 ghost use Rattle.woven_typing.specs.Renaming.{frame_renamed, renamed};
 
-use crate::lists::{shared, with_room};
 use cert_format::{FrameType, VType};
-use mon_base::{List, NoMemory};
+use mon_base::{List, NoMemory, SharedList};
 use std::alloc::Global;
 
 /// Where the instructions of a method stand in the woven one: the front of each of so many, and where the last part ends.
@@ -18,11 +17,11 @@ pub struct Fronts {
 
 impl Fronts {
     /// Where the last part ends.
-    pub fn end(&self) -> usize {
-        match self.list.as_slice().last() {
-            Some(end) => *end as usize,
-            None => 0,
-        }
+    pub fn end(&self) -> usize
+        ensures { result ≡ slice_index self.now.list (length self.now.list - 1) }
+    {
+        let fronts = self.list.as_slice();
+        front(fronts, fronts.len().saturating_sub(1)) as usize
     }
 }
 
@@ -65,14 +64,14 @@ fn renamed(fronts: &Fronts, t: &VType) -> Result<VType, NoMemory>
 {
     match t {
         VType::Uninit(at) => Ok(VType::Uninit(moved(fronts, *at)?)),
-        _ => shared(t),
+        _ => t.share(),
     }
 }
 
 fn all_renamed(alloc: Global, fronts: &Fronts, types: &[VType]) -> Result<List<VType>, NoMemory>
     ensures { IfOk result (λ made. made ≡ map (renamed (moved_by fronts.now.list fronts.now.count)) types.now) }
 {
-    let mut made = with_room(alloc, types.len())?;
+    let mut made = List::with_room(alloc, types.len())?;
     for t in types {
         made.push(renamed(fronts, t)?)?;
     }
@@ -87,8 +86,9 @@ pub fn frame_renamed(
 ) -> Result<FrameType, NoMemory>
     ensures { IfOk result (λ made. made ≡ frame_renamed (moved_by fronts.now.list fronts.now.count) frame.now) }
 {
+    let locals = all_renamed(alloc, fronts, frame.locals.as_slice())?;
     Ok(FrameType {
-        locals: all_renamed(alloc, fronts, frame.locals.as_slice())?,
+        locals: SharedList::new(alloc, locals)?,
         stack: all_renamed(alloc, fronts, frame.stack.as_slice())?,
     })
 }

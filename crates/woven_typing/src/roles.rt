@@ -1,6 +1,6 @@
 //! The types of the instructions of a block, by their roles.
 
-ghost use Rattle.std.specs.Prelude.{◌≡◌, ◌-◌, ◌++◌, IfOk, OnOk, codes, drop, map, replicate};
+ghost use Rattle.std.specs.Prelude.{◌≡◌, ◌-◌, ◌∷◌, [], ◌++◌, IfOk, OnOk, codes, drop, map, replicate};
 ghost use Rattle.api_listing.specs.BuiltIn.{throwable};
 ghost use Rattle.cert_format.specs.declared.typing.VType.TheVariants.{Ref, Top};
 ghost use Rattle.bytecode_model.specs.Makes.{below};
@@ -21,13 +21,12 @@ ghost use Rattle.block_template.specs.Frames.{
 };
 ghost use Rattle.woven_typing.specs.Pushed.{types_pushed};
 
-use crate::lists::{put_types, with_room};
 use block_template::{MethodClauses, Role};
 use bytecode_model::own;
-use cert_format::{FrameType, Name, VType};
+use cert_format::{FrameType, Name, VType, copied_types, put_types};
 use conspec_tree::Phase;
 use frame_types::{THROWABLE, split_top, when_thrown};
-use mon_base::{List, NoMemory};
+use mon_base::{List, NoMemory, SharedList};
 use std::alloc::Global;
 use std::marker::Model;
 
@@ -54,7 +53,9 @@ impl Model for Names {
 
 impl Names {
     /// The names.
-    pub fn new(alloc: Global) -> Result<Names, NoMemory> {
+    pub fn new(alloc: Global) -> Result<Names, NoMemory>
+        ensures { IfOk result (λ names. names ≡ codes "java/lang/Class" ∷ throwable ∷ []) }
+    {
         Ok(Names {
             class: Name::from_slice(alloc, CLASS)?,
             thrown: Name::from_slice(alloc, THROWABLE)?,
@@ -186,15 +187,6 @@ fn behind(types: &[VType], n: usize) -> &[VType]
     if n <= types.len() { &types[n..] } else { &[] }
 }
 
-/// The types, in a list that takes so many more without being moved.
-fn copied(alloc: Global, types: &[VType], more: usize) -> Result<List<VType>, NoMemory>
-    ensures { IfOk result (λ made. made ≡ types.now) }
-{
-    let mut made = with_room(alloc, types.len().saturating_add(more))?;
-    put_types(&mut made, types)?;
-    Ok(made)
-}
-
 /// The client's locals up to where they end, in a list that takes so many more without being moved.
 fn locals_padded(
     alloc: Global,
@@ -205,7 +197,7 @@ fn locals_padded(
     ensures { IfOk result (λ made. made ≡ padded base locals.now) }
 {
     let tops = usize::from(base).saturating_sub(locals.len());
-    let mut made = copied(alloc, locals, tops.saturating_add(more))?;
+    let mut made = copied_types(alloc, locals, tops.saturating_add(more))?;
     put_tops(&mut made, tops)?;
     Ok(made)
 }
@@ -226,7 +218,7 @@ fn locals_caught(alloc: Global, base: u16, locals: &[VType]) -> Result<List<VTyp
     ensures { IfOk result (λ made. made ≡ map when_thrown (padded base locals.now)) }
 {
     let tops = usize::from(base).saturating_sub(locals.len());
-    let mut made = with_room(alloc, locals.len().saturating_add(tops))?;
+    let mut made = List::with_room(alloc, locals.len().saturating_add(tops))?;
     put_thrown(alloc, &mut made, locals)?;
     put_tops(&mut made, tops)?;
     Ok(made)
@@ -284,8 +276,8 @@ impl<'a> CallTypes<'a> {
     {
         let (below, _) = split_top(self.before.stack.as_slice(), taken);
         Ok(FrameType {
-            locals: self.saved_locals(alloc, left)?,
-            stack: copied(alloc, below, more)?,
+            locals: SharedList::new(alloc, self.saved_locals(alloc, left)?)?,
+            stack: copied_types(alloc, below, more)?,
         })
     }
 
@@ -298,8 +290,8 @@ impl<'a> CallTypes<'a> {
         let mut locals = locals_padded(alloc, self.base, self.after.locals.as_slice(), count)?;
         put_types(&mut locals, top)?;
         Ok(FrameType {
-            locals,
-            stack: copied(alloc, below, more)?,
+            locals: SharedList::new(alloc, locals)?,
+            stack: copied_types(alloc, below, more)?,
         })
     }
 
@@ -310,9 +302,10 @@ impl<'a> CallTypes<'a> {
           stack = self.now.around.after.stack;
         }) }
     {
+        let locals = locals_padded(alloc, self.base, self.after.locals.as_slice(), 0)?;
         Ok(FrameType {
-            locals: locals_padded(alloc, self.base, self.after.locals.as_slice(), 0)?,
-            stack: copied(alloc, self.after.stack.as_slice(), 0)?,
+            locals: SharedList::new(alloc, locals)?,
+            stack: copied_types(alloc, self.after.stack.as_slice(), 0)?,
         })
     }
 
@@ -320,10 +313,11 @@ impl<'a> CallTypes<'a> {
     fn thrown(&self, alloc: Global, more: usize) -> Result<FrameType, NoMemory>
         ensures { IfOk result (λ made. made ≡ phase_frame self.now.clauses self.now.around Exceptional) }
     {
-        let mut stack = with_room(alloc, more.saturating_add(1))?;
+        let mut stack = List::with_room(alloc, more.saturating_add(1))?;
         stack.push(self.names.thrown()?)?;
+        let locals = locals_caught(alloc, self.base, self.before.locals.as_slice())?;
         Ok(FrameType {
-            locals: locals_caught(alloc, self.base, self.before.locals.as_slice())?,
+            locals: SharedList::new(alloc, locals)?,
             stack,
         })
     }
@@ -363,8 +357,8 @@ impl<'a> CallTypes<'a> {
         }) }
     {
         Ok(FrameType {
-            locals: self.saved_locals(alloc, 0)?,
-            stack: copied(alloc, self.before.stack.as_slice(), 0)?,
+            locals: SharedList::new(alloc, self.saved_locals(alloc, 0)?)?,
+            stack: copied_types(alloc, self.before.stack.as_slice(), 0)?,
         })
     }
 

@@ -12,7 +12,6 @@ ghost use Rattle.woven_typing.specs.Framing.{
 };
 
 use crate::framing::{Client, Frames, Weaving, frames_woven};
-use crate::lists::with_room;
 use crate::roles::Names;
 use block_template::PolicyItems;
 use bytecode_model::{LinkedClass, Method, Program};
@@ -71,7 +70,7 @@ fn methods_framed(
         ≡ methods_framed weaving.now.program.now weaving.now.items.now.policy weaving.now.items.now.mode
         own class.now methods.now told.now) }
 {
-    let mut made = with_room(alloc, told.len())?;
+    let mut made = List::with_room(alloc, told.len())?;
     let mut methods = methods;
     let mut told = told;
     while let [method, later @ ..] = methods {
@@ -95,7 +94,7 @@ fn classes_framed(
         ≡ classes_framed weaving.now.program.now weaving.now.items.now.policy weaving.now.items.now.mode
         0 classes.now told.now) }
 {
-    let mut made = with_room(alloc, classes.len().saturating_add(1))?;
+    let mut made = List::with_room(alloc, classes.len().saturating_add(1))?;
     let mut own: u32 = 0;
     let mut classes = classes;
     let mut told = told;

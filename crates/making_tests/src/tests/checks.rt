@@ -16,6 +16,7 @@ use conspec_parse::parse;
 use listing_text::read;
 use mon_base::{Bytes, List};
 use offset_patch::{Size, SpliceFault};
+use policy_weaving::inline;
 use std::alloc::Global;
 use std::process::Abort;
 use std::test::Fail;
@@ -73,10 +74,7 @@ fn inlined(
     let Ok(program) = link(alloc, files, listing, &main, Side::Original) else {
         return Err("linking".into());
     };
-    match mode {
-        Mode::Release => Ok(inline_release::inline(alloc, &program, &policy)),
-        Mode::Hold => Ok(inline_hold::inline(alloc, &program, &policy)),
-    }
+    Ok(inline(alloc, &program, &policy, mode))
 }
 
 /// The same of the class `a/S` whose `main` has this code.

@@ -12,7 +12,7 @@ use conspec_automaton::{Policy, build};
 use conspec_parse::parse;
 use insn_codec::Insn;
 use listing_text::read;
-use mon_base::{Bytes, List, NoMemory};
+use mon_base::{Bytes, List, NoMemory, SharedList};
 use std::alloc::Global;
 use std::test::Fail;
 
@@ -96,7 +96,7 @@ fn typing(alloc: Global, reached: usize, count: usize) -> Result<Typing, NoMemor
     for at in 0..count {
         method.push(if at < reached {
             Some(FrameType {
-                locals: List::new(alloc),
+                locals: SharedList::new(alloc, List::new(alloc))?,
                 stack: List::new(alloc),
             })
         } else {

@@ -7,14 +7,15 @@ ghost use Rattle.conspec_automaton.specs.Sound.{IsPolicy};
 use super::pools::text;
 use api_listing::Listing;
 use bytecode_model::{Origin, Side};
+use cert_format::Mode;
 use class_codec::{Attr, ClassFile, Code, Const, Member, TableEntry, decode, encode};
 use class_linking::link;
 use class_weaving::Woven;
 use conspec_automaton::{Policy, build};
 use conspec_parse::parse;
-use inline_release::inline;
 use listing_text::read;
 use mon_base::{Bytes, List};
+use policy_weaving::inline;
 use std::alloc::Global;
 use std::process::Abort;
 use std::test::Fail;
@@ -123,7 +124,7 @@ fn woven(alloc: Global, class: ClassFile) -> Result<Woven, Fail> {
     let Ok(program) = link(alloc, files, listing, &main, Side::Original) else {
         return Err("linking".into());
     };
-    match inline(alloc, &program, &policy) {
+    match inline(alloc, &program, &policy, Mode::Release) {
         Ok(woven) => Ok(woven),
         Err(_) => Err("weaving".into()),
     }

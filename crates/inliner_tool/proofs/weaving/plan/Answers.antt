@@ -42,8 +42,10 @@ rewoven-requires-clause-expected c =
     rw c.into_program.ensures
     (expected c.woven_files_link.ensures.links c.plans_are_good.ensures c.original_is_free.ensures.free c.linked_is_in_order.ensures.ordered c.linked_operands_are_right.ensures.right
     c.kinds_are_told.ensures.arguments c.kinds_are_told.ensures.results c.policies_tell.ensures c.listings_know_throwable.ensures c.woven_is_typed.ensures c.items_are_reached.ensures
-    c.told_is_typed.ensures c.woven_is_accepted.ensures.accepted inputs c.requires named.main given c.in_ok-made.made (inputs_link named inputs client (sym c.in_ok-client.ensures.is))
-    c.in_ok-client.ensures.sound c.in_ok-client.ensures.links c.in_ok-policy.ensures.is good (rw (← c.program.ensures) c.in_ok-made.ensures.exact) c.in_ok-typing.ensures.is c.in_ok-typing.ensures.shaped)
+    c.told_is_typed.ensures c.woven_is_accepted.ensures.accepted c.woven_program_is_linked.ensures.linked c.woven_program_is_linked.ensures.back c.woven_program_is_linked.ensures.room
+    c.woven_program_is_linked.ensures.sound inputs c.requires named.main given c.in_ok-made.made (inputs_link named inputs client (sym c.in_ok-client.ensures.is))
+    c.in_ok-client.ensures.sound c.in_ok-client.ensures.links c.in_ok-policy.ensures.is good (rw (← c.program.ensures) c.in_ok-made.ensures.exact) c.in_ok-typing.ensures.is c.in_ok-typing.ensures.shaped
+    c.in_ok-made.ensures.fits (few_woven given c.in_ok-made.made c.in_ok-client.ensures.links.few (rw (← c.program.ensures) c.in_ok-made.ensures.exact)))
 
 pub returns-clause-plans : goal.returns-clause-plans
 returns-clause-plans c =

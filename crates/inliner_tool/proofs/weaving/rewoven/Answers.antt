@@ -1,50 +1,101 @@
-use Rattle.std.proofs.Common.{◌≡◌, ◌∙◌, Ok, ap, subst, sym}
+use Rattle.std.proofs.Common.{◌≡◌, ◌∙◌, List, Ok, ap, subst, sym}
+use Rattle.bytecode_model.specs.declared.program.LinkedClass.{LinkedClass}
 use Rattle.bytecode_model.specs.declared.program.Program.{Program}
+use Rattle.bytecode_model.specs.Files.{unlinked}
+use Rattle.bytecode_model.specs.Order.{IsInOrder}
+use Rattle.bytecode_model.specs.Sound.{IsSound}
 use Rattle.block_logic.specs.Accepted.{IsAccepted}
+use Rattle.block_template.specs.Blocks.{Planned, plan_of}
 use Rattle.cert_checker.specs.Acceptance.{verdict}
 use Rattle.cert_checker.specs.Secure.{Secure}
 use Rattle.cert_format.specs.declared.certificate.Certificate.{Certificate}
 use Rattle.cert_format.specs.declared.certificate.Mode.{Mode}
+use Rattle.cert_format.specs.declared.typing.Typing.{Typing}
+use Rattle.cert_format.specs.Fits.{CanSpell}
 use Rattle.cert_maker.specs.Noting.{certificate_of}
+use Rattle.class_weaving.specs.declared.woven.Woven.{Woven}
 use Rattle.command_words.specs.InlineWords.{inline_named}
 use Rattle.output_files.specs.Outputs.{is_written, outputs_of}
-use Rattle.std.specs.Prelude.{IfOk, true}
+use Rattle.std.specs.Prelude.{IfOk, true, length}
 use Rattle.told_typing.specs.Told.{FitsTyping, told}
+use Rattle.woven_linking.specs.Program.{HaveRoom, program_with}
 use Rattle.woven_typing.specs.Framing.{typing_of}
+use Rattle.inliner_tool.specs.declared.weaving.Given.{Given}
 use Rattle.inliner_tool.specs.declared.weaving.Ready.{Ready}
+use Rattle.inliner_tool.specs.Expected.{woven_program}
 use Rattle.inliner_tool.specs.Programs.{woven_links}
 use Rattle.inliner_tool.specs.Weaving.{Accepts, certificate_for}
-use Rattle.inliner_tool.proofs.Blocks.{known_rewoven, linked_by, remakes}
-use Rattle.inliner_tool.proofs.Rewoven.{spells_for}
+use Rattle.inliner_tool.proofs.Blocks.{known_rewoven, remakes}
 use Rattle.inliner_tool.proofs.weaving.rewoven.Goals as goal
+
+-- what is made by this plan is the woven program
+made_by : (given : Given) (made : Woven) (plan : Planned) (program : Program) → plan ≡ record { policy = given.policy; mode = given.mode }
+    → program ≡ program_with (plan_of plan.policy plan.mode) given.client made.files → program ≡ woven_program given made
+made_by given made plan program is so = so ∙ ap (λ (p : Planned). program_with (plan_of p.policy p.mode) given.client made.files) is
+
+-- what is made of these types is the certificate of the program
+certificate_is : (given : Given) (program indexed : Program) (before after : Typing) (classes : List LinkedClass) (certificate : Certificate)
+    → before ≡ typing_of given.client given.policy given.mode given.typing → indexed ≡ program → after ≡ told indexed before → classes ≡ given.client.classes
+    → certificate ≡ certificate_of classes given.policy given.mode after
+    → (after ≡ told program (typing_of given.client given.policy given.mode given.typing)) × (certificate ≡ certificate_for given program)
+certificate_is given program indexed before after classes certificate first same then all is =
+    let typing : after ≡ told program (typing_of given.client given.policy given.mode given.typing) = then ∙ ap (λ (p : Program). told p before) same ∙ ap (told program) first in (
+      typing,
+      is ∙ ap (λ (cs : List LinkedClass). certificate_of cs given.policy given.mode after) all ∙ ap (certificate_of given.client.classes given.policy given.mode) typing,
+    )
+
+pub program_with-requires-clause-room : goal.program_with-requires-clause-room
+program_with-requires-clause-room c =
+    subst (λ (p : Planned). HaveRoom (plan_of p.policy p.mode) c.args.given.client.classes c.args.made.files) (sym c.new-plan.ensures.is) c.requires.expected.room
+
+pub new-requires : goal.new-requires
+new-requires c =
+    let same = made_by c.args.given c.args.made c.new-plan.result c.in_ok-woven.woven c.new-plan.ensures.is c.in_ok-woven.ensures.is in
+    (subst IsInOrder (sym same) c.requires.expected.order).ends
+
+pub judged-requires-clause-sound : goal.judged-requires-clause-sound
+judged-requires-clause-sound c =
+    let same = made_by c.args.given c.args.made c.new-plan.result c.in_ok-program.program c.new-plan.ensures.is (c.in_ok-program.ensures ∙ c.in_ok-woven.ensures.is) in
+    subst IsSound (sym same) c.requires.expected.sound
+
+pub judged-requires-clause-accepted : goal.judged-requires-clause-accepted
+judged-requires-clause-accepted c =
+    let given = c.args.given in
+    let program = c.in_ok-program.program in
+    let same = made_by given c.args.made c.new-plan.result program c.new-plan.ensures.is (c.in_ok-program.ensures ∙ c.in_ok-woven.ensures.is) in
+    let is = certificate_is given program c.program-2.result.now c.in_ok-typing.typing c.in_ok-typing-2.typing c.as_slice.result.now c.in_ok-certificate.certificate c.in_ok-typing.ensures c.program-2.ensures
+    c.in_ok-typing-2.ensures.is (c.as_slice.ensures ∙ c.in_ok-woven.ensures.old) c.in_ok-certificate.ensures in
+    let accepted = subst (λ (p : Program). IsAccepted p given.policy (certificate_for given p)) (sym same) c.requires.expected.accepted in
+    subst (λ (x : Certificate). IsAccepted program given.policy x) (sym is.1) accepted
 
 pub returns-clause-steps : goal.returns-clause-steps
 returns-clause-steps c =
     let given = c.args.given in
     let program = c.in_ok-program.program in
-    let links : woven_links c.args.made.files given.client.listing c.args.words.now.main.now ≡ Ok program = linked_by _ program (sym c.in_ok-program.ensures.is) in
-    let typing : c.in_ok-typing-2.typing ≡ told program (typing_of given.client given.policy given.mode given.typing) =
-    c.in_ok-typing-2.ensures.is ∙ ap (λ (p : Program). told p c.in_ok-typing.typing) c.program-2.ensures ∙ ap (told program) c.in_ok-typing.ensures in
-    let is : c.in_ok-certificate.certificate ≡ certificate_for given program =
-    c.in_ok-certificate.ensures ∙ ap (λ cs. certificate_of cs given.policy given.mode c.in_ok-typing-2.typing) c.as_slice.ensures ∙ ap (certificate_of given.client.classes given.policy given.mode) typing in
+    let same = made_by given c.args.made c.new-plan.result program c.new-plan.ensures.is (c.in_ok-program.ensures ∙ c.in_ok-woven.ensures.is) in
+    let links : woven_links c.args.made.files given.client.listing c.args.words.now.main.now ≡ Ok program = c.requires.expected.links ∙ ap (λ (p : Program). Ok p) (sym same) in
+    let is = certificate_is given program c.program-2.result.now c.in_ok-typing.typing c.in_ok-typing-2.typing c.as_slice.result.now c.in_ok-certificate.certificate c.in_ok-typing.ensures c.program-2.ensures
+    c.in_ok-typing-2.ensures.is (c.as_slice.ensures ∙ c.in_ok-woven.ensures.old) c.in_ok-certificate.ensures in
     remakes c.args.words.now.main.now c.args.words.now.folder.now given c.args.made program links
-    (subst (λ (x : Certificate). IsAccepted program given.policy x) is c.judged.ensures.accepted) c.judged.result
-    (subst (λ (x : Certificate). Accepts c.args.words.now.folder.now given.policy program x c.judged.result) is c.judged.ensures.accepts)
+    (subst (λ (x : Certificate). IsAccepted program given.policy x) is.1 c.judged.ensures.accepted) c.judged.result
+    (subst (λ (x : Certificate). Accepts c.args.words.now.folder.now given.policy program x c.judged.result) is.1 c.judged.ensures.accepts)
 
 pub returns-clause-rewoven : goal.returns-clause-rewoven
 returns-clause-rewoven c =
     let given = c.args.given in
+    let expected = c.requires.expected in
     let program = c.in_ok-program.program in
-    let links : woven_links c.args.made.files given.client.listing c.args.words.now.main.now ≡ Ok program = linked_by _ program (sym c.in_ok-program.ensures.is) in
-    let typing : c.in_ok-typing-2.typing ≡ told program (typing_of given.client given.policy given.mode given.typing) =
-    c.in_ok-typing-2.ensures.is ∙ ap (λ (p : Program). told p c.in_ok-typing.typing) c.program-2.ensures ∙ ap (told program) c.in_ok-typing.ensures in
-    let is : c.in_ok-certificate.certificate ≡ certificate_for given program =
-    c.in_ok-certificate.ensures ∙ ap (λ cs. certificate_of cs given.policy given.mode c.in_ok-typing-2.typing) c.as_slice.ensures ∙ ap (certificate_of given.client.classes given.policy given.mode) typing in
-    let sound = c.in_ok-program.ensures.sound in
-    known_rewoven (inline_named c.args.words.now) given c.args.made program links c.in_ok-program.ensures.back sound
-    (subst (λ (x : Certificate). IsAccepted program given.policy x) is c.judged.ensures.accepted)
-    (subst (λ (m : Mode). Secure m program given.policy) (ap (λ (x : Certificate). x.mode) is) c.judged.ensures.secure)
-    (spells_for c.args.words.now.main.now given c.args.made c.requires.expected program links sound (subst FitsTyping typing c.in_ok-typing-2.ensures.fits)) c.judged.result
-    (subst (λ (x : Certificate). IfOk c.judged.result (λ (ready : Ready). verdict program given.policy x ≡ Ok ready.accepted)) is c.judged.ensures.verdict)
-    (subst (λ (x : Certificate). IfOk c.judged.result (λ (ready : Ready). is_written x ≡ true)) is c.judged.ensures.written)
-    (subst (λ (x : Certificate). IfOk c.judged.result (λ (ready : Ready). ready.outputs ≡ outputs_of c.args.words.now.folder.now program x)) is c.judged.ensures.outputs)
+    let same = made_by given c.args.made c.new-plan.result program c.new-plan.ensures.is (c.in_ok-program.ensures ∙ c.in_ok-woven.ensures.is) in
+    let links : woven_links c.args.made.files given.client.listing c.args.words.now.main.now ≡ Ok program = expected.links ∙ ap (λ (p : Program). Ok p) (sym same) in
+    let is = certificate_is given program c.program-2.result.now c.in_ok-typing.typing c.in_ok-typing-2.typing c.as_slice.result.now c.in_ok-certificate.certificate c.in_ok-typing.ensures c.program-2.ensures
+    c.in_ok-typing-2.ensures.is (c.as_slice.ensures ∙ c.in_ok-woven.ensures.old) c.in_ok-certificate.ensures in
+    let back = subst (λ (p : Program). unlinked p ≡ c.args.made.files) (sym same) expected.back in
+    let sound = subst IsSound (sym same) expected.sound in
+    let spells = subst (λ (p : Program). FitsTyping (certificate_for given p).typing → is_written (certificate_for given p) ≡ true → CanSpell (length given.policy.vars) (certificate_for given p)) (sym same) expected.spells in
+    known_rewoven (inline_named c.args.words.now) given c.args.made program links back sound
+    (subst (λ (x : Certificate). IsAccepted program given.policy x) is.1 c.judged.ensures.accepted)
+    (subst (λ (m : Mode). Secure m program given.policy) (ap (λ (x : Certificate). x.mode) is.1) c.judged.ensures.secure)
+    (spells (subst FitsTyping is.0 c.in_ok-typing-2.ensures.fits)) c.judged.result
+    (subst (λ (x : Certificate). IfOk c.judged.result (λ (ready : Ready). verdict program given.policy x ≡ Ok ready.accepted)) is.1 c.judged.ensures.verdict)
+    (subst (λ (x : Certificate). IfOk c.judged.result (λ (ready : Ready). is_written x ≡ true)) is.1 c.judged.ensures.written)
+    (subst (λ (x : Certificate). IfOk c.judged.result (λ (ready : Ready). ready.outputs ≡ outputs_of c.args.words.now.folder.now program x)) is.1 c.judged.ensures.outputs)

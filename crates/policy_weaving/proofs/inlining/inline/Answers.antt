@@ -1,7 +1,6 @@
 use Rattle.std.proofs.Common.{◌≡◌, ◌≢◌, IfErr, IsOk, List, None, Some, sym, subst, FitsSigned}
 use Rattle.std.specs.Int.{w32}
 use Rattle.std.specs.List.{AllByRecursion}
-use Rattle.cert_format.specs.declared.certificate.Mode.TheVariants.{Hold}
 use Rattle.mon_base.specs.Answer.{Answers}
 use Rattle.conspec_tree.specs.declared.types.Var.{Var}
 use Rattle.offset_patch.specs.Plan.{IsGood, Plan}
@@ -12,21 +11,21 @@ use Rattle.class_weaving.specs.Woven.{woven}
 use Rattle.block_template.specs.Blocks.{Planned, plan_of}
 use Rattle.block_template.specs.Pushing.{bools_in}
 use Rattle.block_template.proofs.Goods.{firsts_fit}
-use Rattle.inline_hold.proofs.inlining.inline.Goals as goal
+use Rattle.policy_weaving.proofs.inlining.inline.Goals as goal
 
 abbrev plan_in : Planned → Plan
 plan_in planned = plan_of planned.policy planned.mode
 
 pub weave-requires-clause-good : goal.weave-requires-clause-good
 weave-requires-clause-good c =
-    let plan = plan_of c.args.policy.now Hold in
+    let plan = plan_of c.args.policy.now c.args.mode in
     let good = subst (λ vars. IsGood (bools_in vars) plan) (sym c.as_slice.ensures) c.new-plan.ensures.good in
     subst (λ planned. IsGood (bools_in c.as_slice.result.now) (plan_in planned)) (sym c.new-plan.ensures.is) good
 
 pub returns-clause-exact : goal.returns-clause-exact
 returns-clause-exact c =
     let Exact : Planned → List Var → Type 0 = λ planned vars. Answers Memory c.weave.result (woven c.args.program.now (plan_in planned) vars) in
-    subst (Exact (record { policy = c.args.policy.now; mode = Hold })) c.as_slice.ensures
+    subst (Exact (record { policy = c.args.policy.now; mode = c.args.mode })) c.as_slice.ensures
     (subst (λ planned. Exact planned c.as_slice.result.now) c.new-plan.ensures.is c.weave.ensures.exact)
 
 pub returns-clause-fits : goal.returns-clause-fits

@@ -3,7 +3,6 @@
 ghost use Rattle.std.specs.Prelude.{◌≡◌, ◌≢◌, IfErr, IfOk, IsOk, None, Some};
 ghost use Rattle.std.specs.List.{AllByRecursion};
 ghost use Rattle.class_codec.specs.Fits.{CanSpell};
-ghost use Rattle.cert_format.specs.declared.certificate.Mode.TheVariants.{Release};
 ghost use Rattle.bytecode_model.specs.Sound.{IsSound};
 ghost use Rattle.conspec_automaton.specs.Sound.{IsPolicy};
 ghost use Rattle.mon_base.specs.Answer.{Answers};
@@ -23,17 +22,22 @@ use std::alloc::Global;
 
 /// The class files of a program with a block for each call of a method that the policy has a clause for, and behind them
 /// `conspec/State`; or the first size that does not fit.
-pub fn inline(alloc: Global, program: &Program, policy: &Policy) -> Result<Woven, SpliceFault>
+pub fn inline(
+    alloc: Global,
+    program: &Program,
+    policy: &Policy,
+    mode: Mode,
+) -> Result<Woven, SpliceFault>
     requires sound { IsSound program.now }
     requires policy { IsPolicy policy.now }
-    ensures exact { Answers SpliceFault.Memory result (woven program.now (plan_of policy.now Release) policy.now.vars) }
+    ensures exact { Answers SpliceFault.Memory result (woven program.now (plan_of policy.now mode) policy.now.vars) }
     // Each size fits, or the first that does not is the fault.
-    ensures fits { IsOk result → first_unfit (program_sizes program.now (plan_of policy.now Release)) ≡ None }
+    ensures fits { IsOk result → first_unfit (program_sizes program.now (plan_of policy.now mode)) ≡ None }
     ensures unfit { IfErr result (λ fault. fault ≢ Memory
-        → first_unfit (program_sizes program.now (plan_of policy.now Release)) ≡ Some fault) }
+        → first_unfit (program_sizes program.now (plan_of policy.now mode)) ≡ Some fault) }
     // The files can be written.
     ensures spells { IfOk result (λ made. AllByRecursion CanSpell made.files) }
 {
-    let plan = PolicyPlan::new(policy, Mode::Release);
+    let plan = PolicyPlan::new(policy, mode);
     weave(alloc, program, &plan, policy.vars.as_slice())
 }

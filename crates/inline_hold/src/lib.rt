@@ -1,6 +1,0 @@
-//! The weaving of a policy into a program in mode hold: a block holds the lock over the call. (docs/BLOCKS.md)
-#![tactic(auto)]
-
-mod inlining;
-
-pub use inlining::inline;
