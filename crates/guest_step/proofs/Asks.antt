@@ -20,7 +20,7 @@ use Rattle.guest_model.specs.Changes.{Change, World}
 use Rattle.guest_model.specs.Enabled.{IsEnabled, MayStep}
 use Rattle.guest_model.specs.Stepping.{is_on_null}
 use Rattle.guest_tables.specs.declared.library.Gives.{Gives}
-use Rattle.guest_tables.specs.Answering.{method_takes}
+use Rattle.guest_step.specs.Fitting.{method_takes}
 use Rattle.guest_tables.specs.Library.{gives}
 use Rattle.guest_step.specs.Asking.{EnabledAreSteps, FittingAreSteps, doing_takes, is_enabled, takes_answer}
 use Rattle.guest_step.specs.Ending.{can_step}

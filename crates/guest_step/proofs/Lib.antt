@@ -6,5 +6,6 @@ mod InFrame
 mod Called
 mod NextWaits
 mod Ends
+mod Given
 mod Asks
 mod Runs

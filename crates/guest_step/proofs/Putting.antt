@@ -1,5 +1,5 @@
 -- The thread that acted, put back among the others.
-use Rattle.std.proofs.Common.{◌≡◌, ℕ, zero, suc, ◌+◌, ◌<◌, List, [], ◌∷◌, ◌++◌, length, Option, Some, None, Result, Ok, Err, refl, sym, ap, ◌∙◌, arith}
+use Rattle.std.proofs.Common.{◌≡◌, ℕ, zero, suc, ◌<◌, List, [], ◌∷◌, ◌++◌, length, Option, Some, None, Result, Ok, Err, refl, sym, ap, ◌∙◌, arith}
 use Rattle.std.specs.Prelude.{IsSomeAnd, slice_get, slice_set, option_map}
 use Rattle.std.specs.Option.{option_or, option_to_list}
 use Rattle.std.proofs.lemmas.List.{append-nil, length-append, length-set, set-append_left}

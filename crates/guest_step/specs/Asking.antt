@@ -12,7 +12,7 @@ use Rattle.guest_model.specs.declared.machine.Choice.TheVariants as choices
 use Rattle.guest_model.specs.declared.machine.Machine.{Machine}
 use Rattle.guest_model.specs.Enabled.{IsEnabled}
 use Rattle.guest_model.specs.Stepping.{is_on_null}
-use Rattle.guest_tables.specs.Answering.{method_takes}
+use Rattle.guest_step.specs.Fitting.{method_takes}
 use Rattle.guest_step.specs.Ending.{can_step}
 
 -- whether the thread with this number can, if there is one and the program goes on

@@ -9,33 +9,42 @@ ghost use Rattle.guest_model.specs.Stepping.{call_stepped, is_on_null};
 ghost use Rattle.guest_model.specs.Throwing.{bare_object};
 ghost use Rattle.guest_threads.specs.Acts.{ActsIn};
 
+use crate::fitting::fits_call;
 use api_listing::{ApiAnswer, ApiValue, Event};
 use guest_frames::is_null;
 use guest_heap::{Object, Thread, Value, new_object};
 use guest_model::{Choice, Machine, Thrown};
-use guest_tables::{Guest, fits_call, value_shown};
+use guest_tables::{Guest, value_shown};
 use guest_threads::{StepFault, resume, throw_new};
 use mon_base::{Bytes, List, NoMemory};
 use std::alloc::Global;
+
+/// A call of the library by the thread with this number, which is in it: the method, its receiver and its arguments.
+#[derive(Clone, Copy)]
+pub struct InCall<'a> {
+    pub number: u32,
+    pub method: u32,
+    pub receiver: Option<Value>,
+    pub args: &'a [Value],
+}
 
 /// The caller goes on with what is given, and the library sees the return.
 fn finish(
     alloc: Global,
     guest: &Guest,
     machine: &Machine,
-    number: u32,
     thread: &mut Thread,
-    method: u32,
+    call: &InCall,
     value: Option<Value>,
 ) -> Result<Option<Event>, StepFault>
     ensures { ActsIn result machine.now machine.now thread.old thread.new
-        (returned_by guest.now number thread.old method (world_of machine.now, value)) }
+        (returned_by guest.now call.now.number thread.old call.now.method (world_of machine.now, value)) }
 {
     let shown = shown_if_any(alloc, guest, &machine.heap, value)?;
     resume(alloc, guest.indexed(), thread, value)?;
     Ok(Some(Event::Return {
-        thread: number,
-        method,
+        thread: call.number,
+        method: call.method,
         value: shown,
     }))
 }
@@ -60,13 +69,12 @@ fn finish_with(
     alloc: Global,
     guest: &Guest,
     machine: &mut Machine,
-    number: u32,
     thread: &mut Thread,
-    method: u32,
+    call: &InCall,
     object: Object,
 ) -> Result<Option<Event>, StepFault>
     ensures { ActsIn result machine.old machine.new thread.old thread.new
-        (returned_by guest.now number thread.old method
+        (returned_by guest.now call.now.number thread.old call.now.method
         (with_object (world_of machine.old) object, Some (values.Ref (length machine.old.heap)))) }
 {
     if machine.heap.len() >= u32::MAX as usize {
@@ -74,7 +82,7 @@ fn finish_with(
     }
     let at = new_object(&mut machine.heap, object)?;
     let value = Some(Value::Ref(at));
-    let made = finish(alloc, guest, machine, number, thread, method, value);
+    let made = finish(alloc, guest, machine, thread, call, value);
     if made.is_err() {
         machine.heap.pop();
     }
@@ -86,23 +94,22 @@ fn throw_in_call(
     alloc: Global,
     guest: &Guest,
     machine: &mut Machine,
-    number: u32,
     thread: &mut Thread,
-    method: u32,
+    call: &InCall,
     class: &[u8],
 ) -> Result<Option<Event>, StepFault>
     ensures { ActsIn result machine.old machine.new thread.old thread.new
-        (thrown_by_library guest.now (world_of machine.old) number thread.old method class.now) }
+        (thrown_by_library guest.now (world_of machine.old) call.now.number thread.old call.now.method class.now) }
 {
     let event = Event::Except {
-        thread: number,
-        method,
+        thread: call.number,
+        method: call.method,
     };
     throw_new(
         alloc,
         guest.indexed(),
         machine,
-        number,
+        call.number,
         thread,
         class,
         Some(event),
@@ -114,42 +121,40 @@ fn take(
     alloc: Global,
     guest: &Guest,
     machine: &mut Machine,
-    number: u32,
     thread: &mut Thread,
-    method: u32,
-    receiver: Option<Value>,
-    args: &[Value],
+    call: &InCall,
     answer: &ApiAnswer,
 ) -> Result<Option<Event>, StepFault>
     ensures { ActsIn result machine.old machine.new thread.old thread.new
-        (answered_well guest.now (world_of machine.old) number thread.old method receiver args.now answer.now) }
+        (answered_well guest.now (world_of machine.old) call.now.number thread.old call.now.method call.now.receiver
+        call.now.args.now answer.now) }
 {
     let value = match answer {
         ApiAnswer::Text(text) => {
             let object = Object::Text(text.copy(alloc)?);
-            return finish_with(alloc, guest, machine, number, thread, method, object);
+            return finish_with(alloc, guest, machine, thread, call, object);
         }
         ApiAnswer::Fresh(class) => {
             let object = bare_object(alloc, class)?;
-            return finish_with(alloc, guest, machine, number, thread, method, object);
+            return finish_with(alloc, guest, machine, thread, call, object);
         }
         ApiAnswer::Throws(class) => {
             let class = class.as_slice();
-            return throw_in_call(alloc, guest, machine, number, thread, method, class);
+            return throw_in_call(alloc, guest, machine, thread, call, class);
         }
         ApiAnswer::Nothing => None,
         ApiAnswer::Int(n) => Some(Value::Int(*n)),
         ApiAnswer::Null => Some(Value::Null),
-        ApiAnswer::Arg(i) => match args.get(*i as usize) {
+        ApiAnswer::Arg(i) => match call.args.get(*i as usize) {
             Some(value) => Some(*value),
             None => return Err(StepFault::NotEnabled),
         },
-        ApiAnswer::Receiver => match receiver {
+        ApiAnswer::Receiver => match call.receiver {
             Some(value) => Some(value),
             None => return Err(StepFault::NotEnabled),
         },
     };
-    finish(alloc, guest, machine, number, thread, method, value)
+    finish(alloc, guest, machine, thread, call, value)
 }
 
 /// An object that was just made of a class without fields.
@@ -169,32 +174,28 @@ pub fn step_in_call(
     alloc: Global,
     guest: &Guest,
     machine: &mut Machine,
-    number: u32,
     thread: &mut Thread,
-    method: u32,
-    receiver: Option<Value>,
-    args: &[Value],
+    call: &InCall,
     choice: &Choice,
 ) -> Result<Option<Event>, StepFault>
     ensures { ActsIn result machine.old machine.new thread.old thread.new
-        (call_stepped guest.now (world_of machine.old) number thread.old method receiver args.now choice.now) }
+        (call_stepped guest.now (world_of machine.old) call.now.number thread.old call.now.method call.now.receiver
+        call.now.args.now choice.now) }
 {
-    let is_on_null = is_on_null(receiver);
+    let is_on_null = is_on_null(call.receiver);
     match choice {
         Choice::Plain => {
             if !is_on_null {
                 return Err(StepFault::NotEnabled);
             }
             let class = Thrown::NullPointer.name();
-            throw_in_call(alloc, guest, machine, number, thread, method, class)
+            throw_in_call(alloc, guest, machine, thread, call, class)
         }
         Choice::Answer(answer) => {
             if is_on_null {
                 return Err(StepFault::NotEnabled);
             }
-            answer_call(
-                alloc, guest, machine, number, thread, method, receiver, args, answer,
-            )
+            answer_call(alloc, guest, machine, thread, call, answer)
         }
     }
 }
@@ -214,21 +215,24 @@ fn answer_call(
     alloc: Global,
     guest: &Guest,
     machine: &mut Machine,
-    number: u32,
     thread: &mut Thread,
-    method: u32,
-    receiver: Option<Value>,
-    args: &[Value],
+    call: &InCall,
     answer: &ApiAnswer,
 ) -> Result<Option<Event>, StepFault>
     ensures { ActsIn result machine.old machine.new thread.old thread.new
-        (answered guest.now (world_of machine.old) number thread.old method receiver args.now answer.now) }
+        (answered guest.now (world_of machine.old) call.now.number thread.old call.now.method call.now.receiver
+        call.now.args.now answer.now) }
 {
-    let fits = fits_call(alloc, guest, &machine.heap, method, receiver, args, answer)?;
+    let fits = fits_call(
+        guest,
+        &machine.heap,
+        call.method,
+        call.receiver,
+        call.args,
+        answer,
+    );
     if !fits {
         return Err(StepFault::NotEnabled);
     }
-    take(
-        alloc, guest, machine, number, thread, method, receiver, args, answer,
-    )
+    take(alloc, guest, machine, thread, call, answer)
 }

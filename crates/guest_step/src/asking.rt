@@ -1,16 +1,16 @@
 //! What is asked of a machine before a step is made. (docs/MACHINE.md)
 
-ghost use Rattle.std.specs.Prelude.{IfOk, ◌≡◌};
+ghost use Rattle.std.specs.Prelude.{◌≡◌};
 ghost use Rattle.guest_step.specs.Asking.{EnabledAreSteps, FittingAreSteps, doing_takes, is_enabled, takes_answer};
 
 use crate::answering::is_on_null;
 use crate::ending::can_step;
+use crate::fitting::fits_call;
 use api_listing::ApiAnswer;
 use guest_heap::{Doing, Object};
 use guest_model::Machine;
-use guest_tables::{Guest, fits_call};
-use mon_base::{List, NoMemory};
-use std::alloc::Global;
+use guest_tables::Guest;
+use mon_base::List;
 
 /// Whether the thread with this number can make a step: some choice of it is enabled by the rules. It takes no memory.
 pub fn enabled(guest: &Guest, machine: &Machine, thread: u32) -> bool
@@ -26,54 +26,32 @@ pub fn enabled(guest: &Guest, machine: &Machine, thread: u32) -> bool
 }
 
 /// Whether the answer fits the call that the thread with this number is in, so that the step which takes it is enabled by the
-/// rules. It takes memory only to ask whether the items of an array implement an interface.
-pub fn answer_fits(
-    alloc: Global,
-    guest: &Guest,
-    machine: &Machine,
-    thread: u32,
-    answer: &ApiAnswer,
-) -> Result<bool, NoMemory>
-    ensures { IfOk result (λ fits. fits ≡ takes_answer guest.now machine.now thread answer.now) }
+/// rules. It takes no memory.
+pub fn answer_fits(guest: &Guest, machine: &Machine, thread: u32, answer: &ApiAnswer) -> bool
+    ensures { result ≡ takes_answer guest.now machine.now thread answer.now }
 {
     if machine.stopped.is_some() {
-        return Ok(false);
+        return false;
     }
     match machine.threads.as_slice().get(thread as usize) {
-        Some(acting) => doing_takes(alloc, guest, &machine.heap, &acting.doing, answer),
-        None => Ok(false),
+        Some(acting) => doing_takes(guest, &machine.heap, &acting.doing, answer),
+        None => false,
     }
 }
 
 /// Whether what a thread does takes the answer.
-fn doing_takes(
-    alloc: Global,
-    guest: &Guest,
-    heap: &List<Object>,
-    doing: &Doing,
-    answer: &ApiAnswer,
-) -> Result<bool, NoMemory>
-    ensures { IfOk result (λ fits. fits ≡ doing_takes guest.now heap.now doing.now answer.now) }
+fn doing_takes(guest: &Guest, heap: &List<Object>, doing: &Doing, answer: &ApiAnswer) -> bool
+    ensures { result ≡ doing_takes guest.now heap.now doing.now answer.now }
 {
     match doing {
-        Doing::Running | Doing::Ended => Ok(false),
+        Doing::Running | Doing::Ended => false,
         Doing::InCall {
             method,
             receiver,
             args,
         } => {
-            if is_on_null(*receiver) {
-                return Ok(false);
-            }
-            fits_call(
-                alloc,
-                guest,
-                heap,
-                *method,
-                *receiver,
-                args.as_slice(),
-                answer,
-            )
+            let (method, receiver, args) = (*method, *receiver, args.as_slice());
+            !is_on_null(receiver) && fits_call(guest, heap, method, receiver, args, answer)
         }
     }
 }

@@ -7,6 +7,7 @@ mod asking;
 mod builtins;
 mod calling;
 mod ending;
+mod fitting;
 mod replaying;
 mod running;
 mod starting;

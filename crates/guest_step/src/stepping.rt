@@ -12,7 +12,7 @@ ghost use Rattle.guest_threads.specs.Acts.{ActsIn, acting};
 ghost use Rattle.guest_threads.specs.Did.{Becomes, Did};
 ghost use Rattle.insn_codec.specs.declared.insn.Insn.{Insn};
 
-use crate::answering::step_in_call;
+use crate::answering::{InCall, step_in_call};
 use crate::calling::call;
 use crate::working::run_work;
 use api_listing::Event;
@@ -21,7 +21,7 @@ use guest_frames::local_step;
 use guest_heap::{Doing, Frame, Frames, Thread};
 use guest_model::{Choice, Machine, Step};
 use guest_tables::Guest;
-use guest_threads::{StepFault, enter_top, leave_top, return_from, throw_top};
+use guest_threads::{OnTop, StepFault, act_on_top, return_from};
 use insn_codec::{Heap, Insn, Shape, shape_of};
 use mon_base::List;
 use std::alloc::Global;
@@ -110,10 +110,13 @@ fn act_as(
             receiver,
             args,
         } => {
-            let args = args.as_slice();
-            step_in_call(
-                alloc, guest, machine, number, thread, *method, *receiver, args, choice,
-            )
+            let call = InCall {
+                number,
+                method: *method,
+                receiver: *receiver,
+                args: args.as_slice(),
+            };
+            step_in_call(alloc, guest, machine, thread, &call, choice)
         }
         Doing::Ended => Err(StepFault::NotEnabled),
     }
@@ -243,11 +246,12 @@ fn run_heap(
     ensures { ActsIn result machine.old machine.new thread.old thread.new (acting number thread.old thread.old.frames
         (λ (a : Acting). heap_stepped guest.now machine.old a what target.now)) }
 {
+    let program = guest.indexed();
     match what {
-        Heap::Throw => throw_top(alloc, guest.indexed(), machine, number, thread),
-        Heap::Enter => enter_top(alloc, guest.indexed(), machine, number, thread),
-        Heap::Exit => leave_top(alloc, guest.indexed(), machine, number, thread),
-        Heap::Return(kind) => return_from(alloc, guest.indexed(), machine, number, thread, kind),
+        Heap::Throw => act_on_top(alloc, program, machine, number, thread, OnTop::Throw),
+        Heap::Enter => act_on_top(alloc, program, machine, number, thread, OnTop::Enter),
+        Heap::Exit => act_on_top(alloc, program, machine, number, thread, OnTop::Leave),
+        Heap::Return(kind) => return_from(alloc, program, machine, number, thread, kind),
         Heap::Call(how) => call(alloc, guest, machine, number, thread, how, target),
         Heap::Constant
         | Heap::ReadItem(_)

@@ -37,7 +37,7 @@ pub fn work(
     match what {
         Heap::Constant => Ok(numbers::constant(guest, target, stack)),
         Heap::ReadItem(item) => Ok(read_item(item, heap, stack)),
-        Heap::WriteItem(item) => arrays::write_item(alloc, guest, item, heap, stack),
+        Heap::WriteItem(item) => Ok(arrays::write_item(guest, item, heap, stack)),
         Heap::Divide { remainder } => Ok(divide(remainder, stack)),
         Heap::ReadStatic => Ok(read_static(guest.program(), target, statics, stack)),
         Heap::WriteStatic => Ok(write_static(target, statics, stack)),
@@ -47,8 +47,8 @@ pub fn work(
         Heap::NewArray(kind) => make_numbers(alloc, kind, heap, stack),
         Heap::NewArrayOf => make_references(alloc, target, heap, stack),
         Heap::Length => tell_length(heap, stack),
-        Heap::Cast => objects::cast(alloc, guest, target, heap, stack),
-        Heap::IsInstance => objects::tell_instance(alloc, guest, target, heap, stack),
+        Heap::Cast => Ok(objects::cast(guest, target, heap, stack)),
+        Heap::IsInstance => Ok(objects::tell_instance(guest, target, heap, stack)),
         Heap::Call(_) | Heap::Throw | Heap::Enter | Heap::Exit | Heap::Return(_) => Ok(None),
     }
 }

@@ -2,4 +2,5 @@ pub mod GivenClasses
 pub mod Naming
 pub mod Nearest
 pub mod ObjectFields
+pub mod Searching
 mod Told

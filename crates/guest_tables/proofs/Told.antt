@@ -1,18 +1,14 @@
 -- What the tables tell of methods.
-use Rattle.std.proofs.Common.{◌≡◌, ℕ, List, map, Option, Some, None, refl, ap, ◌∙◌}
+use Rattle.std.proofs.Common.{◌≡◌, ℕ, List, Option, Some, None, refl, ap, ◌∙◌}
 use Rattle.std.specs.Prelude.{slice_get}
 use Rattle.std.specs.Option.{option_and_then, option_map}
 use Rattle.std.proofs.lemmas.Option.{slice_get-map}
-use Rattle.api_listing.specs.declared.types.ListedMethod.{ListedMethod}
 use Rattle.bytecode_model.specs.declared.program.LinkedClass.{LinkedClass}
 use Rattle.bytecode_model.specs.declared.program.Method.{Method}
 use Rattle.bytecode_model.specs.declared.program.Program.{Program}
-use Rattle.guest_model.specs.Answering.{result_class}
 use Rattle.guest_model.specs.Calls.{arity}
 use Rattle.guest_model.specs.Places.{method_at}
-use Rattle.guest_tables.specs.declared.library.Gives.{Gives}
 use Rattle.guest_tables.specs.Arities.{arities_of, class_arities}
-use Rattle.guest_tables.specs.Library.{gives}
 
 pub arity_given : (program : Program) (class method : ℕ)
     → option_and_then (λ (row : List ℕ). slice_get row method) (slice_get (arities_of program) class) ≡ option_map (λ (m : Method). arity m.desc) (method_at program class method)
@@ -24,10 +20,3 @@ arity_given program class method =
           ≡ option_map (λ (m : Method). arity m.desc) (option_and_then (λ (c : LinkedClass). slice_get c.methods method) o)
       by None = refl
       by (Some c) = slice_get-map (λ (m : Method). arity m.desc) c.methods method
-
--- what is given of a listed method has the class of its type
-pub class_of_type : (o : Option ListedMethod) (g : Gives) → Some g ≡ option_map (λ (m : ListedMethod). gives m.id.desc) o → g.class ≡ result_class g.of
-class_of_type None g e = absurd cc
-class_of_type (Some m) g e =
-    let same : g ≡ gives m.id.desc = cc in
-    rw same refl

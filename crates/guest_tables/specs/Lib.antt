@@ -2,5 +2,5 @@ pub mod Layout
 pub mod Methods
 pub mod Arities
 pub mod Library
-pub mod Answering
+pub mod Searched
 pub mod Tables

@@ -1,6 +1,6 @@
 //! How many arguments methods take, told once of each.
 
-ghost use Rattle.std.specs.Prelude.{IfOk, map, option_copied, slice_get, ◌≡◌};
+ghost use Rattle.std.specs.Prelude.{IfOk, map, ◌≡◌};
 ghost use Rattle.api_listing.specs.declared.types.ListedMethod.{ListedMethod};
 ghost use Rattle.bytecode_model.specs.declared.program.Method.{Method};
 ghost use Rattle.guest_model.specs.Calls.{arity};
@@ -59,21 +59,4 @@ pub fn arities_of(alloc: Global, program: &Program) -> Result<List<List<u8>>, No
         counts.push(class_arities(alloc, class)?)?;
     }
     Ok(counts)
-}
-
-/// The count in the place.
-pub fn count_at(counts: &List<u8>, place: u32) -> Option<u8>
-    ensures { result ≡ slice_get counts.now place }
-{
-    match counts.as_slice().get(place as usize) {
-        Some(count) => Some(*count),
-        None => None,
-    }
-}
-
-/// The counts in the place.
-pub fn counts_at(lists: &List<List<u8>>, place: u32) -> Option<&List<u8>>
-    ensures { option_copied result ≡ slice_get lists.now place }
-{
-    lists.as_slice().get(place as usize)
 }

@@ -1,19 +1,38 @@
 //! The places of fields in objects, which are made once.
 
-ghost use Rattle.std.specs.Prelude.{IfOk, filter, length, option_copied, slice_get, take, ◌+◌, ◌≡◌};
+ghost use Rattle.std.specs.Prelude.{IfOk, filter, length, slice_get, take, ◌+◌, ◌≡◌};
 ghost use Rattle.std.specs.Option.{option_map_or};
 ghost use Rattle.bytecode_model.specs.declared.program.LinkedClass.{LinkedClass};
 ghost use Rattle.guest_model.specs.Layout.{class_given, fields_of, is_in_objects};
 ghost use Rattle.guest_model.specs.Ready.{IsReady};
-ghost use Rattle.guest_tables.specs.Layout.{begins_of, counts_from, counts_of, own_count};
+ghost use Rattle.guest_tables.specs.Layout.{begins_of, counts_from, counts_of, own_count, places_of};
 
 use crate::given::{class_at, class_given, given_index};
+use crate::items::item_at;
 use crate::layout::is_in_objects;
 use bytecode_model::Program;
 use class_codec::Member;
 use mon_base::{List, NoMemory};
 use std::alloc::Global;
 use type_lattice::Indexed;
+
+/// How many fields the objects of the superclass of each given class have; and of each field of each given class, and behind the
+/// last, how many of the fields before it are in objects.
+#[derive(Debug, Drop)]
+pub struct Places {
+    pub begins: List<u32>,
+    pub counts: List<List<u32>>,
+}
+
+/// Where the fields of the given classes are.
+pub fn places_of(alloc: Global, program: &Indexed) -> Result<Places, NoMemory>
+    requires { IsReady program.now }
+    ensures { IfOk result (λ places. places ≡ places_of program.now) }
+{
+    let counts = counts_of(alloc, program.program())?;
+    let begins = begins_of(alloc, program, &counts)?;
+    Ok(Places { begins, counts })
+}
 
 /// Of each field, and behind the last, how many of the fields before it are in objects.
 fn counts_in(alloc: Global, fields: &[Member]) -> Result<List<u32>, NoMemory>
@@ -33,23 +52,6 @@ fn counts_in(alloc: Global, fields: &[Member]) -> Result<List<u32>, NoMemory>
     Ok(counts)
 }
 
-/// The number in the place.
-pub fn number_at(numbers: &List<u32>, place: u32) -> Option<u32>
-    ensures { result ≡ slice_get numbers.now place }
-{
-    match numbers.as_slice().get(place as usize) {
-        Some(number) => Some(*number),
-        None => None,
-    }
-}
-
-/// The numbers in the place.
-pub fn numbers_at(lists: &List<List<u32>>, place: u32) -> Option<&List<u32>>
-    ensures { option_copied result ≡ slice_get lists.now place }
-{
-    lists.as_slice().get(place as usize)
-}
-
 /// How many of the fields before this one are in objects.
 pub fn count_before(counts: &[u32], fields: &[Member], field: usize) -> u32
     requires { counts.now ≡ counts_from 0 fields.now }
@@ -64,7 +66,7 @@ pub fn count_before(counts: &[u32], fields: &[Member], field: usize) -> u32
 }
 
 /// The same of each given class.
-pub fn counts_of(alloc: Global, program: &Program) -> Result<List<List<u32>>, NoMemory>
+fn counts_of(alloc: Global, program: &Program) -> Result<List<List<u32>>, NoMemory>
     ensures { IfOk result (λ counts. counts ≡ counts_of program.now) }
 {
     let mut counts = List::new(alloc);
@@ -91,7 +93,7 @@ fn own_count_at(program: &Program, counts: &List<List<u32>>, class: u32) -> u32
     let Some(of) = class_at(program, class) else {
         return 0;
     };
-    let Some(counts) = numbers_at(counts, class) else {
+    let Some(counts) = item_at(counts, class) else {
         return 0;
     };
     own_count(counts.as_slice(), of.file.fields.as_slice())
@@ -131,7 +133,7 @@ fn count_of(program: &Indexed, counts: &List<List<u32>>, name: &[u8]) -> Result<
 }
 
 /// How many fields the objects of the superclass of each given class have.
-pub fn begins_of(
+fn begins_of(
     alloc: Global,
     program: &Indexed,
     counts: &List<List<u32>>,

@@ -1,32 +1,31 @@
 //! Linked programs that are ready to run, with tables that are made once.
 
-ghost use Rattle.std.specs.Prelude.{IfOk, OnOk, length, map, option_and_then, option_copied, option_map, slice_get, ◌++◌, ◌≡◌};
+ghost use Rattle.std.specs.Prelude.{IfOk, length, option_and_then, option_copied, option_map, slice_get, ◌≡◌};
 ghost use Rattle.api_listing.specs.Listing.{is_known};
 ghost use Rattle.api_listing.specs.declared.types.ListedMethod.{ListedMethod};
 ghost use Rattle.bytecode_model.specs.declared.program.Method.{Method};
 ghost use Rattle.bytecode_model.specs.Classes.{classes_of, is_below, is_interface};
-ghost use Rattle.bytecode_model.specs.Heads.{head_of};
-ghost use Rattle.bytecode_model.specs.SearchOrder.{is_one_of, search_order};
 ghost use Rattle.bytecode_model.specs.declared.program.LinkedClass.{LinkedClass};
 ghost use Rattle.guest_model.specs.Answering.{is_listed_class};
 ghost use Rattle.guest_model.specs.Calling.{desc_named};
 ghost use Rattle.guest_model.specs.Calls.{arity, name_at};
 ghost use Rattle.guest_model.specs.Finding.{declared_in, given_index};
+ghost use Rattle.guest_model.specs.Kinds.{implements};
 ghost use Rattle.guest_model.specs.Layout.{class_given, place_of_field};
 ghost use Rattle.guest_model.specs.Places.{class_index, method_at};
 ghost use Rattle.guest_model.specs.Ready.{IsReady};
 ghost use Rattle.guest_tables.specs.Library.{gives};
 
-use crate::arities::{arities_of, count_at, counts_at};
-use crate::fields::{begins_of, count_before, counts_of, number_at, numbers_at};
+use crate::fields::count_before;
 use crate::given::{class_given, class_index, given_index, listed_place};
-use crate::library::{Gives, Library, gives_at, library_of, truth_at};
-use crate::methods::{Methods, method_in, methods_at, methods_of};
-use api_listing::ListedClass;
+use crate::items::{copy_at, item_at};
+use crate::library::{Gives, truth_at};
+use crate::methods::method_in;
+use crate::searched::is_searched;
+use crate::tables::{Tables, tables_of};
 use bytecode_model::{LinkedClass, Method, Program, Target};
-use class_index::{Classes, head_of, search_order};
 use guest_model::arity_of_row;
-use mon_base::{Bytes, List, NoMemory};
+use mon_base::{Bytes, NoMemory};
 use std::alloc::Global;
 use std::marker::Model;
 use type_lattice::{Indexed, is_below, is_interface};
@@ -35,16 +34,7 @@ use type_lattice::{Indexed, is_below, is_interface};
 #[derive(Drop)]
 pub struct Guest {
     program: Indexed,
-    classes: Classes,
-    /// The methods of each given class by their names and descriptors.
-    methods: List<Methods>,
-    /// How many fields the objects of the superclass of each given class have.
-    begins: List<u32>,
-    /// Of each field of each given class, and behind the last, how many of the fields before it are in objects.
-    counts: List<List<u32>>,
-    /// How many arguments each method of each given class takes.
-    arities: List<List<u8>>,
-    library: Library,
+    tables: Tables,
 }
 
 impl Model for Guest {
@@ -55,7 +45,7 @@ impl Model for Guest {
 
     ghost view = { λ g. g.program };
 
-    ghost invariant = { λ g. IsGuest g.program g.classes g.methods g.begins g.counts g.arities g.library };
+    ghost invariant = { λ g. IsGuest g.program g.tables };
 }
 
 impl Guest {
@@ -64,22 +54,8 @@ impl Guest {
         requires { IsReady program }
         ensures { IfOk result (λ guest. guest ≡ program) }
     {
-        let classes = classes_of(alloc, program.program())?;
-        let classes = Classes::new(alloc, classes)?;
-        let methods = methods_of(alloc, program.program())?;
-        let counts = counts_of(alloc, program.program())?;
-        let begins = begins_of(alloc, &program, &counts)?;
-        let arities = arities_of(alloc, program.program())?;
-        let library = library_of(alloc, &program.program().listing)?;
-        Ok(Guest {
-            program,
-            classes,
-            methods,
-            begins,
-            counts,
-            arities,
-            library,
-        })
+        let tables = tables_of(alloc, &program)?;
+        Ok(Guest { program, tables })
     }
 
     /// The program.
@@ -130,7 +106,7 @@ impl Guest {
     pub fn declared(&self, class: u32, name: &[u8], desc: &[u8]) -> Option<u32>
         ensures { result ≡ option_and_then (declared_in name.now desc.now) (slice_get self.now.classes class) }
     {
-        match methods_at(&self.methods, class) {
+        match item_at(&self.tables.methods.named, class) {
             Some(methods) => method_in(methods, name, desc),
             None => None,
         }
@@ -148,8 +124,8 @@ impl Guest {
         ensures { result ≡ option_map (λ (c : LinkedClass). place_of_field self.now c field) (slice_get self.now.classes class) }
     {
         let of = self.class(class)?;
-        let begin = number_at(&self.begins, class)?;
-        let counts = numbers_at(&self.counts, class)?;
+        let begin = copy_at(&self.tables.fields.begins, class)?;
+        let counts = item_at(&self.tables.fields.counts, class)?;
         let before = count_before(counts.as_slice(), of.file.fields.as_slice(), field as usize);
         Some(begin as usize + before as usize)
     }
@@ -182,15 +158,15 @@ impl Guest {
     fn listed_arity(&self, index: u32) -> Option<u8>
         ensures { result ≡ option_map (λ (m : ListedMethod). arity m.id.desc) (slice_get self.now.listing.methods index) }
     {
-        count_at(&self.library.arities, index)
+        copy_at(&self.tables.library.arities, index)
     }
 
     /// The same of a given one.
     fn given_arity(&self, class: u32, method: u32) -> Option<u8>
         ensures { result ≡ option_map (λ (m : Method). arity m.desc) (method_at self.now class method) }
     {
-        match counts_at(&self.arities, class) {
-            Some(counts) => count_at(counts, method),
+        match item_at(&self.tables.methods.arities, class) {
+            Some(counts) => copy_at(counts, method),
             None => None,
         }
     }
@@ -199,7 +175,7 @@ impl Guest {
     pub fn gives(&self, method: u32) -> Option<&Gives>
         ensures { option_copied result ≡ option_map (λ (m : ListedMethod). gives m.id.desc) (slice_get self.now.listing.methods method) }
     {
-        gives_at(&self.library.gives, method)
+        item_at(&self.tables.library.gives, method)
     }
 
     /// Whether the class is one of the listing, or built in.
@@ -217,7 +193,7 @@ impl Guest {
         ensures { result ≡ is_listed_class self.now name.now }
     {
         match listed_place(&self.program, name) {
-            Some(place) => truth_at(&self.library.fresh, place),
+            Some(place) => truth_at(&self.tables.library.fresh, place),
             None => false,
         }
     }
@@ -240,59 +216,22 @@ impl Guest {
     pub fn class_name(&self, alloc: Global, place: u32) -> Result<Bytes, NoMemory>
         ensures { IfOk result (λ name. name ≡ name_at (classes_of self.now) place) }
     {
-        match self.classes.as_slice().get(place as usize) {
+        match self.program.classes().get(place as usize) {
             Some(class) => class.name.copy(alloc),
             None => Ok(Bytes::new(alloc)),
         }
     }
 
-    /// Whether a member of the first class is looked for in the other.
-    pub fn is_searched(&self, alloc: Global, name: &[u8], other: &[u8]) -> Result<bool, NoMemory>
-        ensures { IfOk result (λ test. test ≡ is_one_of (search_order (classes_of self.now) name.now) other.now) }
+    /// Whether the other is an interface that the class has, itself or by what is above it.
+    pub fn implements(&self, name: &[u8], other: &[u8]) -> bool
+        ensures { result ≡ implements self.now name.now other.now }
     {
-        let name = Bytes::from_slice(alloc, name)?;
-        let order = search_order(alloc, &self.classes, &name)?;
-        Ok(is_one_of(order.as_slice(), other))
+        match self.class_index(other) {
+            Some(place) => {
+                let rows = &self.tables.rows;
+                self.is_interface(other) && is_searched(&self.program, rows, name, place)
+            }
+            None => false,
+        }
     }
-}
-
-/// Whether the name is one of these.
-fn is_one_of(names: &[Bytes], name: &[u8]) -> bool
-    ensures { result ≡ is_one_of names.now name.now }
-{
-    names.iter().any(|other| other.as_slice() == name)
-}
-
-/// The classes of the listing, and then what the file of each given class says of it.
-fn classes_of(alloc: Global, program: &Program) -> Result<List<ListedClass>, NoMemory>
-    ensures { IfOk result (λ classes. classes ≡ classes_of program.now) }
-{
-    let mut classes = copied(alloc, program.listing.classes.as_slice())?;
-    push_heads(alloc, &mut classes, program.classes.as_slice())?;
-    Ok(classes)
-}
-
-/// A copy of the classes.
-fn copied(alloc: Global, classes: &[ListedClass]) -> Result<List<ListedClass>, NoMemory>
-    ensures { IfOk result (λ copies. copies ≡ classes.now) }
-{
-    let mut copies = List::new(alloc);
-    for class in classes {
-        copies.push(class.copy(alloc)?)?;
-    }
-    Ok(copies)
-}
-
-/// Appends what the file of each class says of it.
-fn push_heads(
-    alloc: Global,
-    out: &mut List<ListedClass>,
-    classes: &[LinkedClass],
-) -> Result<(), NoMemory>
-    ensures { OnOk result (out.new ≡ out.old ++ map (λ (c : LinkedClass). head_of c.file) classes.now) }
-{
-    for class in classes {
-        out.push(head_of(alloc, &class.file)?)?;
-    }
-    Ok(())
 }

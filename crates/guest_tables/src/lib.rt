@@ -1,24 +1,25 @@
 //! Linked programs that are ready to run, with tables that are made once: their classes, methods and fields by their names; of which
-//! classes an object is, which method a call runs, what the library sees of a value, and which of its answers fit. (docs/MACHINE.md)
+//! classes an object is, which method a call runs, what the library sees of a value. (docs/MACHINE.md)
 #![tactic(auto)]
 
 mod arities;
 mod fields;
 mod finding;
-mod fitting;
 mod given;
 mod guest;
+mod items;
 mod kinds;
 mod layout;
 mod library;
 mod methods;
+mod searched;
 mod seen;
 mod spelling;
+mod tables;
 
 pub use finding::{client_run, is_run, method_run};
-pub use fitting::fits_call;
 pub use guest::Guest;
-pub use kinds::{is_instance, is_thread, reference_of};
+pub use kinds::{is_instance, is_thread};
 pub use layout::new_of;
 pub use library::Gives;
 pub use seen::{characters, string_of, value_shown, values_shown};

@@ -105,13 +105,6 @@ fn is_known(classes: &[ListedClass], name: &[u8]) -> bool
     classes.iter().any(|class| class.name.as_slice() == name)
 }
 
-/// What the method in the place gives.
-pub fn gives_at(results: &List<Gives>, place: u32) -> Option<&Gives>
-    ensures { option_copied result ≡ slice_get results.now place }
-{
-    results.as_slice().get(place as usize)
-}
-
 /// The truth in the place; false where there is none.
 pub fn truth_at(truths: &List<bool>, place: usize) -> bool
     ensures { result ≡ option_map_or (λ (b : Bool). b) (slice_get truths.now place) false }

@@ -10,8 +10,6 @@ ghost use Rattle.std.specs.Prelude.{
   bytes_eq,
   if◌then◌else◌,
   length,
-  option_copied,
-  slice_get,
   ℕ,
   ◌&&◌,
   ◌<◌,
@@ -19,8 +17,10 @@ ghost use Rattle.std.specs.Prelude.{
   ◌≡◌,
 };
 ghost use Rattle.guest_model.specs.Ready.{IsReady};
+ghost use Rattle.guest_tables.specs.Arities.{arities_of};
 ghost use Rattle.guest_tables.specs.Methods.{AreMethods, HasMethods, method_in, named};
 
+use crate::arities::arities_of;
 use bytecode_model::{Method, Program};
 use mon_base::{Bytes, List, NoMemory};
 use std::alloc::Global;
@@ -29,11 +29,22 @@ use std::collections::BTreeMap;
 /// The indices of methods by their names, and of those of one name by their descriptors.
 pub type Methods = BTreeMap<Vec<u8>, BTreeMap<Vec<u8>, u32>>;
 
-/// The methods of the class with this index.
-pub fn methods_at(tables: &List<Methods>, class: u32) -> Option<&Methods>
-    ensures { option_copied result ≡ slice_get tables.now class }
+/// The methods of each given class by their names and descriptors, and how many arguments each of them takes.
+#[derive(Drop)]
+pub struct MethodTables {
+    pub named: List<Methods>,
+    pub arities: List<List<u8>>,
+}
+
+/// The methods of the given classes.
+pub fn methods_of(alloc: Global, program: &Program) -> Result<MethodTables, NoMemory>
+    requires { IsReady program.now }
+    ensures named { IfOk result (λ tables. AreMethods tables.named program.now.classes) }
+    ensures arities { IfOk result (λ tables. tables.arities ≡ arities_of program.now) }
 {
-    tables.as_slice().get(class as usize)
+    let named = names_of(alloc, program)?;
+    let arities = arities_of(alloc, program)?;
+    Ok(MethodTables { named, arities })
 }
 
 /// The index of the method of this name and descriptor.
@@ -57,7 +68,7 @@ fn index_of(same_name: &BTreeMap<Vec<u8>, u32>, desc: &[u8]) -> Option<u32>
 }
 
 /// The methods of each given class.
-pub fn methods_of(alloc: Global, program: &Program) -> Result<List<Methods>, NoMemory>
+fn names_of(alloc: Global, program: &Program) -> Result<List<Methods>, NoMemory>
     requires { IsReady program.now }
     ensures { IfOk result (λ methods. AreMethods methods program.now.classes) }
 {

@@ -5,10 +5,10 @@ ghost use Rattle.api_listing.specs.Descriptor.{class_spelled, element_spelled, t
 ghost use Rattle.bytecode_model.specs.Assigning.{reference_of};
 ghost use Rattle.guest_model.specs.Answering.{result_class};
 
-use crate::kinds::reference_of;
 use api_listing::{Element, FieldType};
 use mon_base::{Bytes, NoMemory};
 use std::alloc::Global;
+use type_lattice::reference_of;
 
 /// The class, or the array, of a result that is no number.
 pub fn result_class(alloc: Global, of: &Option<FieldType>) -> Result<Option<Bytes>, NoMemory>

@@ -1,13 +1,14 @@
 //! Instructions that throw, and those that enter and leave monitors. (The Java Virtual Machine Specification, section 6.5, athrow,
 //! monitorenter and monitorexit.)
 
-ghost use Rattle.std.specs.Prelude.{option_and_then, slice_get, ◌≡◌};
+ghost use Rattle.std.specs.Prelude.{length, option_and_then, slice_get, ◌<◌, ◌≡◌};
 ghost use Rattle.guest_heap.specs.declared.frame.Frame.{Frame};
 ghost use Rattle.guest_model.specs.Changes.{world_of};
 ghost use Rattle.guest_model.specs.Monitors.{entered, left};
-ghost use Rattle.guest_model.specs.Stepping.{Acting, enters, leaves, throws_top};
+ghost use Rattle.guest_model.specs.Stepping.{Acting, left_with};
 ghost use Rattle.guest_threads.specs.Acts.{ActsIn, acting, past};
 ghost use Rattle.guest_threads.specs.Did.{Becomes};
+ghost use Rattle.guest_threads.specs.OnTop.{acts_on_top, goes_past, throws_object};
 
 use crate::fault::StepFault;
 use crate::frames::{go_to, place_behind};
@@ -28,16 +29,25 @@ fn top_operand(frames: &Frames) -> Option<Value>
     frames.top()?.stack.get(0)
 }
 
-/// What is on top is thrown.
-pub fn throw_top(
+/// What is done with what is on top: it is thrown, or its monitor is entered or left.
+#[derive(Clone, Copy, Debug, PartialEq, Eq)]
+pub enum OnTop {
+    Throw,
+    Enter,
+    Leave,
+}
+
+/// It is done with what is on top; null throws.
+pub fn act_on_top(
     alloc: Global,
     program: &Indexed,
     machine: &mut Machine,
     number: u32,
     thread: &mut Thread,
+    what: OnTop,
 ) -> Result<Option<Event>, StepFault>
     ensures { ActsIn result machine.old machine.new thread.old thread.new (acting number thread.old thread.old.frames
-        (λ (a : Acting). option_and_then (throws_top program.now (world_of machine.old) a) (slice_get a.frame.stack.items 0))) }
+        (λ (a : Acting). option_and_then (acts_on_top what program.now (world_of machine.old) a) (slice_get a.frame.stack.items 0))) }
 {
     let Some(value) = top_operand(&thread.frames) else {
         return Err(StepFault::NotEnabled);
@@ -46,6 +56,26 @@ pub fn throw_top(
         let class = Thrown::NullPointer.name();
         return throw_new(alloc, program, machine, number, thread, class, None);
     }
+    match what {
+        OnTop::Throw => throw_value(alloc, program, machine, number, thread, value),
+        OnTop::Enter => enter_monitor(machine, number, thread, value),
+        OnTop::Leave => leave_monitor(alloc, program, machine, number, thread, value),
+    }
+}
+
+/// The value is thrown, which is an object.
+fn throw_value(
+    alloc: Global,
+    program: &Indexed,
+    machine: &mut Machine,
+    number: u32,
+    thread: &mut Thread,
+    value: Value,
+) -> Result<Option<Event>, StepFault>
+    requires { 0 < length thread.old.frames }
+    ensures { ActsIn result machine.old machine.new thread.old thread.new (acting number thread.old thread.old.frames
+        (λ (a : Acting). throws_object program.now (world_of machine.old) a value)) }
+{
     let Some(class) = class_of_value(&machine.heap, value) else {
         return Err(StepFault::NotEnabled);
     };
@@ -61,62 +91,42 @@ pub fn throw_top(
     Ok(None)
 }
 
-/// The monitor of what is on top is entered.
-pub fn enter_top(
-    alloc: Global,
-    program: &Indexed,
+/// The monitor of the value is entered, and the thread goes on.
+fn enter_monitor(
     machine: &mut Machine,
     number: u32,
     thread: &mut Thread,
+    value: Value,
 ) -> Result<Option<Event>, StepFault>
+    requires { 0 < length thread.old.frames }
     ensures { ActsIn result machine.old machine.new thread.old thread.new (acting number thread.old thread.old.frames
-        (λ (a : Acting). option_and_then (enters program.now (world_of machine.old) a) (slice_get a.frame.stack.items 0))) }
+        (λ (a : Acting). goes_past (world_of machine.old) a (entered machine.old.monitors number value))) }
 {
-    let Some(value) = top_operand(&thread.frames) else {
-        return Err(StepFault::NotEnabled);
-    };
-    if is_null(value) {
-        let class = Thrown::NullPointer.name();
-        return throw_new(alloc, program, machine, number, thread, class, None);
-    }
-    enter_past(
-        &mut machine.monitors,
-        number,
-        thread.frames.top_mut(),
-        value,
-    )?;
+    let frame = thread.frames.top_mut();
+    enter_past(&mut machine.monitors, number, frame, value)?;
     thread.doing = Doing::Running;
     Ok(None)
 }
 
-/// The monitor of what is on top is left.
-pub fn leave_top(
+/// The monitor of the value is left, and the thread goes on; it throws where it does not hold the monitor.
+fn leave_monitor(
     alloc: Global,
     program: &Indexed,
     machine: &mut Machine,
     number: u32,
     thread: &mut Thread,
+    value: Value,
 ) -> Result<Option<Event>, StepFault>
+    requires { 0 < length thread.old.frames }
     ensures { ActsIn result machine.old machine.new thread.old thread.new (acting number thread.old thread.old.frames
-        (λ (a : Acting). option_and_then (leaves program.now (world_of machine.old) a) (slice_get a.frame.stack.items 0))) }
+        (λ (a : Acting). left_with program.now (world_of machine.old) a (left machine.old.monitors number value))) }
 {
-    let Some(value) = top_operand(&thread.frames) else {
-        return Err(StepFault::NotEnabled);
-    };
-    if is_null(value) {
-        let class = Thrown::NullPointer.name();
-        return throw_new(alloc, program, machine, number, thread, class, None);
-    }
     if !holds(machine.monitors.as_slice(), number, value) {
         let class = Thrown::Monitor.name();
         return throw_new(alloc, program, machine, number, thread, class, None);
     }
-    leave_past(
-        &mut machine.monitors,
-        number,
-        thread.frames.top_mut(),
-        value,
-    )?;
+    let frame = thread.frames.top_mut();
+    leave_past(&mut machine.monitors, number, frame, value)?;
     thread.doing = Doing::Running;
     Ok(None)
 }

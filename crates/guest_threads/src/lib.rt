@@ -17,7 +17,7 @@ mod running;
 mod threads;
 mod throwing;
 
-pub use acting::{enter_top, leave_top, throw_top};
+pub use acting::{OnTop, act_on_top};
 pub use beginning::rest;
 pub use built::{exit, join, make_on};
 pub use fault::StepFault;

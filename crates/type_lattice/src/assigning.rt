@@ -172,7 +172,7 @@ fn class_name<'a>(name: &'a [u8]) -> Option<&'a [u8]>
 }
 
 /// The name in a component `Lname;`. A class is not named as an array is.
-fn named<'a>(component: &'a [u8]) -> Option<&'a [u8]>
+pub fn named<'a>(component: &'a [u8]) -> Option<&'a [u8]>
     ensures { option_copied result ≡ named component.now }
 {
     match component {

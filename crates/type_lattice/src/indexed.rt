@@ -10,6 +10,7 @@ ghost use Rattle.bytecode_model.specs.Places.{class_place};
 use crate::classes::classes_of;
 use crate::ending::each_way_ends;
 use crate::hierarchy::Hierarchy;
+use api_listing::ListedClass;
 use bytecode_model::Program;
 use mon_base::NoMemory;
 use std::alloc::Global;
@@ -63,6 +64,13 @@ impl Indexed {
         ensures { result.now ≡ self.now }
     {
         &self.program
+    }
+
+    /// The classes of the listing, and then what the file of each given class says of it.
+    pub fn classes(&self) -> &[ListedClass]
+        ensures { result.now ≡ classes_of self.now }
+    {
+        self.hierarchy.as_slice()
     }
 
     /// The program alone.

@@ -15,7 +15,7 @@ mod laws;
 mod merging;
 mod ways;
 
-pub use assigning::{assignable, fits_class, lent_fits};
+pub use assigning::{assignable, fits_class, lent_fits, named, reference_of};
 pub use hierarchy::Hierarchy;
 pub use indexed::{Indexed, class_place, is_below, is_interface};
 pub use laws::{assignable_is_an_order, merge_is_the_least};

@@ -1,6 +1,6 @@
 //! New objects, and of which classes objects are.
 
-ghost use Rattle.std.specs.Prelude.{IfOk, List, drop, option_and_then, ◌≡◌};
+ghost use Rattle.std.specs.Prelude.{List, Ok, drop, option_and_then, ◌≡◌};
 ghost use Rattle.bytecode_model.specs.SearchOrder.{Name};
 ghost use Rattle.guest_heap.specs.declared.object.Monitor.{Monitor};
 ghost use Rattle.guest_heap.specs.declared.value.Value.{Value};
@@ -36,84 +36,59 @@ pub fn make_object(
 }
 
 /// Throws unless the top operand is null, or an object of the class or the array that is named.
-pub fn cast(
-    alloc: Global,
-    guest: &Guest,
-    target: &Target,
-    heap: &List<Object>,
-    stack: &Stack,
-) -> Result<Option<Outcome>, NoMemory>
-    ensures { (statics : List (List Value)) → Works result (at heap.now statics stack.now) (at heap.now statics stack.now)
+pub fn cast(guest: &Guest, target: &Target, heap: &List<Object>, stack: &Stack) -> Option<Outcome>
+    ensures { (statics : List (List Value)) → Works (Ok result) (at heap.now statics stack.now) (at heap.now statics stack.now)
         (λ (world : World). option_and_then (λ (name : Name). casts guest.now world name stack.now.items) (name_named target.now)) }
 {
-    let Some(name) = name_named(target) else {
-        return Ok(None);
-    };
-    let Some(value) = operand_of(Kind::Reference, stack, 0) else {
-        return Ok(None);
-    };
-    let fits = is_cast(alloc, guest, heap, value, name.as_slice())?;
-    if fits {
-        Ok(Some(Outcome::Goes))
+    let name = name_named(target)?;
+    let value = operand_of(Kind::Reference, stack, 0)?;
+    if is_cast(guest, heap, value, name.as_slice()) {
+        Some(Outcome::Goes)
     } else {
-        Ok(Some(Outcome::Throws(Thrown::Cast)))
+        Some(Outcome::Throws(Thrown::Cast))
     }
 }
 
 /// Whether the value may be cast to the class or the array; null may be to each.
-fn is_cast(
-    alloc: Global,
-    guest: &Guest,
-    heap: &List<Object>,
-    value: Value,
-    name: &[u8],
-) -> Result<bool, NoMemory>
-    ensures { IfOk result (λ test. test ≡ is_cast guest.now heap.now value name.now) }
+fn is_cast(guest: &Guest, heap: &List<Object>, value: Value, name: &[u8]) -> bool
+    ensures { result ≡ is_cast guest.now heap.now value name.now }
 {
     match value {
-        Value::Null => Ok(true),
-        Value::Int(_) => Ok(false),
-        Value::Ref(_) | Value::Class(_) | Value::Lit(_) => {
-            is_instance(alloc, guest, heap, value, name)
-        }
+        Value::Null => true,
+        Value::Int(_) => false,
+        Value::Ref(_) | Value::Class(_) | Value::Lit(_) => is_instance(guest, heap, value, name),
     }
 }
 
 /// Tells whether the top operand is an object of the class or the array that is named.
 pub fn tell_instance(
-    alloc: Global,
     guest: &Guest,
     target: &Target,
     heap: &List<Object>,
     stack: &mut Stack,
-) -> Result<Option<Outcome>, NoMemory>
-    ensures { (statics : List (List Value)) → Works result (at heap.now statics stack.old) (at heap.now statics stack.new)
+) -> Option<Outcome>
+    ensures { (statics : List (List Value)) → Works (Ok result) (at heap.now statics stack.old) (at heap.now statics stack.new)
         (λ (world : World). option_and_then (λ (name : Name). tells_instance guest.now world name stack.old.items)
         (name_named target.now)) }
 {
-    let came = instance_told(alloc, guest, target, heap, stack)?;
-    Ok(replace(stack, 1, came))
+    let came = instance_told(guest, target, heap, stack);
+    replace(stack, 1, came)
 }
 
 /// What comes of telling whether the top operand is such an object.
 fn instance_told(
-    alloc: Global,
     guest: &Guest,
     target: &Target,
     heap: &List<Object>,
     stack: &Stack,
-) -> Result<Option<Comes>, NoMemory>
-    ensures { IfOk result (λ came. (statics : List (List Value)) (monitors : List Monitor)
+) -> Option<Comes>
+    ensures { (statics : List (List Value)) (monitors : List Monitor)
         → option_and_then (λ (name : Name). tells_instance guest.now
         (with_monitors (at heap.now statics stack.now) monitors) name stack.now.items) (name_named target.now)
-        ≡ comes (with_monitors (at heap.now statics stack.now) monitors) (drop 1 stack.now.items) came) }
+        ≡ comes (with_monitors (at heap.now statics stack.now) monitors) (drop 1 stack.now.items) result }
 {
-    let Some(name) = name_named(target) else {
-        return Ok(None);
-    };
-    let Some(value) = operand_of(Kind::Reference, stack, 0) else {
-        return Ok(None);
-    };
-    let test = is_instance(alloc, guest, heap, value, name.as_slice())?;
-    Ok(Some(Comes::Value(truth(test))))
+    let name = name_named(target)?;
+    let value = operand_of(Kind::Reference, stack, 0)?;
+    let test = is_instance(guest, heap, value, name.as_slice());
+    Some(Comes::Value(truth(test)))
 }

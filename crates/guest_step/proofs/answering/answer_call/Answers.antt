@@ -6,8 +6,8 @@ use Rattle.guest_step.proofs.answering.answer_call.Goals as goal
 
 pub returns : goal.returns
 returns c =
-    let is : c.in_ok-fits.fits ≡ true = grind rules in
+    let is : c.fits_call-fits.result ≡ true = grind rules in
     subst (λ (o : Option Change). ActsIn c.take.result c.args.machine.now c.take.new.machine c.args.thread.now c.take.new.thread o)
-    (sym (answered_is c.args.guest.now (world_of c.args.machine.now) c.args.number c.args.thread.now c.args.method c.args.receiver c.args.args.now c.args.answer.now true
-    (sym is ∙ c.in_ok-fits.ensures)))
+    (sym (answered_is c.args.guest.now (world_of c.args.machine.now) c.args.call.now.number c.args.thread.now c.args.call.now.method c.args.call.now.receiver c.args.call.now.args.now c.args.answer.now true
+    (sym is ∙ c.fits_call-fits.ensures)))
     c.take.ensures

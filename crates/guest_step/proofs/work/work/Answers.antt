@@ -6,6 +6,9 @@ returns-in-Constant c = rw c.in-Constant.is (c.constant.ensures c.args.heap.now 
 pub returns-in-ReadItem : goal.returns-in-ReadItem
 returns-in-ReadItem c = rw c.in-ReadItem.is (c.read_item.ensures c.args.statics.now)
 
+pub returns-in-WriteItem : goal.returns-in-WriteItem
+returns-in-WriteItem c = rw c.in-WriteItem.is (c.write_item.ensures c.args.statics.now)
+
 pub returns-in-Divide : goal.returns-in-Divide
 returns-in-Divide c = rw c.in-Divide.is (c.divide.ensures c.args.heap.now c.args.statics.now)
 
@@ -20,3 +23,9 @@ returns-in-ReadField c = rw c.in-ReadField.is (c.read_field.ensures c.args.stati
 
 pub returns-in-WriteField : goal.returns-in-WriteField
 returns-in-WriteField c = rw c.in-WriteField.is (c.write_field.ensures c.args.statics.now)
+
+pub returns-in-Cast : goal.returns-in-Cast
+returns-in-Cast c = rw c.in-Cast.is (c.cast.ensures c.args.statics.now)
+
+pub returns-in-IsInstance : goal.returns-in-IsInstance
+returns-in-IsInstance c = rw c.in-IsInstance.is (c.tell_instance.ensures c.args.statics.now)

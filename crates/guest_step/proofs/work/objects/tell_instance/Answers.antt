@@ -11,5 +11,5 @@ pub returns : goal.returns
 returns c statics =
     let items = c.args.stack.now.items in
     works_same c.replace.result (at c.args.heap.now statics c.args.stack.now) (at c.args.heap.now statics c.replace.new.stack)
-    (λ (world : World). comes world (drop 1 items) c.in_ok-came.came) (λ (world : World). option_and_then (λ (name : Name). tells_instance c.args.guest.now world name items) (name_named c.args.target.now))
-    (λ monitors. c.in_ok-came.ensures statics monitors) (c.replace.ensures c.args.heap.now statics)
+    (λ (world : World). comes world (drop 1 items) c.instance_told-came.result) (λ (world : World). option_and_then (λ (name : Name). tells_instance c.args.guest.now world name items) (name_named c.args.target.now))
+    (λ monitors. c.instance_told-came.ensures statics monitors) (c.replace.ensures c.args.heap.now statics)

@@ -10,11 +10,11 @@ use Rattle.guest_tables.proofs.guest.Guest.declared.Goals as goal
 pub returns-in-Some : goal.returns-in-Some
 returns-in-Some c =
     c.method_in.ensures ∙ ap (option_and_then (λ (t : Methods). method_in t c.args.name.now c.args.desc.now)) c.in-Some.ensures
-    ∙ methods_at c.self.inside.methods c.self.inside.program.classes c.args.class c.args.name.now c.args.desc.now c.self.invariant.methods_are
+    ∙ methods_at c.self.inside.tables.methods.named c.self.inside.program.classes c.args.class c.args.name.now c.args.desc.now c.self.invariant.kept.methods_are
     ∙ ap (λ (p : Program). option_and_then (declared_in c.args.name.now c.args.desc.now) (slice_get p.classes c.args.class)) c.self.view_is
 
 pub returns-in-None : goal.returns-in-None
 returns-in-None c =
     ap (option_and_then (λ (t : Methods). method_in t c.args.name.now c.args.desc.now)) c.in-None.ensures
-    ∙ methods_at c.self.inside.methods c.self.inside.program.classes c.args.class c.args.name.now c.args.desc.now c.self.invariant.methods_are
+    ∙ methods_at c.self.inside.tables.methods.named c.self.inside.program.classes c.args.class c.args.name.now c.args.desc.now c.self.invariant.kept.methods_are
     ∙ ap (λ (p : Program). option_and_then (declared_in c.args.name.now c.args.desc.now) (slice_get p.classes c.args.class)) c.self.view_is

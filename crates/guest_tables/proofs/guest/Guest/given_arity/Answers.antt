@@ -10,14 +10,14 @@ use Rattle.guest_tables.proofs.guest.Guest.given_arity.Goals as goal
 
 pub returns-in-Some : goal.returns-in-Some
 returns-in-Some c =
-    c.count_at.ensures ∙ ap (option_and_then (λ (row : List ℕ). slice_get row c.args.method)) c.in-Some.ensures
-    ∙ ap (λ (table : List (List ℕ)). option_and_then (λ (row : List ℕ). slice_get row c.args.method) (slice_get table c.args.class)) c.self.invariant.arities_are
+    c.copy_at.ensures ∙ ap (option_and_then (λ (row : List ℕ). slice_get row c.args.method)) c.in-Some.ensures
+    ∙ ap (λ (table : List (List ℕ)). option_and_then (λ (row : List ℕ). slice_get row c.args.method) (slice_get table c.args.class)) c.self.invariant.kept.arities_are
     ∙ arity_given c.self.inside.program c.args.class c.args.method
     ∙ ap (λ (p : Program). option_map (λ (m : Method). arity m.desc) (method_at p c.args.class c.args.method)) c.self.view_is
 
 pub returns-in-None : goal.returns-in-None
 returns-in-None c =
     ap (option_and_then (λ (row : List ℕ). slice_get row c.args.method)) c.in-None.ensures
-    ∙ ap (λ (table : List (List ℕ)). option_and_then (λ (row : List ℕ). slice_get row c.args.method) (slice_get table c.args.class)) c.self.invariant.arities_are
+    ∙ ap (λ (table : List (List ℕ)). option_and_then (λ (row : List ℕ). slice_get row c.args.method) (slice_get table c.args.class)) c.self.invariant.kept.arities_are
     ∙ arity_given c.self.inside.program c.args.class c.args.method
     ∙ ap (λ (p : Program). option_map (λ (m : Method). arity m.desc) (method_at p c.args.class c.args.method)) c.self.view_is

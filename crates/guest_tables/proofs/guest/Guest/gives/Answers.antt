@@ -10,6 +10,6 @@ use Rattle.guest_tables.proofs.guest.Guest.gives.Goals as goal
 
 pub returns : goal.returns
 returns c =
-    c.gives_at.ensures ∙ ap (λ (l : Library). slice_get l.gives c.args.method) c.self.invariant.library_is
+    c.item_at.ensures ∙ ap (λ (l : Library). slice_get l.gives c.args.method) c.self.invariant.kept.library_is
     ∙ slice_get-map (λ (m : ListedMethod). gives m.id.desc) c.self.inside.program.listing.methods c.args.method
     ∙ ap (λ (p : Program). option_map (λ (m : ListedMethod). gives m.id.desc) (slice_get p.listing.methods c.args.method)) c.self.view_is

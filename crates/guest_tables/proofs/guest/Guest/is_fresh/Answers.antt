@@ -9,7 +9,7 @@ use Rattle.guest_tables.proofs.guest.Guest.is_fresh.Goals as goal
 
 pub returns-in-Some : goal.returns-in-Some
 returns-in-Some c =
-    c.truth_at.ensures ∙ ap (λ (l : Library). option_map_or (λ (b : Bool). b) (slice_get l.fresh c.in-Some.place) false) c.self.invariant.library_is
+    c.truth_at.ensures ∙ ap (λ (l : Library). option_map_or (λ (b : Bool). b) (slice_get l.fresh c.in-Some.place) false) c.self.invariant.kept.library_is
     ∙ fresh_is c.self.inside.program c.args.name.now c.in-Some.place (sym c.in-Some.ensures)
     ∙ ap (λ (p : Program). is_listed_class p c.args.name.now) c.self.view_is
 

@@ -10,6 +10,6 @@ use Rattle.guest_tables.proofs.guest.Guest.listed_arity.Goals as goal
 
 pub returns : goal.returns
 returns c =
-    c.count_at.ensures ∙ ap (λ (l : Library). slice_get l.arities c.args.index) c.self.invariant.library_is
+    c.copy_at.ensures ∙ ap (λ (l : Library). slice_get l.arities c.args.index) c.self.invariant.kept.library_is
     ∙ slice_get-map (λ (m : ListedMethod). arity m.id.desc) c.self.inside.program.listing.methods c.args.index
     ∙ ap (λ (p : Program). option_map (λ (m : ListedMethod). arity m.id.desc) (slice_get p.listing.methods c.args.index)) c.self.view_is

@@ -1,63 +1,57 @@
 //! Which answers of the library fit a call. (docs/MACHINE.md)
 
-ghost use Rattle.std.specs.Prelude.{IfOk, ◌&&◌, ◌||◌, ◌≡◌};
+ghost use Rattle.std.specs.Prelude.{◌&&◌, ◌||◌, ◌≡◌};
 ghost use Rattle.bytecode_model.specs.Classes.{is_below, is_interface};
 ghost use Rattle.guest_model.specs.Answering.{answer_fits, is_listed_class, is_no_object, is_of, result_class, takes_text};
 ghost use Rattle.guest_model.specs.Answers.{fits_number, is_number_of, may_throw};
-ghost use Rattle.guest_tables.specs.Answering.{method_takes, object_fits};
+ghost use Rattle.guest_step.specs.Fitting.{method_takes, object_fits};
 
-use crate::guest::Guest;
-use crate::kinds::is_instance;
-use crate::library::Gives;
 use api_listing::{ApiAnswer, Element, FieldType};
 use guest_frames::is_null;
 use guest_heap::{Object, Value};
-use mon_base::{Bytes, List, NoMemory};
-use std::alloc::Global;
+use guest_tables::{Gives, Guest, is_instance};
+use mon_base::{Bytes, List};
 
-/// Whether the answer fits a call of the listed method with this index, of this receiver and these arguments. It takes memory
-/// only to ask whether the items of an array implement an interface.
+/// Whether the answer fits a call of the listed method with this index, of this receiver and these arguments.
 pub fn fits_call(
-    alloc: Global,
     guest: &Guest,
     heap: &List<Object>,
     method: u32,
     receiver: Option<Value>,
     args: &[Value],
     answer: &ApiAnswer,
-) -> Result<bool, NoMemory>
-    ensures { IfOk result (λ fits. fits ≡ method_takes guest.now heap.now method receiver args.now answer.now) }
+) -> bool
+    ensures { result ≡ method_takes guest.now heap.now method receiver args.now answer.now }
 {
     match guest.gives(method) {
-        Some(gives) => result_takes(alloc, guest, heap, gives, receiver, args, answer),
-        None => Ok(false),
+        Some(gives) => result_takes(guest, heap, gives, receiver, args, answer),
+        None => false,
     }
 }
 
 /// Whether the answer fits a call of a method with this result.
 fn result_takes(
-    alloc: Global,
     guest: &Guest,
     heap: &List<Object>,
     gives: &Gives,
     receiver: Option<Value>,
     args: &[Value],
     answer: &ApiAnswer,
-) -> Result<bool, NoMemory>
+) -> bool
     requires { gives.now.class ≡ result_class gives.now.of }
-    ensures { IfOk result (λ fits. fits ≡ answer_fits guest.now heap.now gives.now.of receiver args.now answer.now) }
+    ensures { result ≡ answer_fits guest.now heap.now gives.now.of receiver args.now answer.now }
 {
     match answer {
-        ApiAnswer::Nothing => Ok(gives.of.is_none()),
-        ApiAnswer::Int(n) => Ok(fits_number(&gives.of, *n)),
-        ApiAnswer::Throws(class) => Ok(may_throw(guest, class.as_slice())),
+        ApiAnswer::Nothing => gives.of.is_none(),
+        ApiAnswer::Int(n) => fits_number(&gives.of, *n),
+        ApiAnswer::Throws(class) => may_throw(guest, class.as_slice()),
         ApiAnswer::Null
         | ApiAnswer::Text(_)
         | ApiAnswer::Fresh(_)
         | ApiAnswer::Arg(_)
         | ApiAnswer::Receiver => match &gives.class {
-            Some(name) => object_fits(alloc, guest, heap, name, receiver, args, answer),
-            None => Ok(false),
+            Some(name) => object_fits(guest, heap, name, receiver, args, answer),
+            None => false,
         },
     }
 }
@@ -110,40 +104,22 @@ fn is_no_object(value: Value) -> bool
 }
 
 /// Whether the value is an object of the class, where an interface counts as Object.
-fn is_of(
-    alloc: Global,
-    guest: &Guest,
-    heap: &List<Object>,
-    value: Value,
-    name: &[u8],
-) -> Result<bool, NoMemory>
-    ensures { IfOk result (λ test. test ≡ is_of guest.now heap.now value name.now) }
+fn is_of(guest: &Guest, heap: &List<Object>, value: Value, name: &[u8]) -> bool
+    ensures { result ≡ is_of guest.now heap.now value name.now }
 {
     match value {
-        Value::Int(_) | Value::Null => Ok(false),
+        Value::Int(_) | Value::Null => false,
         Value::Ref(_) | Value::Class(_) | Value::Lit(_) => {
-            if guest.is_interface(name) {
-                return Ok(true);
-            }
-            is_instance(alloc, guest, heap, value, name)
+            guest.is_interface(name) || is_instance(guest, heap, value, name)
         }
     }
 }
 
 /// The same, or null.
-fn is_null_or_of(
-    alloc: Global,
-    guest: &Guest,
-    heap: &List<Object>,
-    value: Value,
-    name: &[u8],
-) -> Result<bool, NoMemory>
-    ensures { IfOk result (λ test. test ≡ (is_no_object value || is_of guest.now heap.now value name.now)) }
+fn is_null_or_of(guest: &Guest, heap: &List<Object>, value: Value, name: &[u8]) -> bool
+    ensures { result ≡ (is_no_object value || is_of guest.now heap.now value name.now) }
 {
-    if is_no_object(value) {
-        return Ok(true);
-    }
-    is_of(alloc, guest, heap, value, name)
+    is_no_object(value) || is_of(guest, heap, value, name)
 }
 
 /// Whether a new object of the class fits a result of this one.
@@ -155,28 +131,27 @@ fn takes_new(guest: &Guest, name: &[u8], class: &[u8]) -> bool
 
 /// Whether what the answer gives, which is no number, fits a result of this class.
 fn object_fits(
-    alloc: Global,
     guest: &Guest,
     heap: &List<Object>,
     name: &Bytes,
     receiver: Option<Value>,
     args: &[Value],
     answer: &ApiAnswer,
-) -> Result<bool, NoMemory>
-    ensures { IfOk result (λ fits. fits ≡ object_fits guest.now heap.now name.now receiver args.now answer.now) }
+) -> bool
+    ensures { result ≡ object_fits guest.now heap.now name.now receiver args.now answer.now }
 {
     let name = name.as_slice();
     match answer {
-        ApiAnswer::Nothing | ApiAnswer::Int(_) | ApiAnswer::Null | ApiAnswer::Throws(_) => Ok(true),
-        ApiAnswer::Text(text) => Ok(takes_text(guest, name) && text.len() <= 65535),
-        ApiAnswer::Fresh(class) => Ok(takes_new(guest, name, class.as_slice())),
+        ApiAnswer::Nothing | ApiAnswer::Int(_) | ApiAnswer::Null | ApiAnswer::Throws(_) => true,
+        ApiAnswer::Text(text) => takes_text(guest, name) && text.len() <= 65535,
+        ApiAnswer::Fresh(class) => takes_new(guest, name, class.as_slice()),
         ApiAnswer::Arg(i) => match args.get(*i as usize) {
-            Some(value) => is_null_or_of(alloc, guest, heap, *value, name),
-            None => Ok(false),
+            Some(value) => is_null_or_of(guest, heap, *value, name),
+            None => false,
         },
         ApiAnswer::Receiver => match receiver {
-            Some(value) => is_of(alloc, guest, heap, value, name),
-            None => Ok(false),
+            Some(value) => is_of(guest, heap, value, name),
+            None => false,
         },
     }
 }

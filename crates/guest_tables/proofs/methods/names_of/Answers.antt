@@ -2,7 +2,7 @@ use Rattle.std.proofs.Common.{subst, List}
 use Rattle.bytecode_model.specs.declared.program.Method.{Method}
 use Rattle.guest_tables.specs.Methods.{HasMethods}
 use Rattle.guest_tables.proofs.Naming.{methods_more}
-use Rattle.guest_tables.proofs.methods.methods_of.Goals as goal
+use Rattle.guest_tables.proofs.methods.names_of.Goals as goal
 
 pub loop-class-preserved : goal.loop-class-preserved
 loop-class-preserved c =
