@@ -8,6 +8,7 @@ import tempfile
 
 from certificates import Certificate
 from command_runs import DONE, REFUSED, put
+from laid_out import WAYS, again, parts_of, told_again
 
 
 def code_begins(content):
@@ -91,6 +92,23 @@ class Woven:
         files[self.outputs[0]], files["new/certificate"] = bytes(content), told.bytes()
         self.check(f"{self.what}: {what}", printed, files)
 
+    def laid_out(self):
+        """The same programs, with `main` laid out as `inline` does not lay it out, are accepted, too."""
+        for what, way in WAYS.items():
+            files = {**self.files}
+            content, told = files[self.outputs[0]], Certificate(files["new/certificate"], self.variables)
+            begin, entries = code_begins(content), told.notes()
+            length = struct.unpack_from(">I", content, begin - 4)[0]
+            starts = [at for at, _ in self.instructions()]
+            parts = way(parts_of(content[begin : begin + length], starts, entries))
+            code, places = again(parts)
+            moved = dict(zip([*starts, length], places))
+            files[self.outputs[0]] = with_code(content, begin, code, moved)
+            entries[:] = told_again(parts)
+            files["new/certificate"] = told.bytes()
+            if files != self.files:
+                self.check(f"{self.what}, {what}", f"accepted hold sites {self.sites}", files)
+
     def coded(self, text, found):
         """The bytes of words, each of hexadecimal digits or the name of what a block names."""
         constants = {}
@@ -120,6 +138,18 @@ class Woven:
         words = ["replay", "LISTING", self.main, "RECORD", *self.outputs]
         status = REFUSED if printed.startswith("denied") else DONE
         return self.runs.expect(f"{self.what}: {what}", words, status, printed, files)
+
+
+def with_code(content, begin, code, moved):
+    """The class file with another code of its first method; of its handlers each place is where it is moved to."""
+    length = struct.unpack_from(">I", content, begin - 4)[0]
+    table = begin + length
+    count = struct.unpack_from(">H", content, table)[0]
+    handlers = [struct.unpack_from(">HHHH", content, table + 2 + 8 * number) for number in range(count)]
+    size = struct.unpack_from(">I", content, begin - 12)[0] + len(code) - length
+    made = content[: begin - 12] + struct.pack(">I", size) + content[begin - 8 : begin - 4] + struct.pack(">I", len(code)) + code
+    made += struct.pack(">H", count) + b"".join(struct.pack(">HHHH", *(moved[at] for at in entry[:3]), entry[3]) for entry in handlers)
+    return made + content[table + 2 + 8 * count :]
 
 
 def change_handler(content, begin, handler):

@@ -1,0 +1,4 @@
+package api;
+
+/** There is no answer. */
+public class Broken extends Exception {}
