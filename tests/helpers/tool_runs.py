@@ -4,7 +4,7 @@ import subprocess
 import sys
 
 HERE = os.path.dirname(os.path.realpath(__file__))
-ROOT = os.path.dirname(HERE)
+ROOT = os.path.dirname(os.path.dirname(HERE))
 
 
 class Counts:
@@ -57,7 +57,7 @@ def usages(counts, name, wrong):
 
 def program():
     """The path of the built program."""
-    found = subprocess.run([os.path.join(HERE, "program")], capture_output=True, text=True, check=False)
+    found = subprocess.run([os.path.join(ROOT, "tests", "program")], capture_output=True, text=True, check=False)
     if found.returncode:
         sys.exit(found.stderr)
     return found.stdout.strip()

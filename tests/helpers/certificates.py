@@ -1,4 +1,4 @@
-"""Reads and writes certificates, for the scripts beside it that change single notes (docs/CERTIFICATES.md).
+"""Reads and writes certificates, for the scripts of tests/ that change single notes (docs/CERTIFICATES.md).
 
 A certificate is read as a list of methods with code, in the order of the classes and of their methods; a method is a list of
 instructions, each with its frame, or None where it is not reached, and its note. A note is a list: its kind, its site (except

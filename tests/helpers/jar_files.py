@@ -1,4 +1,4 @@
-"""Makes jars for the scripts beside it: whole ones, and odd ones that no tool may take, each with what is told of it."""
+"""Makes jars for the scripts of tests/: whole ones, and odd ones that no tool may take, each with what is told of it."""
 import io
 import os
 import struct
@@ -6,7 +6,8 @@ import warnings
 import zipfile
 
 HERE = os.path.dirname(os.path.realpath(__file__))
-DENIED = os.path.join(HERE, "..", "examples", "denied")
+ROOT = os.path.dirname(os.path.dirname(HERE))
+DENIED = os.path.join(ROOT, "examples", "denied")
 POLICY, LISTING = os.path.join(DENIED, "policy"), os.path.join(DENIED, "listing")
 MANIFEST = "META-INF/MANIFEST.MF"
 HEAD = b"Manifest-Version: 1.0\r\nMain-Class: a.S\r\n\r\n"

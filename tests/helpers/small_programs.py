@@ -1,4 +1,4 @@
-"""Small programs over a library of five calls, and policies for them, for the scripts beside it."""
+"""Small programs over a library of five calls, and policies for them, for the scripts of tests/."""
 from class_files import MAIN, ClassFile, code_of
 
 LISTING = b"""class api/Net extends java/lang/Object

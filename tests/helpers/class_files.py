@@ -1,4 +1,4 @@
-"""Makes class files of version 49, constant by constant and method by method, for the scripts beside it.
+"""Makes class files of version 49, constant by constant and method by method, for the scripts of tests/.
 
 (The Java Virtual Machine Specification, chapter 4.)
 """

@@ -7,8 +7,9 @@ import subprocess
 import sys
 
 HERE = os.path.dirname(os.path.realpath(__file__))
-SOURCES = os.path.join(HERE, "..", "examples", "machine", "sources")
-LISTING = os.path.join(HERE, "..", "examples", "machine", "listing")
+ROOT = os.path.dirname(os.path.dirname(HERE))
+SOURCES = os.path.join(ROOT, "examples", "machine", "sources")
+LISTING = os.path.join(ROOT, "examples", "machine", "listing")
 VERSION = bytes([0, 0, 0, 49])
 HANGS = 120
 

@@ -9,7 +9,8 @@ import sys
 import tempfile
 
 HERE = os.path.dirname(os.path.realpath(__file__))
-DENIED = os.path.join(HERE, "..", "examples", "denied")
+ROOT = os.path.dirname(os.path.dirname(HERE))
+DENIED = os.path.join(ROOT, "examples", "denied")
 
 LISTING = b"class api/Net extends java/lang/Object\nstatic api/Net send ()V\n"
 POLICY = b"MAXINT 1 SCOPE Session SECURITY STATE BEFORE void api.Net.send() PERFORM"
@@ -94,7 +95,7 @@ class Runs:
     """Runs the program, and counts."""
 
     def __init__(self, name):
-        found = subprocess.run([os.path.join(HERE, "program")], capture_output=True, text=True, check=False)
+        found = subprocess.run([os.path.join(ROOT, "tests", "program")], capture_output=True, text=True, check=False)
         if found.returncode:
             sys.exit(found.stderr)
         self.name, self.program, self.passed, self.failed = name, found.stdout.strip(), 0, 0
