@@ -1,6 +1,6 @@
 //! Weaves class files in mode release, whatever the policy is, and writes them without a certificate. The words are those of the
-//! command `inline` of conspecj, which takes lists of denied calls alone in this mode. It is for tests: what it writes is run on a
-//! Java machine, and nothing is promised of it but that it is what the definition of weaving gives. (docs/BLOCKS.md)
+//! command `inline` of conspecj, which takes lists of denied calls alone in this mode. It is for tests, which run what it writes on a
+//! Java machine; no clause of its own says what that is. (docs/BLOCKS.md)
 #![tactic(auto)]
 
 ghost use Rattle.input_files.specs.InlineInputs.{InlineSound};
