@@ -5,7 +5,8 @@ use Rattle.std.specs.List.{flat_map, AllByRecursion}
 use Rattle.std.proofs.lemmas.Bool.{eqb-true, eq-eqb, ltb-true, ltb-false}
 use Rattle.std.proofs.lemmas.List.{append-nil, length-append}
 use Rattle.mon_base.specs.Reading.{Place, IsBytes, ◌>>=◌, need}
-use Rattle.mon_base.proofs.Reading.{bind_ok, need_ok, ok_is, after, Took, Took-then, IsTail, IsReader, bytes_is, spelled, whole_takes, whole_again}
+use Rattle.mon_base.proofs.Reading.{bind_ok, need_ok, need_holds, ok_is, after, Took, Took-then, IsTail, IsReader, then, then_same, said, last, bytes_is, spelled, whole_takes, whole_again}
+use Rattle.mon_base.proofs.Readers.{checked}
 use Rattle.cert_format.specs.declared.fault.CertForm.{CertForm}
 use Rattle.cert_format.specs.declared.typing.FrameType.{FrameType}
 use Rattle.cert_format.specs.declared.note.Note.{Note}
@@ -14,38 +15,18 @@ use Rattle.cert_format.specs.declared.certificate.Mode.TheVariants as modes
 use Rattle.cert_format.specs.declared.certificate.Certificate.{Certificate}
 use Rattle.cert_format.specs.Names.{Name, name_index, StandOnce, class_names, typing_names, names_of}
 use Rattle.cert_format.specs.Index.{stands}
-use Rattle.cert_format.specs.Spelling.{u1, u2, u4, spell_name, spell_names, spell_mode, spell_head, spell_classes, spell_certificate}
+use Rattle.cert_format.specs.Spelling.{u1, u4, spell_name, spell_names, spell_mode, spell_head, spell_classes, spell_certificate}
 use Rattle.mon_base.specs.Widths.{IsU2, IsU4}
 use Rattle.cert_format.specs.Fits.{FitNames, FitClasses, CanSpell, SpellsCertificate}
 use Rattle.mon_base.specs.Answer.{Answers}
 use Rattle.cert_format.specs.declared.fault.CertForm.TheVariants.{Form, Memory}
-use Rattle.cert_format.specs.Reading.{Decoded, u1_at, u2_at, u4_at, taken_at, mode_of, head_at, told_name, more_names_at, names_at, classes_at, body_at, certificate_at, certificate_of}
+use Rattle.cert_format.specs.Reading.{u1_at, u4_at, taken_at, mode_of, head_at, told_name, more_names_at, names_at, classes_at, body_at, certificate_at, certificate_of}
 use Rattle.cert_format.proofs.Places.{place-append}
 use Rattle.cert_format.proofs.Order.{InOrder, once-push, once-all, once-none, makes_order, table_of}
 use Rattle.cert_format.proofs.Readers.{u2_is, u4_is, IsCode, coded, chosen}
 use Rattle.cert_format.proofs.TypeLaws.{classes_is}
 
 -- ---- the head
-
--- a number that is always the same, whose fault is at its own place, and then the others
-then_known : {A : Type 0} {reader : Place → Decoded ℕ} {spell_x : ℕ → List ℕ} {Fits_x : ℕ → Type 0} {others : Place → Decoded A} {spell : A → List ℕ} {Fits : A → Type 0}
-    → IsReader reader spell_x Fits_x → (same : ℕ) → Fits_x same → IsReader others spell Fits
-    → IsReader (λ place. reader place >>= λ x. need (x.0 == same) (Form place.at) >>= λ _. others x.1) (λ a. spell_x same ++ spell a) Fits
-then_known {reader = reader} {spell_x = spell_x} {others = others} {spell = spell} first same fits_same is = record {
-  takes = λ place a next fits e.
-      let b = bind_ok (reader place) (λ x. need (x.0 == same) (Form place.at) >>= λ _. others x.1) (a, next) e in
-      let g = need_ok (b.0.0 == same) (Form place.at) (λ _. others b.0.1) (a, next) b.2 in
-      let one = first.takes place b.0.0 b.0.1 fits b.1 in
-      let two = is.takes b.0.1 a next one.0.fits g.1 in
-      let is_same : b.0.0 ≡ same = eqb-true _ _ g.0 in
-      (rw (← is_same) (Took-then place (spell_x b.0.0) b.0.1 (spell a) next one.0 two.0), two.1, two.2);
-  again = λ place a rest fits h e.
-      let mid = after place (spell_x same) (spell a ++ rest) in
-      let one = first.again place same (spell a ++ rest) fits_same tt (e ∙ append_assoc (spell_x same) (spell a) rest) in
-      let two = is.again mid a rest fits h refl in
-      let far : place.at + length (spell_x same) + length (spell a) ≡ place.at + length (spell_x same ++ spell a) = omega (arith, length-append (spell_x same) (spell a)) in
-      rw (one, eq-eqb same same refl, two, far) refl;
-}
 
 mode_code : Mode → ℕ
 mode_code modes.Hold = 0
@@ -78,7 +59,7 @@ mode_is = spelled (coded mode_of mode_code mode_codes) (λ x k. mode_spelled x)
 
 head_is : IsReader head_at spell_head (λ m. Unit {0})
 unfolding head_at
-head_is = then_known u4_is 0x43535043 (omega arith) (then_known u2_is 1 (omega arith) mode_is)
+head_is = then_same (λ p x. Form p.at) u4_is 0x43535043 (omega arith) (then_same (λ p x. Form p.at) u2_is 1 (omega arith) mode_is)
 
 -- ---- names
 
@@ -95,26 +76,12 @@ FitsName name = IsU2 (length name)
 
 name_is : (before : List Name) → IsReader (told_name before) spell_name (λ name. FitsName name × (stands before name ≡ false))
 unfolding told_name
-name_is before = record {
-  takes = λ place name next fits e.
-      let l = bind_ok (u2_at place) (λ len. taken_at len.0 len.1 >>= λ name. need (not (stands before name.0)) (Form len.1.at) >>= λ _. Ok name) (name, next) e in
-      let n = bind_ok (taken_at l.0.0 l.0.1) (λ name. need (not (stands before name.0)) (Form l.0.1.at) >>= λ _. Ok name) (name, next) l.2 in
-      let g = need_ok (not (stands before n.0.0)) (Form l.0.1.at) (λ _. Ok n.0) (name, next) n.2 in
-      let t = u2_is.takes place l.0.0 l.0.1 fits l.1 in
-      let u = (taken_is l.0.0).takes l.0.1 n.0.0 n.0.1 t.0.fits n.1 in
-      subst (λ (y : Name × Place). Took place (spell_name y.0) y.1 × (FitsName y.0 × (stands before y.0 ≡ false)) × Unit {0}) (ok_is CertForm n.0 (name, next) g.1) (
-        subst (λ (k : ℕ). Took place (u2 k ++ n.0.0) n.0.1) (sym u.2) (Took-then place (u2 l.0.0) l.0.1 n.0.0 n.0.1 t.0 u.0),
-        (subst IsU2 (sym u.2) t.1, not_true _ g.0),
-        tt,
-      );
-  again = λ place name rest fits h e.
-      let x = u2 (length name) in
-      let mid = after place x (name ++ rest) in
-      let first = u2_is.again place (length name) (name ++ rest) fits.0 tt (e ∙ append_assoc x name rest) in
-      let second = (taken_is (length name)).again mid name rest tt refl refl in
-      let far : place.at + length x + length name ≡ place.at + length (x ++ name) = omega (arith, length-append x name) in
-      rw (first, second, fits.1, far) refl;
-}
+name_is before = said (then {Fits = λ name. Unit {0} × (stands before name ≡ false)} {known = λ _. Unit {0}} _ u2_is length (λ name k. tt)
+    (λ n k. checked (λ name. stands before name ≡ false) (λ p name. need (not (stands before name)) (Form p.at)) (last (taken_is n))
+    (λ p name e. not_true (stands before name) (need_holds (not (stands before name)) (Form p.at) e))
+    (λ p name h. rw h refl)))
+    (λ name f k. ((f.0, f.1.1), tt))
+    (λ name f k. ((f.0, (tt, f.1)), tt))
 
 -- what is read after the names of before
 record More (before : List Name) (n : ℕ) (place : Place) (all : List Name) (next : Place) : Type 0 where

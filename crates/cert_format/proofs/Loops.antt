@@ -1,17 +1,14 @@
 -- Loops that read items, one after another.
-use Rattle.std.proofs.Common.{◌≡◌, ℕ, suc, ◌-◌, ◌+◌, ◌≤◌, ◌<◌, List, [], ◌∷◌, ◌++◌, length, map, get_or, take, min, Result, Ok, Err, refl, sym, ap, subst, ◌∙◌, append_assoc, arith}
+use Rattle.std.proofs.Common.{◌≡◌, ℕ, suc, ◌-◌, ◌+◌, ◌≤◌, ◌<◌, List, [], ◌∷◌, ◌++◌, length, map, get_or, take, min, Result, Ok, Err, refl, sym, ap, ◌∙◌, append_assoc, arith}
 use Rattle.std.specs.List.{flat_map, zip}
 use Rattle.std.proofs.lemmas.List.{append-nil, take_all, take_more}
 use Rattle.std.proofs.lemmas.Grind.{flat_map-append}
 use Rattle.std.proofs.lemmas.Slice.Zip.{length-zip, get_or-zip}
-use Rattle.mon_base.specs.Reading.{Place, ◌>>=◌, counted}
-use Rattle.mon_base.proofs.Reading.{stops}
-use Rattle.mon_base.proofs.Reading as base
+use Rattle.mon_base.specs.Reading.{Place, ◌>>=◌}
 use Rattle.cert_format.specs.declared.fault.CertForm.{CertForm}
 use Rattle.cert_format.specs.declared.fault.CertForm.TheVariants.{Memory}
 use Rattle.cert_format.specs.Names.{Name}
 use Rattle.mon_base.specs.Answer.{Fails}
-use Rattle.mon_base.proofs.Answering.{failed, along}
 use Rattle.cert_format.specs.Reading.{Decoded, several_at, told_name, more_names_at}
 
 -- ---- items that use names
@@ -42,10 +39,10 @@ pub ends : {X : Type 0} (item : ℕ → Place → Decoded (X × ℕ)) (e : CertF
     (total : Decoded (List X × ℕ)) → i < count → Fails Memory e (item used place)
     → with_front front (several_at item (count - i) used place) ≡ total → Fails Memory e total
 unfolding several_at
-ends item e front count i used place total lt h so_far =
+ends item e front count i used place total lt h so_far is_told =
     let k : count - i ≡ suc (count - (i + 1)) = omega arith in
-    let one = failed Memory e (several_at item (suc (count - (i + 1))) used place) (λ x. Ok ((front ++ x.0.0, x.0.1), x.1)) (failed Memory e (item used place) (λ first. several_at item (count - (i + 1)) first.0.1 first.1 >>= λ others. Ok ((first.0.0 ∷ others.0.0, others.0.1), others.1)) h) in
-    along Memory e (with_front front (several_at item (suc (count - (i + 1))) used place)) total (subst (λ (n : ℕ). with_front front (several_at item n used place) ≡ total) k so_far) one
+    let one : with_front front (several_at item (count - i) used place) ≡ Err e = rw (k, h is_told) refl in
+    sym so_far ∙ one
 
 pub is_done : {X : Type 0} (item : ℕ → Place → Decoded (X × ℕ)) (front : List X) (count i used : ℕ) (place : Place) (total : Decoded (List X × ℕ))
     → count ≤ i → with_front front (several_at item (count - i) used place) ≡ total → total ≡ Ok ((front, used), place)
@@ -85,10 +82,10 @@ pub both_end : {F N : Type 0} (item : ℕ → Place → Decoded ((F × N) × ℕ
     (place : Place) (total : Decoded ((List F × List N) × ℕ)) → i < count → Fails Memory e (item used place)
     → with_fronts firsts seconds (several_at item (count - i) used place) ≡ total → Fails Memory e total
 unfolding several_at
-both_end {F = F} {N = N} item e firsts seconds count i used place total lt h so_far =
+both_end item e firsts seconds count i used place total lt h so_far is_told =
     let k : count - i ≡ suc (count - (i + 1)) = omega arith in
-    let one = failed Memory e (several_at item (suc (count - (i + 1))) used place) (λ x. Ok (((firsts ++ map (λ (p : F × N). p.0) x.0.0, seconds ++ map (λ (p : F × N). p.1) x.0.0), x.0.1), x.1)) (failed Memory e (item used place) (λ first. several_at item (count - (i + 1)) first.0.1 first.1 >>= λ others. Ok ((first.0.0 ∷ others.0.0, others.0.1), others.1)) h) in
-    along Memory e (with_fronts firsts seconds (several_at item (suc (count - (i + 1))) used place)) total (subst (λ (n : ℕ). with_fronts firsts seconds (several_at item n used place) ≡ total) k so_far) one
+    let one : with_fronts firsts seconds (several_at item (count - i) used place) ≡ Err e = rw (k, h is_told) refl in
+    sym so_far ∙ one
 
 pub both_done : {F N : Type 0} (item : ℕ → Place → Decoded ((F × N) × ℕ)) (firsts : List F) (seconds : List N) (count i used : ℕ) (place : Place)
     (total : Decoded ((List F × List N) × ℕ)) → count ≤ i → with_fronts firsts seconds (several_at item (count - i) used place) ≡ total
@@ -98,12 +95,6 @@ both_done item firsts seconds count i used place total le so_far =
     let k : count - i ≡ 0 = omega arith in
     let one : with_fronts firsts seconds (several_at item (count - i) used place) ≡ Ok (((firsts, seconds), used), place) = rw (k, append-nil firsts, append-nil seconds) refl in
     sym so_far ∙ one
-
--- ---- items that use none
-
-pub counted_ends : {X : Type 0} (item : Place → Decoded X) (e : CertForm) (front : List X) (count i : ℕ) (place : Place) (total : Decoded (List X))
-    → i < count → Fails Memory e (item place) → base.with_front front (counted item (count - i) place) ≡ total → Fails Memory e total
-counted_ends item e front count i place total lt h so_far is_told = stops item front count i place e total lt (h is_told) so_far
 
 -- ---- names
 
@@ -119,10 +110,10 @@ names_go_on names count i place name next total lt h so_far =
 pub names_end : (e : CertForm) (names : List Name) (count i : ℕ) (place : Place) (total : Decoded (List Name)) → i < count
     → Fails Memory e (told_name names place) → more_names_at (count - i) names place ≡ total → Fails Memory e total
 unfolding more_names_at
-names_end e names count i place total lt h so_far =
+names_end e names count i place total lt h so_far is_told =
     let k : count - i ≡ suc (count - (i + 1)) = omega arith in
-    let one = failed Memory e (told_name names place) (λ name. more_names_at (count - (i + 1)) (names ++ name.0 ∷ []) name.1) h in
-    along Memory e (more_names_at (suc (count - (i + 1))) names place) total (subst (λ (n : ℕ). more_names_at n names place ≡ total) k so_far) one
+    let one : more_names_at (count - i) names place ≡ Err e = rw (k, h is_told) refl in
+    sym so_far ∙ one
 
 pub names_done : (names : List Name) (count i : ℕ) (place : Place) (total : Decoded (List Name)) → count ≤ i
     → more_names_at (count - i) names place ≡ total → total ≡ Ok (names, place)

@@ -4,7 +4,7 @@ use Rattle.std.specs.List.{flat_map, AllByRecursion}
 use Rattle.std.specs.Int.{w32}
 use Rattle.std.proofs.lemmas.Bool.{eqb-true}
 use Rattle.mon_base.specs.Reading.{Place, ◌>>=◌, need, counted}
-use Rattle.mon_base.proofs.Reading.{bind_ok, need_ok, ok_is, after, Took, IsReader, then, said, spelled, items}
+use Rattle.mon_base.proofs.Reading.{bind_ok, need_ok, ok_is, after, Took, IsReader, then, said, last, spelled, items}
 use Rattle.cert_format.specs.declared.fault.CertForm.{CertForm}
 use Rattle.cert_format.specs.declared.fault.CertForm.TheVariants.{Form}
 use Rattle.cert_format.specs.declared.note.Phase8.{Phase8}
@@ -119,7 +119,7 @@ term_is = tagged term_takes term_again
 
 terms_is : IsReader terms_at spell_terms (λ ts. IsU1 (length ts) × AllByRecursion FitsTerm ts)
 unfolding terms_at
-terms_is = said (then {known = λ _. Unit {0}} _ u1_is length (λ ts k. tt) λ count k. said (items term_is count) (λ ts f k. (f, (tt, k))) (λ ts f k. (f, k.1)))
+terms_is = said (then {known = λ _. Unit {0}} _ u1_is length (λ ts k. tt) λ count k. last (items term_is count))
     (λ ts f k. (f, tt)) (λ ts f k. (f, tt))
 
 map_is : (vars : ℕ) → IsReader (counted term_at vars) (λ ts. flat_map spell_term ts) (λ ts. (length ts ≡ vars) × AllByRecursion FitsTerm ts)

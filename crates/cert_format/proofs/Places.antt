@@ -12,7 +12,7 @@ use Rattle.std.proofs.lemmas.List.{length-append, take_all}
 use Rattle.std.proofs.lemmas.Slice.Eq.{bytes_eq-Decides}
 use Rattle.cert_format.specs.Names.{Name, name_index, with_name}
 use Rattle.cert_format.specs.declared.index.Known.{Known}
-use Rattle.cert_format.specs.Index.{found, stands, HasNames, HasPlaces, IsKnown, AreKnown}
+use Rattle.cert_format.specs.Index.{found, stands, HasNames, HasPlaces, IsKnown, ArePlaced}
 use Rattle.cert_format.specs.Spelling.{u4, spell_name, spell_names}
 
 -- where the name stands it is found no later
@@ -189,22 +189,22 @@ known_one names x (Some known) new h = found-more names x known.name.now new ∙
   by false e = h
 
 -- what is known of names stays so as one more comes
-pub known_more : (names : List Name) (x : Name) (slots : List (Option Known)) → stands names x ≡ false → AreKnown names slots → AreKnown (names ++ x ∷ []) slots
+pub known_more : (names : List Name) (x : Name) (slots : List (Option Known)) → stands names x ≡ false → ArePlaced names slots → ArePlaced (names ++ x ∷ []) slots
 known_more names x [] new h = h
 known_more names x (slot ∷ slots) new h = (known_one names x slot new h.0, known_more names x slots new h.1)
 
 pub known_at : (names : List Name) (slots : List (Option Known)) (i : ℕ) (slot other : Option Known)
-    → AreKnown names slots → i < length slots → slot ≡ slice_index_or slots i other → IsKnown names slot
+    → ArePlaced names slots → i < length slots → slot ≡ slice_index_or slots i other → IsKnown names slot
 known_at names [] i slot other h lt e = absurd (omega (arith, lt))
 known_at names (first ∷ slots) zero slot other h lt e = subst (λ s. IsKnown names s) (sym e) h.0
 known_at names (first ∷ slots) (suc i) slot other h lt e = known_at names slots i slot other h.1 (omega (arith, lt)) e
 
-pub known_set : (names : List Name) (slots : List (Option Known)) (i : ℕ) (slot : Option Known) → AreKnown names slots → IsKnown names slot → AreKnown names (slice_set slots i slot)
+pub known_set : (names : List Name) (slots : List (Option Known)) (i : ℕ) (slot : Option Known) → ArePlaced names slots → IsKnown names slot → ArePlaced names (slice_set slots i slot)
 known_set names [] i slot h one = h
 known_set names (first ∷ slots) zero slot h one = (one, h.1)
 known_set names (first ∷ slots) (suc i) slot h one = (h.0, known_set names slots i slot h.1 one)
 
-pub known_end : (names : List Name) (slots : List (Option Known)) (slot : Option Known) → AreKnown names slots → IsKnown names slot → AreKnown names (slots ++ slot ∷ [])
+pub known_end : (names : List Name) (slots : List (Option Known)) (slot : Option Known) → ArePlaced names slots → IsKnown names slot → ArePlaced names (slots ++ slot ∷ [])
 known_end names [] slot h one = (one, tt)
 known_end names (first ∷ slots) slot h one = (h.0, known_end names slots slot h.1 one)
 
@@ -220,8 +220,8 @@ module _ (names all : List (Bor Name)) (x : Bor Name) (new : found (map (λ name
   after : map (λ name. name.now) all ≡ before ++ x.now ∷ []
   after = ap (λ (ns : List (Bor Name)). map (λ name. name.now) ns) is ∙ now-more names x
 
-  pub known_next : (slots : List (Option Known)) → AreKnown before slots → AreKnown (map (λ name. name.now) all) slots
-  known_next slots h = subst (λ (ns : List Name). AreKnown ns slots) (sym after) (known_more before x.now slots is_new_there h)
+  pub known_next : (slots : List (Option Known)) → ArePlaced before slots → ArePlaced (map (λ name. name.now) all) slots
+  known_next slots h = subst (λ (ns : List Name). ArePlaced ns slots) (sym after) (known_more before x.now slots is_new_there h)
 
   pub found_last : (len : ℕ) → len ≡ length names → found (map (λ name. name.now) all) x.now ≡ Some len
   found_last len e =
@@ -236,8 +236,8 @@ module _ (names all : List (Bor Name)) (x : Bor Name) (new : found (map (λ name
       let q : Bor Name = record { ref_ptr = (0, 0); now = name } in
       updates q ∙ rw (is_eq-slice_cmp x.now name, has name, e ∙ sym (length-now names)) (rw after (sym (found-more before x.now name is_new_there)))
 
-pub none_known : (names : List Name) (slots more : List (Option Known)) → more ≡ slots ++ None ∷ [] → AreKnown names slots → AreKnown names more
-none_known names slots more e h = subst (AreKnown names) (sym e) (known_end names slots None h tt)
+pub none_known : (names : List Name) (slots more : List (Option Known)) → more ≡ slots ++ None ∷ [] → ArePlaced names slots → ArePlaced names more
+none_known names slots more e h = subst (ArePlaced names) (sym e) (known_end names slots None h tt)
 
 pub one : (names : List Name) (slot : Option Known) (known : Known) → slot ≡ Some known → IsKnown names slot → found names known.name.now ≡ Some known.place
 one names slot known e h = subst (IsKnown names) e h

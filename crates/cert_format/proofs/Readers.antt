@@ -1,12 +1,13 @@
 -- Readers made of others, beside those of mon_base.
-use Rattle.std.proofs.Common.{◌≡◌, ℕ, ℤ, zero, suc, ◌+◌, ◌<◌, ◌^◌, Bool, true, false, cond, eqb, List, [], ◌∷◌, ◌++◌, length, Result, Ok, Err, refl, sym, ap, subst, ◌∙◌, append_assoc, FitsSigned, arith}
+use Rattle.std.proofs.Common.{◌≡◌, ℕ, zero, suc, ◌+◌, ◌<◌, Bool, true, false, cond, eqb, List, [], ◌∷◌, ◌++◌, length, Result, Ok, Err, refl, sym, ap, subst, ◌∙◌, append_assoc, FitsSigned, arith}
 use Rattle.std.specs.List.{flat_map, AllByRecursion}
-use Rattle.std.specs.Int.{w32, cast_signed, cast_unsigned}
-use Rattle.std.proofs.lemmas.Int.{of_z-to_z, to_z-of_z, ints}
+use Rattle.std.specs.Int.{w32}
 use Rattle.std.proofs.lemmas.Bool.{eqb-true}
 use Rattle.std.proofs.lemmas.List.{append-nil, length-append}
 use Rattle.mon_base.specs.Reading.{Place, IsBytes, ◌>>=◌}
 use Rattle.mon_base.proofs.Reading.{bind_ok, ok_is, after, Took, Took-then, IsTail, IsReader, then, said, number_is, one, two, four}
+use Rattle.mon_base.proofs.Readers.{through, signed_is}
+use Rattle.mon_base.proofs.Readers as base
 use Rattle.cert_format.specs.declared.fault.CertForm.{CertForm}
 use Rattle.cert_format.specs.declared.fault.CertForm.TheVariants.{Form}
 use Rattle.cert_format.specs.Names.{Name}
@@ -29,24 +30,9 @@ pub u4_is : IsReader u4_at u4 IsU4
 unfolding u4_at
 u4_is = number_is four (λ p. Form p.at)
 
-signed_fits : (n : ℕ) → n < 2 ^ 32 → FitsSigned w32 (cast_signed w32 n)
-signed_fits n h = omega (arith, ints)
-
-unsigned_fits : (z : ℤ) → FitsSigned w32 z → cast_unsigned w32 z < 2 ^ 32
-unsigned_fits z h = omega (arith, ints)
-
 pub i4_is : IsReader i4_at i4 (λ n. FitsSigned w32 n)
 unfolding i4_at
-i4_is = record {
-  takes = λ place x next fits e.
-      let b = bind_ok (u4_at place) (λ n. Ok (cast_signed w32 n.0, n.1)) (x, next) e in
-      let t = u4_is.takes place b.0.0 b.0.1 fits b.1 in
-      let made : ℤ × Place = (cast_signed w32 b.0.0, b.0.1) in
-      let same : cast_unsigned w32 (cast_signed w32 b.0.0) ≡ b.0.0 = of_z-to_z w32 b.0.0 t.1 in
-      subst (λ (y : ℤ × Place). Took place (i4 y.0) y.1 × FitsSigned w32 y.0 × Unit {0}) (ok_is CertForm made (x, next) b.2) (subst (λ (n : ℕ). Took place (u4 n) b.0.1) (sym same) t.0, signed_fits b.0.0 t.1, tt);
-  again = λ place x rest fits h e.
-      rw (u4_is.again place (cast_unsigned w32 x) rest (unsigned_fits x fits) tt e, to_z-of_z w32 x fits) refl;
-}
+i4_is = signed_is w32 u4_is
 
 -- ---- one after the other
 
@@ -54,21 +40,7 @@ pub pair_is : {A B : Type 0} {first : Place → Decoded A} {second : Place → D
     → IsReader first spell_a Fits_a → IsReader second spell_b Fits_b
     → IsReader (pair_at first second) (λ x. spell_a x.0 ++ spell_b x.1) (λ x. Fits_a x.0 × Fits_b x.1)
 unfolding pair_at
-pair_is {A = A} {B = B} {first = first} {second = second} {spell_a = spell_a} {spell_b = spell_b} {Fits_a = Fits_a} {Fits_b = Fits_b} is_a is_b = record {
-  takes = λ place x next fits e.
-      let a = bind_ok (first place) (λ a. second a.1 >>= λ b. Ok ((a.0, b.0), b.1)) (x, next) e in
-      let b = bind_ok (second a.0.1) (λ b. Ok ((a.0.0, b.0), b.1)) (x, next) a.2 in
-      let t = is_a.takes place a.0.0 a.0.1 fits a.1 in
-      let u = is_b.takes a.0.1 b.0.0 b.0.1 t.0.fits b.1 in
-      let made : (A × B) × Place = ((a.0.0, b.0.0), b.0.1) in
-      subst (λ (y : (A × B) × Place). Took place (spell_a y.0.0 ++ spell_b y.0.1) y.1 × (Fits_a y.0.0 × Fits_b y.0.1) × Unit {0}) (ok_is CertForm made (x, next) b.2) (Took-then place (spell_a a.0.0) a.0.1 (spell_b b.0.0) b.0.1 t.0 u.0, (t.1, u.1), tt);
-  again = λ place x rest fits h e.
-      let mid = after place (spell_a x.0) (spell_b x.1 ++ rest) in
-      let t = is_a.again place x.0 (spell_b x.1 ++ rest) fits.0 tt (e ∙ append_assoc (spell_a x.0) (spell_b x.1) rest) in
-      let u = is_b.again mid x.1 rest fits.1 tt refl in
-      let far : place.at + length (spell_a x.0) + length (spell_b x.1) ≡ place.at + length (spell_a x.0 ++ spell_b x.1) = omega (arith, length-append (spell_a x.0) (spell_b x.1)) in
-      rw (t, u, far) refl;
-}
+pair_is is_a is_b = base.pair_is is_a is_b
 
 -- ---- a number that tells which it is
 
@@ -79,17 +51,9 @@ pub record IsCode {X : Type 0} (of : ℕ → ℕ → Result X CertForm) (code : 
 
 pub coded : {X : Type 0} (of : ℕ → ℕ → Result X CertForm) (code : X → ℕ) → IsCode of code
     → IsReader (λ p. u1_at p >>= λ n. of p.at n.0 >>= λ x. Ok (x, n.1)) (λ x. u1 (code x)) (λ x. Unit {0})
-coded {X = X} of code is = record {
-  takes = λ place x next fits e.
-      let a = bind_ok (u1_at place) (λ n. of place.at n.0 >>= λ x. Ok (x, n.1)) (x, next) e in
-      let b = bind_ok (of place.at a.0.0) (λ x. Ok (x, a.0.1)) (x, next) a.2 in
-      let t = u1_is.takes place a.0.0 a.0.1 fits a.1 in
-      let made : X × Place = (b.0, a.0.1) in
-      let same : code b.0 ≡ a.0.0 = is.told place.at a.0.0 b.0 b.1 in
-      subst (λ (y : X × Place). Took place (u1 (code y.0)) y.1 × Unit {0} × Unit {0}) (ok_is CertForm made (x, next) b.2) (subst (λ (n : ℕ). Took place (u1 n) a.0.1) (sym same) t.0, tt, tt);
-  again = λ place x rest fits h e.
-      rw (u1_is.again place (code x) rest (is.small x) tt e, is.back place.at x) refl;
-}
+coded of code is = through (λ p n. of p.at n) u1_is
+    (λ p n x f k e. (ap u1 (sym (is.told p.at n x e)), tt, tt))
+    (λ x f k. (code x, λ p. is.back p.at x, refl, is.small x, tt))
 
 -- the next of an if-chain
 pub chosen : {X : Type 0} (test : Bool) (x y : X) (other : Result X CertForm) (P : Type 0) → cond test (Ok x) other ≡ Ok y
@@ -217,20 +181,22 @@ module _ (names : List Name) where
         subst (λ (k : ℕ). several_at item k used place ≡ Ok (a, after place (flat_map spell a.0) rest)) h.1 (several_again item spell Fits names_in is a.0 used a.1 place rest fits.0 fits.1 e);
   }
 
+  -- a list with its length before it
+  list_is : {X : Type 0} {count_at : Place → Decoded ℕ} {count : ℕ → List ℕ} {FitsCount : ℕ → Type 0} {item : ℕ → Place → Decoded (X × ℕ)} {spell : X → List ℕ} {Fits : X → Type 0} {names_in : X → List Name}
+      → IsReader count_at count FitsCount → IsItem item spell Fits names_in
+      → IsItem (λ used p. count_at p >>= λ n. several_at item n.0 used n.1) (λ xs. count (length xs) ++ flat_map spell xs) (λ xs. FitsCount (length xs) × AllByRecursion Fits xs) (flat_map names_in)
+  list_is {X = X} count_is is = record {
+    reads = λ used. said (
+        then {known = λ (a : List X × ℕ). Unit {0}} _ count_is (λ (a : List X × ℕ). length a.0) (λ a k. tt) λ n k. several_is is n used)
+        (λ a f k. (((f.0, f.1.0), f.1.1), tt)) (λ a f k. ((f.0.0, (f.0.1, f.1)), tt));
+  }
+
   pub short_list_is : {X : Type 0} {item : ℕ → Place → Decoded (X × ℕ)} {spell : X → List ℕ} {Fits : X → Type 0} {names_in : X → List Name} → IsItem item spell Fits names_in
       → IsItem (short_list_at item) (λ xs. u2 (length xs) ++ flat_map spell xs) (λ xs. IsU2 (length xs) × AllByRecursion Fits xs) (flat_map names_in)
   unfolding short_list_at
-  short_list_is {X = X} is = record {
-    reads = λ used. said (
-        then {known = λ (a : List X × ℕ). Unit {0}} _ u2_is (λ (a : List X × ℕ). length a.0) (λ a k. tt) λ count k. several_is is count used)
-        (λ a f k. (((f.0, f.1.0), f.1.1), tt)) (λ a f k. ((f.0.0, (f.0.1, f.1)), tt));
-  }
+  short_list_is is = list_is u2_is is
 
   pub long_list_is : {X : Type 0} {item : ℕ → Place → Decoded (X × ℕ)} {spell : X → List ℕ} {Fits : X → Type 0} {names_in : X → List Name} → IsItem item spell Fits names_in
       → IsItem (long_list_at item) (λ xs. u4 (length xs) ++ flat_map spell xs) (λ xs. IsU4 (length xs) × AllByRecursion Fits xs) (flat_map names_in)
   unfolding long_list_at
-  long_list_is {X = X} is = record {
-    reads = λ used. said (
-        then {known = λ (a : List X × ℕ). Unit {0}} _ u4_is (λ (a : List X × ℕ). length a.0) (λ a k. tt) λ count k. several_is is count used)
-        (λ a f k. (((f.0, f.1.0), f.1.1), tt)) (λ a f k. ((f.0.0, (f.0.1, f.1)), tt));
-  }
+  long_list_is is = list_is u4_is is

@@ -17,7 +17,7 @@ use Rattle.cert_format.specs.Names.{Name, name_index, StandOnce, type_names, fra
 use Rattle.cert_format.specs.Spelling.{u1, u2, u4, flag, spell_type, spell_types, spell_note, spell_instruction, spell_method, spell_class, spell_classes}
 use Rattle.mon_base.specs.Widths.{IsU2, IsU4}
 use Rattle.cert_format.specs.Fits.{FitsType, FitTypes, ends_with_top, FitsFrame, FitsInstruction, FitsMethod, FitsClass, FitClasses}
-use Rattle.cert_format.specs.Reading.{Decoded, u1_at, u4_at, flag_at, used_with, reference_at, type_of_kind, told_type, types_at, locals_at, frame_at, note_at, not_reached_at, reached_at, instruction_at, unzipped, told_method, told_class, classes_at}
+use Rattle.cert_format.specs.Reading.{Decoded, u1_at, u4_at, flag_at, used_with, reference_at, type_of_kind, told_type, types_at, locals_at, frame_at, note_at, not_reached_at, reached_at, instruction_at, unzipped, as_lists, told_method, told_class, classes_at}
 use Rattle.cert_format.proofs.Places.{get_or-place}
 use Rattle.cert_format.proofs.Order.{IsTurn, InOrder, join, split}
 use Rattle.cert_format.proofs.Readers.{u1_is, u4_is, Takes, form, plain, never, kind_or, tagged, kind_again, plain_again, IsItem, short_list_is, long_list_is}
@@ -54,7 +54,7 @@ names-firsts g (p ∷ pairs) = ap (λ (t : List Name). g p.0 ++ t) (names-firsts
 -- a list of pairs that is read, as two lists
 pub paired_is : {F N : Type 0} (names : List Name) {lists : ℕ → Place → Decoded (List (F × N) × ℕ)} (count : ℕ → List ℕ) (FitsCount : ℕ → Type 0) (spell : F × N → List ℕ) (Fits : F × N → Type 0) (g : F → List Name)
     → IsItem names lists (λ xs. count (length xs) ++ flat_map spell xs) (λ xs. FitsCount (length xs) × AllByRecursion Fits xs) (flat_map (λ (p : F × N). g p.0))
-    → IsItem names (λ used p. lists used p >>= λ pairs. Ok ((unzipped pairs.0.0, pairs.0.1), pairs.1)) (λ (l : List F × List N). count (length l.0) ++ flat_map spell (zip l.0 l.1))
+    → IsItem names (λ used p. as_lists (lists used p)) (λ (l : List F × List N). count (length l.0) ++ flat_map spell (zip l.0 l.1))
     (λ (l : List F × List N). FitsCount (length l.0) × ((length l.1 ≡ length l.0) × AllByRecursion Fits (zip l.0 l.1))) (λ (l : List F × List N). flat_map g l.0)
 paired_is {F = F} {N = N} names {lists = lists} count FitsCount spell Fits g is = record {
   reads = λ used. record {

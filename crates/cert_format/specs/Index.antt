@@ -32,5 +32,5 @@ abbrev pub IsKnown : List Name → Option Known → Type 0
 IsKnown names None = ⊤
 IsKnown names (Some known) = found names known.name.now ≡ Some known.place
 
-abbrev pub AreKnown : List Name → List (Option Known) → Type 0
-AreKnown names slots = AllByRecursion (IsKnown names) slots
+abbrev pub ArePlaced : List Name → List (Option Known) → Type 0
+ArePlaced names slots = AllByRecursion (IsKnown names) slots

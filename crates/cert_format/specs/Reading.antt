@@ -122,6 +122,10 @@ long_list_at item used p = do
 abbrev pub unzipped : {F N : Type 0} → List (F × N) → List F × List N
 unzipped pairs = (map (λ pair. pair.0) pairs, map (λ pair. pair.1) pairs)
 
+-- pairs that are read, as two lists
+abbrev pub as_lists : {F N : Type 0} → Decoded (List (F × N) × ℕ) → Decoded ((List F × List N) × ℕ)
+as_lists read = read >>= λ pairs. Ok ((unzipped pairs.0.0, pairs.0.1), pairs.1)
+
 -- ---- frame types
 
 -- how many names are used once the one at this place is used too
@@ -276,26 +280,14 @@ instruction_at vars names used p = do
   reached ← flag_at p
   if reached.0 then reached_at vars names used reached.1 else not_reached_at used reached.1
 
--- the frames and the notes of so many instructions
-unfoldable pub instructions_at : ℕ → List Name → ℕ → ℕ → Place → Decoded ((List (Option FrameType) × List Note) × ℕ)
-instructions_at vars names n used p = do
-  pairs ← several_at (instruction_at vars names) n used p
-  Ok ((unzipped pairs.0.0, pairs.0.1), pairs.1)
-
 unfoldable pub told_method : ℕ → List Name → ℕ → Place → Decoded ((List (Option FrameType) × List Note) × ℕ)
-told_method vars names used p = do
-  pairs ← long_list_at (instruction_at vars names) used p
-  Ok ((unzipped pairs.0.0, pairs.0.1), pairs.1)
+told_method vars names used p = as_lists (long_list_at (instruction_at vars names) used p)
 
 unfoldable pub told_class : ℕ → List Name → ℕ → Place → Decoded ((List (List (Option FrameType)) × List (List Note)) × ℕ)
-told_class vars names used p = do
-  pairs ← short_list_at (told_method vars names) used p
-  Ok ((unzipped pairs.0.0, pairs.0.1), pairs.1)
+told_class vars names used p = as_lists (short_list_at (told_method vars names) used p)
 
 unfoldable pub classes_at : ℕ → List Name → ℕ → Place → Decoded ((List (List (List (Option FrameType))) × List (List (List Note))) × ℕ)
-classes_at vars names used p = do
-  pairs ← short_list_at (told_class vars names) used p
-  Ok ((unzipped pairs.0.0, pairs.0.1), pairs.1)
+classes_at vars names used p = as_lists (short_list_at (told_class vars names) used p)
 
 -- ---- the whole
 

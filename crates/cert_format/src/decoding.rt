@@ -6,8 +6,8 @@ ghost use Rattle.cert_format.specs.Fits as fits;
 ghost use Rattle.cert_format.specs.Fits.{SpellsCertificate};
 ghost use Rattle.mon_base.specs.Answer.{Reads, Answers};
 ghost use Rattle.cert_format.specs.Reading.{Uses, reference_at, type_of_kind, told_type, types_at, locals_at};
-ghost use Rattle.cert_format.specs.Reading.{frame_at, not_reached_at, reached_at, instruction_at, instructions_at, told_method, told_class};
-ghost use Rattle.cert_format.specs.Reading.{classes_at, head_at, body_at, certificate_at, certificate_of};
+ghost use Rattle.cert_format.specs.Reading.{frame_at, not_reached_at, reached_at, instruction_at, several_at, as_lists};
+ghost use Rattle.cert_format.specs.Reading.{told_method, told_class, classes_at, head_at, body_at, certificate_at, certificate_of};
 
 use crate::certificate::{Certificate, Mode};
 use crate::fault::CertForm;
@@ -180,7 +180,6 @@ fn instruction(
 }
 
 /// The frames and the notes of that many instructions.
-#[tactic(auto, unfolding(crate::specs::Reading::instructions_at))]
 fn instructions(
     alloc: Global,
     table: &Table,
@@ -188,7 +187,8 @@ fn instructions(
     used: &mut usize,
     from: &mut Cursor,
 ) -> Result<(List<Option<FrameType>>, List<Note>), CertForm>
-    ensures { Uses result (instructions_at table.now.vars table.now.names.now count used.old from.old) used.new from.new }
+    ensures { Uses result (as_lists (several_at (instruction_at table.now.vars table.now.names.now) count used.old from.old))
+        used.new from.new }
 {
     let room = room_for(count);
     let mut frames = List::with_room(alloc, room)?;
@@ -204,7 +204,7 @@ fn instructions(
 impl Item for (List<Option<FrameType>>, List<Note>) {
     ghost item_at = { told_method };
 
-    #[tactic(auto, unfolding(crate::specs::Reading::told_method, crate::specs::Reading::long_list_at, crate::specs::Reading::instructions_at))]
+    #[tactic(auto, unfolding(crate::specs::Reading::told_method, crate::specs::Reading::long_list_at))]
     fn read(
         alloc: Global,
         table: &Table,

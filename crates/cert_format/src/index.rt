@@ -2,7 +2,7 @@
 
 ghost use Rattle.std.specs.Prelude.{◌≡◌, List as Items, [], ◌∷◌, ◌++◌, map, Some, None, IfOk, IfSome, OnOk};
 ghost use Rattle.cert_format.specs.Names.{Name, name_index, with_name};
-ghost use Rattle.cert_format.specs.Index.{found, AreKnown};
+ghost use Rattle.cert_format.specs.Index.{found, ArePlaced};
 ghost use Rattle.cert_format.specs.Spelling.{spell_names};
 
 use crate::writing::{put_u2, put_u4};
@@ -33,14 +33,14 @@ pub struct Index<'a> {
 
 impl<'a> Model for Index<'a> {
     ghost use Rattle.std.specs.Prelude.{ℕ, List, map};
-    ghost use Rattle.cert_format.specs.Index.{HasPlaces, AreKnown};
+    ghost use Rattle.cert_format.specs.Index.{HasPlaces, ArePlaced};
 
     ghost Value = { List (List ℕ) };
 
     ghost view = { λ i. map (λ name. name.now) i.names.items };
 
     ghost invariant = { λ i. HasPlaces (map (λ name. name.now) i.names.items) i.places
-        × AreKnown (map (λ name. name.now) i.names.items) i.slots };
+        × ArePlaced (map (λ name. name.now) i.names.items) i.slots };
 }
 
 /// Where a name is sought, by its last bytes.
@@ -54,7 +54,7 @@ fn slot_of(name: &[u8]) -> usize {
 
 /// No name yet in any slot.
 fn no_slots<'a>(alloc: Global) -> Result<List<Option<Known<'a>>>, NoMemory>
-    ensures { IfOk result (λ slots. (names : Items Name) → AreKnown names slots) }
+    ensures { IfOk result (λ slots. (names : Items Name) → ArePlaced names slots) }
 {
     let mut slots = List::with_room(alloc, SLOTS)?;
     for _ in 0..SLOTS {
@@ -65,7 +65,7 @@ fn no_slots<'a>(alloc: Global) -> Result<List<Option<Known<'a>>>, NoMemory>
 
 /// The place of the name, where it is found so.
 fn kept_in(slots: &[Option<Known<'_>>], name: &[u8]) -> Option<usize>
-    ensures { IfSome result (λ place. (names : Items Name) → AreKnown names slots.now → found names name.now ≡ Some place) }
+    ensures { IfSome result (λ place. (names : Items Name) → ArePlaced names slots.now → found names name.now ≡ Some place) }
 {
     match slots.get(slot_of(name)) {
         Some(Some(known)) => {
@@ -81,7 +81,7 @@ fn kept_in(slots: &[Option<Known<'_>>], name: &[u8]) -> Option<usize>
 
 /// Keeps the place of the name, in place of what is kept there.
 fn keep<'a>(slots: &mut List<Option<Known<'a>>>, name: &'a [u8], place: usize)
-    ensures { (names : Items Name) → AreKnown names slots.old → found names name.now ≡ Some place → AreKnown names slots.new }
+    ensures { (names : Items Name) → ArePlaced names slots.old → found names name.now ≡ Some place → ArePlaced names slots.new }
 {
     let slot = slot_of(name);
     if slot < slots.len() {

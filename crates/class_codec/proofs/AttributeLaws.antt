@@ -4,7 +4,8 @@ use Rattle.std.specs.Prelude.{◌||◌, ◌&&◌, nat_le, ◌==◌}
 use Rattle.std.proofs.lemmas.Bool.{false≢true}
 use Rattle.std.proofs.lemmas.Bool.Decides.{nat_tests}
 use Rattle.mon_base.specs.Reading.{need}
-use Rattle.mon_base.proofs.Reading.{IsTail, IsReader, then, said}
+use Rattle.mon_base.proofs.Reading.{IsTail, IsReader, need_holds, holds_need, then, said, spelled_where}
+use Rattle.mon_base.proofs.Readers.{checked, wrapped, enclosed}
 use Rattle.class_codec.specs.declared.fault.ClassFault.TheVariants.{Short, Index, Tail}
 use Rattle.class_codec.specs.declared.pool.Kind.TheVariants as kinds
 use Rattle.class_codec.specs.declared.tree.Const.{Const}
@@ -19,8 +20,7 @@ use Rattle.class_codec.specs.Spelling as spelling
 use Rattle.mon_base.specs.Widths.{IsU2, IsU4}
 use Rattle.class_codec.specs.Fits.{IsIndex, FitsBlock, FitCounted, FitsTableEntry, FitsOther, FitsAttr, FitsMember, is_read_as_code}
 use Rattle.class_codec.specs.Reading.{other_at, caught_at, table_entry_at, code_len_at, instructions_at, contents_at, code_at, named_at, attribute_at, member_at}
-use Rattle.class_codec.proofs.Readers.{checked, wrapped, enclosed, spelled_where}
-use Rattle.class_codec.proofs.Numbers.{u2_is, u4_is, rest_is, block_is, index_is, counted_is, need_holds, holds_need}
+use Rattle.class_codec.proofs.Numbers.{u2_is, u4_is, rest_is, block_is, index_is, counted_is}
 
 pub other_is : (pool : List Const) → IsReader (other_at pool) spelling.other (FitsOther pool)
 unfolding other_at

@@ -5,7 +5,8 @@ use Rattle.std.proofs.lemmas.Bool.{false≢true}
 use Rattle.std.proofs.lemmas.Bool.Decides.{nat_tests}
 use Rattle.mon_base.specs.Reading.{IsBytes, ◌>>=◌, need, whole}
 use Rattle.mon_base.specs.Answer.{Answers}
-use Rattle.mon_base.proofs.Reading.{need_ok, ok_is, IsTail, IsReader, then, done, said, whole_takes, whole_again}
+use Rattle.mon_base.proofs.Reading.{need_ok, ok_is, IsTail, IsReader, then, then_same, done, said, whole_takes, whole_again}
+use Rattle.mon_base.proofs.Readers.{wrapped}
 use Rattle.class_codec.specs.declared.fault.ClassFault.{ClassFault}
 use Rattle.class_codec.specs.declared.fault.ClassFault.TheVariants.{Magic, Version, Tail, TooLong, Memory}
 use Rattle.class_codec.specs.declared.pool.Kind.TheVariants as kinds
@@ -16,7 +17,6 @@ use Rattle.class_codec.specs.Spelling as spelling
 use Rattle.mon_base.specs.Widths.{IsU2}
 use Rattle.class_codec.specs.Fits.{IsIndex, FitCounted, FitsAttr, FitsMember, CanSpell, SpellsClass}
 use Rattle.class_codec.specs.Reading.{u2_at, head_at, body_at, file_at, class_of}
-use Rattle.class_codec.proofs.Readers.{wrapped, then_equal}
 use Rattle.class_codec.proofs.Numbers.{u2_is, u4_is, index_is, counted_is}
 use Rattle.class_codec.proofs.PoolLaws.{IsPool, pool_is, whole_pool, pool_whole}
 use Rattle.class_codec.proofs.AttributeLaws.{attribute_is, member_is}
@@ -26,12 +26,12 @@ use Rattle.class_codec.proofs.AttributeLaws.{attribute_is, member_is}
 version_is : IsReader (λ p. u2_at p >>= λ minor. u2_at minor.1 >>= λ major. need (major.0 == 49) (Version major.0) >>= λ _. Ok
     (minor.0, major.1)) (λ minor. spelling.u2 minor ++ (spelling.u2 49 ++ [])) IsU2
 version_is = said (then {known = λ _. Unit {0}} _ u2_is (λ n. n) (λ n k. tt)
-    (λ minor k. then_equal (λ n. Version n) u2_is 49 (omega arith) (done {known = λ n. Unit {0} × (n ≡ minor)} minor (tt, refl) (λ n k. k.1))))
+    (λ minor k. then_same (λ p x. Version x.0) u2_is 49 (omega arith) (done {known = λ n. Unit {0} × (n ≡ minor)} minor (tt, refl) (λ n k. k.1))))
     (λ n f k. (f.0, tt)) (λ n f k. ((f, tt), tt))
 
 head_is : IsReader head_at (λ minor. spelling.u4 0xCAFEBABE ++ (spelling.u2 minor ++ (spelling.u2 49 ++ []))) IsU2
 unfolding head_at
-head_is = then_equal (λ n. Magic) u4_is 0xCAFEBABE (omega arith) version_is
+head_is = then_same (λ p x. Magic) u4_is 0xCAFEBABE (omega arith) version_is
 
 -- ---- what stands after the pool
 

@@ -1,5 +1,4 @@
 pub mod Loop
-mod Readers
 mod Numbers
 mod PoolLaws
 mod AttributeLaws

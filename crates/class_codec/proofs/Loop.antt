@@ -1,54 +1,17 @@
 -- Reading one after the other, as a loop does.
-use Rattle.std.proofs.Common.{◌≡◌, ℕ, suc, ◌-◌, ◌+◌, ◌≤◌, ◌<◌, Bool, List, [], ◌∷◌, ◌++◌, length, get_or, take, drop, Result, Ok, Err, refl, sym, ap, subst, ◌∙◌, append_assoc, arith}
+use Rattle.std.proofs.Common.{◌≡◌, ℕ, suc, ◌-◌, ◌+◌, ◌≤◌, ◌<◌, Bool, List, [], ◌∷◌, ◌++◌, length, get_or, take, drop, Result, Ok, Err, refl, sym, ap, subst, ◌∙◌, arith}
 use Rattle.std.specs.List.{flat_map}
-use Rattle.std.proofs.lemmas.List.{append-nil, take_all, length-append}
-use Rattle.mon_base.specs.Reading.{Place, ◌>>=◌, counted}
+use Rattle.std.proofs.lemmas.List.{append-nil, length-append}
+use Rattle.mon_base.specs.Reading.{Place}
 use Rattle.mon_base.specs.Answer.{Fails}
-use Rattle.mon_base.proofs.Answering.{failed, along}
+use Rattle.mon_base.proofs.Loop.{with_front, regroup}
+use Rattle.mon_base.proofs.Lists.{front_is}
 use Rattle.class_codec.specs.declared.fault.ClassFault.{ClassFault}
 use Rattle.class_codec.specs.declared.fault.ClassFault.TheVariants.{Memory}
 use Rattle.class_codec.specs.declared.tree.Const.{Const}
 use Rattle.class_codec.specs.Spelling.{constant}
 use Rattle.class_codec.specs.Fits.{takes_two}
 use Rattle.class_codec.specs.Reading.{Read, place_at, places_at, constant_checked, all_checked}
-
--- what was read before, and what is still read
-abbrev pub with_front : {X : Type 0} → List X → Read (List X) → Read (List X)
-with_front front read = read >>= λ x. Ok (front ++ x.0, x.1)
-
-regroup : {X : Type 0} (front : List X) (n : X) (read : Read (List X))
-    → with_front front (read >>= λ x. Ok (n ∷ x.0, x.1)) ≡ with_front (front ++ n ∷ []) read
-regroup {X = X} front n (Ok x) = ap (λ (ns : List X). Ok (ns, x.1)) (simp append_assoc)
-regroup front n (Err f) = refl
-
--- ---- items
-
-pub goes_on : {X : Type 0} (item : Place → Read X) (front : List X) (count i : ℕ) (place : Place) (x : X) (next : Place)
-    (total : Read (List X)) → i < count → item place ≡ Ok (x, next)
-    → with_front front (counted item (count - i) place) ≡ total
-    → with_front (front ++ x ∷ []) (counted item (count - (i + 1)) next) ≡ total
-unfolding counted
-goes_on item front count i place x next total lt h so_far =
-    let k : count - i ≡ suc (count - (i + 1)) = omega arith in
-    let one : with_front front (counted item (count - i) place) ≡ with_front (front ++ x ∷ []) (counted item (count - (i + 1)) next) = rw (k, h) (regroup front x (counted item (count - (i + 1)) next)) in
-    sym one ∙ so_far
-
-pub ends : {X : Type 0} (item : Place → Read X) (e : ClassFault) (front : List X) (count i : ℕ) (place : Place)
-    (total : Read (List X)) → i < count → Fails Memory e (item place)
-    → with_front front (counted item (count - i) place) ≡ total → Fails Memory e total
-unfolding counted
-ends item e front count i place total lt h so_far =
-    let k : count - i ≡ suc (count - (i + 1)) = omega arith in
-    let one = failed Memory e (counted item (suc (count - (i + 1))) place) (λ x. Ok (front ++ x.0, x.1)) (failed Memory e (item place) (λ first. counted item (count - (i + 1)) first.1 >>= λ others. Ok (first.0 ∷ others.0, others.1)) h) in
-    along Memory e (with_front front (counted item (suc (count - (i + 1))) place)) total (subst (λ (n : ℕ). with_front front (counted item n place) ≡ total) k so_far) one
-
-pub is_done : {X : Type 0} (item : Place → Read X) (front : List X) (count i : ℕ) (place : Place) (total : Read (List X)) → count ≤ i
-    → with_front front (counted item (count - i) place) ≡ total → total ≡ Ok (front, place)
-unfolding counted
-is_done {X = X} item front count i place total le so_far =
-    let k : count - i ≡ 0 = omega arith in
-    let one : with_front front (counted item (count - i) place) ≡ Ok (front, place) = rw k (ap (λ (ns : List X). Ok (ns, place)) (append-nil front)) in
-    sym so_far ∙ one
 
 -- ---- places of the pool
 
@@ -68,12 +31,12 @@ pub place_ends : (e : ClassFault) (front : List Const) (second : Bool) (count i 
     → i < count → Fails Memory e (place_at second (count - i - 1) place)
     → with_front front (places_at second (count - i) place) ≡ total → Fails Memory e total
 unfolding places_at
-place_ends e front second count i place total lt h so_far =
+place_ends e front second count i place total lt h so_far is_told =
     let k : count - i ≡ suc (count - (i + 1)) = omega arith in
     let j : count - i - 1 ≡ count - (i + 1) = omega arith in
-    let h' : Fails Memory e (place_at second (count - (i + 1)) place) = rw (← j) h in
-    let one = failed Memory e (places_at second (suc (count - (i + 1))) place) (λ x. Ok (front ++ x.0, x.1)) (failed Memory e (place_at second (count - (i + 1)) place) (λ first. places_at (takes_two first.0) (count - (i + 1)) first.1 >>= λ others. Ok (first.0 ∷ others.0, others.1)) h') in
-    along Memory e (with_front front (places_at second (suc (count - (i + 1))) place)) total (subst (λ (n : ℕ). with_front front (places_at second n place) ≡ total) k so_far) one
+    let h' : place_at second (count - (i + 1)) place ≡ Err e = rw (← j) (h is_told) in
+    let one : with_front front (places_at second (count - i) place) ≡ Err e = rw (k, h') refl in
+    sym so_far ∙ one
 
 pub places_done : (front : List Const) (second : Bool) (count i : ℕ) (place : Place) (total : Read (List Const)) → count ≤ i
     → with_front front (places_at second (count - i) place) ≡ total → total ≡ Ok (front, place)
@@ -97,27 +60,20 @@ pub check_ends : (e : ClassFault) (pool : List Const) (first : Const) (others : 
     (total : Result (Unit {0}) ClassFault) → Fails Memory e (constant_checked pool first at)
     → all_checked pool (first ∷ others) at ≡ total → Fails Memory e total
 unfolding all_checked
-check_ends e pool first others at total h so_far =
-    along Memory e (all_checked pool (first ∷ others) at) total so_far (failed Memory e (constant_checked pool first at) (λ _. all_checked pool others (at + length (constant first))) h)
+check_ends e pool first others at total h so_far is_told =
+    let one : all_checked pool (first ∷ others) at ≡ Err e = rw (h is_told) refl in
+    sym so_far ∙ one
 
 pub checks_done : (pool : List Const) (at : ℕ) (total : Result (Unit {0}) ClassFault) → all_checked pool [] at ≡ total → total ≡ Ok tt
 unfolding all_checked
 checks_done pool at total so_far = sym so_far
-
-others_are : (left : List Const) (first : Const) → 1 ≤ length left → first ≡ get_or left 0 first
-    → left ≡ first ∷ take (length left - 1) (drop 1 left)
-others_are [] first some is = absurd (omega arith)
-others_are (x ∷ xs) first some is =
-    let n : length (x ∷ xs) - 1 ≡ length xs = omega arith in
-    let same : take (length (x ∷ xs) - 1) xs ≡ xs = rw n (take_all (length xs) xs (omega arith)) in
-    rw (same, is) refl
 
 pub checks_step : (pool left : List Const) (first : Const) (at len : ℕ) (total : Result (Unit {0}) ClassFault) → 1 ≤ length left
     → first ≡ get_or left 0 first
     → len ≡ length (constant first) → constant_checked pool first at ≡ Ok tt → all_checked pool left at ≡ total
     → all_checked pool (take (length left - 1) (drop 1 left)) (at + len) ≡ total
 checks_step pool left first at len total some is l h so_far =
-    let same = others_are left first some is in
+    let same = front_is left first some is in
     let so_far' : all_checked pool (first ∷ take (length left - 1) (drop 1 left)) at ≡ total = ap (λ (xs : List Const). all_checked pool xs at) (sym same) ∙ so_far in
     subst (λ (n : ℕ). all_checked pool (take (length left - 1) (drop 1 left)) (at + n) ≡ total) (sym l) (checks_on pool first (take (length left - 1) (drop 1 left)) at total h so_far')
 
@@ -125,7 +81,7 @@ pub sum_step : (left : List Const) (first : Const) (at len total : ℕ) → 1 �
     → len ≡ length (constant first) → at + length (flat_map constant left) ≡ total
     → at + len + length (flat_map constant (take (length left - 1) (drop 1 left))) ≡ total
 sum_step left first at len total some is l so_far =
-    let same = others_are left first some is in
+    let same = front_is left first some is in
     let all : length (flat_map constant left) ≡ length (constant first) + length (flat_map constant (take (length left - 1) (drop 1 left))) = ap (λ (xs : List Const). length (flat_map constant xs)) same ∙ length-append (constant first) (flat_map constant (take (length left - 1) (drop 1 left))) in
     omega (arith, all, l, so_far)
 
@@ -133,7 +89,7 @@ pub check_step_ends : (e : ClassFault) (pool left : List Const) (first : Const) 
     → 1 ≤ length left → first ≡ get_or left 0 first
     → Fails Memory e (constant_checked pool first at) → all_checked pool left at ≡ total → Fails Memory e total
 check_step_ends e pool left first at total some is h so_far =
-    let same = others_are left first some is in
+    let same = front_is left first some is in
     let so_far' : all_checked pool (first ∷ take (length left - 1) (drop 1 left)) at ≡ total = ap (λ (xs : List Const). all_checked pool xs at) (sym same) ∙ so_far in
     check_ends e pool first (take (length left - 1) (drop 1 left)) at total h so_far'
 

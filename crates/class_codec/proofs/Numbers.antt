@@ -1,8 +1,8 @@
 -- Numbers, byte strings and indices are read exactly as they are spelled.
-use Rattle.std.proofs.Common.{◌≡◌, ℕ, ◌<◌, Bool, true, false, List, length, Ok, refl}
+use Rattle.std.proofs.Common.{◌≡◌, ℕ, ◌<◌, true, List, length}
 use Rattle.mon_base.specs.Reading.{Place, need}
-use Rattle.mon_base.proofs.Reading.{IsTail, IsReader, then, said, items, number_is, bytes_is, one, two, four, eight}
-use Rattle.class_codec.specs.declared.fault.ClassFault.{ClassFault}
+use Rattle.mon_base.proofs.Reading.{IsTail, IsReader, need_holds, holds_need, then, said, last, items, number_is, bytes_is, text_is, one, two, four, eight}
+use Rattle.mon_base.proofs.Readers.{checked}
 use Rattle.class_codec.specs.declared.fault.ClassFault.TheVariants.{Short, Index}
 use Rattle.class_codec.specs.declared.pool.Kind.{Kind}
 use Rattle.class_codec.specs.declared.tree.Const.{Const}
@@ -11,7 +11,6 @@ use Rattle.class_codec.specs.Spelling as spelling
 use Rattle.mon_base.specs.Widths.{IsU2, IsU4, IsU8}
 use Rattle.class_codec.specs.Fits.{IsIndex, FitsBlock, FitCounted}
 use Rattle.class_codec.specs.Reading.{Read, u1_at, u2_at, u4_at, u8_at, taken_at, block_at, index_at, counted_at}
-use Rattle.class_codec.proofs.Readers.{checked}
 
 pub u1_is : IsReader u1_at spelling.u1 (λ n. n < 256)
 unfolding u1_at
@@ -35,20 +34,11 @@ taken_is n = bytes_is n (λ p. Short p.at)
 
 -- bytes of which the length was told
 pub rest_is : (n : ℕ) → IsTail (taken_at n) (λ bytes. bytes) (λ bytes. Unit {0}) (λ bytes. Unit {0} × (length bytes ≡ n))
-rest_is n = said (taken_is n) (λ a f k. (f, (tt, k))) (λ a f k. (f, k.1))
+rest_is n = last (taken_is n)
 
 pub block_is : IsReader block_at spelling.block FitsBlock
-unfolding block_at
-block_is = said (then {known = λ _. Unit {0}} _ u4_is length (λ a k. tt) (λ n k. rest_is n))
-    (λ a f k. (f.0, tt)) (λ a f k. ((f, tt), tt))
-
--- a test after a reading
-pub need_holds : (b : Bool) (fault : ClassFault) → need b fault ≡ Ok tt → b ≡ true
-need_holds true fault e = refl
-need_holds false fault e = absurd cc
-
-pub holds_need : (b : Bool) (fault : ClassFault) → b ≡ true → need b fault ≡ Ok tt
-holds_need b fault e = rw e refl
+unfolding block_at u4_at taken_at
+block_is = text_is four (λ p. Short p.at) (λ p. Short p.at)
 
 pub index_is : (kind : Kind) (pool : List Const) → IsReader (index_at kind pool) spelling.u2 (IsIndex kind pool)
 unfolding index_at
@@ -62,6 +52,6 @@ index_is kind pool = said (checked (λ index. names kind pool index ≡ true) (�
 pub counted_is : {X : Type 0} {item : Place → Read X} {spell : X → List ℕ} {Fits : X → Type 0} → IsReader item spell Fits
     → IsReader (counted_at item) (spelling.counted spell) (FitCounted Fits)
 unfolding counted_at
-counted_is is = said (then {known = λ _. Unit {0}} _ u2_is length (λ a k. tt) (λ n k. said (items is n) (λ a f k. (f, (tt, k))) (λ a f k. (f, k.1))))
+counted_is is = said (then {known = λ _. Unit {0}} _ u2_is length (λ a k. tt) (λ n k. last (items is n)))
     (λ a f k. (record { count = f.0; each = f.1 }, tt))
     (λ a f k. ((f.count, f.each), tt))

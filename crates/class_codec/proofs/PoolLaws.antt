@@ -1,14 +1,15 @@
 -- The constant pool is read exactly as it is spelled.
-use Rattle.std.proofs.Common.{◌≡◌, ℕ, zero, suc, ◌+◌, ◌<◌, ◌≤◌, ◌^◌, Bool, true, false, cond, not, eqb, ltb, List, [], ◌∷◌, ◌++◌, length, Option, Some, None, Ok, refl, sym, ap, subst, ◌∙◌, append_assoc, arith, ℤ, FitsSigned}
+use Rattle.std.proofs.Common.{◌≡◌, ℕ, zero, suc, ◌+◌, ◌<◌, ◌≤◌, Bool, true, false, cond, not, eqb, ltb, List, [], ◌∷◌, ◌++◌, length, Option, Some, None, Ok, refl, sym, ap, subst, ◌∙◌, append_assoc, arith, ℤ, FitsSigned}
 use Rattle.std.specs.Prelude.{nat_lt, position}
 use Rattle.std.specs.Int.{w32, w64, cast_signed, cast_unsigned}
 use Rattle.std.specs.List.{flat_map, AllByRecursion, position_or_len}
 use Rattle.std.proofs.lemmas.Bool.{false≢true, eq-eqb, eqb-true, ltb-true, ltb-false, lt-ltb, le-ltb}
 use Rattle.std.proofs.lemmas.Bool.Decides.{nat_tests}
-use Rattle.std.proofs.lemmas.Int.{of_z-to_z, to_z-of_z, ints}
+use Rattle.std.proofs.lemmas.Int.{of_z-to_z, to_z-of_z}
 use Rattle.std.proofs.lemmas.List.{length-append}
 use Rattle.mon_base.specs.Reading.{Place, IsBytes, ◌>>=◌}
-use Rattle.mon_base.proofs.Reading.{bind_ok, ok_is, after, Took, Took-then, IsTail, IsReader, then, said, done, guard, choose, refuse}
+use Rattle.mon_base.proofs.Reading.{bind_ok, ok_is, need_holds, holds_need, after, Took, Took-then, IsTail, IsReader, then_from, then, said, last, done, guard, choose, refuse, spelled_where}
+use Rattle.mon_base.proofs.Readers.{checked, wrapped, pair_is, signed_fits, unsigned_fits}
 use Rattle.class_codec.specs.declared.fault.ClassFault.{ClassFault}
 use Rattle.class_codec.specs.declared.fault.ClassFault.TheVariants.{Index, Tag}
 use Rattle.class_codec.specs.declared.pool.Kind.{Kind}
@@ -20,8 +21,7 @@ use Rattle.class_codec.specs.Spelling as spelling
 use Rattle.mon_base.specs.Widths.{IsU2, IsU8}
 use Rattle.class_codec.specs.Fits.{IsTextByte, FitsConst, is_second, takes_two, HasSeconds, IsNamed, FitsPool}
 use Rattle.class_codec.specs.Reading.{Read, u2_at, u4_at, is_no_text_byte, text_checked, text_at, pair_at, wide_at, payload_at, constant_at, place_at, places_at, index_checked, pair_checked, constant_checked, all_checked, pool_at}
-use Rattle.class_codec.proofs.Readers.{then_from, checked, wrapped, spelled_where}
-use Rattle.class_codec.proofs.Numbers.{u1_is, u2_is, u4_is, u8_is, rest_is, need_holds, holds_need}
+use Rattle.class_codec.proofs.Numbers.{u1_is, u2_is, u4_is, u8_is, rest_is}
 
 -- ---- texts
 
@@ -93,10 +93,9 @@ text_is = said (then {Fits = λ bytes. Unit {0} × AllByRecursion IsTextByte byt
 
 -- ---- pairs of indices, and numbers of eight bytes
 
-pair_is : IsReader pair_at (λ x. spelling.u2 x.0 ++ spelling.u2 x.1) (λ x. IsU2 x.0 × IsU2 x.1)
+indices_are : IsReader pair_at (λ x. spelling.u2 x.0 ++ spelling.u2 x.1) (λ x. IsU2 x.0 × IsU2 x.1)
 unfolding pair_at
-pair_is = then {Fits = λ x. IsU2 x.1} {known = λ _. Unit {0}} _ u2_is (λ x. x.0) (λ a k. tt)
-    (λ m k. wrapped {A = ℕ × ℕ} (λ n. (m, n)) u2_is (λ n f k. (refl, f, (tt, refl))) (λ a f k. (a.1, rw (← k.1) refl, f, tt)))
+indices_are = pair_is u2_is u2_is
 
 wide_is : (at left : ℕ) → IsReader (wide_at at left) spelling.u8 (λ n. (0 < left) × IsU8 n)
 unfolding wide_at
@@ -133,11 +132,14 @@ payload (IMethod class name) = spelling.u2 class ++ spelling.u2 name
 payload (NameAndType name desc) = spelling.u2 name ++ spelling.u2 desc
 payload Second = []
 
--- a constant with `left` places after its first
-record Stands (left : ℕ) (c : Const) : Type 0 where
+-- a constant with `left` places after its first, or the second place of one
+record StandsAt (second : Bool) (left : ℕ) (c : Const) : Type 0 where
   fits : FitsConst c
-  first : is_second c ≡ false
+  first : is_second c ≡ second
   room : takes_two c ≡ true → 0 < left
+
+abbrev Stands : ℕ → Const → Type 0
+Stands left c = StandsAt false left c
 
 is_utf8 : (c : Const) → tag_of c ≡ 1 → (bytes : List ℕ) × (Utf8 bytes ≡ c)
 is_utf8 (Utf8 bytes) e = (bytes, refl)
@@ -194,41 +196,35 @@ IsPayload left tag reader = IsTail reader payload (Stands left) (Tagged tag)
 no_room : (left : ℕ) → false ≡ true → 0 < left
 no_room left e = absurd cc
 
-signed_32 : (n : ℕ) → n < 2 ^ 32 → FitsSigned w32 (cast_signed w32 n)
-signed_32 n h = omega (arith, ints)
-
-unsigned_32 : (z : ℤ) → FitsSigned w32 z → cast_unsigned w32 z < 2 ^ 32
-unsigned_32 z h = omega (arith, ints)
-
-signed_64 : (n : ℕ) → n < 2 ^ 64 → FitsSigned w64 (cast_signed w64 n)
-signed_64 n h = omega (arith, ints)
-
-unsigned_64 : (z : ℤ) → FitsSigned w64 z → cast_unsigned w64 z < 2 ^ 64
-unsigned_64 z h = omega (arith, ints)
+-- one form of a constant of one place, which is what follows its tag
+one_place : {X : Type 0} {reader : Place → Read X} {spell_x : X → List ℕ} {Fits_x : X → Type 0} (wrap : X → Const) (n : ℕ) → IsReader reader spell_x Fits_x
+    → ((x : X) → (spell_x x ≡ payload (wrap x)) × (tag_of (wrap x) ≡ n) × (is_second (wrap x) ≡ false) × (takes_two (wrap x) ≡ false))
+    → ((x : X) → Fits_x x → FitsConst (wrap x)) → ((x : X) → FitsConst (wrap x) → Fits_x x)
+    → ((c : Const) → tag_of c ≡ n → (x : X) × (wrap x ≡ c))
+    → (left tag : ℕ) → tag ≡ n → IsPayload left tag (λ p. reader p >>= λ x. Ok (wrap x.0, x.1))
+one_place wrap n is form to from own left tag t = wrapped wrap is
+    (λ x f k. let h = form x in (h.0, record { fits = to x f; first = h.2; room = λ e. no_room left (sym h.3 ∙ e) }, (tt, h.1 ∙ sym t)))
+    (λ c f k. let g = own c (k.1 ∙ t) in (g.0, g.1, from g.0 (subst FitsConst (sym g.1) f.fits), tt))
 
 utf8_is : (left tag : ℕ) → tag ≡ 1 → IsPayload left tag (λ p. text_at p >>= λ x. Ok (Utf8 x.0, x.1))
-utf8_is left tag t = wrapped (λ x. Utf8 x) text_is
-    (λ x f k. (refl, record { fits = f; first = refl; room = λ e. no_room left e }, (tt, sym t)))
-    (λ c f k. let g = is_utf8 c (k.1 ∙ t) in (g.0, g.1, subst FitsConst (sym g.1) f.fits, tt))
+utf8_is = one_place (λ x. Utf8 x) 1 text_is (λ x. (refl, refl, refl, refl)) (λ x f. f) (λ x f. f) is_utf8
 
 integer_is : (left tag : ℕ) → tag ≡ 3 → IsPayload left tag (λ p. u4_at p >>= λ x. Ok (Integer (cast_signed w32 x.0), x.1))
 integer_is left tag t = wrapped (λ x. Integer (cast_signed w32 x)) u4_is
-    (λ x f k. (ap spelling.u4 (sym (of_z-to_z w32 x f)), record { fits = signed_32 x f; first = refl; room = λ e. no_room left e }, (tt, sym t)))
+    (λ x f k. (ap spelling.u4 (sym (of_z-to_z w32 x f)), record { fits = signed_fits w32 x f; first = refl; room = λ e. no_room left e }, (tt, sym t)))
     (λ c f k. let g = is_integer c (k.1 ∙ t) in
     let fits : FitsSigned w32 g.0 = subst FitsConst (sym g.1) f.fits in
-    (cast_unsigned w32 g.0, ap (λ (z : ℤ). Integer z) (to_z-of_z w32 g.0 fits) ∙ g.1, unsigned_32 g.0 fits, tt))
+    (cast_unsigned w32 g.0, ap (λ (z : ℤ). Integer z) (to_z-of_z w32 g.0 fits) ∙ g.1, unsigned_fits w32 g.0 fits, tt))
 
 float_is : (left tag : ℕ) → tag ≡ 4 → IsPayload left tag (λ p. u4_at p >>= λ x. Ok (Float x.0, x.1))
-float_is left tag t = wrapped (λ x. Float x) u4_is
-    (λ x f k. (refl, record { fits = f; first = refl; room = λ e. no_room left e }, (tt, sym t)))
-    (λ c f k. let g = is_float c (k.1 ∙ t) in (g.0, g.1, subst FitsConst (sym g.1) f.fits, tt))
+float_is = one_place (λ x. Float x) 4 u4_is (λ x. (refl, refl, refl, refl)) (λ x f. f) (λ x f. f) is_float
 
 long_is : (at left tag : ℕ) → tag ≡ 5 → IsPayload left tag (λ p. wide_at at left p >>= λ x. Ok (Long (cast_signed w64 x.0), x.1))
 long_is at left tag t = wrapped (λ x. Long (cast_signed w64 x)) (wide_is at left)
-    (λ x f k. (ap spelling.u8 (sym (of_z-to_z w64 x f.1)), record { fits = signed_64 x f.1; first = refl; room = λ e. f.0 }, (tt, sym t)))
+    (λ x f k. (ap spelling.u8 (sym (of_z-to_z w64 x f.1)), record { fits = signed_fits w64 x f.1; first = refl; room = λ e. f.0 }, (tt, sym t)))
     (λ c f k. let g = is_long c (k.1 ∙ t) in
     let fits : FitsSigned w64 g.0 = subst FitsConst (sym g.1) f.fits in
-    (cast_unsigned w64 g.0, ap (λ (z : ℤ). Long z) (to_z-of_z w64 g.0 fits) ∙ g.1, (f.room (ap takes_two (sym g.1)), unsigned_64 g.0 fits), tt))
+    (cast_unsigned w64 g.0, ap (λ (z : ℤ). Long z) (to_z-of_z w64 g.0 fits) ∙ g.1, (f.room (ap takes_two (sym g.1)), unsigned_fits w64 g.0 fits), tt))
 
 double_is : (at left tag : ℕ) → tag ≡ 6 → IsPayload left tag (λ p. wide_at at left p >>= λ x. Ok (Double x.0, x.1))
 double_is at left tag t = wrapped (λ x. Double x) (wide_is at left)
@@ -236,34 +232,22 @@ double_is at left tag t = wrapped (λ x. Double x) (wide_is at left)
     (λ c f k. let g = is_double c (k.1 ∙ t) in (g.0, g.1, (f.room (ap takes_two (sym g.1)), subst FitsConst (sym g.1) f.fits), tt))
 
 class_is : (left tag : ℕ) → tag ≡ 7 → IsPayload left tag (λ p. u2_at p >>= λ x. Ok (Class x.0, x.1))
-class_is left tag t = wrapped (λ x. Class x) u2_is
-    (λ x f k. (refl, record { fits = f; first = refl; room = λ e. no_room left e }, (tt, sym t)))
-    (λ c f k. let g = is_class c (k.1 ∙ t) in (g.0, g.1, subst FitsConst (sym g.1) f.fits, tt))
+class_is = one_place (λ x. Class x) 7 u2_is (λ x. (refl, refl, refl, refl)) (λ x f. f) (λ x f. f) is_class
 
 str_is : (left tag : ℕ) → tag ≡ 8 → IsPayload left tag (λ p. u2_at p >>= λ x. Ok (Str x.0, x.1))
-str_is left tag t = wrapped (λ x. Str x) u2_is
-    (λ x f k. (refl, record { fits = f; first = refl; room = λ e. no_room left e }, (tt, sym t)))
-    (λ c f k. let g = is_str c (k.1 ∙ t) in (g.0, g.1, subst FitsConst (sym g.1) f.fits, tt))
+str_is = one_place (λ x. Str x) 8 u2_is (λ x. (refl, refl, refl, refl)) (λ x f. f) (λ x f. f) is_str
 
 field_is : (left tag : ℕ) → tag ≡ 9 → IsPayload left tag (λ p. pair_at p >>= λ x. Ok (Field x.0.0 x.0.1, x.1))
-field_is left tag t = wrapped (λ x. Field x.0 x.1) pair_is
-    (λ x f k. (refl, record { fits = f; first = refl; room = λ e. no_room left e }, (tt, sym t)))
-    (λ c f k. let g = is_field c (k.1 ∙ t) in (g.0, g.1, subst FitsConst (sym g.1) f.fits, tt))
+field_is = one_place (λ x. Field x.0 x.1) 9 indices_are (λ x. (refl, refl, refl, refl)) (λ x f. f) (λ x f. f) is_field
 
 method_is : (left tag : ℕ) → tag ≡ 10 → IsPayload left tag (λ p. pair_at p >>= λ x. Ok (Method x.0.0 x.0.1, x.1))
-method_is left tag t = wrapped (λ x. Method x.0 x.1) pair_is
-    (λ x f k. (refl, record { fits = f; first = refl; room = λ e. no_room left e }, (tt, sym t)))
-    (λ c f k. let g = is_method c (k.1 ∙ t) in (g.0, g.1, subst FitsConst (sym g.1) f.fits, tt))
+method_is = one_place (λ x. Method x.0 x.1) 10 indices_are (λ x. (refl, refl, refl, refl)) (λ x f. f) (λ x f. f) is_method
 
 imethod_is : (left tag : ℕ) → tag ≡ 11 → IsPayload left tag (λ p. pair_at p >>= λ x. Ok (IMethod x.0.0 x.0.1, x.1))
-imethod_is left tag t = wrapped (λ x. IMethod x.0 x.1) pair_is
-    (λ x f k. (refl, record { fits = f; first = refl; room = λ e. no_room left e }, (tt, sym t)))
-    (λ c f k. let g = is_imethod c (k.1 ∙ t) in (g.0, g.1, subst FitsConst (sym g.1) f.fits, tt))
+imethod_is = one_place (λ x. IMethod x.0 x.1) 11 indices_are (λ x. (refl, refl, refl, refl)) (λ x f. f) (λ x f. f) is_imethod
 
 name_and_type_is : (left tag : ℕ) → tag ≡ 12 → IsPayload left tag (λ p. pair_at p >>= λ x. Ok (NameAndType x.0.0 x.0.1, x.1))
-name_and_type_is left tag t = wrapped (λ x. NameAndType x.0 x.1) pair_is
-    (λ x f k. (refl, record { fits = f; first = refl; room = λ e. no_room left e }, (tt, sym t)))
-    (λ c f k. let g = is_name_and_type c (k.1 ∙ t) in (g.0, g.1, subst FitsConst (sym g.1) f.fits, tt))
+name_and_type_is = one_place (λ x. NameAndType x.0 x.1) 12 indices_are (λ x. (refl, refl, refl, refl)) (λ x f. f) (λ x f. f) is_name_and_type
 
 -- Every constant has one of the tags.
 record IsNoTag (tag : ℕ) : Type 0 where
@@ -351,12 +335,6 @@ constant_is left = spelled_where {spell = λ c. spelling.u1 (tag_of c) ++ payloa
 
 -- ---- places
 
--- a place with `left` places after it
-record StandsAt (second : Bool) (left : ℕ) (c : Const) : Type 0 where
-  fits : FitsConst c
-  first : is_second c ≡ second
-  room : takes_two c ≡ true → 0 < left
-
 second_is : (c : Const) → is_second c ≡ true → c ≡ Second
 second_is Second e = refl
 second_is c e = absurd (false≢true e)
@@ -369,7 +347,7 @@ second_at left = said (spelled_where {spell = λ c. []} (done {known = λ c. c �
 place_is : (second : Bool) (left : ℕ) → IsReader (place_at second left) spelling.constant (StandsAt second left)
 unfolding place_at
 place_is true left = second_at left
-place_is false left = said (constant_is left) (λ c f k. (record { fits = f.fits; first = f.first; room = f.room }, tt)) (λ c f k. (record { fits = f.fits; first = f.first; room = f.room }, tt))
+place_is false left = constant_is left
 
 -- Second stands where it is due, as far as the places go.
 abbrev Due : Bool → List Const → Type 0
@@ -489,7 +467,7 @@ pub record IsPool (pool : List Const) : Type 0 where
 pub pool_is : IsReader pool_at (spelling.counted spelling.constant) IsPool
 unfolding pool_at
 pool_is = said (then {Fits = λ cs. (Due true cs × AllByRecursion FitsConst cs) × AllByRecursion (IsNamed cs) cs} {known = λ _. Unit {0}} _ u2_is length (λ a k. tt)
-    (λ n k. checked (λ cs. AllByRecursion (IsNamed cs) cs) (λ p cs. all_checked cs cs p.at) (said (places_is true n) (λ a f k. (f, (tt, k))) (λ a f k. (f, k.1)))
+    (λ n k. checked (λ cs. AllByRecursion (IsNamed cs) cs) (λ p cs. all_checked cs cs p.at) (last (places_is true n))
     (λ p cs e. all_named cs cs p.at e)
     (λ p cs h. named_all cs cs p.at h)))
     (λ a f k. (record { count = f.0; each = f.1.0.1; due = f.1.0.0; named = f.1.1 }, tt))

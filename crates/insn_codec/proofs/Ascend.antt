@@ -3,19 +3,10 @@ use Rattle.std.proofs.Common.{◌≡◌, ℤ, pos, ◌+ℤ◌, ◌-◌, ◌≤�
 use Rattle.std.specs.Prelude.{int_lt, int_le}
 use Rattle.std.specs.Int.{w32, w64}
 use mir.Val.{to_z, of_z}
-use Rattle.std.proofs.lemmas.List.{take_all}
 use Rattle.std.proofs.lemmas.Int.{ints}
+use Rattle.mon_base.proofs.Lists.{front_at}
 use Rattle.insn_codec.specs.declared.insn.Case.{Case}
 use Rattle.insn_codec.specs.Reading.{ascend_from}
-
--- what is left after the first
-pub others_are : {X : Type 0} (left : List X) (d : X) → 1 ≤ length left
-    → left ≡ get_or left 0 d ∷ take (length left - 1) (drop 1 left)
-others_are [] d some = absurd (omega arith)
-others_are (x ∷ xs) d some =
-    let n : length (x ∷ xs) - 1 ≡ length xs = omega arith in
-    let same : take (length (x ∷ xs) - 1) xs ≡ xs = rw n (take_all (length xs) xs (omega arith)) in
-    rw same refl
 
 widened : (k : ℤ) → FitsSigned w32 k → to_z w64 (of_z w64 (to_z w32 (of_z w32 k))) ≡ k
 widened k f = omega (arith, ints)
@@ -52,7 +43,7 @@ pub ascends_on : (left : List Case) (d : Case) (least : ℤ) (total : Bool) → 
     → ascend_from (to_z w64 (of_z w64 (to_z w64 (of_z w64 (to_z w32 (of_z w32 (get_or left 0 d).key))) +ℤ pos 1))) (keys (take (length left - 1) (drop 1 left))) ≡ total
 ascends_on left d least total some fits h so_far =
     let k = (get_or left 0 d).key in
-    let same = others_are left d some in
+    let same = front_at left d some in
     let h' : int_le least k ≡ true = not_below k least (rw (← widened k fits) h) in
     let so_far' : ascend_from least (keys (get_or left 0 d ∷ take (length left - 1) (drop 1 left))) ≡ total = ap (λ (xs : List Case). ascend_from least (keys xs)) (sym same) ∙ so_far in
     rw (widened_next k fits) (step (get_or left 0 d) (take (length left - 1) (drop 1 left)) least total h' so_far')
@@ -62,7 +53,7 @@ pub ascends_no : (left : List Case) (d : Case) (least : ℤ) (total : Bool) → 
     → ascend_from least (keys left) ≡ total → false ≡ total
 ascends_no left d least total some fits h so_far =
     let k = (get_or left 0 d).key in
-    let same = others_are left d some in
+    let same = front_at left d some in
     let h' : int_le least k ≡ false = below k least (rw (← widened k fits) h) in
     let so_far' : ascend_from least (keys (get_or left 0 d ∷ take (length left - 1) (drop 1 left))) ≡ total = ap (λ (xs : List Case). ascend_from least (keys xs)) (sym same) ∙ so_far in
     stop (get_or left 0 d) (take (length left - 1) (drop 1 left)) least total h' so_far'

@@ -21,6 +21,7 @@ use Rattle.insn_codec.proofs.InsnLaws.{insn_is}
 use Rattle.insn_codec.proofs.Finding.{leads, Alike, same_finder, insn_any}
 use Rattle.insn_codec.proofs.Sequence.{first_of, none_left, none_asked, all_read, code_read}
 use Rattle.insn_codec.proofs.Standing.{size-some, nothing, ended_on}
+use Rattle.insn_codec.proofs.Putting.{bytes_first, bytes_none}
 use Rattle.insn_codec.specs.declared.opcodes.TheConstants.{TABLESWITCH, LOOKUPSWITCH}
 
 -- ---- sizes
@@ -81,14 +82,6 @@ size_is starts at (Lookup other keys targets) f =
 abbrev FitsFrom : List ℕ → ℕ → ℕ → List Insn → Type 0
 FitsFrom starts n at [] = Unit {0}
 FitsFrom starts n at (first ∷ others) = FitsInsn starts n at first × FitsFrom starts n (at + size at first) others
-
-bytes_first : (starts : List ℕ) (at : ℕ) (x : Insn) (xs : List Insn) → bytes_from starts at (x ∷ xs) ≡ bytes_of starts at x ++ bytes_from starts (at + size at x) xs
-unfolding bytes_from
-bytes_first starts at x xs = refl
-
-bytes_none : (starts : List ℕ) (at : ℕ) → bytes_from starts at [] ≡ []
-unfolding bytes_from
-bytes_none starts at = refl
 
 abbrev Spells : List ℕ → ℕ → ℕ → List Insn → List ℕ → Type 0
 Spells starts n at xs bytes = (bytes ≡ bytes_from starts at xs) × FitsFrom starts n at xs

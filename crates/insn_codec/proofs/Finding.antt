@@ -18,13 +18,9 @@ use Rattle.insn_codec.specs.Spelling.{padding, size, starts_from, starts_of}
 use Rattle.insn_codec.specs.Reading.{Finder, Read, any, among, next_index, index_from, target_of, u1_at, i2_at, i4_at, near_at, far_at, padding_at, all_zero, bounds_at, ranged_at, table_at, case_at, ascend, count_at, cases_at, keyed_at, lookup_at, operands_at, insn_at}
 use Rattle.insn_codec.proofs.Laws.{Leads}
 use Rattle.insn_codec.proofs.Marks.{index_none, index_here, index_later, index_before}
-use Rattle.insn_codec.proofs.Standing.{size-some}
+use Rattle.insn_codec.proofs.Standing.{size-some, starts_first}
 
 -- ---- the instruction that begins at a position
-
-starts_first : (at : ℕ) (x : Insn) (xs : List Insn) → starts_from at (x ∷ xs) ≡ at ∷ starts_from (at + size at x) xs
-unfolding starts_from
-starts_first at x xs = refl
 
 some_is : (a b : ℕ) → Some a ≡ Some b → a ≡ b
 some_is a b e = cc
@@ -119,23 +115,25 @@ same_finder xs ys h = fun_ext (λ z. alike_among xs ys h z)
 
 -- ---- reading with any targets
 
-near_any : (find : Finder) (at : ℕ) (p : Place) (to : ℕ) (next : Place) → near_at find at p ≡ Ok (to, next) → near_at any at p ≡ Ok (0, next)
-unfolding near_at
-near_any find at p to next e =
-    let b = bind_ok (i2_at at p) (λ by. target_of find at by.0 >>= λ to. Ok (to, by.1)) (to, next) e in
+abbrev aimed : (Place → Read ℤ) → Finder → ℕ → Place → Read ℕ
+aimed reader find at p = reader p >>= λ by. target_of find at by.0 >>= λ to. Ok (to, by.1)
+
+target_any : (reader : Place → Read ℤ) (find : Finder) (at : ℕ) (p : Place) (to : ℕ) (next : Place)
+    → aimed reader find at p ≡ Ok (to, next) → aimed reader any at p ≡ Ok (0, next)
+target_any reader find at p to next e =
+    let b = bind_ok (reader p) (λ by. target_of find at by.0 >>= λ to. Ok (to, by.1)) (to, next) e in
     let g = bind_ok (target_of find at b.0.0) (λ to. Ok (to, b.0.1)) (to, next) b.2 in
     let made : ℕ × Place = (g.0, b.0.1) in
     let same : b.0.1 ≡ next = ap (λ (x : ℕ × Place). x.1) (ok_is CodeFault made (to, next) g.2) in
     rw (b.1, same) refl
 
+near_any : (find : Finder) (at : ℕ) (p : Place) (to : ℕ) (next : Place) → near_at find at p ≡ Ok (to, next) → near_at any at p ≡ Ok (0, next)
+unfolding near_at
+near_any find at p to next e = target_any (i2_at at) find at p to next e
+
 far_any : (find : Finder) (at : ℕ) (p : Place) (to : ℕ) (next : Place) → far_at find at p ≡ Ok (to, next) → far_at any at p ≡ Ok (0, next)
 unfolding far_at
-far_any find at p to next e =
-    let b = bind_ok (i4_at at p) (λ by. target_of find at by.0 >>= λ to. Ok (to, by.1)) (to, next) e in
-    let g = bind_ok (target_of find at b.0.0) (λ to. Ok (to, b.0.1)) (to, next) b.2 in
-    let made : ℕ × Place = (g.0, b.0.1) in
-    let same : b.0.1 ≡ next = ap (λ (x : ℕ × Place). x.1) (ok_is CodeFault made (to, next) g.2) in
-    rw (b.1, same) refl
+far_any find at p to next e = target_any (i4_at at) find at p to next e
 
 case_step : (find : Finder) (at : ℕ) (p : Place) (key : ℤ) (p1 : Place) (to : ℕ) (p2 : Place) → i4_at at p ≡ Ok (key, p1)
     → far_at find at p1 ≡ Ok (to, p2) → case_at find at p ≡ Ok (record { key = key; to = to }, p2)
@@ -253,65 +251,49 @@ keyed_any find at pad p x next e =
     let sizes : SameSize other first = λ k. ap (λ (n : ℕ). 9 + padding k + 8 * n) len in
     (other, keyed_step any at pad p 0 a.0.1 ds b.0.1 one many.1 test ∙ ap (λ (y : Insn × Place). Ok (other, y.1)) is, subst (λ (y : Insn). SameSize other y) (ap (λ (y : Insn × Place). y.0) is) sizes)
 
-table_step : (find : Finder) (at : ℕ) (p : Place) (pad : List ℕ) (p1 : Place) → padding_at at p ≡ Ok (pad, p1) → table_at find at p ≡ ranged_at find at pad p1
-unfolding table_at
-table_step find at p pad p1 h = rw h refl
+-- what is read first is the same
+after_any : {B : Type 0} (first : Place → Read B) (reader other : B → Place → Read Insn)
+    → ((b : B) (p : Place) (x : Insn) (next : Place) → reader b p ≡ Ok (x, next) → AlikeAt (other b) x p next)
+    → (p : Place) (x : Insn) (next : Place) → (first p >>= λ b. reader b.0 b.1) ≡ Ok (x, next)
+    → AlikeAt (λ q. first q >>= λ b. other b.0 b.1) x p next
+after_any {B = B} first reader other each p x next e =
+    let a = bind_ok (first p) (λ b. reader b.0 b.1) (x, next) e in
+    let h = each a.0.0 a.0.1 x next a.2 in
+    (h.0, ap (λ (r : Read B). r >>= λ b. other b.0 b.1) a.1 ∙ h.1, h.2)
 
 table_any : (find : Finder) (at : ℕ) (p : Place) (x : Insn) (next : Place) → table_at find at p ≡ Ok (x, next) → AlikeAt (table_at any at) x p next
 unfolding table_at
-table_any find at p x next e =
-    let a = bind_ok (padding_at at p) (λ pad. ranged_at find at pad.0 pad.1) (x, next) e in
-    let h = ranged_any find at a.0.0 a.0.1 x next a.2 in
-    (h.0, table_step any at p a.0.0 a.0.1 a.1 ∙ h.1, h.2)
-
-lookup_step : (find : Finder) (at : ℕ) (p : Place) (pad : List ℕ) (p1 : Place) → padding_at at p ≡ Ok (pad, p1) → lookup_at find at p ≡ keyed_at find at pad p1
-unfolding lookup_at
-lookup_step find at p pad p1 h = rw h refl
+table_any find at p x next e = after_any (padding_at at) (ranged_at find at) (ranged_at any at) (ranged_any find at) p x next e
 
 lookup_any : (find : Finder) (at : ℕ) (p : Place) (x : Insn) (next : Place) → lookup_at find at p ≡ Ok (x, next) → AlikeAt (lookup_at any at) x p next
 unfolding lookup_at
-lookup_any find at p x next e =
-    let a = bind_ok (padding_at at p) (λ pad. keyed_at find at pad.0 pad.1) (x, next) e in
-    let h = keyed_any find at a.0.0 a.0.1 x next a.2 in
-    (h.0, lookup_step any at p a.0.0 a.0.1 a.1 ∙ h.1, h.2)
+lookup_any find at p x next e = after_any (padding_at at) (keyed_at find at) (keyed_at any at) (keyed_any find at) p x next e
 
 -- ---- instructions with any targets
 
-branch_any : (find : Finder) (at op : ℕ) (p : Place) (x : Insn) (next : Place) → operands_at ops.Branch find at op p ≡ Ok (x, next)
-    → AlikeAt (operands_at ops.Branch any at op) x p next
-branch_any find at op p x next e =
-    let a = bind_ok (near_at find at p) (λ to. Ok (Branch op to.0, to.1)) (x, next) e in
-    let one = near_any find at p a.0.0 a.0.1 a.1 in
-    let made : Insn × Place = (Branch op a.0.0, a.0.1) in
-    let is = ok_is CodeFault made (x, next) a.2 in
-    let step : operands_at ops.Branch any at op p ≡ Ok (Branch op 0, a.0.1) = ap (λ (r : Read ℕ). r >>= λ to. Ok (Branch op to.0, to.1)) one in
-    (Branch op 0, step ∙ ap (λ (y : Insn × Place). Ok (Branch op 0, y.1)) is, subst (λ (y : Insn). SameSize (Branch op 0) y) (ap (λ (y : Insn × Place). y.0) is) (λ k. refl))
+-- an instruction that holds a target alone
+abbrev held : (ℕ → Insn) → (Place → Read ℕ) → Place → Read Insn
+held wrap reader p = reader p >>= λ to. Ok (wrap to.0, to.1)
 
-goto_any : (find : Finder) (at op : ℕ) (p : Place) (x : Insn) (next : Place) → operands_at ops.GotoW find at op p ≡ Ok (x, next)
-    → AlikeAt (operands_at ops.GotoW any at op) x p next
-goto_any find at op p x next e =
-    let a = bind_ok (far_at find at p) (λ to. Ok (GotoW to.0, to.1)) (x, next) e in
-    let one = far_any find at p a.0.0 a.0.1 a.1 in
-    let made : Insn × Place = (GotoW a.0.0, a.0.1) in
+jump_any : (wrap : ℕ → Insn) (reader other : Place → Read ℕ) → ((to : ℕ) → SameSize (wrap 0) (wrap to))
+    → ((p : Place) (to : ℕ) (next : Place) → reader p ≡ Ok (to, next) → other p ≡ Ok (0, next))
+    → (p : Place) (x : Insn) (next : Place) → held wrap reader p ≡ Ok (x, next) → AlikeAt (held wrap other) x p next
+jump_any wrap reader other same each p x next e =
+    let a = bind_ok (reader p) (λ to. Ok (wrap to.0, to.1)) (x, next) e in
+    let made : Insn × Place = (wrap a.0.0, a.0.1) in
     let is = ok_is CodeFault made (x, next) a.2 in
-    let step : operands_at ops.GotoW any at op p ≡ Ok (GotoW 0, a.0.1) = ap (λ (r : Read ℕ). r >>= λ to. Ok (GotoW to.0, to.1)) one in
-    (GotoW 0, step ∙ ap (λ (y : Insn × Place). Ok (GotoW 0, y.1)) is, subst (λ (y : Insn). SameSize (GotoW 0) y) (ap (λ (y : Insn × Place). y.0) is) (λ k. refl))
+    let step : held wrap other p ≡ Ok (wrap 0, a.0.1) = ap (λ (r : Read ℕ). r >>= λ to. Ok (wrap to.0, to.1)) (each p a.0.0 a.0.1 a.1) in
+    (wrap 0, step ∙ ap (λ (y : Insn × Place). Ok (wrap 0, y.1)) is, subst (λ (y : Insn). SameSize (wrap 0) y) (ap (λ (y : Insn × Place). y.0) is) (same a.0.0))
 
 operands_any : (o : Operands) (find : Finder) (at op : ℕ) (p : Place) (x : Insn) (next : Place) → operands_at o find at op p ≡ Ok (x, next)
     → AlikeAt (operands_at o any at op) x p next
-operands_any ops.Branch find at op p x next e = branch_any find at op p x next e
-operands_any ops.GotoW find at op p x next e = goto_any find at op p x next e
+operands_any ops.Branch find at op p x next e = jump_any (λ to. Branch op to) (near_at find at) (near_at any at) (λ to k. refl) (near_any find at) p x next e
+operands_any ops.GotoW find at op p x next e = jump_any GotoW (far_at find at) (far_at any at) (λ to k. refl) (far_any find at) p x next e
 operands_any ops.Table find at op p x next e = table_any find at p x next e
 operands_any ops.Lookup find at op p x next e = lookup_any find at p x next e
 operands_any o find at op p x next e = (x, e, λ k. refl)
 
-insn_step : (find : Finder) (at : ℕ) (p : Place) (op : ℕ) (p1 : Place) → u1_at at p ≡ Ok (op, p1) → insn_at find at p ≡ operands_at (operands_of op) find at op p1
-unfolding insn_at
-insn_step find at p op p1 h = rw h refl
-
 pub insn_any : (find : Finder) (at : ℕ) (p : Place) (x : Insn) (next : Place) → insn_at find at p ≡ Ok (x, next) → AlikeAt (insn_at any at) x p next
 unfolding insn_at
 insn_any find at p x next e =
-    let a = bind_ok (u1_at at p) (λ op. operands_at (operands_of op.0) find at op.0 op.1) (x, next) e in
-    let h = operands_any (operands_of a.0.0) find at a.0.0 a.0.1 x next a.2 in
-    (h.0, insn_step any at p a.0.0 a.0.1 a.1 ∙ h.1, h.2)
+    after_any (u1_at at) (λ op. operands_at (operands_of op) find at op) (λ op. operands_at (operands_of op) any at op) (λ op. operands_any (operands_of op) find at op) p x next e

@@ -235,224 +235,114 @@ Known o op a = (first_byte a ≡ op) × (form_of a ≡ o)
 
 pub is_plain : (a : Insn) → form_of a ≡ ops.Plain → Plain (first_byte a) ≡ a
 is_plain (Plain op) e = refl
-is_plain (Byte n) e = absurd cc
-is_plain (Short n) e = absurd cc
-is_plain (Ldc index) e = absurd cc
-is_plain (Pool op index) e = absurd cc
-is_plain (Iface index count) e = absurd cc
 is_plain (Local op slot false) e = absurd cc
 is_plain (Local op slot true) e = absurd cc
 is_plain (Inc slot by false) e = absurd cc
 is_plain (Inc slot by true) e = absurd cc
-is_plain (Branch op to) e = absurd cc
-is_plain (GotoW to) e = absurd cc
-is_plain (NewArray kind) e = absurd cc
-is_plain (Table other low targets) e = absurd cc
-is_plain (Lookup other keys targets) e = absurd cc
+is_plain a e = absurd cc
 
 pub is_byte : (a : Insn) → form_of a ≡ ops.Byte → (n : ℤ) × (Byte n ≡ a)
-is_byte (Plain op) e = absurd cc
 is_byte (Byte n) e = (n, refl)
-is_byte (Short n) e = absurd cc
-is_byte (Ldc index) e = absurd cc
-is_byte (Pool op index) e = absurd cc
-is_byte (Iface index count) e = absurd cc
 is_byte (Local op slot false) e = absurd cc
 is_byte (Local op slot true) e = absurd cc
 is_byte (Inc slot by false) e = absurd cc
 is_byte (Inc slot by true) e = absurd cc
-is_byte (Branch op to) e = absurd cc
-is_byte (GotoW to) e = absurd cc
-is_byte (NewArray kind) e = absurd cc
-is_byte (Table other low targets) e = absurd cc
-is_byte (Lookup other keys targets) e = absurd cc
+is_byte a e = absurd cc
 
 pub is_short : (a : Insn) → form_of a ≡ ops.Short → (n : ℤ) × (Short n ≡ a)
-is_short (Plain op) e = absurd cc
-is_short (Byte n) e = absurd cc
 is_short (Short n) e = (n, refl)
-is_short (Ldc index) e = absurd cc
-is_short (Pool op index) e = absurd cc
-is_short (Iface index count) e = absurd cc
 is_short (Local op slot false) e = absurd cc
 is_short (Local op slot true) e = absurd cc
 is_short (Inc slot by false) e = absurd cc
 is_short (Inc slot by true) e = absurd cc
-is_short (Branch op to) e = absurd cc
-is_short (GotoW to) e = absurd cc
-is_short (NewArray kind) e = absurd cc
-is_short (Table other low targets) e = absurd cc
-is_short (Lookup other keys targets) e = absurd cc
+is_short a e = absurd cc
 
 pub is_ldc : (a : Insn) → form_of a ≡ ops.Ldc → (n : ℕ) × (Ldc n ≡ a)
-is_ldc (Plain op) e = absurd cc
-is_ldc (Byte n) e = absurd cc
-is_ldc (Short n) e = absurd cc
 is_ldc (Ldc index) e = (index, refl)
-is_ldc (Pool op index) e = absurd cc
-is_ldc (Iface index count) e = absurd cc
 is_ldc (Local op slot false) e = absurd cc
 is_ldc (Local op slot true) e = absurd cc
 is_ldc (Inc slot by false) e = absurd cc
 is_ldc (Inc slot by true) e = absurd cc
-is_ldc (Branch op to) e = absurd cc
-is_ldc (GotoW to) e = absurd cc
-is_ldc (NewArray kind) e = absurd cc
-is_ldc (Table other low targets) e = absurd cc
-is_ldc (Lookup other keys targets) e = absurd cc
+is_ldc a e = absurd cc
 
 pub is_pool : (a : Insn) → form_of a ≡ ops.Pool → (n : ℕ) × (Pool (first_byte a) n ≡ a)
-is_pool (Plain op) e = absurd cc
-is_pool (Byte n) e = absurd cc
-is_pool (Short n) e = absurd cc
-is_pool (Ldc index) e = absurd cc
 is_pool (Pool op index) e = (index, refl)
-is_pool (Iface index count) e = absurd cc
 is_pool (Local op slot false) e = absurd cc
 is_pool (Local op slot true) e = absurd cc
 is_pool (Inc slot by false) e = absurd cc
 is_pool (Inc slot by true) e = absurd cc
-is_pool (Branch op to) e = absurd cc
-is_pool (GotoW to) e = absurd cc
-is_pool (NewArray kind) e = absurd cc
-is_pool (Table other low targets) e = absurd cc
-is_pool (Lookup other keys targets) e = absurd cc
+is_pool a e = absurd cc
 
 pub is_local : (a : Insn) → form_of a ≡ ops.Local → (n : ℕ) × (Local (first_byte a) n false ≡ a)
-is_local (Plain op) e = absurd cc
-is_local (Byte n) e = absurd cc
-is_local (Short n) e = absurd cc
-is_local (Ldc index) e = absurd cc
-is_local (Pool op index) e = absurd cc
-is_local (Iface index count) e = absurd cc
 is_local (Local op slot false) e = (slot, refl)
 is_local (Local op slot true) e = absurd cc
 is_local (Inc slot by false) e = absurd cc
 is_local (Inc slot by true) e = absurd cc
-is_local (Branch op to) e = absurd cc
-is_local (GotoW to) e = absurd cc
-is_local (NewArray kind) e = absurd cc
-is_local (Table other low targets) e = absurd cc
-is_local (Lookup other keys targets) e = absurd cc
+is_local a e = absurd cc
 
 pub is_branch : (a : Insn) → form_of a ≡ ops.Branch → (n : ℕ) × (Branch (first_byte a) n ≡ a)
-is_branch (Plain op) e = absurd cc
-is_branch (Byte n) e = absurd cc
-is_branch (Short n) e = absurd cc
-is_branch (Ldc index) e = absurd cc
-is_branch (Pool op index) e = absurd cc
-is_branch (Iface index count) e = absurd cc
+is_branch (Branch op to) e = (to, refl)
 is_branch (Local op slot false) e = absurd cc
 is_branch (Local op slot true) e = absurd cc
 is_branch (Inc slot by false) e = absurd cc
 is_branch (Inc slot by true) e = absurd cc
-is_branch (Branch op to) e = (to, refl)
-is_branch (GotoW to) e = absurd cc
-is_branch (NewArray kind) e = absurd cc
-is_branch (Table other low targets) e = absurd cc
-is_branch (Lookup other keys targets) e = absurd cc
+is_branch a e = absurd cc
 
 pub is_goto_w : (a : Insn) → form_of a ≡ ops.GotoW → (n : ℕ) × (GotoW n ≡ a)
-is_goto_w (Plain op) e = absurd cc
-is_goto_w (Byte n) e = absurd cc
-is_goto_w (Short n) e = absurd cc
-is_goto_w (Ldc index) e = absurd cc
-is_goto_w (Pool op index) e = absurd cc
-is_goto_w (Iface index count) e = absurd cc
+is_goto_w (GotoW to) e = (to, refl)
 is_goto_w (Local op slot false) e = absurd cc
 is_goto_w (Local op slot true) e = absurd cc
 is_goto_w (Inc slot by false) e = absurd cc
 is_goto_w (Inc slot by true) e = absurd cc
-is_goto_w (Branch op to) e = absurd cc
-is_goto_w (GotoW to) e = (to, refl)
-is_goto_w (NewArray kind) e = absurd cc
-is_goto_w (Table other low targets) e = absurd cc
-is_goto_w (Lookup other keys targets) e = absurd cc
+is_goto_w a e = absurd cc
 
 pub is_new_array : (a : Insn) → form_of a ≡ ops.NewArray → (n : ℕ) × (NewArray n ≡ a)
-is_new_array (Plain op) e = absurd cc
-is_new_array (Byte n) e = absurd cc
-is_new_array (Short n) e = absurd cc
-is_new_array (Ldc index) e = absurd cc
-is_new_array (Pool op index) e = absurd cc
-is_new_array (Iface index count) e = absurd cc
+is_new_array (NewArray kind) e = (kind, refl)
 is_new_array (Local op slot false) e = absurd cc
 is_new_array (Local op slot true) e = absurd cc
 is_new_array (Inc slot by false) e = absurd cc
 is_new_array (Inc slot by true) e = absurd cc
-is_new_array (Branch op to) e = absurd cc
-is_new_array (GotoW to) e = absurd cc
-is_new_array (NewArray kind) e = (kind, refl)
-is_new_array (Table other low targets) e = absurd cc
-is_new_array (Lookup other keys targets) e = absurd cc
+is_new_array a e = absurd cc
 
 pub table_form : (a : Insn) → form_of a ≡ ops.Table → is_table a ≡ true
-table_form (Plain op) e = absurd cc
-table_form (Byte n) e = absurd cc
-table_form (Short n) e = absurd cc
-table_form (Ldc index) e = absurd cc
-table_form (Pool op index) e = absurd cc
-table_form (Iface index count) e = absurd cc
+table_form (Table other low targets) e = refl
 table_form (Local op slot false) e = absurd cc
 table_form (Local op slot true) e = absurd cc
 table_form (Inc slot by false) e = absurd cc
 table_form (Inc slot by true) e = absurd cc
-table_form (Branch op to) e = absurd cc
-table_form (GotoW to) e = absurd cc
-table_form (NewArray kind) e = absurd cc
-table_form (Table other low targets) e = refl
-table_form (Lookup other keys targets) e = absurd cc
+table_form a e = absurd cc
 
 pub lookup_form : (a : Insn) → form_of a ≡ ops.Lookup → is_lookup a ≡ true
-lookup_form (Plain op) e = absurd cc
-lookup_form (Byte n) e = absurd cc
-lookup_form (Short n) e = absurd cc
-lookup_form (Ldc index) e = absurd cc
-lookup_form (Pool op index) e = absurd cc
-lookup_form (Iface index count) e = absurd cc
+lookup_form (Lookup other keys targets) e = refl
 lookup_form (Local op slot false) e = absurd cc
 lookup_form (Local op slot true) e = absurd cc
 lookup_form (Inc slot by false) e = absurd cc
 lookup_form (Inc slot by true) e = absurd cc
-lookup_form (Branch op to) e = absurd cc
-lookup_form (GotoW to) e = absurd cc
-lookup_form (NewArray kind) e = absurd cc
-lookup_form (Table other low targets) e = absurd cc
-lookup_form (Lookup other keys targets) e = refl
+lookup_form a e = absurd cc
+
+-- No instruction stands with operands that are left out or unknown.
+known_form : (a : Insn) → number (form_of a) < 14
+known_form (Plain op) = omega arith
+known_form (Byte n) = omega arith
+known_form (Short n) = omega arith
+known_form (Ldc index) = omega arith
+known_form (Pool op index) = omega arith
+known_form (Iface index count) = omega arith
+known_form (Local op slot false) = omega arith
+known_form (Local op slot true) = omega arith
+known_form (Inc slot by false) = omega arith
+known_form (Inc slot by true) = omega arith
+known_form (Branch op to) = omega arith
+known_form (GotoW to) = omega arith
+known_form (NewArray kind) = omega arith
+known_form (Table other low targets) = omega arith
+known_form (Lookup other keys targets) = omega arith
 
 pub none_left_out : (a : Insn) → form_of a ≡ ops.LeftOut → ⊥
-none_left_out (Plain op) e = absurd cc
-none_left_out (Byte n) e = absurd cc
-none_left_out (Short n) e = absurd cc
-none_left_out (Ldc index) e = absurd cc
-none_left_out (Pool op index) e = absurd cc
-none_left_out (Iface index count) e = absurd cc
-none_left_out (Local op slot false) e = absurd cc
-none_left_out (Local op slot true) e = absurd cc
-none_left_out (Inc slot by false) e = absurd cc
-none_left_out (Inc slot by true) e = absurd cc
-none_left_out (Branch op to) e = absurd cc
-none_left_out (GotoW to) e = absurd cc
-none_left_out (NewArray kind) e = absurd cc
-none_left_out (Table other low targets) e = absurd cc
-none_left_out (Lookup other keys targets) e = absurd cc
+none_left_out a e = let is : number (form_of a) ≡ 14 = ap number e in absurd (omega (arith, known_form a, is))
 
 pub none_unknown : (a : Insn) → form_of a ≡ ops.Unknown → ⊥
-none_unknown (Plain op) e = absurd cc
-none_unknown (Byte n) e = absurd cc
-none_unknown (Short n) e = absurd cc
-none_unknown (Ldc index) e = absurd cc
-none_unknown (Pool op index) e = absurd cc
-none_unknown (Iface index count) e = absurd cc
-none_unknown (Local op slot false) e = absurd cc
-none_unknown (Local op slot true) e = absurd cc
-none_unknown (Inc slot by false) e = absurd cc
-none_unknown (Inc slot by true) e = absurd cc
-none_unknown (Branch op to) e = absurd cc
-none_unknown (GotoW to) e = absurd cc
-none_unknown (NewArray kind) e = absurd cc
-none_unknown (Table other low targets) e = absurd cc
-none_unknown (Lookup other keys targets) e = absurd cc
+none_unknown a e = let is : number (form_of a) ≡ 15 = ap number e in absurd (omega (arith, known_form a, is))
 
 -- ---- fields
 
@@ -486,35 +376,16 @@ after_inner (Inc slot by wide) = u2 slot ++ i2 by
 after_inner a = []
 
 pub inc_made : (a : Insn) → form_of a ≡ ops.Inc → Inc (slot_of a) (by_of a) false ≡ a
-inc_made (Plain op) e = absurd cc
-inc_made (Byte n) e = absurd cc
-inc_made (Short n) e = absurd cc
-inc_made (Ldc index) e = absurd cc
-inc_made (Pool op index) e = absurd cc
-inc_made (Iface index count) e = absurd cc
+inc_made (Inc slot by false) e = refl
 inc_made (Local op slot false) e = absurd cc
 inc_made (Local op slot true) e = absurd cc
-inc_made (Inc slot by false) e = refl
 inc_made (Inc slot by true) e = absurd cc
-inc_made (Branch op to) e = absurd cc
-inc_made (GotoW to) e = absurd cc
-inc_made (NewArray kind) e = absurd cc
-inc_made (Table other low targets) e = absurd cc
-inc_made (Lookup other keys targets) e = absurd cc
+inc_made a e = absurd cc
 
 pub iface_made : (a : Insn) → form_of a ≡ ops.Iface → Iface (index_of a) (count_of a) ≡ a
-iface_made (Plain op) e = absurd cc
-iface_made (Byte n) e = absurd cc
-iface_made (Short n) e = absurd cc
-iface_made (Ldc index) e = absurd cc
-iface_made (Pool op index) e = absurd cc
 iface_made (Iface index count) e = refl
 iface_made (Local op slot false) e = absurd cc
 iface_made (Local op slot true) e = absurd cc
 iface_made (Inc slot by false) e = absurd cc
 iface_made (Inc slot by true) e = absurd cc
-iface_made (Branch op to) e = absurd cc
-iface_made (GotoW to) e = absurd cc
-iface_made (NewArray kind) e = absurd cc
-iface_made (Table other low targets) e = absurd cc
-iface_made (Lookup other keys targets) e = absurd cc
+iface_made a e = absurd cc

@@ -8,6 +8,7 @@ use Rattle.std.proofs.lemmas.Bool.Decides.{nat_tests}
 use Rattle.std.proofs.lemmas.List.{append-nil}
 use Rattle.mon_base.specs.Reading.{Place, ◌>>=◌, need}
 use Rattle.mon_base.proofs.Reading.{bind_ok, ok_is, need_ok, after, Took, IsTail, IsReader, then, said, done, spelled, refuse}
+use Rattle.mon_base.proofs.Readers.{tested, wrapped}
 use Rattle.insn_codec.specs.declared.fault.CodeFault.TheVariants as faults
 use Rattle.insn_codec.specs.declared.opcode.Operands.{Operands}
 use Rattle.insn_codec.specs.declared.opcode.Operands.TheVariants as ops
@@ -18,7 +19,7 @@ use Rattle.insn_codec.specs.Spelling.{u1, offset, padding, bytes_of}
 use Rattle.mon_base.specs.Widths.{IsU1}
 use Rattle.insn_codec.specs.Fits.{is_item_type, IsInsn}
 use Rattle.insn_codec.specs.Reading.{Finder, u1_at, iface_at, new_array_at, inc_at, wide_inc_at, widened_at, wide_at, operands_at, insn_at}
-use Rattle.insn_codec.proofs.Laws.{tested, wrapped, Leads, FitsFar, u1_is, u2_is, i1_is, i2_is, near_is, far_is}
+use Rattle.insn_codec.proofs.Laws.{Leads, FitsFar, u1_is, u2_is, i1_is, i2_is, near_is, far_is}
 use Rattle.insn_codec.proofs.SwitchLaws.{is_table, is_lookup, FitsRanged, FitsKeyed, after_padding, after_zeros, table_is, lookup_is}
 use Rattle.insn_codec.proofs.InsnForms.{number, known_opcode, equal_numbers, only_byte, byte_code, only_short, short_code, only_ldc, ldc_code, only_inc, inc_code, only_gotow, gotow_code, only_table, table_code, only_lookup, lookup_code, only_iface, iface_code, only_newarray, newarray_code, only_wide, wide_code, form_of, first_byte, after_first, FitsInsn, Known, is_plain, is_byte, is_short, is_ldc, is_pool, is_local, is_branch, is_goto_w, is_new_array, table_form, lookup_form, none_left_out, none_unknown, slot_of, by_of, index_of, count_of, inner_of, after_inner, inc_made, iface_made}
 use Rattle.insn_codec.specs.declared.opcodes.TheConstants.{IINC, TABLESWITCH, LOOKUPSWITCH, NEWARRAY, WIDE}

@@ -4,7 +4,7 @@ use Rattle.std.specs.List.{flat_map, AllByRecursion}
 use Rattle.std.specs.Prelude.{nat_le, IfOk}
 use Rattle.std.proofs.lemmas.Bool.{cases_lt}
 use Rattle.std.proofs.lemmas.Bool.Decides.{nat_tests}
-use Rattle.std.proofs.lemmas.List.{append-nil, take_all, length-drop}
+use Rattle.std.proofs.lemmas.List.{append-nil, length-drop}
 use Rattle.mon_base.specs.Reading.{◌>>=◌}
 use Rattle.insn_codec.specs.declared.fault.CodeOverflow.{CodeOverflow}
 use Rattle.insn_codec.specs.declared.fault.CodeOverflow.TheVariants.{Length, Memory}
@@ -14,9 +14,9 @@ use Rattle.insn_codec.specs.Spelling.{i4, size, offset, case, cases, bytes_of, b
 use Rattle.insn_codec.specs.Fits.{IsInsn}
 use Rattle.mon_base.specs.Answer.{Fails, Answers}
 use Rattle.mon_base.proofs.Answering.{failed, along}
+use Rattle.mon_base.proofs.Lists.{rest_is, front_at, front_is}
 use Rattle.insn_codec.specs.Writing.{far, all_far, reach, reach_from, written}
-use Rattle.insn_codec.proofs.Standing.{nothing, first_and_rest}
-use Rattle.insn_codec.proofs.Ascend.{others_are}
+use Rattle.insn_codec.proofs.Standing.{nothing}
 
 -- ---- offsets of four bytes
 
@@ -42,19 +42,19 @@ pub far_ends : (e : CodeOverflow) (starts : List ℕ) (at : ℕ) (left : List �
     → Fails Memory e (far starts at (get_or left 0 0)) → all_far starts at left ≡ total → Fails Memory e total
 far_ends e starts at left total some h so_far =
     let one = failed Memory e (far starts at (get_or left 0 0)) (λ _. all_far starts at (left_of left)) h in
-    let same : (far starts at (get_or left 0 0) >>= λ _. all_far starts at (left_of left)) ≡ all_far starts at left = sym (far_first starts at (get_or left 0 0) (left_of left)) ∙ ap (all_far starts at) (sym (others_are left 0 some)) in
+    let same : (far starts at (get_or left 0 0) >>= λ _. all_far starts at (left_of left)) ≡ all_far starts at left = sym (far_first starts at (get_or left 0 0) (left_of left)) ∙ ap (all_far starts at) (sym (front_at left 0 some)) in
     along Memory e (far starts at (get_or left 0 0) >>= λ _. all_far starts at (left_of left)) total (same ∙ so_far) one
 
 pub far_on : (starts : List ℕ) (at : ℕ) (left : List ℕ) (total : Result (Unit {0}) CodeOverflow) → 1 ≤ length left
     → far starts at (get_or left 0 0) ≡ Ok tt → all_far starts at left ≡ total → all_far starts at (left_of left) ≡ total
 far_on starts at left total some h so_far =
-    sym (far_next starts at (get_or left 0 0) (left_of left) h) ∙ ap (all_far starts at) (sym (others_are left 0 some)) ∙ so_far
+    sym (far_next starts at (get_or left 0 0) (left_of left) h) ∙ ap (all_far starts at) (sym (front_at left 0 some)) ∙ so_far
 
 pub offsets_on : (starts : List ℕ) (at : ℕ) (out left total : List ℕ) → 1 ≤ length left
     → out ++ offsets starts at left ≡ total → (out ++ i4 (offset starts at (get_or left 0 0))) ++ offsets starts at (left_of left) ≡ total
 offsets_on starts at out left total some so_far =
     append_assoc out (i4 (offset starts at (get_or left 0 0))) (offsets starts at (left_of left))
-    ∙ ap (λ (xs : List ℕ). out ++ offsets starts at xs) (sym (others_are left 0 some)) ∙ so_far
+    ∙ ap (λ (xs : List ℕ). out ++ offsets starts at xs) (sym (front_at left 0 some)) ∙ so_far
 
 pub far_done : (starts : List ℕ) (at : ℕ) (left : List ℕ) (total : Result (Unit {0}) CodeOverflow) → length left < 1
     → all_far starts at left ≡ total → total ≡ Ok tt
@@ -150,7 +150,7 @@ pub reach_ends : (e : CodeOverflow) (starts : List ℕ) (at : ℕ) (left : List 
     → 1 ≤ length left → first ≡ get_or left 0 first → Fails Memory e (reach starts at first) → reach_from starts at left ≡ total → Fails Memory e total
 reach_ends e starts at left first total some is h so_far =
     let one = failed Memory e (reach starts at first) (λ _. reach_from starts (at + size at first) (others_of left)) h in
-    let same : (reach starts at first >>= λ _. reach_from starts (at + size at first) (others_of left)) ≡ reach_from starts at left = sym (reach_first starts at first (others_of left)) ∙ ap (reach_from starts at) (sym (first_and_rest left first some is)) in
+    let same : (reach starts at first >>= λ _. reach_from starts (at + size at first) (others_of left)) ≡ reach_from starts at left = sym (reach_first starts at first (others_of left)) ∙ ap (reach_from starts at) (sym (front_is left first some is)) in
     along Memory e (reach starts at first >>= λ _. reach_from starts (at + size at first) (others_of left)) total (same ∙ so_far) one
 
 pub reach_on : (starts : List ℕ) (at len : ℕ) (left : List Insn) (first : Insn) (total : Result (Unit {0}) CodeOverflow)
@@ -158,7 +158,7 @@ pub reach_on : (starts : List ℕ) (at len : ℕ) (left : List Insn) (first : In
     → reach_from starts (at + len) (others_of left) ≡ total
 reach_on starts at len left first total some is l h so_far =
     let one : reach_from starts at (first ∷ others_of left) ≡ reach_from starts (at + size at first) (others_of left) = reach_first starts at first (others_of left) ∙ rw h refl in
-    let two : reach_from starts (at + size at first) (others_of left) ≡ total = sym one ∙ ap (reach_from starts at) (sym (first_and_rest left first some is)) ∙ so_far in
+    let two : reach_from starts (at + size at first) (others_of left) ≡ total = sym one ∙ ap (reach_from starts at) (sym (front_is left first some is)) ∙ so_far in
     subst (λ (n : ℕ). reach_from starts (at + n) (others_of left) ≡ total) (sym l) two
 
 pub bytes_on : (starts : List ℕ) (at len : ℕ) (left : List Insn) (first : Insn) (out total : List ℕ)
@@ -166,7 +166,7 @@ pub bytes_on : (starts : List ℕ) (at len : ℕ) (left : List Insn) (first : In
     → (out ++ bytes_of starts at first) ++ bytes_from starts (at + len) (others_of left) ≡ total
 bytes_on starts at len left first out total some is l so_far =
     let one : (out ++ bytes_of starts at first) ++ bytes_from starts (at + size at first) (others_of left) ≡ out ++ bytes_from starts at (first ∷ others_of left) = append_assoc out (bytes_of starts at first) (bytes_from starts (at + size at first) (others_of left)) ∙ ap (λ (xs : List ℕ). out ++ xs) (sym (bytes_first starts at first (others_of left))) in
-    let two : (out ++ bytes_of starts at first) ++ bytes_from starts (at + size at first) (others_of left) ≡ total = one ∙ ap (λ (xs : List Insn). out ++ bytes_from starts at xs) (sym (first_and_rest left first some is)) ∙ so_far in
+    let two : (out ++ bytes_of starts at first) ++ bytes_from starts (at + size at first) (others_of left) ≡ total = one ∙ ap (λ (xs : List Insn). out ++ bytes_from starts at xs) (sym (front_is left first some is)) ∙ so_far in
     subst (λ (n : ℕ). (out ++ bytes_of starts at first) ++ bytes_from starts (at + n) (others_of left) ≡ total) (sym l) two
 
 pub reach_done : (starts : List ℕ) (at : ℕ) (left : List Insn) (total : Result (Unit {0}) CodeOverflow) → length left < 1
@@ -185,10 +185,7 @@ first_fits (x ∷ xs) first some is h = subst IsInsn (sym is) h.0
 
 pub others_fit : (left : List Insn) → 1 ≤ length left → AllByRecursion IsInsn left → AllByRecursion IsInsn (others_of left)
 others_fit [] some h = absurd (omega arith)
-others_fit (x ∷ xs) some h =
-    let n : length (x ∷ xs) - 1 ≡ length xs = omega arith in
-    let same : take (length (x ∷ xs) - 1) xs ≡ xs = rw n (take_all (length xs) xs (omega arith)) in
-    rw same h.1
+others_fit (x ∷ xs) some h = rw (rest_is x xs) h.1
 
 -- ---- the code
 

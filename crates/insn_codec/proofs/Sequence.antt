@@ -10,9 +10,9 @@ use Rattle.insn_codec.specs.declared.insn.Insn.{Insn}
 use Rattle.insn_codec.specs.Spelling.{size, len_from}
 use Rattle.mon_base.specs.Answer.{Fails}
 use Rattle.mon_base.proofs.Answering.{failed, along}
+use Rattle.mon_base.proofs.Loop.{with_front, regroup}
 use Rattle.insn_codec.specs.declared.fault.CodeFault.TheVariants.{Memory}
 use Rattle.insn_codec.specs.Reading.{Finder, Read, any, among, insn_at, insns_at, insns_of, ended, code_of}
-use Rattle.insn_codec.proofs.Loop.{with_front, regroup}
 use Rattle.insn_codec.proofs.Standing.{size-some, len_push}
 
 some_bytes : (bytes : List ℕ) → 1 ≤ length bytes → (length bytes == 0) ≡ false
@@ -61,12 +61,10 @@ goes_on find front count i p x next total lt some h so_far =
 pub ends : (find : Finder) (e : CodeFault) (front : List Insn) (count i : ℕ) (p : Place) (total : Read (List Insn))
     → i < count → 1 ≤ length p.rest → Fails Memory e (insn_at find p.at p)
     → with_front front (insns_at find (count - i) p) ≡ total → Fails Memory e total
-ends find e front count i p total lt some h so_far =
+ends find e front count i p total lt some h so_far is_told =
     let k : count - i ≡ suc (count - (i + 1)) = omega arith in
-    let step = failed Memory e (insn_at find p.at p) (λ first. insns_at find (count - (i + 1)) first.1 >>= λ others. Ok (first.0 ∷ others.0, others.1)) h in
-    let step' = along Memory e (insn_at find p.at p >>= λ first. insns_at find (count - (i + 1)) first.1 >>= λ others. Ok (first.0 ∷ others.0, others.1)) (insns_at find (suc (count - (i + 1))) p) (sym (first_of find (count - (i + 1)) p some)) step in
-    let one = failed Memory e (insns_at find (suc (count - (i + 1))) p) (λ x. Ok (front ++ x.0, x.1)) step' in
-    along Memory e (with_front front (insns_at find (suc (count - (i + 1))) p)) total (subst (λ (n : ℕ). with_front front (insns_at find n p) ≡ total) k so_far) one
+    let one : with_front front (insns_at find (count - i) p) ≡ Err e = rw (k, first_of find (count - (i + 1)) p some, h is_told) refl in
+    sym so_far ∙ one
 
 abbrev pub whole : Finder → List ℕ → Read (List Insn)
 whole find code = insns_at find (length code) (record { at = 0; rest = code })

@@ -2,7 +2,8 @@
 use Rattle.std.proofs.Common.{◌≡◌, ℕ, ◌+◌, ◌-◌, ◌≤◌, ◌<◌, Bool, true, false, List, [], ◌∷◌, ◌++◌, length, get_or, take, drop, replicate, Option, Some, None, Result, refl, sym, ap, subst, ◌∙◌, append_assoc, arith}
 use Rattle.std.specs.Prelude.{◌==◌}
 use Rattle.std.proofs.lemmas.Bool.Decides.{nat_tests}
-use Rattle.std.proofs.lemmas.List.{append-nil, take_all}
+use Rattle.std.proofs.lemmas.List.{append-nil}
+use Rattle.mon_base.proofs.Lists.{rest_is, front_is}
 use Rattle.insn_codec.specs.declared.fault.CodeFault.{CodeFault}
 use Rattle.insn_codec.specs.declared.insn.Insn.{Insn}
 use Rattle.insn_codec.specs.declared.insn.Insn.TheVariants.{Plain, Byte, Short, Ldc, Pool, Iface, Local, Inc, Branch, GotoW, NewArray, Table, Lookup}
@@ -50,14 +51,6 @@ len_push (y ∷ ys) at x =
 
 -- ---- a list of which the first is taken
 
-pub first_and_rest : {X : Type 0} (left : List X) (first : X) → 1 ≤ length left → first ≡ get_or left 0 first
-    → left ≡ first ∷ take (length left - 1) (drop 1 left)
-first_and_rest [] first some is = absurd (omega arith)
-first_and_rest (x ∷ xs) first some is =
-    let n : length (x ∷ xs) - 1 ≡ length xs = omega arith in
-    let same : take (length (x ∷ xs) - 1) xs ≡ xs = rw n (take_all (length xs) xs (omega arith)) in
-    rw (same, is) refl
-
 pub nothing : {X : Type 0} (left : List X) → length left < 1 → left ≡ []
 nothing [] none = refl
 nothing (x ∷ xs) none = absurd (omega arith)
@@ -66,7 +59,7 @@ nothing (x ∷ xs) none = absurd (omega arith)
 pub len_splits : (left : List Insn) (first : Insn) (at : ℕ) → 1 ≤ length left → first ≡ get_or left 0 first
     → len_from at left ≡ size at first + len_from (at + size at first) (take (length left - 1) (drop 1 left))
 len_splits left first at some is =
-    ap (λ (xs : List Insn). len_from at xs) (first_and_rest left first some is) ∙ len_first at first (take (length left - 1) (drop 1 left))
+    ap (λ (xs : List Insn). len_from at xs) (front_is left first some is) ∙ len_first at first (take (length left - 1) (drop 1 left))
 
 pub len_step : (left : List Insn) (first : Insn) (at len total : ℕ) → 1 ≤ length left → first ≡ get_or left 0 first
     → len ≡ size at first → at + len_from at left ≡ total → at + len + len_from (at + len) (take (length left - 1) (drop 1 left)) ≡ total
@@ -80,7 +73,7 @@ fits_size left first at total some is so_far = omega (arith, len_splits left fir
 
 -- ---- starts
 
-starts_first : (at : ℕ) (x : Insn) (xs : List Insn) → starts_from at (x ∷ xs) ≡ at ∷ starts_from (at + size at x) xs
+pub starts_first : (at : ℕ) (x : Insn) (xs : List Insn) → starts_from at (x ∷ xs) ≡ at ∷ starts_from (at + size at x) xs
 unfolding starts_from
 starts_first at x xs = refl
 
@@ -93,7 +86,7 @@ pub starts_step : (front : List ℕ) (left : List Insn) (first : Insn) (at len :
     → (front ++ at ∷ []) ++ starts_from (at + len) (take (length left - 1) (drop 1 left)) ≡ total
 starts_step front left first at len total some is l so_far =
     let rest = take (length left - 1) (drop 1 left) in
-    let all : starts_from at left ≡ at ∷ starts_from (at + size at first) rest = ap (starts_from at) (first_and_rest left first some is) ∙ starts_first at first rest in
+    let all : starts_from at left ≡ at ∷ starts_from (at + size at first) rest = ap (starts_from at) (front_is left first some is) ∙ starts_first at first rest in
     subst (λ (n : ℕ). (front ++ at ∷ []) ++ starts_from (at + n) rest ≡ total) (sym l) (
     append_assoc front (at ∷ []) (starts_from (at + size at first) rest) ∙ ap (λ (xs : List ℕ). front ++ xs) (sym all) ∙ so_far)
 
@@ -127,7 +120,7 @@ pub marks_step : (front : List (Option ℕ)) (left : List Insn) (first : Insn) (
     → (front ++ (Some number ∷ replicate (len - 1) None)) ++ marks_from (number + 1) (at + len) (take (length left - 1) (drop 1 left)) ≡ total
 marks_step front left first number at len total some is l so_far =
     let rest = take (length left - 1) (drop 1 left) in
-    let all : marks_from number at left ≡ marked number (size at first) ++ marks_from (number + 1) (at + size at first) rest = ap (marks_from number at) (first_and_rest left first some is) ∙ marks_first number at first rest in
+    let all : marks_from number at left ≡ marked number (size at first) ++ marks_from (number + 1) (at + size at first) rest = ap (marks_from number at) (front_is left first some is) ∙ marks_first number at first rest in
     subst (λ (n : ℕ). (front ++ marked number n) ++ marks_from (number + 1) (at + n) rest ≡ total) (sym l) (
     append_assoc front (marked number (size at first)) (marks_from (number + 1) (at + size at first) rest) ∙ ap (λ (xs : List (Option ℕ)). front ++ xs) (sym all) ∙ so_far)
 
@@ -148,9 +141,7 @@ pub two_left : {X : Type 0} (left : List X) (b : Bool) → 1 ≤ length left →
     → b ≡ false → 2 ≤ length left
 two_left [] b some is more = absurd (omega arith)
 two_left (x ∷ xs) b some is more =
-    let n : length (x ∷ xs) - 1 ≡ length xs = omega arith in
-    let same : take (length (x ∷ xs) - 1) xs ≡ xs = rw n (take_all (length xs) xs (omega arith)) in
-    let test : (length xs == 0) ≡ false = rw same at (sym is ∙ more) in
+    let test : (length xs == 0) ≡ false = rw (rest_is x xs) at (sym is ∙ more) in
     grind (arith, nat_tests)
 
 pub ended_step : (left : List Insn) (first : Insn) (at len : ℕ) (total : Result (Unit {0}) CodeFault) → 2 ≤ length left
@@ -158,8 +149,6 @@ pub ended_step : (left : List Insn) (first : Insn) (at len : ℕ) (total : Resul
     → ended (at + len) (take (length left - 1) (drop 1 left)) ≡ total
 ended_step [] first at len total some is l so_far = absurd (omega arith)
 ended_step (x ∷ xs) first at len total some is l so_far =
-    let n : length (x ∷ xs) - 1 ≡ length xs = omega arith in
-    let same : take (length (x ∷ xs) - 1) xs ≡ xs = rw n (take_all (length xs) xs (omega arith)) in
     let long : 1 ≤ length xs = omega arith in
     let l' : size at x ≡ len = ap (size at) (sym is) ∙ sym l in
-    rw (same, ← l') (sym (ended_on at x xs long) ∙ so_far)
+    rw (rest_is x xs, ← l') (sym (ended_on at x xs long) ∙ so_far)

@@ -8,6 +8,7 @@ use Rattle.std.proofs.lemmas.Bool.Decides.{nat_tests}
 use Rattle.std.proofs.lemmas.Int.{ints}
 use Rattle.std.proofs.lemmas.List.{length-replicate, length-map}
 use Rattle.mon_base.proofs.Reading.{IsTail, IsReader, then, said, items, bytes_is}
+use Rattle.mon_base.proofs.Readers.{tested, wrapped}
 use Rattle.insn_codec.specs.declared.fault.CodeFault.TheVariants.{Cut, Form}
 use Rattle.insn_codec.specs.declared.insn.Case.{Case}
 use Rattle.insn_codec.specs.declared.insn.Insn.{Insn}
@@ -15,7 +16,7 @@ use Rattle.insn_codec.specs.declared.insn.Insn.TheVariants.{Table, Lookup}
 use Rattle.insn_codec.specs.Spelling.{u4, i4, offset, padding, case, cases, keyed}
 use Rattle.insn_codec.specs.Fits.{Ascend, FitsLookup}
 use Rattle.insn_codec.specs.Reading.{Finder, padding_at, all_zero, bounds_at, ranged_at, table_at, count_at, case_at, ascend_from, ascend, cases_at, keyed_at, lookup_at}
-use Rattle.insn_codec.proofs.Laws.{tested, wrapped, i4_is, Leads, FitsFar, far_is}
+use Rattle.insn_codec.proofs.Laws.{i4_is, Leads, FitsFar, far_is}
 
 -- ---- numbers
 

@@ -8,12 +8,14 @@ use Rattle.std.proofs.lemmas.List.Elements.{Contains-append_left, Contains-appen
 use Rattle.insn_codec.specs.declared.insn.Insn.{Insn}
 use Rattle.insn_codec.specs.declared.insn.Insn.TheVariants as insns
 use Rattle.insn_codec.specs.declared.opcode.Operands.TheVariants as ops
-use Rattle.insn_codec.specs.Opcodes.{opcode_at, operands_of, goes_on}
+use Rattle.insn_codec.specs.Opcodes.{opcode_at, operands_of, is_frame_only, goes_on}
 use Rattle.insn_codec.specs.declared.shape.Relation.TheVariants as relations
 use Rattle.insn_codec.specs.declared.shape.Shape.{Shape}
 use Rattle.insn_codec.specs.declared.shape.Shape.TheVariants as shapes
 use Rattle.insn_codec.specs.Control.{View, goes_to, in_range, by_key}
-use Rattle.insn_codec.specs.Shapes.{plain_shape, local_shape, branch_shape, test_shape, comparing_shape}
+use Rattle.insn_codec.specs.Shapes.{shape_of, plain_shape, local_shape, branch_shape, test_shape, comparing_shape}
+use Rattle.insn_codec.specs.Spelling.{opcode_of}
+use Rattle.insn_codec.specs.Fits.{IsInsn}
 use Rattle.insn_codec.specs.Table.{is_heap, ends, MarkedAlike, GoesOnAlike, NopAlone, GoesToSuccessor}
 use Rattle.insn_codec.proofs.OpcodeTests.{Agreement, is_nothing, is_switch, jumps_of, jumps_nowhere, plain_agrees, plain_stays, pool_agrees, pool_is_heap, local_agrees, local_stays, branch_agrees}
 use Rattle.insn_codec.specs.declared.opcodes.TheConstants.{
@@ -36,37 +38,28 @@ use Rattle.insn_codec.specs.declared.opcodes.TheConstants.{
   IFNONNULL,
 }
 
-pub marked_alike : MarkedAlike
+-- the table of an instruction's opcode and its shape
+alike : (insn : Insn) → IsInsn insn → (is_frame_only (opcode_of insn) ≡ not (is_heap (shape_of insn))) × (goes_on (opcode_of insn) ≡ not (ends (shape_of insn)))
 unfolding opcode_at
-marked_alike (insns.Plain op) is = (plain_agrees op is.0 is.1).marked
-marked_alike (insns.Byte n) is = refl
-marked_alike (insns.Short n) is = refl
-marked_alike (insns.Ldc index) is = refl
-marked_alike (insns.Pool op index) is = (pool_agrees op is.0 is.1).marked
-marked_alike (insns.Iface index count) is = refl
-marked_alike (insns.Local op slot wide) is = (local_agrees op slot is.0 is.1).marked
-marked_alike (insns.Inc slot by wide) is = refl
-marked_alike (insns.Branch op to) is = (branch_agrees op to is.0 is.1).marked
-marked_alike (insns.GotoW to) is = refl
-marked_alike (insns.NewArray kind) is = refl
-marked_alike (insns.Table other low targets) is = refl
-marked_alike (insns.Lookup other keys targets) is = refl
+alike (insns.Plain op) is = let a = plain_agrees op is.0 is.1 in (a.marked, a.goes)
+alike (insns.Byte n) is = (refl, refl)
+alike (insns.Short n) is = (refl, refl)
+alike (insns.Ldc index) is = (refl, refl)
+alike (insns.Pool op index) is = let a = pool_agrees op is.0 is.1 in (a.marked, a.goes)
+alike (insns.Iface index count) is = (refl, refl)
+alike (insns.Local op slot wide) is = let a = local_agrees op slot is.0 is.1 in (a.marked, a.goes)
+alike (insns.Inc slot by wide) is = (refl, refl)
+alike (insns.Branch op to) is = let a = branch_agrees op to is.0 is.1 in (a.marked, a.goes)
+alike (insns.GotoW to) is = (refl, refl)
+alike (insns.NewArray kind) is = (refl, refl)
+alike (insns.Table other low targets) is = (refl, refl)
+alike (insns.Lookup other keys targets) is = (refl, refl)
+
+pub marked_alike : MarkedAlike
+marked_alike insn is = (alike insn is).0
 
 pub goes_on_alike : GoesOnAlike
-unfolding opcode_at
-goes_on_alike (insns.Plain op) is = (plain_agrees op is.0 is.1).goes
-goes_on_alike (insns.Byte n) is = refl
-goes_on_alike (insns.Short n) is = refl
-goes_on_alike (insns.Ldc index) is = refl
-goes_on_alike (insns.Pool op index) is = (pool_agrees op is.0 is.1).goes
-goes_on_alike (insns.Iface index count) is = refl
-goes_on_alike (insns.Local op slot wide) is = (local_agrees op slot is.0 is.1).goes
-goes_on_alike (insns.Inc slot by wide) is = refl
-goes_on_alike (insns.Branch op to) is = (branch_agrees op to is.0 is.1).goes
-goes_on_alike (insns.GotoW to) is = refl
-goes_on_alike (insns.NewArray kind) is = refl
-goes_on_alike (insns.Table other low targets) is = refl
-goes_on_alike (insns.Lookup other keys targets) is = refl
+goes_on_alike insn is = (alike insn is).1
 
 not_true : (b : Bool) → not b ≡ true → b ≡ false
 not_true true h = absurd cc

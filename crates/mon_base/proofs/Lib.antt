@@ -1,3 +1,6 @@
 mod Numbers
 pub mod Reading
+pub mod Readers
+pub mod Loop
+pub mod Lists
 pub mod Answering

@@ -20,10 +20,11 @@
 --         done (record { flags = flags; name = name }) ((tt, refl), refl) (λ e k. rw (← k.0.1, ← k.1) refl)))
 --         (λ e k. simp (append_assoc, append-nil) refl)) to_fits from_fits
 --
--- Other lines: `list_is` and `text_is` (with their length before them), `items` (a counted list), `guard` and `guarded` (a test of what is known), `choose` and `refuse` (by a tag that is
--- known), `wrapped` (one form of an enum), `said` (the last part, called at the end). `known` grows by one fact
--- `field e ≡ value` on the right with each field.
-use Rattle.std.proofs.Common.{◌≡◌, ℕ, zero, suc, ◌+◌, ◌-◌, ◌*◌, ◌%◌, ◌^◌, ◌<◌, ◌≤◌, Bool, true, false, cond, ltb, eq-eqb, List, [], ◌∷◌, ◌++◌, length, take, drop, Option, Some, None, Result, Ok, Err, refl, sym, ap, subst, ◌∙◌, append_assoc, arith, inl, inr}
+-- Other lines: `text_is` (bytes with their length before them), `items` (a counted list), `guard` and `guarded` (a test
+-- of what is known), `choose` and `refuse` (by a tag that is known), `said` (the last part, called at the end). `known`
+-- grows by one fact `field e ≡ value` on the right with each field. Readers has those whose answer is turned into another
+-- or tested, Loop has the loop that reads a counted list.
+use Rattle.std.proofs.Common.{◌≡◌, ℕ, zero, suc, ◌+◌, ◌*◌, ◌%◌, ◌^◌, ◌<◌, ◌≤◌, Bool, true, false, cond, ltb, eq-eqb, List, [], ◌∷◌, ◌++◌, length, take, drop, Option, Some, None, Result, Ok, Err, refl, sym, ap, subst, ◌∙◌, append_assoc, arith, inl, inr}
 use Rattle.std.specs.Prelude.{◌==◌, ok_or, option_map}
 use Rattle.std.specs.List.{flat_map, AllByRecursion}
 use Rattle.std.proofs.lemmas.Bool.{cases_lt, ltb-false, le-ltb, eqb-true}
@@ -50,7 +51,7 @@ pub bind_ok : {A B E : Type 0} (r : Result A E) (f : A → Result B E) (y : B) �
 bind_ok (Ok x) f y e = (x, refl, e)
 bind_ok (Err d) f y e = absurd cc
 
-abbrev answer : {A : Type 0} (E : Type 0) → A → Result A E
+abbrev pub answer : {A : Type 0} (E : Type 0) → A → Result A E
 answer E x = Ok x
 
 pub ok_is : {A : Type 0} (E : Type 0) (x y : A) → answer E x ≡ answer E y → x ≡ y
@@ -61,6 +62,13 @@ pub need_ok : {B E : Type 0} (b : Bool) (fault : E) (f : Unit {0} → Result B E
     → (b ≡ true) × (f tt ≡ Ok y)
 need_ok true fault f y e = (refl, e)
 need_ok false fault f y e = absurd cc
+
+pub need_holds : {E : Type 0} (b : Bool) (fault : E) → need b fault ≡ Ok tt → b ≡ true
+need_holds true fault e = refl
+need_holds false fault e = absurd cc
+
+pub holds_need : {E : Type 0} (b : Bool) (fault : E) → b ≡ true → need b fault ≡ Ok tt
+holds_need b fault e = rw e refl
 
 pub ok_or_ok : {A E : Type 0} (r : Option A) (fault : E) (x : A) → ok_or r fault ≡ Ok x → r ≡ Some x
 ok_or_ok (Some y) fault x e = cc
@@ -107,26 +115,34 @@ done {A = A} {E = E} {known = known} made holds only = record {
       rw (only a h, n, ← e) refl;
 }
 
+-- a field, and then the others, whose faults may tell the place of the field
+pub then_from : {A X E : Type 0} {reader : Place → Result (X × Place) E} {spell_x : X → List ℕ} {Fits_x known_x : X → Type 0}
+    {spell : A → List ℕ} {Fits known : A → Type 0} (others : Place → X × Place → Result (A × Place) E)
+    → IsTail reader spell_x Fits_x known_x → (field : A → X) → ((a : A) → known a → known_x (field a))
+    → ((place : Place) (x : X) → known_x x → IsTail (λ p. others place (x, p)) spell Fits (λ a. known a × (field a ≡ x)))
+    → IsTail (λ place. reader place >>= others place) (λ a. spell_x (field a) ++ spell a) (λ a. Fits_x (field a) × Fits a) known
+then_from {reader = reader} {spell_x = spell_x} {spell = spell} others first field told rest_is = record {
+  takes = λ place a next fits e.
+      let b = bind_ok (reader place) (others place) (a, next) e in
+      let one = first.takes place b.0.0 b.0.1 fits b.1 in
+      let two = (rest_is place b.0.0 one.2).takes b.0.1 a next one.0.fits b.2 in
+      let same : field a ≡ b.0.0 = two.2.1 in
+      (rw same (Took-then place (spell_x b.0.0) b.0.1 (spell a) next one.0 two.0), (rw same one.1, two.1), two.2.0);
+  again = λ place a rest fits h e.
+      let mid = after place (spell_x (field a)) (spell a ++ rest) in
+      let one = first.again place (field a) (spell a ++ rest) fits.0 (told a h) (e ∙ append_assoc (spell_x (field a)) (spell a) rest) in
+      let two = (rest_is place (field a) (told a h)).again mid a rest fits.1 (h, refl) refl in
+      let far : place.at + length (spell_x (field a)) + length (spell a) ≡ place.at + length (spell_x (field a) ++ spell a) = omega (arith, length-append (spell_x (field a)) (spell a)) in
+      rw (one, two, far) refl;
+}
+
 -- a field, and then the others
 pub then : {A X E : Type 0} {reader : Place → Result (X × Place) E} {spell_x : X → List ℕ} {Fits_x known_x : X → Type 0}
     {spell : A → List ℕ} {Fits known : A → Type 0} (others : X × Place → Result (A × Place) E)
     → IsTail reader spell_x Fits_x known_x → (field : A → X) → ((a : A) → known a → known_x (field a))
     → ((x : X) → known_x x → IsTail (λ place. others (x, place)) spell Fits (λ a. known a × (field a ≡ x)))
     → IsTail (λ place. reader place >>= others) (λ a. spell_x (field a) ++ spell a) (λ a. Fits_x (field a) × Fits a) known
-then {A = A} {X = X} {reader = reader} {spell_x = spell_x} {Fits_x = Fits_x} {known_x = known_x} {spell = spell} {Fits = Fits} {known = known} others first field told rest_is = record {
-  takes = λ place a next fits e.
-      let b = bind_ok (reader place) others (a, next) e in
-      let one = first.takes place b.0.0 b.0.1 fits b.1 in
-      let two = (rest_is b.0.0 one.2).takes b.0.1 a next one.0.fits b.2 in
-      let same : field a ≡ b.0.0 = two.2.1 in
-      (rw same (Took-then place (spell_x b.0.0) b.0.1 (spell a) next one.0 two.0), (rw same one.1, two.1), two.2.0);
-  again = λ place a rest fits h e.
-      let mid = after place (spell_x (field a)) (spell a ++ rest) in
-      let one = first.again place (field a) (spell a ++ rest) fits.0 (told a h) (e ∙ append_assoc (spell_x (field a)) (spell a) rest) in
-      let two = (rest_is (field a) (told a h)).again mid a rest fits.1 (h, refl) refl in
-      let far : place.at + length (spell_x (field a)) + length (spell a) ≡ place.at + length (spell_x (field a) ++ spell a) = omega (arith, length-append (spell_x (field a)) (spell a)) in
-      rw (one, two, far) refl;
-}
+then others first field told rest_is = then_from (λ place. others) first field told (λ place. rest_is)
 
 -- the same reader, where what is known of its answers, and what fits, is said in other words
 pub said : {A E : Type 0} {reader : Place → Result (A × Place) E} {spell : A → List ℕ} {Fits Fits' known known' : A → Type 0}
@@ -148,17 +164,27 @@ pub fitting : {A E : Type 0} {reader : Place → Result (A × Place) E} {spell :
     → IsTail reader spell Fits' known
 fitting is to from = said is (λ a f k. (to a k f, k)) (λ a f k. (from a k f, k))
 
+-- the last field of a record, where nothing but a fact about it is known
+pub last : {A E : Type 0} {reader : Place → Result (A × Place) E} {spell : A → List ℕ} {Fits known : A → Type 0}
+    → IsTail reader spell Fits known → IsTail reader spell Fits (λ a. Unit {0} × known a)
+last is = said is (λ a f k. (f, (tt, k))) (λ a f k. (f, k.1))
+
+-- the same reader and spelling, written otherwise where it fits
+pub spelled_where : {A E : Type 0} {reader : Place → Result (A × Place) E} {spell spell' : A → List ℕ} {Fits known : A → Type 0}
+    → IsTail reader spell Fits known → ((a : A) → Fits a → known a → spell a ≡ spell' a) → IsTail reader spell' Fits known
+spelled_where is same = record {
+  takes = λ place a next fits e.
+      let t = is.takes place a next fits e in
+      (subst (λ (w : List ℕ). Took place w next) (same a t.1 t.2) t.0, t.1, t.2);
+  again = λ place a rest fits h e.
+      let g = is.again place a rest fits h (e ∙ ap (λ (w : List ℕ). w ++ rest) (sym (same a fits h))) in
+      g ∙ ap (λ (w : List ℕ). Ok (a, after place w rest)) (same a fits h);
+}
+
 -- the same reader and spelling, written otherwise
 pub spelled : {A E : Type 0} {reader : Place → Result (A × Place) E} {spell spell' : A → List ℕ} {Fits known : A → Type 0}
     → IsTail reader spell Fits known → ((a : A) → known a → spell a ≡ spell' a) → IsTail reader spell' Fits known
-spelled {spell = spell} {spell' = spell'} is same = record {
-  takes = λ place a next fits e.
-      let t = is.takes place a next fits e in
-      (subst (λ (w : List ℕ). Took place w next) (same a t.2) t.0, t.1, t.2);
-  again = λ place a rest fits h e.
-      let g = is.again place a rest fits h (e ∙ ap (λ (w : List ℕ). w ++ rest) (sym (same a h))) in
-      g ∙ ap (λ (w : List ℕ). Ok (a, after place w rest)) (same a h);
-}
+spelled is same = spelled_where is (λ a fits k. same a k)
 
 -- a test of what is known, and then the others, whose law may use that it held
 pub guarded : {A E : Type 0} {others : Place → Result (A × Place) E} {spell : A → List ℕ} {Fits known : A → Type 0} (Holds : A → Type 0) (test : Bool) (fault : Place → E)
@@ -183,26 +209,6 @@ pub guard : {A E : Type 0} {others : Place → Result (A × Place) E} {spell : A
     → IsTail (λ place. need test (fault place) >>= λ _. others place) spell (λ a. Holds a × Fits a) known
 guard Holds test fault to from is = guarded Holds test fault to from (λ holds. is)
 
--- a reader of the answers of one form, from that of what the form holds
-pub wrapped : {A X E : Type 0} {reader : Place → Result (X × Place) E} {spell_x : X → List ℕ} {Fits_x known_x : X → Type 0} {spell : A → List ℕ} {Fits known : A → Type 0}
-    → IsTail reader spell_x Fits_x known_x → (wrap : X → A) → ((x : X) → spell (wrap x) ≡ spell_x x)
-    → ((x : X) → Fits_x x → known_x x → Fits (wrap x) × known (wrap x))
-    → ((a : A) → Fits a → known a → (x : X) × (a ≡ wrap x) × Fits_x x × known_x x)
-    → IsTail (λ place. reader place >>= λ x. Ok (wrap x.0, x.1)) spell Fits known
-wrapped {A = A} {X = X} {E = E} {reader = reader} {spell_x = spell_x} {spell = spell} {Fits = Fits} {known = known} is wrap same to from = record {
-  takes = λ place a next fits e.
-      let b = bind_ok (reader place) (λ x. Ok (wrap x.0, x.1)) (a, next) e in
-      let t = is.takes place b.0.0 b.0.1 fits b.1 in
-      let h = to b.0.0 t.1 t.2 in
-      let made : A × Place = (wrap b.0.0, b.0.1) in
-      subst (λ (y : A × Place). Took place (spell y.0) y.1 × Fits y.0 × known y.0) (ok_is E made (a, next) b.2) (subst (λ (w : List ℕ). Took place w b.0.1) (sym (same b.0.0)) t.0, h.0, h.1);
-  again = λ place a rest fits h e.
-      let b = from a fits h in
-      let text : spell a ≡ spell_x b.0 = ap spell b.1 ∙ same b.0 in
-      let one = is.again place b.0 rest b.2 b.3 (e ∙ ap (λ (w : List ℕ). w ++ rest) text) in
-      rw (one, text, ← b.1) refl;
-}
-
 -- one of two readers, by a test of what is known
 pub choose : {A E : Type 0} {yes no : Place → Result (A × Place) E} {spell : A → List ℕ} {Fits known : A → Type 0} (test : Bool)
     → (test ≡ true → IsTail yes spell Fits known) → (test ≡ false → IsTail no spell Fits known)
@@ -218,16 +224,16 @@ refuse fault never = record {
   again = λ place a rest fits h e. absurd (never a fits h);
 }
 
--- a number that is always the same, and then the others
+-- a number that is always the same, and then the others; the fault may tell its place, the number read and the place after it
 pub then_same : {A E : Type 0} {reader : Place → Result (ℕ × Place) E} {spell_x : ℕ → List ℕ} {Fits_x : ℕ → Type 0}
-    {others : Place → Result (A × Place) E} {spell : A → List ℕ} {Fits known : A → Type 0} (fault : Place → E)
+    {others : Place → Result (A × Place) E} {spell : A → List ℕ} {Fits known : A → Type 0} (fault : Place → ℕ × Place → E)
     → IsReader reader spell_x Fits_x → (same : ℕ) → Fits_x same
     → IsTail others spell Fits known
-    → IsTail (λ place. reader place >>= λ x. need (x.0 == same) (fault x.1) >>= λ _. others x.1) (λ a. spell_x same ++ spell a) Fits known
-then_same {A = A} {reader = reader} {spell_x = spell_x} {others = others} {spell = spell} fault first same fits_same is = record {
+    → IsTail (λ place. reader place >>= λ x. need (x.0 == same) (fault place x) >>= λ _. others x.1) (λ a. spell_x same ++ spell a) Fits known
+then_same {reader = reader} {spell_x = spell_x} {others = others} {spell = spell} fault first same fits_same is = record {
   takes = λ place a next fits e.
-      let b = bind_ok (reader place) (λ x. need (x.0 == same) (fault x.1) >>= λ _. others x.1) (a, next) e in
-      let g = need_ok (b.0.0 == same) (fault b.0.1) (λ _. others b.0.1) (a, next) b.2 in
+      let b = bind_ok (reader place) (λ x. need (x.0 == same) (fault place x) >>= λ _. others x.1) (a, next) e in
+      let g = need_ok (b.0.0 == same) (fault place b.0) (λ _. others b.0.1) (a, next) b.2 in
       let one = first.takes place b.0.0 b.0.1 fits b.1 in
       let two = is.takes b.0.1 a next one.0.fits g.1 in
       let is_same : b.0.0 ≡ same = eqb-true _ _ g.0 in
@@ -375,7 +381,7 @@ pub text_is : {E : Type 0} {n : ℕ} → IsSize n → (fault : Place → E) (fau
     → IsReader (λ place. ok_or (number_at n place) (fault place) >>= λ count. ok_or (bytes_at count.0 count.1) (fault_in count.1)) (λ bytes. big_bytes n (length bytes) ++ bytes) (λ bytes. length bytes < 256 ^ n)
 text_is size fault fault_in = fitting (
     then _ (number_is size fault) length (λ xs k. tt) λ count k.
-    said (bytes_is count fault_in) (λ xs fits h. (fits, (tt, h))) (λ xs fits h. (fits, h.1)))
+    last (bytes_is count fault_in))
     (λ bytes k fits. fits.0) (λ bytes k fits. (fits, tt))
 
 -- ---- all the bytes
@@ -399,39 +405,3 @@ whole_again {reader = reader} {spell = spell} is fault a fits =
     let start : Place = record { at = 0; rest = spell a } in
     let t = is.again start a [] fits tt (sym (append-nil (spell a))) in
     rw t refl
-
--- ---- a loop that reads counted items
-
--- what is read, where the items of front were read before
-abbrev pub with_front : {X E : Type 0} → List X → Result (List X × Place) E → Result (List X × Place) E
-with_front front read = read >>= λ x. Ok (front ++ x.0, x.1)
-
-regroup : {X E : Type 0} (front : List X) (x : X) (read : Result (List X × Place) E)
-    → with_front front (read >>= λ y. Ok (x ∷ y.0, y.1)) ≡ with_front (front ++ x ∷ []) read
-regroup {X = X} {E = E} front x (Ok y) = ap (λ (xs : List X). answer E (xs, y.1)) (sym (append_assoc front (x ∷ []) y.0))
-regroup front x (Err e) = refl
-
-pub goes_on : {X E : Type 0} (item : Place → Result (X × Place) E) (front : List X) (count i : ℕ) (place : Place) (x : X) (next : Place) (total : Result (List X × Place) E)
-    → i < count → item place ≡ Ok (x, next) → with_front front (counted item (count - i) place) ≡ total
-    → with_front (front ++ x ∷ []) (counted item (count - (i + 1)) next) ≡ total
-unfolding counted
-goes_on item front count i place x next total lt h so_far =
-    let k : count - i ≡ suc (count - (i + 1)) = omega arith in
-    let step : with_front front (counted item (count - i) place) ≡ with_front (front ++ x ∷ []) (counted item (count - (i + 1)) next) = rw (k, h) (regroup front x (counted item (count - (i + 1)) next)) in
-    sym step ∙ so_far
-
-pub stops : {X E : Type 0} (item : Place → Result (X × Place) E) (front : List X) (count i : ℕ) (place : Place) (fault : E) (total : Result (List X × Place) E)
-    → i < count → item place ≡ Err fault → with_front front (counted item (count - i) place) ≡ total → total ≡ Err fault
-unfolding counted
-stops item front count i place fault total lt h so_far =
-    let k : count - i ≡ suc (count - (i + 1)) = omega arith in
-    let step : with_front front (counted item (count - i) place) ≡ Err fault = rw (k, h) refl in
-    sym so_far ∙ step
-
-pub is_done : {X E : Type 0} (item : Place → Result (X × Place) E) (front : List X) (count i : ℕ) (place : Place) (total : Result (List X × Place) E)
-    → count ≤ i → with_front front (counted item (count - i) place) ≡ total → total ≡ Ok (front, place)
-unfolding counted
-is_done {X = X} {E = E} item front count i place total le so_far =
-    let k : count - i ≡ 0 = omega arith in
-    let step : with_front front (counted item (count - i) place) ≡ Ok (front, place) = rw k (ap (λ (xs : List X). answer E (xs, place)) (append-nil front)) in
-    sym so_far ∙ step

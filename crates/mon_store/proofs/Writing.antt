@@ -1,5 +1,5 @@
 -- Writing several files, one after the other.
-use Rattle.std.proofs.Common.{◌≡◌, ℕ, ◌-◌, ◌<◌, suc, List, [], ◌∷◌, ◌++◌, length, get_or, take, take_all, drop, Err, refl, sym, ap, subst, ◌∙◌, append_assoc, arith}
+use Rattle.std.proofs.Common.{◌≡◌, ℕ, List, [], ◌∷◌, ◌++◌, Err, refl, sym, ap, subst, ◌∙◌, append_assoc}
 use Rattle.mon_store.specs.declared.outputs.Output.{Output}
 use Rattle.mon_store.specs.declared.outputs.WriteFault.{WriteFault}
 use Rattle.mon_store.specs.declared.outputs.WriteFault.TheVariants.{Failed, Memory}
@@ -15,13 +15,6 @@ pub record HaveWritten (old : Files) (outputs left : List Output) (now : Files) 
 all_written-push : (files : Files) (outputs : List Output) (output : Output) → all_written files (outputs ++ output ∷ []) ≡ written (all_written files outputs) output.name output.bytes
 all_written-push files [] output = refl
 all_written-push files (first ∷ outputs) output = all_written-push (written files first.name first.bytes) outputs output
-
--- a list is its first item and the others, as a loop takes them apart
-pub taken_apart : {A : Type 0} (left : List A) (first : A) → 0 < length left → first ≡ get_or left 0 first → left ≡ first ∷ take (length left - 1) (drop 1 left)
-taken_apart [] first some is = absurd (omega (arith, some))
-taken_apart (x ∷ xs) first some is =
-    let count : suc (length xs) - 1 ≡ length xs = omega arith in
-    rw (count, take_all (length xs) xs (omega arith)) (ap (λ (y : _). y ∷ xs) (sym is))
 
 module _ (old : Files) (outputs left : List Output) (output : Output) (later : List Output) (apart : left ≡ output ∷ later) (now new : Files) (had : HaveWritten old outputs left now) where
   whole : outputs ≡ had.before ++ output ∷ later

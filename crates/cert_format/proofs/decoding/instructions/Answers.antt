@@ -1,11 +1,10 @@
 use Rattle.std.proofs.Common.{[]}
 use Rattle.std.proofs.lemmas.Result.{err_from_is_err_and}
-use Rattle.cert_format.specs.Reading.{instruction_at, instructions_at, several_at}
+use Rattle.cert_format.specs.Reading.{instruction_at, several_at}
 use Rattle.cert_format.proofs.Loops.{with_fronts, both_go_on, both_end, both_done}
 use Rattle.cert_format.proofs.decoding.instructions.Goals as goal
 
 pub returns-in_err-frame : goal.returns-in_err-frame
-unfolding instructions_at
 returns-in_err-frame c =
     let p = err_from_is_err_and c.from_residual-in_err-frame.result c.from_residual-in_err-frame.ensures.1 in
     let item = instruction_at c.args.table.now.vars c.args.table.now.names.now in
@@ -22,7 +21,6 @@ loop-preserved c =
     c.loop.invariant)
 
 pub returns : goal.returns
-unfolding instructions_at
 returns c =
     let item = instruction_at c.args.table.now.vars c.args.table.now.names.now in
     let total = with_fronts [] [] (several_at item c.args.count c.args.used.now c.args.from.now) in

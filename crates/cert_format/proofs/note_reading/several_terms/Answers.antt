@@ -1,14 +1,14 @@
 use Rattle.std.proofs.lemmas.Result.{err_from_is_err_and}
 use Rattle.mon_base.specs.Reading.{counted}
-use Rattle.mon_base.proofs.Reading.{goes_on, is_done}
+use Rattle.mon_base.proofs.Loop.{goes_on, ends, is_done}
+use Rattle.cert_format.specs.declared.fault.CertForm.TheVariants.{Memory}
 use Rattle.cert_format.specs.Reading.{term_at}
-use Rattle.cert_format.proofs.Loops.{counted_ends}
 use Rattle.cert_format.proofs.note_reading.several_terms.Goals as goal
 
 pub returns-in_err-term : goal.returns-in_err-term
 returns-in_err-term c =
     let p = err_from_is_err_and c.from_residual-in_err-term.result c.from_residual-in_err-term.ensures.1 in
-    rw (p.1, p.2) (counted_ends term_at c.in_err-term.field-0.0 c.loop.terms c.args.count c.loop.counter c.loop.from (counted term_at c.args.count c.args.from.now) c.loop-test.true c.in_err-term.ensures c.loop.invariant)
+    rw (p.1, p.2) (ends Memory term_at c.in_err-term.field-0.0 c.loop.terms c.args.count c.loop.counter c.loop.from (counted term_at c.args.count c.args.from.now) c.loop-test.true c.in_err-term.ensures c.loop.invariant)
 
 pub loop-preserved : goal.loop-preserved
 loop-preserved c =

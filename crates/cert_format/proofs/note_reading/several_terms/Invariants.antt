@@ -1,6 +1,6 @@
 use Rattle.std.proofs.Common.{◌≡◌, ◌-◌}
 use Rattle.mon_base.specs.Reading.{counted}
-use Rattle.mon_base.proofs.Reading.{with_front}
+use Rattle.mon_base.proofs.Loop.{with_front}
 use Rattle.cert_format.specs.Reading.{term_at}
 use Rattle.cert_format.proofs.note_reading.several_terms.Given as goal
 

@@ -1,8 +1,8 @@
 use Rattle.std.proofs.Common.{◌≡◌, ◌+◌, ◌-◌, true, length}
 use Rattle.std.specs.List.{flat_map}
+use Rattle.mon_base.proofs.Loop.{with_front}
 use Rattle.class_codec.specs.Spelling.{constant}
 use Rattle.class_codec.specs.Reading.{places_at}
-use Rattle.class_codec.proofs.Loop.{with_front}
 use Rattle.class_codec.proofs.constants.places.Given as goal
 
 abbrev pub invariant-loop-number : goal.invariant-loop-number

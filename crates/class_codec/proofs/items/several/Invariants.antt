@@ -1,6 +1,6 @@
 use Rattle.std.proofs.Common.{◌≡◌, ◌-◌}
 use Rattle.mon_base.specs.Reading.{counted}
-use Rattle.class_codec.proofs.Loop.{with_front}
+use Rattle.mon_base.proofs.Loop.{with_front}
 use Rattle.class_codec.proofs.items.several.Given as goal
 
 abbrev pub invariant-loop : goal.invariant-loop

@@ -1,8 +1,10 @@
 use Rattle.std.proofs.Common.{◌∙◌}
 use Rattle.std.proofs.lemmas.Result.{err_from_is_err_and}
 use Rattle.mon_base.specs.Reading.{counted}
+use Rattle.mon_base.proofs.Loop.{goes_on, ends, is_done}
+use Rattle.insn_codec.specs.declared.fault.CodeFault.TheVariants.{Memory}
 use Rattle.insn_codec.specs.Targets.{finds}
-use Rattle.insn_codec.proofs.Loop.{goes_on, ends, is_done, counts_on}
+use Rattle.insn_codec.proofs.Loop.{counts_on}
 use Rattle.insn_codec.proofs.switches.several.Goals as goal
 
 pub returns-in_err-item-clause-reads : goal.returns-in_err-item-clause-reads
@@ -10,7 +12,7 @@ returns-in_err-item-clause-reads g c =
     let p = err_from_is_err_and c.from_residual.result c.from_residual.ensures.1 in
     let item = g.T.Item.item_at (finds c.args.targets.now) c.args.at in
     let total = counted item c.args.count c.args.from.now in
-    rw (p.1, p.2) (ends item c.in_err-item.field-0.0 c.loop.items.items c.args.count c.loop.counter c.loop.from total
+    rw (p.1, p.2) (ends Memory item c.in_err-item.field-0.0 c.loop.items.items c.args.count c.loop.counter c.loop.from total
     c.loop-test.true c.in_err-item.ensures.reads c.loop.invariant.0)
 
 pub loop-preserved : goal.loop-preserved

@@ -1,8 +1,8 @@
 use Rattle.std.proofs.Common.{◌≡◌, ◌-◌, ◌+◌, ◌*◌, length}
 use Rattle.mon_base.specs.Reading.{counted}
+use Rattle.mon_base.proofs.Loop.{with_front}
 use Rattle.insn_codec.specs.Reading.{end_of}
 use Rattle.insn_codec.specs.Targets.{finds}
-use Rattle.insn_codec.proofs.Loop.{with_front}
 use Rattle.insn_codec.proofs.switches.several.Given as goal
 
 abbrev pub invariant-loop : goal.invariant-loop
