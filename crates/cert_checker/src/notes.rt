@@ -1,16 +1,15 @@
 //! The first note of a certificate that is wrong.
 
-ghost use Rattle.std.specs.Prelude.{◌≡◌, drop, is_some};
+ghost use Rattle.std.specs.Prelude.{◌≡◌, is_some};
 ghost use Rattle.bytecode_model.specs.Sound.{IsSound, IsSoundClass, IsSoundMethod};
 ghost use Rattle.bytecode_model.specs.Rules.{frame_of};
-ghost use Rattle.bytecode_model.specs.Typed.{list_at};
 ghost use Rattle.block_logic.specs.Accepted.{reached_fault, rules_of};
 ghost use Rattle.cert_checker.specs.Acceptance.{in_classes, in_method, in_methods, notes_fault};
 
 use crate::note_rules::note_fault;
 use crate::state::state_at;
 use block_logic::Rules;
-use bytecode_model::{LinkedClass, Method, Program};
+use bytecode_model::{LinkedClass, Method, Program, behind_first, list_at};
 use cert_format::{Certificate, FrameType, Note};
 use conspec_automaton::Policy;
 use mon_base::List;
@@ -60,7 +59,7 @@ fn in_classes(
     let mut notes = certificate.notes.as_slice();
     let mut classes = program.classes.as_slice();
     while let [class, later @ ..] = classes {
-        if let Some(found) = in_methods(rules, class, first_of(frames), first_of(notes)) {
+        if let Some(found) = in_methods(rules, class, list_at(frames, 0), list_at(notes, 0)) {
             return Some((at, found));
         }
         classes = later;
@@ -87,7 +86,7 @@ fn in_methods(
     let mut methods = class.methods.as_slice();
     while let [method, later @ ..] = methods {
         if !method.insns.is_empty() {
-            if let Some(found) = in_method(rules, first_of(frames), first_of(notes), method) {
+            if let Some(found) = in_method(rules, list_at(frames, 0), list_at(notes, 0), method) {
                 return Some((at, found));
             }
             frames = behind_first(frames);
@@ -144,25 +143,5 @@ fn has_frame(frames: &[Option<FrameType>], at: u32) -> bool
     match frames.get(at as usize) {
         Some(frame) => frame.is_some(),
         None => false,
-    }
-}
-
-/// The items of the first list, or none where there is no list.
-fn first_of<T>(lists: &[List<T>]) -> &[T]
-    ensures { result.now ≡ list_at lists.now 0 }
-{
-    match lists {
-        [] => &[],
-        [first, ..] => first.as_slice(),
-    }
-}
-
-/// The lists behind the first.
-fn behind_first<T>(lists: &[List<T>]) -> &[List<T>]
-    ensures { result.now ≡ drop 1 lists.now }
-{
-    match lists {
-        [] => lists,
-        [_, others @ ..] => others,
     }
 }

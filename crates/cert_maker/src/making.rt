@@ -1,13 +1,12 @@
 //! The certificate as a whole.
 
-ghost use Rattle.std.specs.Prelude.{◌≡◌, drop, IfOk};
-ghost use Rattle.bytecode_model.specs.Typed.{list_at};
+ghost use Rattle.std.specs.Prelude.{◌≡◌, IfOk};
 ghost use Rattle.conspec_automaton.specs.Sound.{IsPolicy};
 ghost use Rattle.cert_maker.specs.Noting.{certificate_of, class_notes, notes_of};
 
 use crate::methods::method_notes;
 use block_template::PolicyItems;
-use bytecode_model::{LinkedClass, Method};
+use bytecode_model::{LinkedClass, Method, behind_first, list_at};
 use cert_format::{Certificate, FrameType, Mode, Note, Typing};
 use conspec_automaton::Policy;
 use mon_base::{List, NoMemory};
@@ -47,7 +46,7 @@ fn notes_of(
     let mut frames = frames;
     while let [class, later @ ..] = classes {
         let methods = class.methods.as_slice();
-        notes.push(class_notes(alloc, items, methods, first_of(frames))?)?;
+        notes.push(class_notes(alloc, items, methods, list_at(frames, 0))?)?;
         classes = later;
         frames = behind_first(frames);
     }
@@ -70,30 +69,10 @@ fn class_notes(
     let mut frames = frames;
     while let [method, later @ ..] = methods {
         if !method.insns.is_empty() {
-            notes.push(method_notes(alloc, items, method, first_of(frames))?)?;
+            notes.push(method_notes(alloc, items, method, list_at(frames, 0))?)?;
             frames = behind_first(frames);
         }
         methods = later;
     }
     Ok(notes)
-}
-
-/// The items of the first list, or none where there is no list.
-fn first_of<T>(lists: &[List<T>]) -> &[T]
-    ensures { result.now ≡ list_at lists.now 0 }
-{
-    match lists {
-        [] => &[],
-        [first, ..] => first.as_slice(),
-    }
-}
-
-/// The lists behind the first.
-fn behind_first<T>(lists: &[List<T>]) -> &[List<T>]
-    ensures { result.now ≡ drop 1 lists.now }
-{
-    match lists {
-        [] => lists,
-        [_, others @ ..] => others,
-    }
 }

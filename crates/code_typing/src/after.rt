@@ -12,12 +12,12 @@ use crate::change::{change_of, change_told};
 use crate::entry::this_type;
 use crate::locals::local_told;
 use crate::operands::count_taken;
-use crate::place::{PlaceRef, desc_referred};
+use crate::place::PlaceRef;
 use bytecode_model::{Method, TypeRef, own};
 use cert_format::{FrameType, VType};
 use frame_types::{
-    arguments_text, array_named, class_of, constant_type, count_after, is_static, moved_from,
-    next_type, put_back, read_type, result_type, split_top, type_at, type_described,
+    arguments_text, array_named, class_of, constant_type, count_after, desc_referred, is_static,
+    moved_from, next_type, put_back, read_type, result_type, split_top, type_at, type_described,
 };
 use insn_codec::{Heap, Shape, StackForm, depth_of};
 use mon_base::{List, NoMemory};
@@ -32,8 +32,10 @@ fn heap_yielded<'a>(place: &PlaceRef<'a>, taken: &'a [VType], what: Heap) -> Opt
     match what {
         Heap::Constant => Some(constant_type(place.target)),
         Heap::ReadItem(item) => Some(read_type(item, taken)),
-        Heap::ReadStatic | Heap::ReadField => Some(type_described(desc_referred(place))),
-        Heap::Call(_) => result_type(desc_referred(place)),
+        Heap::ReadStatic | Heap::ReadField => Some(type_described(desc_referred(
+            &place.insn_ref(),
+        ))),
+        Heap::Call(_) => result_type(desc_referred(&place.insn_ref())),
         Heap::New => Some(TypeRef::Uninit(place.at)),
         Heap::NewArray(kind) => Some(TypeRef::Ref(array_named(kind))),
         Heap::NewArrayOf => Some(TypeRef::ArrayOf(class_of(place.target))),

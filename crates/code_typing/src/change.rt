@@ -3,15 +3,14 @@
 
 ghost use Rattle.std.specs.Prelude.{◌≡◌, option_copied};
 ghost use Rattle.cert_format.specs.declared.typing.VType.{VType};
-ghost use Rattle.insn_codec.specs.Shapes.{shape_of};
 ghost use Rattle.bytecode_model.specs.Lending.{type_lent};
 ghost use Rattle.code_typing.specs.Changing.{change_told};
-ghost use Rattle.bytecode_model.specs.Makes.{class_made, is_same_object, changed, changed_by, when_called};
+ghost use Rattle.bytecode_model.specs.Makes.{class_made, is_same_object, changed, when_called};
 
-use crate::place::{PlaceRef, calls_maker, class_referred};
+use crate::place::PlaceRef;
 use bytecode_model::{TypeRef, lend};
 use cert_format::VType;
-use frame_types::{is_made_at, is_same_object, new_at};
+use frame_types::{InsnRef, calls_maker, class_referred, is_made_at, is_same_object, new_at};
 use insn_codec::{Heap, Shape};
 
 /// What becomes of the types that stay.
@@ -25,7 +24,7 @@ pub enum Change<'a> {
 }
 
 /// The class of what a constructor that is called makes of this receiver, if it may.
-pub fn class_made<'a>(place: &PlaceRef<'a>, receiver: &VType) -> Option<&'a [u8]>
+pub fn class_made<'a>(place: &InsnRef<'a>, receiver: &VType) -> Option<&'a [u8]>
     ensures { option_copied result ≡ class_made place.now receiver.now }
 {
     let class = class_referred(place);
@@ -49,7 +48,8 @@ pub fn class_made<'a>(place: &PlaceRef<'a>, receiver: &VType) -> Option<&'a [u8]
     }
 }
 
-fn when_called<'a>(place: &PlaceRef<'a>, taken: &'a [VType]) -> Change<'a>
+/// What a call that takes these operands does with the types that stay.
+pub fn when_called<'a>(place: &InsnRef<'a>, taken: &'a [VType]) -> Change<'a>
     ensures { (t : VType) → change_told result t ≡ when_called place.now taken.now t }
 {
     if !calls_maker(place) {
@@ -72,12 +72,12 @@ pub fn change_of<'a>(place: &PlaceRef<'a>, taken: &'a [VType]) -> Change<'a>
 {
     match place.shape() {
         Shape::Heap(Heap::New) => Change::Forget(place.at),
-        Shape::Heap(Heap::Call(_)) => when_called(place, taken),
+        Shape::Heap(Heap::Call(_)) => when_called(&place.insn_ref(), taken),
         _ => Change::Nothing,
     }
 }
 
-/// The type afterwards.
+/// What becomes of a type that stays.
 pub fn change_told<'a>(change: Change<'a>, t: &'a VType) -> TypeRef<'a>
     ensures { type_lent result ≡ change_told change.entry t.now }
 {

@@ -23,6 +23,7 @@ mod wanted;
 mod yielded;
 
 pub use after::{entry_locals, locals_after, stack_after};
+pub use change::{Change, change_told, when_called};
 pub use fault::TypeFault;
 pub use following::goes_well;
 pub use handlers::catches_well;

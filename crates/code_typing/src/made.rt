@@ -1,25 +1,26 @@
 //! Rule 5: objects that are not made yet. (The Java Virtual Machine Specification, section 4.10.2.4.)
 
 ghost use Rattle.std.specs.Prelude.{◌≡◌};
-ghost use Rattle.bytecode_model.specs.Rules.{Made, made_well, makes_receiver, leaves_made, has_object};
+ghost use Rattle.bytecode_model.specs.Rules.{Made, makes_receiver};
 ghost use Rattle.bytecode_model.specs.Rules.{taken as taken_of};
 
 use crate::change::class_made;
-use crate::place::{PlaceRef, calls_maker};
+use crate::place::PlaceRef;
 use cert_format::{FrameType, VType};
-use frame_types::{has_new, has_receiver, has_this, is_maker};
+use frame_types::{calls_maker, has_new, has_receiver, has_this, is_maker};
 use insn_codec::{Heap, How, Shape};
 
 fn makes_receiver(place: &PlaceRef, how: How, frame: &FrameType, taken: &[VType]) -> bool
     requires { taken.now ≡ taken_of place.now frame.now }
     ensures { result ≡ makes_receiver place.now how frame.now }
 {
-    if !calls_maker(place) {
+    let insn = place.insn_ref();
+    if !calls_maker(&insn) {
         return true;
     }
     match taken {
         [] => false,
-        [receiver, ..] => has_receiver(how) && class_made(place, receiver).is_some(),
+        [receiver, ..] => has_receiver(how) && class_made(&insn, receiver).is_some(),
     }
 }
 

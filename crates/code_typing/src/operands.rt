@@ -11,6 +11,7 @@ ghost use Rattle.bytecode_model.specs.Wants.{
   takes_of,
   heap_takes,
   call_takes,
+  to_class,
   to_written,
   to_own,
   to_receiver,
@@ -21,16 +22,17 @@ ghost use Rattle.bytecode_model.specs.Wants.{
   is_result_of,
 };
 ghost use Rattle.bytecode_model.specs.Described.{result_type};
-ghost use Rattle.bytecode_model.specs.Place.{desc_referred};
+ghost use Rattle.bytecode_model.specs.Place.{class_referred, desc_referred};
 ghost use Rattle.insn_codec.specs.declared.shape.Heap.TheVariants as heap;
 ghost use Rattle.bytecode_model.specs.Lending.{type_lent};
 
-use crate::place::{PlaceRef, calls_maker, class_referred, desc_referred, is_own_field};
+use crate::place::{PlaceRef, is_own_field};
 use crate::wanted::{Wanted, one_is, three_are, to_class, to_described, two_are};
 use bytecode_model::TypeRef;
 use cert_format::VType;
 use frame_types::{
-    arguments_text, arity, has_receiver, is_this, next_type, result_text, result_type,
+    arguments_text, arity, calls_maker, class_referred, desc_referred, has_receiver, is_this,
+    next_type, result_text, result_type,
 };
 use insn_codec::{Heap, How, Item, Kind, Shape, depth_of};
 use type_lattice::Indexed;
@@ -40,7 +42,7 @@ use type_lattice::Indexed;
 fn call_count(place: &PlaceRef, how: How) -> usize
     ensures { result ≡ length (call_takes place.now how) }
 {
-    let count = arity(desc_referred(place));
+    let count = arity(desc_referred(&place.insn_ref()));
     if has_receiver(how) { count + 1 } else { count }
 }
 
@@ -116,7 +118,11 @@ fn arguments_met(program: &Indexed, text: &[u8], types: &[VType]) -> bool
 fn call_arguments_met(place: &PlaceRef, types: &[VType]) -> bool
     ensures { result ≡ all_met (to_arguments place.now) types.now }
 {
-    arguments_met(place.program, arguments_text(desc_referred(place)), types)
+    arguments_met(
+        place.program,
+        arguments_text(desc_referred(&place.insn_ref())),
+        types,
+    )
 }
 
 /// Whether the type is of the class of the code, where the call begins there or above it.
@@ -129,11 +135,17 @@ fn to_own(place: &PlaceRef, how: How, t: &VType) -> bool
     }
 }
 
+/// Whether the type is of the class of the field or method that is referred to.
+fn to_referred(place: &PlaceRef, t: &VType) -> bool
+    ensures { result ≡ to_class place.now.program (class_referred place.now) t.now }
+{
+    to_class(place.program, class_referred(&place.insn_ref()), t)
+}
+
 fn to_receiver(place: &PlaceRef, how: How, t: &VType) -> bool
     ensures { result ≡ to_receiver place.now how t.now }
 {
-    calls_maker(place)
-        || (to_class(place.program, class_referred(place), t) && to_own(place, how, t))
+    calls_maker(&place.insn_ref()) || (to_referred(place, t) && to_own(place, how, t))
 }
 
 fn call_met(place: &PlaceRef, how: How, types: &[VType]) -> bool
@@ -148,16 +160,27 @@ fn call_met(place: &PlaceRef, how: How, types: &[VType]) -> bool
     }
 }
 
+/// Whether it is one value, as the field that is referred to holds.
+fn value_met(place: &PlaceRef, types: &[VType]) -> bool
+    ensures { result ≡ all_met (to_described place.now.program (desc_referred place.now) ∷ []) types.now }
+{
+    let desc = desc_referred(&place.insn_ref());
+    one_is(place.program, Wanted::Described(desc), types)
+}
+
+/// Whether the type is of an object whose field is written.
+fn to_written(place: &PlaceRef, t: &VType) -> bool
+    ensures { result ≡ to_written place.now t.now }
+{
+    is_own_field(place) && is_this(t) || to_referred(place, t)
+}
+
 fn write_met(place: &PlaceRef, types: &[VType]) -> bool
     ensures { result ≡ all_met (to_written place.now ∷ to_described place.now.program (desc_referred place.now) ∷ []) types.now }
 {
     match types {
         [] => false,
-        [first, rest @ ..] => {
-            (is_own_field(place) && is_this(first)
-                || to_class(place.program, class_referred(place), first))
-                && one_is(place.program, Wanted::Described(desc_referred(place)), rest)
-        }
+        [first, rest @ ..] => to_written(place, first) && value_met(place, rest),
     }
 }
 
@@ -195,8 +218,12 @@ fn heap_met(place: &PlaceRef, what: Heap, types: &[VType]) -> bool
             types,
         ),
         Heap::Divide { .. } => two_are(program, Wanted::Number, Wanted::Number, types),
-        Heap::WriteStatic => one_is(program, Wanted::Described(desc_referred(place)), types),
-        Heap::ReadField => one_is(program, Wanted::Class(class_referred(place)), types),
+        Heap::WriteStatic => value_met(place, types),
+        Heap::ReadField => one_is(
+            program,
+            Wanted::Class(class_referred(&place.insn_ref())),
+            types,
+        ),
         Heap::WriteField => write_met(place, types),
         Heap::Call(how) => call_met(place, how, types),
         Heap::NewArray(_) | Heap::NewArrayOf => one_is(program, Wanted::Number, types),

@@ -1,21 +1,19 @@
-//! An instruction in its place, and what its operand names.
+//! An instruction in its place, in a program whose classes are found by their names.
 
 ghost use Rattle.std.specs.Prelude.{◌≡◌, IsTrue, option_copied, option_map, slice_get, true};
 ghost use Rattle.insn_codec.specs.Shapes.{shape_of};
-ghost use Rattle.bytecode_model.specs.Operands.{index_of};
-ghost use Rattle.bytecode_model.specs.Place.{class_referred, name_referred, desc_referred};
-ghost use Rattle.bytecode_model.specs.Place.{calls_maker, is_own_field};
+ghost use Rattle.bytecode_model.specs.Place.{is_own_field};
 ghost use Rattle.bytecode_model.specs.Typed.{place_at};
 ghost use Rattle.code_typing.specs.Catching.{all_take_thrown};
 
-use bytecode_model::{LinkedClass, Method, Target, index_of};
-use class_codec::{Reference, reference_at};
+use bytecode_model::{LinkedClass, Method, Target};
+use frame_types::InsnRef;
 use insn_codec::{Insn, Shape, shape_of};
 use std::marker::Model;
 use type_lattice::Indexed;
 
-/// The instruction `insn` at the index `at` of a method of the class with the index `own`; `target` is what its operand
-/// names.
+/// The instruction `insn` at the index `at` of a method of the class with the index `own`, in a program whose classes are
+/// found by their names; `target` is what its operand names.
 #[derive(Drop)]
 pub struct PlaceRef<'a> {
     pub program: &'a Indexed,
@@ -93,6 +91,21 @@ impl<'a> PlaceRef<'a> {
         })
     }
 
+    /// The instruction in its place, where no class is looked for.
+    pub(crate) fn insn_ref(&self) -> InsnRef<'a>
+        ensures { result ≡ self.now }
+    {
+        InsnRef {
+            program: self.program.program(),
+            own: self.own,
+            class: self.class,
+            method: self.method,
+            at: self.at,
+            insn: self.insn,
+            target: self.target,
+        }
+    }
+
     /// Whether it is known that each handler of the method takes what may be thrown.
     pub(crate) fn handlers_known(&self) -> bool
         ensures { IsTrue result → all_take_thrown self.now.program self.now.method.handlers ≡ true }
@@ -106,43 +119,6 @@ impl<'a> PlaceRef<'a> {
     {
         self.shape
     }
-}
-
-/// The class of the field or method that is referred to, or none.
-pub fn class_referred<'a>(place: &PlaceRef<'a>) -> &'a [u8]
-    ensures { result.now ≡ class_referred place.now }
-{
-    match reference_at(place.class.file.pool.as_slice(), index_of(place.insn)) {
-        Some(id) => id.class.as_slice(),
-        None => b"".as_slice(),
-    }
-}
-
-/// Its name, or none.
-pub fn name_referred<'a>(place: &PlaceRef<'a>) -> &'a [u8]
-    ensures { result.now ≡ name_referred place.now }
-{
-    match reference_at(place.class.file.pool.as_slice(), index_of(place.insn)) {
-        Some(id) => id.name.as_slice(),
-        None => b"".as_slice(),
-    }
-}
-
-/// Its descriptor, or none.
-pub fn desc_referred<'a>(place: &PlaceRef<'a>) -> &'a [u8]
-    ensures { result.now ≡ desc_referred place.now }
-{
-    match reference_at(place.class.file.pool.as_slice(), index_of(place.insn)) {
-        Some(id) => id.desc.as_slice(),
-        None => b"".as_slice(),
-    }
-}
-
-/// Whether a call is of the method that makes an object.
-pub fn calls_maker(place: &PlaceRef) -> bool
-    ensures { result ≡ calls_maker place.now }
-{
-    name_referred(place) == b"<init>".as_slice()
 }
 
 /// Whether a field stands in the method's own class.

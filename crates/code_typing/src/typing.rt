@@ -1,12 +1,12 @@
 //! The typing of a program.
 
 ghost use Rattle.std.specs.Prelude.{◌≡◌, ◌<◌, ◌≤◌, ◌+◌, ◌^◌, ◌↔◌, ℕ, List, Option, Some, None, true};
-ghost use Rattle.std.specs.Prelude.{IsOk, IsTrue, MatchResult, length, take, drop};
+ghost use Rattle.std.specs.Prelude.{IsOk, IsTrue, MatchResult, length, take};
 ghost use Rattle.std.specs.List.{AllByRecursion};
 ghost use Rattle.bytecode_model.specs.Sound.{IsSound, IsSoundClass, IsSoundMethod};
 ghost use Rattle.bytecode_model.specs.Rules.{Frames};
 ghost use Rattle.code_typing.specs.First.{first_row, method_fault, methods_fault, classes_fault, typing_fault};
-ghost use Rattle.bytecode_model.specs.Typed.{IsTyped, row_in, row_fault, frames_in, frames_told, list_at};
+ghost use Rattle.bytecode_model.specs.Typed.{IsTyped, row_in, row_fault, frames_in, frames_told};
 ghost use Rattle.bytecode_model.specs.Shape.{coded};
 ghost use Rattle.code_typing.specs.Catching.{all_take_thrown};
 
@@ -15,7 +15,7 @@ use crate::following::frame_of;
 use crate::handlers::all_take_thrown;
 use crate::place::PlaceRef;
 use crate::row::row_failing;
-use bytecode_model::{LinkedClass, Method};
+use bytecode_model::{LinkedClass, Method, behind_first, list_at};
 use cert_format::{FrameType, Typing};
 use mon_base::List;
 use type_lattice::Indexed;
@@ -71,16 +71,6 @@ fn count_coded(methods: &[Method], n: u32) -> usize
     count
 }
 
-/// The list that stands there, or the empty one.
-fn told_at<T>(told: &[List<T>], at: usize) -> &[T]
-    ensures { result.now ≡ list_at told.now at }
-{
-    match told.get(at) {
-        Some(list) => list.as_slice(),
-        None => &[],
-    }
-}
-
 /// The first rule that fails at an instruction, by the place of its method among all methods of the class; none where
 /// there is no such instruction. It takes no memory.
 pub fn check_row(program: &Indexed, typing: &Typing, class: u32, method: u32, at: u32) -> Option<u8>
@@ -89,8 +79,8 @@ pub fn check_row(program: &Indexed, typing: &Typing, class: u32, method: u32, at
     let given = program.program().classes.as_slice().get(class as usize)?;
     let methods = given.methods.as_slice();
     let found = methods.get(method as usize)?;
-    let told = told_at(typing.frames.as_slice(), class as usize);
-    let frames = told_at(told, count_coded(methods, method));
+    let told = list_at(typing.frames.as_slice(), class as usize);
+    let frames = list_at(told, count_coded(methods, method));
     row_in(program, class, given, found, frames, at)
 }
 
@@ -135,7 +125,7 @@ fn methods_fault(
     let mut left = class.methods.as_slice();
     while let [method, later @ ..] = left {
         if !method.insns.is_empty() {
-            let frames = told_at(told, 0);
+            let frames = list_at(told, 0);
             if let Some(fault) = method_fault(program, own, class, method, frames, index) {
                 return Some(fault);
             }
@@ -147,16 +137,6 @@ fn methods_fault(
     None
 }
 
-/// All but the first.
-fn behind_first<T>(told: &[List<T>]) -> &[List<T>]
-    ensures { result.now ≡ drop 1 told.now }
-{
-    match told {
-        [] => told,
-        [_, rest @ ..] => rest,
-    }
-}
-
 /// The first instruction of the program whose row fails.
 fn typing_fault(program: &Indexed, typing: &Typing) -> Option<TypeFault>
     requires { IsSound program.now }
@@ -166,7 +146,7 @@ fn typing_fault(program: &Indexed, typing: &Typing) -> Option<TypeFault>
     let mut told = typing.frames.as_slice();
     let mut left = program.program().classes.as_slice();
     while let [class, later @ ..] = left {
-        if let Some(fault) = methods_fault(program, own, class, told_at(told, 0)) {
+        if let Some(fault) = methods_fault(program, own, class, list_at(told, 0)) {
             return Some(fault);
         }
         told = behind_first(told);

@@ -7,12 +7,12 @@ ghost use Rattle.bytecode_model.specs.Rules.{stack_fits};
 ghost use Rattle.cert_format.specs.declared.typing.VType.{VType};
 ghost use Rattle.bytecode_model.specs.Described.{result_type};
 
-use crate::place::{PlaceRef, desc_referred};
+use crate::place::PlaceRef;
 use bytecode_model::TypeRef;
 use cert_format::VType;
 use frame_types::{
-    array_named, class_of, constant_type, moved_from, put_back, read_type, result_type, type_at,
-    type_described,
+    array_named, class_of, constant_type, desc_referred, moved_from, put_back, read_type,
+    result_type, type_at, type_described,
 };
 use insn_codec::{Heap, Shape, depth_of};
 use type_lattice::{Indexed, lent_fits};
@@ -63,9 +63,13 @@ fn heap_fits(place: &PlaceRef, taken: &[VType], what: Heap, to: &[VType]) -> boo
         Heap::Constant => one_fits(program, constant_type(place.target), to),
         Heap::ReadItem(item) => one_fits(program, read_type(item, taken), to),
         Heap::ReadStatic | Heap::ReadField => {
-            one_fits(program, type_described(desc_referred(place)), to)
+            one_fits(
+                program,
+                type_described(desc_referred(&place.insn_ref())),
+                to,
+            )
         }
-        Heap::Call(_) => call_fits(program, desc_referred(place), to),
+        Heap::Call(_) => call_fits(program, desc_referred(&place.insn_ref()), to),
         Heap::New => one_fits(program, TypeRef::Uninit(place.at), to),
         Heap::NewArray(kind) => one_fits(program, TypeRef::Ref(array_named(kind)), to),
         Heap::NewArrayOf => one_fits(program, TypeRef::ArrayOf(class_of(place.target)), to),
@@ -112,7 +116,7 @@ fn heap_count(place: &PlaceRef, what: Heap) -> usize
 {
     match what {
         Heap::Call(_) => {
-            match result_type(desc_referred(place)) {
+            match result_type(desc_referred(&place.insn_ref())) {
                 None => 0,
                 Some(_) => 1,
             }

@@ -2,7 +2,7 @@
 
 ghost use Rattle.std.specs.Prelude.{◌≡◌, ◌+◌, ◌++◌, IfOk, None, OnOk, length, map};
 ghost use Rattle.std.specs.Option.{option_copied};
-ghost use Rattle.offset_patch.specs.Splicing.{fronts_from, fronts_of, part_of};
+ghost use Rattle.offset_patch.specs.Splicing.{fronts_of, part_of};
 ghost use Rattle.block_template.specs.Blocks.{block, clauses_of, plan_of};
 ghost use Rattle.block_template.specs.declared.item.Item.{Item as SpecItem};
 ghost use Rattle.block_template.specs.Frames.{frame_at};
@@ -21,12 +21,13 @@ ghost use Rattle.woven_typing.specs.Framing.{
   insn_place,
 };
 
-use crate::behind::{CallPlace, frame_behind};
+use crate::behind::frame_behind;
 use crate::renaming::{Fronts, frame_renamed};
 use crate::roles::{CallTypes, Names};
 use block_template::{Item, PolicyItems, clauses_of};
 use bytecode_model::{LinkedClass, Method, Program, Target};
 use cert_format::{FrameType, push_frame};
+use frame_types::InsnRef;
 use insn_codec::Insn;
 use mon_base::{List, NoMemory};
 use std::alloc::Global;
@@ -153,17 +154,17 @@ impl<'a> Client<'a> {
         })
     }
 
-    fn insn_place(&self, at: u32, insn: &'a Insn, target: &'a Target) -> CallPlace<'a>
+    fn insn_place(&self, at: u32, insn: &'a Insn, target: &'a Target) -> InsnRef<'a>
         ensures { result ≡ insn_place self.now at insn.now target.now }
     {
-        CallPlace {
+        InsnRef {
             program: self.weaving.program,
             own: self.own,
             class: self.class,
             method: self.method,
             at,
             insn,
-            target,
+            target: Some(target),
         }
     }
 
@@ -176,7 +177,7 @@ impl<'a> Client<'a> {
     fn call_types(
         &self,
         alloc: Global,
-        place: &CallPlace,
+        place: &InsnRef,
         callee: u32,
         frame: &FrameType,
     ) -> Result<CallTypes<'a>, NoMemory>
@@ -246,7 +247,7 @@ fn put_block(
     alloc: Global,
     out: &mut Frames,
     client: &Client,
-    place: &CallPlace,
+    place: &InsnRef,
     callee: u32,
     items: &[Item],
     frame: Option<&FrameType>,

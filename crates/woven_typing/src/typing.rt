@@ -1,6 +1,6 @@
 //! The typing of a woven program.
 
-ghost use Rattle.std.specs.Prelude.{◌≡◌, drop, IfOk};
+ghost use Rattle.std.specs.Prelude.{◌≡◌, IfOk};
 ghost use Rattle.conspec_automaton.specs.Sound.{IsPolicy};
 ghost use Rattle.bytecode_model.specs.Typed.{list_at};
 ghost use Rattle.woven_typing.specs.Framing.{
@@ -14,31 +14,11 @@ ghost use Rattle.woven_typing.specs.Framing.{
 use crate::framing::{Client, Frames, Weaving, frames_woven};
 use crate::roles::Names;
 use block_template::PolicyItems;
-use bytecode_model::{LinkedClass, Method, Program};
+use bytecode_model::{LinkedClass, Method, Program, behind_first, list_at};
 use cert_format::{Mode, Typing};
 use conspec_automaton::Policy;
 use mon_base::{List, NoMemory};
 use std::alloc::Global;
-
-/// The items of the first list, or none where there is no list.
-fn first_of<T>(lists: &[List<T>]) -> &[T]
-    ensures { result.now ≡ list_at lists.now 0 }
-{
-    match lists {
-        [] => &[],
-        [first, ..] => first.as_slice(),
-    }
-}
-
-/// The lists behind the first.
-fn behind_first<T>(lists: &[List<T>]) -> &[List<T>]
-    ensures { result.now ≡ drop 1 lists.now }
-{
-    match lists {
-        [] => lists,
-        [_, others @ ..] => others,
-    }
-}
 
 /// The frames of a method with its blocks, where the first of these are its own.
 fn method_framed(
@@ -54,7 +34,7 @@ fn method_framed(
         own class.now method.now) (list_at told.now 0)) }
 {
     let client = Client::new(alloc, weaving, own, class, method)?;
-    frames_woven(alloc, &client, first_of(told))
+    frames_woven(alloc, &client, list_at(told, 0))
 }
 
 /// Those of the methods with code.
@@ -100,7 +80,7 @@ fn classes_framed(
     let mut told = told;
     while let [class, later @ ..] = classes {
         let methods = class.methods.as_slice();
-        made.push(methods_framed(alloc, weaving, own, class, methods, first_of(told))?)?;
+        made.push(methods_framed(alloc, weaving, own, class, methods, list_at(told, 0))?)?;
         let Some(next) = own.checked_add(1) else {
             return Err(NoMemory);
         };

@@ -1,0 +1,26 @@
+//! Lists of lists, as what is told of each method of each class stands, gone through list by list.
+
+ghost use Rattle.std.specs.Prelude.{◌≡◌, drop};
+ghost use Rattle.bytecode_model.specs.Typed.{list_at};
+
+use mon_base::List;
+
+/// The items of the list of this index, or none where there is no such list.
+pub fn list_at<T>(lists: &[List<T>], index: usize) -> &[T]
+    ensures { result.now ≡ list_at lists.now index }
+{
+    match lists.get(index) {
+        Some(list) => list.as_slice(),
+        None => &[],
+    }
+}
+
+/// The lists behind the first.
+pub fn behind_first<T>(lists: &[List<T>]) -> &[List<T>]
+    ensures { result.now ≡ drop 1 lists.now }
+{
+    match lists {
+        [] => lists,
+        [_, others @ ..] => others,
+    }
+}
