@@ -4,16 +4,16 @@ use Rattle.std.specs.Option.{option_or, is_some}
 use Rattle.std.specs.Ordering.{is_eq}
 use Rattle.std.specs.BTreeMap.{BTreeMap, is_at}
 use Rattle.std.specs.Map.{lookup}
-use Rattle.std.proofs.lemmas.Bool.{false≢true}
 use Rattle.mon_base.specs.declared.method.MethodId.{MethodId}
 use Rattle.api_listing.specs.BuiltIn.{is_method, method_rows}
 use Rattle.api_listing.specs.declared.built_in.TheConstants.{METHODS}
 use Rattle.api_listing.specs.Seen.{id_cmp}
 use Rattle.bytecode_model.specs.declared.members.Found.{Found}
-use Rattle.class_index.specs.Index.{found_in}
+use Rattle.class_index.specs.Index.{found_in, Notes}
 use Rattle.bytecode_model.specs.Members.{Declared, first_of, first_found, in_class}
 use Rattle.bytecode_model.proofs.Lists.{or_none, or_or}
 use Rattle.bytecode_model.proofs.Names.{id_cmp-is, same_id}
+use Rattle.bytecode_model.proofs.Placing.{test_cases, is_some_or, none_or}
 
 pub methods_are : map (λ r. (r.0.now, r.1.now, r.2.now, r.3)) METHODS ≡ method_rows
 unfolding method_rows
@@ -27,20 +27,8 @@ first_of-append (x ∷ xs) ys q = by (is_method q.class q.name q.desc x.0) (firs
   by true e = refl
   by false e = e
 
-test_cases : (b : Bool) (P : Bool → Type 0) → (b ≡ true → P true) → (b ≡ false → P false) → P b
-test_cases true P f g = f refl
-test_cases false P f g = g refl
-
-is_some_or : (o p : Option Found) → is_some o ≡ true → o ≡ option_or o p
-is_some_or (Some x) p e = refl
-is_some_or None p e = absurd (false≢true e)
-
-none_or : (o p : Option Found) → is_some o ≡ false → p ≡ option_or o p
-none_or None p e = refl
-none_or (Some x) p e = absurd (false≢true (sym e))
-
 -- a name that is there already
-pub keeps : (found : BTreeMap MethodId Found) (id : MethodId) (first : Found) → is_some (found_in found id) ≡ true → (q : MethodId) → found_in found q ≡ option_or (found_in found q) (first_of ((id, first) ∷ []) q)
+pub keeps : (found : BTreeMap MethodId Found) (id : MethodId) (first : Found) → is_some (found_in found id) ≡ true → Notes ((id, first) ∷ []) found found
 keeps found id first there q =
     test_cases (is_method q.class q.name q.desc id) (λ b. found_in found q ≡ option_or (found_in found q) (cond b (Some first) None))
     (λ e. is_some_or (found_in found q) (Some first) (subst (λ (i : MethodId). is_some (found_in found i) ≡ true) (same_id id q e) there))
@@ -48,7 +36,7 @@ keeps found id first there q =
 
 -- a new name
 pub adds : (old new : BTreeMap MethodId Found) (id : MethodId) (first : Found) → is_some (found_in old id) ≡ false
-    → ((q : MethodId) → found_in new q ≡ cond (is_eq (id_cmp id q)) (Some first) (found_in old q)) → (q : MethodId) → found_in new q ≡ option_or (found_in old q) (first_of ((id, first) ∷ []) q)
+    → ((q : MethodId) → found_in new q ≡ cond (is_eq (id_cmp id q)) (Some first) (found_in old q)) → Notes ((id, first) ∷ []) old new
 adds old new id first absent puts q =
     puts q ∙ ap (λ b. cond b (Some first) (found_in old q)) (id_cmp-is id q)
     ∙ test_cases (is_method q.class q.name q.desc id) (λ b. cond b (Some first) (found_in old q) ≡ option_or (found_in old q) (cond b (Some first) None))

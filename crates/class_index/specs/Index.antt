@@ -2,6 +2,7 @@
 use Rattle.std.specs.Prelude.{◌≡◌, ℕ, ◌+◌, List, length, Option, Some}
 use Rattle.std.specs.BTreeMap.{BTreeMap, get}
 use Rattle.std.specs.BTreeSet.{BTreeSet}
+use Rattle.std.specs.Option.{option_or}
 use Rattle.mon_base.specs.declared.method.MethodId.{MethodId}
 use Rattle.class_codec.specs.declared.tree.ClassFile.{ClassFile}
 use Rattle.api_listing.specs.declared.types.ListedClass.{ListedClass}
@@ -13,7 +14,7 @@ use Rattle.bytecode_model.specs.declared.members.Found.{Found}
 use Rattle.class_index.specs.declared.library.Shared.{Shared}
 use Rattle.class_index.specs.declared.near.Near.{Near}
 use Rattle.bytecode_model.specs.Heads.{all_classes}
-use Rattle.bytecode_model.specs.Members.{methods_declared, fields_declared, first_of, first_found}
+use Rattle.bytecode_model.specs.Members.{Declared, methods_declared, fields_declared, first_of, first_found}
 use Rattle.bytecode_model.specs.Operands.{literals_of}
 use Rattle.class_index.specs.Library.{is_owner, AreShared}
 use Rattle.bytecode_model.specs.SearchOrder.{is_one_of}
@@ -23,6 +24,10 @@ use Rattle.bytecode_model.specs.Places.{ClassesPlaced}
 
 abbrev pub found_in : BTreeMap MethodId Found → MethodId → Option Found
 found_in found id = get id_cmp found id
+
+-- What is declared is noted behind what the map has: the first of each name counts.
+abbrev pub Notes : List Declared → BTreeMap MethodId Found → BTreeMap MethodId Found → Type 0
+Notes declared old new = (q : MethodId) → found_in new q ≡ option_or (found_in old q) (first_of declared q)
 
 -- The map has the place of the first class of each name, and the number is how many interfaces they name.
 pub record AreClasses (places : BTreeMap (List ℕ) ℕ) (interfaces : ℕ) (classes : List ListedClass) : Type 0 where

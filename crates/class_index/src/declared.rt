@@ -2,13 +2,12 @@
 
 ghost use Rattle.std.specs.Prelude.{◌≡◌, ◌||◌, ◌∷◌, [], ◌+◌, ◌<◌, ◌≤◌, ◌^◌, ℕ, List, length, IfOk, OnOk, map};
 ghost use Rattle.std.specs.List.{AllByRecursion};
-ghost use Rattle.std.specs.Option.{option_or};
 ghost use Rattle.mon_base.specs.declared.method.MethodId.{MethodId};
 ghost use Rattle.class_codec.specs.Fits.{CanSpell};
 ghost use Rattle.api_listing.specs.BuiltIn.{is_method};
 ghost use Rattle.api_listing.specs.Seen.{has_id, has_name};
 ghost use Rattle.api_listing.specs.Listing.{has_method};
-ghost use Rattle.class_index.specs.Index.{found_in};
+ghost use Rattle.class_index.specs.Index.{found_in, Notes};
 ghost use Rattle.class_index.specs.Library.{is_owner};
 ghost use Rattle.bytecode_model.specs.Members.{target_in, members_of, member_declared, members_from, file_members, given_from};
 ghost use Rattle.bytecode_model.specs.Members.{listed_from, listed_fields_from, row_declared, rows_from};
@@ -64,8 +63,7 @@ fn add_first(
     id: MethodId,
     first: Found,
 ) -> Result<(), NoMemory>
-    ensures { OnOk result ((q : MethodId) → found_in found.new q
-        ≡ option_or (found_in found.old q) (first_of ((id, first) ∷ []) q)) }
+    ensures { OnOk result (Notes ((id, first) ∷ []) found.old found.new) }
 {
     if !found.contains_key(&id) {
         found.insert(id, first)?;
@@ -81,8 +79,7 @@ fn add_files(
 ) -> Result<(), NoMemory>
     requires count { length files.now ≤ 1001 }
     requires fits { AllByRecursion CanSpell files.now }
-    ensures { OnOk result ((q : MethodId) → found_in found.new q
-        ≡ option_or (found_in found.old q) (first_of (given_from kind 0 files.now) q)) }
+    ensures { OnOk result (Notes (given_from kind 0 files.now) found.old found.new) }
 {
     let mut class: u32 = 0;
     let mut left = files;
@@ -113,8 +110,7 @@ fn add_file(
     file: &ClassFile,
 ) -> Result<(), NoMemory>
     requires { CanSpell file.now }
-    ensures { OnOk result ((q : MethodId) → found_in found.new q
-        ≡ option_or (found_in found.old q) (first_of (file_members kind class file.now) q)) }
+    ensures { OnOk result (Notes (file_members kind class file.now) found.old found.new) }
 {
     let pool = file.pool.as_slice();
     let name = class_at(pool, file.this_class);
@@ -153,8 +149,7 @@ fn add_member(
     index: u32,
     member: &Member,
 ) -> Result<(), NoMemory>
-    ensures { OnOk result ((q : MethodId) → found_in found.new q
-        ≡ option_or (found_in found.old q) (first_of (member_declared kind name.now pool.now class index member.now ∷ []) q)) }
+    ensures { OnOk result (Notes (member_declared kind name.now pool.now class index member.now ∷ []) found.old found.new) }
 {
     let id = MethodId {
         class: Bytes::from_slice(alloc, name)?,
@@ -174,8 +169,7 @@ fn add_listed(
     methods: &[ListedMethod],
 ) -> Result<(), NoMemory>
     requires { length methods.now ≤ 20000 }
-    ensures { OnOk result ((q : MethodId) → found_in found.new q
-        ≡ option_or (found_in found.old q) (first_of (listed_from 0 methods.now) q)) }
+    ensures { OnOk result (Notes (listed_from 0 methods.now) found.old found.new) }
 {
     let mut index: u32 = 0;
     let mut left = methods;
@@ -197,8 +191,7 @@ fn add_listed_fields(
     fields: &[MethodId],
 ) -> Result<(), NoMemory>
     requires { length fields.now ≤ 20000 }
-    ensures { OnOk result ((q : MethodId) → found_in found.new q
-        ≡ option_or (found_in found.old q) (first_of (listed_fields_from 0 fields.now) q)) }
+    ensures { OnOk result (Notes (listed_fields_from 0 fields.now) found.old found.new) }
 {
     let mut index: u32 = 0;
     let mut left = fields;
@@ -220,8 +213,7 @@ fn add_rows(
     rows: &[(&str, &str, &str, bool)],
 ) -> Result<(), NoMemory>
     requires { length rows.now ≤ 20000 }
-    ensures { OnOk result ((q : MethodId) → found_in found.new q
-        ≡ option_or (found_in found.old q) (first_of (rows_from 0 (map (λ r. (r.0.now, r.1.now, r.2.now, r.3)) rows.now)) q)) }
+    ensures { OnOk result (Notes (rows_from 0 (map (λ r. (r.0.now, r.1.now, r.2.now, r.3)) rows.now)) found.old found.new) }
 {
     let mut index: u32 = 0;
     let mut left = rows;
@@ -239,9 +231,7 @@ fn add_row(
     index: u32,
     row: &(&str, &str, &str, bool),
 ) -> Result<(), NoMemory>
-    ensures { OnOk result ((q : MethodId) → found_in found.new q
-        ≡ option_or (found_in found.old q)
-        (first_of (row_declared index (row.now.0.now, row.now.1.now, row.now.2.now, row.now.3) ∷ []) q)) }
+    ensures { OnOk result (Notes (row_declared index (row.now.0.now, row.now.1.now, row.now.2.now, row.now.3) ∷ []) found.old found.new) }
 {
     let id = MethodId {
         class: Bytes::from_slice(alloc, row.0.as_bytes())?,

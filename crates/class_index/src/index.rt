@@ -147,19 +147,7 @@ impl<'a> Index<'a> {
     pub fn into_literals(self) -> List<Bytes>
         ensures { result ≡ literals_of self.entry.files }
     {
-        let Index {
-            files,
-            listing,
-            classes,
-            methods,
-            fields,
-            near_methods,
-            near_fields,
-            library,
-            owners,
-            shared,
-            literals,
-        } = self;
+        let Index { literals, .. } = self;
         literals.into_list()
     }
 }

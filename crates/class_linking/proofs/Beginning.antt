@@ -1,10 +1,10 @@
 -- The main method has code.
-use Rattle.std.proofs.Common.{◌≡◌, ℕ, zero, suc, ◌+◌, ◌≤◌, ◌<◌, Bool, true, false, cond, not, ◌&&◌, ◌||◌, List, [], ◌∷◌, length, Option, Some, None, Result, Ok, Err, refl, sym, ap, subst, ◌∙◌, arith}
+use Rattle.std.proofs.Common.{◌≡◌, ℕ, zero, suc, ◌+◌, ◌≤◌, ◌<◌, Bool, true, false, cond, not, ◌&&◌, ◌||◌, List, [], ◌∷◌, length, Option, Some, None, Ok, refl, sym, ap, subst, ◌∙◌, arith}
 use Rattle.std.specs.Prelude.{◌==◌, bytes_eq, slice_get, IsSomeAnd, option_and_then}
 use Rattle.std.specs.List.{AllByRecursion, filter_map}
 use Rattle.std.proofs.lemmas.Bool.Decides.{nat_tests}
-use Rattle.mon_base.specs.Reading.{◌>>=◌, need}
-use Rattle.mon_base.proofs.Reading.{bind_ok, need_ok, ok_is}
+use Rattle.mon_base.specs.Reading.{◌>>=◌}
+use Rattle.mon_base.proofs.Reading.{bind_ok, ok_is}
 use Rattle.class_codec.specs.declared.tree.Const.{Const}
 use Rattle.class_codec.specs.declared.tree.Code.{Code}
 use Rattle.class_codec.specs.declared.tree.Attr.{Attr}
@@ -15,20 +15,14 @@ use Rattle.class_codec.specs.Fits.{CanSpell, FitsMember, FitsAttr}
 use Rattle.insn_codec.specs.declared.fault.CodeFault.{CodeFault}
 use Rattle.insn_codec.specs.declared.insn.Insn.{Insn}
 use Rattle.insn_codec.specs.Reading.{Read, Finder, insn_at, insns_at, insns_of, among, any, ended, code_of}
-use Rattle.insn_codec.specs.Spelling.{starts_of}
 use Rattle.mon_base.specs.Reading.{Place}
 use Rattle.api_listing.specs.declared.types.Listing.{Listing}
-use Rattle.class_linking.specs.declared.fault.LinkFault.{LinkFault}
-use Rattle.class_linking.specs.declared.fault.LinkFault.TheVariants as faults
+use Rattle.class_linking.proofs.Parts.{code_parts, method_parts}
 use Rattle.bytecode_model.specs.declared.program.LinkedClass.{LinkedClass}
 use Rattle.bytecode_model.specs.declared.program.Method.{Method}
-use Rattle.bytecode_model.specs.declared.program.Target.{Target}
-use Rattle.class_linking.specs.Fault.{Linked}
-use Rattle.bytecode_model.specs.Heads.{class_at, head_of, all_classes, name_of, desc_of, is_abstract, is_static, is_member, main_name, main_desc, maker}
-use Rattle.bytecode_model.specs.Conditions.{code_in, codes_of, is_allowed, has_good_flags, is_good_initialiser, is_begun_unlocked, describes_method, has_its_code, overrides}
-use Rattle.class_linking.specs.Operands.{operands_linked}
-use Rattle.class_linking.specs.Handlers.{handlers_linked}
-use Rattle.class_linking.specs.Linking.{with_code, class_with, classes_with, read_of, code_linked, body_linked, method_linked, methods_linked, if_static, static_main, main_from, main_of, each_linked}
+use Rattle.bytecode_model.specs.Heads.{class_at, name_of, desc_of, is_abstract, is_static, is_member, main_name, main_desc, maker}
+use Rattle.bytecode_model.specs.Conditions.{code_in, codes_of, has_good_flags, is_good_initialiser, is_begun_unlocked, describes_method, has_its_code}
+use Rattle.class_linking.specs.Linking.{class_with, classes_with, code_linked, body_linked, method_linked, methods_linked, if_static, static_main, main_from, main_of, each_linked}
 use Rattle.bytecode_model.proofs.Lists.{some_is, all_get}
 use Rattle.class_linking.proofs.Loop.{linked_at}
 
@@ -130,10 +124,6 @@ code_some code insns some e =
     let is : b.0 ≡ insns = ok_is CodeFault b.0 insns c.2 in
     subst (λ (xs : List Insn). 0 < length xs) is (some_insns (among a.0) code b.0 some b.1)
 
-pub read_some : (class : List ℕ) (method : ℕ) (read : Result (List Insn) CodeFault) (insns : List Insn) → read_of class method read ≡ Ok insns → read ≡ Ok insns
-read_some class method (Ok xs) insns e = cc
-read_some class method (Err fault) insns e = absurd cc
-
 -- the first code of a method has a byte
 pub first_code : (pool : List Const) (attrs : List Attr) → AllByRecursion (FitsAttr pool true) attrs → length (filter_map code_in attrs) ≡ 1
     → (code : Code) × (slice_get (filter_map code_in attrs) 0 ≡ Some code) × (1 ≤ length code.code)
@@ -150,31 +140,23 @@ has_one false true maker n s good its = grind (arith, nat_tests)
 module _ (files : List ClassFile) (listing : Listing) (file : ClassFile) (at : ℕ) (member : Member) where
   body_some : (code : Code) (method : Method) → 1 ≤ length code.code → code_linked files listing file at member code ≡ Ok method → 0 < length method.insns
   body_some code method some e =
-      let class = (head_of file).name in
-      let tail : List Insn → List Target → Linked Method = λ insns refs. handlers_linked files listing class file.pool at (length insns) (starts_of insns) code.table >>= λ handlers. Ok (with_code file member code insns refs handlers) in
-      let a = bind_ok (read_of class at (code_of code.code)) (λ insns. operands_linked files listing class file.pool at insns >>= λ refs. tail insns refs) method e in
-      let b = bind_ok (operands_linked files listing class file.pool at a.0) (λ refs. tail a.0 refs) method a.2 in
-      let d = bind_ok (handlers_linked files listing class file.pool at (length a.0) (starts_of a.0) code.table) (λ handlers. Ok (with_code file member code a.0 b.0 handlers)) method b.2 in
-      let is : with_code file member code a.0 b.0 d.0 ≡ method = ok_is LinkFault (with_code file member code a.0 b.0 d.0) method d.2 in
-      subst (λ (m : Method). 0 < length m.insns) is (code_some code.code a.0 some (read_some class at (code_of code.code) a.0 a.1))
+      let parts = code_parts files listing file at member code method e in
+      subst (λ (m : Method). 0 < length m.insns) parts.is (code_some code.code parts.insns some parts.read)
 
   method_some : (method : Method) → FitsMember file.pool true member → is_static member.flags ≡ true → method_linked files listing file at member ≡ Ok method → 0 < length method.insns
   method_some method fits static e =
       let pool = file.pool in
-      let class = (head_of file).name in
-      let own : Linked (Unit {0}) = need (not (overrides (all_classes listing files) listing class pool member)) (faults.Overrides class (name_of pool member)) in
-      let a = need_ok (is_allowed pool member) (faults.Method class (name_of pool member)) (λ _. own >>= λ _. body_linked files listing file at member (slice_get (codes_of member) 0)) method e in
-      let b = bind_ok own (λ _. body_linked files listing file at member (slice_get (codes_of member) 0)) method a.1 in
+      let parts = method_parts files listing file at member method e in
       let flags = has_good_flags pool member in
       let initialiser = is_good_initialiser pool member in
       let begun = is_begun_unlocked pool member in
       let described = describes_method (desc_of pool member) in
       let its = has_its_code member in
-      let good = and_left flags (initialiser && (begun && (described && its))) a.0 in
-      let one = and_right described its (and_right begun (described && its) (and_right initialiser (begun && (described && its)) (and_right flags (initialiser && (begun && (described && its))) a.0))) in
+      let good = and_left flags (initialiser && (begun && (described && its))) parts.allowed in
+      let one = and_right described its (and_right begun (described && its) (and_right initialiser (begun && (described && its)) (and_right flags (initialiser && (begun && (described && its))) parts.allowed))) in
       let count : length (codes_of member) ≡ 1 = has_one (is_abstract member.flags) (is_static member.flags) (bytes_eq (name_of pool member) maker) (length (codes_of member)) static (and_right _ _ good) one in
       let first = first_code pool member.attrs fits.attrs.each count in
-      let body : body_linked files listing file at member (Some first.0) ≡ Ok method = ap (λ (o : Option Code). body_linked files listing file at member o) (sym first.1) ∙ b.2 in
+      let body : body_linked files listing file at member (Some first.0) ≡ Ok method = ap (λ (o : Option Code). body_linked files listing file at member o) (sym first.1) ∙ parts.body in
       body_some first.0 method first.2 body
 
 -- ---- the program

@@ -5,10 +5,12 @@ pub mod Sound
 pub mod Starting
 pub mod Telling
 pub mod Whole
+pub mod Constants
+pub mod Parts
+pub mod Nearest
 mod LinkedMembers
 mod LinkedOperands
 mod LinkedCalls
-mod Nearest
 mod LinkedTexts
 mod LinkedBodies
 mod LinkedPlaces

@@ -1,19 +1,17 @@
 -- What is known of each method that a member of a file links to.
 use Rattle.std.proofs.Common.{◌≡◌, ℕ, ◌<◌, ◌≤◌, Bool, true, false, cond, not, ◌&&◌, ◌||◌, List, [], ◌∷◌, length, Option, Some, None, Result, Ok, Err, refl, sym, ap, ap₂, subst, ◌∙◌, arith}
-use Rattle.std.specs.Prelude.{◌==◌, bytes_eq, slice_get, ok_or, nat_lt}
+use Rattle.std.specs.Prelude.{◌==◌, bytes_eq, slice_get, nat_lt}
 use Rattle.std.specs.List.{AllByRecursion}
 use Rattle.std.proofs.lemmas.Bool.Decides.{nat_tests}
 use Rattle.std.proofs.lemmas.Slice.Eq.{bytes_eq-Decides}
-use Rattle.mon_base.specs.Reading.{◌>>=◌, need}
-use Rattle.mon_base.proofs.Reading.{bind_ok, need_ok, ok_is, ok_or_ok}
+use Rattle.mon_base.specs.Reading.{◌>>=◌}
+use Rattle.mon_base.proofs.Reading.{bind_ok, ok_is}
 use Rattle.class_codec.specs.declared.tree.Const.{Const}
 use Rattle.class_codec.specs.declared.tree.Code.{Code}
 use Rattle.class_codec.specs.declared.tree.TableEntry.{TableEntry}
 use Rattle.class_codec.specs.declared.tree.Member.{Member}
 use Rattle.class_codec.specs.declared.tree.ClassFile.{ClassFile}
 use Rattle.class_codec.specs.Fits.{FitsMember}
-use Rattle.insn_codec.specs.declared.insn.Insn.{Insn}
-use Rattle.insn_codec.specs.Reading.{code_of}
 use Rattle.insn_codec.specs.Spelling.{starts_of}
 use Rattle.insn_codec.proofs.InsnForms.{passed}
 use Rattle.api_listing.specs.declared.descriptor.FieldType.{FieldType}
@@ -23,7 +21,6 @@ use Rattle.api_listing.specs.Descriptor.{whole_type}
 use Rattle.api_listing.specs.Fault.{Read}
 use Rattle.api_listing.specs.Listing.{is_known}
 use Rattle.class_linking.specs.declared.fault.LinkFault.{LinkFault}
-use Rattle.class_linking.specs.declared.fault.LinkFault.TheVariants as faults
 use Rattle.class_linking.specs.declared.operand_fault.OperandFault.{OperandFault}
 use Rattle.class_linking.specs.declared.operand_fault.OperandFault.TheVariants as operand
 use Rattle.bytecode_model.specs.declared.program.Handler.{Handler}
@@ -32,17 +29,16 @@ use Rattle.bytecode_model.specs.declared.program.Target.{Target}
 use Rattle.bytecode_model.specs.declared.program.Target.TheVariants as target
 use Rattle.bytecode_model.specs.Arrays.{is_array}
 use Rattle.bytecode_model.specs.Conditions.{is_allowed, has_good_flags, is_good_initialiser, is_begun_unlocked, describes_method, has_its_code, is_run, overrides, codes_of}
-use Rattle.class_linking.specs.Fault.{Linked}
-use Rattle.bytecode_model.specs.Starts.{index_at, insn_at}
 use Rattle.class_linking.specs.Handlers.{caught, handler_linked, handlers_linked}
 use Rattle.bytecode_model.specs.Heads.{class_at, head_of, all_classes, name_of, desc_of, is_abstract, is_static, is_native, is_synchronized, main_name, main_desc, maker, initialiser, takes_nothing}
-use Rattle.class_linking.specs.Linking.{bare, with_code, read_of, code_linked, body_linked, method_linked}
-use Rattle.class_linking.specs.Operands.{class_linked, array_linked, told_at, operands_linked}
+use Rattle.class_linking.specs.Linking.{bare, with_code, code_linked, body_linked, method_linked}
+use Rattle.class_linking.specs.Operands.{class_linked, array_linked, told_at}
 use Rattle.bytecode_model.specs.Operands.{element_is_known, known_in}
 use Rattle.bytecode_model.specs.Shape.{has_code}
 use Rattle.bytecode_model.specs.Standing.{IsOfEntry, IsOfCode, IsOfMember, IsAllowed}
 use Rattle.bytecode_model.specs.Targets.{is_type, item_is_known}
-use Rattle.class_linking.proofs.Beginning.{and_left, and_right, first_code, code_some, read_some}
+use Rattle.class_linking.proofs.Beginning.{and_left, and_right, first_code, code_some}
+use Rattle.class_linking.proofs.Parts.{handler_parts, code_parts, method_parts}
 use Rattle.bytecode_model.proofs.Lists.{some_is, not_true}
 use Rattle.class_linking.proofs.Loop.{same_length, each_of, linked_at}
 
@@ -164,15 +160,7 @@ module _ (files : List ClassFile) (listing : Listing) where
         subst (λ (n : List ℕ). is_type classes true n ≡ true) named k.1
 
   handler_catches : (class : List ℕ) (pool : List Const) (method end : ℕ) (starts : List ℕ) (entry : TableEntry) (h : Handler) → handler_linked files listing class pool method end starts entry ≡ Ok h → Catches h
-  handler_catches class pool method end starts entry h e =
-      let fault = faults.Operand class method end in
-      let made : ℕ → ℕ → ℕ → Option (List ℕ) → Handler = λ from to at catches. record { from = from; to = to; at = at; class = catches } in
-      let a = bind_ok (ok_or (insn_at starts entry.from) fault) (λ from. ok_or (index_at starts entry.to) fault >>= λ to. ok_or (insn_at starts entry.at) fault >>= λ at. caught files listing class pool method end entry.class >>= λ catches. Ok (made from to at catches)) h e in
-      let b = bind_ok (ok_or (index_at starts entry.to) fault) (λ to. ok_or (insn_at starts entry.at) fault >>= λ at. caught files listing class pool method end entry.class >>= λ catches. Ok (made a.0 to at catches)) h a.2 in
-      let d = bind_ok (ok_or (insn_at starts entry.at) fault) (λ at. caught files listing class pool method end entry.class >>= λ catches. Ok (made a.0 b.0 at catches)) h b.2 in
-      let g = bind_ok (caught files listing class pool method end entry.class) (λ catches. Ok (made a.0 b.0 d.0 catches)) h d.2 in
-      let is : made a.0 b.0 d.0 g.0 ≡ h = ok_is LinkFault (made a.0 b.0 d.0 g.0) h g.2 in
-      subst Catches is (caught_known class pool method end entry.class g.0 g.1)
+  handler_catches class pool method end starts entry h e = caught_known class pool method end entry.class h.class (handler_parts files listing class pool method end starts entry h e).catches
 
   caught_is : (class : List ℕ) (pool : List Const) (method at index : ℕ) (o : Option (List ℕ)) → caught files listing class pool method at index ≡ Ok o → o ≡ cond (index == 0) None (Some (class_at pool index))
   caught_is class pool method at index o e = by (index == 0) e where
@@ -185,20 +173,8 @@ module _ (files : List ClassFile) (listing : Listing) where
 
   handler_is : (class : List ℕ) (pool : List Const) (method end : ℕ) (starts : List ℕ) (entry : TableEntry) (h : Handler) → handler_linked files listing class pool method end starts entry ≡ Ok h → IsOfEntry pool starts entry h
   handler_is class pool method end starts entry h e =
-      let fault = faults.Operand class method end in
-      let made : ℕ → ℕ → ℕ → Option (List ℕ) → Handler = λ from to at catches. record { from = from; to = to; at = at; class = catches } in
-      let a = bind_ok (ok_or (insn_at starts entry.from) fault) (λ from. ok_or (index_at starts entry.to) fault >>= λ to. ok_or (insn_at starts entry.at) fault >>= λ at. caught files listing class pool method end entry.class >>= λ catches. Ok (made from to at catches)) h e in
-      let b = bind_ok (ok_or (index_at starts entry.to) fault) (λ to. ok_or (insn_at starts entry.at) fault >>= λ at. caught files listing class pool method end entry.class >>= λ catches. Ok (made a.0 to at catches)) h a.2 in
-      let d = bind_ok (ok_or (insn_at starts entry.at) fault) (λ at. caught files listing class pool method end entry.class >>= λ catches. Ok (made a.0 b.0 at catches)) h b.2 in
-      let g = bind_ok (caught files listing class pool method end entry.class) (λ catches. Ok (made a.0 b.0 d.0 catches)) h d.2 in
-      let is : made a.0 b.0 d.0 g.0 ≡ h = ok_is LinkFault (made a.0 b.0 d.0 g.0) h g.2 in
-      let of : IsOfEntry pool starts entry (made a.0 b.0 d.0 g.0) = record {
-        from = ok_or_ok (insn_at starts entry.from) fault a.0 a.1;
-        to = ok_or_ok (index_at starts entry.to) fault b.0 b.1;
-        at = ok_or_ok (insn_at starts entry.at) fault d.0 d.1;
-        class = caught_is class pool method end entry.class g.0 g.1;
-      } in
-      subst (IsOfEntry pool starts entry) is of
+      let parts = handler_parts files listing class pool method end starts entry h e in
+      record { from = parts.from; to = parts.to; at = parts.at; class = caught_is class pool method end entry.class h.class parts.catches }
 
   handlers_are : (class : List ℕ) (pool : List Const) (method end : ℕ) (starts : List ℕ) (table : List TableEntry) (hs : List Handler) → handlers_linked files listing class pool method end starts table ≡ Ok hs
       → (i : ℕ) (entry : TableEntry) (h : Handler) → slice_get table i ≡ Some entry → slice_get hs i ≡ Some h → IsOfEntry pool starts entry h
@@ -220,33 +196,27 @@ module _ (files : List ClassFile) (listing : Listing) where
     code_body : (code : Code) (method : Method) → 1 ≤ length code.code → is_abstract member.flags ≡ false → has_its_code member ≡ true → codes_of member ≡ code ∷ [] → code_linked files listing file index member code ≡ Ok method → IsBody file.pool member method
     code_body code method some own its alone e =
         let name = (head_of file).name in
-        let handlers : List Insn → Linked (List Handler) = λ insns. handlers_linked files listing name file.pool index (length insns) (starts_of insns) code.table in
-        let last : List Insn → List Target → Linked Method = λ insns refs. handlers insns >>= λ hs. Ok (with_code file member code insns refs hs) in
-        let refs_of : List Insn → Linked Method = λ insns. operands_linked files listing name file.pool index insns >>= last insns in
-        let a = bind_ok (read_of name index (code_of code.code)) refs_of method e in
-        let b = bind_ok (operands_linked files listing name file.pool index a.0) (last a.0) method a.2 in
-        let c = bind_ok (handlers a.0) (λ hs. Ok (with_code file member code a.0 b.0 hs)) method b.2 in
-        let is : with_code file member code a.0 b.0 c.0 ≡ method = ok_is LinkFault (with_code file member code a.0 b.0 c.0) method c.2 in
-        let read : code_of code.code ≡ Ok a.0 = read_some name index (code_of code.code) a.0 a.1 in
-        let many : 0 < length a.0 = code_some code.code a.0 some read in
-        let has : nat_lt 0 (length a.0) ≡ true = grind (arith, nat_tests) in
-        let caught : AllByRecursion Catches c.0 = each_of (λ at. handler_linked files listing name file.pool index (length a.0) (starts_of a.0)) Catches (λ at. handler_catches name file.pool index (length a.0) (starts_of a.0)) 0 code.table c.0 c.1 in
-        let of_code : IsOfCode file.pool code (with_code file member code a.0 b.0 c.0) = record {
+        let parts = code_parts files listing file index member code method e in
+        let made = with_code file member code parts.insns parts.refs parts.handlers in
+        let many : 0 < length parts.insns = code_some code.code parts.insns some parts.read in
+        let has : nat_lt 0 (length parts.insns) ≡ true = grind (arith, nat_tests) in
+        let caught : AllByRecursion Catches parts.handlers = each_of (λ at. handler_linked files listing name file.pool index (length parts.insns) (starts_of parts.insns)) Catches (λ at. handler_catches name file.pool index (length parts.insns) (starts_of parts.insns)) 0 code.table parts.handlers parts.table in
+        let of_code : IsOfCode file.pool code made = record {
           max_stack = refl;
           max_locals = refl;
-          insns = read;
-          count = same_length (λ at. handler_linked files listing name file.pool index (length a.0) (starts_of a.0)) 0 code.table c.0 c.1;
-          handlers = handlers_are name file.pool index (length a.0) (starts_of a.0) code.table c.0 c.1;
+          insns = parts.read;
+          count = same_length (λ at. handler_linked files listing name file.pool index (length parts.insns) (starts_of parts.insns)) 0 code.table parts.handlers parts.table;
+          handlers = handlers_are name file.pool index (length parts.insns) (starts_of parts.insns) code.table parts.handlers parts.table;
         } in
-        let of_member : IsOfMember file.pool member (with_code file member code a.0 b.0 c.0) = record {
+        let of_member : IsOfMember file.pool member made = record {
           flags = refl;
           name = refl;
           desc = refl;
           its = its;
-          coded = λ other one. subst (λ (k : Code). IsOfCode file.pool k (with_code file member code a.0 b.0 c.0)) (front_same code other (sym alone ∙ one)) of_code;
+          coded = λ other one. subst (λ (k : Code). IsOfCode file.pool k made) (front_same code other (sym alone ∙ one)) of_code;
         } in
-        let body : IsBody file.pool member (with_code file member code a.0 b.0 c.0) = record { of_member = of_member; code = has ∙ ap not (sym own); handlers = caught } in
-        subst (IsBody file.pool member) is body
+        let body : IsBody file.pool member made = record { of_member = of_member; code = has ∙ ap not (sym own); handlers = caught } in
+        subst (IsBody file.pool member) parts.is body
 
     bare_body : (method : Method) → is_abstract member.flags ≡ true → has_its_code member ≡ true → length (codes_of member) ≡ 0 → body_linked files listing file index member None ≡ Ok method → IsBody file.pool member method
     bare_body method own its nothing e =
@@ -282,10 +252,10 @@ module _ (files : List ClassFile) (listing : Listing) where
 
     pub method_is : (method : Method) → FitsMember file.pool true member → method_linked files listing file index member ≡ Ok method → IsMethodOf method
     method_is method fits e =
-        let name = (head_of file).name in
-        let pool = file.pool in
-        let body : Linked Method = body_linked files listing file index member (slice_get (codes_of member) 0) in
-        let first = need_ok (is_allowed pool member) (faults.Method name (name_of pool member)) (λ _. need (not (overrides (all_classes listing files) listing name pool member)) (faults.Overrides name (name_of pool member)) >>= λ _. body) method e in
-        let second = need_ok (not (overrides (all_classes listing files) listing name pool member)) (faults.Overrides name (name_of pool member)) (λ _. body) method first.1 in
-        let parts = parts_of pool member first.0 in
-        record { allowed = first.0; own = not_true (overrides (all_classes listing files) listing name pool member) second.0; body = body_is method fits parts.its second.1 }
+        let parts = method_parts files listing file index member method e in
+        let its = (parts_of file.pool member parts.allowed).its in
+        record {
+          allowed = parts.allowed;
+          own = not_true (overrides (all_classes listing files) listing (head_of file).name file.pool member) parts.own;
+          body = body_is method fits its parts.body;
+        }

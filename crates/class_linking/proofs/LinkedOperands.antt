@@ -6,15 +6,14 @@ use Rattle.std.specs.Option.{option_map_or}
 use Rattle.std.proofs.lemmas.Bool.{false≢true}
 use Rattle.std.proofs.lemmas.Option.{slice_get_within}
 use Rattle.mon_base.specs.declared.method.MethodId.{MethodId}
-use Rattle.mon_base.specs.Reading.{◌>>=◌, need}
-use Rattle.mon_base.proofs.Reading.{bind_ok, need_ok, ok_or_ok}
-use Rattle.class_codec.specs.declared.pool.Kind.{Kind}
+use Rattle.mon_base.specs.Reading.{◌>>=◌}
+use Rattle.mon_base.proofs.Reading.{bind_ok, ok_is, ok_or_ok}
 use Rattle.class_codec.specs.declared.pool.Kind.TheVariants as kinds
 use Rattle.class_codec.specs.declared.tree.ClassFile.{ClassFile}
 use Rattle.class_codec.specs.declared.tree.Const.{Const}
 use Rattle.class_codec.specs.declared.tree.Const.TheVariants as constants
 use Rattle.class_codec.specs.Fits.{CanSpell, FitsPool, IsNamed}
-use Rattle.class_codec.specs.Pool.{is_of, is_one_of, names, utf8_at, text_of, class_name_at, class_name_of, name_and_type_at, member_id, reference_of, reference_at}
+use Rattle.class_codec.specs.Pool.{names, utf8_at, class_name_at, class_name_of, name_and_type_at, member_id, reference_of, reference_at}
 use Rattle.insn_codec.specs.declared.insn.Insn.{Insn}
 use Rattle.insn_codec.specs.declared.insn.Insn.TheVariants as insns
 use Rattle.insn_codec.specs.declared.opcode.Operands.{Operands}
@@ -32,7 +31,6 @@ use Rattle.api_listing.specs.declared.descriptor.FieldType.{FieldType}
 use Rattle.api_listing.specs.declared.types.Listing.{Listing}
 use Rattle.api_listing.specs.Descriptor.{method_type, whole_type}
 use Rattle.api_listing.specs.Fault.{Read}
-use Rattle.bytecode_model.specs.declared.members.Found.{Found}
 use Rattle.class_linking.specs.declared.operand_fault.OperandFault.{OperandFault}
 use Rattle.class_linking.specs.declared.operand_fault.OperandFault.TheVariants as operand
 use Rattle.bytecode_model.specs.declared.operand.Use.{Use}
@@ -47,6 +45,8 @@ use Rattle.bytecode_model.specs.Arrays.{is_array}
 use Rattle.bytecode_model.specs.Operands.{use_of, use_of_opcode, index_of, element_is_known, known_in, id_at}
 use Rattle.class_linking.specs.Operands.{is_nothing, operand_linked, used, loaded, typed, field_used, called, call_linked, field_linked, field_fits, class_linked, array_linked}
 use Rattle.bytecode_model.proofs.Lists.{all_get}
+use Rattle.class_linking.proofs.Constants.{named_one, text_there, is_class}
+use Rattle.class_linking.proofs.Nearest.{looked_up}
 use Rattle.bytecode_model.specs.Named.{desc_told, IsRightOperand}
 use Rattle.class_linking.proofs.LinkedMembers.{IsUnlisted, IsTold, unlisted_told, method_found, field_found}
 
@@ -106,68 +106,16 @@ nothing_named (insns.Iface index count) is e = absurd cc
 nothing_named (insns.Pool op index) is e =
     let h : not true ≡ true = subst (λ (b : Bool). not b ≡ true) e (pool_uses op is.1) in
     absurd cc
-nothing_named (insns.Plain op) is e = refl
-nothing_named (insns.Byte n) is e = refl
-nothing_named (insns.Short n) is e = refl
-nothing_named (insns.Local op slot wide) is e = refl
-nothing_named (insns.Inc slot by wide) is e = refl
-nothing_named (insns.Branch op to) is e = refl
-nothing_named (insns.GotoW to) is e = refl
-nothing_named (insns.NewArray kind) is e = refl
-nothing_named (insns.Table other low targets) is e = refl
-nothing_named (insns.Lookup other keys targets) is e = refl
+nothing_named insn is e = refl
 
 call_shaped : (insn : Insn) → IsInsn insn → is_call (use_of insn) ≡ true → CallsSo (shape_of insn)
 call_shaped (insns.Iface index count) is e = (hows.Interface, refl)
 call_shaped (insns.Pool op index) is e =
     let small : op < 256 = is.0 in
     pool_calls op small e
-call_shaped (insns.Ldc index) is e = absurd cc
-call_shaped (insns.Plain op) is e = absurd cc
-call_shaped (insns.Byte n) is e = absurd cc
-call_shaped (insns.Short n) is e = absurd cc
-call_shaped (insns.Local op slot wide) is e = absurd cc
-call_shaped (insns.Inc slot by wide) is e = absurd cc
-call_shaped (insns.Branch op to) is e = absurd cc
-call_shaped (insns.GotoW to) is e = absurd cc
-call_shaped (insns.NewArray kind) is e = absurd cc
-call_shaped (insns.Table other low targets) is e = absurd cc
-call_shaped (insns.Lookup other keys targets) is e = absurd cc
+call_shaped insn is e = absurd cc
 
 -- ---- constants
-
-pub named_one : (kind : Kind) (o : Option Const) → is_one_of kind o ≡ true → (c : Const) × ((o ≡ Some c) × (is_of kind c ≡ true))
-named_one kind None e = absurd cc
-named_one kind (Some c) e = (c, (refl, e))
-
-pub text_there : (o : Option Const) → is_one_of kinds.Utf8 o ≡ true → (text : List ℕ) × (text_of o ≡ Some text)
-text_there None e = absurd cc
-text_there (Some (constants.Utf8 text)) e = (text, refl)
-text_there (Some (constants.Integer n)) e = absurd cc
-text_there (Some (constants.Float n)) e = absurd cc
-text_there (Some (constants.Long n)) e = absurd cc
-text_there (Some (constants.Double n)) e = absurd cc
-text_there (Some (constants.Class name)) e = absurd cc
-text_there (Some (constants.Str text)) e = absurd cc
-text_there (Some (constants.Field class name)) e = absurd cc
-text_there (Some (constants.Method class name)) e = absurd cc
-text_there (Some (constants.IMethod class name)) e = absurd cc
-text_there (Some (constants.NameAndType name desc)) e = absurd cc
-text_there (Some constants.Second) e = absurd cc
-
-is_class : (c : Const) → is_of kinds.Class c ≡ true → (name : ℕ) × (c ≡ constants.Class name)
-is_class (constants.Class name) e = (name, refl)
-is_class (constants.Utf8 text) e = absurd cc
-is_class (constants.Integer n) e = absurd cc
-is_class (constants.Float n) e = absurd cc
-is_class (constants.Long n) e = absurd cc
-is_class (constants.Double n) e = absurd cc
-is_class (constants.Str text) e = absurd cc
-is_class (constants.Field class name) e = absurd cc
-is_class (constants.Method class name) e = absurd cc
-is_class (constants.IMethod class name) e = absurd cc
-is_class (constants.NameAndType name desc) e = absurd cc
-is_class constants.Second e = absurd cc
 
 module _ (pool : List Const) (fits : FitsPool pool) where
   pub class_there : (i : ℕ) → names kinds.Class pool i ≡ true → (text : List ℕ) × (class_name_at pool i ≡ Some text)
@@ -203,16 +151,13 @@ module _ (pool : List Const) (fits : FitsPool pool) where
 
 -- ---- classes and fields name no method
 
-ok_same : (a b : Target) → ◌≡◌ {A = Result Target OperandFault} (Ok a) (Ok b) → a ≡ b
-ok_same a b e = cc
-
 module _ (n : ℕ) where
   -- what links is no method of the listing
   abbrev Unlisted : Result Target OperandFault → Type 0
   Unlisted linked = (ref : Target) → linked ≡ Ok ref → IsUnlisted n ref
 
   ok_unlisted : (a : Target) → IsUnlisted n a → Unlisted (Ok a)
-  ok_unlisted a e ref is = subst (IsUnlisted n) (ok_same a ref is) e
+  ok_unlisted a e ref is = subst (IsUnlisted n) (ok_is OperandFault a ref is) e
 
   fault_unlisted : (fault : OperandFault) → Unlisted (Err fault)
   fault_unlisted fault ref is = absurd cc
@@ -238,65 +183,27 @@ module _ (files : List ClassFile) (listing : Listing) where
   loaded_unlisted pool (constants.Integer n) = ok_unlisted count _ tt
   loaded_unlisted pool (constants.Str text) = ok_unlisted count _ tt
   loaded_unlisted pool (constants.Class name) = class_unlisted count false (known_in files listing) (text_at pool name)
-  loaded_unlisted pool (constants.Utf8 text) = fault_unlisted count operand.Wrong
-  loaded_unlisted pool (constants.Float n) = fault_unlisted count operand.Wrong
-  loaded_unlisted pool (constants.Long n) = fault_unlisted count operand.Wrong
-  loaded_unlisted pool (constants.Double n) = fault_unlisted count operand.Wrong
-  loaded_unlisted pool (constants.Field class name) = fault_unlisted count operand.Wrong
-  loaded_unlisted pool (constants.Method class name) = fault_unlisted count operand.Wrong
-  loaded_unlisted pool (constants.IMethod class name) = fault_unlisted count operand.Wrong
-  loaded_unlisted pool (constants.NameAndType name desc) = fault_unlisted count operand.Wrong
-  loaded_unlisted pool constants.Second = fault_unlisted count operand.Wrong
+  loaded_unlisted pool c = fault_unlisted count operand.Wrong
 
   typed_unlisted : (arrays : Bool) (pool : List Const) (c : Const) → Unlisted count (typed files listing arrays pool c)
   typed_unlisted arrays pool (constants.Class name) = class_unlisted count arrays (known_in files listing) (text_at pool name)
-  typed_unlisted arrays pool (constants.Integer n) = fault_unlisted count operand.Wrong
-  typed_unlisted arrays pool (constants.Str text) = fault_unlisted count operand.Wrong
-  typed_unlisted arrays pool (constants.Utf8 text) = fault_unlisted count operand.Wrong
-  typed_unlisted arrays pool (constants.Float n) = fault_unlisted count operand.Wrong
-  typed_unlisted arrays pool (constants.Long n) = fault_unlisted count operand.Wrong
-  typed_unlisted arrays pool (constants.Double n) = fault_unlisted count operand.Wrong
-  typed_unlisted arrays pool (constants.Field class name) = fault_unlisted count operand.Wrong
-  typed_unlisted arrays pool (constants.Method class name) = fault_unlisted count operand.Wrong
-  typed_unlisted arrays pool (constants.IMethod class name) = fault_unlisted count operand.Wrong
-  typed_unlisted arrays pool (constants.NameAndType name desc) = fault_unlisted count operand.Wrong
-  typed_unlisted arrays pool constants.Second = fault_unlisted count operand.Wrong
+  typed_unlisted arrays pool c = fault_unlisted count operand.Wrong
 
   field_unlisted : (static writes : Bool) (id : MethodId) → Unlisted count (field_linked files listing static writes id)
   field_unlisted static writes id ref e =
-      let fits : Found → Result Target OperandFault = λ found. need (field_fits static writes found) (operand.Missing id.name) >>= λ _. Ok found.target in
-      let described = need_ok (is_ok (whole_type id.desc)) operand.Wrong (λ _. ok_or (field_of files listing id) (operand.Missing id.name) >>= fits) ref e in
-      let found = bind_ok (ok_or (field_of files listing id) (operand.Missing id.name)) fits ref described.1 in
-      let last = need_ok (field_fits static writes found.0) (operand.Missing id.name) (λ _. Ok found.0.target) ref found.2 in
-      let is : found.0.target ≡ ref = ok_same found.0.target ref last.1 in
-      let there : field_of files listing id ≡ Some found.0 = ok_or_ok (field_of files listing id) (operand.Missing id.name) found.0 found.1 in
-      subst (IsUnlisted count) is (field_found files listing id found.0 there)
+      let look = looked_up (is_ok (whole_type id.desc)) (field_of files listing id) (field_fits static writes) (operand.Missing id.name) ref e in
+      subst (IsUnlisted count) look.is (field_found files listing id look.found look.there)
 
   field_used_unlisted : (static writes : Bool) (pool : List Const) (c : Const) → Unlisted count (field_used files listing static writes pool c)
   field_used_unlisted static writes pool (constants.Field class member) = field_unlisted static writes (id_at pool class member)
-  field_used_unlisted static writes pool (constants.Class name) = fault_unlisted count operand.Wrong
-  field_used_unlisted static writes pool (constants.Integer n) = fault_unlisted count operand.Wrong
-  field_used_unlisted static writes pool (constants.Str text) = fault_unlisted count operand.Wrong
-  field_used_unlisted static writes pool (constants.Utf8 text) = fault_unlisted count operand.Wrong
-  field_used_unlisted static writes pool (constants.Float n) = fault_unlisted count operand.Wrong
-  field_used_unlisted static writes pool (constants.Long n) = fault_unlisted count operand.Wrong
-  field_used_unlisted static writes pool (constants.Double n) = fault_unlisted count operand.Wrong
-  field_used_unlisted static writes pool (constants.Method class name) = fault_unlisted count operand.Wrong
-  field_used_unlisted static writes pool (constants.IMethod class name) = fault_unlisted count operand.Wrong
-  field_used_unlisted static writes pool (constants.NameAndType name desc) = fault_unlisted count operand.Wrong
-  field_used_unlisted static writes pool constants.Second = fault_unlisted count operand.Wrong
+  field_used_unlisted static writes pool c = fault_unlisted count operand.Wrong
 
   -- ---- calls
 
   call_found : (static : Bool) (id : MethodId) (ref : Target) → call_linked files listing static id ≡ Ok ref → IsTold count listing.methods id.desc ref
   call_found static id ref e =
-      let fits : Found → Result Target OperandFault = λ found. need (beq found.is_static static) (operand.Missing id.name) >>= λ _. Ok found.target in
-      let described = need_ok (is_ok (method_type id.desc)) operand.Wrong (λ _. ok_or (method_of files listing id) (operand.Missing id.name) >>= fits) ref e in
-      let found = bind_ok (ok_or (method_of files listing id) (operand.Missing id.name)) fits ref described.1 in
-      let last = need_ok (beq found.0.is_static static) (operand.Missing id.name) (λ _. Ok found.0.target) ref found.2 in
-      let is : found.0.target ≡ ref = ok_same found.0.target ref last.1 in
-      let there : method_of files listing id ≡ Some found.0 = ok_or_ok (method_of files listing id) (operand.Missing id.name) found.0 found.1 in
-      subst (IsTold count listing.methods id.desc) is (method_found files listing id found.0 there)
+      let look = looked_up (is_ok (method_type id.desc)) (method_of files listing id) (λ found. beq found.is_static static) (operand.Missing id.name) ref e in
+      subst (IsTold count listing.methods id.desc) look.is (method_found files listing id look.found look.there)
 
   -- a method of the listing is named by a call
   abbrev Calls : Use → Target → Type 0
@@ -305,25 +212,11 @@ module _ (files : List ClassFile) (listing : Listing) where
 
   unlisted_calls : (purpose : Use) (t : Target) → IsUnlisted count t → Calls purpose t
   unlisted_calls purpose (target.ApiMethod index) h = absurd h
-  unlisted_calls purpose (target.Field of index) h = tt
-  unlisted_calls purpose target.None h = tt
-  unlisted_calls purpose (target.Builtin i) h = tt
-  unlisted_calls purpose (target.Method c m) h = tt
-  unlisted_calls purpose (target.ApiField i) h = tt
-  unlisted_calls purpose (target.ClassName name) h = tt
-  unlisted_calls purpose (target.Number k) h = tt
-  unlisted_calls purpose (target.Literal i) h = tt
+  unlisted_calls purpose t h = tt
 
   call_calls : (purpose : Use) (t : Target) → is_call purpose ≡ true → Calls purpose t
   call_calls purpose (target.ApiMethod index) h = h
-  call_calls purpose (target.Field of index) h = tt
-  call_calls purpose target.None h = tt
-  call_calls purpose (target.Builtin i) h = tt
-  call_calls purpose (target.Method c m) h = tt
-  call_calls purpose (target.ApiField i) h = tt
-  call_calls purpose (target.ClassName name) h = tt
-  call_calls purpose (target.Number k) h = tt
-  call_calls purpose (target.Literal i) h = tt
+  call_calls purpose t h = tt
 
   module _ (pool : List Const) (fits : FitsPool pool) (i : ℕ) (ref : Target) where
     abbrev Tells : Type 0
@@ -340,28 +233,7 @@ module _ (files : List ClassFile) (listing : Listing) where
     called_tells : (static of_interface : Bool) (c : Const) → slice_get pool i ≡ Some c → called files listing static of_interface pool c ≡ Ok ref → Tells
     called_tells static false (constants.Method class member) there e = called_method static class member there e
     called_tells static true (constants.IMethod class member) there e = called_interface static class member there e
-    called_tells static false (constants.IMethod class member) there e = absurd cc
-    called_tells static true (constants.Method class member) there e = absurd cc
-    called_tells static false (constants.Field class member) there e = absurd cc
-    called_tells static true (constants.Field class member) there e = absurd cc
-    called_tells static false (constants.Class name) there e = absurd cc
-    called_tells static true (constants.Class name) there e = absurd cc
-    called_tells static false (constants.Integer n) there e = absurd cc
-    called_tells static true (constants.Integer n) there e = absurd cc
-    called_tells static false (constants.Str text) there e = absurd cc
-    called_tells static true (constants.Str text) there e = absurd cc
-    called_tells static false (constants.Utf8 text) there e = absurd cc
-    called_tells static true (constants.Utf8 text) there e = absurd cc
-    called_tells static false (constants.Float n) there e = absurd cc
-    called_tells static true (constants.Float n) there e = absurd cc
-    called_tells static false (constants.Long n) there e = absurd cc
-    called_tells static true (constants.Long n) there e = absurd cc
-    called_tells static false (constants.Double n) there e = absurd cc
-    called_tells static true (constants.Double n) there e = absurd cc
-    called_tells static false (constants.NameAndType name desc) there e = absurd cc
-    called_tells static true (constants.NameAndType name desc) there e = absurd cc
-    called_tells static false constants.Second there e = absurd cc
-    called_tells static true constants.Second there e = absurd cc
+    called_tells static of_interface c there e = absurd cc
 
     unlisted : (purpose : Use) → IsUnlisted count ref → Calls purpose ref × Tells
     unlisted purpose h = (unlisted_calls purpose ref h, unlisted_told count listing.methods _ ref h)

@@ -1,13 +1,13 @@
 -- The classes of a program that links with a listing: those of the listing, and then the given ones.
-use Rattle.std.proofs.Common.{◌≡◌, ℕ, zero, suc, ◌+◌, Bool, true, false, not, List, [], ◌∷◌, ◌++◌, ◌⊎◌, length, map, Option, Some, None, Ok, Err, refl, sym, ap, subst, ◌∙◌, inl, inr, append_assoc, arith}
+use Rattle.std.proofs.Common.{◌≡◌, ℕ, zero, suc, ◌+◌, Bool, true, false, not, List, [], ◌∷◌, ◌++◌, ◌⊎◌, length, Option, Some, None, Ok, Err, refl, sym, ap, subst, ◌∙◌, inl, inr, append_assoc, arith}
 use Rattle.mon_base.specs.Answer.{Answers}
-use Rattle.std.specs.Prelude.{IfOk, bytes_eq, ok_or, ◌||◌, ◌&&◌}
+use Rattle.std.specs.Prelude.{IfOk, bytes_eq, ◌||◌, ◌&&◌}
 use Rattle.std.specs.List.{list_all}
 use Rattle.std.specs.Option.{option_map_or}
 use Rattle.std.proofs.lemmas.Bool.{cases_Bool, false≢true}
 use Rattle.std.proofs.lemmas.List.{length-append}
 use Rattle.mon_base.specs.Reading.{◌>>=◌, need}
-use Rattle.mon_base.proofs.Reading.{bind_ok, need_ok, ok_is}
+use Rattle.mon_base.proofs.Reading.{bind_ok, need_ok}
 use Rattle.class_codec.specs.declared.tree.ClassFile.{ClassFile}
 use Rattle.api_listing.specs.declared.types.ListedClass.{ListedClass}
 use Rattle.api_listing.specs.declared.types.Listing.{Listing}
@@ -15,10 +15,9 @@ use Rattle.api_listing.specs.BuiltIn.{object, throwable, class_rows, class_of_ro
 use Rattle.api_listing.specs.Listing.{is_known, SpellsListing}
 use Rattle.api_listing.specs.Nearest.{class_named, upwards}
 use Rattle.api_listing.specs.Words.{is_class_name}
+use Rattle.class_linking.proofs.LinkedPlaces.{linked_known, all_are}
 use Rattle.class_linking.specs.declared.fault.LinkFault.{LinkFault}
 use Rattle.class_linking.specs.declared.fault.LinkFault.TheVariants as faults
-use Rattle.bytecode_model.specs.declared.program.LinkedClass.{LinkedClass}
-use Rattle.bytecode_model.specs.declared.program.Method.{Method}
 use Rattle.bytecode_model.specs.declared.program.Program.{Program}
 use Rattle.bytecode_model.specs.declared.program.Side.{Side}
 use Rattle.bytecode_model.specs.Classes.{classes_of}
@@ -26,8 +25,7 @@ use Rattle.bytecode_model.specs.Conditions.{is_free, stays_within, runs_in_circl
 use Rattle.class_linking.specs.ClassConditions.{class_linked, classes_linked}
 use Rattle.class_linking.specs.Fault.{Linked}
 use Rattle.bytecode_model.specs.Heads.{head_of, heads_of}
-use Rattle.class_linking.specs.Linking.{members_of, main_of, classes_with, assembled}
-use Rattle.class_linking.proofs.Whole.{files_back}
+use Rattle.class_linking.specs.Linking.{assembled}
 use Rattle.bytecode_model.specs.Arrays.{is_array}
 use Rattle.bytecode_model.specs.Order.{IsInOrder}
 use Rattle.bytecode_model.proofs.Ending.{ended, unnamed_up}
@@ -184,38 +182,17 @@ module _ (listed heads : List ListedClass) (founds : founded [] listed ≡ true)
 
 -- ---- the program
 
-heads_again : (classes : List LinkedClass) → map (λ (c : LinkedClass). head_of c.file) classes ≡ heads_of (map (λ (c : LinkedClass). c.file) classes)
-heads_again [] = refl
-heads_again (c ∷ classes) = ap (λ (l : List ListedClass). head_of c.file ∷ l) (heads_again classes)
-
 -- what linking tells of the classes
 record IsGiven (files : List ClassFile) (listing : Listing) (program : Program) : Type 0 where
   whole : classes_of program ≡ listing.classes ++ heads_of files
   proper : list_all is_proper (heads_of files) ≡ true
   up : list_all (goes_up (heads_of files)) (heads_of files) ≡ true
 
-abbrev Members : Type 0
-Members = List (List Method) × List (List ℕ)
-
-abbrev made : List ClassFile → Listing → Members → ℕ × ℕ → Program
-made files listing members begin = record { classes = classes_with files members.0; listing = listing; literals = members.1; main_class = begin.0; main_method = begin.1 }
-
 is_given : (files : List ClassFile) (listing : Listing) (main : List ℕ) (side : Side) (program : Program) → assembled files listing main side ≡ Ok program → IsGiven files listing program
 is_given files listing main side program e =
-    let heads = heads_of files in
-    let ending : Members → Linked Program = λ members. ok_or (main_of files main) faults.NoMain >>= λ begin. Ok (made files listing members begin) in
-    let rest : Linked Program = members_of files listing >>= ending in
-    let sound = bind_ok (classes_linked side heads listing.classes files) (λ _. rest) program e in
-    let members = bind_ok (members_of files listing) ending program sound.2 in
-    let begin = bind_ok (ok_or (main_of files main) faults.NoMain) (λ start. Ok (made files listing members.0 start)) program members.2 in
-    let is : made files listing members.0 begin.0 ≡ program = ok_is LinkFault (made files listing members.0 begin.0) program begin.2 in
-    let given = each_given side heads listing.classes files sound.0 sound.1 in
-    let back : map (λ (c : LinkedClass). head_of c.file) (classes_with files members.0.0) ≡ heads = heads_again (classes_with files members.0.0) ∙ ap heads_of (files_back files listing members.0 members.1) in
-    record {
-      whole = ap classes_of (sym is) ∙ ap (λ (l : List ListedClass). listing.classes ++ l) back;
-      proper = given.0;
-      up = given.1;
-    }
+    let known = linked_known files listing main side program e in
+    let given = each_given side (heads_of files) listing.classes files tt known.named in
+    record { whole = all_are files listing program known.listing_is known.back; proper = given.0; up = given.1 }
 
 ordered : (files : List ClassFile) (listing : Listing) (program : Program) → IsListed listing → IsGiven files listing program → Ordered (listing.classes ++ heads_of files)
 ordered files listing program listed given =

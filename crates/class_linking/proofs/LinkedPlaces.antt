@@ -1,15 +1,18 @@
 -- The classes of a linked program: which files they are of, and that no two have one name.
 use Rattle.std.proofs.Common.{◌≡◌, ℕ, zero, suc, ◌+◌, Bool, true, false, not, ◌||◌, List, [], ◌∷◌, ◌++◌, map, Some, Ok, refl, sym, ap, subst, ◌∙◌, arith}
-use Rattle.std.specs.Prelude.{bytes_eq, slice_get, ok_or}
+use Rattle.std.specs.Prelude.{bytes_eq, slice_get}
 use Rattle.std.specs.List.{AllByRecursion}
 use Rattle.std.proofs.lemmas.Bool.{false≢true}
 use Rattle.std.proofs.lemmas.Slice.Eq.{bytes_eq-Decides}
 use Rattle.mon_base.specs.Reading.{◌>>=◌, need}
-use Rattle.mon_base.proofs.Reading.{bind_ok, need_ok, ok_is, ok_or_ok}
+use Rattle.mon_base.proofs.Reading.{bind_ok, need_ok, ok_is}
 use Rattle.class_codec.specs.declared.tree.ClassFile.{ClassFile}
 use Rattle.api_listing.specs.declared.types.ListedClass.{ListedClass}
 use Rattle.api_listing.specs.declared.types.Listing.{Listing}
 use Rattle.api_listing.specs.Listing.{is_known}
+use Rattle.class_linking.proofs.Loop.{both_linked}
+use Rattle.class_linking.proofs.Parts.{program_with, program_parts}
+use Rattle.class_linking.proofs.Whole.{classes_back}
 use Rattle.class_linking.specs.declared.fault.LinkFault.{LinkFault}
 use Rattle.class_linking.specs.declared.fault.LinkFault.TheVariants as faults
 use Rattle.bytecode_model.specs.declared.program.LinkedClass.{LinkedClass}
@@ -22,11 +25,10 @@ use Rattle.bytecode_model.specs.Conditions.{is_free, has_supers}
 use Rattle.api_listing.specs.Words.{is_class_name}
 use Rattle.class_linking.specs.Fault.{Linked, linked_from}
 use Rattle.bytecode_model.specs.Heads.{head_of, heads_of, all_classes}
-use Rattle.class_linking.specs.Linking.{classes_with, methods_linked, each_linked, members_of, main_of, assembled}
+use Rattle.class_linking.specs.Linking.{classes_with, methods_linked, main_of, assembled}
 use Rattle.bytecode_model.specs.Files.{unlinked}
 use Rattle.bytecode_model.specs.Operands.{literals_of}
 use Rattle.bytecode_model.proofs.Lists.{some_is, not_true}
-use Rattle.class_linking.proofs.Whole.{files_back}
 
 -- ---- places
 
@@ -159,45 +161,26 @@ pub record IsLinkedFrom (files : List ClassFile) (listing : Listing) (main : Lis
   pub named : classes_linked side (heads_of files) listing.classes files ≡ Ok tt
   pub begin : main_of files main ≡ Some (program.main_class, program.main_method)
 
-abbrev Members : Type 0
-Members = List (List Method) × List (List ℕ)
-
-abbrev made : List ClassFile → Listing → Members → ℕ × ℕ → Program
-made files listing members begin = record { classes = classes_with files members.0; listing = listing; literals = members.1; main_class = begin.0; main_method = begin.1 }
-
 module _ (files : List ClassFile) (listing : Listing) where
   classes_are : (at : ℕ) (some : List ClassFile) (methods : List (List Method)) → linked_from (λ i. methods_linked files listing) at some ≡ Ok methods → AllByRecursion (IsClassOf files listing) (classes_with some methods)
   classes_are at [] methods e = tt
   classes_are at (file ∷ some) [] e = tt
   classes_are at (file ∷ some) (first ∷ methods) e =
-      let a = bind_ok (methods_linked files listing file) (λ x. linked_from (λ i. methods_linked files listing) (at + 1) some >>= λ xs. Ok (x ∷ xs)) (first ∷ methods) e in
-      let b = bind_ok (linked_from (λ i. methods_linked files listing) (at + 1) some) (λ xs. Ok (a.0 ∷ xs)) (first ∷ methods) a.2 in
-      let front : a.0 ≡ first = cc (b.2) in
-      let rest : b.0 ≡ methods = cc (b.2) in
-      (record { name = refl; methods = a.1 ∙ ap Ok front }, classes_are (at + 1) some methods (b.1 ∙ ap Ok rest))
+      let both = both_linked (λ i. methods_linked files listing) at file some first methods e in
+      (record { name = refl; methods = both.0 }, classes_are (at + 1) some methods both.1)
 
   pub linked_known : (main : List ℕ) (side : Side) (program : Program) → assembled files listing main side ≡ Ok program → IsLinkedFrom files listing main side program
   linked_known main side program e =
-      let ending : Members → Linked Program = λ members. ok_or (main_of files main) faults.NoMain >>= λ begin. Ok (made files listing members begin) in
-      let rest : Linked Program = members_of files listing >>= ending in
-      let sound = bind_ok (classes_linked side (heads_of files) listing.classes files) (λ _. rest) program e in
-      let members = bind_ok (members_of files listing) ending program sound.2 in
-      let begin = bind_ok (ok_or (main_of files main) faults.NoMain) (λ start. Ok (made files listing members.0 start)) program members.2 in
-      let is : made files listing members.0 begin.0 ≡ program = ok_is LinkFault (made files listing members.0 begin.0) program begin.2 in
-      let pair : List (List Method) → Members = λ ms. (ms, literals_of files) in
-      let each = bind_ok (each_linked files listing files) (λ ms. Ok (pair ms)) members.0 members.1 in
-      let both : pair each.0 ≡ members.0 = ok_is LinkFault (pair each.0) members.0 each.2 in
-      let same : each.0 ≡ members.0.0 = ap (λ (z : Members). z.0) both in
-      let texts : literals_of files ≡ members.0.1 = ap (λ (z : Members). z.1) both in
-      let whole : IsLinkedFrom files listing main side (made files listing members.0 begin.0) = record {
+      let parts = program_parts files listing main side program e in
+      let whole : IsLinkedFrom files listing main side (program_with files listing parts.methods (literals_of files) parts.begin) = record {
         listing_is = refl;
-        back = files_back files listing members.0 members.1;
-        literals = sym texts;
-        classes = classes_are 0 files members.0.0 (each.1 ∙ ap Ok same);
-        named = sound.1;
-        begin = ok_or_ok (main_of files main) faults.NoMain begin.0 begin.1;
+        back = classes_back files listing parts.methods parts.each;
+        literals = refl;
+        classes = classes_are 0 files parts.methods parts.each;
+        named = parts.good;
+        begin = parts.begins;
       } in
-      subst (IsLinkedFrom files listing main side) is whole
+      subst (IsLinkedFrom files listing main side) parts.is whole
 
   heads_are : (some : List LinkedClass) → map (λ (c : LinkedClass). head_of c.file) some ≡ heads_of (map (λ (c : LinkedClass). c.file) some)
   heads_are [] = refl

@@ -1,25 +1,24 @@
 -- What the operand of an instruction names, where it links.
-use Rattle.std.proofs.Common.{◌≡◌, ℕ, Bool, true, false, cond, not, ◌&&◌, List, [], Option, Some, None, Result, Ok, refl, sym, ap, ap₂, subst, ◌∙◌}
+use Rattle.std.proofs.Common.{◌≡◌, ℕ, Bool, true, false, cond, not, ◌&&◌, List, [], Option, Some, None, Ok, refl, sym, ap, ap₂, subst, ◌∙◌}
 use Rattle.std.specs.Prelude.{slice_get, ok_or, is_ok}
 use Rattle.std.specs.Bool.{beq}
 use Rattle.std.specs.Cmp.{booleans_Decides}
 use Rattle.std.specs.List.{AllByRecursion}
 use Rattle.std.specs.Option.{option_map_or}
 use Rattle.mon_base.specs.declared.method.MethodId.{MethodId}
-use Rattle.mon_base.specs.Reading.{◌>>=◌, need}
-use Rattle.mon_base.proofs.Reading.{bind_ok, need_ok, ok_or_ok}
+use Rattle.mon_base.specs.Reading.{◌>>=◌}
+use Rattle.mon_base.proofs.Reading.{bind_ok, ok_or_ok}
 use Rattle.class_codec.specs.declared.pool.Kind.TheVariants as kinds
 use Rattle.class_codec.specs.declared.tree.ClassFile.{ClassFile}
 use Rattle.class_codec.specs.declared.tree.Const.{Const}
 use Rattle.class_codec.specs.declared.tree.Const.TheVariants as constants
 use Rattle.class_codec.specs.Fits.{FitsPool, IsNamed}
-use Rattle.class_codec.specs.Pool.{is_of, names, utf8_at, class_name_at, class_name_of, both, name_and_type_at, name_and_type_of, member_id, reference_of, reference_at}
+use Rattle.class_codec.specs.Pool.{names, utf8_at, class_name_at, class_name_of, both, name_and_type_at, name_and_type_of, member_id, reference_of, reference_at}
 use Rattle.insn_codec.specs.declared.insn.Insn.{Insn}
 use Rattle.api_listing.specs.declared.types.ListedClass.{ListedClass}
 use Rattle.api_listing.specs.declared.types.Listing.{Listing}
 use Rattle.api_listing.specs.Descriptor.{method_type, whole_type}
 use Rattle.bytecode_model.specs.declared.members.Found.{Found}
-use Rattle.class_linking.specs.declared.operand_fault.OperandFault.{OperandFault}
 use Rattle.class_linking.specs.declared.operand_fault.OperandFault.TheVariants as operand
 use Rattle.bytecode_model.specs.declared.operand.Use.{Use}
 use Rattle.bytecode_model.specs.declared.operand.Use.TheVariants as uses
@@ -36,26 +35,13 @@ use Rattle.class_linking.specs.Operands.{is_nothing, operand_linked, used, loade
 use Rattle.bytecode_model.specs.SearchOrder.{is_one_of, search_order}
 use Rattle.bytecode_model.specs.Targets.{constant_of, method_constant, is_type, takes_class, takes_array, TakesClass, LoadsText, IsMethod, Calls, IsField, UsesField, Names}
 use Rattle.class_linking.proofs.LinkedBodies.{ok_target, class_known}
-use Rattle.class_linking.proofs.LinkedOperands.{text_there, class_there, named_one}
+use Rattle.class_linking.proofs.Constants.{named_one, text_there, is_pair}
+use Rattle.class_linking.proofs.LinkedOperands.{class_there}
 use Rattle.class_linking.proofs.LinkedTexts.{literal_there}
 use Rattle.bytecode_model.proofs.Lists.{all_get, not_true}
-use Rattle.class_linking.proofs.Nearest.{near_said}
+use Rattle.class_linking.proofs.Nearest.{looked_up, near_said}
 
 -- ---- constants
-
-is_pair : (c : Const) → is_of kinds.NameAndType c ≡ true → (name : ℕ) × (desc : ℕ) × (c ≡ constants.NameAndType name desc)
-is_pair (constants.NameAndType name desc) e = (name, desc, refl)
-is_pair (constants.Class name) e = absurd cc
-is_pair (constants.Utf8 text) e = absurd cc
-is_pair (constants.Integer n) e = absurd cc
-is_pair (constants.Float n) e = absurd cc
-is_pair (constants.Long n) e = absurd cc
-is_pair (constants.Double n) e = absurd cc
-is_pair (constants.Str text) e = absurd cc
-is_pair (constants.Field class name) e = absurd cc
-is_pair (constants.Method class name) e = absurd cc
-is_pair (constants.IMethod class name) e = absurd cc
-is_pair constants.Second e = absurd cc
 
 -- what a reference tells, where its indices name something
 id_told : (class : Option (List ℕ)) (member : Option (List ℕ × List ℕ)) (text : List ℕ) (pair : List ℕ × List ℕ) → class ≡ Some text → member ≡ Some pair
@@ -106,23 +92,12 @@ module _ (program : Program) (class : LinkedClass) (insn : Insn) where
   call_names (target.ApiMethod i) calls = calls
   call_names (target.Builtin i) calls = calls
   call_names (target.Method of index) calls = calls
-  call_names target.None calls = absurd calls.declared
-  call_names (target.Field of index) calls = absurd calls.declared
-  call_names (target.ApiField i) calls = absurd calls.declared
-  call_names (target.ClassName text) calls = absurd calls.declared
-  call_names (target.Number n) calls = absurd calls.declared
-  call_names (target.Literal i) calls = absurd calls.declared
+  call_names ref calls = absurd calls.declared
 
   field_names : (ref : Target) → UsesField program class insn ref → Names program class insn ref
   field_names (target.ApiField i) field = field
   field_names (target.Field of index) field = field
-  field_names target.None field = absurd field.declared
-  field_names (target.ApiMethod i) field = absurd field.declared
-  field_names (target.Builtin i) field = absurd field.declared
-  field_names (target.Method of index) field = absurd field.declared
-  field_names (target.ClassName text) field = absurd field.declared
-  field_names (target.Number n) field = absurd field.declared
-  field_names (target.Literal i) field = absurd field.declared
+  field_names ref field = absurd field.declared
 
 -- ---- what instructions name
 
@@ -179,29 +154,11 @@ module _ (files : List ClassFile) (listing : Listing) (program : Program) (known
     loaded_named (constants.Integer n) constant loads e = subst (Names program class insn) (ok_target (target.Number n) ref e) (loads, constant)
     loaded_named (constants.Str i) constant loads e = text_named i loads constant (ok_target _ ref e)
     loaded_named (constants.Class name) constant loads e = class_named false name (ap takes_class loads) (ap takes_array loads) constant e
-    loaded_named (constants.Utf8 text) constant loads e = absurd cc
-    loaded_named (constants.Float n) constant loads e = absurd cc
-    loaded_named (constants.Long n) constant loads e = absurd cc
-    loaded_named (constants.Double n) constant loads e = absurd cc
-    loaded_named (constants.Field of name) constant loads e = absurd cc
-    loaded_named (constants.Method of name) constant loads e = absurd cc
-    loaded_named (constants.IMethod of name) constant loads e = absurd cc
-    loaded_named (constants.NameAndType name desc) constant loads e = absurd cc
-    loaded_named constants.Second constant loads e = absurd cc
+    loaded_named c constant loads e = absurd cc
 
     typed_named : (arrays : Bool) (c : Const) → constant_of class insn ≡ Some c → takes_class (use_of insn) ≡ true → takes_array (use_of insn) ≡ arrays → typed files listing arrays pool c ≡ Ok ref → Named
     typed_named arrays (constants.Class name) constant takes array e = class_named arrays name takes array constant e
-    typed_named arrays (constants.Integer n) constant takes array e = absurd cc
-    typed_named arrays (constants.Str i) constant takes array e = absurd cc
-    typed_named arrays (constants.Utf8 text) constant takes array e = absurd cc
-    typed_named arrays (constants.Float n) constant takes array e = absurd cc
-    typed_named arrays (constants.Long n) constant takes array e = absurd cc
-    typed_named arrays (constants.Double n) constant takes array e = absurd cc
-    typed_named arrays (constants.Field of name) constant takes array e = absurd cc
-    typed_named arrays (constants.Method of name) constant takes array e = absurd cc
-    typed_named arrays (constants.IMethod of name) constant takes array e = absurd cc
-    typed_named arrays (constants.NameAndType name desc) constant takes array e = absurd cc
-    typed_named arrays constants.Second constant takes array e = absurd cc
+    typed_named arrays c constant takes array e = absurd cc
 
     -- ---- calls
 
@@ -212,15 +169,10 @@ module _ (files : List ClassFile) (listing : Listing) (program : Program) (known
 
     call_named : (static of_interface : Bool) (owner member : ℕ) (id : MethodId) → use_of insn ≡ uses.Call static of_interface → constant_of class insn ≡ Some (method_constant of_interface owner member) → reference_at pool (index_of insn) ≡ Some id → call_linked files listing static id ≡ Ok ref → Named
     call_named static of_interface owner member id calls constant refers e =
-        let fits : Found → Result Target OperandFault = λ found. need (beq found.is_static static) (operand.Missing id.name) >>= λ _. Ok found.target in
-        let described = need_ok (is_ok (method_type id.desc)) operand.Wrong (λ _. ok_or (method_of files listing id) (operand.Missing id.name) >>= fits) ref e in
-        let found = bind_ok (ok_or (method_of files listing id) (operand.Missing id.name)) fits ref described.1 in
-        let last = need_ok (beq found.0.is_static static) (operand.Missing id.name) (λ _. Ok found.0.target) ref found.2 in
-        let is : found.0.target ≡ ref = ok_target found.0.target ref last.1 in
-        let at : method_of files listing id ≡ Some found.0 = ok_or_ok (method_of files listing id) (operand.Missing id.name) found.0 found.1 in
-        let near = near_said (IsMethodDeclared program) (methods_declared files listing) id found.0 (search_order (all_classes listing files) id.class) known.methods at in
-        let same : found.0.is_static ≡ static = (booleans_Decides found.0.is_static static).0 last.0 in
-        let row : Calls program class insn found.0.target = record {
+        let look = looked_up (is_ok (method_type id.desc)) (method_of files listing id) (λ found. beq found.is_static static) (operand.Missing id.name) ref e in
+        let near = near_said (IsMethodDeclared program) (methods_declared files listing) id look.found (search_order (all_classes listing files) id.class) known.methods look.there in
+        let same : look.found.is_static ≡ static = (booleans_Decides look.found.is_static static).0 look.fit in
+        let row : Calls program class insn look.found.target = record {
           static = static;
           of_interface = of_interface;
           calls = calls;
@@ -229,13 +181,13 @@ module _ (files : List ClassFile) (listing : Listing) (program : Program) (known
           constant = constant;
           told = id;
           refers = refers;
-          described = described.0;
-          nearest = ap₂ (λ (fs : List ClassFile) (l : Listing). method_of fs l id) known.back known.listing_is ∙ at ∙ ap Some (found_is found.0 static last.0);
+          described = look.typed;
+          nearest = ap₂ (λ (fs : List ClassFile) (l : Listing). method_of fs l id) known.back known.listing_is ∙ look.there ∙ ap Some (found_is look.found static look.fit);
           declaring = near.declaring;
           above = ap (λ (cs : List ListedClass). is_one_of (search_order cs id.class) near.declaring) known.classes ∙ near.above;
-          declared = subst (IsMethod program found.0.target (in_class id near.declaring)) same near.said;
+          declared = subst (IsMethod program look.found.target (in_class id near.declaring)) same near.said;
         } in
-        call_names program class insn ref (subst (Calls program class insn) is row)
+        call_names program class insn ref (subst (Calls program class insn) look.is row)
 
     called_named : (static of_interface : Bool) (c : Const) → constant_of class insn ≡ Some c → use_of insn ≡ uses.Call static of_interface → called files listing static of_interface pool c ≡ Ok ref → Named
     called_named static false (constants.Method of member) constant calls e =
@@ -244,28 +196,7 @@ module _ (files : List ClassFile) (listing : Listing) (program : Program) (known
     called_named static true (constants.IMethod of member) constant calls e =
         let named : IsNamed pool (constants.IMethod of member) = all_get (IsNamed pool) pool (index_of insn) (constants.IMethod of member) fits.named constant in
         call_named static true of member (id_at pool of member) calls constant (reference_told pool fits (index_of insn) of member (constants.IMethod of member) constant refl named.0 named.1) e
-    called_named static true (constants.Method of member) constant calls e = absurd cc
-    called_named static false (constants.IMethod of member) constant calls e = absurd cc
-    called_named static false (constants.Field of member) constant calls e = absurd cc
-    called_named static true (constants.Field of member) constant calls e = absurd cc
-    called_named static false (constants.Class name) constant calls e = absurd cc
-    called_named static true (constants.Class name) constant calls e = absurd cc
-    called_named static false (constants.Integer n) constant calls e = absurd cc
-    called_named static true (constants.Integer n) constant calls e = absurd cc
-    called_named static false (constants.Str text) constant calls e = absurd cc
-    called_named static true (constants.Str text) constant calls e = absurd cc
-    called_named static false (constants.Utf8 text) constant calls e = absurd cc
-    called_named static true (constants.Utf8 text) constant calls e = absurd cc
-    called_named static false (constants.Float n) constant calls e = absurd cc
-    called_named static true (constants.Float n) constant calls e = absurd cc
-    called_named static false (constants.Long n) constant calls e = absurd cc
-    called_named static true (constants.Long n) constant calls e = absurd cc
-    called_named static false (constants.Double n) constant calls e = absurd cc
-    called_named static true (constants.Double n) constant calls e = absurd cc
-    called_named static false (constants.NameAndType name desc) constant calls e = absurd cc
-    called_named static true (constants.NameAndType name desc) constant calls e = absurd cc
-    called_named static false constants.Second constant calls e = absurd cc
-    called_named static true constants.Second constant calls e = absurd cc
+    called_named static of_interface c constant calls e = absurd cc
 
     -- ---- fields
 
@@ -277,16 +208,11 @@ module _ (files : List ClassFile) (listing : Listing) (program : Program) (known
 
     field_named : (static writes : Bool) (owner member : ℕ) (id : MethodId) → use_of insn ≡ uses.Field static writes → constant_of class insn ≡ Some (constants.Field owner member) → reference_at pool (index_of insn) ≡ Some id → field_linked files listing static writes id ≡ Ok ref → Named
     field_named static writes owner member id accesses constant refers e =
-        let fits : Found → Result Target OperandFault = λ found. need (field_fits static writes found) (operand.Missing id.name) >>= λ _. Ok found.target in
-        let described = need_ok (is_ok (whole_type id.desc)) operand.Wrong (λ _. ok_or (field_of files listing id) (operand.Missing id.name) >>= fits) ref e in
-        let found = bind_ok (ok_or (field_of files listing id) (operand.Missing id.name)) fits ref described.1 in
-        let last = need_ok (field_fits static writes found.0) (operand.Missing id.name) (λ _. Ok found.0.target) ref found.2 in
-        let is : found.0.target ≡ ref = ok_target found.0.target ref last.1 in
-        let at : field_of files listing id ≡ Some found.0 = ok_or_ok (field_of files listing id) (operand.Missing id.name) found.0 found.1 in
-        let near = near_said (IsFieldDeclared program) (fields_declared files listing) id found.0 (search_order (all_classes listing files) id.class) known.fields at in
-        let fitted = fitting static writes found.0 last.0 in
-        let same : found.0.is_static ≡ static = (booleans_Decides found.0.is_static static).0 fitted.0 in
-        let row : UsesField program class insn found.0.target = record {
+        let look = looked_up (is_ok (whole_type id.desc)) (field_of files listing id) (field_fits static writes) (operand.Missing id.name) ref e in
+        let near = near_said (IsFieldDeclared program) (fields_declared files listing) id look.found (search_order (all_classes listing files) id.class) known.fields look.there in
+        let fitted = fitting static writes look.found look.fit in
+        let same : look.found.is_static ≡ static = (booleans_Decides look.found.is_static static).0 fitted.0 in
+        let row : UsesField program class insn look.found.target = record {
           static = static;
           writes = writes;
           accesses = accesses;
@@ -295,30 +221,20 @@ module _ (files : List ClassFile) (listing : Listing) (program : Program) (known
           constant = constant;
           told = id;
           refers = refers;
-          described = described.0;
-          nearest = ap₂ (λ (fs : List ClassFile) (l : Listing). field_of fs l id) known.back known.listing_is ∙ at ∙ ap Some (found_is found.0 static fitted.0);
+          described = look.typed;
+          nearest = ap₂ (λ (fs : List ClassFile) (l : Listing). field_of fs l id) known.back known.listing_is ∙ look.there ∙ ap Some (found_is look.found static fitted.0);
           declaring = near.declaring;
           above = ap (λ (cs : List ListedClass). is_one_of (search_order cs id.class) near.declaring) known.classes ∙ near.above;
-          declared = subst (IsField program found.0.target (in_class id near.declaring)) same near.said;
+          declared = subst (IsField program look.found.target (in_class id near.declaring)) same near.said;
           unwritten = fitted.1;
         } in
-        field_names program class insn ref (subst (UsesField program class insn) is row)
+        field_names program class insn ref (subst (UsesField program class insn) look.is row)
 
     field_used_named : (static writes : Bool) (c : Const) → constant_of class insn ≡ Some c → use_of insn ≡ uses.Field static writes → field_used files listing static writes pool c ≡ Ok ref → Named
     field_used_named static writes (constants.Field of member) constant accesses e =
         let named : IsNamed pool (constants.Field of member) = all_get (IsNamed pool) pool (index_of insn) (constants.Field of member) fits.named constant in
         field_named static writes of member (id_at pool of member) accesses constant (reference_told pool fits (index_of insn) of member (constants.Field of member) constant refl named.0 named.1) e
-    field_used_named static writes (constants.Class name) constant accesses e = absurd cc
-    field_used_named static writes (constants.Integer n) constant accesses e = absurd cc
-    field_used_named static writes (constants.Str text) constant accesses e = absurd cc
-    field_used_named static writes (constants.Utf8 text) constant accesses e = absurd cc
-    field_used_named static writes (constants.Float n) constant accesses e = absurd cc
-    field_used_named static writes (constants.Long n) constant accesses e = absurd cc
-    field_used_named static writes (constants.Double n) constant accesses e = absurd cc
-    field_used_named static writes (constants.Method of name) constant accesses e = absurd cc
-    field_used_named static writes (constants.IMethod of name) constant accesses e = absurd cc
-    field_used_named static writes (constants.NameAndType name desc) constant accesses e = absurd cc
-    field_used_named static writes constants.Second constant accesses e = absurd cc
+    field_used_named static writes c constant accesses e = absurd cc
 
     -- ---- an instruction
 
@@ -332,11 +248,7 @@ module _ (files : List ClassFile) (listing : Listing) (program : Program) (known
 
     none_used : (purpose : Use) → is_nothing purpose ≡ true → purpose ≡ uses.Nothing
     none_used uses.Nothing e = refl
-    none_used uses.Load e = absurd cc
-    none_used (uses.Field static writes) e = absurd cc
-    none_used (uses.Call static of_interface) e = absurd cc
-    none_used uses.New e = absurd cc
-    none_used uses.Type e = absurd cc
+    none_used purpose e = absurd cc
 
     pub operand_named : operand_linked files listing pool insn ≡ Ok ref → Named
     operand_named e = by (is_nothing (use_of insn)) refl e where

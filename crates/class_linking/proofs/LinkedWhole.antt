@@ -10,10 +10,8 @@ use Rattle.class_codec.specs.declared.tree.ClassFile.{ClassFile}
 use Rattle.class_codec.specs.Fits.{FitsMember}
 use Rattle.api_listing.specs.declared.types.ListedClass.{ListedClass}
 use Rattle.api_listing.specs.declared.types.Listing.{Listing}
-use Rattle.api_listing.specs.BuiltIn.{method_rows}
 use Rattle.api_listing.specs.Listing.{is_known}
 use Rattle.api_listing.specs.Words.{is_class_name}
-use Rattle.bytecode_model.specs.declared.members.MemberKind.TheVariants as kinds
 use Rattle.class_linking.specs.declared.fault.LinkFault.TheVariants as faults
 use Rattle.bytecode_model.specs.declared.program.Handler.{Handler}
 use Rattle.bytecode_model.specs.declared.program.LinkedClass.{LinkedClass}
@@ -26,7 +24,7 @@ use Rattle.class_linking.specs.Fault.{Linked}
 use Rattle.bytecode_model.specs.Heads.{head_of, heads_of, all_classes, class_at, name_of, desc_of, is_static, is_member, main_name, main_desc, maker}
 use Rattle.class_linking.specs.Linking.{assembled, method_linked}
 use Rattle.bytecode_model.specs.Files.{unlinked, max_files}
-use Rattle.bytecode_model.specs.Members.{given_from, listed_from, methods_declared, fields_declared}
+use Rattle.bytecode_model.specs.Members.{methods_declared, fields_declared}
 use Rattle.bytecode_model.specs.Operands.{literals_of}
 use Rattle.bytecode_model.specs.SearchOrder.{search_order}
 use Rattle.bytecode_model.specs.Sound.{IsSound, IsSoundClass}
@@ -39,9 +37,9 @@ use Rattle.class_linking.proofs.LinkedMain.{main_at}
 use Rattle.class_linking.proofs.LinkedPlaces.{item_at, made_at, linked_of, none_taken, is_good, same_place, IsClassOf, IsLinkedFrom, linked_known, all_are}
 use Rattle.class_linking.proofs.LinkedTexts.{literals_once}
 use Rattle.class_linking.proofs.LinkedUses.{IsMethodDeclared, IsFieldDeclared, IsOf, operand_named}
-use Rattle.bytecode_model.proofs.Lists.{some_is, all_append, all_get}
+use Rattle.bytecode_model.proofs.Lists.{some_is, all_get}
 use Rattle.class_linking.proofs.Loop.{linked_at, same_length}
-use Rattle.class_linking.proofs.Nearest.{all_stand, given_said, listed_said, fields_said, rows_said}
+use Rattle.class_linking.proofs.Nearest.{all_methods_said, all_fields_said}
 
 -- what holds of each item, by its place
 all_from : {X : Type 0} (P : X → Type 0) (xs : List X) → ((i : ℕ) (x : X) → slice_get xs i ≡ Some x → P x) → AllByRecursion P xs
@@ -174,17 +172,10 @@ module _ (files : List ClassFile) (listing : Listing) (main : List ℕ) (side : 
 
   methods_stand : AllByRecursion (IsMethodDeclared program) (methods_declared files listing)
   methods_stand =
-      let P = IsMethodDeclared program in
-      all_append P (given_from kinds.Method 0 files) _ (given_said P kinds.Method files 0 files (all_stand files) given_method)
-      (all_append P (listed_from 0 listing.methods) _
-      (listed_said P listing.methods 0 listing.methods (all_stand listing.methods) (λ i m e. ap (λ (l : Listing). slice_get l.methods i) known.listing_is ∙ e))
-      (rows_said P method_rows 0 method_rows (all_stand method_rows) (λ i row e. e)))
+      all_methods_said (IsMethodDeclared program) files listing given_method (λ i m e. ap (λ (l : Listing). slice_get l.methods i) known.listing_is ∙ e) (λ i row e. e)
 
   fields_stand : AllByRecursion (IsFieldDeclared program) (fields_declared files listing)
-  fields_stand =
-      let P = IsFieldDeclared program in
-      all_append P (given_from kinds.Field 0 files) _ (given_said P kinds.Field files 0 files (all_stand files) given_field)
-      (fields_said P listing.fields 0 listing.fields (all_stand listing.fields) (λ i id e. (ap (λ (l : Listing). slice_get l.fields i) known.listing_is ∙ e, refl)))
+  fields_stand = all_fields_said (IsFieldDeclared program) files listing given_field (λ i id e. (ap (λ (l : Listing). slice_get l.fields i) known.listing_is ∙ e, refl))
 
   is_of : IsOf files listing program
   is_of = record {

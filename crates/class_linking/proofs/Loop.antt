@@ -3,7 +3,7 @@ use Rattle.std.proofs.Common.{◌≡◌, ℕ, zero, suc, ◌+◌, List, [], ◌�
 use Rattle.std.specs.Prelude.{slice_get}
 use Rattle.std.specs.List.{AllByRecursion}
 use Rattle.mon_base.specs.Reading.{◌>>=◌}
-use Rattle.mon_base.proofs.Reading.{bind_ok}
+use Rattle.mon_base.proofs.Reading.{bind_ok, ok_is}
 use Rattle.class_linking.specs.declared.fault.LinkFault.{LinkFault}
 use Rattle.class_linking.specs.declared.fault.LinkFault.TheVariants as faults
 use Rattle.mon_base.specs.Answer.{Fails}
@@ -37,16 +37,28 @@ module _ {X Y : Type 0} (one : ℕ → X → Linked Y) where
   pub is_done : (made : List Y) (all : List X) (at : ℕ) (total : Linked (List Y)) → all ≡ [] → with_front made (linked_from one at all) ≡ total → total ≡ Ok made
   is_done made all at total none so_far = sym so_far ∙ ap (λ xs. with_front made (linked_from one at xs)) none ∙ ap Ok (append-nil made)
 
+-- what the first item and the others link to
+pub first_linked : {X Y : Type 0} (one : ℕ → X → Linked Y) (at : ℕ) (x : X) (xs : List X) (ys : List Y) → linked_from one at (x ∷ xs) ≡ Ok ys
+    → (y : Y) × (zs : List Y) × (one at x ≡ Ok y) × (linked_from one (at + 1) xs ≡ Ok zs) × (y ∷ zs ≡ ys)
+first_linked one at x xs ys e =
+    let a = bind_ok (one at x) (λ y. linked_from one (at + 1) xs >>= λ zs. Ok (y ∷ zs)) ys e in
+    let b = bind_ok (linked_from one (at + 1) xs) (λ zs. Ok (a.0 ∷ zs)) ys a.2 in
+    (a.0, b.0, a.1, b.1, ok_is LinkFault (a.0 ∷ b.0) ys b.2)
+
+pub both_linked : {X Y : Type 0} (one : ℕ → X → Linked Y) (at : ℕ) (x : X) (xs : List X) (y : Y) (ys : List Y) → linked_from one at (x ∷ xs) ≡ Ok (y ∷ ys) → (one at x ≡ Ok y) × (linked_from one (at + 1) xs ≡ Ok ys)
+both_linked one at x xs y ys e =
+    let a = first_linked one at x xs (y ∷ ys) e in
+    let front : a.0 ≡ y = cc (a.4) in
+    let rest : a.1 ≡ ys = cc (a.4) in
+    (a.2 ∙ ap Ok front, a.3 ∙ ap Ok rest)
+
 -- as many are linked as there are items
 pub same_length : {X Y : Type 0} (one : ℕ → X → Linked Y) (at : ℕ) (xs : List X) (ys : List Y) → linked_from one at xs ≡ Ok ys → length ys ≡ length xs
 same_length one at [] [] e = refl
 same_length one at [] (y ∷ ys) e = absurd cc
 same_length one at (x ∷ xs) ys e =
-    let a = bind_ok (one at x) (λ first. linked_from one (at + 1) xs >>= λ others. Ok (first ∷ others)) ys e in
-    let b = bind_ok (linked_from one (at + 1) xs) (λ others. Ok (a.0 ∷ others)) ys a.2 in
-    let n = same_length one (at + 1) xs b.0 b.1 in
-    let is : ys ≡ a.0 ∷ b.0 = cc (b.2) in
-    ap length is ∙ ap suc n
+    let a = first_linked one at x xs ys e in
+    ap length (sym a.4) ∙ ap suc (same_length one (at + 1) xs a.1 a.3)
 
 -- what holds of each that links
 pub each_of : {X Y : Type 0} (one : ℕ → X → Linked Y) (P : Y → Type 0) → ((at : ℕ) (x : X) (y : Y) → one at x ≡ Ok y → P y) → (at : ℕ) (xs : List X) (ys : List Y) → linked_from one at xs ≡ Ok ys → AllByRecursion P ys
@@ -54,20 +66,16 @@ each_of one P each at [] ys e =
     let is : [] ≡ ys = cc in
     subst (AllByRecursion P) is tt
 each_of one P each at (x ∷ xs) ys e =
-    let a = bind_ok (one at x) (λ first. linked_from one (at + 1) xs >>= λ others. Ok (first ∷ others)) ys e in
-    let b = bind_ok (linked_from one (at + 1) xs) (λ others. Ok (a.0 ∷ others)) ys a.2 in
-    let is : a.0 ∷ b.0 ≡ ys = cc (b.2) in
-    subst (AllByRecursion P) is (each at x a.0 a.1, each_of one P each (at + 1) xs b.0 b.1)
+    let a = first_linked one at x xs ys e in
+    subst (AllByRecursion P) a.4 (each at x a.0 a.2, each_of one P each (at + 1) xs a.1 a.3)
 
 -- what the item of a place links to
 pub linked_at : {X Y : Type 0} (one : ℕ → X → Linked Y) (at : ℕ) (xs : List X) (ys : List Y) (i : ℕ) (x : X) → linked_from one at xs ≡ Ok ys → slice_get xs i ≡ Some x
     → (y : Y) × (slice_get ys i ≡ Some y) × (one (at + i) x ≡ Ok y)
 linked_at one at [] ys i x e found = absurd cc
 linked_at {X = X} {Y = Y} one at (z ∷ xs) ys i x e found =
-    let a = bind_ok (one at z) (λ first. linked_from one (at + 1) xs >>= λ others. Ok (first ∷ others)) ys e in
-    let b = bind_ok (linked_from one (at + 1) xs) (λ others. Ok (a.0 ∷ others)) ys a.2 in
-    let is : a.0 ∷ b.0 ≡ ys = cc (b.2) in
-    by a.0 b.0 a.1 b.1 is i found (λ j f. linked_at one (at + 1) xs b.0 j x b.1 f) where
+    let a = first_linked one at z xs ys e in
+    by a.0 a.1 a.2 a.3 a.4 i found (λ j f. linked_at one (at + 1) xs a.1 j x a.3 f) where
       by : (first : Y) (others : List Y) → one at z ≡ Ok first → linked_from one (at + 1) xs ≡ Ok others → first ∷ others ≡ ys → (i : ℕ) → slice_get (z ∷ xs) i ≡ Some x
           → ((j : ℕ) → slice_get xs j ≡ Some x → (y : Y) × (slice_get others j ≡ Some y) × (one (at + 1 + j) x ≡ Ok y)) → (y : Y) × (slice_get ys i ≡ Some y) × (one (at + i) x ≡ Ok y)
       by first others h t is zero found later =

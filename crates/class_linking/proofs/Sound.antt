@@ -1,10 +1,8 @@
 -- What holds of each program that links.
-use Rattle.std.proofs.Common.{◌≡◌, ℕ, ◌+◌, ◌≤◌, ◌<◌, ◌^◌, Bool, true, false, cond, List, [], ◌∷◌, length, Option, Some, None, Ok, refl, ap, subst, ◌∙◌, arith}
-use Rattle.std.specs.Prelude.{◌==◌, ok_or, option_and_then, nat_lt, if◌then◌else◌}
+use Rattle.std.proofs.Common.{◌≡◌, ℕ, ◌+◌, ◌≤◌, ◌<◌, ◌^◌, Bool, true, false, cond, List, [], ◌∷◌, length, Option, Some, None, Ok, refl, subst, arith}
+use Rattle.std.specs.Prelude.{◌==◌, option_and_then, nat_lt, if◌then◌else◌}
 use Rattle.std.specs.List.{AllByRecursion, position_from}
 use Rattle.std.proofs.lemmas.Bool.Decides.{nat_tests}
-use Rattle.mon_base.specs.Reading.{◌>>=◌}
-use Rattle.mon_base.proofs.Reading.{bind_ok, ok_is, ok_or_ok}
 use Rattle.class_codec.specs.declared.tree.Const.{Const}
 use Rattle.class_codec.specs.declared.tree.Code.{Code}
 use Rattle.class_codec.specs.declared.tree.TableEntry.{TableEntry}
@@ -16,22 +14,20 @@ use Rattle.insn_codec.specs.Fits as code
 use Rattle.insn_codec.specs.Spelling.{size, starts_from, starts_of}
 use Rattle.api_listing.specs.declared.types.Listing.{Listing}
 use Rattle.api_listing.specs.Listing.{IsFew}
-use Rattle.class_linking.specs.declared.fault.LinkFault.{LinkFault}
-use Rattle.class_linking.specs.declared.fault.LinkFault.TheVariants as faults
 use Rattle.bytecode_model.specs.declared.program.Handler.{Handler}
 use Rattle.bytecode_model.specs.declared.program.Method.{Method}
 use Rattle.bytecode_model.specs.declared.program.Target.{Target}
 use Rattle.class_linking.specs.Fault.{Linked, linked_from}
 use Rattle.bytecode_model.specs.Heads.{head_of}
-use Rattle.bytecode_model.specs.Operands.{literals_of}
 use Rattle.class_linking.specs.Operands.{operand_at, operands_linked}
 use Rattle.bytecode_model.specs.Starts.{index_at, insn_at}
-use Rattle.class_linking.specs.Handlers.{caught, handler_linked, handlers_linked}
-use Rattle.class_linking.specs.Linking.{with_code, method_linked, methods_linked, class_with, classes_with, each_linked, members_of, main_of}
+use Rattle.class_linking.specs.Handlers.{handler_linked, handlers_linked}
+use Rattle.class_linking.specs.Linking.{with_code, method_linked, methods_linked, class_with, classes_with, members_of, main_of}
 use Rattle.bytecode_model.specs.Sound.{IsWithin, IsSoundMethod, IsSoundClass, IsSound}
 use Rattle.class_linking.proofs.Beginning.{main_has_code}
 use Rattle.bytecode_model.proofs.Lists.{some_is}
-use Rattle.class_linking.proofs.Loop.{same_length, each_of}
+use Rattle.class_linking.proofs.Loop.{both_linked, same_length, each_of}
+use Rattle.class_linking.proofs.Parts.{handler_parts, members_are}
 
 -- ---- places
 
@@ -69,19 +65,12 @@ module _ (files : List ClassFile) (listing : Listing) (class : List ℕ) (pool :
   handler_within : (entry : TableEntry) (h : Handler) → handler_linked files listing class pool method end (starts_of insns) entry ≡ Ok h → IsWithin (length insns) h
   handler_within entry h e =
       let starts = starts_of insns in
-      let fault = faults.Operand class method end in
       let many : length starts ≡ length insns + 1 = starts_len 0 insns in
-      let made : ℕ → ℕ → ℕ → Option (List ℕ) → Handler = λ from to at catches. record { from = from; to = to; at = at; class = catches } in
-      let a = bind_ok (ok_or (insn_at starts entry.from) fault) (λ from. ok_or (index_at starts entry.to) fault >>= λ to. ok_or (insn_at starts entry.at) fault >>= λ at. caught files listing class pool method end entry.class >>= λ catches. Ok (made from to at catches)) h e in
-      let b = bind_ok (ok_or (index_at starts entry.to) fault) (λ to. ok_or (insn_at starts entry.at) fault >>= λ at. caught files listing class pool method end entry.class >>= λ catches. Ok (made a.0 to at catches)) h a.2 in
-      let d = bind_ok (ok_or (insn_at starts entry.at) fault) (λ at. caught files listing class pool method end entry.class >>= λ catches. Ok (made a.0 b.0 at catches)) h b.2 in
-      let g = bind_ok (caught files listing class pool method end entry.class) (λ catches. Ok (made a.0 b.0 d.0 catches)) h d.2 in
-      let is : made a.0 b.0 d.0 g.0 ≡ h = ok_is LinkFault (made a.0 b.0 d.0 g.0) h g.2 in
-      let from : a.0 + 1 < length starts = insn_below starts entry.from a.0 (ok_or_ok (insn_at starts entry.from) fault a.0 a.1) in
-      let to : b.0 < 0 + length starts = position_below (λ start. start == entry.to) 0 starts b.0 (ok_or_ok (index_at starts entry.to) fault b.0 b.1) in
-      let at : d.0 + 1 < length starts = insn_below starts entry.at d.0 (ok_or_ok (insn_at starts entry.at) fault d.0 d.1) in
-      let within : IsWithin (length insns) (made a.0 b.0 d.0 g.0) = record { from = omega (arith, from, many); to = omega (arith, to, many); at = omega (arith, at, many) } in
-      subst (IsWithin (length insns)) is within
+      let parts = handler_parts files listing class pool method end starts entry h e in
+      let from : h.from + 1 < length starts = insn_below starts entry.from h.from parts.from in
+      let to : h.to < 0 + length starts = position_below (λ start. start == entry.to) 0 starts h.to parts.to in
+      let at : h.at + 1 < length starts = insn_below starts entry.at h.at parts.at in
+      record { from = omega (arith, from, many); to = omega (arith, to, many); at = omega (arith, at, many) }
 
   pub handlers_within : (entries : List TableEntry) (hs : List Handler) → handlers_linked files listing class pool method end (starts_of insns) entries ≡ Ok hs
       → (length hs ≡ length entries) × AllByRecursion (IsWithin (length insns)) hs
@@ -124,13 +113,8 @@ module _ (files : List ClassFile) (listing : Listing) where
   sound_classes at [] methods fit made sound = tt
   sound_classes at (file ∷ others) [] fit made sound = tt
   sound_classes at (file ∷ others) (first ∷ methods) fit made sound =
-      let a = bind_ok (methods_linked files listing file) (λ x. linked_from (λ i. methods_linked files listing) (at + 1) others >>= λ xs. Ok (x ∷ xs)) (first ∷ methods) made in
-      let b = bind_ok (linked_from (λ i. methods_linked files listing) (at + 1) others) (λ xs. Ok (a.0 ∷ xs)) (first ∷ methods) a.2 in
-      let front : a.0 ≡ first = cc (b.2) in
-      let rest : b.0 ≡ methods = cc (b.2) in (
-        sound_class file first fit.0 (a.1 ∙ ap Ok front) sound.0,
-        sound_classes (at + 1) others methods fit.1 (b.1 ∙ ap Ok rest) sound.1,
-      )
+      let both = both_linked (λ i. methods_linked files listing) at file others first methods made in
+      (sound_class file first fit.0 both.0 sound.0, sound_classes (at + 1) others methods fit.1 both.1 sound.1)
 
 few_classes : (files : List ClassFile) (methods : List (List Method)) → length (classes_with files methods) ≤ length files
 few_classes [] methods = omega arith
@@ -143,10 +127,7 @@ pub is_sound : (files : List ClassFile) (listing : Listing) (main : List ℕ) (m
     → AllByRecursion CanSpell files → members_of files listing ≡ Ok (methods, literals) → AllByRecursion SoundMethods methods → main_of files main ≡ Some (class, method)
     → IsSound (record { classes = classes_with files methods; listing = listing; literals = literals; main_class = class; main_method = method })
 is_sound files listing main methods literals class method few listed fit made sound begin =
-    let b = bind_ok (each_linked files listing files) (λ (ms : List (List Method)). Ok (ms, literals_of files)) (methods, literals) made in
-    let pair : List (List Method) → List (List ℕ) → List (List Method) × List (List ℕ) = λ x y. (x, y) in
-    let same : b.0 ≡ methods = ap (λ (p : List (List Method) × List (List ℕ)). p.0) (ok_is LinkFault (pair b.0 (literals_of files)) (pair methods literals) b.2) in
-    let each : each_linked files listing files ≡ Ok methods = b.1 ∙ ap Ok same in
+    let each = (members_are files listing (methods, literals) made).0 in
     record {
       few = omega (arith, few, few_classes files methods);
       listed = listed;

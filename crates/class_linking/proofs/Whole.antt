@@ -1,10 +1,10 @@
 -- The program that files link to, step by step.
-use Rattle.std.proofs.Common.{◌≡◌, ℕ, ◌≤◌, List, [], ◌∷◌, length, map, Option, Some, None, Ok, Err, refl, sym, ap, ◌∙◌, arith}
+use Rattle.std.proofs.Common.{◌≡◌, ℕ, ◌≤◌, List, [], ◌∷◌, length, map, Option, Some, None, Ok, Err, refl, ap, subst, ◌∙◌, arith}
 use Rattle.std.specs.Prelude.{ok_or, not}
 use Rattle.std.proofs.lemmas.Bool.{le-ltb}
 use Rattle.mon_base.specs.Reading.{◌>>=◌, need}
-use Rattle.mon_base.proofs.Reading.{bind_ok}
 use Rattle.class_codec.specs.declared.tree.ClassFile.{ClassFile}
+use Rattle.api_listing.specs.declared.types.ListedClass.{ListedClass}
 use Rattle.api_listing.specs.declared.types.Listing.{Listing}
 use Rattle.class_linking.specs.declared.fault.LinkFault.{LinkFault}
 use Rattle.class_linking.specs.declared.fault.LinkFault.TheVariants as faults
@@ -16,11 +16,18 @@ use Rattle.mon_base.specs.Answer.{Fails}
 use Rattle.class_linking.specs.Fault.{Linked}
 use Rattle.bytecode_model.specs.Heads.{heads_of}
 use Rattle.class_linking.specs.ClassConditions.{classes_linked}
-use Rattle.bytecode_model.specs.Operands.{literals_of}
 use Rattle.class_linking.specs.Linking.{members_of, main_of, each_linked, classes_with, assembled, linked}
 use Rattle.bytecode_model.specs.Files.{max_files}
 use Rattle.mon_base.proofs.Answering.{through}
 use Rattle.class_linking.proofs.Loop.{same_length}
+use Rattle.class_linking.proofs.Parts.{members_are}
+
+-- What was asked of lists that are these.
+pub asked : (side : Side) (files : List ClassFile) (listed : List ListedClass) (heads told : List ListedClass) (first second : List ClassFile) (own : List ListedClass) → heads ≡ told → told ≡ heads_of first
+    → first ≡ files → own ≡ listed → second ≡ files → classes_linked side heads own second ≡ Ok tt → classes_linked side (heads_of files) listed files ≡ Ok tt
+asked side files listed heads told first second own is told_is first_is own_is second_is ok =
+    let heads_are : heads ≡ heads_of files = is ∙ told_is ∙ ap heads_of first_is in
+    rw (← heads_are, ← own_is) (subst (λ (fs : List ClassFile). classes_linked side heads own fs ≡ Ok tt) second_is ok)
 
 abbrev Members : Type 0
 Members = List (List Method) × List (List ℕ)
@@ -70,8 +77,8 @@ map_back (file ∷ files) (first ∷ others) e =
     ap (λ (fs : List ClassFile). file ∷ fs) (map_back files others n)
 
 -- the class files come back
+pub classes_back : (files : List ClassFile) (listing : Listing) (methods : List (List Method)) → each_linked files listing files ≡ Ok methods → map (λ (c : LinkedClass). c.file) (classes_with files methods) ≡ files
+classes_back files listing methods each = map_back files methods (same_length _ 0 files methods each)
+
 pub files_back : (files : List ClassFile) (listing : Listing) (members : Members) → members_of files listing ≡ Ok members → map (λ (c : LinkedClass). c.file) (classes_with files members.0) ≡ files
-files_back files listing members made =
-    let b = bind_ok (each_linked files listing files) (λ (methods : List (List Method)). Ok (methods, literals_of files)) members made in
-    let is : b.0 ≡ members.0 = cc (b.2) in
-    map_back files members.0 (ap length (sym is) ∙ same_length _ 0 files b.0 b.1)
+files_back files listing members made = classes_back files listing members.0 (members_are files listing members made).0

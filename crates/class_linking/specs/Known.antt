@@ -12,5 +12,5 @@ abbrev pub IsNamed : List ClassFile → Listing → List Const → Named → Typ
 IsNamed files listing pool named = used_at files listing pool named.how named.index ≡ Ok named.target
 
 -- What stands in the places is named so.
-abbrev pub AreKnown : List ClassFile → Listing → List Const → List (Option Named) → Type 0
-AreKnown files listing pool places = All (λ place. IfSome place (IsNamed files listing pool)) places
+abbrev pub AreRemembered : List ClassFile → Listing → List Const → List (Option Named) → Type 0
+AreRemembered files listing pool places = All (λ place. IfSome place (IsNamed files listing pool)) places

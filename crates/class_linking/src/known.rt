@@ -5,7 +5,7 @@ ghost use Rattle.class_codec.specs.declared.tree.Const.{Const};
 ghost use Rattle.class_codec.specs.declared.tree.ClassFile.{ClassFile};
 ghost use Rattle.api_listing.specs.declared.types.Listing.{Listing};
 ghost use Rattle.class_linking.specs.Operands.{used_at};
-ghost use Rattle.class_linking.specs.Known.{AreKnown};
+ghost use Rattle.class_linking.specs.Known.{AreRemembered};
 
 use bytecode_model::{Target, Use};
 use mon_base::{List, NoMemory};
@@ -43,7 +43,7 @@ impl Known {
     /// Nothing is known yet of so many constants.
     pub fn new(alloc: Global, constants: usize) -> Result<Known, NoMemory>
         ensures { IfOk result (λ known.
-            (files : Items ClassFile) (listing : Listing) (pool : Items Const) → AreKnown files listing pool known) }
+            (files : Items ClassFile) (listing : Listing) (pool : Items Const) → AreRemembered files listing pool known) }
     {
         let count = constants.saturating_mul(KEPT_USES);
         let mut places = Vec::with_capacity(alloc, count)?;
@@ -57,7 +57,7 @@ impl Known {
 
     /// What the constant was found to name, where it is used so.
     pub fn find(&self, index: u16, how: Use) -> Option<&Target>
-        ensures { (files : Items ClassFile) (listing : Listing) (pool : Items Const) → AreKnown files listing pool self.now
+        ensures { (files : Items ClassFile) (listing : Listing) (pool : Items Const) → AreRemembered files listing pool self.now
             → IfSome result (λ target. used_at files listing pool how index ≡ Ok target.now) }
     {
         match self.places.as_slice().get(place_of(index, how)) {
@@ -74,8 +74,8 @@ impl Known {
 
     /// Keeps what the constant names, in the place of what was kept there.
     pub fn keep(&mut self, named: Named)
-        ensures { (files : Items ClassFile) (listing : Listing) (pool : Items Const) → AreKnown files listing pool self.old
-            → used_at files listing pool named.how named.index ≡ Ok named.target → AreKnown files listing pool self.new }
+        ensures { (files : Items ClassFile) (listing : Listing) (pool : Items Const) → AreRemembered files listing pool self.old
+            → used_at files listing pool named.how named.index ≡ Ok named.target → AreRemembered files listing pool self.new }
     {
         let place = place_of(named.index, named.how);
         if place < self.places.len() {

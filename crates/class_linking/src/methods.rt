@@ -11,7 +11,7 @@ ghost use Rattle.bytecode_model.specs.Heads.{all_classes, head_of};
 ghost use Rattle.bytecode_model.specs.SearchOrder.{search_order};
 ghost use Rattle.class_index.specs.Library.{OverridesAs};
 ghost use Rattle.bytecode_model.specs.Sound.{IsSoundMethod};
-ghost use Rattle.class_linking.specs.Known.{AreKnown};
+ghost use Rattle.class_linking.specs.Known.{AreRemembered};
 ghost use Rattle.class_linking.specs.Linking.{bare, with_code, code_told, read_of, code_linked, method_linked, methods_linked};
 
 use crate::fault::LinkFault;
@@ -72,11 +72,11 @@ fn method_linked(
 ) -> Result<Method, LinkFault>
     requires fits { FitsMember file.now.pool true member.now }
     requires name { class.now ≡ (head_of file.now).name }
-    requires known { AreKnown index.now.files index.now.listing file.now.pool known.old }
+    requires known { AreRemembered index.now.files index.now.listing file.now.pool known.old }
     requires order { OverridesAs index.now.listing order.now (search_order (all_classes index.now.listing index.now.files) class.now) }
     ensures answers { Answers LinkFault.Memory result (method_linked index.now.files index.now.listing file.now method member.now) }
     ensures sound { IfOk result IsSoundMethod }
-    ensures known { AreKnown index.now.files index.now.listing file.now.pool known.new }
+    ensures known { AreRemembered index.now.files index.now.listing file.now.pool known.new }
 {
     let pool = file.pool.as_slice();
     if !is_allowed(alloc, pool, member)? {
@@ -130,10 +130,10 @@ fn code_linked(
     requires short { length code.now.code ≤ 65535 }
     requires table { length code.now.table < 2 ^ 16 }
     requires name { class.now ≡ (head_of file.now).name }
-    requires known { AreKnown index.now.files index.now.listing file.now.pool known.old }
+    requires known { AreRemembered index.now.files index.now.listing file.now.pool known.old }
     ensures answers { Answers LinkFault.Memory result (code_linked index.now.files index.now.listing file.now method member.now code.now) }
     ensures sound { IfOk result IsSoundMethod }
-    ensures known { AreKnown index.now.files index.now.listing file.now.pool known.new }
+    ensures known { AreRemembered index.now.files index.now.listing file.now.pool known.new }
 {
     let pool = file.pool.as_slice();
     let insns = read_insns(alloc, class, method, code.code.as_slice())?;

@@ -12,7 +12,7 @@ ghost use Rattle.bytecode_model.specs.Operands.{element_is_known};
 ghost use Rattle.class_linking.specs.Operands.{field_linked, call_linked, loaded, typed, field_used, called, used, used_at};
 ghost use Rattle.bytecode_model.specs.Operands.{known_in};
 ghost use Rattle.bytecode_model.specs.Operands.{index_of};
-ghost use Rattle.class_linking.specs.Known.{AreKnown};
+ghost use Rattle.class_linking.specs.Known.{AreRemembered};
 ghost use Rattle.class_linking.specs.Operands.{operand_fault_told, operand_linked, told_at, operands_linked, operand_at};
 
 use crate::fault::LinkFault;
@@ -38,10 +38,10 @@ pub fn operands_linked(
     insns: &[Insn],
 ) -> Result<List<Target>, LinkFault>
     requires count { length insns.now < 2 ^ 32 }
-    requires known { AreKnown index.now.files index.now.listing pool.now known.old }
+    requires known { AreRemembered index.now.files index.now.listing pool.now known.old }
     ensures answers { Answers LinkFault.Memory result
         (operands_linked index.now.files index.now.listing class.now pool.now method insns.now) }
-    ensures known { AreKnown index.now.files index.now.listing pool.now known.new }
+    ensures known { AreRemembered index.now.files index.now.listing pool.now known.new }
 {
     let mut targets = Vec::with_capacity(alloc, insns.len())?;
     let mut at: u32 = 0;
@@ -65,9 +65,9 @@ fn operand_at(
     at: u32,
     insn: &Insn,
 ) -> Result<Target, LinkFault>
-    requires known { AreKnown index.now.files index.now.listing pool.now known.old }
+    requires known { AreRemembered index.now.files index.now.listing pool.now known.old }
     ensures answers { Answers LinkFault.Memory result (operand_at index.now.files index.now.listing class.now pool.now method at insn.now) }
-    ensures known { AreKnown index.now.files index.now.listing pool.now known.new }
+    ensures known { AreRemembered index.now.files index.now.listing pool.now known.new }
 {
     match operand_linked(alloc, index, pool, known, insn) {
         Ok(target) => Ok(target),
@@ -108,9 +108,9 @@ fn operand_linked(
     known: &mut Known,
     insn: &Insn,
 ) -> Result<Target, OperandFault>
-    requires known { AreKnown index.now.files index.now.listing pool.now known.old }
+    requires known { AreRemembered index.now.files index.now.listing pool.now known.old }
     ensures answers { Answers OperandFault.Memory result (operand_linked index.now.files index.now.listing pool.now insn.now) }
-    ensures known { AreKnown index.now.files index.now.listing pool.now known.new }
+    ensures known { AreRemembered index.now.files index.now.listing pool.now known.new }
 {
     let how = use_of(insn);
     if is_nothing(how) {
@@ -128,9 +128,9 @@ fn once(
     how: Use,
     constant: u16,
 ) -> Result<Target, OperandFault>
-    requires known { AreKnown index.now.files index.now.listing pool.now known.old }
+    requires known { AreRemembered index.now.files index.now.listing pool.now known.old }
     ensures answers { Answers OperandFault.Memory result (used_at index.now.files index.now.listing pool.now how constant) }
-    ensures known { AreKnown index.now.files index.now.listing pool.now known.new }
+    ensures known { AreRemembered index.now.files index.now.listing pool.now known.new }
 {
     if let Some(target) = known.find(constant, how) {
         let copy = target.copy(alloc)?;

@@ -11,29 +11,26 @@ use Rattle.bytecode_model.specs.declared.program.Target.TheVariants.{ApiMethod}
 use Rattle.bytecode_model.proofs.Lists.{all_get}
 use Rattle.offset_patch.specs.declared.block.Block.{Block}
 use Rattle.offset_patch.specs.Fits.{IsSite}
-use Rattle.class_weaving.specs.Known.{AreKnown}
+use Rattle.offset_patch.proofs.EntryFits.{get_last}
+use Rattle.class_weaving.specs.Known.{AreMade}
 use Rattle.class_weaving.proofs.Lists.{get_left}
 
-get_last : {X : Type 0} (xs : List X) (x : X) → slice_get (xs ++ x ∷ []) (length xs) ≡ Some x
-get_last [] x = refl
-get_last (z ∷ xs) x = get_last xs x
-
 -- one site more
-known_on : (block : Target → Option Block) (sites : List (Option Block)) (site : Option Block) (places : BTreeMap ℕ ℕ) → AreKnown block sites places → AreKnown block (sites ++ site ∷ []) places
+known_on : (block : Target → Option Block) (sites : List (Option Block)) (site : Option Block) (places : BTreeMap ℕ ℕ) → AreMade block sites places → AreMade block (sites ++ site ∷ []) places
 known_on block sites site places known = record {
   there = λ method at e.
       let here = known.there method at e in
       get_left sites (site ∷ []) at (slice_get_within sites at (block (ApiMethod method)) here) ∙ here;
 }
 
-pub known_still : {E : Type 0} (block : Target → Option Block) (sites : List (Option Block)) (places : BTreeMap ℕ ℕ) (r : Result (Option Block) E) → AreKnown block sites places
-    → IfOk r (λ site. AreKnown block (sites ++ site ∷ []) places)
+pub known_still : {E : Type 0} (block : Target → Option Block) (sites : List (Option Block)) (places : BTreeMap ℕ ℕ) (r : Result (Option Block) E) → AreMade block sites places
+    → IfOk r (λ site. AreMade block (sites ++ site ∷ []) places)
 known_still block sites places (Ok site) known = known_on block sites site places known
 known_still block sites places (Err e) known = tt
 
 -- one site more, whose place is noted
-pub known_more : (block : Target → Option Block) (sites : List (Option Block)) (site : Option Block) (places after : BTreeMap ℕ ℕ) (method : ℕ) → AreKnown block sites places → site ≡ block (ApiMethod method)
-    → ((q : ℕ) → get nat_cmp after q ≡ cond (is_eq (nat_cmp method q)) (Some (length sites)) (get nat_cmp places q)) → AreKnown block (sites ++ site ∷ []) after
+pub known_more : (block : Target → Option Block) (sites : List (Option Block)) (site : Option Block) (places after : BTreeMap ℕ ℕ) (method : ℕ) → AreMade block sites places → site ≡ block (ApiMethod method)
+    → ((q : ℕ) → get nat_cmp after q ≡ cond (is_eq (nat_cmp method q)) (Some (length sites)) (get nat_cmp places q)) → AreMade block (sites ++ site ∷ []) after
 known_more block sites site places after method known is puts = record { there = λ q at e. by q at (is_eq (nat_cmp method q)) refl (sym (puts q) ∙ e) }
   where
     by : (q at : ℕ) (b : Bool) → is_eq (nat_cmp method q) ≡ b → cond (is_eq (nat_cmp method q)) (Some (length sites)) (get nat_cmp places q) ≡ Some at

@@ -1,5 +1,6 @@
 pub mod FirstCode
 pub mod Sites
+pub mod CodeCases
 pub mod StateFits
 pub mod Spells
 pub mod Sizing
@@ -7,4 +8,6 @@ pub mod Wanted
 pub mod Lists
 pub mod Parts
 pub mod Unwoven
+pub mod Bodies
+pub mod Aiming
 pub mod Known

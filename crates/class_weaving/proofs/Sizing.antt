@@ -22,6 +22,7 @@ use Rattle.offset_patch.specs.declared.fault.SpliceFault.TheVariants as faults
 use Rattle.mon_base.specs.Answer.{Answers}
 use Rattle.offset_patch.specs.Fault.{Spliced, fault_of}
 use Rattle.conspec_tree.specs.declared.types.Var.{Var}
+use Rattle.class_weaving.proofs.CodeCases.{code_cases}
 use Rattle.class_weaving.proofs.Sites.{refs_fit, sites_stay}
 use Rattle.std.proofs.lemmas.Bool.Decides.{nat_tests}
 use Rattle.offset_patch.specs.declared.fault.Size.TheVariants as sizes
@@ -104,18 +105,11 @@ module _ (kinds : List Bool) (plan : Plan) (good : IsGood kinds plan) (class : L
       by false = refl
 
   code_pool : (w : WovenCode) → code_woven plan class number pool m code ≡ Ok w → w.entries ≡ pool_after plan pool (Some m) (Some code)
-  code_pool w = by (is_woven plan m)
+  code_pool w =
+      code_cases plan class number pool m code (λ x. x.entries ≡ after (is_woven plan m)) w (λ some new put. sym (ap after some)) (λ none. sym (ap after none))
     where
-      by : (b : Bool) → by_blocks b ≡ Ok w → w.entries ≡ (if b then grown pool (sites_of plan code.max_locals m) else pool)
-      by true e =
-          let all = sites_of plan code.max_locals m in
-          let made : Code → WovenCode = λ new. record { code = new; entries = grown pool all; origins = origins_of all } in
-          let one = bind_ok (room class number code (locals_of plan m)) (λ fits. code_spliced class number (grown pool all) m code (locals_of plan m) all >>= λ new. Ok (made new)) w e in
-          let two = bind_ok (code_spliced class number (grown pool all) m code (locals_of plan m) all) (λ new. Ok (made new)) w one.2 in
-          ap (λ (x : WovenCode). x.entries) (sym (ok_is SpliceFault (made two.0) w two.2))
-      by false e =
-          let same : WovenCode = record { code = code; entries = pool; origins = clients_from 0 m.insns } in
-          ap (λ (x : WovenCode). x.entries) (sym (ok_is SpliceFault same w e))
+      after : Bool → List Const
+      after b = if b then grown pool sites else pool
 
 -- ---- the members of a class
 

@@ -1,10 +1,9 @@
 -- The files of a program that was woven can be spelled.
 use Rattle.std.proofs.Common.{◌≡◌, ℕ, zero, suc, ◌+◌, ◌≤◌, Bool, true, false, List, [], ◌∷◌, ◌++◌, length, map, Option, Some, None, Ok, Err, refl, sym, ap, subst, ◌∙◌, FitsSigned, append_assoc, append-nil, arith}
 use Rattle.std.specs.Int.{w32}
-use Rattle.std.specs.Prelude.{slice_get, if◌then◌else◌, IfOk}
+use Rattle.std.specs.Prelude.{slice_get, IfOk}
 use Rattle.std.specs.List.{AllByRecursion}
 use Rattle.std.proofs.lemmas.List.{length-append, length-map}
-use Rattle.mon_base.specs.Reading.{◌>>=◌}
 use Rattle.mon_base.proofs.Reading.{bind_ok, ok_is}
 use Rattle.class_codec.specs.declared.tree.Attr.{Attr}
 use Rattle.class_codec.specs.declared.tree.Attr.TheVariants as attributes
@@ -24,7 +23,7 @@ use Rattle.offset_patch.specs.declared.fault.SpliceFault.{SpliceFault}
 use Rattle.mon_base.specs.Answer.{Answers}
 use Rattle.offset_patch.specs.declared.fault.SpliceFault.TheVariants as faults
 use Rattle.offset_patch.specs.Fault.{Spliced}
-use Rattle.offset_patch.specs.Splicing.{grown, wants_of, fronts_of, origins_of, room, code_spliced}
+use Rattle.offset_patch.specs.Splicing.{grown, wants_of, fronts_of}
 use Rattle.offset_patch.proofs.Lists.{all_append}
 use Rattle.offset_patch.proofs.PoolFits.{code_on, member_on, attrs_on, index_on, counted_on, each_on, read_on}
 use Rattle.offset_patch.proofs.EntryFits.{wants_grow, wants_fit}
@@ -36,8 +35,9 @@ use Rattle.class_weaving.proofs.StateFits.{state_fits}
 use Rattle.class_weaving.specs.declared.woven.WovenCode.{WovenCode}
 use Rattle.class_weaving.specs.declared.woven.Members.{Members}
 use Rattle.class_weaving.specs.declared.woven.Woven.{Woven}
+use Rattle.class_weaving.proofs.CodeCases.{with_blocks, IsPut, code_cases}
 use Rattle.class_weaving.proofs.FirstCode.{first_fits}
-use Rattle.class_weaving.specs.Woven.{folded, is_woven, sites_of, locals_of, clients_from, blocks_put, code_woven, first_code, attr_with, member_with, bare_put, code_put, body_woven, member_woven, members_woven, none_made, file_with, file_put, class_woven, classes_woven, state_put, woven}
+use Rattle.class_weaving.specs.Woven.{folded, is_woven, sites_of, locals_of, code_woven, first_code, attr_with, member_with, bare_put, code_put, body_woven, member_woven, members_woven, none_made, file_with, file_put, class_woven, classes_woven, state_put, woven}
 
 -- ---- the code of a method
 
@@ -48,19 +48,14 @@ record IsCode (pool : List Const) (code : Code) (w : WovenCode) : Type 0 where
   code_fits : FitsCode w.entries w.code
   named : w.code.name ≡ code.name
 
-put_fits : (kinds : List Bool) (plan : Plan) (good : IsGood kinds plan) (class : List ℕ) (number : ℕ) (pool : List Const) (method : Method) (code : Code) (w : WovenCode) → FitsPool pool → FitsCode pool code → IsSoundMethod method
-    → is_woven plan method ≡ true → blocks_put plan class number pool method code (sites_of plan code.max_locals method) ≡ Ok w → IsCode pool code w
-put_fits kinds plan good class number pool method code w p h sound some e =
+put_fits : (kinds : List Bool) (plan : Plan) (good : IsGood kinds plan) (class : List ℕ) (number : ℕ) (pool : List Const) (method : Method) (code : Code) → FitsPool pool → FitsCode pool code → IsSoundMethod method
+    → is_woven plan method ≡ true → (new : Code) → IsPut plan class number pool method code new → IsCode pool code (with_blocks plan pool method code new)
+put_fits kinds plan good class number pool method code p h sound some new put =
     let locals = locals_of plan method in
     let sites = sites_of plan code.max_locals method in
     let all = grown pool sites in
-    let made : Code → WovenCode = λ new. record { code = new; entries = all; origins = origins_of sites } in
-    let one = bind_ok (room class number code locals) (λ fits. code_spliced class number all method code locals sites >>= λ new. Ok (made new)) w e in
-    let two = bind_ok (code_spliced class number all method code locals sites) (λ new. Ok (made new)) w one.2 in
-    let new = two.0 in
-    let is : made new ≡ w = ok_is SpliceFault (made new) w two.2 in
-    let roomy = room_is class number code locals one.1 in
-    let short = pool_short class number all method code locals sites new two.1 in
+    let roomy = room_is class number code locals put.0 in
+    let short = pool_short class number all method code locals sites new put.1 in
     let fit = refs_fit kinds plan good code.max_locals method.refs (omega (arith, roomy.1)) in
     let more = wants_grow (wants_of sites) pool in
     let refs = refs_some plan.has_block method.refs some in
@@ -69,24 +64,18 @@ put_fits kinds plan good class number pool method code w p h sound some e =
     let each = parts_fit all (fronts_of sites) 0 method.insns sites short sound.insns fit (wants_there sites pool) in
     let there = parts_some all (fronts_of sites) 0 method.insns sites fit (omega arith) (omega arith) in
     let here = subst (λ (q : List Const). FitsCode q code) (sym more.1) (code_on pool more.0 code h) in
-    subst (IsCode pool code) is (record {
+    record {
       grown = more;
       pool_fits = wants_fit (wants_of sites) (wants_are sites fit) pool p short;
-      code_fits = code_fits class number all method code locals sites new here one.1 two.1 each there;
-      named = code_named class number all method code locals sites new two.1;
-    })
+      code_fits = code_fits class number all method code locals sites new here put.0 put.1 each there;
+      named = code_named class number all method code locals sites new put.1;
+    }
 
 woven_fits : (kinds : List Bool) (plan : Plan) (good : IsGood kinds plan) (class : List ℕ) (number : ℕ) (pool : List Const) (method : Method) (code : Code) (w : WovenCode) → FitsPool pool → FitsCode pool code → IsSoundMethod method
     → code_woven plan class number pool method code ≡ Ok w → IsCode pool code w
-woven_fits kinds plan good class number pool method code w p h sound = by (is_woven plan method) refl
-  where
-    by : (b : Bool) → is_woven plan method ≡ b
-        → (if b then blocks_put plan class number pool method code (sites_of plan code.max_locals method)
-        else Ok (record { code = code; entries = pool; origins = clients_from 0 method.insns })) ≡ Ok w → IsCode pool code w
-    by true some e = put_fits kinds plan good class number pool method code w p h sound some e
-    by false none e =
-        let same : WovenCode = record { code = code; entries = pool; origins = clients_from 0 method.insns } in
-        subst (IsCode pool code) (ok_is SpliceFault same w e) (record { grown = ([], sym (append-nil pool)); pool_fits = p; code_fits = h; named = refl })
+woven_fits kinds plan good class number pool method code w p h sound =
+    code_cases plan class number pool method code (IsCode pool code) w (put_fits kinds plan good class number pool method code p h sound)
+    (λ none. record { grown = ([], sym (append-nil pool)); pool_fits = p; code_fits = h; named = refl })
 
 -- ---- members
 

@@ -1,55 +1,23 @@
 -- What stands at the places that blocks name: the class conspec/State, its fields, the method that stops the program, and
 -- numbers.
-use Rattle.std.proofs.Common.{◌≡◌, ℕ, zero, suc, Bool, true, false, List, [], ◌∷◌, ◌++◌, Option, Some, None, refl, sym, ap, subst, ◌∙◌, arith}
-use Rattle.std.specs.Prelude.{ℤ, slice_get, ◌==◌, ◌&&◌}
+use Rattle.std.proofs.Common.{◌≡◌, ℕ, zero, suc, Bool, List, [], ◌∷◌, ◌++◌, Option, Some, refl, ap, subst, ◌∙◌, arith}
+use Rattle.std.specs.Prelude.{ℤ, slice_get}
 use Rattle.std.specs.List.{AllByRecursion, Contains}
 use Rattle.std.specs.Option.{option_map_or}
-use Rattle.std.proofs.lemmas.Bool.{eqb-true}
-use Rattle.std.proofs.lemmas.Bool.Decides.{Decides-int_eq}
 use Rattle.class_codec.specs.declared.tree.Const.{Const}
 use Rattle.class_codec.specs.declared.tree.Const.TheVariants as constants
 use Rattle.class_codec.specs.Pool.{utf8_at, text_of, class_name_at, class_name_of, name_and_type_at, name_and_type_of, both, reference_at, reference_of, member_id}
 use Rattle.bytecode_model.specs.Heads.{text_at}
 use Rattle.bytecode_model.specs.Operands.{id_at}
-use Rattle.bytecode_model.proofs.Placing.{same_name}
 use Rattle.offset_patch.specs.declared.block.PoolWant.{PoolWant}
 use Rattle.offset_patch.specs.declared.block.PoolWant.TheVariants as wants
-use Rattle.offset_patch.specs.Entries.{same, Placed, placed, place_of, entry, text, class, name_and_type, state_name, variable_name, variable_type, wanted, place_in, IsThere}
+use Rattle.offset_patch.specs.Entries.{Placed, entry, text, class, name_and_type, state_name, variable_name, variable_type, wanted, place_in, IsThere}
 use Rattle.class_weaving.specs.Outcome.{way_out}
-use Rattle.offset_patch.proofs.EntryFits.{get_last, place_found}
+use Rattle.offset_patch.proofs.EntryFits.{entry_is}
 use Rattle.offset_patch.proofs.PoolFits.{get_on}
 use Rattle.offset_patch.proofs.Steady.{IsSteady, steady_text, steady_class_at, steady_name_and_type_at, steady_name_and_type, steady_field_at, steady_method_at, steady_wanted}
 
 -- ---- an entry
-
-both_true : (a b : Bool) → (a && b) ≡ true → (a ≡ true) × (b ≡ true)
-both_true true b e = (refl, e)
-both_true false b e = absurd cc
-
-same_is : (c x : Const) → same c x ≡ true → x ≡ c
-same_is (constants.Utf8 a) (constants.Utf8 b) e = ap constants.Utf8 (sym (same_name a b e))
-same_is (constants.Class a) (constants.Class b) e = ap constants.Class (sym (eqb-true a b e))
-same_is (constants.Method a m) (constants.Method b n) e =
-    let h = both_true (a == b) (m == n) e in
-    rw (eqb-true a b h.0, eqb-true m n h.1) refl
-same_is (constants.Field a m) (constants.Field b n) e =
-    let h = both_true (a == b) (m == n) e in
-    rw (eqb-true a b h.0, eqb-true m n h.1) refl
-same_is (constants.Integer a) (constants.Integer b) e = ap constants.Integer (sym ((Decides-int_eq a b).0 e))
-same_is (constants.NameAndType a m) (constants.NameAndType b n) e =
-    let h = both_true (a == b) (m == n) e in
-    rw (eqb-true a b h.0, eqb-true m n h.1) refl
-same_is c x e = absurd cc
-
--- The constant is where it was put or found.
-pub entry_is : (c : Const) (pool : List Const) → slice_get (entry c pool).0 (entry c pool).1 ≡ Some c
-entry_is c pool = by (place_of c pool) refl where
-  by : (o : Option ℕ) → place_of c pool ≡ o → slice_get (placed pool c o).0 (placed pool c o).1 ≡ Some c
-  by None e = get_last pool c
-  by (Some i) e =
-      let found = place_found (same c) 0 pool i e in
-      let at : i ≡ found.0 = omega (arith, found.2.0) in
-      ap (λ (k : ℕ). slice_get pool k) at ∙ found.2.1 ∙ ap Some (same_is c found.1 found.2.2)
 
 get_later : (f : List Const → Placed) → IsSteady f → (pool : List Const) (i : ℕ) (c : Const) → slice_get pool i ≡ Some c → slice_get (f pool).0 i ≡ Some c
 get_later f steady pool i c e =

@@ -7,5 +7,5 @@ use Rattle.bytecode_model.specs.declared.program.Target.TheVariants.{ApiMethod}
 use Rattle.offset_patch.specs.declared.block.Block.{Block}
 
 -- At the place that is known of a method stands the block of a call of it.
-pub record AreKnown (block : Target → Option Block) (sites : List (Option Block)) (places : BTreeMap ℕ ℕ) : Type 0 where
+pub record AreMade (block : Target → Option Block) (sites : List (Option Block)) (places : BTreeMap ℕ ℕ) : Type 0 where
   pub there : (method at : ℕ) → get nat_cmp places method ≡ Some at → slice_get sites at ≡ Some (block (ApiMethod method))

@@ -8,7 +8,7 @@ ghost use Rattle.std.specs.List.{AllByRecursion, list_any};
 ghost use Rattle.bytecode_model.specs.Sound.{IsSoundMethod};
 ghost use Rattle.mon_base.specs.Answer.{Answers};
 ghost use Rattle.offset_patch.specs.Fits.{IsSite};
-ghost use Rattle.class_weaving.specs.Known.{AreKnown};
+ghost use Rattle.class_weaving.specs.Known.{AreMade};
 ghost use Rattle.class_weaving.specs.Woven.{is_woven, sites_of, most_locals, locals_of, clients_from, blocks_put, code_woven};
 
 use crate::woven::WovenCode;
@@ -149,10 +149,10 @@ fn put_site<P: Planner>(
 ) -> Result<(), NoMemory>
     requires room { base + (P.plan planner.now).locals target.now < 2 ^ 16 }
     requires fits { AllByRecursion IsSite sites.old }
-    requires known { AreKnown ((P.plan planner.now).block base) sites.old places.old }
+    requires known { AreMade ((P.plan planner.now).block base) sites.old places.old }
     ensures is { OnOk result (sites.new ≡ sites.old ++ (P.plan planner.now).block base target.now ∷ []) }
     ensures fits { OnOk result (AllByRecursion IsSite sites.new) }
-    ensures known { OnOk result (AreKnown ((P.plan planner.now).block base) sites.new places.new) }
+    ensures known { OnOk result (AreMade ((P.plan planner.now).block base) sites.new places.new) }
 {
     let site = site_of(alloc, planner, base, target, sites.as_slice(), places)?;
     sites.push(site)?;
@@ -170,10 +170,10 @@ fn site_of<P: Planner>(
 ) -> Result<Option<Block>, NoMemory>
     requires room { base + (P.plan planner.now).locals target.now < 2 ^ 16 }
     requires fits { AllByRecursion IsSite sites.now }
-    requires known { AreKnown ((P.plan planner.now).block base) sites.now places.old }
+    requires known { AreMade ((P.plan planner.now).block base) sites.now places.old }
     ensures is { IfOk result (λ site. site ≡ (P.plan planner.now).block base target.now) }
     ensures fits { IfOk result IsSite }
-    ensures known { IfOk result (λ site. AreKnown ((P.plan planner.now).block base) (sites.now ++ site ∷ []) places.new) }
+    ensures known { IfOk result (λ site. AreMade ((P.plan planner.now).block base) (sites.now ++ site ∷ []) places.new) }
 {
     let Target::ApiMethod(method) = target else {
         return planner.block(alloc, base, target);

@@ -21,7 +21,8 @@ use Rattle.offset_patch.specs.Entries.{same, Placed, placed, place_of, entry, te
 use Rattle.offset_patch.specs.Fits.{IsWant}
 use Rattle.offset_patch.proofs.Lists.{all_append}
 use Rattle.offset_patch.proofs.PoolFits.{names_on, named_on, each_on}
-use Rattle.offset_patch.proofs.Steady.{IsSteady, steady_text, steady_class_at, steady_name_and_type, steady_name_and_type_at, steady_field_at, steady_method_at, steady_wanted}
+use Rattle.offset_patch.proofs.Same.{same_is}
+use Rattle.offset_patch.proofs.Steady.{IsSteady, pair, steady_text, steady_class_at, steady_class, steady_name_and_type_at, steady_name_and_type, steady_field_at, steady_method_at, steady_wanted}
 
 -- ---- texts
 
@@ -89,34 +90,20 @@ place_found {X = X} p at (x ∷ xs) i e = by (p x) refl (place_found p (at + 1) 
         let later = others f in
         (suc later.0, later.1, (omega (arith, later.2.0), later.2.1, later.2.2))
 
-alike_text : (bytes : List ℕ) (x : Const) → same (constants.Utf8 bytes) x ≡ true → is_of kinds.Utf8 x ≡ true
-alike_text bytes (constants.Utf8 b) e = refl
-alike_text bytes x e = absurd cc
-
-alike_class : (name : ℕ) (x : Const) → same (constants.Class name) x ≡ true → is_of kinds.Class x ≡ true
-alike_class name (constants.Class b) e = refl
-alike_class name x e = absurd cc
-
-alike_member : (name desc : ℕ) (x : Const) → same (constants.NameAndType name desc) x ≡ true → is_of kinds.NameAndType x ≡ true
-alike_member name desc (constants.NameAndType a b) e = refl
-alike_member name desc x e = absurd cc
-
-entry_named : (kind : Kind) (c : Const) → is_of kind c ≡ true → ((x : Const) → same c x ≡ true → is_of kind x ≡ true) → (pool : List Const) → names kind (entry c pool).0 (entry c pool).1 ≡ true
-unfolding names
-entry_named kind c own alike pool = by (place_of c pool) refl
+-- the constant is where it was put or found
+pub entry_is : (c : Const) (pool : List Const) → slice_get (entry c pool).0 (entry c pool).1 ≡ Some c
+entry_is c pool = by (place_of c pool) refl
   where
-    by : (o : Option ℕ) → place_of c pool ≡ o → is_one_of kind (slice_get (placed pool c o).0 (placed pool c o).1) ≡ true
-    by None e = ap (is_one_of kind) (get_last pool c) ∙ own
+    by : (o : Option ℕ) → place_of c pool ≡ o → slice_get (placed pool c o).0 (placed pool c o).1 ≡ Some c
+    by None e = get_last pool c
     by (Some i) e =
         let found = place_found (same c) 0 pool i e in
         let at : i ≡ found.0 = omega (arith, found.2.0) in
-        ap (λ (k : ℕ). is_one_of kind (slice_get pool k)) at ∙ ap (is_one_of kind) found.2.1 ∙ alike found.1 found.2.2
+        ap (λ (k : ℕ). slice_get pool k) at ∙ found.2.1 ∙ ap Some (same_is c found.1 found.2.2)
 
-text_named : (bytes : List ℕ) (pool : List Const) → names kinds.Utf8 (text bytes pool).0 (text bytes pool).1 ≡ true
-text_named bytes pool = entry_named kinds.Utf8 (constants.Utf8 bytes) refl (alike_text bytes) pool
-
-class_named : (name : List ℕ) (pool : List Const) → names kinds.Class (class name pool).0 (class name pool).1 ≡ true
-class_named name pool = entry_named kinds.Class (constants.Class (text name pool).1) refl (alike_class (text name pool).1) (text name pool).0
+entry_named : (kind : Kind) (c : Const) → is_of kind c ≡ true → (pool : List Const) → names kind (entry c pool).0 (entry c pool).1 ≡ true
+unfolding names
+entry_named kind c own pool = ap (is_one_of kind) (entry_is c pool) ∙ own
 
 within : (kind : Kind) (pool : List Const) (i : ℕ) → names kind pool i ≡ true → i < length pool
 unfolding names
@@ -142,73 +129,76 @@ kept kind f steady pool i e =
     let more = steady.grows pool in
     subst (λ (p : List Const). names kind p i ≡ true) (sym more.1) (names_on kind pool more.0 i e)
 
-text_fits : (bytes : List ℕ) → IsText bytes → (pool : List Const) → FitsPool pool → length (text bytes pool).0 ≤ 65535 → FitsPool (text bytes pool).0
-text_fits bytes t pool p short = entry_fits pool (constants.Utf8 bytes) p (record { fits = (t.few, t.each); one = refl; narrow = refl; named = tt }) short
+-- Behind a step the pool can be spelled, if it is not too long.
+abbrev KeepsFit : (List Const → Placed) → Type 0
+KeepsFit f = (pool : List Const) → FitsPool pool → length (f pool).0 ≤ 65535 → FitsPool (f pool).0
 
-class_fits : (name : List ℕ) → IsText name → (pool : List Const) → FitsPool pool → length (class name pool).0 ≤ 65535 → FitsPool (class name pool).0
-class_fits name t pool p short =
-    let one = (text name pool).0 in
-    let i = (text name pool).1 in
-    let less = longer (entry (constants.Class i)) (steady_class_at i) one in
-    let first = text_fits name t pool p (omega arith) in
-    let told = text_named name pool in
-    let few = within kinds.Utf8 one i told in
-    entry_fits one (constants.Class i) first (record { fits = omega arith; one = refl; narrow = refl; named = told }) short
+-- A step that finds an entry of this kind.
+record Finds (kind : Kind) (f : List Const → Placed) : Type 0 where
+  steady : IsSteady f
+  named : (pool : List Const) → names kind (f pool).0 (f pool).1 ≡ true
+  fits : KeepsFit f
 
-member_named : (name desc : List ℕ) (pool : List Const) → names kinds.NameAndType (name_and_type name desc pool).0 (name_and_type name desc pool).1 ≡ true
-member_named name desc pool =
-    let two = text desc (text name pool).0 in
-    entry_named kinds.NameAndType (constants.NameAndType (text name pool).1 two.1) refl (alike_member (text name pool).1 two.1) two.0
+text_finds : (bytes : List ℕ) → IsText bytes → Finds kinds.Utf8 (text bytes)
+text_finds bytes t = record {
+  steady = steady_text bytes;
+  named = entry_named kinds.Utf8 (constants.Utf8 bytes) refl;
+  fits = λ pool p short. entry_fits pool (constants.Utf8 bytes) p (record { fits = (t.few, t.each); one = refl; narrow = refl; named = tt }) short;
+}
 
-member_fits : (name desc : List ℕ) → IsText name → IsText desc → (pool : List Const) → FitsPool pool → length (name_and_type name desc pool).0 ≤ 65535 → FitsPool (name_and_type name desc pool).0
-member_fits name desc t u pool p short =
-    let one = (text name pool).0 in
-    let i = (text name pool).1 in
-    let two = (text desc one).0 in
-    let j = (text desc one).1 in
-    let less2 = longer (entry (constants.NameAndType i j)) (steady_name_and_type_at i j) two in
-    let less1 = longer (text desc) (steady_text desc) one in
-    let first = text_fits name t pool p (omega arith) in
-    let second = text_fits desc u one first (omega arith) in
-    let told_i = kept kinds.Utf8 (text desc) (steady_text desc) one i (text_named name pool) in
-    let told_j = text_named desc one in
-    let few_i = within kinds.Utf8 two i told_i in
-    let few_j = within kinds.Utf8 two j told_j in
-    entry_fits two (constants.NameAndType i j) second (record { fits = (omega arith, omega arith); one = refl; narrow = refl; named = (told_i, told_j) }) short
+class_finds : (name : List ℕ) → IsText name → Finds kinds.Class (class name)
+class_finds name t = record {
+  steady = steady_class name;
+  named = λ pool. entry_named kinds.Class (constants.Class (text name pool).1) refl (text name pool).0;
+  fits = fits;
+}
+  where
+    fits : KeepsFit (class name)
+    fits pool p short =
+        let one = text name pool in
+        let less = longer (entry (constants.Class one.1)) (steady_class_at one.1) one.0 in
+        let first = (text_finds name t).fits pool p (omega arith) in
+        let told = (text_finds name t).named pool in
+        let few = within kinds.Utf8 one.0 one.1 told in
+        entry_fits one.0 (constants.Class one.1) first (record { fits = omega arith; one = refl; narrow = refl; named = told }) short
 
-method_fits : (owner name desc : List ℕ) → IsText owner → IsText name → IsText desc → (pool : List Const) → FitsPool pool → length (method owner name desc pool).0 ≤ 65535
-    → FitsPool (method owner name desc pool).0
-method_fits owner name desc s t u pool p short =
-    let one = (class owner pool).0 in
-    let i = (class owner pool).1 in
-    let two = (name_and_type name desc one).0 in
-    let j = (name_and_type name desc one).1 in
-    let less2 = longer (entry (constants.Method i j)) (steady_method_at i j) two in
-    let less1 = longer (name_and_type name desc) (steady_name_and_type name desc) one in
-    let first = class_fits owner s pool p (omega arith) in
-    let second = member_fits name desc t u one first (omega arith) in
-    let told_i = kept kinds.Class (name_and_type name desc) (steady_name_and_type name desc) one i (class_named owner pool) in
-    let told_j = member_named name desc one in
-    let few_i = within kinds.Class two i told_i in
-    let few_j = within kinds.NameAndType two j told_j in
-    entry_fits two (constants.Method i j) second (record { fits = (omega arith, omega arith); one = refl; narrow = refl; named = (told_i, told_j) }) short
+-- an entry that names what two steps find, one behind the other
+module _ (first second : Kind) (make : ℕ → ℕ → Const) (steady : (i j : ℕ) → IsSteady (entry (make i j)))
+    (good : (pool : List Const) (i j : ℕ) → i < 2 ^ 16 → j < 2 ^ 16 → names first pool i ≡ true → names second pool j ≡ true → IsGood pool (make i j)) where
+  pair_fits : (f g : List Const → Placed) → Finds first f → Finds second g → KeepsFit (pair make f g)
+  pair_fits f g h k pool p short =
+      let one = f pool in
+      let two = g one.0 in
+      let last = make one.1 two.1 in
+      let less2 = longer (entry last) (steady one.1 two.1) two.0 in
+      let less1 = longer g k.steady one.0 in
+      let fits1 = h.fits pool p (omega arith) in
+      let fits2 = k.fits one.0 fits1 (omega arith) in
+      let told1 = kept first g k.steady one.0 one.1 (h.named pool) in
+      let told2 = k.named one.0 in
+      let few1 = within first two.0 one.1 told1 in
+      let few2 = within second two.0 two.1 told2 in
+      entry_fits two.0 last fits2 (good two.0 one.1 two.1 (omega arith) (omega arith) told1 told2) short
 
-field_fits : (owner name desc : List ℕ) → IsText owner → IsText name → IsText desc → (pool : List Const) → FitsPool pool → length (field owner name desc pool).0 ≤ 65535
-    → FitsPool (field owner name desc pool).0
-field_fits owner name desc s t u pool p short =
-    let one = (class owner pool).0 in
-    let i = (class owner pool).1 in
-    let two = (name_and_type name desc one).0 in
-    let j = (name_and_type name desc one).1 in
-    let less2 = longer (entry (constants.Field i j)) (steady_field_at i j) two in
-    let less1 = longer (name_and_type name desc) (steady_name_and_type name desc) one in
-    let first = class_fits owner s pool p (omega arith) in
-    let second = member_fits name desc t u one first (omega arith) in
-    let told_i = kept kinds.Class (name_and_type name desc) (steady_name_and_type name desc) one i (class_named owner pool) in
-    let told_j = member_named name desc one in
-    let few_i = within kinds.Class two i told_i in
-    let few_j = within kinds.NameAndType two j told_j in
-    entry_fits two (constants.Field i j) second (record { fits = (omega arith, omega arith); one = refl; narrow = refl; named = (told_i, told_j) }) short
+member_finds : (name desc : List ℕ) → IsText name → IsText desc → Finds kinds.NameAndType (name_and_type name desc)
+member_finds name desc t u = record {
+  steady = steady_name_and_type name desc;
+  named = λ pool.
+      let two = text desc (text name pool).0 in
+      entry_named kinds.NameAndType (constants.NameAndType (text name pool).1 two.1) refl two.0;
+  fits = pair_fits kinds.Utf8 kinds.Utf8 constants.NameAndType steady_name_and_type_at
+      (λ pool i j few few2 told told2. record { fits = (few, few2); one = refl; narrow = refl; named = (told, told2) }) (text name) (text desc) (text_finds name t) (text_finds desc u);
+}
+
+field_fits : (owner name desc : List ℕ) → IsText owner → IsText name → IsText desc → KeepsFit (field owner name desc)
+field_fits owner name desc s t u =
+    pair_fits kinds.Class kinds.NameAndType constants.Field steady_field_at
+    (λ pool i j few few2 told told2. record { fits = (few, few2); one = refl; narrow = refl; named = (told, told2) }) (class owner) (name_and_type name desc) (class_finds owner s) (member_finds name desc t u)
+
+method_fits : (owner name desc : List ℕ) → IsText owner → IsText name → IsText desc → KeepsFit (method owner name desc)
+method_fits owner name desc s t u =
+    pair_fits kinds.Class kinds.NameAndType constants.Method steady_method_at
+    (λ pool i j few few2 told told2. record { fits = (few, few2); one = refl; narrow = refl; named = (told, told2) }) (class owner) (name_and_type name desc) (class_finds owner s) (member_finds name desc t u)
 
 -- ---- what blocks name
 
@@ -246,13 +236,13 @@ type_text false = known (codes "I") (omega arith) refl
 state_text : IsText state_name
 state_text = known state_name (omega arith) refl
 
-wanted_fits : (want : PoolWant) → IsWant want → (pool : List Const) → FitsPool pool → length (wanted want pool).0 ≤ 65535 → FitsPool (wanted want pool).0
-wanted_fits wants.StateClass w pool p short = class_fits state_name state_text pool p short
-wanted_fits (wants.StateField var is_bool) w pool p short = field_fits state_name (variable_name var) (variable_type is_bool) state_text (variable_text var w) (type_text is_bool) pool p short
-wanted_fits wants.Exit w pool p short =
+wanted_fits : (want : PoolWant) → IsWant want → KeepsFit (wanted want)
+wanted_fits wants.StateClass w = (class_finds state_name state_text).fits
+wanted_fits (wants.StateField var is_bool) w = field_fits state_name (variable_name var) (variable_type is_bool) state_text (variable_text var w) (type_text is_bool)
+wanted_fits wants.Exit w =
     method_fits (codes "java/lang/System") (codes "exit") (codes "(I)V") (known (codes "java/lang/System") (omega arith) refl) (known (codes "exit") (omega arith) refl)
-    (known (codes "(I)V") (omega arith) refl) pool p short
-wanted_fits (wants.Integer n) w pool p short = entry_fits pool (constants.Integer n) p (record { fits = w; one = refl; narrow = refl; named = tt }) short
+    (known (codes "(I)V") (omega arith) refl)
+wanted_fits (wants.Integer n) w = λ pool p short. entry_fits pool (constants.Integer n) p (record { fits = w; one = refl; narrow = refl; named = tt }) short
 
 -- wants only add behind
 pub wants_grow : (wants : List PoolWant) (pool : List Const) → (more : List Const) × (with_wants pool wants ≡ pool ++ more)
@@ -272,14 +262,7 @@ wants_fit (want ∷ others) w pool p short =
 -- ---- places
 
 pub entry_few : (c : Const) (pool : List Const) → (entry c pool).1 < length (entry c pool).0
-entry_few c pool = by (place_of c pool) refl
-  where
-    by : (o : Option ℕ) → place_of c pool ≡ o → (placed pool c o).1 < length (placed pool c o).0
-    by None e = omega (arith, length-append pool (c ∷ []))
-    by (Some i) e =
-        let found = place_found (same c) 0 pool i e in
-        let few = slice_get_within pool found.0 found.1 found.2.1 in
-        omega (arith, found.2.0, few)
+entry_few c pool = slice_get_within (entry c pool).0 (entry c pool).1 c (entry_is c pool)
 
 -- an entry stands within the pool
 pub place_few : (want : PoolWant) (pool : List Const) → (wanted want pool).1 < length (wanted want pool).0

@@ -13,7 +13,7 @@ use Rattle.offset_patch.specs.declared.growth.Growth.{Growth}
 use Rattle.offset_patch.specs.Added.{with_added}
 use Rattle.offset_patch.specs.Entries.{Placed, wanted}
 use Rattle.offset_patch.specs.Growth.{with_growth}
-use Rattle.offset_patch.specs.Known.{want_cmp, known_at, known_place, AreKnown}
+use Rattle.offset_patch.specs.Known.{want_cmp, known_at, known_place, AreNoted}
 use Rattle.offset_patch.proofs.Finding.{then_is}
 use Rattle.offset_patch.proofs.Steady.{IsSteady, steady_wanted}
 
@@ -67,8 +67,8 @@ found_again pool after want at e =
     subst (λ (z : Placed). wanted want z.0 ≡ z) e ((steady_wanted want).settles pool)
 
 -- one entry more is known
-known_more : (pool after : List Const) (known : Option (BTreeMap PoolWant ℕ)) (places : BTreeMap PoolWant ℕ) (want : PoolWant) (at : ℕ) → AreKnown pool known
-    → wanted want pool ≡ (after, at) → ((q : PoolWant) → known_at places q ≡ cond (is_eq (want_cmp want q)) (Some at) (known_place known q)) → AreKnown after (Some places)
+known_more : (pool after : List Const) (known : Option (BTreeMap PoolWant ℕ)) (places : BTreeMap PoolWant ℕ) (want : PoolWant) (at : ℕ) → AreNoted pool known
+    → wanted want pool ≡ (after, at) → ((q : PoolWant) → known_at places q ≡ cond (is_eq (want_cmp want q)) (Some at) (known_place known q)) → AreNoted after (Some places)
 known_more pool after known places want at good is puts = record { there = λ q i e. by q i (is_eq (want_cmp want q)) refl (sym (puts q) ∙ e) }
   where
     by : (q : PoolWant) (i : ℕ) (b : Bool) → is_eq (want_cmp want q) ≡ b → cond (is_eq (want_cmp want q)) (Some at) (known_place known q) ≡ Some i → wanted q after ≡ (after, i)
@@ -83,9 +83,9 @@ known_more pool after known places want at good is puts = record { there = λ q 
 
 -- what was known, and one more, where the pool was read twice
 pub known_grown : (items first second : List Const) (before kept : Option Growth) (growth after : Growth) (known taken : Option (BTreeMap PoolWant ℕ))
-    (places : BTreeMap PoolWant ℕ) (want : PoolWant) (at : ℕ) → AreKnown (with_growth items before) known → first ≡ items → second ≡ items → kept ≡ before → taken ≡ known
+    (places : BTreeMap PoolWant ℕ) (want : PoolWant) (at : ℕ) → AreNoted (with_growth items before) known → first ≡ items → second ≡ items → kept ≡ before → taken ≡ known
     → with_added first growth.added ≡ with_growth first kept → wanted want (with_added second growth.added) ≡ (with_added second after.added, at)
-    → ((q : PoolWant) → known_at places q ≡ cond (is_eq (want_cmp want q)) (Some at) (known_place taken q)) → AreKnown (with_added items after.added) (Some places)
+    → ((q : PoolWant) → known_at places q ≡ cond (is_eq (want_cmp want q)) (Some at) (known_place taken q)) → AreNoted (with_added items after.added) (Some places)
 known_grown items first second before kept growth after known taken places want at good first_is second_is kept_is taken_is begun found puts =
     let pool : with_added second growth.added ≡ with_growth items before =
     ap (λ (p : List Const). with_added p growth.added) (second_is ∙ sym first_is) ∙ begun ∙ ap₂ with_growth first_is kept_is in

@@ -1,4 +1,5 @@
 pub mod Lists
+pub mod Same
 pub mod Steady
 pub mod Knowing
 pub mod Pieces

@@ -33,7 +33,7 @@ names_on kind pool more i e =
     let one = one_of kind (slice_get pool i) e in
     ap (is_one_of kind) (get_on pool more i one.0 one.1.0) ∙ one.1.1
 
-utf8_on : (pool more : List Const) (i : ℕ) → names kinds.Utf8 pool i ≡ true → utf8_at (pool ++ more) i ≡ utf8_at pool i
+pub utf8_on : (pool more : List Const) (i : ℕ) → names kinds.Utf8 pool i ≡ true → utf8_at (pool ++ more) i ≡ utf8_at pool i
 unfolding names utf8_at
 utf8_on pool more i e =
     let one = one_of kinds.Utf8 (slice_get pool i) e in

@@ -1,14 +1,16 @@
 -- An entry that was added stays where it is: what is added later stands behind it.
-use Rattle.std.proofs.Common.{◌≡◌, cond, ℕ, ℤ, ◌+◌, Bool, true, false, List, [], ◌∷◌, ◌++◌, length, Option, Some, None, refl, sym, ap, subst, ◌∙◌, append_assoc, append-nil, zero-add, arith}
-use Rattle.std.specs.Prelude.{bytes_eq, ◌==◌, codes}
-use Rattle.std.specs.Ordering.{int_eq}
+use Rattle.std.proofs.Common.{◌≡◌, cond, ℕ, ◌+◌, Bool, true, false, List, [], ◌∷◌, ◌++◌, length, Option, Some, None, refl, sym, ap, subst, ◌∙◌, append_assoc, append-nil, zero-add, arith}
+use Rattle.std.specs.Prelude.{codes}
 use Rattle.std.specs.List.{position_from}
-use Rattle.std.proofs.lemmas.Bool.Decides.{Decides-int_eq}
 use Rattle.class_codec.specs.declared.tree.Const.{Const}
 use Rattle.class_codec.specs.declared.tree.Const.TheVariants as constants
 use Rattle.offset_patch.specs.declared.block.PoolWant.{PoolWant}
 use Rattle.offset_patch.specs.declared.block.PoolWant.TheVariants as wants
-use Rattle.offset_patch.specs.Entries.{same, Placed, placed, place_of, entry, text, class, name_and_type, field, method, state_name, variable_name, variable_type, wanted}
+use Rattle.offset_patch.specs.declared.constants.Added.{Added}
+use Rattle.offset_patch.specs.declared.constants.Added.TheVariants.{Text, Class, NameAndType, Field, Method, Integer}
+use Rattle.offset_patch.specs.Added.{const_of}
+use Rattle.offset_patch.specs.Entries.{same, Placed, placed, place_of, entry, text, class, name_and_type, state_name, variable_name, variable_type, wanted}
+use Rattle.offset_patch.proofs.Same.{same_self}
 
 -- the first that passes stays the first
 pub place_stays : {X : Type 0} (p : X → Bool) (at : ℕ) (xs ys : List X) (i : ℕ) → position_from p at xs ≡ Some i → position_from p at (xs ++ ys) ≡ Some i
@@ -39,6 +41,10 @@ pub record IsSteady (f : List Const → Placed) : Type 0 where
   pub grows : (p : List Const) → (xs : List Const) × ((f p).0 ≡ p ++ xs)
   pub settles : (p : List Const) → f (f p).0 ≡ f p
   pub stays : (p xs : List Const) (i : ℕ) → f p ≡ (p, i) → f (p ++ xs) ≡ (p ++ xs, i)
+
+-- the entry that names what two steps leave, one behind the other
+abbrev pub pair : (ℕ → ℕ → Const) → (List Const → Placed) → (List Const → Placed) → List Const → Placed
+pair make f g p = entry (make (f p).1 (g (f p).0).1) (g (f p).0).0
 
 -- ---- one constant
 
@@ -128,54 +134,38 @@ module _ (f : List Const → Placed) (g : ℕ → List Const → Placed) (first 
 
 -- ---- what blocks want
 
-same_number : (n : ℕ) → (n == n) ≡ true
-same_number n = grind arith
-
-same_integer : (n : ℤ) → int_eq n n ≡ true
-same_integer n = (Decides-int_eq n n).1 refl
-
-same_bytes : (xs : List ℕ) → bytes_eq xs xs ≡ true
-same_bytes [] = refl
-same_bytes (x ∷ xs) = rw (same_number x) (same_bytes xs)
+steady_added : (a : Added) → IsSteady (entry (const_of a))
+steady_added a = steady_entry (const_of a) (same_self a)
 
 pub steady_text : (bytes : List ℕ) → IsSteady (text bytes)
-steady_text bytes = steady_entry (constants.Utf8 bytes) (same_bytes bytes)
+steady_text bytes = steady_added (Text bytes)
 
 pub steady_class_at : (j : ℕ) → IsSteady (entry (constants.Class j))
-steady_class_at j = steady_entry (constants.Class j) (same_number j)
+steady_class_at j = steady_added (Class j)
 
 pub steady_class : (name : List ℕ) → IsSteady (class name)
 steady_class name = steady_then (text name) (λ j. entry (constants.Class j)) (steady_text name) steady_class_at
 
 pub steady_name_and_type_at : (i j : ℕ) → IsSteady (entry (constants.NameAndType i j))
-steady_name_and_type_at i j = steady_entry (constants.NameAndType i j) (rw (same_number i, same_number j) refl)
+steady_name_and_type_at i j = steady_added (NameAndType i j)
 
 pub steady_field_at : (i j : ℕ) → IsSteady (entry (constants.Field i j))
-steady_field_at i j = steady_entry (constants.Field i j) (rw (same_number i, same_number j) refl)
+steady_field_at i j = steady_added (Field i j)
 
 pub steady_method_at : (i j : ℕ) → IsSteady (entry (constants.Method i j))
-steady_method_at i j = steady_entry (constants.Method i j) (rw (same_number i, same_number j) refl)
+steady_method_at i j = steady_added (Method i j)
+
+steady_pair : (make : ℕ → ℕ → Const) → ((i j : ℕ) → IsSteady (entry (make i j))) → (f g : List Const → Placed) → IsSteady f → IsSteady g → IsSteady (pair make f g)
+steady_pair make at f g first second = steady_then f (λ i p. entry (make i (g p).1) (g p).0) first (λ i. steady_then g (λ j. entry (make i j)) second (at i))
 
 pub steady_name_and_type : (name desc : List ℕ) → IsSteady (name_and_type name desc)
-steady_name_and_type name desc =
-    steady_then (text name) (λ i p. entry (constants.NameAndType i (text desc p).1) (text desc p).0) (steady_text name)
-    (λ i. steady_then (text desc) (λ j. entry (constants.NameAndType i j)) (steady_text desc) (steady_name_and_type_at i))
+steady_name_and_type name desc = steady_pair constants.NameAndType steady_name_and_type_at (text name) (text desc) (steady_text name) (steady_text desc)
 
-pub steady_field : (owner name desc : List ℕ) → IsSteady (field owner name desc)
-steady_field owner name desc =
-    steady_then (class owner) (λ i p. entry (constants.Field i (name_and_type name desc p).1) (name_and_type name desc p).0) (steady_class owner)
-    (λ i. steady_then (name_and_type name desc) (λ j. entry (constants.Field i j)) (steady_name_and_type name desc) (steady_field_at i))
-
-pub steady_method : (owner name desc : List ℕ) → IsSteady (method owner name desc)
-steady_method owner name desc =
-    steady_then (class owner) (λ i p. entry (constants.Method i (name_and_type name desc p).1) (name_and_type name desc p).0) (steady_class owner)
-    (λ i. steady_then (name_and_type name desc) (λ j. entry (constants.Method i j)) (steady_name_and_type name desc) (steady_method_at i))
-
-steady_integer : (n : ℤ) → IsSteady (entry (constants.Integer n))
-steady_integer n = steady_entry (constants.Integer n) (same_integer n)
+steady_member : (make : ℕ → ℕ → Const) → ((i j : ℕ) → IsSteady (entry (make i j))) → (owner name desc : List ℕ) → IsSteady (pair make (class owner) (name_and_type name desc))
+steady_member make at owner name desc = steady_pair make at (class owner) (name_and_type name desc) (steady_class owner) (steady_name_and_type name desc)
 
 pub steady_wanted : (want : PoolWant) → IsSteady (wanted want)
 steady_wanted wants.StateClass = steady_class (codes "conspec/State")
-steady_wanted (wants.StateField var is_bool) = steady_field state_name (variable_name var) (variable_type is_bool)
-steady_wanted (wants.Integer n) = steady_integer n
-steady_wanted wants.Exit = steady_method (codes "java/lang/System") (codes "exit") (codes "(I)V")
+steady_wanted (wants.StateField var is_bool) = steady_member constants.Field steady_field_at state_name (variable_name var) (variable_type is_bool)
+steady_wanted (wants.Integer n) = steady_added (Integer n)
+steady_wanted wants.Exit = steady_member constants.Method steady_method_at (codes "java/lang/System") (codes "exit") (codes "(I)V")

@@ -8,7 +8,7 @@ use Rattle.offset_patch.specs.declared.constants.Added.{Added}
 use Rattle.offset_patch.specs.declared.constants.Added.TheVariants.{Text, Class, NameAndType, Field, Method, Integer}
 use Rattle.offset_patch.specs.declared.growth.Growth.{Growth}
 use Rattle.offset_patch.specs.Added.{const_of, with_added, AreNamed}
-use Rattle.offset_patch.specs.Entries.{place_of}
+use Rattle.offset_patch.specs.Entries.{Placed, place_of}
 
 -- the order of the map: by kind, then by what the constant holds
 abbrev pub added_cmp : Added → Added → Ordering
@@ -25,6 +25,10 @@ ArePlaced places pool = (q : Added) → found_at places q ≡ place_of (const_of
 pub record IsGrowth (pool : List Const) (growth : Growth) : Type 0 where
   pub placed : ArePlaced growth.places (with_added pool growth.added)
   pub named : AreNamed pool growth.added
+
+-- A step finds its entry at this place of the pool with what is added, and adds what is not there.
+abbrev pub Finds : (List Const → Placed) → List Const → Growth → Growth → ℕ → Type 0
+Finds step pool old new at = step (with_added pool old.added) ≡ (with_added pool new.added, at)
 
 -- what is added, if anything is
 abbrev pub added_in : Option Growth → List Added

@@ -20,5 +20,5 @@ known_place None want = None
 known_place (Some known) want = known_at known want
 
 -- Each entry that was named is in the pool, and stands where it is noted.
-pub record AreKnown (pool : List Const) (known : Option (BTreeMap PoolWant ℕ)) : Type 0 where
+pub record AreNoted (pool : List Const) (known : Option (BTreeMap PoolWant ℕ)) : Type 0 where
   pub there : (want : PoolWant) (at : ℕ) → known_place known want ≡ Some at → wanted want pool ≡ (pool, at)

@@ -1,9 +1,8 @@
 //! The entries that blocks name, each behind those that it names itself.
 
 ghost use Rattle.std.specs.Prelude.{◌≡◌, ◌+◌, ◌<◌, ◌≤◌, IfOk, OnOk, length};
-ghost use Rattle.offset_patch.specs.Added.{with_added};
 ghost use Rattle.offset_patch.specs.Entries.{text, class, name_and_type, field, method, variable_name, variable_type, wanted};
-ghost use Rattle.offset_patch.specs.Growth.{IsGrowth};
+ghost use Rattle.offset_patch.specs.Growth.{Finds, IsGrowth};
 
 use crate::block::PoolWant;
 use crate::constants::Added;
@@ -35,7 +34,7 @@ pub fn wanted(
     want: PoolWant,
 ) -> Result<u64, NoMemory>
     requires good { IsGrowth pool.now growth.old }
-    ensures is { IfOk result (λ at. wanted want (with_added pool.now growth.old.added) ≡ (with_added pool.now growth.new.added, at)) }
+    ensures is { IfOk result (Finds (wanted want) pool.now growth.old growth.new) }
     ensures good { OnOk result (IsGrowth pool.now growth.new) }
 {
     match want {
@@ -81,8 +80,7 @@ fn field(
     desc: &[u8],
 ) -> Result<u64, NoMemory>
     requires good { IsGrowth pool.now growth.old }
-    ensures is { IfOk result (λ at. field owner.now name.now desc.now (with_added pool.now growth.old.added)
-        ≡ (with_added pool.now growth.new.added, at)) }
+    ensures is { IfOk result (Finds (field owner.now name.now desc.now) pool.now growth.old growth.new) }
     ensures good { OnOk result (IsGrowth pool.now growth.new) }
 {
     let owner = class(alloc, pool, growth, owner)?;
@@ -99,8 +97,7 @@ fn method(
     desc: &[u8],
 ) -> Result<u64, NoMemory>
     requires good { IsGrowth pool.now growth.old }
-    ensures is { IfOk result (λ at. method owner.now name.now desc.now (with_added pool.now growth.old.added)
-        ≡ (with_added pool.now growth.new.added, at)) }
+    ensures is { IfOk result (Finds (method owner.now name.now desc.now) pool.now growth.old growth.new) }
     ensures good { OnOk result (IsGrowth pool.now growth.new) }
 {
     let owner = class(alloc, pool, growth, owner)?;
@@ -116,8 +113,7 @@ fn name_and_type(
     desc: &[u8],
 ) -> Result<u64, NoMemory>
     requires good { IsGrowth pool.now growth.old }
-    ensures is { IfOk result (λ at. name_and_type name.now desc.now (with_added pool.now growth.old.added)
-        ≡ (with_added pool.now growth.new.added, at)) }
+    ensures is { IfOk result (Finds (name_and_type name.now desc.now) pool.now growth.old growth.new) }
     ensures good { OnOk result (IsGrowth pool.now growth.new) }
     ensures below { IfOk result (λ at. at < length pool.now + length growth.new.added) }
     ensures more { OnOk result (length growth.old.added ≤ length growth.new.added) }
@@ -129,7 +125,7 @@ fn name_and_type(
 
 fn class(alloc: Global, pool: &[Const], growth: &mut Growth, name: &[u8]) -> Result<u64, NoMemory>
     requires good { IsGrowth pool.now growth.old }
-    ensures is { IfOk result (λ at. class name.now (with_added pool.now growth.old.added) ≡ (with_added pool.now growth.new.added, at)) }
+    ensures is { IfOk result (Finds (class name.now) pool.now growth.old growth.new) }
     ensures good { OnOk result (IsGrowth pool.now growth.new) }
     ensures below { IfOk result (λ at. at < length pool.now + length growth.new.added) }
 {
@@ -139,7 +135,7 @@ fn class(alloc: Global, pool: &[Const], growth: &mut Growth, name: &[u8]) -> Res
 
 fn text(alloc: Global, pool: &[Const], growth: &mut Growth, bytes: &[u8]) -> Result<u64, NoMemory>
     requires good { IsGrowth pool.now growth.old }
-    ensures is { IfOk result (λ at. text bytes.now (with_added pool.now growth.old.added) ≡ (with_added pool.now growth.new.added, at)) }
+    ensures is { IfOk result (Finds (text bytes.now) pool.now growth.old growth.new) }
     ensures good { OnOk result (IsGrowth pool.now growth.new) }
     ensures below { IfOk result (λ at. at < length pool.now + length growth.new.added) }
     ensures more { OnOk result (length growth.old.added ≤ length growth.new.added) }

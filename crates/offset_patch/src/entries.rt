@@ -34,13 +34,13 @@ impl Model for Entries {
     ghost use Rattle.std.specs.Prelude.{List, IfSome};
     ghost use Rattle.class_codec.specs.declared.tree.Const.{Const};
     ghost use Rattle.offset_patch.specs.Growth.{with_growth, IsGrowth};
-    ghost use Rattle.offset_patch.specs.Known.{AreKnown};
+    ghost use Rattle.offset_patch.specs.Known.{AreNoted};
 
     ghost Value = { List Const };
 
     ghost view = { λ e. with_growth e.items e.growth };
 
-    ghost invariant = { λ e. IfSome e.growth (IsGrowth e.items) × AreKnown (with_growth e.items e.growth) e.known };
+    ghost invariant = { λ e. IfSome e.growth (IsGrowth e.items) × AreNoted (with_growth e.items e.growth) e.known };
 }
 
 impl Entries {

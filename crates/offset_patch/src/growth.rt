@@ -6,7 +6,7 @@ ghost use Rattle.std.specs.Option.{option_or};
 ghost use Rattle.offset_patch.specs.declared.constants.Added.{Added};
 ghost use Rattle.offset_patch.specs.Added.{const_of, with_added, NamesBelow};
 ghost use Rattle.offset_patch.specs.Entries.{same, entry};
-ghost use Rattle.offset_patch.specs.Growth.{found_at, with_growth, ArePlaced, IsGrowth};
+ghost use Rattle.offset_patch.specs.Growth.{found_at, with_growth, ArePlaced, Finds, IsGrowth};
 
 use crate::constants::{Added, added_of};
 use class_codec::Const;
@@ -86,8 +86,7 @@ pub fn entry(
 ) -> Result<u64, NoMemory>
     requires good { IsGrowth pool.now growth.old }
     requires names { NamesBelow (length pool.now + length growth.old.added) wanted }
-    ensures is { IfOk result (λ at. entry (const_of wanted) (with_added pool.now growth.old.added)
-        ≡ (with_added pool.now growth.new.added, at)) }
+    ensures is { IfOk result (Finds (entry (const_of wanted)) pool.now growth.old growth.new) }
     ensures good { OnOk result (IsGrowth pool.now growth.new) }
     ensures below { IfOk result (λ at. at < length pool.now + length growth.new.added) }
     ensures more { OnOk result (length growth.old.added ≤ length growth.new.added) }

@@ -1,5 +1,5 @@
 -- A code with blocks is read as the instructions that were put together.
-use Rattle.std.proofs.Common.{◌≡◌, ℕ, ℤ, ◌+◌, ◌≤◌, ◌<◌, ◌^◌, Bool, true, false, List, [], ◌∷◌, length, Option, Result, Ok, Err, refl, sym, ap, subst, ◌∙◌, FitsSigned, arith}
+use Rattle.std.proofs.Common.{◌≡◌, ℕ, ℤ, ◌+◌, ◌≤◌, ◌<◌, ◌^◌, Bool, true, false, List, [], ◌∷◌, length, Option, Result, Ok, Err, refl, sym, ap, ◌∙◌, FitsSigned, arith}
 use Rattle.std.specs.Prelude.{nat_le}
 use Rattle.std.specs.Int.{w16, w32}
 use Rattle.std.specs.List.{AllByRecursion}
@@ -27,9 +27,10 @@ use Rattle.offset_patch.specs.declared.block.Block.{Block}
 use Rattle.offset_patch.specs.declared.fault.Size.TheVariants as sizes
 use Rattle.offset_patch.specs.declared.fault.SpliceFault.{SpliceFault}
 use Rattle.offset_patch.specs.Fault.{fitted, code_fitted}
-use Rattle.offset_patch.specs.Splicing.{grown, fronts_of, origins_of, catching, operands_needed, room, spliced, table_spliced, code_with, bytes_spliced, code_spliced}
+use Rattle.offset_patch.specs.Splicing.{grown, fronts_of, catching, operands_needed, spliced, table_spliced, code_with, bytes_spliced, code_spliced}
 use Rattle.offset_patch.proofs.CodeFits.{room_is, pool_short, rows_short, written_is}
 use Rattle.offset_patch.proofs.InsnFits.{wants_there, parts_fit}
+use Rattle.class_weaving.proofs.CodeCases.{with_blocks, IsPut, put_cases}
 use Rattle.class_weaving.specs.declared.woven.WovenCode.{WovenCode}
 use Rattle.class_weaving.specs.Woven.{sites_of, locals_of, blocks_put}
 use Rattle.woven_linking.proofs.Aims.{LastAlone, spliced_aims, spliced_ends}
@@ -158,36 +159,35 @@ pub record IsRead (pool : List Const) (method : Method) (code : Code) (locals : 
 pub put_reads : (kinds : List Bool) (plan : Plan) → IsGood kinds plan → (class : List ℕ) (number : ℕ) (pool : List Const) (method : Method) (code : Code) (w : WovenCode) → IsSoundMethod method
     → LastAlone (sites_of plan code.max_locals method) → blocks_put plan class number pool method code (sites_of plan code.max_locals method) ≡ Ok w
     → IsRead pool method code (locals_of plan method) (sites_of plan code.max_locals method) w
-put_reads kinds plan good class number pool method code w sound last e =
-    let locals = locals_of plan method in
-    let sites = sites_of plan code.max_locals method in
-    let all = grown pool sites in
-    let made : Code → WovenCode = λ new. record { code = new; entries = all; origins = origins_of sites } in
-    let one = bind_ok (room class number code locals) (λ fits. code_spliced class number all method code locals sites >>= λ new. Ok (made new)) w e in
-    let two = bind_ok (code_spliced class number all method code locals sites) (λ new. Ok (made new)) w one.2 in
-    let new = two.0 in
-    let is : made new ≡ w = ok_is SpliceFault (made new) w two.2 in
-    let roomy = room_is class number code locals one.1 in
-    let h = made_of class number all method code locals sites new two.1 in
-    let fit = refs_fit kinds plan good code.max_locals method.refs (omega (arith, roomy.1)) in
-    let count : length sites ≡ length method.insns = length-map method.refs (plan.block code.max_locals) ∙ sound.refs in
-    let each = parts_fit all (fronts_of sites) 0 method.insns sites h.short sound.insns fit (wants_there sites pool) in
-    let insns = spliced all method.insns sites in
-    let targets = spliced_aims all method.insns sites count sound.targets last fit in
-    let ends = spliced_ends all method.insns sites count sound.ends last fit in
-    let reads = written_reads insns h.bytes each targets ends h.written in
-    let rows = rows_short class number all method code locals sites new two.1 in
-    let few = (written_is insns h.bytes h.written).0 in
-    let there : code_of new.code ≡ Ok (spliced all method.insns sites) = ap (λ (c : Code). code_of c.code) (sym h.is) ∙ reads in
-    subst (IsRead pool method code locals sites) is (record {
-      fits = fit;
-      entries = refl;
-      insns = there;
-      table = ap (λ (c : Code). c.table) (sym h.is);
-      max_stack = ap (λ (c : Code). c.max_stack) (sym h.is);
-      max_locals = ap (λ (c : Code). c.max_locals) (sym h.is);
-      stack = omega (arith, roomy.0);
-      slots = omega (arith, roomy.1);
-      rows = omega (arith, rows);
-      sound = record { few = omega (arith, few, count_len 0 insns); each = each; targets = targets; ends = ends };
-    })
+put_reads kinds plan good class number pool method code w sound last =
+    put_cases plan class number pool method code (IsRead pool method code (locals_of plan method) (sites_of plan code.max_locals method)) w of_blocks
+  where
+    of_blocks : (new : Code) → IsPut plan class number pool method code new → IsRead pool method code (locals_of plan method) (sites_of plan code.max_locals method) (with_blocks plan pool method code new)
+    of_blocks new put =
+        let locals = locals_of plan method in
+        let sites = sites_of plan code.max_locals method in
+        let all = grown pool sites in
+        let roomy = room_is class number code locals put.0 in
+        let h = made_of class number all method code locals sites new put.1 in
+        let fit = refs_fit kinds plan good code.max_locals method.refs (omega (arith, roomy.1)) in
+        let count : length sites ≡ length method.insns = length-map method.refs (plan.block code.max_locals) ∙ sound.refs in
+        let each = parts_fit all (fronts_of sites) 0 method.insns sites h.short sound.insns fit (wants_there sites pool) in
+        let insns = spliced all method.insns sites in
+        let targets = spliced_aims all method.insns sites count sound.targets last fit in
+        let ends = spliced_ends all method.insns sites count sound.ends last fit in
+        let reads = written_reads insns h.bytes each targets ends h.written in
+        let rows = rows_short class number all method code locals sites new put.1 in
+        let few = (written_is insns h.bytes h.written).0 in
+        let there : code_of new.code ≡ Ok (spliced all method.insns sites) = ap (λ (c : Code). code_of c.code) (sym h.is) ∙ reads in
+        record {
+          fits = fit;
+          entries = refl;
+          insns = there;
+          table = ap (λ (c : Code). c.table) (sym h.is);
+          max_stack = ap (λ (c : Code). c.max_stack) (sym h.is);
+          max_locals = ap (λ (c : Code). c.max_locals) (sym h.is);
+          stack = omega (arith, roomy.0);
+          slots = omega (arith, roomy.1);
+          rows = omega (arith, rows);
+          sound = record { few = omega (arith, few, count_len 0 insns); each = each; targets = targets; ends = ends };
+        }

@@ -1,9 +1,8 @@
 -- What weaving keeps of a class file: all but codes. The constants that it adds stand behind the others, and none of them
 -- is a string.
-use Rattle.std.proofs.Common.{◌≡◌, ℕ, suc, Bool, true, false, List, [], ◌∷◌, ◌++◌, length, map, Option, Some, None, Ok, refl, sym, ap, subst, ◌∙◌, append_assoc, append-nil}
-use Rattle.std.specs.Prelude.{slice_get, if◌then◌else◌, codes, ⊤}
+use Rattle.std.proofs.Common.{◌≡◌, ℕ, suc, List, [], ◌∷◌, ◌++◌, length, map, Option, Some, None, Ok, refl, sym, ap, subst, ◌∙◌, append_assoc, append-nil}
+use Rattle.std.specs.Prelude.{slice_get, codes, ⊤}
 use Rattle.std.specs.List.{AllByRecursion, filter_map}
-use Rattle.mon_base.specs.Reading.{◌>>=◌}
 use Rattle.mon_base.proofs.Reading.{bind_ok, ok_is}
 use Rattle.class_codec.specs.declared.tree.Attr.{Attr}
 use Rattle.class_codec.specs.declared.tree.Attr.TheVariants as attributes
@@ -18,18 +17,18 @@ use Rattle.bytecode_model.specs.declared.program.Program.{Program}
 use Rattle.bytecode_model.specs.Conditions.{codes_of, code_in}
 use Rattle.bytecode_model.proofs.Lists.{all_append}
 use Rattle.offset_patch.specs.Plan.{Plan}
-use Rattle.offset_patch.specs.declared.block.Block.{Block}
 use Rattle.offset_patch.specs.declared.block.PoolWant.{PoolWant}
 use Rattle.offset_patch.specs.declared.block.PoolWant.TheVariants as wants
 use Rattle.offset_patch.specs.declared.fault.SpliceFault.{SpliceFault}
 use Rattle.offset_patch.specs.Entries.{placed, place_of, entry, text, class, name_and_type, state_name, variable_name, variable_type, wanted, with_wants}
-use Rattle.offset_patch.specs.Splicing.{wants_of, grown, origins_of, room, code_spliced}
+use Rattle.offset_patch.specs.Splicing.{wants_of}
+use Rattle.class_weaving.proofs.CodeCases.{code_cases}
 use Rattle.class_weaving.specs.State.{state_file}
 use Rattle.conspec_tree.specs.declared.types.Var.{Var}
 use Rattle.class_weaving.specs.declared.woven.WovenCode.{WovenCode}
 use Rattle.class_weaving.specs.declared.woven.Members.{Members}
 use Rattle.class_weaving.specs.declared.woven.Woven.{Woven}
-use Rattle.class_weaving.specs.Woven.{folded, is_woven, sites_of, locals_of, clients_from, blocks_put, code_woven, first_code, attr_with, member_with, bare_put, code_put, body_woven, member_woven, members_woven, none_made, file_with, file_put, class_woven, classes_woven, state_put, woven}
+use Rattle.class_weaving.specs.Woven.{folded, sites_of, code_woven, first_code, attr_with, member_with, bare_put, code_put, body_woven, member_woven, members_woven, none_made, file_with, file_put, class_woven, classes_woven, state_put, woven}
 use Rattle.class_weaving.specs.Outcome.{Each, IsWovenAttr, IsWovenMember}
 
 -- ---- a pool that grew
@@ -141,20 +140,8 @@ pub record IsNext (made next : Members) (member : Member) : Type 0 where
   pub kept : IsKeptMember member item
 
 code_longer : (plan : Plan) (class : List ℕ) (number : ℕ) (pool : List Const) (m : Method) (code : Code) (w : WovenCode) → code_woven plan class number pool m code ≡ Ok w → IsLonger pool w.entries
-code_longer plan class number pool m code w e = by (is_woven plan m) e where
-  sites : List (Option Block)
-  sites = sites_of plan code.max_locals m
-
-  by : (b : Bool) → (if b then blocks_put plan class number pool m code sites else Ok (record { code = code; entries = pool; origins = clients_from 0 m.insns })) ≡ Ok w → IsLonger pool w.entries
-  by true e =
-      let locals = locals_of plan m in
-      let made : Code → WovenCode = λ new. record { code = new; entries = grown pool sites; origins = origins_of sites } in
-      let one = bind_ok (room class number code locals) (λ fits. code_spliced class number (grown pool sites) m code locals sites >>= λ new. Ok (made new)) w e in
-      let two = bind_ok (code_spliced class number (grown pool sites) m code locals sites) (λ new. Ok (made new)) w one.2 in
-      subst (λ (x : WovenCode). IsLonger pool x.entries) (ok_is SpliceFault (made two.0) w two.2) (wants_longer (wants_of sites) pool)
-  by false e =
-      let same : WovenCode = record { code = code; entries = pool; origins = clients_from 0 m.insns } in
-      subst (λ (x : WovenCode). IsLonger pool x.entries) (ok_is SpliceFault same w e) (same_pool pool)
+code_longer plan class number pool m code w =
+    code_cases plan class number pool m code (λ x. IsLonger pool x.entries) w (λ some new put. wants_longer (wants_of (sites_of plan code.max_locals m)) pool) (λ none. same_pool pool)
 
 bare_next : (made next : Members) (member : Member) → bare_put made member ≡ next → IsNext made next member
 bare_next made next member is =

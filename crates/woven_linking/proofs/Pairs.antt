@@ -1,9 +1,9 @@
 -- Two lists whose items belong together, and what lists link to, item by item.
 use Rattle.std.proofs.Common.{◌≡◌, ℕ, ◌+◌, List, [], ◌∷◌, ◌++◌, Ok, refl, subst}
-use Rattle.mon_base.specs.Reading.{◌>>=◌}
-use Rattle.mon_base.proofs.Reading.{bind_ok, ok_is}
+use Rattle.mon_base.proofs.Reading.{ok_is}
 use Rattle.class_linking.specs.declared.fault.LinkFault.{LinkFault}
 use Rattle.class_linking.specs.Fault.{Linked, linked_from}
+use Rattle.class_linking.proofs.Loop.{first_linked}
 use Rattle.class_weaving.specs.Outcome.{Each}
 
 pub each_as : {X Y : Type 0} (P Q : X → Y → Type 0) → ((x : X) (y : Y) → P x y → Q x y) → (xs : List X) (ys : List Y) → Each P xs ys → Each Q xs ys
@@ -17,14 +17,6 @@ each_append P [] xs' [] ys' h h' = h'
 each_append P [] xs' (y ∷ ys) ys' h h' = absurd h
 each_append P (x ∷ xs) xs' [] ys' h h' = absurd h
 each_append P (x ∷ xs) xs' (y ∷ ys) ys' h h' = (h.0, each_append P xs xs' ys ys' h.1 h')
-
--- what is linked of a first item and the others
-pub first_linked : {X Y : Type 0} (one : ℕ → X → Linked Y) (at : ℕ) (x : X) (xs : List X) (ys : List Y) → linked_from one at (x ∷ xs) ≡ Ok ys
-    → (y : Y) × (zs : List Y) × (one at x ≡ Ok y) × (linked_from one (at + 1) xs ≡ Ok zs) × (y ∷ zs ≡ ys)
-first_linked one at x xs ys e =
-    let a = bind_ok (one at x) (λ y. linked_from one (at + 1) xs >>= λ zs. Ok (y ∷ zs)) ys e in
-    let b = bind_ok (linked_from one (at + 1) xs) (λ zs. Ok (a.0 ∷ zs)) ys a.2 in
-    (a.0, b.0, a.1, b.1, ok_is LinkFault (a.0 ∷ b.0) ys b.2)
 
 -- Each item is linked to its own, wherever it stands.
 pub each_linked : {X Y : Type 0} (one : ℕ → X → Linked Y) (P : X → Y → Type 0) → ((at : ℕ) (x : X) (y : Y) → one at x ≡ Ok y → P x y) → (at : ℕ) (xs : List X) (ys : List Y)

@@ -22,7 +22,8 @@ use Rattle.conspec_tree.specs.declared.types.Var.{Var}
 use Rattle.class_weaving.specs.State.{values_from, state_file}
 use Rattle.class_weaving.specs.Outcome.{Each}
 use Rattle.woven_linking.proofs.Kept.{IsLonger, IsPlain, IsKeptMember, same_member, IsKept}
-use Rattle.woven_linking.proofs.Texts.{utf8_on, text_on, class_on}
+use Rattle.offset_patch.proofs.PoolFits.{utf8_on}
+use Rattle.woven_linking.proofs.Texts.{text_on, class_on}
 
 -- ---- names
 

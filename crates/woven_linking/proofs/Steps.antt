@@ -1,9 +1,9 @@
 -- What becomes of a method: its member before and after weaving, and what each links to.
-use Rattle.std.proofs.Common.{◌≡◌, ℕ, ◌+◌, ◌<◌, ◌^◌, Bool, true, false, List, [], ◌∷◌, ◌++◌, length, map, Option, Some, None, Result, Ok, Err, refl, sym, ap, subst, ◌∙◌, append-nil, arith}
+use Rattle.std.proofs.Common.{◌≡◌, ℕ, ◌+◌, ◌<◌, ◌^◌, Bool, true, false, List, [], ◌∷◌, ◌++◌, length, map, Option, Some, None, Result, Ok, refl, sym, ap, subst, ◌∙◌, append-nil, arith}
 use Rattle.std.specs.Prelude.{slice_get, bytes_eq, ◌&&◌, if◌then◌else◌, not}
 use Rattle.std.specs.List.{AllByRecursion, Contains, filter_map}
-use Rattle.mon_base.specs.Reading.{◌>>=◌, need}
-use Rattle.mon_base.proofs.Reading.{bind_ok, ok_is, need_ok}
+use Rattle.mon_base.specs.Reading.{◌>>=◌}
+use Rattle.mon_base.proofs.Reading.{bind_ok, ok_is}
 use Rattle.class_codec.specs.declared.tree.Attr.{Attr}
 use Rattle.class_codec.specs.declared.tree.Attr.TheVariants as attributes
 use Rattle.class_codec.specs.declared.tree.ClassFile.{ClassFile}
@@ -16,12 +16,12 @@ use Rattle.insn_codec.specs.declared.insn.Insn.{Insn}
 use Rattle.insn_codec.specs.Reading.{code_of}
 use Rattle.insn_codec.specs.Spelling.{starts_of}
 use Rattle.api_listing.specs.declared.types.Listing.{Listing}
+use Rattle.class_linking.proofs.Parts.{code_parts, method_parts}
 use Rattle.class_linking.specs.declared.fault.LinkFault.{LinkFault}
-use Rattle.class_linking.specs.declared.fault.LinkFault.TheVariants as faults
 use Rattle.bytecode_model.specs.declared.program.Handler.{Handler}
 use Rattle.bytecode_model.specs.declared.program.Method.{Method}
 use Rattle.bytecode_model.specs.declared.program.Target.{Target}
-use Rattle.bytecode_model.specs.Conditions.{codes_of, code_in, is_allowed, overrides, overrides_in, id_of}
+use Rattle.bytecode_model.specs.Conditions.{code_in, is_allowed, overrides, overrides_in, id_of}
 use Rattle.bytecode_model.specs.Heads.{head_of, all_classes, name_of, desc_of, is_static, maker}
 use Rattle.class_linking.specs.Operands.{operand_linked, operand_at, operands_linked}
 use Rattle.bytecode_model.specs.SearchOrder.{Name}
@@ -120,30 +120,21 @@ pub record IsCoded (files : List ClassFile) (listing : Listing) (file : ClassFil
   pub refs : Each (λ (x : Insn) (t : Target). operand_linked files listing file.pool x ≡ Ok t) m.insns m.refs
   pub handlers : Each (IsHandlerOf files listing file.pool (starts_of m.insns)) code.table m.handlers
 
-read_is : (class : List ℕ) (method : ℕ) (r : Result (List Insn) CodeFault) (xs : List Insn) → read_of class method r ≡ Ok xs → r ≡ Ok xs
-read_is class method (Ok ys) xs e = ap Ok (ok_is LinkFault ys xs e)
-read_is class method (Err fault) xs e = absurd cc
-
 pub coded : (files : List ClassFile) (listing : Listing) (file : ClassFile) (at : ℕ) (member : Member) (code : Code) (m : Method) → code_linked files listing file at member code ≡ Ok m
     → IsCoded files listing file member code m
 coded files listing file at member code m e =
     let class = (head_of file).name in
-    let refs_of : List Insn → Result (List Target) LinkFault = operands_linked files listing class file.pool at in
-    let table_of : List Insn → Result (List Handler) LinkFault = λ insns. handlers_linked files listing class file.pool at (length insns) (starts_of insns) code.table in
-    let a = bind_ok (read_of class at (code_of code.code)) (λ insns. refs_of insns >>= λ refs. table_of insns >>= λ handlers. Ok (with_code file member code insns refs handlers)) m e in
-    let b = bind_ok (refs_of a.0) (λ refs. table_of a.0 >>= λ handlers. Ok (with_code file member code a.0 refs handlers)) m a.2 in
-    let c = bind_ok (table_of a.0) (λ handlers. Ok (with_code file member code a.0 b.0 handlers)) m b.2 in
-    let is : with_code file member code a.0 b.0 c.0 ≡ m = ok_is LinkFault (with_code file member code a.0 b.0 c.0) m c.2 in
-    subst (IsCoded files listing file member code) is (record {
+    let parts = code_parts files listing file at member code m e in
+    subst (IsCoded files listing file member code) parts.is (record {
       flags = refl;
       name = refl;
       desc = refl;
       max_stack = refl;
       max_locals = refl;
-      insns = read_is class at (code_of code.code) a.0 a.1;
+      insns = parts.read;
       refs = each_linked (operand_at files listing class file.pool at) (λ (x : Insn) (t : Target). operand_linked files listing file.pool x ≡ Ok t)
-          (λ i x t. told_ok class at i (operand_linked files listing file.pool x) t) 0 a.0 b.0 b.1;
-      handlers = handlers_of files listing class file.pool at (length a.0) (starts_of a.0) code.table c.0 c.1;
+          (λ i x t. told_ok class at i (operand_linked files listing file.pool x) t) 0 parts.insns parts.refs parts.operands;
+      handlers = handlers_of files listing class file.pool at (length parts.insns) (starts_of parts.insns) code.table parts.handlers parts.table;
     })
 
 -- what is linked of a sound code is sound
@@ -168,13 +159,8 @@ pub conditions_of : (files : List ClassFile) (listing : Listing) (file : ClassFi
     → (is_allowed file.pool member ≡ true) × (not (overrides (all_classes listing files) listing (head_of file).name file.pool member) ≡ true)
     × (body_linked files listing file at member (first_code member.attrs) ≡ Ok m)
 conditions_of files listing file at member m e =
-    let class = (head_of file).name in
-    let name = name_of file.pool member in
-    let body = body_linked files listing file at member (slice_get (codes_of member) 0) in
-    let taken = overrides (all_classes listing files) listing class file.pool member in
-    let a = need_ok (is_allowed file.pool member) (faults.Method class name) (λ allowed. need (not taken) (faults.Overrides class name) >>= λ own. body) m e in
-    let b = need_ok (not taken) (faults.Overrides class name) (λ own. body) m a.1 in
-    (a.0, b.0, ap (body_linked files listing file at member) (sym (first_is member.attrs)) ∙ b.1)
+    let parts = method_parts files listing file at member m e in
+    (parts.allowed, parts.own, ap (body_linked files listing file at member) (sym (first_is member.attrs)) ∙ parts.body)
 
 -- ---- one member
 

@@ -1,10 +1,10 @@
 -- The exception table of a code with blocks links to the handlers at their fronts.
-use Rattle.std.proofs.Common.{◌≡◌, ℕ, zero, suc, ◌+◌, ◌<◌, ◌≤◌, Bool, true, false, List, [], ◌∷◌, length, map, Option, Some, None, Result, Ok, refl, ap, subst, ◌∙◌, zero-add, arith}
-use Rattle.std.specs.Prelude.{IfSome, slice_index, nat_lt, ◌==◌, ◌||◌, if◌then◌else◌, option_and_then, ok_or}
+use Rattle.std.proofs.Common.{◌≡◌, ℕ, zero, suc, ◌+◌, ◌<◌, ◌≤◌, Bool, true, false, List, [], ◌∷◌, length, map, Option, Some, None, Result, Ok, refl, ap, ◌∙◌, zero-add, arith}
+use Rattle.std.specs.Prelude.{IfSome, slice_index, nat_lt, ◌==◌, ◌||◌, if◌then◌else◌, option_and_then}
 use Rattle.std.specs.List.{AllByRecursion, position_from}
 use Rattle.std.proofs.lemmas.Bool.Decides.{nat_tests}
 use Rattle.mon_base.specs.Reading.{◌>>=◌}
-use Rattle.mon_base.proofs.Reading.{bind_ok, ok_is, ok_or_ok}
+use Rattle.mon_base.proofs.Reading.{bind_ok, ok_is}
 use Rattle.class_codec.specs.declared.pool.Kind.TheVariants as kinds
 use Rattle.class_codec.specs.declared.tree.ClassFile.{ClassFile}
 use Rattle.class_codec.specs.declared.tree.Const.{Const}
@@ -15,8 +15,8 @@ use Rattle.insn_codec.specs.declared.insn.Insn.{Insn}
 use Rattle.insn_codec.specs.Spelling.{size, starts_from, starts_of}
 use Rattle.insn_codec.proofs.Standing.{size-some}
 use Rattle.api_listing.specs.declared.types.Listing.{Listing}
+use Rattle.class_linking.proofs.Parts.{handler_parts}
 use Rattle.class_linking.specs.declared.fault.LinkFault.{LinkFault}
-use Rattle.class_linking.specs.declared.fault.LinkFault.TheVariants as faults
 use Rattle.class_linking.specs.declared.operand_fault.OperandFault.{OperandFault}
 use Rattle.bytecode_model.specs.declared.program.Handler.{Handler}
 use Rattle.bytecode_model.specs.declared.program.Target.{Target}
@@ -124,20 +124,8 @@ module _ (files : List ClassFile) (listing : Listing) (class : List ℕ) (pool :
 
   handler_of : (entry : TableEntry) (h : Handler) → handler_linked files listing class pool method end starts entry ≡ Ok h → IsHandlerOf files listing pool starts entry h
   handler_of entry h e =
-      let fault = faults.Operand class method end in
-      let made : ℕ → ℕ → ℕ → Option (List ℕ) → Handler = λ from to at catches. record { from = from; to = to; at = at; class = catches } in
-      let a = bind_ok (ok_or (insn_at starts entry.from) fault) (λ from. ok_or (index_at starts entry.to) fault >>= λ to. ok_or (insn_at starts entry.at) fault >>= λ at. caught files listing class pool method end entry.class >>= λ catches. Ok (made from to at catches)) h e in
-      let b = bind_ok (ok_or (index_at starts entry.to) fault) (λ to. ok_or (insn_at starts entry.at) fault >>= λ at. caught files listing class pool method end entry.class >>= λ catches. Ok (made a.0 to at catches)) h a.2 in
-      let d = bind_ok (ok_or (insn_at starts entry.at) fault) (λ at. caught files listing class pool method end entry.class >>= λ catches. Ok (made a.0 b.0 at catches)) h b.2 in
-      let g = bind_ok (caught files listing class pool method end entry.class) (λ catches. Ok (made a.0 b.0 d.0 catches)) h d.2 in
-      let is : made a.0 b.0 d.0 g.0 ≡ h = ok_is LinkFault (made a.0 b.0 d.0 g.0) h g.2 in
-      let one : IsHandlerOf files listing pool starts entry (made a.0 b.0 d.0 g.0) = record {
-        from = ok_or_ok (insn_at starts entry.from) fault a.0 a.1;
-        to = ok_or_ok (index_at starts entry.to) fault b.0 b.1;
-        at = ok_or_ok (insn_at starts entry.at) fault d.0 d.1;
-        class = caught_is end entry.class g.0 g.1;
-      } in
-      subst (IsHandlerOf files listing pool starts entry) is one
+      let parts = handler_parts files listing class pool method end starts entry h e in
+      record { from = parts.from; to = parts.to; at = parts.at; class = caught_is end entry.class h.class parts.catches }
 
   of_handler : (entry : TableEntry) (h : Handler) → IsHandlerOf files listing pool starts entry h → handler_linked files listing class pool method end starts entry ≡ Ok h
   of_handler entry h e = rw (e.from, e.to, e.at, is_caught end entry.class h.class e.class) refl

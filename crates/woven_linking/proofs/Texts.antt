@@ -1,48 +1,24 @@
 -- What indices name stays as the pool grows.
-use Rattle.std.proofs.Common.{◌≡◌, ℕ, true, List, ◌++◌, Option, Some, None, refl, sym, ap, ◌∙◌}
+use Rattle.std.proofs.Common.{◌≡◌, ℕ, true, List, ◌++◌, Option, Some, refl, sym, ap, ◌∙◌}
 use Rattle.std.specs.Prelude.{slice_get}
 use Rattle.bytecode_model.specs.Heads.{text_at, class_at}
 use Rattle.bytecode_model.specs.Operands.{id_at}
 use Rattle.bytecode_model.proofs.Lists.{all_get}
-use Rattle.class_codec.specs.declared.pool.Kind.{Kind}
 use Rattle.class_codec.specs.declared.pool.Kind.TheVariants as kinds
 use Rattle.class_codec.specs.declared.tree.Const.{Const}
 use Rattle.class_codec.specs.declared.tree.Const.TheVariants as constants
 use Rattle.class_codec.specs.Fits.{FitsPool, IsNamed}
-use Rattle.class_codec.specs.Pool.{is_of, is_one_of, names, utf8_at, text_of, class_name_at, class_name_of, both, name_and_type_at, name_and_type_of}
-use Rattle.offset_patch.proofs.PoolFits.{get_on}
-
-one_of : (kind : Kind) (o : Option Const) → is_one_of kind o ≡ true → (c : Const) × ((o ≡ Some c) × (is_of kind c ≡ true))
-one_of kind None e = absurd cc
-one_of kind (Some c) e = (c, (refl, e))
-
-pub utf8_on : (pool more : List Const) (i : ℕ) → names kinds.Utf8 pool i ≡ true → utf8_at (pool ++ more) i ≡ utf8_at pool i
-unfolding names utf8_at
-utf8_on pool more i e =
-    let one = one_of kinds.Utf8 (slice_get pool i) e in
-    ap text_of (get_on pool more i one.0 one.1.0) ∙ sym (ap text_of one.1.0)
+use Rattle.class_codec.specs.Pool.{names, utf8_at, class_name_at, class_name_of, both, name_and_type_at, name_and_type_of}
+use Rattle.offset_patch.proofs.PoolFits.{get_on, utf8_on}
+use Rattle.class_linking.proofs.Constants.{named_one, is_class, is_pair}
 
 pub text_on : (pool more : List Const) (i : ℕ) → names kinds.Utf8 pool i ≡ true → text_at (pool ++ more) i ≡ text_at pool i
 text_on pool more i e = rw (utf8_on pool more i e) refl
 
-is_class : (c : Const) → is_of kinds.Class c ≡ true → (name : ℕ) × (c ≡ constants.Class name)
-is_class (constants.Class name) e = (name, refl)
-is_class (constants.Utf8 text) e = absurd cc
-is_class (constants.Integer n) e = absurd cc
-is_class (constants.Float n) e = absurd cc
-is_class (constants.Long n) e = absurd cc
-is_class (constants.Double n) e = absurd cc
-is_class (constants.Str text) e = absurd cc
-is_class (constants.Field class name) e = absurd cc
-is_class (constants.Method class name) e = absurd cc
-is_class (constants.IMethod class name) e = absurd cc
-is_class (constants.NameAndType name desc) e = absurd cc
-is_class constants.Second e = absurd cc
-
 class_name_on : (pool more : List Const) (i : ℕ) → FitsPool pool → names kinds.Class pool i ≡ true → class_name_at (pool ++ more) i ≡ class_name_at pool i
 unfolding names class_name_at
 class_name_on pool more i fits e =
-    let one = one_of kinds.Class (slice_get pool i) e in
+    let one = named_one kinds.Class (slice_get pool i) e in
     let class = is_class one.0 one.1.1 in
     let there : slice_get pool i ≡ Some (constants.Class class.0) = one.1.0 ∙ ap Some class.1 in
     let named : IsNamed pool (constants.Class class.0) = all_get (IsNamed pool) pool i (constants.Class class.0) fits.named there in
@@ -53,25 +29,11 @@ class_on pool more i fits e = rw (class_name_on pool more i fits e) refl
 
 -- ---- names and descriptors
 
-is_name_and_type : (c : Const) → is_of kinds.NameAndType c ≡ true → (name : ℕ) × (desc : ℕ) × (c ≡ constants.NameAndType name desc)
-is_name_and_type (constants.NameAndType name desc) e = (name, desc, refl)
-is_name_and_type (constants.Class name) e = absurd cc
-is_name_and_type (constants.Utf8 text) e = absurd cc
-is_name_and_type (constants.Integer n) e = absurd cc
-is_name_and_type (constants.Float n) e = absurd cc
-is_name_and_type (constants.Long n) e = absurd cc
-is_name_and_type (constants.Double n) e = absurd cc
-is_name_and_type (constants.Str text) e = absurd cc
-is_name_and_type (constants.Field class name) e = absurd cc
-is_name_and_type (constants.Method class name) e = absurd cc
-is_name_and_type (constants.IMethod class name) e = absurd cc
-is_name_and_type constants.Second e = absurd cc
-
 pub name_and_type_on : (pool more : List Const) (i : ℕ) → FitsPool pool → names kinds.NameAndType pool i ≡ true → name_and_type_at (pool ++ more) i ≡ name_and_type_at pool i
 unfolding names name_and_type_at
 name_and_type_on pool more i fits e =
-    let one = one_of kinds.NameAndType (slice_get pool i) e in
-    let m = is_name_and_type one.0 one.1.1 in
+    let one = named_one kinds.NameAndType (slice_get pool i) e in
+    let m = is_pair one.0 one.1.1 in
     let c = constants.NameAndType m.0 m.1 in
     let there : slice_get pool i ≡ Some c = one.1.0 ∙ ap Some m.2 in
     let named : IsNamed pool c = all_get (IsNamed pool) pool i c fits.named there in

@@ -3,7 +3,6 @@ use Rattle.std.proofs.Common.{◌≡◌, ℕ, suc, ◌+◌, Bool, true, false, L
 use Rattle.std.specs.Prelude.{◌≢◌, slice_get, slice_index, is_some, if◌then◌else◌}
 use Rattle.std.specs.List.{AllByRecursion, enumerate_from, flat_map}
 use Rattle.std.proofs.lemmas.List.{length-append, length-map}
-use Rattle.mon_base.specs.Reading.{◌>>=◌}
 use Rattle.mon_base.proofs.Reading.{bind_ok, ok_is}
 use Rattle.class_codec.specs.declared.tree.ClassFile.{ClassFile}
 use Rattle.class_codec.specs.declared.tree.Code.{Code}
@@ -24,14 +23,16 @@ use Rattle.offset_patch.specs.declared.block.BlockInsn.{BlockInsn}
 use Rattle.offset_patch.specs.declared.block.BlockInsn.TheVariants.{Plain, Byte, Short, Local, Want, Jump, Call}
 use Rattle.bytecode_model.specs.declared.origin.Origin.{Origin}
 use Rattle.offset_patch.specs.declared.fault.SpliceFault.{SpliceFault}
-use Rattle.offset_patch.specs.Splicing.{part_of, fronts_from, aimed, put, parts_from, spliced, grown, origin_of, part_origins, origins_of, room, code_spliced}
+use Rattle.offset_patch.specs.Splicing.{part_of, fronts_from, aimed, put, parts_from, spliced, origin_of, part_origins, origins_of}
+use Rattle.class_weaving.proofs.CodeCases.{IsPut, code_cases}
 use Rattle.class_weaving.specs.declared.woven.WovenCode.{WovenCode}
 use Rattle.class_weaving.specs.declared.woven.Members.{Members}
 use Rattle.class_weaving.specs.declared.woven.Woven.{Woven}
-use Rattle.class_weaving.specs.Woven.{folded, is_woven, sites_of, locals_of, clients_from, blocks_put, code_woven, first_code, bare_put, code_put, body_woven, member_woven, members_woven, none_made, file_with, file_put, class_woven, classes_woven, state_put}
+use Rattle.class_weaving.specs.Woven.{folded, is_woven, sites_of, clients_from, code_woven, first_code, bare_put, code_put, body_woven, member_woven, members_woven, none_made, file_with, file_put, class_woven, classes_woven, state_put}
 use Rattle.class_weaving.specs.Outcome.{Each, insns_woven}
 use Rattle.woven_linking.specs.Origins.{fronts_in, insn_woven, IsOfBlock, IsFrom, AreFrom, MethodIsFrom, with_code, ClassIsFrom, ClassesAreFrom, OriginsAreTrue}
-use Rattle.woven_linking.proofs.Pairs.{each_append, first_linked}
+use Rattle.class_linking.proofs.Loop.{first_linked}
+use Rattle.woven_linking.proofs.Pairs.{each_append}
 use Rattle.woven_linking.proofs.Steps.{conditions_of, coded}
 use Rattle.woven_linking.proofs.Whole.{get_behind, IsOf, program_of}
 use Rattle.class_weaving.specs.State.{state_file}
@@ -175,31 +176,24 @@ module _ (plan : Plan) (pool : List Const) (m : Method) where
 
   code_tells : (class : List ℕ) (number : ℕ) (entries : List Const) (code : Code) (w : WovenCode) → IsSoundMethod m → m.max_locals ≡ code.max_locals
       → code_woven plan class number entries m code ≡ Ok w → MethodIsFrom plan pool m w.origins
-  code_tells class number entries code w sound locals = by (is_woven plan m) refl
+  code_tells class number entries code w sound locals = code_cases plan class number entries m code (λ x. MethodIsFrom plan pool m x.origins) w with_them without
     where
-      by : (b : Bool) → is_woven plan m ≡ b
-          → (if b then blocks_put plan class number entries m code (sites_of plan code.max_locals m) else Ok (record { code = code; entries = entries; origins = clients_from 0 m.insns })) ≡ Ok w
-          → MethodIsFrom plan pool m w.origins
-      by true some e =
-          let all = sites_of plan code.max_locals m in
-          let made : Code → WovenCode = λ new. record { code = new; entries = grown entries all; origins = origins_of all } in
-          let one = bind_ok (room class number code (locals_of plan m)) (λ fits. code_spliced class number (grown entries all) m code (locals_of plan m) all >>= λ new. Ok (made new)) w e in
-          let two = bind_ok (code_spliced class number (grown entries all) m code (locals_of plan m) all) (λ new. Ok (made new)) w one.2 in
-          let told : origins_of (sites_of plan m.max_locals m) ≡ w.origins =
-          ap (λ (n : ℕ). origins_of (sites_of plan n m)) locals ∙ ap (λ (x : WovenCode). x.origins) (ok_is SpliceFault (made two.0) w two.2) in
+      with_them : is_woven plan m ≡ true → (new : Code) → IsPut plan class number entries m code new → MethodIsFrom plan pool m (origins_of (sites_of plan code.max_locals m))
+      with_them some new put =
+          let told = ap (λ (n : ℕ). origins_of (sites_of plan n m)) locals in
           let insns : spliced pool m.insns (sites_of plan m.max_locals m) ≡ insns_woven plan pool m =
           sym (ap (λ (b : Bool). if b then spliced pool m.insns (sites_of plan m.max_locals m) else m.insns) some) in
           let count : length (sites_of plan m.max_locals m) ≡ length m.insns = length-map m.refs (plan.block m.max_locals) ∙ sound.refs in
           subst (AreFrom plan pool m 0 (insns_woven plan pool m)) told
           (subst (λ (xs : List Insn). AreFrom plan pool m 0 xs (origins_of (sites_of plan m.max_locals m))) insns (spliced_tells some count))
-      by false none e =
-          let same : WovenCode = record { code = code; entries = entries; origins = clients_from 0 m.insns } in
-          let told : clients_from 0 m.insns ≡ w.origins = ap (λ (x : WovenCode). x.origins) (ok_is SpliceFault same w e) in
+
+      without : is_woven plan m ≡ false → MethodIsFrom plan pool m (clients_from 0 m.insns)
+      without none =
           let insns : m.insns ≡ insns_woven plan pool m = sym (ap (λ (b : Bool). if b then spliced pool m.insns (sites_of plan m.max_locals m) else m.insns) none) in
           let all = clients_tell none 0 m.insns (λ j x f.
           let n : 0 + j ≡ j = omega arith in
           ap (slice_get m.insns) n ∙ f) in
-          subst (AreFrom plan pool m 0 (insns_woven plan pool m)) told (subst (λ (xs : List Insn). AreFrom plan pool m 0 xs (clients_from 0 m.insns)) insns all)
+          subst (λ (xs : List Insn). AreFrom plan pool m 0 xs (clients_from 0 m.insns)) insns all
 
 -- ---- the methods of a class
 

@@ -1,10 +1,10 @@
 -- Files that were woven link to the program with its blocks.
 use Rattle.std.proofs.Common.{◌≡◌, ℕ, ◌+◌, Bool, true, List, [], ◌∷◌, ◌++◌, length, map, Option, Some, Ok, refl, sym, ap, subst, ◌∙◌, append_assoc, append-nil}
-use Rattle.std.specs.Prelude.{slice_get, ok_or}
+use Rattle.std.specs.Prelude.{slice_get}
 use Rattle.std.specs.List.{AllByRecursion}
 use Rattle.std.proofs.lemmas.List.{length-append, length-map}
 use Rattle.mon_base.specs.Reading.{◌>>=◌}
-use Rattle.mon_base.proofs.Reading.{bind_ok, ok_is, ok_or_ok}
+use Rattle.mon_base.proofs.Reading.{bind_ok, ok_is}
 use Rattle.class_codec.specs.declared.tree.ClassFile.{ClassFile}
 use Rattle.class_codec.specs.declared.tree.Const.{Const}
 use Rattle.class_codec.specs.declared.tree.Member.{Member}
@@ -12,7 +12,6 @@ use Rattle.class_codec.specs.Fits.{CanSpell, FitsMember, FitsPool}
 use Rattle.api_listing.specs.declared.types.ListedClass.{ListedClass}
 use Rattle.api_listing.specs.declared.types.Listing.{Listing}
 use Rattle.class_linking.specs.declared.fault.LinkFault.{LinkFault}
-use Rattle.class_linking.specs.declared.fault.LinkFault.TheVariants as faults
 use Rattle.bytecode_model.specs.declared.program.LinkedClass.{LinkedClass}
 use Rattle.bytecode_model.specs.declared.program.Method.{Method}
 use Rattle.bytecode_model.specs.declared.program.Program.{Program}
@@ -22,7 +21,7 @@ use Rattle.class_linking.specs.ClassConditions.{classes_linked}
 use Rattle.class_linking.specs.Fault.{Linked, linked_from}
 use Rattle.bytecode_model.specs.Heads.{class_at, head_of, heads_of}
 use Rattle.bytecode_model.specs.Operands.{literals_of}
-use Rattle.class_linking.specs.Linking.{method_linked, methods_linked, each_linked, class_with, classes_with, members_of, main_of, assembled}
+use Rattle.class_linking.specs.Linking.{method_linked, methods_linked, each_linked, class_with, classes_with, main_of, assembled}
 use Rattle.bytecode_model.specs.Sound.{IsSoundMethod, IsSoundClass}
 use Rattle.conspec_tree.specs.declared.types.Var.{Var}
 use Rattle.offset_patch.specs.Plan.{Plan, IsGood}
@@ -43,7 +42,8 @@ use Rattle.woven_linking.proofs.Free.{IsFree}
 use Rattle.woven_linking.proofs.Kept.{IsLonger, IsKept, IsFileOf, members_woven_of, file_kept, file_is, files_made}
 use Rattle.woven_linking.proofs.Listed.{listed}
 use Rattle.woven_linking.proofs.Named.{IsAdded}
-use Rattle.woven_linking.proofs.Pairs.{first_linked}
+use Rattle.class_linking.proofs.Loop.{first_linked}
+use Rattle.class_linking.proofs.Parts.{program_parts}
 use Rattle.woven_linking.proofs.Same.{head_kept, literals_kept, main_kept, state_strings}
 use Rattle.woven_linking.proofs.Standing.{IsGoodClass, all_good, state_says, state_head_name}
 use Rattle.woven_linking.proofs.Steps.{one_step}
@@ -213,23 +213,15 @@ pub record IsProgramOf (files : List ClassFile) (listing : Listing) (main : List
 
 pub program_of : (files : List ClassFile) (listing : Listing) (main : List ℕ) (side : Side) (p : Program) → assembled files listing main side ≡ Ok p → IsProgramOf files listing main side p
 program_of files listing main side p e =
-    let built : List (List Method) × List (List ℕ) → ℕ × ℕ → Program = λ members begin. record { classes = classes_with files members.0; listing = listing; literals = members.1; main_class = begin.0; main_method = begin.1 } in
-    let ending : List (List Method) × List (List ℕ) → Linked Program = λ members. ok_or (main_of files main) faults.NoMain >>= λ begin. Ok (built members begin) in
-    let b = bind_ok (classes_linked side (heads_of files) listing.classes files) (λ sound. members_of files listing >>= ending) p e in
-    let c = bind_ok (members_of files listing) ending p b.2 in
-    let d = bind_ok (ok_or (main_of files main) faults.NoMain) (λ begin. Ok (built c.0 begin)) p c.2 in
-    let is : built c.0 d.0 ≡ p = ok_is LinkFault (built c.0 d.0) p d.2 in
-    let pair : List (List Method) → List (List Method) × List (List ℕ) = λ ms. (ms, literals_of files) in
-    let f = bind_ok (each_linked files listing files) (λ ms. Ok (pair ms)) c.0 c.1 in
-    let same : f.0 ≡ c.0.0 = ap (λ (z : List (List Method) × List (List ℕ)). z.0) (ok_is LinkFault (pair f.0) c.0 f.2) in
-    let of = classes_of files listing 0 files c.0.0 (f.1 ∙ ap Ok same) in
-    subst (IsProgramOf files listing main side) is (record {
-      good = b.1;
+    let parts = program_parts files listing main side p e in
+    let of = classes_of files listing 0 files parts.methods parts.each in
+    subst (IsProgramOf files listing main side) parts.is (record {
+      good = parts.good;
       classes = of.0;
       files_are = of.1;
-      begin = (d.0, ok_or_ok (main_of files main) faults.NoMain d.0 d.1);
+      begin = (parts.begin, parts.begins);
       listing_is = refl;
-      literals_are = ap (λ (z : List (List Method) × List (List ℕ)). z.1) (sym (ok_is LinkFault (pair f.0) c.0 f.2));
+      literals_are = refl;
       main_class_is = refl;
       main_method_is = refl;
     })

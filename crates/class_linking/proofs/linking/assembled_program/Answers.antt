@@ -5,12 +5,10 @@ use Rattle.bytecode_model.specs.declared.program.Program.{Program}
 use Rattle.mon_base.specs.Answer.{Fails}
 use Rattle.class_linking.specs.declared.fault.LinkFault.TheVariants as faults
 use Rattle.class_linking.specs.Fault.{Linked}
-use Rattle.bytecode_model.specs.Heads.{heads_of}
-use Rattle.class_linking.specs.ClassConditions.{classes_linked}
 use Rattle.class_linking.specs.Linking.{members_of, main_of}
 use Rattle.bytecode_model.specs.Sound.{IsSound}
 use Rattle.class_linking.proofs.Sound.{is_sound}
-use Rattle.class_linking.proofs.Whole.{ends_members, no_main, is_program, files_back}
+use Rattle.class_linking.proofs.Whole.{asked, ends_members, no_main, is_program, files_back}
 use Rattle.class_linking.proofs.linking.assembled_program.Goals as goal
 
 pub returns-in_err-methods-clause-exact : goal.returns-in_err-methods-clause-exact
@@ -18,11 +16,7 @@ returns-in_err-methods-clause-exact c =
     let files = c.args.files in
     let listing = c.args.listing in
     let side = c.args.side in
-    let heads = c.in_ok-heads.heads in
-    let heads_are : heads ≡ heads_of files = c.in_ok-heads.ensures ∙ c.in_ok-heads_of.ensures ∙ ap heads_of c.as_slice.ensures in
-    let sound : classes_linked side (heads_of files) listing.classes files ≡ Ok tt =
-    ap (λ hs. classes_linked side hs listing.classes files) (sym heads_are) ∙ ap (λ ls. classes_linked side heads ls files) (sym c.as_slice-2.ensures)
-    ∙ ap (λ fs. classes_linked side heads c.as_slice-2.result.now fs) (sym c.as_slice-3.ensures) ∙ c.in_ok-classes_linked.ensures in
+    let sound = asked side files listing.classes _ _ _ _ _ c.in_ok-heads.ensures c.in_ok-heads_of.ensures c.as_slice.ensures c.as_slice-2.ensures c.as_slice-3.ensures c.in_ok-classes_linked.ensures in
     let e = c.in_err-methods.field-0.0 in
     let fails : Fails faults.Memory e (members_of files listing) = subst (λ fs. Fails faults.Memory e (members_of fs listing)) c.as_slice-4.ensures c.in_err-methods.ensures.answers in
     let p = err_from_is_err_and c.from_residual-in_err-methods.result c.from_residual-in_err-methods.ensures.1 in
@@ -33,11 +27,7 @@ returns-in_default-clause-exact c is_told =
     let files = c.args.files in
     let listing = c.args.listing in
     let side = c.args.side in
-    let heads = c.in_ok-heads.heads in
-    let heads_are : heads ≡ heads_of files = c.in_ok-heads.ensures ∙ c.in_ok-heads_of.ensures ∙ ap heads_of c.as_slice.ensures in
-    let sound : classes_linked side (heads_of files) listing.classes files ≡ Ok tt =
-    ap (λ hs. classes_linked side hs listing.classes files) (sym heads_are) ∙ ap (λ ls. classes_linked side heads ls files) (sym c.as_slice-2.ensures)
-    ∙ ap (λ fs. classes_linked side heads c.as_slice-2.result.now fs) (sym c.as_slice-3.ensures) ∙ c.in_ok-classes_linked.ensures in
+    let sound = asked side files listing.classes _ _ _ _ _ c.in_ok-heads.ensures c.in_ok-heads_of.ensures c.as_slice.ensures c.as_slice-2.ensures c.as_slice-3.ensures c.in_ok-classes_linked.ensures in
     let made : members_of files listing ≡ Ok (c.in_ok-methods.methods, c.in_ok-methods.literals) = ap (λ fs. members_of fs listing) (sym c.as_slice-4.ensures) ∙ c.in_ok-methods.ensures.answers in
     let same : main_of c.as_slice-6.result.now c.as_slice-7.result.now ≡ main_of files c.args.main.now = ap (λ fs. main_of fs c.as_slice-7.result.now) c.as_slice-6.ensures ∙ ap (main_of files) c.as_slice-7.ensures in
     let none : main_of files c.args.main.now ≡ None = sym same ∙ sym c.main_of.ensures ∙ c.in_default.is in
@@ -48,11 +38,7 @@ returns-clause-exact c =
     let files = c.args.files in
     let listing = c.args.listing in
     let side = c.args.side in
-    let heads = c.in_ok-heads.heads in
-    let heads_are : heads ≡ heads_of files = c.in_ok-heads.ensures ∙ c.in_ok-heads_of.ensures ∙ ap heads_of c.as_slice.ensures in
-    let sound : classes_linked side (heads_of files) listing.classes files ≡ Ok tt =
-    ap (λ hs. classes_linked side hs listing.classes files) (sym heads_are) ∙ ap (λ ls. classes_linked side heads ls files) (sym c.as_slice-2.ensures)
-    ∙ ap (λ fs. classes_linked side heads c.as_slice-2.result.now fs) (sym c.as_slice-3.ensures) ∙ c.in_ok-classes_linked.ensures in
+    let sound = asked side files listing.classes _ _ _ _ _ c.in_ok-heads.ensures c.in_ok-heads_of.ensures c.as_slice.ensures c.as_slice-2.ensures c.as_slice-3.ensures c.in_ok-classes_linked.ensures in
     let made : members_of files listing ≡ Ok (c.in_ok-methods.methods, c.in_ok-methods.literals) = ap (λ fs. members_of fs listing) (sym c.as_slice-4.ensures) ∙ c.in_ok-methods.ensures.answers in
     let same : main_of c.as_slice-6.result.now c.as_slice-7.result.now ≡ main_of files c.args.main.now = ap (λ fs. main_of fs c.as_slice-7.result.now) c.as_slice-6.ensures ∙ ap (main_of files) c.as_slice-7.ensures in
     let some : main_of files c.args.main.now ≡ Some (c.in-Some.main_class, c.in-Some.main_method) = sym same ∙ sym c.main_of.ensures ∙ c.in-Some.is in

@@ -2,7 +2,7 @@ use Rattle.std.proofs.Common.{◌≡◌, ◌+◌, true, length}
 use Rattle.std.specs.List.{AllByRecursion}
 use Rattle.class_codec.specs.Fits.{FitsMember}
 use Rattle.class_linking.specs.Fault.{linked_from}
-use Rattle.class_linking.specs.Known.{AreKnown}
+use Rattle.class_linking.specs.Known.{AreRemembered}
 use Rattle.class_linking.specs.Linking.{method_linked}
 use Rattle.bytecode_model.specs.Sound.{IsSoundMethod}
 use Rattle.class_linking.proofs.Loop.{with_front}
@@ -14,7 +14,7 @@ invariant-loop-left l = record {
   count : l.number + length l.left ≡ length l.file.methods;
   fits : AllByRecursion (FitsMember l.file.pool true) l.left;
   sound : AllByRecursion IsSoundMethod l.methods.items;
-  known : AreKnown l.index.files l.index.listing l.file.pool l.known;
+  known : AreRemembered l.index.files l.index.listing l.file.pool l.known;
 }
 
 abbrev pub decreases-loop-left : goal.decreases-loop-left
