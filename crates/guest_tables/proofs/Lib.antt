@@ -1,3 +1,4 @@
+pub mod Components
 pub mod GivenClasses
 pub mod Naming
 pub mod Nearest

@@ -1,22 +1,17 @@
 -- Methods by their names and descriptors.
 use Rattle.std.specs.Prelude.{◌≡◌, ℕ, ◌&&◌, bytes_eq, List, [], ◌∷◌, Option, option_and_then, Vec}
 use Rattle.std.specs.List.{position_from}
-use Rattle.std.specs.Ordering.{nat_cmp}
-use Rattle.std.specs.Cmp.Lexicographic.{slice_cmp}
-use Rattle.std.specs.BTreeMap.{BTreeMap, get_by}
+use Rattle.std.specs.BTreeMap.{BTreeMap}
 use Rattle.std.specs.Global.{Global}
 use Rattle.bytecode_model.specs.declared.program.LinkedClass.{LinkedClass}
 use Rattle.bytecode_model.specs.declared.program.Method.{Method}
-
--- what a map has for the name
-abbrev pub named : {X : Type 0} → BTreeMap (Vec ℕ Global) X → List ℕ → Option X
-named names name = get_by (λ (k : Vec ℕ Global). slice_cmp nat_cmp name k.items) names
+use Rattle.type_lattice.specs.ByName.{noted}
 
 abbrev pub Methods : Type 0
 Methods = BTreeMap (Vec ℕ Global) (BTreeMap (Vec ℕ Global) ℕ)
 
 abbrev pub method_in : Methods → List ℕ → List ℕ → Option ℕ
-method_in table name desc = option_and_then (λ (same_name : BTreeMap (Vec ℕ Global) ℕ). named same_name desc) (named table name)
+method_in table name desc = option_and_then (λ (same_name : BTreeMap (Vec ℕ Global) ℕ). noted same_name desc) (noted table name)
 
 -- The table has the first of the methods of each name and descriptor.
 abbrev pub HasMethods : Methods → List Method → Type 0

@@ -1,14 +1,14 @@
 //! Of which classes an object is. (The Java Virtual Machine Specification, section 6.5, checkcast, instanceof and aastore.)
 
 ghost use Rattle.std.specs.Prelude.{◌≡◌};
-ghost use Rattle.guest_model.specs.Kinds.{array_is, class_is, component_is, is_instance, is_kind_of, is_thread, leaf_is};
+ghost use Rattle.guest_model.specs.Kinds.{array_is, class_is, is_instance, is_kind_of, is_thread};
 
 use crate::guest::Guest;
 use bytecode_model::is_array;
 use guest_heap::{Object, Value};
 use guest_model::class_of_value;
 use mon_base::List;
-use type_lattice::{named, reference_of};
+use type_lattice::{Compared, arrays_compared};
 
 /// The class that each other is below, and each array.
 const OBJECT: &[u8] = b"java/lang/Object";
@@ -49,47 +49,9 @@ fn class_is(guest: &Guest, name: &[u8], other: &[u8]) -> bool
 fn array_is(guest: &Guest, from: &[u8], to: &[u8]) -> bool
     ensures { result ≡ array_is guest.now from.now to.now }
 {
-    match from {
-        [] => false,
-        [c, from @ ..] => {
-            match to {
-                [] => false,
-                [d, to @ ..] => *c == b'[' && *d == b'[' && component_is(guest, from, to),
-            }
-        }
-    }
-}
-
-/// The same of components, which may be arrays again.
-fn component_is(guest: &Guest, from: &[u8], to: &[u8]) -> bool
-    ensures { result ≡ component_is guest.now from.now to.now }
-{
-    let mut from = from;
-    let mut to = to;
-    while let [b'[', below @ ..] = from {
-        let [b'[', above @ ..] = to else {
-            return leaf_is(guest, from, to);
-        };
-        from = below;
-        to = above;
-    }
-    leaf_is(guest, from, to)
-}
-
-/// The same component, or one that is a class which is the other.
-fn leaf_is(guest: &Guest, from: &[u8], to: &[u8]) -> bool
-    ensures { result ≡ leaf_is guest.now from.now to.now }
-{
-    if from == to {
-        return true;
-    }
-    match named(to) {
-        None => false,
-        Some(above) => {
-            match reference_of(from) {
-                None => false,
-                Some(below) => class_is(guest, below, above),
-            }
-        }
+    match arrays_compared(from, to) {
+        Compared::Same => true,
+        Compared::Apart => false,
+        Compared::Classes { below, above } => class_is(guest, below, above),
     }
 }

@@ -18,16 +18,18 @@ ghost use Rattle.std.specs.Prelude.{
 };
 ghost use Rattle.guest_model.specs.Ready.{IsReady};
 ghost use Rattle.guest_tables.specs.Arities.{arities_of};
-ghost use Rattle.guest_tables.specs.Methods.{AreMethods, HasMethods, method_in, named};
+ghost use Rattle.guest_tables.specs.Methods.{AreMethods, HasMethods, method_in};
+ghost use Rattle.type_lattice.specs.ByName.{noted};
 
 use crate::arities::arities_of;
 use bytecode_model::{Method, Program};
 use mon_base::{Bytes, List, NoMemory};
 use std::alloc::Global;
 use std::collections::BTreeMap;
+use type_lattice::{ByName, note, noted};
 
 /// The indices of methods by their names, and of those of one name by their descriptors.
-pub type Methods = BTreeMap<Vec<u8>, BTreeMap<Vec<u8>, u32>>;
+pub type Methods = ByName<ByName<u32>>;
 
 /// The methods of each given class by their names and descriptors, and how many arguments each of them takes.
 #[derive(Drop)]
@@ -52,17 +54,7 @@ pub fn method_in(methods: &Methods, name: &[u8], desc: &[u8]) -> Option<u32>
     ensures { result ≡ method_in methods.now name.now desc.now }
 {
     match methods.get(name) {
-        Some(same_name) => index_of(same_name, desc),
-        None => None,
-    }
-}
-
-/// The index that stands by this descriptor.
-fn index_of(same_name: &BTreeMap<Vec<u8>, u32>, desc: &[u8]) -> Option<u32>
-    ensures { result ≡ named same_name.now desc.now }
-{
-    match same_name.get(desc) {
-        Some(index) => Some(*index),
+        Some(same_name) => noted(same_name, desc),
         None => None,
     }
 }
@@ -107,35 +99,18 @@ fn add_method(
         ≡ option_or (method_in methods.old n d) (if bytes_eq name.now n && bytes_eq desc.now d then Some index else None)) }
 {
     let mut same_name = taken(alloc, methods, name.as_slice());
-    add_index(alloc, &mut same_name, desc, index)?;
+    note(alloc, &mut same_name, desc, index)?;
     methods.insert(Vec::from_slice(alloc, name.as_slice())?, same_name)?;
     Ok(())
 }
 
 /// Takes out the methods of this name; none where there are none.
-fn taken(alloc: Global, methods: &mut Methods, name: &[u8]) -> BTreeMap<Vec<u8>, u32>
-    ensures was { (d : List ℕ) → named result d ≡ method_in methods.old name.now d }
-    ensures left { (q : List ℕ) → named methods.new q ≡ (if bytes_eq name.now q then None else named methods.old q) }
+fn taken(alloc: Global, methods: &mut Methods, name: &[u8]) -> ByName<u32>
+    ensures was { (d : List ℕ) → noted result d ≡ method_in methods.old name.now d }
+    ensures left { (q : List ℕ) → noted methods.new q ≡ (if bytes_eq name.now q then None else noted methods.old q) }
 {
     match methods.remove(name) {
         Some(same_name) => same_name,
         None => BTreeMap::new(alloc),
     }
-}
-
-/// Notes the index by this descriptor, if that is new.
-fn add_index(
-    alloc: Global,
-    same_name: &mut BTreeMap<Vec<u8>, u32>,
-    desc: &Bytes,
-    index: u32,
-) -> Result<(), NoMemory>
-    ensures { OnOk result ((d : List ℕ) → named same_name.new d
-        ≡ option_or (named same_name.old d) (if bytes_eq desc.now d then Some index else None)) }
-{
-    if !same_name.contains_key(desc.as_slice()) {
-        let desc = Vec::from_slice(alloc, desc.as_slice())?;
-        same_name.insert(desc, index)?;
-    }
-    Ok(())
 }

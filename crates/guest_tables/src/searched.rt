@@ -1,7 +1,7 @@
 //! The classes in which the members of each class are looked for, told once, so that it takes no memory to ask for one of them.
 //! (The Java Virtual Machine Specification, section 5.4.3.)
 
-ghost use Rattle.std.specs.Prelude.{Bool, IfOk, OnOk, [], filter_map, ◌++◌, ◌∷◌, ◌==◌, ◌≡◌, ℕ};
+ghost use Rattle.std.specs.Prelude.{IfOk, OnOk, filter_map, ◌++◌, ◌∷◌, ◌==◌, ◌≡◌, ℕ};
 ghost use Rattle.std.specs.List.{list_any};
 ghost use Rattle.bytecode_model.specs.Classes.{classes_of};
 ghost use Rattle.bytecode_model.specs.SearchOrder.{Name};
@@ -14,27 +14,16 @@ use api_listing::ListedClass;
 use class_index::{Classes, search_order};
 use mon_base::{Bytes, List, NoMemory};
 use std::alloc::Global;
-use type_lattice::Indexed;
+use type_lattice::{Indexed, classes_of};
 
 /// Of each class that names interfaces itself the places of those in which its members are looked for.
 pub fn rows_of(alloc: Global, program: &Indexed) -> Result<List<List<u32>>, NoMemory>
     requires { IsReady program.now }
     ensures { IfOk result (λ rows. rows ≡ rows_of program.now) }
 {
-    let classes = copied(alloc, program.classes())?;
+    let classes = classes_of(alloc, program.program())?;
     let classes = Classes::new(alloc, classes)?;
     rows_among(alloc, program, &classes)
-}
-
-/// A copy of the classes.
-fn copied(alloc: Global, classes: &[ListedClass]) -> Result<List<ListedClass>, NoMemory>
-    ensures { IfOk result (λ copies. copies ≡ classes.now) }
-{
-    let mut copies = List::new(alloc);
-    for class in classes {
-        copies.push(class.copy(alloc)?)?;
-    }
-    Ok(copies)
 }
 
 /// The same of these classes, which are those of the program.

@@ -1,23 +1,25 @@
 -- What is sent from an instruction.
-use Rattle.std.proofs.Common.{◌≡◌, ℕ, ◌<◌, ◌≤◌, true, length, Option, Some, None, refl, sym, ap, subst, ◌∙◌, inl, inr, arith}
+use Rattle.std.proofs.Common.{◌≡◌, ℕ, ◌<◌, ◌≤◌, true, List, [], ◌∷◌, ◌++◌, length, Option, Some, None, refl, sym, ap, subst, ◌∙◌, inl, inr, arith}
 use Rattle.std.specs.Prelude.{Contains, slice_get, option_map}
-use Rattle.std.proofs.lemmas.List.Elements.{Contains-append_cases}
+use Rattle.std.proofs.lemmas.List.Elements.{Contains-append_cases, Contains-append_left, Contains-append_right}
 use Rattle.std.proofs.lemmas.Option.{slice_get-get_or}
 use Rattle.cert_format.specs.declared.typing.FrameType.{FrameType}
 use Rattle.insn_codec.specs.declared.insn.Insn.{Insn}
 use Rattle.insn_codec.specs.declared.insn.Insn.TheVariants as insns
-use Rattle.insn_codec.specs.Control.{successors, jump_targets}
+use Rattle.insn_codec.specs.Control.{successors}
 use Rattle.bytecode_model.specs.declared.program.Handler.{Handler}
 use Rattle.bytecode_model.specs.declared.program.Method.{Method}
 use Rattle.bytecode_model.specs.declared.program.Program.{Program}
 use Rattle.bytecode_model.specs.Order.{IsInOrder}
-use Rattle.code_typing.specs.Order.{IsAloneMet}
 use Rattle.bytecode_model.specs.Place.{Place}
 use Rattle.bytecode_model.specs.Rules.{Frames, frame_of, covers}
 use Rattle.bytecode_model.specs.Typed.{place_at}
-use Rattle.type_infer.specs.Solving.{Scope, State, IsReady, place_of, put, AreFound, RowIsMet, StaysFound, IsSent, Left, IsKept, IsOfHeight, IsRaisedBy, Grows, HasGone, IsDone, left_by, next_of, thrown_to}
-use Rattle.type_infer.proofs.Flowing.{Laws, some_one, Fits, is_under, left_fits, thrown_fits, place_is, insn_there}
-use Rattle.type_infer.proofs.Staying.{successor_within, handler_within}
+use Rattle.type_infer.specs.Laws.{Laws}
+use Rattle.type_infer.specs.Sending.{AreSuccessors, KeepsOld, RaisesLeft, RaisesThrown, Sends, SendsTo, ThrowsTo, ThrowsToAll}
+use Rattle.type_infer.specs.Solving.{Scope, State, IsReady, place_of, put, AreFound, RowIsMet, StaysFound, IsSent, Left, IsKept, IsRaisedBy, Grows, HasGone, IsDone, left_by, thrown_to}
+use Rattle.type_infer.proofs.Flowing.{some_one, Fits, is_under, left_fits, thrown_fits, place_is, insn_there}
+use Rattle.type_infer.proofs.Kept.{among_first}
+use Rattle.type_infer.proofs.Staying.{successor_within, handler_within, none_of, one_of}
 use Rattle.type_infer.proofs.Stepping.{gone_grows, grows_over, is_place, put_grows, put_found, has_gone, of_height}
 
 module _ (scope : Scope) (ready : IsReady scope) where
@@ -39,7 +41,7 @@ module _ (scope : Scope) (ready : IsReady scope) where
 module _ (scope : Scope) (laws : Laws scope.program) (old : State) (at : ℕ) (place : Place) (here : place_of scope at ≡ Some place) (low : FrameType) (is : frame_of old.frames at ≡ Some low)
     (to : ℕ) (there : Place) (placed : place_of scope to ≡ Some there) (told : Option FrameType) where
   pub put_kept : length old.frames ≡ length scope.method.insns → length old.marks ≡ length scope.method.insns
-      → (IsInOrder place.program → IsKept place.program (frame_of old.frames to) told) → Grows scope.program old (put old to told)
+      → KeepsOld place (frame_of old.frames to) told → Grows scope.program old (put old to told)
   put_kept f m k =
       let p = place_is scope at place here in
       let within = is_place scope laws to there placed in
@@ -48,12 +50,7 @@ module _ (scope : Scope) (laws : Laws scope.program) (old : State) (at : ℕ) (p
 
   -- ---- to another instruction
 
-  abbrev LeftIsRaised : Type 0
-  LeftIsRaised =
-      IsInOrder place.program → IsAloneMet place low → IsOfHeight (frame_of old.frames to) (length (left_by place low).operands)
-      → IsRaisedBy there (frame_of old.frames to) (left_by place low) told
-
-  module _ (raised : LeftIsRaised) (c : Contains (successors at place.insn) to) where
+  module _ (raised : RaisesLeft place low there (frame_of old.frames to) told) (c : Contains (successors at place.insn) to) where
     left_raised : (above : Frames) → RowIsMet scope above at → AreFound scope above old
         → Fits scope laws above to (left_by place low) × IsRaisedBy there (frame_of old.frames to) (left_by place low) told
     left_raised above row found =
@@ -76,12 +73,7 @@ module _ (scope : Scope) (laws : Laws scope.program) (old : State) (at : ℕ) (p
     (handler : Handler) (there : Place) (placed : place_of scope handler.at ≡ Some there) (told : Option FrameType) where
   -- ---- to a handler
 
-  abbrev ThrownIsRaised : Type 0
-  ThrownIsRaised =
-      IsInOrder place.program → length low.locals ≤ place.method.max_locals → 1 ≤ place.method.max_stack → IsOfHeight (frame_of old.frames handler.at) 1
-      → IsRaisedBy there (frame_of old.frames handler.at) (thrown_to handler place low) told
-
-  module _ (raised : ThrownIsRaised) (c : Contains scope.method.handlers handler) (covered : covers at handler ≡ true) where
+  module _ (raised : RaisesThrown handler place low there (frame_of old.frames handler.at) told) (c : Contains scope.method.handlers handler) (covered : covers at handler ≡ true) where
     thrown_raised : (above : Frames) → RowIsMet scope above at → AreFound scope above old
         → Fits scope laws above handler.at (thrown_to handler place low) × IsRaisedBy there (frame_of old.frames handler.at) (thrown_to handler place low) told
     thrown_raised above row found =
@@ -115,48 +107,89 @@ module _ (scope : Scope) (laws : Laws scope.program) (at : ℕ) (old middle new 
   pub sent_after : (to : ℕ) (left : Place → FrameType → Left) → StaysFound scope at old middle → IsSent scope at to left middle new → IsSent scope at to left old new
   sent_after to left first sent above row found = sent above row (first above row found)
 
+-- ---- what a call sends
+
+module _ (scope : Scope) (laws : Laws scope.program) (place : Place) where
+  -- all stays as it is
+  pub sends_nothing : (may gone : Type 0) (state : State) → (may → gone) → Sends scope place.at may gone state state
+  sends_nothing may gone state sent = record {
+    grows = record { raised = λ at low is. (low, (is, laws.itself low)); unmarked = λ at e. (e, refl) };
+    found = λ m above row found. found;
+    sent = sent;
+  }
+
+  -- an instruction that is not reached leaves and throws nothing
+  pub unreached : (to : ℕ) (left : Place → FrameType → Left) (state : State) → frame_of state.frames place.at ≡ None → IsSent scope place.at to left state state
+  unreached to left state none above row found unmarked from frame there is =
+      let h : None ≡ Some frame = sym none ∙ is in
+      absurd cc
+
+  pub sends_nowhere : (state : State) → SendsTo scope place [] state state
+  sends_nowhere state = sends_nothing (AreSuccessors place []) _ state (λ may to among. absurd (none_of to among))
+
+  pub sends_over : (xs ys : List ℕ) (old middle new : State) → SendsTo scope place xs old middle → SendsTo scope place ys middle new → SendsTo scope place (xs ++ ys) old new
+  sends_over xs ys old middle new first second = record {
+    grows = grows_over scope.program laws.itself laws.over old middle new first.grows second.grows;
+    found = λ may. stays_over scope laws place.at old middle new (first.found (front may)) (second.found (behind may));
+    sent = λ may to among.
+        elim (Contains-append_cases xs ys to among) [
+          | inl earlier ↦ sent_before scope laws place.at old middle new to left_by (first.sent (front may) to earlier) second.grows
+          | inr later ↦ sent_after scope laws place.at old middle new to left_by (first.found (front may)) (second.sent (behind may) to later)
+        ];
+  } where
+    front : AreSuccessors place (xs ++ ys) → AreSuccessors place xs
+    front may to among = may to (Contains-append_left xs ys to among)
+
+    behind : AreSuccessors place (xs ++ ys) → AreSuccessors place ys
+    behind may to among = may to (Contains-append_right xs ys to among)
+
+  module _ (old : State) (here : place_of scope place.at ≡ Some place) (low : FrameType) (is : frame_of old.frames place.at ≡ Some low)
+      (frames : length old.frames ≡ length scope.method.insns) (marks : length old.marks ≡ length scope.method.insns) (there : Place) (told : Option FrameType) where
+    pub left_sends : (to : ℕ) → place_of scope to ≡ Some there → KeepsOld place (frame_of old.frames to) told → RaisesLeft place low there (frame_of old.frames to) told
+        → SendsTo scope place (to ∷ []) old (put old to told)
+    left_sends to placed kept raised = record {
+      grows = put_kept scope laws old place.at place here low is to there placed told frames marks kept;
+      found = λ may. left_stays scope laws old place.at place here low is to there placed told raised (may to (among_first to []));
+      sent = λ may other among.
+          subst (λ (n : ℕ). IsSent scope place.at n left_by old (put old to told)) (one_of to other among)
+          (left_sent scope laws old place.at place here low is to there placed told raised (may to (among_first to [])));
+    }
+
+    pub thrown_sends : (handler : Handler) → place_of scope handler.at ≡ Some there → KeepsOld place (frame_of old.frames handler.at) told
+        → RaisesThrown handler place low there (frame_of old.frames handler.at) told → covers place.at handler ≡ true → ThrowsTo scope place handler old (put old handler.at told)
+    thrown_sends handler placed kept raised covered = record {
+      grows = put_kept scope laws old place.at place here low is handler.at there placed told frames marks kept;
+      found = λ among. thrown_stays scope laws old place.at place here low is handler there placed told raised among covered;
+      sent = λ among passes. thrown_sent scope laws old place.at place here low is handler there placed told raised among covered;
+    }
+
 -- ---- all that an instruction leaves and throws
 
-module _ (scope : Scope) (laws : Laws scope.program) (at : ℕ) (place : Place) (there : place_of scope at ≡ Some place) (old first second new : State) where
-  -- What each of the three steps does: on, to the targets of jumps, and to the handlers.
-  pub record AreSent : Type 0 where
-    pub on_stays : StaysFound scope place.at old first
-    pub on_sent : (to : ℕ) → Contains (next_of place.at place.insn) to → IsSent scope place.at to left_by old first
-    pub jumps_grow : Grows scope.program first second
-    pub jumps_stay : StaysFound scope place.at first second
-    pub jumps_sent : (to : ℕ) → Contains (jump_targets place.insn) to → IsSent scope place.at to left_by first second
-    pub throws_grow : Grows scope.program second new
-    pub throws_sent : (handler : Handler) → Contains scope.method.handlers handler → covers place.at handler ≡ true → IsSent scope place.at handler.at (thrown_to handler) second new
+module _ (scope : Scope) (laws : Laws scope.program) (at : ℕ) (place : Place) (there : place_of scope at ≡ Some place) (old second new : State)
+    (lefts : SendsTo scope place (successors place.at place.insn) old second) (throws : ThrowsToAll scope place second new) where
+  same : place.at ≡ at
+  same = (place_is scope at place there).2
 
-  module _ (s : AreSent) (above : Frames) (row : RowIsMet scope above at) (found : AreFound scope above old) where
-    same : place.at ≡ at
-    same = (place_is scope at place there).2
+  pub whole_grows : Grows scope.program old new
+  whole_grows = grows_over scope.program laws.itself laws.over old second new lefts.grows throws.grows
 
+  pub whole_stays : StaysFound scope at old new
+  whole_stays =
+      subst (λ (n : ℕ). StaysFound scope n old new) same (stays_over scope laws place.at old second new (lefts.found (λ to among. among)) (throws.found tt))
+
+  module _ (above : Frames) (row : RowIsMet scope above at) (found : AreFound scope above old) where
     to_here : (to : ℕ) (left : Place → FrameType → Left) → IsSent scope place.at to left old new → HasGone scope new at to left
     to_here to left sent =
         subst (λ (n : ℕ). HasGone scope new n to left) same (sent above (subst (RowIsMet scope above) (sym same) row) found)
 
-    on_grows : Grows scope.program first new
-    on_grows = grows_over scope.program laws.itself laws.over first second new s.jumps_grow s.throws_grow
-
-    left_gone : (to : ℕ) → Contains (successors at place.insn) to → HasGone scope new at to left_by
-    left_gone to c =
-        elim (Contains-append_cases (next_of at place.insn) (jump_targets place.insn) to c) [
-          | inl on ↦
-              to_here to left_by
-              (sent_before scope laws place.at old first new to left_by (s.on_sent to (subst (λ (n : ℕ). Contains (next_of n place.insn) to) (sym same) on)) on_grows)
-          | inr jump ↦
-              to_here to left_by
-              (sent_before scope laws place.at old second new to left_by (sent_after scope laws place.at old first second to left_by s.on_stays (s.jumps_sent to jump)) s.throws_grow)
-        ]
-
     pub all_done : IsDone scope new at
     all_done = record {
-      goes = λ other is to c.
+      goes = λ other is to among.
           let one : place ≡ other = some_one place other (sym there ∙ is) in
-          left_gone to (subst (λ (p : Place). Contains (successors at p.insn) to) (sym one) c);
-      throws = λ handler c covered.
+          let from = subst (λ (n : ℕ). Contains (successors n place.insn) to) (sym same) (subst (λ (p : Place). Contains (successors at p.insn) to) (sym one) among) in
+          to_here to left_by (sent_before scope laws place.at old second new to left_by (lefts.sent (λ to among. among) to from) throws.grows);
+      throws = λ handler among covered.
           to_here handler.at (thrown_to handler)
-          (sent_after scope laws place.at old second new handler.at (thrown_to handler) (stays_over scope laws place.at old first second s.on_stays s.jumps_stay)
-          (s.throws_sent handler c (subst (λ (n : ℕ). covers n handler ≡ true) (sym same) covered)));
+          (sent_after scope laws place.at old second new handler.at (thrown_to handler) (lefts.found (λ to among. among))
+          (throws.sent tt handler among (subst (λ (n : ℕ). covers n handler ≡ true) (sym same) covered)));
     }

@@ -23,41 +23,14 @@ use Rattle.bytecode_model.specs.declared.program.Program.{Program}
 use Rattle.bytecode_model.specs.Classes.{is_below}
 use Rattle.bytecode_model.specs.Assigning.{assignable}
 use Rattle.bytecode_model.specs.Order.{IsInOrder}
-use Rattle.type_lattice.specs.Laws.{IsReflexive, IsTransitive, IsThrownAlone}
 use Rattle.bytecode_model.specs.Makes.{type_at}
-use Rattle.code_typing.specs.Order.{IsFrameBelow, IsAloneMet, IsAloneKept, IsLeftKept, IsThrownKept, FrameIsBelowItself, FramesAreInOrder, is_settled, is_settled_at, StackBelow}
+use Rattle.code_typing.specs.Order.{IsFrameBelow, IsAloneMet, is_settled, is_settled_at, StackBelow}
 use Rattle.bytecode_model.specs.Place.{Place}
 use Rattle.bytecode_model.specs.Rules.{Frames, frame_of, covers, class_caught, local_caught, is_alone, is_handled, goes_well, catches_well, Successor, Caught, Depth, Operand, Local, Made, made_well, rule_failing, row_failing}
 use Rattle.bytecode_model.specs.Typed.{place_at}
+use Rattle.type_infer.specs.Laws.{Laws}
 use Rattle.type_infer.specs.Solving.{Scope, place_of, RowIsMet, IsFound, Left, AreBelow, left_by, thrown_to}
 use Rattle.type_infer.proofs.Below.{locals_below, left_over}
-
--- ---- the laws
-
-pub record Laws (program : Program) : Type 0 where
-  pub order : IsInOrder program
-  pub reflexive : (t : VType) → assignable program t t ≡ true
-  pub transitive : (t u v : VType) → assignable program t u ≡ true → assignable program u v ≡ true → assignable program t v ≡ true
-  pub thrown_alone : (class : List ℕ) (t : VType) → is_below program class throwable ≡ true → assignable program (types.Ref class) t ≡ true
-      → assignable program t (types.Ref class) ≡ true → t ≡ types.Ref class
-  pub itself : (frame : FrameType) → IsFrameBelow program frame frame
-  pub over : (a b c : FrameType) → IsFrameBelow program a b → IsFrameBelow program b c → IsFrameBelow program a c
-  pub alone : IsAloneKept
-  pub left : IsLeftKept
-  pub thrown : IsThrownKept
-
-pub laws_of : IsReflexive → IsTransitive → IsThrownAlone → FrameIsBelowItself → FramesAreInOrder → IsAloneKept → IsLeftKept → IsThrownKept → (program : Program) → IsInOrder program → Laws program
-laws_of reflexive transitive thrown_alone itself over alone left thrown program order = record {
-  order = order;
-  reflexive = reflexive program;
-  transitive = transitive program order;
-  thrown_alone = thrown_alone program order;
-  itself = itself program;
-  over = over program order;
-  alone = alone;
-  left = left;
-  thrown = thrown;
-}
 
 -- ---- a row that is met
 

@@ -25,9 +25,10 @@ use Rattle.code_typing.specs.Order.{IsFrameBelow, is_settled_at, StackBelow}
 use Rattle.bytecode_model.specs.Place.{Place, is_maker}
 use Rattle.bytecode_model.specs.Rules.{Frames, frame_of, covers, class_caught, entry_locals, is_alone, goes_well, catches_well, Successor, Caught, Entry, rule_failing, row_failing}
 use Rattle.bytecode_model.specs.Typed.{place_at}
+use Rattle.type_infer.specs.Laws.{Laws}
 use Rattle.type_infer.specs.Solving.{Scope, State, place_of, is_marked, AreBelow, HasCome, Holds, IsMetBy, IsSolution, begun, left_by, thrown_to}
 use Rattle.type_infer.proofs.Below.{locals_fit_below, stack_at, stack_height}
-use Rattle.type_infer.proofs.Flowing.{Laws, IsUnder, is_under, thrown_fits, place_is, some_one}
+use Rattle.type_infer.proofs.Flowing.{IsUnder, is_under, thrown_fits, place_is, some_one}
 use Rattle.type_infer.proofs.Solutions.{entered}
 
 -- ---- tests

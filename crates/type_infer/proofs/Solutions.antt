@@ -11,9 +11,10 @@ use Rattle.bytecode_model.specs.Assigning.{assignable}
 use Rattle.bytecode_model.specs.Makes.{type_at}
 use Rattle.bytecode_model.specs.Place.{Place}
 use Rattle.bytecode_model.specs.Rules.{Frames, frame_of, entry_locals, Entry, rule_failing, row_failing}
+use Rattle.type_infer.specs.Laws.{Laws}
 use Rattle.type_infer.specs.Solving.{Scope, State, place_of, is_marked, put, unmarked, AreFound, AreBelow, IsRaisedBy, HasCome, IsDone, Grows, Holds, IsMetBy, begun}
 use Rattle.type_infer.proofs.Below.{locals_below, stack_below}
-use Rattle.type_infer.proofs.Flowing.{Laws, Fits, row_of, place_is, some_one}
+use Rattle.type_infer.proofs.Flowing.{Fits, row_of, place_is, some_one}
 use Rattle.type_infer.proofs.Lists.{frame_of-replicate, is_marked-set_other}
 use Rattle.type_infer.proofs.Stepping.{put_found, has_come, put_unmarked, is_place, done_grows, come_grows, equal_or}
 

@@ -2,7 +2,6 @@
 use Rattle.std.proofs.Common.{◌≡◌, ◌⊎◌, ℕ, ℤ, zero, suc, ◌+◌, ◌<◌, Bool, true, false, List, [], ◌∷◌, length, Some, refl, sym, ap, subst, ◌∙◌, inl, inr, arith}
 use Rattle.std.specs.Prelude.{Contains, slice_get, if◌then◌else◌}
 use Rattle.std.specs.List.{AllByRecursion}
-use Rattle.std.proofs.lemmas.Bool.{false≢true}
 use Rattle.std.proofs.lemmas.List.Elements.{Contains-append_cases}
 use Rattle.std.proofs.lemmas.Option.{slice_get_read}
 use Rattle.insn_codec.specs.declared.insn.Insn.{Insn}
@@ -19,7 +18,7 @@ use Rattle.type_infer.proofs.Lists.{all_at}
 pub all_contained : {X : Type 0} (P : X → Type 0) (xs : List X) (x : X) → AllByRecursion P xs → Contains xs x → P x
 all_contained P xs x h (k, within, is) = all_at P xs k x h (slice_get_read xs (length xs) k x refl within (sym is))
 
-one_of : {X : Type 0} (y x : X) → Contains (y ∷ []) x → y ≡ x
+pub one_of : {X : Type 0} (y x : X) → Contains (y ∷ []) x → y ≡ x
 one_of y x (zero, within, is) = is
 one_of y x (suc k, within, is) = absurd (omega arith)
 
@@ -76,10 +75,6 @@ no_targets (insns.Lookup other keys targets) branch goto table lookup = absurd (
 pub next_only : (b : Bool) (next to : ℕ) → Contains (if b then next ∷ [] else []) to → (b ≡ true) × (next ≡ to)
 next_only true next to c = (refl, one_of next to c)
 next_only false next to c = absurd (none_of to c)
-
-pub next_there : (b : Bool) (next : ℕ) → b ≡ true → Contains (if b then next ∷ [] else []) next
-next_there true next e = (0, omega arith, refl)
-next_there false next e = absurd (false≢true e)
 
 pub successor_within : (method : Method) (at : ℕ) (insn : Insn) (to : ℕ) → IsSoundMethod method → slice_get method.insns at ≡ Some insn → Contains (successors at insn) to → to < length method.insns
 successor_within method at insn to sound is c =

@@ -15,9 +15,10 @@ use Rattle.bytecode_model.specs.Makes.{type_at}
 use Rattle.code_typing.specs.Order.{IsFrameBelow, is_settled, StackBelow}
 use Rattle.bytecode_model.specs.Place.{Place}
 use Rattle.bytecode_model.specs.Rules.{Frames, frame_of}
+use Rattle.type_infer.specs.Laws.{Laws}
 use Rattle.type_infer.specs.Solving.{Scope, State, place_of, put, is_marked, AreFound, IsFound, Left, AreBelow, OldIsBelow, IsRaisedBy, IsKept, IsOfHeight, HasCome, HasGone, IsDone, Grows}
 use Rattle.type_infer.proofs.Below.{below_over, stack_height}
-use Rattle.type_infer.proofs.Flowing.{Laws, Fits, place_is, insn_there, some_one}
+use Rattle.type_infer.proofs.Flowing.{Fits, place_is, insn_there, some_one}
 use Rattle.type_infer.proofs.Lists.{frame_of-set_same, frame_of-set_other, is_marked-set_same, is_marked-set_other}
 
 -- ---- two lefts with the same types

@@ -1,5 +1,6 @@
 pub mod Fits
 pub mod Shape
 pub mod Untyped
+pub mod Laws
 pub mod Solving
 pub mod Sending

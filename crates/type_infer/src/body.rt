@@ -1,6 +1,6 @@
 //! A method whose types are looked for.
 
-ghost use Rattle.std.specs.Prelude.{◌≡◌, option_map};
+ghost use Rattle.std.specs.Prelude.{◌≡◌};
 ghost use Rattle.type_infer.specs.Solving.{place_of};
 
 use bytecode_model::{LinkedClass, Method};

@@ -1,7 +1,7 @@
 //! The first instruction at which a method has no typing.
 
-ghost use Rattle.std.specs.Prelude.{◌≡◌, ◌<◌, ◌≤◌, ◌+◌, ◌-◌, IfOk, IsFalse, IsTrue};
-ghost use Rattle.type_infer.specs.Solving.{Scope, IsReady};
+ghost use Rattle.std.specs.Prelude.{◌<◌, ◌≤◌, ◌+◌, ◌-◌, IfOk, IsFalse, IsTrue};
+ghost use Rattle.type_infer.specs.Solving.{IsReady};
 ghost use Rattle.type_infer.specs.Untyped.{AreMet, CanBeMet, CannotBeMet};
 
 use crate::body::Body;

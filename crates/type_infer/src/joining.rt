@@ -1,14 +1,13 @@
 //! Frames that come to one instruction.
 
-ghost use Rattle.std.specs.Prelude.{◌≡◌, ◌≤◌, ℕ, true, Some, length, map, min, option_copied, IfOk, IfSome, IsSome, IsTrue};
-ghost use Rattle.std.specs.Option.{option_or};
+ghost use Rattle.std.specs.Prelude.{◌≡◌, ◌≤◌, ℕ, true, Some, length, min, option_copied, IfOk, IfSome, IsSome, IsTrue};
 ghost use Rattle.insn_codec.specs.Shapes.{shape_of};
 ghost use Rattle.bytecode_model.specs.Assigning.{assignable};
 ghost use Rattle.bytecode_model.specs.Order.{IsInOrder};
 ghost use Rattle.type_lattice.specs.Merging.{merged};
 ghost use Rattle.bytecode_model.specs.Makes.{type_at};
 ghost use Rattle.code_typing.specs.Order.{IsFrameBelow, LocalsBelow};
-ghost use Rattle.type_infer.specs.Solving.{Left, IsKept, IsOfHeight, IsRaisedBy, IsUnlessBelow, local_settled, operand_settled, unless};
+ghost use Rattle.type_infer.specs.Solving.{IsKept, IsOfHeight, IsRaisedBy, IsUnlessBelow, local_settled, operand_settled, unless};
 
 use crate::told::Told;
 use cert_format::{FrameType, VType};

@@ -10,6 +10,7 @@ mod failing;
 mod fault;
 mod inferring;
 mod joining;
+mod laws;
 mod sending;
 mod solving;
 mod told;

@@ -1,14 +1,23 @@
 //! What flows from an instruction to those to which control can go from it.
 
-ghost use Rattle.std.specs.Prelude.{◌≡◌, ℕ, ◌∷◌, option_copied, Contains, IfOk, IsTrue, OnOk};
-ghost use Rattle.insn_codec.specs.Control.{jump_targets, successors};
-ghost use Rattle.bytecode_model.specs.Rules.{Frames, covers};
-ghost use Rattle.bytecode_model.specs.declared.program.Handler.{Handler};
-ghost use Rattle.type_infer.specs.Sending.{HasEach, KeepsOld, RaisesLeft, RaisesThrown, StandsIn};
-ghost use Rattle.type_infer.specs.Solving.{AreFound, Grows, IsDone, IsReady, IsSent, RowIsMet, StaysFound, left_by, next_of, thrown_to};
+ghost use Rattle.std.specs.Prelude.{◌≡◌, ◌∷◌, [], option_copied, IfOk, OnOk};
+ghost use Rattle.insn_codec.specs.Control.{jump_targets};
+ghost use Rattle.bytecode_model.specs.Rules.{Frames};
+ghost use Rattle.type_infer.specs.Sending.{
+  HasEach,
+  KeepsOld,
+  RaisesLeft,
+  RaisesThrown,
+  SendsTo,
+  StandsIn,
+  ThrowsTo,
+  ThrowsToAll,
+};
+ghost use Rattle.type_infer.specs.Solving.{AreFound, Grows, IsDone, IsReady, RowIsMet, StaysFound, next_of};
 
 use crate::body::Body;
 use crate::joining::joined;
+use crate::laws::laws_hold;
 use crate::told::Told;
 use crate::work::Work;
 use bytecode_model::Handler;
@@ -125,14 +134,9 @@ fn send(
 ) -> Result<(), NoMemory>
     requires { StandsIn body.now place.now work.old }
     ensures each { HasEach body.now work.new }
-    ensures grows { OnOk result (IsReady body.now → Grows body.now.program work.old work.new) }
-    ensures found { OnOk result (IsReady body.now → Contains (successors place.now.at place.now.insn) to
-        → StaysFound body.now place.now.at work.old work.new) }
-    ensures sent { OnOk result (IsReady body.now → Contains (successors place.now.at place.now.insn) to
-        → IsSent body.now place.now.at to left_by work.old work.new) }
+    ensures sends { OnOk result (IsReady body.now → SendsTo body.now place.now (to ∷ []) work.old work.new) }
 {
-    assignable_is_an_order();
-    rows_follow_the_order();
+    laws_hold();
     let Some(there) = body.place(to) else {
         return Ok(());
     };
@@ -154,16 +158,9 @@ fn send_all(
 ) -> Result<(), NoMemory>
     requires { StandsIn body.now place.now work.old }
     ensures each { HasEach body.now work.new }
-    ensures grows { OnOk result (IsReady body.now → Grows body.now.program work.old work.new) }
-    ensures found { OnOk result (IsReady body.now
-        → ((to : ℕ) → Contains targets.now to → Contains (successors place.now.at place.now.insn) to)
-        → StaysFound body.now place.now.at work.old work.new) }
-    ensures sent { OnOk result (IsReady body.now
-        → ((to : ℕ) → Contains targets.now to → Contains (successors place.now.at place.now.insn) to)
-        → (to : ℕ) → Contains targets.now to → IsSent body.now place.now.at to left_by work.old work.new) }
+    ensures sends { OnOk result (IsReady body.now → SendsTo body.now place.now targets.now work.old work.new) }
 {
-    assignable_is_an_order();
-    rows_follow_the_order();
+    laws_hold();
     for to in targets {
         send(alloc, body, work, place, *to)?;
     }
@@ -181,16 +178,9 @@ fn send_each(
 ) -> Result<(), NoMemory>
     requires { StandsIn body.now place.now work.old }
     ensures each { HasEach body.now work.new }
-    ensures grows { OnOk result (IsReady body.now → Grows body.now.program work.old work.new) }
-    ensures found { OnOk result (IsReady body.now
-        → ((to : ℕ) → Contains (first ∷ others.now) to → Contains (successors place.now.at place.now.insn) to)
-        → StaysFound body.now place.now.at work.old work.new) }
-    ensures sent { OnOk result (IsReady body.now
-        → ((to : ℕ) → Contains (first ∷ others.now) to → Contains (successors place.now.at place.now.insn) to)
-        → (to : ℕ) → Contains (first ∷ others.now) to → IsSent body.now place.now.at to left_by work.old work.new) }
+    ensures sends { OnOk result (IsReady body.now → SendsTo body.now place.now (first ∷ others.now) work.old work.new) }
 {
-    assignable_is_an_order();
-    rows_follow_the_order();
+    laws_hold();
     send(alloc, body, work, place, first)?;
     send_all(alloc, body, work, place, others)
 }
@@ -204,15 +194,12 @@ fn send_to_targets(
 ) -> Result<(), NoMemory>
     requires { StandsIn body.now place.now work.old }
     ensures each { HasEach body.now work.new }
-    ensures grows { OnOk result (IsReady body.now → Grows body.now.program work.old work.new) }
-    ensures found { OnOk result (IsReady body.now → StaysFound body.now place.now.at work.old work.new) }
-    ensures sent { OnOk result (IsReady body.now → (to : ℕ) → Contains (jump_targets place.now.insn) to
-        → IsSent body.now place.now.at to left_by work.old work.new) }
+    ensures sends { OnOk result (IsReady body.now → SendsTo body.now place.now (jump_targets place.now.insn) work.old work.new) }
 {
-    rows_follow_the_order();
+    laws_hold();
     match place.insn {
-        Insn::Branch { to, .. } => send_each(alloc, body, work, place, *to, &[]),
-        Insn::GotoW { to } => send_each(alloc, body, work, place, *to, &[]),
+        Insn::Branch { to, .. } => send(alloc, body, work, place, *to),
+        Insn::GotoW { to } => send(alloc, body, work, place, *to),
         Insn::Table { other, targets, .. } => {
             send_each(alloc, body, work, place, *other, targets.as_slice())
         }
@@ -227,12 +214,9 @@ fn send_to_targets(
 fn send_on(alloc: Global, body: &Body, work: &mut Work, place: &PlaceRef) -> Result<(), NoMemory>
     requires { StandsIn body.now place.now work.old }
     ensures each { HasEach body.now work.new }
-    ensures grows { OnOk result (IsReady body.now → Grows body.now.program work.old work.new) }
-    ensures found { OnOk result (IsReady body.now → StaysFound body.now place.now.at work.old work.new) }
-    ensures sent { OnOk result (IsReady body.now → (to : ℕ) → Contains (next_of place.now.at place.now.insn) to
-        → IsSent body.now place.now.at to left_by work.old work.new) }
+    ensures sends { OnOk result (IsReady body.now → SendsTo body.now place.now (next_of place.now.at place.now.insn) work.old work.new) }
 {
-    rows_follow_the_order();
+    laws_hold();
     if !goes_on(place.insn.opcode()) {
         return Ok(());
     }
@@ -252,14 +236,9 @@ fn throw(
 ) -> Result<(), NoMemory>
     requires { StandsIn body.now place.now work.old }
     ensures each { HasEach body.now work.new }
-    ensures grows { OnOk result (IsReady body.now → Grows body.now.program work.old work.new) }
-    ensures found { OnOk result (IsReady body.now → Contains body.now.method.handlers handler.now
-        → StaysFound body.now place.now.at work.old work.new) }
-    ensures sent { OnOk result (IsReady body.now → Contains body.now.method.handlers handler.now → IsTrue (covers place.now.at handler.now)
-        → IsSent body.now place.now.at handler.now.at (thrown_to handler.now) work.old work.new) }
+    ensures sends { OnOk result (IsReady body.now → ThrowsTo body.now place.now handler.now work.old work.new) }
 {
-    assignable_is_an_order();
-    rows_follow_the_order();
+    laws_hold();
     if !handler.covers(place.at) {
         return Ok(());
     }
@@ -283,14 +262,9 @@ fn throw_to_handlers(
 ) -> Result<(), NoMemory>
     requires { StandsIn body.now place.now work.old }
     ensures each { HasEach body.now work.new }
-    ensures grows { OnOk result (IsReady body.now → Grows body.now.program work.old work.new) }
-    ensures found { OnOk result (IsReady body.now → StaysFound body.now place.now.at work.old work.new) }
-    ensures sent { OnOk result (IsReady body.now
-        → (handler : Handler) → Contains body.now.method.handlers handler → IsTrue (covers place.now.at handler)
-        → IsSent body.now place.now.at handler.at (thrown_to handler) work.old work.new) }
+    ensures sends { OnOk result (IsReady body.now → ThrowsToAll body.now place.now work.old work.new) }
 {
-    assignable_is_an_order();
-    rows_follow_the_order();
+    laws_hold();
     let mut near = body.method.handlers.near(place.at);
     while let Some(handler) = near.next() {
         throw(alloc, body, work, place, handler)?;
@@ -308,8 +282,7 @@ pub fn look_at(alloc: Global, body: &Body, work: &mut Work, at: u32) -> Result<(
     ensures done { OnOk result (IsReady body.now → (above : Frames) → RowIsMet body.now above at → AreFound body.now above work.old
         → IsDone body.now work.new at) }
 {
-    assignable_is_an_order();
-    rows_follow_the_order();
+    laws_hold();
     let Some(place) = body.place(at) else {
         return Ok(());
     };

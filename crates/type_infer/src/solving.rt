@@ -7,14 +7,14 @@ ghost use Rattle.type_infer.specs.Solving.{Holds, IsMetBy, IsSolved};
 
 use crate::body::Body;
 use crate::joining::joined;
+use crate::laws::laws_hold;
 use crate::sending::look_at;
 use crate::told::Told;
 use crate::work::Work;
 use cert_format::FrameType;
-use code_typing::{entry_locals, rows_follow_the_order};
+use code_typing::entry_locals;
 use mon_base::{List, NoMemory};
 use std::alloc::Global;
-use type_lattice::assignable_is_an_order;
 
 /// A method of which no frame but that of the arguments, before the first instruction, is found.
 fn begun(alloc: Global, body: &Body) -> Result<Work, NoMemory>
@@ -22,8 +22,7 @@ fn begun(alloc: Global, body: &Body) -> Result<Work, NoMemory>
     ensures marks { IfOk result (λ work. length work.marks ≡ length body.now.method.insns) }
     ensures holds { IfOk result (λ work. (limit : ℕ) (above : Frames) → IsMetBy body.now limit above → Holds body.now limit above work) }
 {
-    assignable_is_an_order();
-    rows_follow_the_order();
+    laws_hold();
     let mut work = Work::new(alloc, body.method.insns.len())?;
     let Some(place) = body.place(0) else {
         return Ok(work);
@@ -56,8 +55,7 @@ pub fn solve(alloc: Global, body: &Body, limit: u32) -> Result<List<Option<Frame
     ensures fits { IfOk result (λ frames. FitFrames frames) }
     ensures solved { IfOk result (λ frames. IsSolved body.now limit frames) }
 {
-    assignable_is_an_order();
-    rows_follow_the_order();
+    laws_hold();
     let mut work = begun(alloc, body)?;
     // Each turn raises a frame, and a frame is raised a few times: 2^64 turns are never made.
     for _ in 0..u64::MAX {

@@ -1,5 +1,5 @@
 -- What is thrown: no other type stands for it for which it stands.
-use Rattle.std.proofs.Common.{◌≡◌, ℕ, zero, suc, true, false, List, length, sym, ap, subst, ◌∙◌, inl, inr}
+use Rattle.std.proofs.Common.{◌≡◌, ℕ, true, false, List, length, sym, ap, subst, ◌∙◌, inl, inr}
 use Rattle.std.specs.Prelude.{bytes_eq}
 use Rattle.std.proofs.lemmas.Bool.{false≢true}
 use Rattle.api_listing.specs.BuiltIn.{object, throwable}

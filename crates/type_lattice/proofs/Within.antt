@@ -4,7 +4,8 @@ use Rattle.std.specs.Prelude.{◌==◌, ◌&&◌}
 use Rattle.api_listing.specs.BuiltIn.{object}
 use Rattle.bytecode_model.specs.declared.program.Program.{Program}
 use Rattle.bytecode_model.specs.Arrays.{described}
-use Rattle.type_lattice.specs.Merging.{both_within, arrays_merged}
+use Rattle.type_lattice.specs.Components.{both_within}
+use Rattle.type_lattice.specs.Merging.{arrays_merged}
 
 within_some : (b : Bool) (x y u v : List ℕ) (P : List ℕ) (Q : List ℕ → List ℕ → List ℕ) → ◌≡◌ {A = Option (List ℕ × List ℕ)} (cond b (Some (x, y)) None) (Some (u, v))
     → cond b (91 ∷ Q x y) P ≡ 91 ∷ Q u v

@@ -1,14 +1,13 @@
 -- Classes that are found by their names, with the ways up.
-use Rattle.std.specs.Prelude.{◌≡◌, ℕ, suc, Bool, bytes_eq, List, map, find, Option, option_map, Vec}
+use Rattle.std.specs.Prelude.{◌≡◌, ℕ, Bool, bytes_eq, List, map, find, Option, option_map, Vec}
 use Rattle.std.specs.List.{list_any}
-use Rattle.std.specs.Ordering.{nat_cmp}
-use Rattle.std.specs.Cmp.Lexicographic.{slice_cmp}
-use Rattle.std.specs.BTreeMap.{BTreeMap, get_by}
+use Rattle.std.specs.BTreeMap.{BTreeMap}
 use Rattle.std.specs.Global.{Global}
 use Rattle.api_listing.specs.declared.types.ListedClass.{ListedClass}
 use Rattle.bytecode_model.specs.Places.{class_place}
 use Rattle.bytecode_model.specs.Order.{EachWayEnds}
 use Rattle.bytecode_model.specs.SearchOrder.{superclasses}
+use Rattle.type_lattice.specs.ByName.{noted}
 
 -- the class is of this name, or one of its superclasses is
 abbrev pub is_up : List ListedClass → List ℕ → List ℕ → Bool
@@ -20,12 +19,9 @@ nearest_common classes a b = option_map (λ (c : ListedClass). c.name) (find (λ
 
 -- ---- places
 
-abbrev pub place_named : BTreeMap (Vec ℕ Global) ℕ → List ℕ → Option ℕ
-place_named places name = get_by (λ (k : Vec ℕ Global). slice_cmp nat_cmp name k.items) places
-
 -- The map has the place of the first class of each name.
 abbrev pub ArePlaced : BTreeMap (Vec ℕ Global) ℕ → List ListedClass → Type 0
-ArePlaced places classes = (q : List ℕ) → place_named places q ≡ class_place classes q
+ArePlaced places classes = (q : List ℕ) → noted places q ≡ class_place classes q
 
 -- the place of the superclass of each class
 abbrev pub parents_in : List ListedClass → List (Option ℕ)

@@ -1,4 +1,6 @@
+pub mod ByName
 pub mod Ways
 pub mod Hierarchy
 pub mod Merging
 pub mod Laws
+pub mod Components

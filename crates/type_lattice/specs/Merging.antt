@@ -1,5 +1,5 @@
 -- The least type to which two are assignable. (The Java Virtual Machine Specification, section 4.10.2.2.)
-use Rattle.std.specs.Prelude.{ℕ, ◌==◌, ◌&&◌, ◌||◌, bytes_eq, if◌then◌else◌, List, [], ◌∷◌, length, find, Option, Some, None}
+use Rattle.std.specs.Prelude.{ℕ, ◌==◌, ◌&&◌, ◌||◌, bytes_eq, if◌then◌else◌, List, [], ◌∷◌, length, find}
 use Rattle.std.specs.Option.{option_map_or}
 use Rattle.api_listing.specs.declared.types.ListedClass.{ListedClass}
 use Rattle.api_listing.specs.BuiltIn.{object}
@@ -33,12 +33,6 @@ abbrev pub items_merged : Program → List ℕ → List ℕ → List ℕ → Lis
 items_merged program otherwise a b =
     if bytes_eq a b then 91 ∷ a
     else option_map_or (λ (x : List ℕ). option_map_or (λ (y : List ℕ). array_of (leaf_merged program x y)) (reference_of b) otherwise) (reference_of a) otherwise
-
--- the items of both, where both are arrays
-abbrev pub both_within : List ℕ → List ℕ → Option (List ℕ × List ℕ)
-both_within [] b = None
-both_within (c ∷ a) [] = None
-both_within (c ∷ a) (d ∷ b) = if (c == 91) && (d == 91) then Some (a, b) else None
 
 -- of two arrays of these items; behind a `[` a class is told by its descriptor
 abbrev pub arrays_merged : Program → List ℕ → List ℕ → List ℕ → List ℕ

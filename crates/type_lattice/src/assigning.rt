@@ -1,14 +1,14 @@
 //! Which type may stand in the place of which. (The Java Virtual Machine Specification, section 4.10.1.2.)
 
-ghost use Rattle.std.specs.Prelude.{◌≡◌, option_copied};
-ghost use Rattle.bytecode_model.specs.Arrays.{is_array};
-ghost use Rattle.bytecode_model.specs.Assigning.{class_name, named, reference_of, class_fits, leaf_fits};
-ghost use Rattle.bytecode_model.specs.Assigning.{component_fits, array_fits, name_fits, assignable};
+ghost use Rattle.std.specs.Prelude.{◌≡◌};
 ghost use Rattle.bytecode_model.specs.Arrays.{array_of, described};
+ghost use Rattle.bytecode_model.specs.Assigning.{array_fits, assignable, class_fits, component_fits, name_fits};
 ghost use Rattle.bytecode_model.specs.Lending.{type_lent};
 ghost use Rattle.bytecode_model.specs.declared.lending.TypeRef.{TypeRef};
 ghost use Rattle.cert_format.specs.declared.typing.VType.TheVariants.{Ref};
+ghost use Rattle.type_lattice.specs.Components.{answered};
 
+use crate::comparing::{Compared, arrays_compared, components_compared, named};
 use crate::indexed::{Indexed, is_below, is_interface};
 use bytecode_model::{TypeRef, is_array, lend};
 use cert_format::VType;
@@ -110,79 +110,22 @@ fn class_fits(program: &Indexed, from: &[u8], to: &[u8]) -> bool
 fn array_fits(program: &Indexed, from: &[u8], to: &[u8]) -> bool
     ensures { result ≡ array_fits program.now from.now to.now }
 {
-    match from {
-        [] => false,
-        [c, from @ ..] => {
-            match to {
-                [] => false,
-                [d, to @ ..] => *c == b'[' && *d == b'[' && component_fits(program, from, to),
-            }
-        }
-    }
+    are_fitting(program, arrays_compared(from, to))
 }
 
 fn component_fits(program: &Indexed, from: &[u8], to: &[u8]) -> bool
     ensures { result ≡ component_fits program.now from.now to.now }
 {
-    let mut from = from;
-    let mut to = to;
-    while let [b'[', below @ ..] = from {
-        let [b'[', above @ ..] = to else {
-            return leaf_fits(program, from, to);
-        };
-        from = below;
-        to = above;
-    }
-    leaf_fits(program, from, to)
+    are_fitting(program, components_compared(from, to))
 }
 
-fn leaf_fits(program: &Indexed, from: &[u8], to: &[u8]) -> bool
-    ensures { result ≡ leaf_fits program.now from.now to.now }
+/// Whether the one of two components that are compared fits the other.
+fn are_fitting(program: &Indexed, compared: Compared) -> bool
+    ensures { result ≡ answered (class_fits program.now) compared.entry }
 {
-    if from == to {
-        return true;
-    }
-    match named(to) {
-        None => false,
-        Some(above) => {
-            match reference_of(from) {
-                None => false,
-                Some(below) => class_fits(program, below, above),
-            }
-        }
-    }
-}
-
-/// The name of the class or array that a component is, if it is one.
-pub fn reference_of<'a>(component: &'a [u8]) -> Option<&'a [u8]>
-    ensures { option_copied result ≡ reference_of component.now }
-{
-    if is_array(component) {
-        Some(component)
-    } else {
-        named(component)
-    }
-}
-
-/// The name, where it is none of an array.
-fn class_name<'a>(name: &'a [u8]) -> Option<&'a [u8]>
-    ensures { option_copied result ≡ class_name name.now }
-{
-    if is_array(name) { None } else { Some(name) }
-}
-
-/// The name in a component `Lname;`. A class is not named as an array is.
-pub fn named<'a>(component: &'a [u8]) -> Option<&'a [u8]>
-    ensures { option_copied result ≡ named component.now }
-{
-    match component {
-        [] => None,
-        [first, rest @ ..] => {
-            if *first == b'L' && !rest.is_empty() && rest[rest.len() - 1] == b';' {
-                class_name(&rest[..rest.len() - 1])
-            } else {
-                None
-            }
-        }
+    match compared {
+        Compared::Same => true,
+        Compared::Apart => false,
+        Compared::Classes { below, above } => class_fits(program, below, above),
     }
 }

@@ -1,17 +1,17 @@
 //! Classes that are found by their names, and of which it is told which are below which, without a search.
 
-ghost use Rattle.std.specs.Prelude.{◌≡◌, ◌+◌, ℕ, List, Some, None, false, IfOk, OnOk};
-ghost use Rattle.std.specs.Prelude.{bytes_eq, if◌then◌else◌, option_copied, option_map, slice_get};
-ghost use Rattle.std.specs.Option.{option_map_or, option_or};
+ghost use Rattle.std.specs.Prelude.{◌≡◌, false, option_copied, option_map, slice_get, IfOk};
+ghost use Rattle.std.specs.Option.{option_map_or};
 ghost use Rattle.api_listing.specs.declared.types.ListedClass.{ListedClass};
 ghost use Rattle.api_listing.specs.Nearest.{class_named};
-ghost use Rattle.type_lattice.specs.Hierarchy.{ArePlaced, is_up, nearest_common, parents_in, place_named};
+ghost use Rattle.type_lattice.specs.Hierarchy.{ArePlaced, is_up, nearest_common, parents_in};
 ghost use Rattle.bytecode_model.specs.Order.{EachWayEnds};
 ghost use Rattle.bytecode_model.specs.Places.{class_place};
 
+use crate::by_name::{ByName, note, noted};
 use crate::ways::Ways;
 use api_listing::ListedClass;
-use mon_base::{Bytes, List, NoMemory};
+use mon_base::{List, NoMemory};
 use std::alloc::Global;
 use std::collections::BTreeMap;
 use std::marker::Model;
@@ -20,7 +20,7 @@ use std::marker::Model;
 #[derive(Drop)]
 pub struct Hierarchy {
     classes: List<ListedClass>,
-    places: BTreeMap<Vec<u8>, usize>,
+    places: ByName<usize>,
     ways: Ways,
 }
 
@@ -63,14 +63,14 @@ impl Hierarchy {
     pub fn class_place(&self, name: &[u8]) -> Option<usize>
         ensures { result ≡ class_place self.now name.now }
     {
-        place_of(&self.places, name)
+        noted(&self.places, name)
     }
 
     /// The first class with the name.
     pub fn class_named(&self, name: &[u8]) -> Option<&ListedClass>
         ensures { option_copied result ≡ class_named self.now name.now }
     {
-        match place_of(&self.places, name) {
+        match noted(&self.places, name) {
             Some(place) => self.classes.as_slice().get(place),
             None => None,
         }
@@ -90,10 +90,10 @@ impl Hierarchy {
     pub fn is_below(&self, class: &[u8], above: &[u8]) -> bool
         ensures { result ≡ is_up self.now class.now above.now }
     {
-        let Some(class) = place_of(&self.places, class) else {
+        let Some(class) = noted(&self.places, class) else {
             return false;
         };
-        match place_of(&self.places, above) {
+        match noted(&self.places, above) {
             Some(above) => self.ways.leads_to(class, above),
             None => false,
         }
@@ -103,8 +103,8 @@ impl Hierarchy {
     pub fn nearest_common(&self, class: &[u8], other: &[u8]) -> Option<&[u8]>
         ensures { option_copied result ≡ nearest_common self.now class.now other.now }
     {
-        let class = place_of(&self.places, class)?;
-        let other = place_of(&self.places, other)?;
+        let class = noted(&self.places, class)?;
+        let other = noted(&self.places, other)?;
         let place = self.ways.meeting(class, other)?;
         name_at(self.classes.as_slice(), place)
     }
@@ -120,63 +120,33 @@ fn name_at(classes: &[ListedClass], place: usize) -> Option<&[u8]>
     }
 }
 
-/// The place of the name.
-fn place_of(places: &BTreeMap<Vec<u8>, usize>, name: &[u8]) -> Option<usize>
-    ensures { result ≡ place_named places.now name.now }
-{
-    match places.get(name) {
-        Some(place) => Some(*place),
-        None => None,
-    }
-}
-
 /// The place of the first class of each name.
-fn places_by_name(
-    alloc: Global,
-    classes: &[ListedClass],
-) -> Result<BTreeMap<Vec<u8>, usize>, NoMemory>
+fn places_by_name(alloc: Global, classes: &[ListedClass]) -> Result<ByName<usize>, NoMemory>
     ensures { IfOk result (λ places. ArePlaced places classes.now) }
 {
     let mut places = BTreeMap::new(alloc);
     let mut index = 0;
     let mut left = classes;
     while let [class, rest @ ..] = left {
-        add_name(alloc, &mut places, &class.name, index)?;
+        note(alloc, &mut places, &class.name, index)?;
         index += 1;
         left = rest;
     }
     Ok(places)
 }
 
-/// Notes the place of the name, if the name is new.
-fn add_name(
-    alloc: Global,
-    places: &mut BTreeMap<Vec<u8>, usize>,
-    name: &Bytes,
-    place: usize,
-) -> Result<(), NoMemory>
-    ensures { OnOk result ((q : List ℕ) → place_named places.new q
-        ≡ option_or (place_named places.old q) (if bytes_eq name.now q then Some place else None)) }
-{
-    if !places.contains_key(name.as_slice()) {
-        let name = Vec::from_slice(alloc, name.as_slice())?;
-        places.insert(name, place)?;
-    }
-    Ok(())
-}
-
 /// The place of the superclass of each class.
 fn parent_places(
     alloc: Global,
     classes: &[ListedClass],
-    places: &BTreeMap<Vec<u8>, usize>,
+    places: &ByName<usize>,
 ) -> Result<Vec<Option<usize>>, NoMemory>
     requires { ArePlaced places.now classes.now }
     ensures { IfOk result (λ parents. parents.items ≡ parents_in classes.now) }
 {
     let mut parents = Vec::new(alloc);
     for class in classes {
-        parents.push(place_of(places, class.parent.as_slice()))?;
+        parents.push(noted(places, class.parent.as_slice()))?;
     }
     Ok(parents)
 }

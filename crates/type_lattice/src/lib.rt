@@ -7,7 +7,9 @@
 #![tactic(auto)]
 
 mod assigning;
+mod by_name;
 mod classes;
+mod comparing;
 mod ending;
 mod hierarchy;
 mod indexed;
@@ -15,7 +17,10 @@ mod laws;
 mod merging;
 mod ways;
 
-pub use assigning::{assignable, fits_class, lent_fits, named, reference_of};
+pub use assigning::{assignable, fits_class, lent_fits};
+pub use by_name::{ByName, note, noted};
+pub use classes::classes_of;
+pub use comparing::{Compared, arrays_compared, reference_of};
 pub use hierarchy::Hierarchy;
 pub use indexed::{Indexed, class_place, is_below, is_interface};
 pub use laws::{assignable_is_an_order, merge_is_the_least};

@@ -1,13 +1,12 @@
 //! The least type to which two are assignable. (The Java Virtual Machine Specification, section 4.10.2.2.)
 
-ghost use Rattle.std.specs.Prelude.{◌≡◌, ◌++◌, option_map, IfOk, OnOk};
+ghost use Rattle.std.specs.Prelude.{◌≡◌, ◌++◌, IfOk, OnOk};
 ghost use Rattle.api_listing.specs.BuiltIn.{object};
 ghost use Rattle.cert_format.specs.declared.typing.VType.TheVariants.{Ref};
-ghost use Rattle.bytecode_model.specs.Arrays.{described};
-ghost use Rattle.type_lattice.specs.Merging.{class_above, class_merged, leaf_merged, items_merged};
-ghost use Rattle.type_lattice.specs.Merging.{both_within, arrays_merged, names_merged, merged};
+ghost use Rattle.type_lattice.specs.Merging.{arrays_merged, class_merged, items_merged, leaf_merged, merged, names_merged};
 
-use crate::assigning::{OBJECT, reference_of};
+use crate::assigning::OBJECT;
+use crate::comparing::{both_within, reference_of};
 use crate::indexed::{Indexed, first_above, is_interface};
 use bytecode_model::{is_array, push_described};
 use cert_format::{Name, VType};
@@ -71,25 +70,6 @@ fn push_items_merged(
     }
 }
 
-/// The items of both, where both are arrays.
-fn both_within<'a>(a: &'a [u8], b: &'a [u8]) -> Option<(&'a [u8], &'a [u8])>
-    ensures { option_map (λ r. (r.0.now, r.1.now)) result ≡ both_within a.now b.now }
-{
-    match a {
-        [] => None,
-        [c, x @ ..] => {
-            match b {
-                [] => None,
-                [d, y @ ..] => if *c == b'[' && *d == b'[' {
-                    Some((x, y))
-                } else {
-                    None
-                },
-            }
-        }
-    }
-}
-
 /// Of two arrays of these items.
 fn arrays_merged(alloc: Global, program: &Indexed, a: &[u8], b: &[u8]) -> Result<Bytes, NoMemory>
     ensures { IfOk result (λ name. name ≡ arrays_merged program.now object a.now b.now) }
@@ -112,20 +92,9 @@ fn arrays_merged(alloc: Global, program: &Indexed, a: &[u8], b: &[u8]) -> Result
 fn names_merged(alloc: Global, program: &Indexed, a: &[u8], b: &[u8]) -> Result<Bytes, NoMemory>
     ensures { IfOk result (λ name. name ≡ names_merged program.now a.now b.now) }
 {
-    match a {
-        [] => Bytes::from_slice(alloc, leaf_merged(program, a, b)),
-        [c, x @ ..] => {
-            match b {
-                [] => Bytes::from_slice(alloc, leaf_merged(program, a, b)),
-                [d, y @ ..] => {
-                    if *c == b'[' && *d == b'[' {
-                        arrays_merged(alloc, program, x, y)
-                    } else {
-                        Bytes::from_slice(alloc, leaf_merged(program, a, b))
-                    }
-                }
-            }
-        }
+    match both_within(a, b) {
+        None => Bytes::from_slice(alloc, leaf_merged(program, a, b)),
+        Some((x, y)) => arrays_merged(alloc, program, x, y),
     }
 }
 

@@ -1,4 +1,4 @@
-use Rattle.std.proofs.Common.{◌≡◌, ◌⊎◌, length}
+use Rattle.std.proofs.Common.{◌⊎◌, length}
 use Rattle.std.specs.Prelude.{Contains, IsTrue}
 use Rattle.bytecode_model.specs.declared.program.Handler.{Handler}
 use Rattle.bytecode_model.specs.Rules.{covers}

@@ -4,7 +4,7 @@ use Rattle.bytecode_model.specs.Makes.{type_at}
 use Rattle.bytecode_model.specs.Rules.{entry_locals}
 use Rattle.bytecode_model.specs.Order.{IsInOrder}
 use Rattle.type_infer.specs.Solving.{Scope, State, Holds, IsRaisedBy, begun, place_of, put}
-use Rattle.type_infer.proofs.Flowing.{laws_of, place_is}
+use Rattle.type_infer.proofs.Flowing.{place_is}
 use Rattle.type_infer.proofs.Solutions.{begun_holds, entered, nothing, nothing_holds}
 use Rattle.type_infer.proofs.Stepping.{state_is}
 use Rattle.type_infer.proofs.solving.begun.Goals as goal
@@ -12,9 +12,7 @@ use Rattle.type_infer.proofs.solving.begun.Goals as goal
 pub returns-in_default-clause-holds : goal.returns-in_default-clause-holds
 returns-in_default-clause-holds c limit above met =
     let scope = c.args.body.now in
-    let assign = c.assignable_is_an_order.ensures in
-    let rows = c.rows_follow_the_order.ensures in
-    let laws = laws_of assign.reflexive assign.transitive assign.thrown rows.reflexive rows.transitive rows.alone rows.left rows.thrown scope.program met.ready.order in
+    let laws = c.laws_hold.ensures scope.program met.ready.order in
     let count : c.len.result ≡ length scope.method.insns = c.len.ensures ∙ ap (λ (s : Scope). length s.method.insns) c.body.view_is in
     let is : c.in_ok-work.work ≡ nothing scope laws =
     state_is c.in_ok-work.work (replicate (length scope.method.insns) None) (replicate (length scope.method.insns) false)
@@ -27,9 +25,7 @@ returns-clause-holds c limit above met =
     let scope = c.args.body.now in
     let place = c.in-Some.place in
     let first = c.in_ok-first.first in
-    let assign = c.assignable_is_an_order.ensures in
-    let rows = c.rows_follow_the_order.ensures in
-    let laws = laws_of assign.reflexive assign.transitive assign.thrown rows.reflexive rows.transitive rows.alone rows.left rows.thrown scope.program met.ready.order in
+    let laws = c.laws_hold.ensures scope.program met.ready.order in
     let count : c.len.result ≡ length scope.method.insns = c.len.ensures ∙ ap (λ (s : Scope). length s.method.insns) c.body.view_is in
     let is : c.in_ok-work.work ≡ nothing scope laws =
     state_is c.in_ok-work.work (replicate (length scope.method.insns) None) (replicate (length scope.method.insns) false)

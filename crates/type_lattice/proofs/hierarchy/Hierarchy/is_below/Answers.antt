@@ -19,8 +19,8 @@ leads_to-requires-clause-at c =
 
 pub leads_to-requires-clause-above : goal.leads_to-requires-clause-above
 leads_to-requires-clause-above c =
-    let at : class_place c.self.inside.classes c.args.above.now ≡ Some c.in-Some-place_of.above = sym (c.in-Some-place_of.ensures ∙ c.self.invariant.placed c.args.above.now) in
-    subst (λ (l : List (Option ℕ)). c.in-Some-place_of.above < length l) (sym c.self.invariant.parents) (place_within c.self.inside.classes c.self.invariant.ends c.args.above.now c.in-Some-place_of.above at)
+    let at : class_place c.self.inside.classes c.args.above.now ≡ Some c.in-Some-noted.above = sym (c.in-Some-noted.ensures ∙ c.self.invariant.placed c.args.above.now) in
+    subst (λ (l : List (Option ℕ)). c.in-Some-noted.above < length l) (sym c.self.invariant.parents) (place_within c.self.inside.classes c.self.invariant.ends c.args.above.now c.in-Some-noted.above at)
 
 pub returns-in-None : goal.returns-in-None
 returns-in-None c =
@@ -28,11 +28,11 @@ returns-in-None c =
     sym (nothing_above c.self.inside.classes c.self.invariant.ends c.args.class.now c.args.above.now none)
     ∙ ap (λ (cs : List ListedClass). is_up cs c.args.class.now c.args.above.now) c.self.view_is
 
-pub returns-in-Some-place_of : goal.returns-in-Some-place_of
-returns-in-Some-place_of c =
+pub returns-in-Some-noted : goal.returns-in-Some-noted
+returns-in-Some-noted c =
     let classes = c.self.inside.classes in
     let at : class_place classes c.args.class.now ≡ Some c.in-Some.class = sym (c.in-Some.ensures ∙ c.self.invariant.placed c.args.class.now) in
-    let up : class_place classes c.args.above.now ≡ Some c.in-Some-place_of.above = sym (c.in-Some-place_of.ensures ∙ c.self.invariant.placed c.args.above.now) in
-    c.leads_to.ensures ∙ ap (λ (l : List (Option ℕ)). has_place (way l c.in-Some.class) c.in-Some-place_of.above) c.self.invariant.parents
-    ∙ sym (up_is classes c.self.invariant.ends c.args.class.now c.args.above.now c.in-Some.class c.in-Some-place_of.above at up)
+    let up : class_place classes c.args.above.now ≡ Some c.in-Some-noted.above = sym (c.in-Some-noted.ensures ∙ c.self.invariant.placed c.args.above.now) in
+    c.leads_to.ensures ∙ ap (λ (l : List (Option ℕ)). has_place (way l c.in-Some.class) c.in-Some-noted.above) c.self.invariant.parents
+    ∙ sym (up_is classes c.self.invariant.ends c.args.class.now c.args.above.now c.in-Some.class c.in-Some-noted.above at up)
     ∙ ap (λ (cs : List ListedClass). is_up cs c.args.class.now c.args.above.now) c.self.view_is
