@@ -2,8 +2,6 @@
 use Rattle.std.proofs.Common.{
   ◌≡◌,
   ℕ,
-  zero,
-  suc,
   ◌+◌,
   ◌<◌,
   ℤ,
@@ -21,7 +19,6 @@ use Rattle.std.proofs.Common.{
   ap,
   subst,
   ◌∙◌,
-  arith,
 }
 use Rattle.std.specs.Prelude.{◌==◌, ◌&&◌, bytes_eq, codes, nat_le, nat_lt, int_le}
 use Rattle.std.specs.Ordering.{int_eq}
@@ -76,8 +73,21 @@ use Rattle.offset_patch.specs.Entries.{variable_type}
 use Rattle.block_template.specs.Pushing.{field, load, local, negated, push, store}
 use Rattle.block_template.specs.Typed.{Stands, operand_of}
 use Rattle.block_template.proofs.Acting.{Acts}
+use Rattle.block_template.proofs.Insns.{four}
 
 -- ---- loads and stores
+
+pub iload_shape : (slot : ℕ) → slot < 4 → plain_shape (ILOAD_0 + slot) ≡ shapes.Load operands.Int slot
+iload_shape = four (λ slot. plain_shape (ILOAD_0 + slot) ≡ shapes.Load operands.Int slot) refl refl refl refl
+
+pub aload_shape : (slot : ℕ) → slot < 4 → plain_shape (ALOAD_0 + slot) ≡ shapes.Load operands.Reference slot
+aload_shape = four (λ slot. plain_shape (ALOAD_0 + slot) ≡ shapes.Load operands.Reference slot) refl refl refl refl
+
+pub istore_shape : (slot : ℕ) → slot < 4 → plain_shape (ISTORE_0 + slot) ≡ shapes.Store operands.Int slot
+istore_shape = four (λ slot. plain_shape (ISTORE_0 + slot) ≡ shapes.Store operands.Int slot) refl refl refl refl
+
+pub astore_shape : (slot : ℕ) → slot < 4 → plain_shape (ASTORE_0 + slot) ≡ shapes.Store operands.Reference slot
+astore_shape = four (λ slot. plain_shape (ASTORE_0 + slot) ≡ shapes.Store operands.Reference slot) refl refl refl refl
 
 module _ (place : Place) where
   shape_by : (b : Bool) (slot short op : ℕ) (shape : Shape) → nat_lt slot 4 ≡ b → (slot < 4 → plain_shape (short + slot) ≡ shape)
@@ -85,34 +95,6 @@ module _ (place : Place) where
       → Stands (cond b (Plain (short + slot)) (Local op slot (nat_le 256 slot))) place → shape_of place.insn ≡ shape
   shape_by true slot short op shape e f g stands = ap shape_of stands.is ∙ f (ltb-true _ _ e)
   shape_by false slot short op shape e f g stands = ap shape_of stands.is ∙ g
-
-  iload_shape : (slot : ℕ) → slot < 4 → plain_shape (ILOAD_0 + slot) ≡ shapes.Load operands.Int slot
-  iload_shape zero lt = refl
-  iload_shape (suc zero) lt = refl
-  iload_shape (suc (suc zero)) lt = refl
-  iload_shape (suc (suc (suc zero))) lt = refl
-  iload_shape (suc (suc (suc (suc slot)))) lt = absurd (omega arith)
-
-  aload_shape : (slot : ℕ) → slot < 4 → plain_shape (ALOAD_0 + slot) ≡ shapes.Load operands.Reference slot
-  aload_shape zero lt = refl
-  aload_shape (suc zero) lt = refl
-  aload_shape (suc (suc zero)) lt = refl
-  aload_shape (suc (suc (suc zero))) lt = refl
-  aload_shape (suc (suc (suc (suc slot)))) lt = absurd (omega arith)
-
-  istore_shape : (slot : ℕ) → slot < 4 → plain_shape (ISTORE_0 + slot) ≡ shapes.Store operands.Int slot
-  istore_shape zero lt = refl
-  istore_shape (suc zero) lt = refl
-  istore_shape (suc (suc zero)) lt = refl
-  istore_shape (suc (suc (suc zero))) lt = refl
-  istore_shape (suc (suc (suc (suc slot)))) lt = absurd (omega arith)
-
-  astore_shape : (slot : ℕ) → slot < 4 → plain_shape (ASTORE_0 + slot) ≡ shapes.Store operands.Reference slot
-  astore_shape zero lt = refl
-  astore_shape (suc zero) lt = refl
-  astore_shape (suc (suc zero)) lt = refl
-  astore_shape (suc (suc (suc zero))) lt = refl
-  astore_shape (suc (suc (suc (suc slot)))) lt = absurd (omega arith)
 
   number_loaded : (slot : ℕ) → Stands (local ILOAD_0 ILOAD slot) place → shape_of place.insn ≡ shapes.Load operands.Int slot
   number_loaded slot = shape_by (nat_lt slot 4) slot ILOAD_0 ILOAD (shapes.Load operands.Int slot) refl (iload_shape slot) refl

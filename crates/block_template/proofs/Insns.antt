@@ -89,7 +89,8 @@ slot_fits slot few = by (nat_le 256 slot) refl
     by true e = few
     by false e = grind (arith, nat_tests)
 
-four : (P : ℕ → Type 0) → P 0 → P 1 → P 2 → P 3 → (k : ℕ) → k < 4 → P k
+-- by the four slots that have opcodes of their own
+pub four : (P : ℕ → Type 0) → P 0 → P 1 → P 2 → P 3 → (k : ℕ) → k < 4 → P k
 four P a b c d zero h = a
 four P a b c d (suc zero) h = b
 four P a b c d (suc (suc zero)) h = c

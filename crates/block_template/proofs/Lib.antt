@@ -12,6 +12,7 @@ pub mod Laying
 pub mod CheckFlows
 pub mod PartFlows
 pub mod BlockFlows
+pub mod Suits
 pub mod Types
 pub mod Acting
 pub mod Doing
@@ -21,3 +22,4 @@ pub mod CatchesTyped
 pub mod Reaching
 pub mod ItemsTyped
 pub mod Calling
+pub mod Plans

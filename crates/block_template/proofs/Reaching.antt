@@ -10,11 +10,7 @@ use Rattle.std.proofs.Common.{
   false,
   cond,
   List,
-  [],
-  ◌∷◌,
-  ◌++◌,
   length,
-  map,
   Option,
   Some,
   None,
@@ -27,8 +23,7 @@ use Rattle.std.proofs.Common.{
   inl,
   inr,
 }
-use Rattle.std.specs.Prelude.{IfSome, is_some, option_and_then, option_map, slice_get, ⊤}
-use Rattle.std.specs.List.{AllByRecursion}
+use Rattle.std.specs.Prelude.{IfSome, is_some, option_and_then, option_map, slice_get}
 use Rattle.std.specs.Option.{option_map_or}
 use Rattle.std.proofs.lemmas.Bool.{false≢true}
 use Rattle.cert_format.specs.declared.certificate.Mode.{Mode}
@@ -48,24 +43,8 @@ use Rattle.insn_codec.specs.declared.opcodes.TheConstants.{GOTO, ATHROW}
 use Rattle.block_template.specs.declared.item.Item.{Item}
 use Rattle.block_template.specs.declared.item.Role.{Role}
 use Rattle.block_template.specs.declared.item.Role.TheVariants as roles
-use Rattle.block_template.specs.Blocks.{
-  Clauses,
-  behind,
-  catches,
-  called,
-  checked,
-  from_call,
-  front,
-  lets_pass,
-  handler,
-  handler_at,
-  items,
-  released,
-  rethrow,
-  with_handler,
-}
+use Rattle.block_template.specs.Blocks.{Clauses, catches, handler_at, items}
 use Rattle.block_template.specs.Flow.{
-  AreForPhases,
   ask_insn,
   branch_at,
   branches_in,
@@ -95,29 +74,11 @@ use Rattle.block_template.specs.Flow.{
   update_insn,
   updated,
 }
-use Rattle.block_template.specs.Parts.{
-  ask,
-  asks,
-  branch_size,
-  branches,
-  branches_size,
-  check,
-  give,
-  if_reached,
-  keep,
-  loads,
-  lock,
-  save,
-  tried,
-  unlock,
-  unreached,
-  write,
-  writes,
-}
 use Rattle.block_template.specs.Pushing.{load, store}
 use Rattle.block_template.specs.Reached.{BlocksAreReached, IsReached}
 use Rattle.block_template.proofs.BlockFlows.{blocks_flow}
 use Rattle.block_template.proofs.CheckFlows.{load_stays, push_stays, store_stays}
+use Rattle.block_template.proofs.Suits.{Suits, items_suit}
 
 -- ---- roles that come first
 
@@ -199,19 +160,12 @@ module _ (clauses : Clauses) where
 
   -- ---- locks
 
-  -- A lock is taken for a check, or before the call.
-  abbrev pub TakesLock : Role → Type 0
-  TakesLock (roles.Lock Before pushed) = ⊤
-  TakesLock (roles.Lock After pushed) = is_some clauses.after ≡ true
-  TakesLock (roles.Lock Exceptional pushed) = is_some clauses.exceptional ≡ true
-  TakesLock other = ⊤
-
-  locked_reached : (phase : Phase) (o : Option Clause) → clause_in clauses phase ≡ o → TakesLock (roles.Lock phase true)
+  locked_reached : (mode : Mode) (phase : Phase) (o : Option Clause) → clause_in clauses phase ≡ o → Suits mode clauses (roles.Lock phase true)
       → IsReached (locked_for o phase)
-  locked_reached phase (Some clause) e takes = tries_reached phase 0 clause.branches
-  locked_reached Before None e takes = λ u. absurd cc
-  locked_reached After None e takes = absurd (false≢true (sym (ap is_some e) ∙ takes))
-  locked_reached Exceptional None e takes = absurd (false≢true (sym (ap is_some e) ∙ takes))
+  locked_reached mode phase (Some clause) e suits = tries_reached phase 0 clause.branches
+  locked_reached mode Before None e suits = λ u. absurd cc
+  locked_reached mode After None e suits = absurd (false≢true (sym (ap is_some e) ∙ suits))
+  locked_reached mode Exceptional None e suits = absurd (false≢true (sym (ap is_some e) ∙ suits))
 
   -- ---- what comes next
 
@@ -249,28 +203,28 @@ module _ (clauses : Clauses) where
         → may_pass insn ≡ true → ⊥
     never_passes one insn e stays passes = false≢true (sym stays ∙ ap may_pass (some_is one insn e) ∙ passes)
 
-    pub next_reached : (role : Role) (insn : BlockInsn) → insn_of bools base clauses end to role ≡ Some insn → TakesLock role
+    pub next_reached : (role : Role) (insn : BlockInsn) → insn_of bools base clauses end to role ≡ Some insn → Suits mode clauses role
         → may_pass insn ≡ true → IsReached (next mode clauses role)
-    next_reached (roles.Save zero) insn e takes passes = absurd cc
-    next_reached (roles.Save (suc n)) insn e takes passes = saving_reached n
-    next_reached (roles.Lock phase false) insn e takes passes = λ u. absurd cc
-    next_reached (roles.Lock phase true) insn e takes passes = locked_reached phase (clause_in clauses phase) refl takes
-    next_reached (roles.Ask phase n m zero) insn e takes passes = λ u. absurd cc
-    next_reached (roles.Ask phase n m (suc zero)) insn e takes passes = λ u. absurd cc
-    next_reached (roles.Ask phase n m (suc (suc pushed))) insn e takes passes =
+    next_reached (roles.Save zero) insn e suits passes = absurd cc
+    next_reached (roles.Save (suc n)) insn e suits passes = saving_reached n
+    next_reached (roles.Lock phase false) insn e suits passes = λ u. absurd cc
+    next_reached (roles.Lock phase true) insn e suits passes = locked_reached mode phase (clause_in clauses phase) refl suits
+    next_reached (roles.Ask phase n m zero) insn e suits passes = λ u. absurd cc
+    next_reached (roles.Ask phase n m (suc zero)) insn e suits passes = λ u. absurd cc
+    next_reached (roles.Ask phase n m (suc (suc pushed))) insn e suits passes =
         asked_reached phase n m (suc (suc pushed)) insn (branch_at clauses phase n) e
-    next_reached (roles.Update phase n u done) insn e takes passes = updated_reached phase n u done insn (branch_at clauses phase n) e
-    next_reached (roles.Taken phase n) insn e takes passes = absurd (never_passes (Jump GOTO to) insn e refl passes)
-    next_reached (roles.Stop phase done) insn e takes passes = λ u. absurd cc
-    next_reached (roles.Unlock phase checked false) insn e takes passes = λ u. absurd cc
-    next_reached (roles.Unlock phase checked true) insn e takes passes = unlocked_reached phase
-    next_reached (roles.Load n locked) insn e takes passes = loading_reached (n + 1) locked
-    next_reached (roles.Call locked) insn e takes passes = returned_reached mode clauses.after
-    next_reached (roles.Keep locked) insn e takes passes = kept_reached insn clauses.after e
-    next_reached roles.Give insn e takes passes = λ u. absurd cc
-    next_reached roles.Leave insn e takes passes = absurd (never_passes (Jump GOTO end) insn e refl passes)
-    next_reached roles.Rethrow insn e takes passes = absurd (never_passes (Plain ATHROW) insn e refl passes)
-    next_reached roles.Unreached insn e takes passes = absurd cc
+    next_reached (roles.Update phase n u done) insn e suits passes = updated_reached phase n u done insn (branch_at clauses phase n) e
+    next_reached (roles.Taken phase n) insn e suits passes = absurd (never_passes (Jump GOTO to) insn e refl passes)
+    next_reached (roles.Stop phase done) insn e suits passes = λ u. absurd cc
+    next_reached (roles.Unlock phase checked false) insn e suits passes = λ u. absurd cc
+    next_reached (roles.Unlock phase checked true) insn e suits passes = unlocked_reached phase
+    next_reached (roles.Load n locked) insn e suits passes = loading_reached (n + 1) locked
+    next_reached (roles.Call locked) insn e suits passes = returned_reached mode clauses.after
+    next_reached (roles.Keep locked) insn e suits passes = kept_reached insn clauses.after e
+    next_reached roles.Give insn e suits passes = λ u. absurd cc
+    next_reached roles.Leave insn e suits passes = absurd (never_passes (Jump GOTO end) insn e refl passes)
+    next_reached roles.Rethrow insn e suits passes = absurd (never_passes (Plain ATHROW) insn e refl passes)
+    next_reached roles.Unreached insn e suits passes = absurd cc
 
     -- ---- where it jumps
 
@@ -327,135 +281,6 @@ module _ (clauses : Clauses) where
     lands roles.Rethrow insn e = so roles.Rethrow _ insn e refl
     lands roles.Unreached insn e = absurd cc
 
-  -- ---- the locks of a block
-
-  abbrev pub Locks : List Item → Type 0
-  Locks list = AllByRecursion (λ (i : Item). TakesLock i.role) list
-
-  both : (xs ys : List Item) → Locks xs → Locks ys → Locks (xs ++ ys)
-  both [] ys f g = g
-  both (x ∷ xs) ys f g = (f.0, both xs ys f.1 g)
-
-  unreached_locks : (xs : List Item) → Locks (map unreached xs)
-  unreached_locks [] = tt
-  unreached_locks (x ∷ xs) = (tt, unreached_locks xs)
-
-  reached_locks : (b : Bool) (xs : List Item) → Locks xs → Locks (if_reached b xs)
-  reached_locks true xs f = f
-  reached_locks false xs f = unreached_locks xs
-
-  save_locks : (base n : ℕ) (args : List Kind) → Locks (save base n args)
-  save_locks base n [] = tt
-  save_locks base n (kind ∷ others) = both (save base (n + 1) others) _ (save_locks base (n + 1) others) (tt, tt)
-
-  loads_locks : (locked : Bool) (base n : ℕ) (args : List Kind) → Locks (loads locked base n args)
-  loads_locks locked base n [] = tt
-  loads_locks locked base n (kind ∷ others) = (tt, loads_locks locked base (n + 1) others)
-
-  asks_locks : (bools : List Bool) (base : ℕ) (phase : Phase) (branch n next : ℕ) (atoms : List Atom)
-      → Locks (asks bools base phase branch n next atoms)
-  asks_locks bools base phase branch n next [] = tt
-  asks_locks bools base phase branch n next (atom ∷ atoms) =
-      both (ask bools base phase branch n next atom) _ (tt, (tt, (tt, tt))) (asks_locks bools base phase branch (n + 1) next atoms)
-
-  write_locks : (bools : List Bool) (phase : Phase) (branch n : ℕ) (x : Update) → Locks (write bools phase branch n x)
-  write_locks bools phase branch n (Set var value) = (tt, (tt, tt))
-  write_locks bools phase branch n (Add var by) = (tt, (tt, (tt, (tt, tt))))
-
-  writes_locks : (bools : List Bool) (phase : Phase) (branch n : ℕ) (updates : List Update) → Locks (writes bools phase branch n updates)
-  writes_locks bools phase branch n [] = tt
-  writes_locks bools phase branch n (x ∷ updates) =
-      both (write bools phase branch n x) _ (write_locks bools phase branch n x) (writes_locks bools phase branch (n + 1) updates)
-
-  branches_locks : (bools : List Bool) (base : ℕ) (phase : Phase) (n at done : ℕ) (bs : List Branch)
-      → Locks (branches bools base phase n at done bs)
-  branches_locks bools base phase n at done [] = (tt, (tt, (tt, (tt, tt))))
-  branches_locks bools base phase n at done (branch ∷ others) =
-      both (tried bools base phase n (at + branch_size branch) done branch) _
-      (both (asks bools base phase n 0 (at + branch_size branch) branch.atoms) _
-      (asks_locks bools base phase n 0 (at + branch_size branch) branch.atoms)
-      (both (writes bools phase n 0 branch.updates) _ (writes_locks bools phase n 0 branch.updates) (tt, tt)))
-      (branches_locks bools base phase (n + 1) (at + branch_size branch) done others)
-
-  checked_locks : (bools : List Bool) (base at : ℕ) (clause : Clause) (later : List Item) → Locks later
-      → Locks (checked bools base at clause later)
-  checked_locks bools base at clause later f =
-      both (check bools base at clause) _
-      (branches_locks bools base clause.phase 0 at (at + branches_size clause.branches) clause.branches) (reached_locks _ later f)
-
-  unlock_locks : (phase : Phase) (checked : Bool) (later : List Item) → Locks later → Locks (unlock phase checked ++ later)
-  unlock_locks phase checked later f = (tt, (tt, f))
-
-  lock_locks : (phase : Phase) (clause : Clause) → clause_in clauses phase ≡ Some clause → Locks (lock phase)
-  lock_locks Before clause e = (tt, (tt, tt))
-  lock_locks After clause e = (ap is_some e, (ap is_some e, tt))
-  lock_locks Exceptional clause e = (ap is_some e, (ap is_some e, tt))
-
-  released_locks : (phase : Phase) (clause : Clause) → clause_in clauses phase ≡ Some clause → clause.phase ≡ phase
-      → (bools : List Bool) (base at : ℕ) (later : List Item)
-      → Locks later → Locks (released bools base at clause later)
-  released_locks phase clause there for bools base at later f =
-      both (lock clause.phase) _ (subst (λ (p : Phase). Locks (lock p)) (sym for) (lock_locks phase clause there))
-      (checked_locks bools base (at + 2) clause (unlock clause.phase true ++ later) (unlock_locks clause.phase true later f))
-
-  module _ (phases : AreForPhases clauses) (bools : List Bool) (base : ℕ) where
-    front_locks : (mode : Mode) (o : Option Clause) → clauses.before ≡ o → Locks (front mode bools base o)
-    front_locks Release None e = tt
-    front_locks Hold None e = (tt, (tt, tt))
-    front_locks Release (Some clause) e =
-        both (save base 0 clause.args) _ (save_locks base 0 clause.args)
-        (released_locks Before clause e (subst (λ (o : Option Clause). IfSome o (λ c. c.phase ≡ Before)) e phases.before) bools base
-        (length clause.args) _ (loads_locks false base 0 clause.args))
-    front_locks Hold (Some clause) e =
-        both (save base 0 clause.args) _ (save_locks base 0 clause.args)
-        (both (lock Before) _ (tt, (tt, tt))
-        (checked_locks bools base (length clause.args + 2) clause _ (loads_locks true base 0 clause.args)))
-
-    give_locks : (o : Option Kind) → Locks (give base o)
-    give_locks None = tt
-    give_locks (Some kind) = (tt, tt)
-
-    keep_locks : (locked : Bool) (o : Option Kind) → Locks (keep locked base o)
-    keep_locks locked None = tt
-    keep_locks locked (Some kind) = (tt, tt)
-
-    behind_locks : (mode : Mode) (at : ℕ) (o : Option Clause) → clauses.after ≡ o → Locks (behind mode bools base at o)
-    behind_locks Release at None e = tt
-    behind_locks Hold at None e = (tt, (tt, tt))
-    behind_locks Release at (Some clause) e =
-        both (keep false base clause.result) _ (keep_locks false clause.result)
-        (released_locks After clause e (subst (λ (o : Option Clause). IfSome o (λ c. c.phase ≡ After)) e phases.after) bools base _ _
-        (give_locks clause.result))
-    behind_locks Hold at (Some clause) e =
-        both (keep true base clause.result) _ (keep_locks true clause.result)
-        (checked_locks bools base _ clause _ (unlock_locks After true _ (give_locks clause.result)))
-
-    handler_locks : (mode : Mode) (at : ℕ) (o : Option Clause) → clauses.exceptional ≡ o → Locks (handler mode bools base at o)
-    handler_locks Release at None e = tt
-    handler_locks Hold at None e = (tt, (tt, (tt, tt)))
-    handler_locks Release at (Some clause) e =
-        released_locks Exceptional clause e
-        (subst (λ (o : Option Clause). IfSome o (λ c. c.phase ≡ Exceptional)) e phases.exceptional) bools base at rethrow (tt, tt)
-    handler_locks Hold at (Some clause) e = checked_locks bools base at clause _ (unlock_locks Exceptional true rethrow (tt, tt))
-
-    with_locks : (mode : Mode) (at : ℕ) → Locks (with_handler mode bools base at clauses)
-    with_locks mode at =
-        both (if_reached (lets_pass clauses.after) _) (handler mode bools base at clauses.exceptional)
-        (reached_locks (lets_pass clauses.after) _ (tt, tt))
-        (handler_locks mode at clauses.exceptional refl)
-
-    caught_locks : (mode : Mode) (at : ℕ) (b : Bool) → Locks (cond b (with_handler mode bools base (at + 1) clauses) [])
-    caught_locks mode at true = with_locks mode (at + 1)
-    caught_locks mode at false = tt
-
-    pub items_locks : (mode : Mode) → Locks (items mode bools base clauses)
-    items_locks mode =
-        both (front mode bools base clauses.before) _ (front_locks mode clauses.before refl)
-        (reached_locks (lets_pass clauses.before) (from_call mode bools base (length (front mode bools base clauses.before)) clauses)
-        (both (called mode bools base (length (front mode bools base clauses.before)) clauses) _
-        (tt, behind_locks mode (length (front mode bools base clauses.before) + 1) clauses.after refl)
-        (caught_locks mode _ (catches mode clauses.exceptional))))
-
 -- ---- blocks
 
 landed : (there : ℕ → Role) (role : Role) (o : Option ℕ) → IfSome o (λ place. there place ≡ role) → (o ≡ None) ⊎ IsReached role
@@ -478,11 +303,11 @@ blocks_are_reached mode bools base clauses phases =
       goes =
           λ at i there reached.
           let led = flows.goes at i there reached in
-          let takes = all_get (λ (x : Item). TakesLock clauses x.role) all at i (items_locks clauses phases bools base mode) there in
+          let suits = all_get (λ (x : Item). Suits mode clauses x.role) all at i (items_suit mode clauses phases bools base) there in
           record {
             passes =
                 λ p. subst IsReached (sym (led.passes p))
-                (next_reached clauses mode bools base (length all) led.is.0 i.role i.insn led.is.1 takes p);
+                (next_reached clauses mode bools base (length all) led.is.0 i.role i.insn led.is.1 suits p);
             lands = landed (role_at all) (jumps mode clauses i.role) (jump_of i.insn) led.lands
                 (lands clauses mode bools base (length all) led.is.0 i.role i.insn led.is.1);
           };

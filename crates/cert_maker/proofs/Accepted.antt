@@ -39,7 +39,8 @@ use Rattle.class_weaving.specs.Outcome.{Each, IsFreeOfState, IsFreeTarget, IsWov
 use Rattle.class_weaving.specs.Woven.{sites_of}
 use Rattle.cert_maker.specs.Accepting.{IsStopped, WovenIsAccepted}
 use Rattle.cert_maker.specs.Noting.{certificate_of, class_notes, method_notes}
-use Rattle.cert_maker.proofs.Body.{Body, same_length}
+use Rattle.class_weaving.proofs.Bodies.{same_length}
+use Rattle.cert_maker.proofs.Body.{Body, weaves}
 use Rattle.cert_maker.proofs.ClausesAlike.{result_alike}
 use Rattle.class_weaving.proofs.Lists.{each_back, slice_there}
 use Rattle.cert_maker.proofs.WholeMethods.{passes}
@@ -173,7 +174,7 @@ module _ (old new : Program) (policy : Policy) (mode : Mode) (typing : Typing) (
 
       right_at : (i : ℕ) (ref : Target) → slice_get method.refs i ≡ Some ref → (insn : Insn) × IsRightOperand old class insn ref
       right_at i ref e =
-          let insn = slice_there method.insns i (omega (arith, slice_get_within method.refs i ref e, same_length body)) in
+          let insn = slice_there method.insns i (omega (arith, slice_get_within method.refs i ref e, same_length (weaves body))) in
           (insn.0, right own index i class method insn.0 ref class_there method_there insn.1 e)
 
       ready : IsReady body frames

@@ -1,7 +1,6 @@
--- An instruction whose targets are at their fronts: where it goes, and that a call stays as it is.
-use Rattle.std.proofs.Common.{◌≡◌, ℕ, ◌<◌, Bool, true, false, cond, List, [], ◌∷◌, map, refl, ap, sym, ◌∙◌}
-use Rattle.std.specs.Prelude.{◌==◌, nat_lt, slice_index}
-use Rattle.std.specs.List.{AllByRecursion}
+-- A call stays as it is where targets are at their fronts.
+use Rattle.std.proofs.Common.{◌≡◌, ℕ, Bool, true, false, cond, List, [], refl, ap, sym, ◌∙◌}
+use Rattle.std.specs.Prelude.{◌==◌, nat_lt}
 use Rattle.std.proofs.lemmas.Bool.{false≢true}
 use Rattle.insn_codec.specs.declared.insn.Insn.{Insn}
 use Rattle.insn_codec.specs.declared.insn.Insn.TheVariants as insns
@@ -10,34 +9,9 @@ use Rattle.insn_codec.specs.declared.shape.How.{How}
 use Rattle.insn_codec.specs.declared.shape.Shape.{Shape}
 use Rattle.insn_codec.specs.declared.shape.Shape.TheVariants as shapes
 use Rattle.insn_codec.specs.Control.{jump_targets}
-use Rattle.insn_codec.specs.Fits.{AimsWithin}
 use Rattle.insn_codec.specs.Shapes.{branch_shape, comparing_shape, shape_of, test_shape}
 use Rattle.offset_patch.specs.Splicing.{aimed}
 use Rattle.block_logic.specs.Operands.{calls}
-
--- ---- where it goes
-
-module _ (fronts : List ℕ) (n : ℕ) (moved : ℕ → ℕ) (same : (i : ℕ) → i < n → slice_index fronts i ≡ moved i) where
-  all_moved : (targets : List ℕ) → AllByRecursion (λ to. to < n) targets → map (slice_index fronts) targets ≡ map moved targets
-  all_moved [] h = refl
-  all_moved (to ∷ targets) h = rw (same to h.0, all_moved targets h.1) refl
-
-  pub jumps_moved : (x : Insn) → AimsWithin n x → jump_targets (aimed fronts x) ≡ map moved (jump_targets x)
-  jumps_moved (insns.Branch op to) h = ap (λ t. t ∷ []) (same to h)
-  jumps_moved (insns.GotoW to) h = ap (λ t. t ∷ []) (same to h)
-  jumps_moved (insns.Table other low targets) h = rw (same other h.0, all_moved targets h.1) refl
-  jumps_moved (insns.Lookup other keys targets) h = rw (same other h.0, all_moved targets h.1) refl
-  jumps_moved (insns.Plain op) h = refl
-  jumps_moved (insns.Byte k) h = refl
-  jumps_moved (insns.Short k) h = refl
-  jumps_moved (insns.Ldc index) h = refl
-  jumps_moved (insns.Pool op index) h = refl
-  jumps_moved (insns.Iface index count) h = refl
-  jumps_moved (insns.Local op slot wide) h = refl
-  jumps_moved (insns.Inc slot by wide) h = refl
-  jumps_moved (insns.NewArray kind) h = refl
-
--- ---- calls
 
 either : (b : Bool) (x y : Shape) → calls x ≡ false → calls y ≡ false → calls (cond b x y) ≡ false
 either true x y p q = p

@@ -35,7 +35,7 @@ use Rattle.block_logic.specs.Clauses.{clause_at, needs, result_kind}
 use Rattle.block_logic.specs.Notes.{is_granted}
 use Rattle.block_logic.specs.Operands.{calls}
 use Rattle.block_logic.specs.Rows as rows
-use Rattle.block_logic.specs.Rows.{Asked, Given, Nothing, Open, Taking, Row, gives, is_addend, leads, may_leave, may_push, note_taken, term_pushed}
+use Rattle.block_logic.specs.Rows.{Asked, Given, Open}
 use Rattle.block_logic.specs.Standing.{asks_kept, is_hold, done}
 use Rattle.cert_maker.proofs.Checks.{Arrives, Blocked, branch_is, clause_of_site, clauses, note, rules, same_inside, site, tries_arrives}
 use Rattle.cert_maker.proofs.RoleRows.{give, leave, load, lock_class, lock_taken, of_does, rethrow, save, stop, unlock_class, unlock_left}
@@ -45,7 +45,7 @@ use Rattle.cert_maker.proofs.Roles.{IsNoted, call_note, held_noted, owed_wide, r
 use Rattle.cert_maker.proofs.Rows.{owed_keeps, called, granted_calls}
 use Rattle.cert_maker.proofs.Same.{same_bool, same_number}
 use Rattle.cert_maker.proofs.Shapes.{held, pushed, stored}
-use Rattle.cert_maker.proofs.Suits.{Suits}
+use Rattle.block_template.proofs.Suits.{Suits}
 
 module _ (b : Blocked) where
   -- what comes behind the call, or where it throws, once its result is kept

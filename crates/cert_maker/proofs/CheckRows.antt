@@ -46,7 +46,7 @@ use Rattle.block_template.proofs.CheckFlows.{base_stays, push_stays}
 use Rattle.block_logic.specs.Clauses.{is_number}
 use Rattle.block_logic.specs.Operands.{calls}
 use Rattle.block_logic.specs.Rows as rows
-use Rattle.block_logic.specs.Rows.{Asked, Given, Nothing, Open, Taking, Row, gives, is_addend, leads, may_leave, may_push, note_taken, term_pushed}
+use Rattle.block_logic.specs.Rows.{Asked, Given, Row, gives, is_addend, term_pushed}
 use Rattle.block_logic.specs.Standing.{is_after, is_before, done}
 use Rattle.block_logic.specs.Terms.{after_updates, variable_after, as_taken, base_term}
 use Rattle.block_logic.specs.Terms.{written as written_term}

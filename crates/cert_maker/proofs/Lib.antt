@@ -1,7 +1,6 @@
 pub mod Same
 pub mod ClausesAlike
 pub mod Updates
-pub mod Suits
 pub mod Shapes
 pub mod Checks
 pub mod Rows

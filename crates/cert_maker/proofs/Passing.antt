@@ -40,19 +40,21 @@ use Rattle.block_logic.specs.Rows as rows
 use Rattle.block_logic.specs.Rows.{Asked, Open, Row, Rules}
 use Rattle.block_logic.specs.Standing.{is_open}
 use Rattle.class_weaving.specs.Outcome.{own_handlers, part_named}
-use Rattle.cert_maker.proofs.Aiming.{jumps_moved}
+use Rattle.block_template.proofs.Plans.{block_of, none_there, part_item, part_length, site_is}
+use Rattle.class_weaving.proofs.Aiming.{jumps_moved}
+use Rattle.class_weaving.proofs.Bodies.{fronts_are, insn_there, next_front, ref_there}
 use Rattle.cert_maker.proofs.AllRoles.{noted}
-use Rattle.cert_maker.proofs.Body.{Body, base, front, fronts, fronts_are, insn_there, n, next_front, note_there, part, plan, ref_there, refs, sites as sites_in}
+use Rattle.cert_maker.proofs.Body.{Body, base, front, fronts, n, note_there, part, plan, refs, sites as sites_in, weaves}
 use Rattle.block_template.proofs.Calling as calling
 use Rattle.cert_maker.proofs.Checks.{Arrives, Blocked, clauses, note}
 use Rattle.cert_maker.proofs.Covering.{AllMiss, own_none}
-use Rattle.cert_maker.proofs.Plans.{block_of, none_there, note_alone, part_item, part_length, site_is, within as calls_within}
+use Rattle.cert_maker.proofs.Plans.{note_alone, within as calls_within}
 use Rattle.cert_maker.proofs.Roles.{IsNoted}
 use Rattle.cert_maker.proofs.Rows.{and_false}
 use Rattle.cert_maker.proofs.Rules.{all_hold, fault_at, no_fault}
 use Rattle.cert_maker.proofs.Shapes.{goes_past, jumps_to, places_of}
 use Rattle.cert_maker.proofs.Standing.{IsReady, Passes, Reached, all as items_in, blocked, client_catches, contained_right, each_with, entered_at, entered_opens, front_passes, inside, item_reached, item_told, less, rules_in, told, within}
-use Rattle.cert_maker.proofs.Suits.{Suits, items_suit}
+use Rattle.block_template.proofs.Suits.{Suits, items_suit}
 use Rattle.class_weaving.proofs.Unwoven.{part_alone}
 
 pub same_clause : (policy : Policy) (ref : Target) → has_clause policy ref ≡ has_block policy ref
@@ -146,8 +148,8 @@ module _ (b : Body) (frames : List (Option FrameType)) (ready : IsReady b frames
       let call : slice_get (part b ref) 0 ≡ Some Call = ap (λ (xs : List BlockInsn). slice_get xs 0) (part_alone (plan b) (base b) ref free_of) in
       let single : length (part b ref) ≡ 1 = ap length (part_alone (plan b) (base b) ref free_of) in
       let x : Insn = aimed (fronts b) insn in
-      let insn_is = insn_there b i 0 insn ref Call there names call in
-      let ref_is = ref_there b i 0 ref Call names call in
+      let insn_is = insn_there (weaves b) i 0 insn ref Call there names call in
+      let ref_is = ref_there (weaves b) i 0 ref Call names call in
       let few : i < n b = slice_get_within b.method.insns i insn there in
       let here : Here = record { at = front b i + 0; insn = x; ref = ref } in
       let class : pushes_state (shape_of x) ref ≡ false =
@@ -155,9 +157,9 @@ module _ (b : Body) (frames : List (Option FrameType)) (ready : IsReady b frames
       let alone = ready.untouched i ref names in
       let unasked : has_clause b.policy ref ≡ false = same_clause b.policy ref ∙ none in
       let o = note_there b frames i 0 ref notes.Free names (ap (λ (ns : List Note). slice_get ns 0) (note_alone b.policy b.mode (base b) ref none)) reached in
-      let behind : front b i + 0 + 1 ≡ front b (suc i) = omega (arith, next_front b i ref names, single) in
+      let behind : front b i + 0 + 1 ≡ front b (suc i) = omega (arith, next_front (weaves b) i ref names, single) in
       let aims : jump_targets x ≡ map (front b) (jump_targets insn) =
-      jumps_moved (fronts b) (n b) (front b) (λ j lt. fronts_are b j (omega (arith, lt))) insn (all_get (AimsWithin (n b)) b.method.insns i insn b.sound.targets there) in
+      jumps_moved (fronts b) (n b) (front b) (λ j lt. fronts_are (weaves b) j (omega (arith, lt))) insn (all_get (AimsWithin (n b)) b.method.insns i insn b.sound.targets there) in
       fault_at rules notes_told b.made (front b i + 0) x ref notes.Free insn_is ref_is o
       (no_fault notes_told b.made here rules notes.Free record {
         row = open_row;
@@ -225,7 +227,7 @@ module _ (b : Body) (frames : List (Option FrameType)) (ready : IsReady b frames
             let left : role ≡ roles.Leave = sym is ∙ ap (λ (o : Option Item). option_map_or (λ (x : Item). x.role) o roles.Leave) e in
             let wants_open : wants ≡ Open = subst (Arrives k wants) left arrives in
             let at : begin + place ≡ front b (suc i) =
-            omega (arith, behind all place e within, next_front b i ref names, part_count) in
+            omega (arith, behind all place e within, next_front (weaves b) i ref names, part_count) in
             let passes : P Open (begin + place) =
             subst (P Open) (sym at)
             (front_passes b frames ready (suc i) (omega (arith, less b frames ready i callee names has)) (subst R at reached)) in
@@ -270,7 +272,7 @@ module _ (b : Body) (frames : List (Option FrameType)) (ready : IsReady b frames
         here = record { at = begin + place; insn = put b.pool (fronts b) begin own item.insn; ref = operand }
 
         insn_is : slice_get b.made.insns (begin + place) ≡ Some (put b.pool (fronts b) begin own item.insn)
-        insn_is = insn_there b i place own ref item.insn there names stands
+        insn_is = insn_there (weaves b) i place own ref item.insn there names stands
 
         next_place : begin + place + 1 ≡ begin + (place + 1)
         next_place = omega arith
@@ -371,7 +373,7 @@ module _ (b : Body) (frames : List (Option FrameType)) (ready : IsReady b frames
         pub other_passes : note_fault rules notes_told b.made (begin + place) ≡ None
         other_passes =
             fault_at rules notes_told b.made (begin + place) (put b.pool (fronts b) begin own item.insn) operand (note k item.role) insn_is
-            (ref_there b i place ref item.insn names stands) (item_told b frames ready i callee names has place item e reached)
+            (ref_there (weaves b) i place ref item.insn names stands) (item_told b frames ready i callee names has place item e reached)
             (no_fault notes_told b.made here rules (note k item.role) record {
               row = of.row;
               is = of.is;

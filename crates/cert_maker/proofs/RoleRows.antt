@@ -32,7 +32,7 @@ use Rattle.block_template.specs.Pushing.{load as load_insn, store as store_insn}
 use Rattle.block_logic.specs.Clauses.{clause_of, needs}
 use Rattle.block_logic.specs.Operands.{calls, pushes_state}
 use Rattle.block_logic.specs.Rows as rows
-use Rattle.block_logic.specs.Rows.{Asked, Given, Nothing, Open, Taking, Row, gives, is_addend, leads, may_leave, may_push, note_taken, term_pushed}
+use Rattle.block_logic.specs.Rows.{Given, Open, Taking, may_leave, may_push, note_taken}
 use Rattle.block_logic.specs.Standing.{asks_kept, begun, done}
 use Rattle.block_logic.specs.Terms.{as_taken}
 use Rattle.cert_maker.proofs.Checks.{Arrives, Blocked, clause_of_site, clauses, held_wide, note, rules, same_inside, site, tries_arrives}

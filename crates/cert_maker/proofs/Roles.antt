@@ -32,7 +32,7 @@ use Rattle.block_logic.specs.Clauses.{clause_at, clause_of, needs, result_kind}
 use Rattle.block_logic.specs.Notes.{calls_well, is_duty_of, is_free, meets}
 use Rattle.block_logic.specs.Operands.{calls, has_clause, pushes_state, variable_named}
 use Rattle.block_logic.specs.Rows as rows
-use Rattle.block_logic.specs.Rows.{Asked, Given, Nothing, Open, Taking, Row, gives, is_addend, leads, may_push, note_taken, term_pushed}
+use Rattle.block_logic.specs.Rows.{Asked, Given, Open, Row}
 use Rattle.block_logic.specs.Standing.{asks_kept, done, is_done, may_begin, same_note, stands_for_held}
 use Rattle.block_logic.specs.Terms.{after_updates, as_taken, same_terms}
 use Rattle.cert_maker.specs.Noting.{byte}

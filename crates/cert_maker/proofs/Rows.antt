@@ -27,7 +27,7 @@ use Rattle.conspec_automaton.specs.declared.policy.Clause.{Clause}
 use Rattle.block_logic.specs.Clauses.{clause_of, is_number, needs, result_kind}
 use Rattle.block_logic.specs.Operands.{leaves, loaded, pushes_state, stored}
 use Rattle.block_logic.specs.Rows as rows
-use Rattle.block_logic.specs.Rows.{Asked, Given, Nothing, Open, Row, Rules, asks_atom, begins_owed, gives, is_addend, leads, may_keep, may_leave, may_push, returned, term_pushed, thrown}
+use Rattle.block_logic.specs.Rows.{Given, Nothing, Open, Row, Rules, asks_atom, gives, is_addend, leads, may_keep, may_leave, may_push, returned, term_pushed, thrown}
 use Rattle.block_logic.specs.Standing.{asks_kept, begun, is_after, is_before, is_hold}
 use Rattle.block_logic.specs.Terms.{base_term}
 use Rattle.cert_maker.proofs.Same.{same_bool, same_number, term_itself}

@@ -17,9 +17,10 @@ use Rattle.conspec_automaton.specs.declared.policy.Policy.{Policy}
 use Rattle.block_template.specs.Blocks.{plan_of}
 use Rattle.class_weaving.specs.Outcome.{Each, IsState, IsWovenClass, IsWovenMethod}
 use Rattle.cert_maker.specs.Noting.{class_notes, method_notes, notes_of, parts_notes}
-use Rattle.cert_maker.proofs.Body.{Body, framed_many, made_long, same_length, told_many}
+use Rattle.block_template.proofs.Plans.{some}
+use Rattle.class_weaving.proofs.Bodies.{made_long, same_length}
+use Rattle.cert_maker.proofs.Body.{Body, framed_many, told_many, weaves}
 use Rattle.class_weaving.proofs.Parts.{total}
-use Rattle.cert_maker.proofs.Plans.{some}
 
 abbrev Frames : Type 0
 Frames = List (Option FrameType)
@@ -42,7 +43,7 @@ module _ (b : Body) where
 
   -- A woven method has code exactly where the method has.
   pub code_stays : has_code b.method ≡ has_code b.made
-  code_stays = ap (nat_lt 0) (sym (same_length b)) ∙ some_total b.method.refs ∙ ap (nat_lt 0) (sym (made_long b))
+  code_stays = ap (nat_lt 0) (sym (same_length (weaves b))) ∙ some_total b.method.refs ∙ ap (nat_lt 0) (sym (made_long (weaves b)))
 
   -- It has as many notes as instructions.
   notes_many : (frames : Frames) → length frames ≡ size b.made → length (method_notes b.policy b.mode b.method frames) ≡ size b.made

@@ -1,5 +1,5 @@
 -- What each instruction of a block does, and what its operand names.
-use Rattle.std.proofs.Common.{◌≡◌, ℕ, zero, suc, ◌+◌, ◌<◌, ℤ, pos, neg_ℤ, Bool, true, false, cond, List, ◌∷◌, [], Option, Some, None, refl, sym, ap, subst, ◌∙◌, arith}
+use Rattle.std.proofs.Common.{◌≡◌, ℕ, ◌+◌, ◌<◌, ℤ, pos, neg_ℤ, Bool, true, false, cond, List, ◌∷◌, [], Option, Some, None, refl, sym, ap, subst, ◌∙◌}
 use Rattle.std.specs.Prelude.{◌==◌, ◌&&◌, int_le, nat_le, nat_lt, not}
 use Rattle.std.specs.Ordering.{int_eq}
 use Rattle.std.proofs.lemmas.Bool.{eqb-true, false≢true, ltb-true}
@@ -29,6 +29,7 @@ use Rattle.offset_patch.specs.declared.block.BlockInsn.TheVariants.{Plain, Byte,
 use Rattle.offset_patch.specs.Splicing.{is_call, put}
 use Rattle.block_template.specs.Flow.{jump_of, may_pass}
 use Rattle.block_template.specs.Pushing.{load, local, negated, push, store}
+use Rattle.block_template.proofs.Doing.{aload_shape, astore_shape, iload_shape, istore_shape}
 use Rattle.class_weaving.specs.Outcome.{part_named}
 
 -- An instruction of this shape, whose operand names this.
@@ -74,42 +75,14 @@ module _ (pool : List Const) (fronts : List ℕ) (begin : ℕ) (own : Insn) (sta
       chosen (λ (b : BlockInsn). Does (placed b) (named b) shape target.None) (nat_lt slot 4) (Plain (least + slot)) (Local op slot (nat_le 256 slot))
       (λ e. f (ltb-true _ _ e)) (λ e. g)
 
-  iload : (slot : ℕ) → slot < 4 → Does (placed (Plain (ILOAD_0 + slot))) target.None (shapes.Load operands.Int slot) target.None
-  iload zero lt = record { is = refl; names = refl }
-  iload (suc zero) lt = record { is = refl; names = refl }
-  iload (suc (suc zero)) lt = record { is = refl; names = refl }
-  iload (suc (suc (suc zero))) lt = record { is = refl; names = refl }
-  iload (suc (suc (suc (suc slot)))) lt = absurd (omega arith)
-
-  aload : (slot : ℕ) → slot < 4 → Does (placed (Plain (ALOAD_0 + slot))) target.None (shapes.Load operands.Reference slot) target.None
-  aload zero lt = record { is = refl; names = refl }
-  aload (suc zero) lt = record { is = refl; names = refl }
-  aload (suc (suc zero)) lt = record { is = refl; names = refl }
-  aload (suc (suc (suc zero))) lt = record { is = refl; names = refl }
-  aload (suc (suc (suc (suc slot)))) lt = absurd (omega arith)
-
-  istore : (slot : ℕ) → slot < 4 → Does (placed (Plain (ISTORE_0 + slot))) target.None (shapes.Store operands.Int slot) target.None
-  istore zero lt = record { is = refl; names = refl }
-  istore (suc zero) lt = record { is = refl; names = refl }
-  istore (suc (suc zero)) lt = record { is = refl; names = refl }
-  istore (suc (suc (suc zero))) lt = record { is = refl; names = refl }
-  istore (suc (suc (suc (suc slot)))) lt = absurd (omega arith)
-
-  astore : (slot : ℕ) → slot < 4 → Does (placed (Plain (ASTORE_0 + slot))) target.None (shapes.Store operands.Reference slot) target.None
-  astore zero lt = record { is = refl; names = refl }
-  astore (suc zero) lt = record { is = refl; names = refl }
-  astore (suc (suc zero)) lt = record { is = refl; names = refl }
-  astore (suc (suc (suc zero))) lt = record { is = refl; names = refl }
-  astore (suc (suc (suc (suc slot)))) lt = absurd (omega arith)
-
   pub number_loaded : (slot : ℕ) → Does (placed (local ILOAD_0 ILOAD slot)) (named (local ILOAD_0 ILOAD slot)) (shapes.Load operands.Int slot) target.None
-  number_loaded slot = local_does ILOAD_0 ILOAD slot (shapes.Load operands.Int slot) (iload slot) (record { is = refl; names = refl })
+  number_loaded slot = local_does ILOAD_0 ILOAD slot (shapes.Load operands.Int slot) (λ lt. record { is = iload_shape slot lt; names = refl }) (record { is = refl; names = refl })
 
   number_stored : (slot : ℕ) → Does (placed (local ISTORE_0 ISTORE slot)) (named (local ISTORE_0 ISTORE slot)) (shapes.Store operands.Int slot) target.None
-  number_stored slot = local_does ISTORE_0 ISTORE slot (shapes.Store operands.Int slot) (istore slot) (record { is = refl; names = refl })
+  number_stored slot = local_does ISTORE_0 ISTORE slot (shapes.Store operands.Int slot) (λ lt. record { is = istore_shape slot lt; names = refl }) (record { is = refl; names = refl })
 
   pub loaded : (kind : Kind) (slot : ℕ) → Does (placed (load kind slot)) (named (load kind slot)) (shapes.Load (held kind) slot) target.None
-  loaded kinds.Object slot = local_does ALOAD_0 ALOAD slot (shapes.Load operands.Reference slot) (aload slot) (record { is = refl; names = refl })
+  loaded kinds.Object slot = local_does ALOAD_0 ALOAD slot (shapes.Load operands.Reference slot) (λ lt. record { is = aload_shape slot lt; names = refl }) (record { is = refl; names = refl })
   loaded kinds.Int slot = number_loaded slot
   loaded kinds.Bool slot = number_loaded slot
   loaded kinds.Byte slot = number_loaded slot
@@ -117,7 +90,7 @@ module _ (pool : List Const) (fronts : List ℕ) (begin : ℕ) (own : Insn) (sta
   loaded kinds.Char slot = number_loaded slot
 
   pub stored : (kind : Kind) (slot : ℕ) → Does (placed (store kind slot)) (named (store kind slot)) (shapes.Store (held kind) slot) target.None
-  stored kinds.Object slot = local_does ASTORE_0 ASTORE slot (shapes.Store operands.Reference slot) (astore slot) (record { is = refl; names = refl })
+  stored kinds.Object slot = local_does ASTORE_0 ASTORE slot (shapes.Store operands.Reference slot) (λ lt. record { is = astore_shape slot lt; names = refl }) (record { is = refl; names = refl })
   stored kinds.Int slot = number_stored slot
   stored kinds.Bool slot = number_stored slot
   stored kinds.Byte slot = number_stored slot

@@ -1,5 +1,5 @@
 -- The branches of each policy that was read name what a byte tells.
-use Rattle.std.proofs.Common.{◌≡◌, ℕ, ℤ, ◌+◌, ◌<◌, ◌≤◌, List, [], ◌∷◌, length, Option, Some, None, refl, arith}
+use Rattle.std.proofs.Common.{◌≡◌, ℕ, ℤ, ◌<◌, ◌≤◌, List, [], ◌∷◌, length, Option, Some, None, refl, arith}
 use Rattle.std.specs.Prelude.{◌==◌, ◌&&◌, IfSome, slice_get}
 use Rattle.std.specs.List.{AllByRecursion}
 use Rattle.std.specs.Option.{option_map_or}
@@ -20,8 +20,6 @@ use Rattle.conspec_automaton.specs.declared.policy.Branch.{Branch}
 use Rattle.conspec_automaton.specs.declared.policy.Clause.{Clause}
 use Rattle.conspec_automaton.specs.declared.policy.Policy.{Policy}
 use Rattle.conspec_automaton.specs.Sound.{IsBranchIn, IsClauseIn, IsPolicy}
-use Rattle.block_template.specs.Blocks.{clause_at, kept, locals_used}
-use Rattle.block_template.proofs.Policies.{IsOf, clause_is}
 use Rattle.block_logic.specs.Clauses.{clause_of, is_of_phase}
 use Rattle.cert_maker.specs.Noting.{branch_at}
 use Rattle.cert_maker.specs.Small.{IsSmall, IsSmallBase, IsSmallUpdate}

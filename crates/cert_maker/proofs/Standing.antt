@@ -44,12 +44,14 @@ use Rattle.block_logic.specs.Standing.{is_open}
 use Rattle.class_weaving.specs.Outcome.{at_fronts, own_handlers}
 use Rattle.cert_maker.specs.declared.called.Called.{Called}
 use Rattle.cert_maker.specs.Noting.{method_notes, site_of}
-use Rattle.cert_maker.proofs.Body.{Body, base, end_is, front, fronts, fronts_are, handlers_are, n, note_there, refs, same_length, sites as sites_in}
+use Rattle.block_template.proofs.Plans.{items_of, part_length, some}
+use Rattle.class_weaving.proofs.Bodies.{end_is, fronts_are, handlers_are, same_length}
+use Rattle.cert_maker.proofs.Body.{Body, base, front, fronts, n, note_there, refs, sites as sites_in, weaves}
 use Rattle.cert_maker.proofs.Checks.{Arrives, Blocked, Inside, clauses, note, rules}
 use Rattle.cert_maker.proofs.ClausesAlike.{clause_alike}
 use Rattle.cert_maker.proofs.Covering.{AllMiss, missed}
 use Rattle.class_weaving.proofs.Lists.{slice_there}
-use Rattle.cert_maker.proofs.Plans.{items_of, note_alone, note_item, part_length, some}
+use Rattle.cert_maker.proofs.Plans.{note_alone, note_item}
 use Rattle.cert_maker.proofs.Roles.{call_note, count_is}
 use Rattle.cert_maker.proofs.Rules.{caught_all}
 
@@ -191,12 +193,12 @@ module _ (b : Body) (frames : List (Option FrameType)) (ready : IsReady b frames
         note_there b frames i k (target.ApiMethod callee) (note blocked item.role) names (note_item b.policy b.mode (base b) callee has k item e) reached
 
     pub less : i < n b
-    less = omega (arith, slice_get_within (refs b) i (target.ApiMethod callee) names, same_length b)
+    less = omega (arith, slice_get_within (refs b) i (target.ApiMethod callee) names, same_length (weaves b))
 
     pub item_reached : (k : ℕ) (item : Item) → slice_get all k ≡ Some item → Reached (front b i + k) → item.role ≢ roles.Unreached
     item_reached k item e reached none =
         let no = ready.stopped i callee k item names has e none in
-        let at : slice_index (fronts b) i ≡ front b i = fronts_are b i (omega (arith, less)) in
+        let at : slice_index (fronts b) i ≡ front b i = fronts_are (weaves b) i (omega (arith, less)) in
         false≢true (sym no ∙ ap (λ (f : ℕ). is_some (frame_of frames (f + k))) at ∙ reached)
 
     pub entered_at : (item : Item) → slice_get all 0 ≡ Some item → item.role ≡ entered b.mode (clauses blocked).before
@@ -248,12 +250,12 @@ module _ (b : Body) (frames : List (Option FrameType)) (ready : IsReady b frames
   open_front j le reached =
       elim (cases_Bool (nat_lt j (n b))) [
         | inl is ↦
-            let ref = slice_there (refs b) j (omega (arith, ltb-true _ _ is, same_length b)) in
+            let ref = slice_there (refs b) j (omega (arith, ltb-true _ _ is, same_length (weaves b))) in
             let at : front b j + 0 ≡ front b j = omega arith in
             subst IsOpenAt at (open_at j ref.0 ref.1 (has_block b.policy ref.0) refl (subst Reached (sym at) reached))
         | inr fails ↦
             let last : j ≡ n b = grind (arith, nat_tests) in
-            absurd (omega (arith, within (front b j) reached, ap (front b) last, end_is b))
+            absurd (omega (arith, within (front b j) reached, ap (front b) last, end_is (weaves b)))
       ]
 
   -- A front is in no block.
@@ -268,7 +270,7 @@ module _ (b : Body) (frames : List (Option FrameType)) (ready : IsReady b frames
   pub client_catches : (at : ℕ) (insn : Insn) → slice_get b.made.insns at ≡ Some insn → Reached at → AllMiss at (own_handlers 0 (sites_in b))
       → list_all (note_passes (meets rules_in) told Open) (handlers_of at b.made.handlers) ≡ true
   client_catches at insn there reached miss =
-      ap (λ (hs : List Handler). list_all (note_passes (meets rules_in) told Open) (handlers_of at hs)) (handlers_are b)
+      ap (λ (hs : List Handler). list_all (note_passes (meets rules_in) told Open) (handlers_of at hs)) (handlers_are (weaves b))
       ∙ ap (list_all (note_passes (meets rules_in) told Open)) (missed at (own_handlers 0 (sites_in b)) (map (at_fronts (fronts b)) b.method.handlers) miss)
       ∙ caught_all (note_passes (meets rules_in) told Open) at (map (at_fronts (fronts b)) b.method.handlers)
       (each_with AtFront (λ (h : Handler). covers at h ≡ true → Passes Open h.at) (map (at_fronts (fronts b)) b.method.handlers)
@@ -280,12 +282,12 @@ module _ (b : Body) (frames : List (Option FrameType)) (ready : IsReady b frames
 
       all_fronts : (handlers : List Handler) → AllByRecursion (IsWithin (n b)) handlers → AllByRecursion AtFront (map (at_fronts (fronts b)) handlers)
       all_fronts [] all = tt
-      all_fronts (h ∷ handlers) all = ((h.at, omega (arith, all.0.at), fronts_are b h.at (omega (arith, all.0.at))), all_fronts handlers all.1)
+      all_fronts (h ∷ handlers) all = ((h.at, omega (arith, all.0.at), fronts_are (weaves b) h.at (omega (arith, all.0.at))), all_fronts handlers all.1)
 
       passes : (h : Handler) → Contains (map (at_fronts (fronts b)) b.method.handlers) h → AtFront h → covers at h ≡ true → Passes Open h.at
       passes h c is covered =
           let both = and_parts (nat_le h.from at) (nat_lt at h.to) covered in
           let inside_of : Contains b.made.handlers h =
-          subst (λ (hs : List Handler). Contains hs h) (sym (handlers_are b)) (contained_right (own_handlers 0 (sites_in b)) _ h c) in
+          subst (λ (hs : List Handler). Contains hs h) (sym (handlers_are (weaves b))) (contained_right (own_handlers 0 (sites_in b)) _ h c) in
           let reached_there : Reached h.at = ready.caught at insn h there reached inside_of (leb-true _ _ both.0) (ltb-true _ _ both.1) in
           subst (Passes Open) (sym is.2) (front_passes is.0 is.1 (subst Reached is.2 reached_there))

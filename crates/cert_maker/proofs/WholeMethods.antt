@@ -32,9 +32,11 @@ use Rattle.block_logic.specs.Rows as rows
 use Rattle.block_logic.specs.Rows.{Asked, Open, Row, Rules}
 use Rattle.block_logic.specs.Standing.{in_phase, is_open}
 use Rattle.class_weaving.specs.Outcome.{at_fronts, own_handler}
+use Rattle.block_template.proofs.Plans.{block_of, none_there, part_length, site_is}
+use Rattle.class_weaving.proofs.Bodies.{handlers_are, insn_there, made_long, ref_there, same_length}
 use Rattle.cert_maker.proofs.Aiming.{call_goes}
 use Rattle.cert_maker.proofs.AllRoles.{call_granted, call_row, call_told, granted, returns, throws, throws_on}
-use Rattle.cert_maker.proofs.Body.{Body, base, front, fronts, handlers_are, insn_there, made_long, n, part, plan, ref_there, refs, same_length}
+use Rattle.cert_maker.proofs.Body.{Body, base, front, fronts, n, part, plan, refs, weaves}
 use Rattle.block_template.proofs.Calling as calling
 use Rattle.cert_maker.proofs.Checks.{Blocked, clauses, note, site}
 use Rattle.cert_maker.proofs.Checks.{rules as rules_of}
@@ -42,7 +44,7 @@ use Rattle.cert_maker.proofs.Covering.{AllMiss, first_missed, missed, own_covers
 use Rattle.class_weaving.proofs.Lists.{slice_there}
 use Rattle.class_weaving.proofs.Parts.{locate}
 use Rattle.cert_maker.proofs.Passing.{alone_passes, first_opens, flows, led, next_passes, other_passes, own_missed, part_count, place_few, place_passes, reached_role, stands}
-use Rattle.cert_maker.proofs.Plans.{block_of, none_there, part_length, site_is, within as calls_within}
+use Rattle.cert_maker.proofs.Plans.{within as calls_within}
 use Rattle.cert_maker.proofs.Rows.{and_false, called}
 use Rattle.cert_maker.proofs.Rules.{fault_at, no_fault, or_last}
 use Rattle.cert_maker.proofs.Standing.{few, IsReady, Passes, Reached, all as items_in, blocked, client_catches, contained_right, item_told, rules_in, told, within}
@@ -100,11 +102,11 @@ module _ (b : Body) (frames : List (Option FrameType)) (ready : IsReady b frames
 
     insn_is : slice_get b.made.insns (begin + place) ≡ Some own
     insn_is =
-        insn_there b i place own ref Call there names (stands b frames ready i callee own there names has place item e reached ∙ ap Some call)
+        insn_there (weaves b) i place own ref Call there names (stands b frames ready i callee own there names has place item e reached ∙ ap Some call)
         ∙ ap Some stays
 
     ref_is : slice_get b.made.refs (begin + place) ≡ Some ref
-    ref_is = ref_there b i place ref Call names (stands b frames ready i callee own there names has place item e reached ∙ ap Some call)
+    ref_is = ref_there (weaves b) i place ref Call names (stands b frames ready i callee own there names has place item e reached ∙ ap Some call)
 
     abbrev here : Here
     here = record { at = begin + place; insn = own; ref = ref }
@@ -164,7 +166,7 @@ module _ (b : Body) (frames : List (Option FrameType)) (ready : IsReady b frames
         let miss : AllMiss (begin + place) s.pre = subst (λ (m : ℕ). AllMiss m s.pre) place_is s.miss in
         let client : List Handler = map (at_fronts (fronts b)) b.method.handlers in
         let split : b.made.handlers ≡ s.pre ++ o ∷ (s.post ++ client) =
-        handlers_are b
+        handlers_are (weaves b)
         ∙ ap (λ (hs : List Handler). hs ++ client) (s.is ∙ ap (λ (m : ℕ). s.pre ++ own_handler m (block_of b.policy b.mode (base b) callee).insns to ∷ s.post) zero_is)
         ∙ append_assoc s.pre (o ∷ s.post) client in
         let covered : covers (begin + place) o ≡ true =
@@ -308,8 +310,8 @@ module _ (b : Body) (frames : List (Option FrameType)) (ready : IsReady b frames
 
   pub passes : (at : ℕ) → R at → note_fault rules notes_told b.made at ≡ None
   passes at reached =
-      let l = locate (plan b) (base b) (refs b) at (omega (arith, within b frames ready at reached, made_long b)) in
-      let few : l.own < n b = omega (arith, slice_get_within (refs b) l.own l.ref l.there, same_length b) in
+      let l = locate (plan b) (base b) (refs b) at (omega (arith, within b frames ready at reached, made_long (weaves b))) in
+      let few : l.own < n b = omega (arith, slice_get_within (refs b) l.own l.ref l.there, same_length (weaves b)) in
       let insn = slice_there b.method.insns l.own few in
       subst (λ (m : ℕ). note_fault rules notes_told b.made m ≡ None) (sym l.is)
       (part_passes l.own insn.0 l.ref insn.1 l.there (has_block b.policy l.ref) refl l.place l.within (subst R l.is reached))

@@ -76,6 +76,7 @@ use Rattle.guest_model.specs.Working.{worked}
 use Rattle.guest_model.proofs.Always.{EachChangeKeeps, holds_always}
 use Rattle.guest_model.proofs.Answers.{answered_good, null_good}
 use Rattle.guest_model.proofs.Comings.{Comes, work_comes}
+use Rattle.guest_model.proofs.KeptWords.{words_last}
 use Rattle.guest_model.proofs.Passing.{LiteralsAreShort, calls_good}
 use Rattle.guest_model.proofs.Staying.{threads_keep}
 use Rattle.guest_model.proofs.Words.{
@@ -84,6 +85,7 @@ use Rattle.guest_model.proofs.Words.{
   Good,
   GoodIf,
   IsWord,
+  ObjectWords,
   ThreadWords,
   WaitsWords,
   WorldWords,
@@ -133,7 +135,7 @@ module _ (program : Program) (insns : HasInsns program) (names : NamesWords prog
     goes_less : (world : World) → WorldWords world → GoodIf program (acts_on world a (after a.frame (drop 1 a.frame.stack.items)))
     goes_less world words = goes_behind world (drop 1 a.frame.stack.items) words (all_drop IsWord 1 a.frame.stack.items frame.1)
 
-    comes_good : (world : World) (made : Result (World × List Value) Name) → WorldWords world → Comes made
+    comes_good : (world : World) (made : Result (World × List Value) Name) → WorldWords world → Comes IsWord WorldWords made
         → GoodIf program (comes_to program world a made)
     comes_good world (Ok made) words comes = goes_behind made.0 made.1 comes.0 comes.1
     comes_good world (Err class) words comes = throws_here world class words
@@ -171,9 +173,9 @@ module _ (program : Program) (insns : HasInsns program) (names : NamesWords prog
       works_good what =
           if_then IsGood _ (worked program (world_of machine) what ref a.frame.stack.items)
           (λ made e. comes_good (world_of machine) made words
-          (is_there Comes _ made
-          (work_comes program (world_of machine) words a.frame.stack.items frame.1 what ref
-          (names a.frame.class a.frame.method a.frame.at insn ref there)) e))
+          (is_there (Comes IsWord WorldWords) _ made
+          (work_comes IsWord ObjectWords WorldWords (λ class. Unit {0}) words_last program (world_of machine) words a.frame.stack.items
+          frame.1 what ref (λ constant. names a.frame.class a.frame.method a.frame.at insn ref there) (λ class field named. tt)) e))
 
       heap_good : (what : Heap) → GoodIf program (heap_stepped program machine a what ref)
       heap_good (heap.Call how) = calls_good program literals machine words a.number a.thread a.frame a.below how ref frame below

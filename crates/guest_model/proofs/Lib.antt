@@ -12,7 +12,8 @@ mod Calling
 mod Stepping
 pub mod Standing
 pub mod Words
-mod Comings
+pub mod Comings
+mod KeptWords
 mod Passing
 mod Answers
 mod InRange

@@ -44,8 +44,8 @@ use Rattle.guest_model.proofs.Options.{
 use Rattle.guest_model.specs.Layout.{constant_bytes, first_value, is_of_references, starting_value, two_bytes, value_of_constant, value_told}
 use Rattle.guest_model.specs.Numbers.{SeesInRange}
 use Rattle.guest_model.specs.Runs.{initialisers}
-use Rattle.guest_model.proofs.Comings.{first_word, small}
 use Rattle.guest_model.proofs.InRange.{NamesWords, sees_in_range}
+use Rattle.guest_model.proofs.KeptWords.{first_word, small}
 use Rattle.guest_model.proofs.Passing.{LiteralsAreShort}
 use Rattle.guest_model.proofs.Words.{AreWords, IsShort, IsWord, ObjectWords, rests_words}
 

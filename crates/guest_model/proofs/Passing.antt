@@ -85,7 +85,7 @@ use Rattle.guest_model.specs.Finding.{Given, client_run, is_run, method_run}
 use Rattle.guest_model.specs.Kinds.{class_of_value, is_thread}
 use Rattle.guest_model.specs.Numbers.{ArePassed, IsWordSeen}
 use Rattle.guest_model.specs.Seen.{literal_at, string_of, text_in, value_shown, values_shown}
-use Rattle.guest_model.proofs.Comings.{small}
+use Rattle.guest_model.proofs.KeptWords.{small}
 use Rattle.guest_model.proofs.Words.{
   AreWords,
   FrameWords,

@@ -1,6 +1,6 @@
 -- The numbers of a machine are of 32 bits: what that says of values, objects, frames and threads, and what keeps it.
-use Rattle.std.proofs.Common.{◌≡◌, ℕ, zero, suc, ◌+◌, ◌^◌, ◌<◌, Bool, true, false, cond, List, [], ◌∷◌, ◌++◌, length, drop, replicate, Option, Some, None, refl, subst, ◌∙◌, arith}
-use Rattle.std.specs.Prelude.{pos, ◌-◌, ◌==◌, nat_lt, nat_le, slice_get, slice_set, reverse, take, option_map, FitsSigned}
+use Rattle.std.proofs.Common.{◌≡◌, ℕ, ◌+◌, ◌^◌, ◌<◌, Bool, true, false, cond, List, [], ◌∷◌, ◌++◌, length, drop, replicate, Option, Some, None, refl, subst, ◌∙◌, arith}
+use Rattle.std.specs.Prelude.{pos, ◌-◌, ◌==◌, nat_lt, nat_le, slice_get, reverse, take, option_map, FitsSigned}
 use Rattle.std.specs.Int.{w32}
 use Rattle.std.specs.List.{AllByRecursion}
 use Rattle.std.specs.Option.{option_map_or, option_to_list}
@@ -22,7 +22,6 @@ use Rattle.guest_heap.specs.declared.thread.Doing.TheVariants as doings
 use Rattle.guest_heap.specs.declared.thread.Thread.{Thread}
 use Rattle.guest_heap.specs.declared.value.Value.{Value}
 use Rattle.guest_heap.specs.declared.value.Value.TheVariants as values
-use Rattle.guest_heap.specs.Heap.{places_of, with_value, with_value_at}
 use Rattle.guest_model.specs.Calls.{Taken, arity, taken}
 use Rattle.guest_model.specs.Places.{method_at}
 use Rattle.guest_frames.specs.Stepping.{moved_to, fitted, after}
@@ -64,9 +63,7 @@ use Rattle.guest_model.proofs.Options.{
   if_then,
   if_mapped,
   if_made,
-  there_or,
   all_get,
-  all_set,
   all_append,
   all_drop,
   all_take,
@@ -122,29 +119,6 @@ HeapWords heap = AllByRecursion ObjectWords heap
 pub record WorldWords (world : World) : Type 0 where
   pub heap : HeapWords world.heap
   pub statics : AllByRecursion AreWords world.statics
-
-pub places_words : (object : Object) → ObjectWords object → AreWords (places_of object)
-places_words (objects.Plain class fields target thread) h = h.0
-places_words (objects.Array desc items) h = h.0
-places_words (objects.Text text) h = tt
-
-length_set : (items : List Value) (i : ℕ) (v : Value) → length (slice_set items i v) ≡ length items
-length_set [] i v = refl
-length_set (w ∷ items) zero v = refl
-length_set (w ∷ items) (suc i) v = rw (length_set items i v) refl
-
-written_words : (place : ℕ) (v : Value) (object : Object) → IsWord v → ObjectWords object → ObjectWords (with_value place v object)
-written_words place v (objects.Plain class fields target thread) word h = (all_set IsWord fields place v h.0 word, h.1)
-written_words place v (objects.Array desc items) word h =
-    (all_set IsWord items place v h.0 word, rw (length_set items place v) h.1)
-written_words place v (objects.Text text) word h = h
-
-pub value_set_words : (heap : List Object) (at place : ℕ) (v : Value) → IsWord v → HeapWords heap
-    → HeapWords (with_value_at heap at place v)
-value_set_words heap at place v word all =
-    there_or HeapWords (λ (object : Object). slice_set heap at (with_value place v object)) (slice_get heap at) heap all
-    (λ object e. all_set ObjectWords heap at (with_value place v object) all
-    (written_words place v object word (all_get ObjectWords heap at object all e)))
 
 -- ---- what is shared
 

@@ -1,6 +1,5 @@
 -- The classes of what the machine itself throws.
 use Rattle.bytecode_model.specs.SearchOrder.{Name}
-use Rattle.guest_heap.specs.declared.object.Monitor.{Monitor}
 use Rattle.guest_model.specs.Parts.{bad_monitor, null_pointer}
 use Rattle.guest_model.specs.Calling.{second_start}
 use Rattle.guest_model.specs.Working.{bad_cast, bad_division, bad_item, bad_place, bad_size}

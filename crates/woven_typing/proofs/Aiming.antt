@@ -1,7 +1,6 @@
 -- An instruction whose targets are at their fronts: what of it stays.
 use Rattle.std.proofs.Common.{◌≡◌, ℕ, ◌+◌, ◌<◌, Bool, true, false, cond, List, [], ◌∷◌, ◌++◌, map, refl, sym, ap, ◌∙◌}
 use Rattle.std.specs.Prelude.{◌==◌, nat_lt, slice_index}
-use Rattle.std.specs.List.{AllByRecursion}
 use Rattle.std.proofs.lemmas.List.{map-append}
 use Rattle.insn_codec.specs.declared.insn.Insn.{Insn}
 use Rattle.insn_codec.specs.declared.insn.Insn.TheVariants as insns
@@ -14,6 +13,7 @@ use Rattle.insn_codec.specs.Control.{jump_targets, successors}
 use Rattle.insn_codec.specs.Shapes.{shape_of, test_shape, comparing_shape, branch_shape}
 use Rattle.bytecode_model.specs.Operands.{index_of}
 use Rattle.offset_patch.specs.Splicing.{aimed}
+use Rattle.class_weaving.proofs.Aiming.{jumps_moved}
 use Rattle.woven_typing.proofs.Kept.{retargeted}
 
 module _ (fronts : List ℕ) where
@@ -109,25 +109,6 @@ has_shape fronts (insns.NewArray kind) = record { to = λ t. t; is = refl }
 -- ---- successors
 
 module _ (fronts : List ℕ) (n : ℕ) (moved : ℕ → ℕ) (same : (i : ℕ) → i < n → slice_index fronts i ≡ moved i) where
-  all_moved : (targets : List ℕ) → AllByRecursion (λ to. to < n) targets → map (slice_index fronts) targets ≡ map moved targets
-  all_moved [] h = refl
-  all_moved (to ∷ targets) h = rw (same to h.0, all_moved targets h.1) refl
-
-  jumps_moved : (x : Insn) → AimsWithin n x → jump_targets (aimed fronts x) ≡ map moved (jump_targets x)
-  jumps_moved (insns.Branch op to) h = ap (λ t. t ∷ []) (same to h)
-  jumps_moved (insns.GotoW to) h = ap (λ t. t ∷ []) (same to h)
-  jumps_moved (insns.Table other low targets) h = rw (same other h.0, all_moved targets h.1) refl
-  jumps_moved (insns.Lookup other keys targets) h = rw (same other h.0, all_moved targets h.1) refl
-  jumps_moved (insns.Plain op) h = refl
-  jumps_moved (insns.Byte k) h = refl
-  jumps_moved (insns.Short k) h = refl
-  jumps_moved (insns.Ldc index) h = refl
-  jumps_moved (insns.Pool op index) h = refl
-  jumps_moved (insns.Iface index count) h = refl
-  jumps_moved (insns.Local op slot wide) h = refl
-  jumps_moved (insns.Inc slot by wide) h = refl
-  jumps_moved (insns.NewArray kind) h = refl
-
   next_moved : (b : Bool) (at next : ℕ) → next ≡ moved at → cond b (next ∷ []) [] ≡ map moved (cond b (at ∷ []) [])
   next_moved true at next e = ap (λ t. t ∷ []) e
   next_moved false at next e = refl
@@ -136,6 +117,6 @@ module _ (fronts : List ℕ) (n : ℕ) (moved : ℕ → ℕ) (same : (i : ℕ) �
   pub successors_moved : (at : ℕ) (x : Insn) (front : ℕ) → AimsWithin n x → front + 1 ≡ moved (at + 1) → successors front (aimed fronts x) ≡ map moved (successors at x)
   successors_moved at x front h next =
       ap (λ (op : ℕ). cond (goes_on op) ((front + 1) ∷ []) [] ++ jump_targets (aimed fronts x)) (opcode_stays fronts x)
-      ∙ ap (λ (ts : List ℕ). cond (goes_on (opcode_of x)) ((front + 1) ∷ []) [] ++ ts) (jumps_moved x h)
+      ∙ ap (λ (ts : List ℕ). cond (goes_on (opcode_of x)) ((front + 1) ∷ []) [] ++ ts) (jumps_moved fronts n moved same x h)
       ∙ ap (λ (ts : List ℕ). ts ++ map moved (jump_targets x)) (next_moved (goes_on (opcode_of x)) (at + 1) (front + 1) next)
       ∙ sym (map-append moved (cond (goes_on (opcode_of x)) ((at + 1) ∷ []) []) (jump_targets x))

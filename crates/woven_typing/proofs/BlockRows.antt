@@ -24,7 +24,7 @@ use Rattle.block_template.specs.declared.item.Item.{Item}
 use Rattle.block_template.specs.declared.item.Role.{Role}
 use Rattle.block_template.specs.declared.item.Role.TheVariants as roles
 use Rattle.block_template.specs.Blocks.{clauses_of, handler_at, is_locked, lets_pass}
-use Rattle.block_template.specs.Flow.{entered, jump_of, may_pass, behind_return, role_at, thrown}
+use Rattle.block_template.specs.Flow.{entered, jump_of, behind_return, role_at, thrown}
 use Rattle.block_template.specs.Frames.{frame_at}
 use Rattle.block_template.specs.Reached.{IsReached}
 use Rattle.block_template.specs.Typed.{CallIsTyped, GoesTo, ItemIsTyped}
@@ -33,6 +33,7 @@ use Rattle.block_template.proofs.CatchesTyped.{calls_are_typed}
 use Rattle.block_template.proofs.ItemsTyped.{clauses_are_asked, items_are_typed}
 use Rattle.block_template.proofs.Reaching.{blocks_are_reached}
 use Rattle.class_weaving.specs.Outcome.{part_named}
+use Rattle.class_weaving.proofs.Bodies.{insn_there, ref_there}
 use Rattle.woven_typing.proofs.Aiming.{opcode_stays}
 use Rattle.woven_typing.proofs.Blocks.{arrives, bools, client_caught, frame_role, frame_there, goes_from, is_insn, items, mode, near, part_long, phases, reached_to, start, thrown_not, told}
 use Rattle.woven_typing.proofs.Body as of
@@ -44,7 +45,7 @@ use Rattle.woven_typing.proofs.Handlers.{Throws, all_caught}
 use Rattle.woven_typing.proofs.Leaving.{goes_next}
 use Rattle.class_weaving.proofs.Lists.{slice_there}
 use Rattle.bytecode_model.proofs.Passing.{Passes, row_met}
-use Rattle.woven_typing.proofs.Plans.{part_item}
+use Rattle.block_template.proofs.Plans.{part_item}
 use Rattle.woven_typing.proofs.Rows.{depth_kept, made_kept, operand_kept}
 use Rattle.woven_typing.proofs.Standing.{spot, stands}
 
@@ -101,8 +102,8 @@ module _ (t : Typed) (c : CallAt t) where
     met_at passes =
         row_here t (start t c + k) (put (of.pool (b t)) (of.fronts (b t)) (start t c) c.insn item.insn)
         (part_named (of.state (b t)) (ref t c) item.insn) (Some types)
-        (of.insn_there (b t) c.i k c.insn (ref t c) item.insn c.there c.names (in_part k item e))
-        (of.ref_there (b t) c.i k (ref t c) item.insn c.names (in_part k item e))
+        (insn_there (of.weaves (b t)) c.i k c.insn (ref t c) item.insn c.there c.names (in_part k item e))
+        (ref_there (of.weaves (b t)) c.i k (ref t c) item.insn c.names (in_part k item e))
         (frame_there t c k item e ∙ types_are)
         (row_met (woven t) place types passes)
 
@@ -248,8 +249,8 @@ module _ (t : Typed) (c : CallAt t) where
       reach_is.begins (ap (role_at (items t c)) (sym first) ∙ role_of k item e ∙ none) in
       row_here t (start t c + k) (put (of.pool (b t)) (of.fronts (b t)) (start t c) c.insn item.insn)
       (part_named (of.state (b t)) (ref t c) item.insn) None
-      (of.insn_there (b t) c.i k c.insn (ref t c) item.insn c.there c.names (in_part k item e))
-      (of.ref_there (b t) c.i k (ref t c) item.insn c.names (in_part k item e))
+      (insn_there (of.weaves (b t)) c.i k c.insn (ref t c) item.insn c.there c.names (in_part k item e))
+      (ref_there (of.weaves (b t)) c.i k (ref t c) item.insn c.names (in_part k item e))
       (frame_there t c k item e ∙ ap (frame_at (told t c) (near t c)) none)
       (ap (λ (z : Bool). cond z (Some 1) None) (ne_eqb (start t c + k) 0 not_first))
 

@@ -46,6 +46,7 @@ use Rattle.block_template.specs.Typed.{GoesTo, client_locals, phase_locals}
 use Rattle.block_template.proofs.CatchesTyped.{catches_are_typed}
 use Rattle.block_template.proofs.ItemsTyped.{clauses_are_asked}
 use Rattle.woven_typing.specs.Framing.{around_of, items_of}
+use Rattle.class_weaving.proofs.Bodies.{next_front}
 use Rattle.woven_typing.proofs.Body as of
 use Rattle.woven_typing.proofs.Called.{CallAt, around, calls, clauses, is_call as called_there, kept, listed, p, q, ref, shape_there}
 use Rattle.woven_typing.proofs.Client.{Typed, again, b, frame_front, front_moved, here, low_is, low_next, moved, woven}
@@ -53,7 +54,7 @@ use Rattle.woven_typing.proofs.Frames as frames
 use Rattle.woven_typing.proofs.Fronts.{goes_front}
 use Rattle.woven_typing.proofs.Leaving.{goes_next, goes_out, locals_through}
 use Rattle.class_weaving.proofs.Lists.{slice_there}
-use Rattle.woven_typing.proofs.Plans.{part_length}
+use Rattle.block_template.proofs.Plans.{part_length}
 use Rattle.woven_typing.proofs.Rows.{goes_kept}
 
 -- ---- where control goes from an instruction of a block
@@ -274,7 +275,7 @@ module _ (t : Typed) (c : CallAt t) where
   leaves m x r types goes =
       let lt : c.i < of.n (b t) = slice_get_within (b t).method.insns c.i c.insn c.there in
       let behind : start + length items ≡ moved t (c.i + 1) =
-      omega (arith, part_long, of.moved_next (b t) c.i lt, of.next_front (b t) c.i (ref t c) c.names) in
+      omega (arith, part_long, of.moved_next (b t) c.i lt, next_front (of.weaves (b t)) c.i (ref t c) c.names) in
       let next = goes_next c.insn c.insn (listed t c).how c.i is_insn (calls t c) refl (calls t c) in
       let there = and_parts (option_map_or (goes_well (p t c) c.types) (frame_of t.frames (c.i + 1)) false) true
       (sym (ap (list_all (λ to. option_map_or (goes_well (p t c) c.types) (frame_of t.frames to) false)) next) ∙ c.row.successor) in

@@ -1,14 +1,12 @@
 -- A method and what is woven of it: where its instructions stand.
-use Rattle.std.proofs.Common.{◌≡◌, ℕ, zero, suc, ◌+◌, ◌-◌, ◌<◌, ◌≤◌, Bool, true, false, cond, List, [], ◌∷◌, ◌++◌, length, map, Option, Some, refl, sym, ap, subst, ◌∙◌, inl, inr, arith}
-use Rattle.std.specs.Prelude.{◌||◌, is_some, nat_lt, slice_get, slice_index, option_map, Contains}
+use Rattle.std.proofs.Common.{◌≡◌, ℕ, zero, suc, ◌+◌, ◌-◌, ◌<◌, ◌≤◌, Bool, true, false, cond, List, [], ◌∷◌, length, Option, Some, refl, sym, ap, subst, ◌∙◌, inl, inr, arith}
+use Rattle.std.specs.Prelude.{◌||◌, is_some, nat_lt, slice_get, slice_index, Contains}
 use Rattle.std.specs.List.{list_any}
 use Rattle.std.proofs.lemmas.Bool.{cases_Bool, ltb-true, lt-ltb}
 use Rattle.std.proofs.lemmas.Bool.Decides.{nat_tests}
-use Rattle.std.proofs.lemmas.Option.{slice_get_within}
 use Rattle.class_codec.specs.declared.tree.Const.{Const}
 use Rattle.class_codec.specs.Pool.{reference_at}
 use Rattle.insn_codec.specs.declared.insn.Insn.{Insn}
-use Rattle.bytecode_model.specs.declared.program.Handler.{Handler}
 use Rattle.bytecode_model.specs.declared.program.LinkedClass.{LinkedClass}
 use Rattle.bytecode_model.specs.declared.program.Method.{Method}
 use Rattle.bytecode_model.specs.declared.program.Program.{Program}
@@ -27,16 +25,17 @@ use Rattle.offset_patch.specs.declared.block.BlockInsn.{BlockInsn}
 use Rattle.offset_patch.specs.declared.block.PoolWant.{PoolWant}
 use Rattle.offset_patch.specs.Entries.{IsThere}
 use Rattle.offset_patch.specs.Plan.{Plan}
-use Rattle.offset_patch.specs.Splicing.{fronts_of, operands_needed, parts_from, put, spliced, want_of, wants_of}
+use Rattle.offset_patch.specs.Splicing.{fronts_of, operands_needed, want_of, wants_of}
 use Rattle.block_template.specs.Blocks.{has_block, locals_used, plan_of}
-use Rattle.class_weaving.specs.Outcome.{IsWovenClass, IsWovenMethod, at_fronts, handlers_with, own_handlers, part_named, parts_named, wants_woven}
+use Rattle.class_weaving.specs.Outcome.{IsWovenClass, IsWovenMethod, wants_woven}
 use Rattle.class_weaving.specs.Woven.{is_woven, locals_of, sites_of}
 use Rattle.woven_typing.specs.Framing.{Client, client_of, moved_in}
 use Rattle.woven_typing.specs.Telling.{KnowsThrowable, TellsKinds}
 use Rattle.woven_typing.proofs.Larger.{IsLarger}
+use Rattle.block_template.proofs.Plans as planned
+use Rattle.class_weaving.proofs.Bodies.{Weaves, end_is, fronts_are, same_length}
 use Rattle.class_weaving.proofs.Parts as parts
 use Rattle.woven_typing.proofs.Plans as plans
-use Rattle.class_weaving.proofs.Unwoven.{AreAlone, all_alone, front_alone, handlers_same, insns_alone, named_alone, own_alone}
 
 -- A method of a linked program, and what it is in the woven one.
 pub record Body : Type 0 where
@@ -102,46 +101,23 @@ module _ (b : Body) where
   front i = parts.before plan base refs i
 
   abbrev pub there : (ref : Target) → is_some (plan.block base ref) ≡ plan.has_block ref
-  there ref = plans.there b.policy b.mode base ref
+  there ref = planned.there b.policy b.mode base ref
 
   abbrev pub some : (ref : Target) → 0 < length (part ref)
-  some ref = plans.some b.policy b.mode base ref
+  some ref = planned.some b.policy b.mode base ref
 
-  pub same_length : length refs ≡ n
-  same_length = b.sound.refs
-
-  -- ---- the code
-
-  is_alone : is_woven plan b.method ≡ false → AreAlone plan base refs
-  is_alone fails = all_alone plan base there refs fails
-
-  insns_by : (c : Bool) → is_woven plan b.method ≡ c
-      → cond c (spliced pool b.method.insns sites) b.method.insns ≡ parts_from pool fronts 0 b.method.insns sites
-  insns_by true e = refl
-  insns_by false e = sym (insns_alone plan base pool b.method.insns refs (is_alone e) (sym same_length) b.sound.targets)
-
-  pub insns_are : b.made.insns ≡ parts_from pool fronts 0 b.method.insns sites
-  insns_are = b.of_method.insns ∙ insns_by (is_woven plan b.method) refl
-
-  refs_by : (c : Bool) → is_woven plan b.method ≡ c → cond c (parts_named state refs sites) refs ≡ parts_named state refs sites
-  refs_by true e = refl
-  refs_by false e = sym (named_alone plan base state refs (is_alone e))
-
-  pub refs_are : b.made.refs ≡ parts_named state refs sites
-  refs_are = b.of_method.refs ∙ refs_by (is_woven plan b.method) refl
-
-  handlers_by : (c : Bool) → is_woven plan b.method ≡ c
-      → cond c (handlers_with sites b.method.handlers) b.method.handlers ≡ handlers_with sites b.method.handlers
-  handlers_by true e = refl
-  handlers_by false e =
-      sym
-      (ap (λ (own : List Handler). own ++ map (at_fronts fronts) b.method.handlers) (own_alone plan base 0 refs (is_alone e))
-      ∙ handlers_same plan base fronts n (λ i le. front_alone plan base refs (is_alone e) i (omega (arith, le, same_length)))
-      b.method.handlers b.sound.handlers)
-
-  -- The blocks' own handlers stand first.
-  pub handlers_are : b.made.handlers ≡ own_handlers 0 sites ++ map (at_fronts fronts) b.method.handlers
-  handlers_are = b.of_method.handlers ∙ handlers_by (is_woven plan b.method) refl
+  -- the method with its code alone
+  abbrev pub weaves : Weaves
+  weaves = record {
+    plan = plan;
+    state = state;
+    pool = pool;
+    method = b.method;
+    made = b.made;
+    of_method = b.of_method;
+    sound = b.sound;
+    there = there;
+  }
 
   -- ---- sizes
 
@@ -199,33 +175,24 @@ module _ (b : Body) where
 
   -- ---- where instructions stand
 
-  pub fronts_are : (i : ℕ) → i ≤ n → slice_index fronts i ≡ front i
-  fronts_are i le = parts.front_is plan base refs 0 i (omega (arith, le, same_length)) ∙ omega arith
-
   pub moved_is : (i : ℕ) → i < n → moved i ≡ front i
   moved_is i lt =
-      ap (λ (c : Bool). cond c (slice_index fronts i) (i + (slice_index fronts n - n))) (lt-ltb i n lt) ∙ fronts_are i (omega (arith, lt))
+      ap (λ (c : Bool). cond c (slice_index fronts i) (i + (slice_index fronts n - n))) (lt-ltb i n lt) ∙ fronts_are weaves i (omega (arith, lt))
 
   pub front_of : (i : ℕ) → i < n → slice_index fronts i ≡ moved i
-  front_of i lt = fronts_are i (omega (arith, lt)) ∙ sym (moved_is i lt)
+  front_of i lt = fronts_are weaves i (omega (arith, lt)) ∙ sym (moved_is i lt)
 
   pub least : (i : ℕ) → i ≤ n → i ≤ front i
-  least i le = parts.least plan base some refs i (omega (arith, le, same_length))
+  least i le = parts.least plan base some refs i (omega (arith, le, same_length weaves))
 
   pub grows : (i j : ℕ) → i < j → j ≤ n → front i < front j
-  grows i j lt le = parts.before_grows plan base some refs i j lt (omega (arith, le, same_length))
-
-  pub next_front : (i : ℕ) (ref : Target) → slice_get refs i ≡ Some ref → front (suc i) ≡ front i + length (part ref)
-  next_front i ref e = parts.before_next plan base refs i ref e
-
-  pub end_is : front n ≡ parts.total plan base refs
-  end_is = ap (parts.before plan base refs) (sym same_length) ∙ parts.before_end plan base refs
+  grows i j lt le = parts.before_grows plan base some refs i j lt (omega (arith, le, same_length weaves))
 
   moved_behind : (i : ℕ) → n ≤ i → moved i ≡ i + (front n - n)
   moved_behind i le =
       let fails : nat_lt i n ≡ false = grind (arith, nat_tests) in
       ap (λ (c : Bool). cond c (slice_index fronts i) (i + (slice_index fronts n - n))) fails
-      ∙ ap (λ (m : ℕ). i + (m - n)) (fronts_are n (omega arith))
+      ∙ ap (λ (m : ℕ). i + (m - n)) (fronts_are weaves n (omega arith))
 
   pub moved_next : (i : ℕ) → i < n → moved (i + 1) ≡ front (suc i)
   moved_next i lt =
@@ -269,28 +236,6 @@ module _ (b : Body) where
             ]
       ]
 
-  -- ---- what stands there
-
-  pub insn_there : (i k : ℕ) (insn : Insn) (ref : Target) (x : BlockInsn) → slice_get b.method.insns i ≡ Some insn
-      → slice_get refs i ≡ Some ref → slice_get (part ref) k ≡ Some x
-      → slice_get b.made.insns (front i + k) ≡ Some (put pool fronts (front i) insn x)
-  insn_there i k insn ref x e f g =
-      let zero_is : 0 + front i ≡ front i = omega arith in
-      ap (λ (xs : List Insn). slice_get xs (front i + k)) insns_are
-      ∙ parts.insn_at plan base pool fronts 0 b.method.insns refs i k insn ref e f (slice_get_within (part ref) k x g)
-      ∙ ap (λ (m : ℕ). option_map (put pool fronts m insn) (slice_get (part ref) k)) zero_is
-      ∙ ap (option_map (put pool fronts (front i) insn)) g
-
-  pub ref_there : (i k : ℕ) (ref : Target) (x : BlockInsn) → slice_get refs i ≡ Some ref → slice_get (part ref) k ≡ Some x
-      → slice_get b.made.refs (front i + k) ≡ Some (part_named state ref x)
-  ref_there i k ref x f g =
-      ap (λ (xs : List Target). slice_get xs (front i + k)) refs_are
-      ∙ parts.named_at plan base state refs i k ref f (slice_get_within (part ref) k x g)
-      ∙ ap (option_map (part_named state ref)) g
-
-  pub made_long : length b.made.insns ≡ parts.total plan base refs
-  made_long = ap length insns_are ∙ parts.insns_many plan base pool fronts 0 b.method.insns refs (sym same_length)
-
   -- What is behind the code is behind the woven code.
   pub moved_past : (i : ℕ) → n ≤ i → length b.made.insns ≤ moved i
-  moved_past i le = omega (arith, made_long, end_is, moved_behind i le, least n (omega arith), le)
+  moved_past i le = omega (arith, end_is weaves, moved_behind i le, least n (omega arith), le)

@@ -34,6 +34,7 @@ use Rattle.block_template.proofs.BlockFlows.{blocks_flow}
 use Rattle.block_template.proofs.ItemsTyped.{clauses_are_asked}
 use Rattle.woven_typing.specs.Framing.{around_of, frames_woven, items_of, low, insn_place}
 use Rattle.woven_typing.specs.Renaming.{frame_renamed}
+use Rattle.class_weaving.proofs.Bodies.{next_front, same_length}
 use Rattle.woven_typing.proofs.Aiming.{has_shape, opcode_stays, index_stays, successors_moved}
 use Rattle.woven_typing.proofs.Body as of
 use Rattle.woven_typing.proofs.Body.{Body}
@@ -210,7 +211,7 @@ module _ (t : Typed) where
       let there : slice_get t.frames i ≡ Some (Some f) = frame_is t.frames i f e in
       let lt : i < of.n b = omega (arith, t.told, slice_get_within t.frames i (Some f) there) in
       let x = slice_there b.method.insns i lt in
-      let r = slice_there b.method.refs i (omega (arith, lt, of.same_length b)) in
+      let r = slice_there b.method.refs i (omega (arith, lt, same_length (of.weaves b))) in
       front_of i x.0 f x.1 there few r.0 r.1
 
   -- the front of an instruction that is reached, where control goes
@@ -268,7 +269,7 @@ module _ (t : Typed) where
       let lt : i < of.n b = slice_get_within b.method.insns i insn there in
       successors_moved (of.fronts b) (of.n b) moved (of.front_of b) i insn m
       (all_get (AimsWithin (of.n b)) b.method.insns i insn b.sound.targets there)
-      (omega (arith, last, of.moved_next b i lt, of.next_front b i ref names))
+      (omega (arith, last, of.moved_next b i lt, next_front (of.weaves b) i ref names))
 
   -- ---- the first instruction
 

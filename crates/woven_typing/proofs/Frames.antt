@@ -15,10 +15,11 @@ use Rattle.block_template.specs.declared.item.Item.{Item}
 use Rattle.block_template.specs.Blocks.{block_with, bools_of, clauses_of, has_block}
 use Rattle.woven_typing.specs.Framing.{alone_framed, block_framed, front_in, frames_woven, insn_framed, item_framed, items_of, low, parts_framed, insn_place}
 use Rattle.woven_typing.specs.Renaming.{frame_renamed}
-use Rattle.woven_typing.proofs.Body.{Body, base, client, front, moved, part, plan, refs, same_length}
+use Rattle.class_weaving.proofs.Bodies.{same_length}
+use Rattle.woven_typing.proofs.Body.{Body, base, client, front, moved, part, plan, refs, weaves}
 use Rattle.class_weaving.proofs.Lists.{get_left, get_right}
 use Rattle.class_weaving.proofs.Parts as parts
-use Rattle.woven_typing.proofs.Plans.{part_length}
+use Rattle.block_template.proofs.Plans.{part_length}
 
 abbrev pub frame_or_none : Option (Option FrameType) → Option FrameType
 frame_or_none o = option_map_or (λ (f : Option FrameType). f) o None
@@ -94,7 +95,7 @@ module _ (b : Body) where
     woven = frames_woven (client b) frames
 
     pub long : length frames ≡ length b.method.insns → length woven ≡ parts.total (plan b) (base b) (refs b)
-    long told = all_long 0 b.method.insns (refs b) frames (sym (same_length b)) told
+    long told = all_long 0 b.method.insns (refs b) frames (sym (same_length (weaves b))) told
 
     module _ (i k : ℕ) (insn : Insn) (ref : Target) (frame : Option FrameType) (e : slice_get b.method.insns i ≡ Some insn)
         (f : slice_get (refs b) i ≡ Some ref) (g : slice_get frames i ≡ Some frame) (lt : k < length (part b ref)) where

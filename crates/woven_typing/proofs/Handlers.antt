@@ -26,8 +26,9 @@ use Rattle.block_template.specs.declared.item.Item.{Item}
 use Rattle.block_template.specs.Blocks.{bools_of, clauses_of, handler_at}
 use Rattle.class_weaving.specs.Outcome.{at_fronts, handlers_by, own_handler, own_handlers, site_handlers}
 use Rattle.woven_typing.specs.Framing.{items_of}
+use Rattle.block_template.proofs.Plans.{part_length}
+use Rattle.class_weaving.proofs.Bodies.{fronts_are, handlers_are, same_length}
 use Rattle.woven_typing.proofs.Body as of
-use Rattle.woven_typing.proofs.Body.{Body}
 use Rattle.block_template.proofs.Calling.{count_is, index, place_is}
 use Rattle.woven_typing.proofs.Client.{Typed, again, aim, alone_height, b, frame_front, front_moved, here, kept_at, moved, old, woven}
 use Rattle.woven_typing.proofs.Fronts.{catches_front}
@@ -35,7 +36,7 @@ use Rattle.woven_typing.proofs.Kept.{and_kept}
 use Rattle.woven_typing.proofs.Larger.{below_kept}
 use Rattle.class_weaving.proofs.Parts as parts
 use Rattle.bytecode_model.proofs.Passing.{Passes}
-use Rattle.woven_typing.proofs.Plans as plans
+use Rattle.woven_typing.proofs.Plans.{site_back}
 use Rattle.woven_typing.proofs.Rows.{catches_kept, le_more}
 
 handled_parts : (covered roomy below there : Bool) → (not covered || (roomy && (below && there))) ≡ true → covered ≡ true
@@ -100,8 +101,8 @@ module _ (t : Typed) (i k : ℕ) (insn : Insn) (ref : Target) (there : slice_get
   covers_same : (h : Handler) → IsWithin (of.n (b t)) h → covers (of.front (b t) i + k) (at_fronts (of.fronts (b t)) h) ≡ covers i h
   covers_same h within =
       let lt : i < of.n (b t) = slice_get_within (b t).method.insns i insn there in
-      let from : slice_index (of.fronts (b t)) h.from ≡ of.front (b t) h.from = of.fronts_are (b t) h.from (omega (arith, within.from)) in
-      let to : slice_index (of.fronts (b t)) h.to ≡ of.front (b t) h.to = of.fronts_are (b t) h.to within.to in
+      let from : slice_index (of.fronts (b t)) h.from ≡ of.front (b t) h.from = fronts_are (of.weaves (b t)) h.from (omega (arith, within.from)) in
+      let to : slice_index (of.fronts (b t)) h.to ≡ of.front (b t) h.to = fronts_are (of.weaves (b t)) h.to within.to in
       let first : nat_le (slice_index (of.fronts (b t)) h.from) (of.front (b t) i + k) ≡ nat_le h.from i =
       elim (cases_Bool (nat_lt i h.from)) [
         | inl is ↦
@@ -138,7 +139,7 @@ module _ (t : Typed) (i k : ℕ) (insn : Insn) (ref : Target) (there : slice_get
       reaches : (y : ℕ) → i < y → y ≤ of.n (b t) → of.front (b t) i + length (of.part (b t) ref) ≤ of.front (b t) y
       reaches y lt most =
           parts.before_reaches (of.plan (b t)) (of.base (b t)) (of.some (b t)) (of.refs (b t)) i y ref names lt
-          (omega (arith, most, of.same_length (b t)))
+          (omega (arith, most, same_length (of.weaves (b t))))
 
   -- ---- what the client catches
 
@@ -212,7 +213,7 @@ module _ (t : Typed) (i k : ℕ) (insn : Insn) (ref : Target) (there : slice_get
           let within : call < length (of.part (b t) (target.ApiMethod callee)) =
           omega (
             arith,
-            plans.part_length (b t).policy (b t).mode (of.base (b t)) callee has,
+            part_length (b t).policy (b t).mode (of.base (b t)) callee has,
             count_is (b t).mode (bools_of (b t).policy) (of.base (b t)) clauses,
           ) in
           let there_is : covers (of.front (b t) i + k) own ≡ true → of.front (b t) j + call ≡ of.front (b t) i + k =
@@ -236,7 +237,7 @@ module _ (t : Typed) (i k : ℕ) (insn : Insn) (ref : Target) (there : slice_get
 
       own_passes : OwnPass (of.plan (b t)) (of.base (b t)) (is_handled (woven t) spot g) 0 (of.refs (b t))
       own_passes j s block place e f h =
-          let back = plans.site_back (b t).policy (b t).mode (of.base (b t)) s block f in
+          let back = site_back (b t).policy (b t).mode (of.base (b t)) s block f in
           let none : 0 + of.front (b t) j ≡ of.front (b t) j = omega arith in
           ap (λ (m : ℕ). is_handled (woven t) spot g (own_handler m block.insns place)) none
           ∙ own_handled j back.callee place block.insns (e ∙ ap Some back.names) back.has
@@ -244,7 +245,7 @@ module _ (t : Typed) (i k : ℕ) (insn : Insn) (ref : Target) (there : slice_get
 
       pub all_caught : Caught (woven t) spot g ≡ true
       all_caught =
-          ap (list_all (is_handled (woven t) spot g)) (of.handlers_are (b t))
+          ap (list_all (is_handled (woven t) spot g)) (handlers_are (of.weaves (b t)))
           ∙ all_both (is_handled (woven t) spot g) (own_handlers 0 (of.sites (b t))) (map (at_fronts (of.fronts (b t))) (b t).method.handlers)
           (own_all (of.plan (b t)) (of.base (b t)) (is_handled (woven t) spot g) 0 (of.refs (b t)) own_passes)
           (all_also (is_handled t.frames (old t i insn ref) f) (is_handled (woven t) spot g) (at_fronts (of.fronts (b t))) (IsWithin (of.n (b t)))

@@ -16,12 +16,13 @@ use Rattle.offset_patch.specs.Splicing.{aimed, put}
 use Rattle.block_template.specs.declared.item.Item.{Item}
 use Rattle.block_template.specs.Blocks.{bools_of, clauses_of, has_block}
 use Rattle.woven_typing.specs.Framing.{items_of}
+use Rattle.class_weaving.proofs.Bodies.{insn_there, ref_there, same_length}
 use Rattle.woven_typing.proofs.Aiming.{has_shape}
-use Rattle.woven_typing.proofs.Body.{Body, base, fronts, front, insn_there, moved, moved_is, moved_past, part, plan, pool, ref_there, same_length, state, there}
+use Rattle.woven_typing.proofs.Body.{Body, base, front, fronts, moved, moved_is, moved_past, part, plan, pool, state, there, weaves}
 use Rattle.block_template.proofs.Calling.{count_is, each_holds}
 use Rattle.class_weaving.proofs.Lists.{slice_there}
 use Rattle.woven_typing.proofs.Making.{MakesNothing, blocks_make, made_elsewhere, made_nothing}
-use Rattle.woven_typing.proofs.Plans.{part_item}
+use Rattle.block_template.proofs.Plans.{part_item}
 use Rattle.class_weaving.proofs.Unwoven.{no_block, part_alone}
 
 module _ (b : Body) where
@@ -30,8 +31,8 @@ module _ (b : Body) where
       → slice_get (part b ref) 0 ≡ Some Call → new_at b.made (front b i + 0) ≡ made_by (shape_of insn) ref
   client_makes i insn ref e f call =
       let shape = has_shape (fronts b) insn in
-      ap (λ (o : Option Insn). new_in o (slice_get b.made.refs (front b i + 0))) (insn_there b i 0 insn ref Call e f call)
-      ∙ ap (λ (o : Option Target). new_in (Some (aimed (fronts b) insn)) o) (ref_there b i 0 ref Call f call)
+      ap (λ (o : Option Insn). new_in o (slice_get b.made.refs (front b i + 0))) (insn_there (weaves b) i 0 insn ref Call e f call)
+      ∙ ap (λ (o : Option Target). new_in (Some (aimed (fronts b) insn)) o) (ref_there (weaves b) i 0 ref Call f call)
       ∙ ap (λ (s : Shape). made_by s ref) shape.is ∙ made_elsewhere shape.to (shape_of insn) ref
 
   -- What stands first in a block makes nothing.
@@ -47,9 +48,9 @@ module _ (b : Body) where
       elim (each_holds b.mode (bools_of b.policy) (base b) (clauses_of b.policy callee) MakesNothing (blocks_make _) 0 first.0 first.1) [
         | inl call ↦ client_makes i insn ref e f (there ∙ ap (λ (x : Item). Some x.insn) call.1)
         | inr other ↦
-            ap (λ (o : Option Insn). new_in o (slice_get b.made.refs (front b i + 0))) (insn_there b i 0 insn ref first.0.insn e f there)
+            ap (λ (o : Option Insn). new_in o (slice_get b.made.refs (front b i + 0))) (insn_there (weaves b) i 0 insn ref first.0.insn e f there)
             ∙ ap (λ (o : Option Target). new_in (Some (put (pool b) (fronts b) (front b i) insn first.0.insn)) o)
-            (ref_there b i 0 ref first.0.insn f there)
+            (ref_there (weaves b) i 0 ref first.0.insn f there)
             ∙ other.is (pool b) (fronts b) (front b i) insn (state b) ref
             ∙ sym (made_nothing (shape_of insn) ref refl)
       ]
@@ -82,7 +83,7 @@ module _ (b : Body) where
         | inl is ↦
             let lt : i < length b.method.insns = ltb-true _ _ is in
             let x = slice_there b.method.insns i lt in
-            let r = slice_there b.method.refs i (omega (arith, lt, same_length b)) in
+            let r = slice_there b.method.refs i (omega (arith, lt, same_length (weaves b))) in
             let at : moved b i ≡ front b i + 0 = moved_is b i lt ∙ omega arith in
             ap (new_at b.made) at ∙ there_makes i x.0 r.0 x.1 r.1
             ∙ sym (ap (λ (o : Option Insn). new_in o (slice_get b.method.refs i)) x.1 ∙ ap (λ (o : Option Target). new_in (Some x.0) o) r.1)

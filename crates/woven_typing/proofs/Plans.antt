@@ -1,10 +1,8 @@
--- The plan of a policy: which calls have a block, and that each block has an instruction.
-use Rattle.std.proofs.Common.{◌≡◌, ℕ, zero, suc, ◌<◌, ◌≤◌, Bool, true, false, cond, List, [], ◌∷◌, length, map, Option, Some, None, refl, sym, ap, ◌∙◌, arith}
-use Rattle.std.specs.Prelude.{is_some, max, slice_get, option_map}
+-- The plan of a policy: what has a block, the locals that blocks use, and what they name.
+use Rattle.std.proofs.Common.{◌≡◌, ℕ, zero, suc, ◌≤◌, Bool, true, false, cond, List, [], ◌∷◌, map, Option, Some, None, refl, sym, ap, ◌∙◌, arith}
+use Rattle.std.specs.Prelude.{max, slice_get}
 use Rattle.std.specs.List.{Contains, cons_option, filter_map}
-use Rattle.std.proofs.lemmas.List.{length-map}
 use Rattle.std.proofs.lemmas.List.Elements.{Contains-append_left, Contains-append_right}
-use Rattle.std.proofs.lemmas.Option.{slice_get-map}
 use Rattle.bytecode_model.specs.declared.program.Target.{Target}
 use Rattle.bytecode_model.specs.declared.program.Target.TheVariants as target
 use Rattle.cert_format.specs.declared.certificate.Mode.{Mode}
@@ -14,77 +12,14 @@ use Rattle.offset_patch.specs.declared.block.Block.{Block}
 use Rattle.offset_patch.specs.declared.block.BlockInsn.{BlockInsn}
 use Rattle.offset_patch.specs.declared.block.PoolWant.{PoolWant}
 use Rattle.offset_patch.specs.Plan.{Plan}
-use Rattle.offset_patch.specs.Splicing.{part_of, want_of, block_wants, wants_of}
-use Rattle.block_template.specs.declared.item.Item.{Item}
-use Rattle.block_template.specs.Blocks.{block_with, bools_of, clauses_of, has_block, plan_of, site, site_locals}
+use Rattle.offset_patch.specs.Splicing.{want_of, block_wants, wants_of}
+use Rattle.block_template.specs.Blocks.{block_with, bools_of, clauses_of, plan_of, site, site_locals}
 use Rattle.class_weaving.specs.Woven.{most_locals}
-use Rattle.woven_typing.specs.Framing.{items_of}
-use Rattle.block_template.proofs.Calling.{count_is}
 use Rattle.class_weaving.proofs.Parts.{part}
 
 module _ (policy : Policy) (mode : Mode) where
   abbrev plan : Plan
   plan = plan_of policy mode
-
-  there_by : (b : Bool) (block : Block) → is_some (cond b (Some block) None) ≡ b
-  there_by true block = refl
-  there_by false block = refl
-
-  pub there : (base : ℕ) (ref : Target) → is_some (site policy mode base ref) ≡ has_block policy ref
-  there base (target.ApiMethod callee) = there_by (has_clauses policy callee) (block_with mode (bools_of policy) base (clauses_of policy callee))
-  there base target.None = refl
-  there base (target.Builtin i) = refl
-  there base (target.Method c m) = refl
-  there base (target.Field c f) = refl
-  there base (target.ApiField i) = refl
-  there base (target.ClassName name) = refl
-  there base (target.Number n) = refl
-  there base (target.Literal i) = refl
-
-  module _ (base : ℕ) where
-    -- The block of a call of a method that a clause names.
-    pub site_is : (callee : ℕ) → has_clauses policy callee ≡ true
-        → site policy mode base (target.ApiMethod callee) ≡ Some (block_with mode (bools_of policy) base (clauses_of policy callee))
-    site_is callee has =
-        ap (λ (b : Bool). cond b (Some (block_with mode (bools_of policy) base (clauses_of policy callee))) None) has
-
-    pub part_is : (callee : ℕ) → has_clauses policy callee ≡ true
-        → part plan base (target.ApiMethod callee) ≡ map (λ (i : Item). i.insn) (items_of policy mode base callee)
-    part_is callee has = ap part_of (site_is callee has)
-
-    pub part_length : (callee : ℕ) → has_clauses policy callee ≡ true
-        → length (part plan base (target.ApiMethod callee)) ≡ length (items_of policy mode base callee)
-    part_length callee has = ap length (part_is callee has) ∙ length-map (items_of policy mode base callee) (λ (i : Item). i.insn)
-
-    pub part_item : (callee : ℕ) → has_clauses policy callee ≡ true → (k : ℕ) (item : Item)
-        → slice_get (items_of policy mode base callee) k ≡ Some item → slice_get (part plan base (target.ApiMethod callee)) k ≡ Some item.insn
-    part_item callee has k item e =
-        ap (λ (xs : List BlockInsn). slice_get xs k) (part_is callee has)
-        ∙ slice_get-map (λ (i : Item). i.insn) (items_of policy mode base callee) k ∙ ap (option_map (λ (i : Item). i.insn)) e
-
-    site_some : (o : Option Block) → ((block : Block) → o ≡ Some block → 0 < length block.insns) → 0 < length (part_of o)
-    site_some None some = omega arith
-    site_some (Some block) some = some block refl
-
-    block_some : (callee : ℕ) (b : Bool) → 0 < length (part_of (cond b (Some (block_with mode (bools_of policy) base (clauses_of policy callee))) None))
-    block_some callee false = omega arith
-    block_some callee true =
-        omega (
-          arith,
-          length-map (items_of policy mode base callee) (λ (i : Item). i.insn),
-          count_is mode (bools_of policy) base (clauses_of policy callee),
-        )
-
-    pub some : (ref : Target) → 0 < length (part plan base ref)
-    some (target.ApiMethod callee) = block_some callee (has_clauses policy callee)
-    some target.None = omega arith
-    some (target.Builtin i) = omega arith
-    some (target.Method c m) = omega arith
-    some (target.Field c f) = omega arith
-    some (target.ApiField i) = omega arith
-    some (target.ClassName name) = omega arith
-    some (target.Number n) = omega arith
-    some (target.Literal i) = omega arith
 
   -- What has a block is a call of a method that a clause names.
   pub record IsBlockOf (base : ℕ) (ref : Target) (block : Block) : Type 0 where

@@ -30,6 +30,7 @@ use Rattle.class_weaving.specs.Outcome.{Each, IsWovenClass, IsWovenMethod, class
 use Rattle.class_weaving.proofs.Wanted.{all_of}
 use Rattle.woven_typing.specs.Framing.{classes_framed, client_of, frames_woven, methods_framed, typing_of}
 use Rattle.woven_typing.specs.WovenTyping.{IsGiven}
+use Rattle.class_weaving.proofs.Bodies.{end_is, made_long}
 use Rattle.woven_typing.proofs.Body as of
 use Rattle.woven_typing.proofs.Body.{Body}
 use Rattle.woven_typing.proofs.Frames.{long}
@@ -144,15 +145,14 @@ module _ (old new : Program) (policy : Policy) (mode : Mode) (g : IsGiven old ne
 
   pub code_same : (b : Body) → has_code b.made ≡ has_code b.method
   code_same b =
-      let long_is = of.made_long b in
-      let end = of.end_is b in
+      let end = end_is (of.weaves b) in
       elim (cases_Bool (nat_lt 0 (length b.method.insns))) [
         | inl is ↦
             let some : 0 < length b.method.insns = ltb-true _ _ is in
-            lt-ltb 0 (length b.made.insns) (omega (arith, some, long_is, end, of.least b (of.n b) (omega arith))) ∙ sym is
+            lt-ltb 0 (length b.made.insns) (omega (arith, some, end, of.least b (of.n b) (omega arith))) ∙ sym is
         | inr fails ↦
             let none : length b.method.insns ≡ 0 = grind (arith, nat_tests) in
-            let empty : length b.made.insns ≡ 0 = omega (arith, long_is, end, ap (of.front b) none) in
+            let empty : length b.made.insns ≡ 0 = omega (arith, end, ap (of.front b) none) in
             ap (nat_lt 0) empty ∙ sym (ap (nat_lt 0) none)
       ]
 
@@ -168,7 +168,7 @@ module _ (old new : Program) (policy : Policy) (mode : Mode) (g : IsGiven old ne
   unfolding body_of
   method_alike own index class other method made e f of_class of_method =
       let b : Body = body_of own index class other method made e f of_class of_method in
-      record { code = code_same b; many = λ frames told. long b frames told ∙ sym (of.made_long b) }
+      record { code = code_same b; many = λ frames told. long b frames told ∙ sym (made_long (of.weaves b)) }
 
   -- ---- a class
 

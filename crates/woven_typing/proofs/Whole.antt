@@ -19,6 +19,7 @@ use Rattle.block_template.specs.Blocks.{clauses_of, has_block}
 use Rattle.class_weaving.specs.Outcome.{part_named}
 use Rattle.woven_typing.specs.Framing.{items_of, item_framed, low, insn_place}
 use Rattle.woven_typing.specs.Renaming.{frame_renamed}
+use Rattle.class_weaving.proofs.Bodies.{insn_there, made_long, ref_there, same_length}
 use Rattle.woven_typing.proofs.BlockRows.{block_row}
 use Rattle.woven_typing.proofs.Body as of
 use Rattle.woven_typing.proofs.Called.{CallAt}
@@ -29,7 +30,7 @@ use Rattle.woven_typing.proofs.Handlers.{all_caught}
 use Rattle.class_weaving.proofs.Lists.{slice_there}
 use Rattle.class_weaving.proofs.Parts as parts
 use Rattle.bytecode_model.proofs.Passing.{row_met}
-use Rattle.woven_typing.proofs.Plans.{part_length}
+use Rattle.block_template.proofs.Plans.{part_length}
 use Rattle.woven_typing.proofs.Rows.{depth_kept, local_kept, made_kept, operand_kept}
 use Rattle.class_weaving.proofs.Unwoven.{no_block, part_alone}
 
@@ -89,8 +90,8 @@ module _ (t : Typed) where
           let y = slice_there (of.part (b t) ref) k less in
           row_here t (of.front (b t) i + k) (put (of.pool (b t)) (of.fronts (b t)) (of.front (b t) i) insn y.0)
           (part_named (of.state (b t)) ref y.0) None
-          (of.insn_there (b t) i k insn ref y.0 there names y.1)
-          (of.ref_there (b t) i k ref y.0 names y.1)
+          (insn_there (of.weaves (b t)) i k insn ref y.0 there names y.1)
+          (ref_there (of.weaves (b t)) i k ref y.0 names y.1)
           none
           (ap (λ (z : Bool). cond z (Some 1) None) (ne_eqb (of.front (b t) i + k) 0 (λ e. unkept lost (starts e))))
 
@@ -120,8 +121,8 @@ module _ (t : Typed) where
           let kept = kept_at t i m insn ref there (λ new. at) in
           let p : Place = old t i insn ref in
           let q : Place = here t m (aim t insn) ref in
-          row_here t m (aim t insn) ref (Some (again t f)) (of.insn_there (b t) i 0 insn ref Call there names call)
-          (of.ref_there (b t) i 0 ref Call names call)
+          row_here t m (aim t insn) ref (Some (again t f)) (insn_there (of.weaves (b t)) i 0 insn ref Call there names call)
+          (ref_there (of.weaves (b t)) i 0 ref Call names call)
           (framed_so ∙ ap (λ (y : Option FrameType). option_map (frame_renamed (moved t)) (low (b t).method.max_stack y)) is
           ∙ ap (option_map (frame_renamed (moved t))) (low_is t f few))
           (row_met (woven t) q (again t f)
@@ -215,8 +216,8 @@ module _ (t : Typed) where
   -- The rules are met at each instruction of the woven method.
   pub all_met : (at : ℕ) → at < length (b t).made.insns → Met at
   all_met at lt =
-      let l = parts.locate (of.plan (b t)) (of.base (b t)) (of.refs (b t)) at (omega (arith, lt, of.made_long (b t))) in
-      let few : l.own < of.n (b t) = omega (arith, slice_get_within (of.refs (b t)) l.own l.ref l.there, of.same_length (b t)) in
+      let l = parts.locate (of.plan (b t)) (of.base (b t)) (of.refs (b t)) at (omega (arith, lt, made_long (of.weaves (b t)))) in
+      let few : l.own < of.n (b t) = omega (arith, slice_get_within (of.refs (b t)) l.own l.ref l.there, same_length (of.weaves (b t))) in
       let insn = slice_there (b t).method.insns l.own few in
       let x = slice_there t.frames l.own (omega (arith, t.told, few)) in
       rw (l.is) (row_there l.own l.place insn.0 l.ref x.0 insn.1 l.there x.1 l.within (has_block (b t).policy l.ref) refl)

@@ -28,6 +28,7 @@ use Rattle.class_weaving.specs.Outcome.{IsWovenClass, IsWovenMethod}
 use Rattle.woven_typing.specs.Framing.{around_of, client_of, front_in, frames_woven, item_framed, items_of, low, insn_place, typing_of}
 use Rattle.woven_typing.specs.Renaming.{frame_renamed}
 use Rattle.woven_typing.specs.WovenTyping.{BlocksAreReachedSo, BlocksAreTold, ClientsAreTold, IsGiven, IsInsnAt, IsToldAs, WovenIsTyped, front, is_reached, kept_frame}
+use Rattle.class_weaving.proofs.Bodies.{fronts_are}
 use Rattle.woven_typing.proofs.Body as of
 use Rattle.woven_typing.proofs.Body.{Body}
 use Rattle.woven_typing.proofs.Client.{Typed}
@@ -230,7 +231,7 @@ module _ (old new : Program) (policy : Policy) (mode : Mode) (typing : Typing) (
       let is : frame_of (frames_in other.methods (frames_told (typing_of old policy mode typing) own) index) (front policy mode method at + k) ≡ frame =
       ap (λ (fs : Frames). frame_of fs (front policy mode method at + k))
       (frames_are old new policy mode g typing own index class other method there.class_there own_class.1 there.method_there code)
-      ∙ ap (λ (n : ℕ). frame_of (frames_woven (client_of old policy mode own class method) told) (n + k)) (of.fronts_are b at (omega (arith, inside)))
+      ∙ ap (λ (n : ℕ). frame_of (frames_woven (client_of old policy mode own class method) told) (n + k)) (fronts_are (of.weaves b) at (omega (arith, inside)))
       ∙ framed other made own_class.2 own_method.2 in
       record {
         class = other;

@@ -1,5 +1,5 @@
 -- Steps of the client's code, by what their instruction does.
-use Rattle.std.proofs.Common.{◌≡◌, ℕ, zero, suc, ◌+◌, ◌<◌, Bool, true, false, cond, List, [], ◌∷◌, drop, get_or, Option, Some, None, Result, Ok, Err, refl, sym, ap, subst, ◌∙◌, inl, inr, arith}
+use Rattle.std.proofs.Common.{◌≡◌, ◌≢◌, ℕ, zero, suc, ◌+◌, ◌<◌, Bool, true, false, cond, List, [], ◌∷◌, drop, get_or, Option, Some, None, Result, Ok, Err, refl, sym, ap, subst, ◌∙◌, inl, inr, arith}
 use Rattle.std.specs.Prelude.{Contains, IfSome, slice_get}
 use Rattle.std.specs.Option.{option_map_or, option_to_list}
 use Rattle.std.proofs.lemmas.Bool.{false≢true}
@@ -53,9 +53,10 @@ use Rattle.guest_model.specs.Stepping.{
   works,
 }
 use Rattle.guest_model.specs.Working.{worked}
+use Rattle.guest_model.proofs.Comings.{Comes, work_comes}
 use Rattle.guest_model.proofs.Effects.{effect_keeps}
 use Rattle.guest_model.proofs.Options.{IfThere, all_drop, all_get, and_then_of, if_either, if_mapped, if_none, if_some, if_then, is_there}
-use Rattle.block_logic.specs.Fitting.{AreBelow, AreClientFrames, held_locks, state_of}
+use Rattle.block_logic.specs.Fitting.{AreBelow, AreClientFrames, IsCleanObject, held_locks, state_of}
 use Rattle.block_logic.specs.Meaning.{AreClean, IsClean, IsFrame, note_of}
 use Rattle.block_logic.specs.Operands.{calls, has_clause, is_state_name, pushes_state, state_name, variable_named}
 use Rattle.block_logic.proofs.Client.Begins.{clean_list}
@@ -65,8 +66,8 @@ use Rattle.block_logic.proofs.Client.Classes.{named_clean}
 use Rattle.block_logic.proofs.Client.Frames.{FreeAt, GoesFree, Laws, insn_is, may_go_on}
 use Rattle.block_logic.proofs.Client.Monitors.{all_given_up_stay, entered_stays, left_stays}
 use Rattle.block_logic.proofs.Client.Throws.{AreCatching}
-use Rattle.block_logic.proofs.Client.Values.{clean_kept, names_clean}
-use Rattle.block_logic.proofs.Client.Works.{Comes, work_comes}
+use Rattle.block_logic.proofs.Client.Values.{KeepsLock, clean_kept, names_clean}
+use Rattle.block_logic.proofs.Client.Works.{clean_lasts, names_apart}
 
 -- ---- constants
 
@@ -151,7 +152,7 @@ module _ (program : Program) (policy : Policy) (certificate : Certificate) (laws
 
       -- ---- the heap, static fields, division
 
-      comes_good : (made : Result (World × List Value) Name) → Comes program (state_of program policy certificate) shared made
+      comes_good : (made : Result (World × List Value) Name) → Comes (IsClean program) (KeepsLock program (state_of program policy certificate) shared) made
           → Makes (comes_to program shared a made)
       comes_good (Ok made) comes = goes_behind_good made.0 made.1 comes.0 comes.1
       comes_good (Err class) comes = throws_here shared class kept
@@ -159,10 +160,13 @@ module _ (program : Program) (policy : Policy) (certificate : Certificate) (laws
       works_good : (what : Heap) → (what ≡ heap.Constant → IfThere (IsClean program) (constant_value program next.1))
           → variable_named (state_of program policy certificate) next.1 ≡ None → Makes (works program shared a what next.1)
       works_good what names alone =
+          let state : ℕ = state_of program policy certificate in
           if_then IsGood _ (worked program shared what next.1 a.frame.stack.items)
           (λ made e. comes_good made
-          (is_there (Comes program (state_of program policy certificate) shared) _ made
-          (work_comes program (state_of program policy certificate) shared shared kept a.frame.stack.items clean what next.1 names alone) e))
+          (is_there (Comes (IsClean program) (KeepsLock program state shared)) _ made
+          (work_comes (IsClean program) (IsCleanObject program) (KeepsLock program state shared) (λ class. class ≢ state)
+          (clean_lasts program state shared) program shared kept a.frame.stack.items clean what next.1 names
+          (names_apart state next.1 alone)) e))
 
       -- ---- monitors
 

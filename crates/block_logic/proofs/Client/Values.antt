@@ -1,26 +1,21 @@
 -- Values that are not the lock, and a world that holds it nowhere: what is written into it leaves the lock and the policy's variables alone.
-use Rattle.std.proofs.Common.{◌≡◌, ◌≢◌, ℕ, ℤ, zero, suc, Bool, true, false, cond, List, [], ◌∷◌, ◌++◌, length, pos, Some, refl, sym, ap, subst, ◌∙◌, inl, inr}
+use Rattle.std.proofs.Common.{◌≡◌, ◌≢◌, ℕ, ℤ, zero, suc, Bool, true, false, cond, List, [], ◌∷◌, ◌++◌, pos, Some, refl, sym, ap, subst, ◌∙◌, inl, inr}
 use Rattle.std.specs.Prelude.{slice_get, slice_set}
 use Rattle.std.specs.List.{AllByRecursion}
 use Rattle.std.proofs.lemmas.Bool.{cases_eq}
-use Rattle.class_codec.specs.declared.tree.Member.{Member}
 use Rattle.insn_codec.specs.declared.shape.Shape.{Shape}
 use Rattle.insn_codec.specs.declared.shape.Shape.TheVariants as shapes
-use Rattle.bytecode_model.specs.declared.program.LinkedClass.{LinkedClass}
 use Rattle.bytecode_model.specs.declared.program.Program.{Program}
-use Rattle.bytecode_model.specs.Heads.{desc_of}
 use Rattle.bytecode_model.specs.SearchOrder.{Name}
 use Rattle.guest_heap.specs.declared.object.Monitor.{Monitor}
 use Rattle.guest_heap.specs.declared.object.Object.{Object}
-use Rattle.guest_heap.specs.declared.object.Object.TheVariants as objects
 use Rattle.guest_heap.specs.declared.value.Value.{Value}
 use Rattle.guest_heap.specs.declared.value.Value.TheVariants as values
-use Rattle.guest_heap.specs.Heap.{places_of, with_value, with_value_at}
 use Rattle.guest_frames.specs.Values.{values_moved}
 use Rattle.guest_model.specs.Changes.{World, with_heap, with_monitors, with_object, with_statics}
-use Rattle.guest_model.specs.Layout.{class_given, fields_up, first_value, is_of_references, new_of, own_fields}
+use Rattle.guest_model.specs.Layout.{first_value, is_of_references}
 use Rattle.guest_model.proofs.Effects.{IsKeptBy, NamesOnly}
-use Rattle.guest_model.proofs.Options.{all_append, all_get, all_map, all_set, some_is, there_or}
+use Rattle.guest_model.proofs.Options.{all_append, some_is}
 use Rattle.block_logic.specs.Fitting.{IsCleanObject, IsCleanWorld, held_locks}
 use Rattle.block_logic.specs.Meaning.{AreClean, IsClean}
 
@@ -73,36 +68,8 @@ module _ (program : Program) where
   pub first_clean : (desc : Name) → IsClean program (first_value desc)
   first_clean desc = first_or (is_of_references desc)
 
-  fields_clean : (n : ℕ) (name : Name) → AreClean program (fields_up n program name)
-  fields_clean zero name = tt
-  fields_clean (suc n) name =
-      there_or (AreClean program) _ (class_given program name) [] tt
-      (λ (c : LinkedClass) e. all_append (IsClean program) (fields_up n program c.parent) (own_fields c.file) (fields_clean n c.parent)
-      (all_map (IsClean program) (λ (m : Member). first_value (desc_of c.file.pool m)) _ (λ m. first_clean (desc_of c.file.pool m))))
-
-  pub new_clean : (name : Name) → IsCleanObject program (new_of program name)
-  new_clean name = (fields_clean (length program.classes) name, refl)
-
-  pub places_clean : (object : Object) → IsCleanObject program object → AreClean program (places_of object)
-  places_clean (objects.Plain class fields target thread) h = h.0
-  places_clean (objects.Array desc items) h = h
-  places_clean (objects.Text text) h = tt
-
-  written_clean : (place : ℕ) (v : Value) (object : Object) → IsClean program v → IsCleanObject program object
-      → IsCleanObject program (with_value place v object)
-  written_clean place v (objects.Plain class fields target thread) clean h = (all_set (IsClean program) fields place v h.0 clean, h.1)
-  written_clean place v (objects.Array desc items) clean h = all_set (IsClean program) items place v h clean
-  written_clean place v (objects.Text text) clean h = tt
-
   abbrev pub IsCleanHeap : List Object → Type 0
   IsCleanHeap heap = AllByRecursion (IsCleanObject program) heap
-
-  pub value_set_clean : (heap : List Object) (at place : ℕ) (v : Value) → IsClean program v → IsCleanHeap heap
-      → IsCleanHeap (with_value_at heap at place v)
-  value_set_clean heap at place v clean all =
-      there_or IsCleanHeap (λ (object : Object). slice_set heap at (with_value place v object)) (slice_get heap at) heap all
-      (λ object e. all_set (IsCleanObject program) heap at (with_value place v object) all
-      (written_clean place v object clean (all_get (IsCleanObject program) heap at object all e)))
 
   -- ---- what all share
 

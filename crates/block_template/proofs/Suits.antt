@@ -38,11 +38,14 @@ use Rattle.block_template.specs.Flow.{AreForPhases, branch_at, branches_of, clau
 use Rattle.block_template.specs.Parts.{ask, asks, branch_size, branches, branches_size, check, give, if_reached, keep, loads, lock, save, tried, unlock, unreached, write, writes}
 
 module _ (mode : Mode) (clauses : Clauses) where
-  -- The lock is held over the call as the mode has it, it is left behind a check where a clause is for the phase, and a branch
-  -- that is taken is there.
+  -- The lock is held over the call as the mode has it, it is taken for a check or before the call, it is left behind a check
+  -- where a clause is for the phase, and a branch that is taken is there.
   abbrev pub Suits : Role → Type 0
   Suits (roles.Call locked) = locked ≡ is_locked mode
   Suits (roles.Keep locked) = locked ≡ is_locked mode
+  Suits (roles.Lock Before pushed) = ⊤
+  Suits (roles.Lock After pushed) = is_some clauses.after ≡ true
+  Suits (roles.Lock Exceptional pushed) = is_some clauses.exceptional ≡ true
   Suits (roles.Unlock phase made pushed) = made ≡ is_some (clause_in clauses phase)
   Suits (roles.Taken phase n) = is_some (branch_at clauses phase n) ≡ true
   Suits other = ⊤
@@ -119,10 +122,15 @@ module _ (mode : Mode) (clauses : Clauses) where
   unlock_suit : (phase : Phase) (clause : Clause) → clause_in clauses phase ≡ Some clause → AllSuit (unlock phase true)
   unlock_suit phase clause e = (ap is_some (sym e), (ap is_some (sym e), tt))
 
+  lock_suit : (phase : Phase) (clause : Clause) → clause_in clauses phase ≡ Some clause → AllSuit (lock phase)
+  lock_suit Before clause e = (tt, (tt, tt))
+  lock_suit After clause e = (ap is_some e, (ap is_some e, tt))
+  lock_suit Exceptional clause e = (ap is_some e, (ap is_some e, tt))
+
   released_suit : (phase : Phase) (clause : Clause) → clause_in clauses phase ≡ Some clause → clause.phase ≡ phase
       → (bools : List Bool) (base at : ℕ) (later : List Item) → AllSuit later → AllSuit (released bools base at clause later)
   released_suit phase clause there for bools base at later f =
-      both (lock clause.phase) _ (tt, (tt, tt))
+      both (lock clause.phase) _ (subst (λ (p : Phase). AllSuit (lock p)) (sym for) (lock_suit phase clause there))
       (checked_suit phase clause there for bools base (at + 2) (unlock clause.phase true ++ later)
       (both (unlock clause.phase true) later (subst (λ (p : Phase). AllSuit (unlock p true)) (sym for) (unlock_suit phase clause there)) f))
 
