@@ -58,6 +58,20 @@ class Reader:
         return [frame, self.note(variables)]
 
 
+# the types that have no more to tell
+TOP, INT, NULL, THIS = [0], [1], [2], [4]
+
+
+def reference(name):
+    """To a class, or to an array by its descriptor."""
+    return [3, name.encode("ascii")]
+
+
+def fresh(at):
+    """What the `new` of this index made, before its constructor is called."""
+    return [5, at]
+
+
 class Certificate:
     """A certificate that was read: its mode, 0 for hold and 1 for release, and the methods of each class."""
 

@@ -1,5 +1,10 @@
-//! Tests of the crates that read and write bytes: class files, the codes of methods, certificates.
+//! Tests of the crates that read and write bytes: class files, the codes of methods, certificates; and the bytes that they
+//! begin with, as tests write them.
 #![tactic(auto)]
+
+mod bytes;
+
+pub use bytes::bytes_of;
 
 #[cfg(test)]
 mod tests;

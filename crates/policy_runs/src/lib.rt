@@ -1,7 +1,8 @@
 //! Policies as people write them: from the texts of a listing and of a policy to the automaton.
 //!
 //! What each step does is said and proved in its own crate (api_listing, conspec_parse, conspec_automaton). Here they are
-//! joined; and here are tests of all of them together, on events and on the question whether a policy is race-free.
+//! joined; and here are tests of all of them together, on events and on the question whether a policy is race-free, and of
+//! listings, policies and records, each on its own.
 #![tactic(auto)]
 
 mod automaton;

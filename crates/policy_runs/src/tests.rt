@@ -1,7 +1,14 @@
-//! Automata of policies that are read.
+//! Automata of policies that are read; and listings, policies, records and their parts, each on its own.
 
+mod automata;
+mod descriptors;
+mod listings;
+mod policies;
 mod races;
+mod records;
 mod running;
+mod tokens;
+mod trees;
 
 ghost use Rattle.std.specs.Prelude.{IfOk};
 ghost use Rattle.conspec_automaton.specs.Sound.{IsPolicy};

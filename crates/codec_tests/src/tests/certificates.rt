@@ -1,5 +1,6 @@
 //! Known certificates both ways, and where bytes that are none differ.
 
+use crate::bytes_of;
 use cert_format::{
     CertForm, Certificate, Mode, Name, Note, Phase8, Term, Typing, VType, decode, encode,
 };
@@ -7,7 +8,6 @@ use mon_base::{Bytes, List};
 use std::alloc::{AllocError, Global};
 use std::process::Abort;
 use std::test::*;
-use test_bytes::bytes_of;
 
 /// A program of two classes, the first with one method of one instruction, before which the one local is an array of
 /// strings. The second has no method with code.

@@ -2,6 +2,7 @@
 
 mod compiled;
 
+use crate::bytes_of;
 use class_codec::{
     Attr, ClassFault, ClassFile, Const, MAX_LEN, Member, class_name_at, decode, encode,
     reference_at,
@@ -9,7 +10,6 @@ use class_codec::{
 use std::alloc::{AllocError, Global};
 use std::process::Abort;
 use std::test::*;
-use test_bytes::bytes_of;
 
 /// A class `a/E` with an empty `main`.
 const SMALL: [&str; 9] = [

@@ -7,12 +7,12 @@ ghost use Rattle.std.specs.List.{AllByRecursion};
 ghost use Rattle.insn_codec.specs.Fits.{IsInsn};
 ghost use Rattle.insn_codec.specs.Spelling.{size, len_from};
 
+use crate::bytes_of;
 use insn_codec::opcodes::*;
 use insn_codec::{CodeFault, CodeOverflow, Insn, name_of, read_code, starts, write_code};
 use mon_base::{Bytes, List};
 use std::alloc::{AllocError, Global};
 use std::test::*;
-use test_bytes::bytes_of;
 
 /// Each instruction once, two more after `wide`, and a `return`.
 const EVERY: [&str; 5] = [
