@@ -15,7 +15,8 @@ use Rattle.cert_format.specs.declared.certificate.Mode.TheVariants as modes
 use Rattle.cert_format.specs.declared.certificate.Certificate.{Certificate}
 use Rattle.cert_format.specs.Names.{Name, name_index, StandOnce, class_names, typing_names, names_of}
 use Rattle.cert_format.specs.Index.{stands}
-use Rattle.cert_format.specs.Spelling.{u1, u4, spell_name, spell_names, spell_mode, spell_head, spell_classes, spell_certificate}
+use Rattle.mon_base.specs.Widths.{u1, u4}
+use Rattle.cert_format.specs.Spelling.{spell_name, spell_names, spell_mode, spell_head, spell_classes, spell_certificate}
 use Rattle.mon_base.specs.Widths.{IsU2, IsU4}
 use Rattle.cert_format.specs.Fits.{FitNames, FitClasses, CanSpell, SpellsCertificate}
 use Rattle.mon_base.specs.Answer.{Answers}

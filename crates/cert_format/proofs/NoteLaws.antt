@@ -14,7 +14,8 @@ use Rattle.cert_format.specs.declared.note.Term.{Term}
 use Rattle.cert_format.specs.declared.note.Term.TheVariants as terms
 use Rattle.cert_format.specs.declared.note.Note.{Note}
 use Rattle.cert_format.specs.declared.note.Note.TheVariants as notes
-use Rattle.cert_format.specs.Spelling.{u1, i4, flag, spell_term, spell_terms, spell_phase, spell_site, spell_note}
+use Rattle.mon_base.specs.Widths.{u1}
+use Rattle.cert_format.specs.Spelling.{i4, flag, spell_term, spell_terms, spell_phase, spell_site, spell_note}
 use Rattle.mon_base.specs.Widths.{IsU1}
 use Rattle.cert_format.specs.Fits.{FitsTerm, FitsSite, FitsNote}
 use Rattle.cert_format.specs.Reading.{u1_at, u2_at, i4_at, flag_of, flag_at, pair_at, term_of_kind, term_at, terms_at, phase_of, phase_at, site_at, held_at, granted_at, owed_at, stop_at, note_of_kind, note_at, free_at}

@@ -1,6 +1,6 @@
 -- The places of names.
-use Rattle.std.proofs.Common.{◌≡◌, ℕ, zero, suc, ◌+◌, ◌<◌, ◌≤◌, Bool, true, false, cond, ltb, List, [], ◌∷◌, ◌++◌, length, map, take, get_or, Option, Some, None, Result, Ok, Err, OnOk, inl, inr, refl, sym, ap, subst, ◌∙◌, Bor, arith}
-use Rattle.std.specs.Prelude.{bytes_eq, is_err, slice_index_or, slice_set}
+use Rattle.std.proofs.Common.{◌≡◌, ℕ, zero, suc, ◌+◌, ◌<◌, ◌≤◌, Bool, true, false, cond, ltb, List, [], ◌∷◌, ◌++◌, length, map, take, get_or, Option, Some, None, inl, inr, refl, sym, ap, subst, ◌∙◌, Bor, arith}
+use Rattle.std.specs.Prelude.{bytes_eq, slice_index_or}
 use Rattle.std.specs.BTreeMap.{BTreeMap, get_by}
 use Rattle.std.specs.BTreeSet.{BTreeSet, contains_by}
 use Rattle.std.specs.Ordering.{nat_cmp, is_eq}
@@ -13,7 +13,8 @@ use Rattle.std.proofs.lemmas.Slice.Eq.{bytes_eq-Decides}
 use Rattle.cert_format.specs.Names.{Name, name_index, with_name}
 use Rattle.cert_format.specs.declared.index.Known.{Known}
 use Rattle.cert_format.specs.Index.{found, stands, HasNames, HasPlaces, IsKnown, ArePlaced}
-use Rattle.cert_format.specs.Spelling.{u4, spell_name, spell_names}
+use Rattle.mon_base.specs.Widths.{u4}
+use Rattle.cert_format.specs.Spelling.{spell_name, spell_names}
 
 -- where the name stands it is found no later
 pub place-le : (names : List Name) (i : ℕ) → i < length names → name_index names (get_or names i []) ≤ i
@@ -120,9 +121,6 @@ pub spelled-now : (spell : Name → List ℕ) (names : List (Bor Name)) → flat
 spelled-now spell [] = refl
 spelled-now spell (x ∷ names) = ap (λ (t : List ℕ). spell x.now ++ t) (spelled-now spell names)
 
-some_is : {A : Type 0} (x y : A) → Some x ≡ Some y → x ≡ y
-some_is x y e = cc
-
 -- what the map of places answers
 pub is_new : (names : List Name) (name : Name) → found names name ≡ None → name_index names name ≡ length names
 is_new names name e = by (stands names name) refl e where
@@ -152,10 +150,6 @@ now-more : (names : List (Bor Name)) (x : Bor Name) → map (λ name. name.now) 
 now-more [] x = refl
 now-more (y ∷ names) x = ap (λ (t : List Name). y.now ∷ t) (now-more names x)
 
-pub on_ok : {A E : Type 0} (r : Result A E) (P : Type 0) → is_err r ≡ false → OnOk r P → P
-on_ok (Ok x) P e h = h
-on_ok (Err x) P e h = absurd (false≢true (sym e))
-
 -- ---- tables that are written
 
 pub table_is : (out old : List ℕ) (names : List (Bor Name)) (i : ℕ) → length names ≤ i
@@ -171,12 +165,6 @@ pub is_there : (names : List Name) (name : Name) (place : ℕ) → found names n
 is_there names name place e = by (stands names name) e where
   by : (s : Bool) → cond s (Some (name_index names name)) None ≡ Some place → s ≡ true
   by true e = refl
-  by false e = absurd cc
-
-pub place_is : (names : List Name) (name : Name) (place : ℕ) → found names name ≡ Some place → place ≡ name_index names name
-place_is names name place e = by (stands names name) e where
-  by : (s : Bool) → cond s (Some (name_index names name)) None ≡ Some place → place ≡ name_index names name
-  by true e = some_is _ _ (sym e)
   by false e = absurd cc
 
 known_one : (names : List Name) (x : Name) (slot : Option Known) → stands names x ≡ false → IsKnown names slot → IsKnown (names ++ x ∷ []) slot
@@ -198,11 +186,6 @@ pub known_at : (names : List Name) (slots : List (Option Known)) (i : ℕ) (slot
 known_at names [] i slot other h lt e = absurd (omega (arith, lt))
 known_at names (first ∷ slots) zero slot other h lt e = subst (λ s. IsKnown names s) (sym e) h.0
 known_at names (first ∷ slots) (suc i) slot other h lt e = known_at names slots i slot other h.1 (omega (arith, lt)) e
-
-pub known_set : (names : List Name) (slots : List (Option Known)) (i : ℕ) (slot : Option Known) → ArePlaced names slots → IsKnown names slot → ArePlaced names (slice_set slots i slot)
-known_set names [] i slot h one = h
-known_set names (first ∷ slots) zero slot h one = (one, h.1)
-known_set names (first ∷ slots) (suc i) slot h one = (h.0, known_set names slots i slot h.1 one)
 
 pub known_end : (names : List Name) (slots : List (Option Known)) (slot : Option Known) → ArePlaced names slots → IsKnown names slot → ArePlaced names (slots ++ slot ∷ [])
 known_end names [] slot h one = (one, tt)

@@ -11,7 +11,8 @@ use Rattle.mon_base.proofs.Readers as base
 use Rattle.cert_format.specs.declared.fault.CertForm.{CertForm}
 use Rattle.cert_format.specs.declared.fault.CertForm.TheVariants.{Form}
 use Rattle.cert_format.specs.Names.{Name}
-use Rattle.cert_format.specs.Spelling.{u1, u2, u4, i4}
+use Rattle.mon_base.specs.Widths.{u1, u2, u4}
+use Rattle.cert_format.specs.Spelling.{i4}
 use Rattle.mon_base.specs.Widths.{IsU1, IsU2, IsU4}
 use Rattle.cert_format.specs.Reading.{Decoded, u1_at, u2_at, u4_at, i4_at, pair_at, several_at, short_list_at, long_list_at}
 use Rattle.cert_format.proofs.Order.{InOrder, join, split}

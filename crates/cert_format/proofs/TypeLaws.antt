@@ -14,7 +14,8 @@ use Rattle.cert_format.specs.declared.typing.VType.TheVariants as types
 use Rattle.cert_format.specs.declared.typing.FrameType.{FrameType}
 use Rattle.cert_format.specs.declared.note.Note.{Note}
 use Rattle.cert_format.specs.Names.{Name, name_index, StandOnce, type_names, frame_names, method_names, class_names}
-use Rattle.cert_format.specs.Spelling.{u1, u2, u4, flag, spell_type, spell_types, spell_note, spell_instruction, spell_method, spell_class, spell_classes}
+use Rattle.mon_base.specs.Widths.{u1, u2, u4}
+use Rattle.cert_format.specs.Spelling.{flag, spell_type, spell_types, spell_note, spell_instruction, spell_method, spell_class, spell_classes}
 use Rattle.mon_base.specs.Widths.{IsU2, IsU4}
 use Rattle.cert_format.specs.Fits.{FitsType, FitTypes, ends_with_top, FitsFrame, FitsInstruction, FitsMethod, FitsClass, FitClasses}
 use Rattle.cert_format.specs.Reading.{Decoded, u1_at, u4_at, flag_at, used_with, reference_at, type_of_kind, told_type, types_at, locals_at, frame_at, note_at, not_reached_at, reached_at, instruction_at, unzipped, as_lists, told_method, told_class, classes_at}

@@ -1,4 +1,4 @@
--- Which certificates can be spelled, and with how many variables.
+-- Which certificates can be spelled, and with how many variables. (docs/CERTIFICATES.md)
 use Rattle.std.specs.Prelude.{◌≡◌, ℕ, ◌-◌, Bool, true, false, List, length, slice_get, Option, Some, None, FitsSigned, ⊤}
 use Rattle.std.specs.List.{AllByRecursion, zip}
 use Rattle.std.specs.Int.{w32}

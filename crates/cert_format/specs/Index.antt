@@ -1,4 +1,4 @@
--- Names in a map or a set.
+-- Names in a map or a set. (docs/CERTIFICATES.md)
 use Rattle.std.specs.Prelude.{◌≡◌, ℕ, Bool, List, length, Option, Some, None, nat_lt, if◌then◌else◌, ⊤}
 use Rattle.std.specs.List.{AllByRecursion}
 use Rattle.cert_format.specs.declared.index.Known.{Known}

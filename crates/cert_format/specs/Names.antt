@@ -1,4 +1,4 @@
--- The names that the types of a certificate use: each once, in the order of their first use.
+-- The names that the types of a certificate use: each once, in the order of their first use. (docs/CERTIFICATES.md)
 use Rattle.std.specs.Prelude.{◌≡◌, ℕ, suc, ◌<◌, List, [], ◌∷◌, ◌++◌, length, get_or, Option, Some, None, bytes_eq, nat_lt, if◌then◌else◌}
 use Rattle.std.specs.List.{flat_map, fold}
 use Rattle.cert_format.specs.declared.typing.VType.{VType}

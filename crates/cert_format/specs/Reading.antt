@@ -3,6 +3,7 @@
 --
 -- The types have to use the names of the table in its order. So what reads types is given how many names were used
 -- before, and answers beside the value how many are used after it: a type may use one of these, or the next.
+-- (docs/CERTIFICATES.md)
 use Rattle.std.specs.Prelude.{◌≡◌, ℕ, ℤ, zero, suc, ◌+◌, ◌-◌, ◌==◌, ◌&&◌, not, Bool, true, false, List, [], ◌∷◌, ◌++◌, length, get_or, map, Option, Some, None, Result, Ok, Err, ok_or, nat_lt, nat_le, if◌then◌else◌}
 use Rattle.std.specs.Int.{w32, cast_signed}
 use Rattle.mon_base.specs.Reading.{Place, ◌>>=◌, need, bytes_at, number_at, counted, whole}

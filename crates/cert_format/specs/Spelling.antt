@@ -1,8 +1,8 @@
--- The bytes of a certificate: the one spelling of each.
+-- The bytes of a certificate: the one spelling of each. (docs/CERTIFICATES.md)
 use Rattle.std.specs.Prelude.{ℕ, ℤ, Bool, true, false, List, ◌++◌, length, Option, Some, None}
 use Rattle.std.specs.List.{flat_map, zip}
 use Rattle.std.specs.Int.{w32, cast_unsigned}
-use Rattle.mon_base.specs.Reading.{big_bytes}
+use Rattle.mon_base.specs.Widths.{u1, u2, u4}
 use Rattle.cert_format.specs.declared.typing.VType.{VType}
 use Rattle.cert_format.specs.declared.typing.VType.TheVariants as types
 use Rattle.cert_format.specs.declared.typing.FrameType.{FrameType}
@@ -17,16 +17,6 @@ use Rattle.cert_format.specs.declared.certificate.Mode.{Mode}
 use Rattle.cert_format.specs.declared.certificate.Mode.TheVariants as modes
 use Rattle.cert_format.specs.declared.certificate.Certificate.{Certificate}
 use Rattle.cert_format.specs.Names.{Name, name_index, names_of}
-
--- numbers of one, two and four bytes, the highest byte first
-abbrev pub u1 : ℕ → List ℕ
-u1 n = big_bytes 1 n
-
-abbrev pub u2 : ℕ → List ℕ
-u2 n = big_bytes 2 n
-
-abbrev pub u4 : ℕ → List ℕ
-u4 n = big_bytes 4 n
 
 abbrev pub i4 : ℤ → List ℕ
 i4 n = u4 (cast_unsigned w32 n)

@@ -1,4 +1,4 @@
--- Which certificates are too long to be written.
+-- Which certificates are too long to be written. (docs/CERTIFICATES.md)
 use Rattle.std.specs.Prelude.{◌≡◌, ℕ, ◌<◌, ⊤}
 use Rattle.cert_format.specs.declared.fault.CertLong.{CertLong}
 use Rattle.cert_format.specs.declared.fault.CertLong.TheVariants.{Certificate, Memory}

@@ -2,7 +2,8 @@
 
 ghost use Rattle.std.specs.Prelude.{◌≡◌, ◌++◌, OnOk};
 ghost use Rattle.std.specs.List.{flat_map};
-ghost use Rattle.cert_format.specs.Spelling.{u1, spell_term, spell_terms, spell_phase, spell_site, spell_note};
+ghost use Rattle.mon_base.specs.Widths.{u1};
+ghost use Rattle.cert_format.specs.Spelling.{spell_term, spell_terms, spell_phase, spell_site, spell_note};
 
 use crate::note::{Note, Phase8, Site, Term};
 use crate::writing::{put_flag, put_i4, put_u1, put_u2};

@@ -1,7 +1,8 @@
 //! Numbers and lists of bytes, the highest byte first.
 
 ghost use Rattle.std.specs.Prelude.{◌≡◌, ◌++◌, OnOk};
-ghost use Rattle.cert_format.specs.Spelling.{u1, u2, u4, i4, flag};
+ghost use Rattle.mon_base.specs.Widths.{u1, u2, u4};
+ghost use Rattle.cert_format.specs.Spelling.{i4, flag};
 
 use byteorder::{BigEndian, ByteOrder};
 use mon_base::{Bytes, NoMemory};

@@ -17,7 +17,7 @@ use Rattle.class_codec.specs.declared.tree.Attr.TheVariants as attributes
 use Rattle.class_codec.specs.declared.tree.Member.{Member}
 use Rattle.class_codec.specs.Pool.{names}
 use Rattle.class_codec.specs.Spelling as spelling
-use Rattle.mon_base.specs.Widths.{IsU2, IsU4}
+use Rattle.mon_base.specs.Widths.{IsU2, IsU4, u2, u4}
 use Rattle.class_codec.specs.Fits.{IsIndex, FitsBlock, FitCounted, FitsTableEntry, FitsOther, FitsAttr, FitsMember, is_read_as_code}
 use Rattle.class_codec.specs.Reading.{other_at, caught_at, table_entry_at, code_len_at, instructions_at, contents_at, code_at, named_at, attribute_at, member_at}
 use Rattle.class_codec.proofs.Numbers.{u2_is, u4_is, rest_is, block_is, index_is, counted_is}
@@ -31,7 +31,7 @@ other_is pool = said (then {known = λ _. Unit {0}} _ (index_is kinds.Utf8 pool)
     (λ o f k. (record { name = f.0; bytes = f.1 }, tt))
     (λ o f k. ((f.name, f.bytes), tt))
 
-caught_is : (pool : List Const) → IsReader (caught_at pool) spelling.u2 (λ n. IsU2 n × ((n == 0) || names kinds.Class pool n ≡ true))
+caught_is : (pool : List Const) → IsReader (caught_at pool) u2 (λ n. IsU2 n × ((n == 0) || names kinds.Class pool n ≡ true))
 unfolding caught_at
 caught_is pool = checked (λ n. (n == 0) || names kinds.Class pool n ≡ true) (λ p n. need ((n == 0) || names kinds.Class pool n) (Index p.at)) u2_is
     (λ p n e. need_holds ((n == 0) || names kinds.Class pool n) (Index p.at) e)
@@ -56,7 +56,7 @@ right_len n e = grind (arith, nat_tests)
 len_right : (n : ℕ) → (1 ≤ n) × (n ≤ 65535) → (nat_le 1 n && nat_le n 65535) ≡ true
 len_right n h = grind (arith, nat_tests)
 
-code_len_is : IsReader code_len_at spelling.u4 (λ n. IsU4 n × ((1 ≤ n) × (n ≤ 65535)))
+code_len_is : IsReader code_len_at u4 (λ n. IsU4 n × ((1 ≤ n) × (n ≤ 65535)))
 unfolding code_len_at
 code_len_is = checked (λ n. (1 ≤ n) × (n ≤ 65535)) (λ p n. need (nat_le 1 n && nat_le n 65535) (Index p.at)) u4_is
     (λ p n e. right_len n (need_holds (nat_le 1 n && nat_le n 65535) (Index p.at) e))
@@ -141,14 +141,14 @@ fits_attribute : (pool : List Const) (of_method : Bool) (a : Attr) → FitsAttr 
 fits_attribute pool of_method (attributes.Code c) f = (f.1.name, (f.0, (f.1.len, record { max_stack = f.1.max_stack; max_locals = f.1.max_locals; some = f.1.some; short = f.1.short; table = f.1.table; attrs = f.1.attrs })))
 fits_attribute pool of_method (attributes.Other o) f = (f.1.name, (f.0, f.1.bytes))
 
-after_name_is : (a : Attr) → spelling.u2 (name_of a) ++ after_name a ≡ spelling.attribute a
+after_name_is : (a : Attr) → u2 (name_of a) ++ after_name a ≡ spelling.attribute a
 after_name_is (attributes.Code c) = refl
 after_name_is (attributes.Other o) = refl
 
 pub attribute_is : (pool : List Const) (of_method : Bool)
     → IsReader (attribute_at pool of_method) spelling.attribute (FitsAttr pool of_method)
 unfolding attribute_at
-attribute_is pool of_method = said (spelled_where {spell = λ a. spelling.u2 (name_of a) ++ after_name a} (then {known = λ _. Unit {0}} _ (index_is kinds.Utf8 pool) name_of (λ a k. tt)
+attribute_is pool of_method = said (spelled_where {spell = λ a. u2 (name_of a) ++ after_name a} (then {known = λ _. Unit {0}} _ (index_is kinds.Utf8 pool) name_of (λ a k. tt)
     (λ name k. said {Fits' = λ a. FitsNamed pool (is_read_as_code pool of_method (name_of a)) a} (named_is pool (is_read_as_code pool of_method name) name)
     (λ a f k. (subst (λ (n : ℕ). FitsNamed pool (is_read_as_code pool of_method n) a) (sym k.1) f, k))
     (λ a f k. (subst (λ (n : ℕ). FitsNamed pool (is_read_as_code pool of_method n) a) k.1 f, k))))

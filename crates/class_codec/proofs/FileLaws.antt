@@ -14,7 +14,7 @@ use Rattle.class_codec.specs.declared.tree.Const.{Const}
 use Rattle.class_codec.specs.declared.tree.ClassFile.{ClassFile}
 use Rattle.class_codec.specs.Pool.{names}
 use Rattle.class_codec.specs.Spelling as spelling
-use Rattle.mon_base.specs.Widths.{IsU2}
+use Rattle.mon_base.specs.Widths.{IsU2, u2, u4}
 use Rattle.class_codec.specs.Fits.{IsIndex, FitCounted, FitsAttr, FitsMember, CanSpell, SpellsClass}
 use Rattle.class_codec.specs.Reading.{u2_at, head_at, body_at, file_at, class_of}
 use Rattle.class_codec.proofs.Numbers.{u2_is, u4_is, index_is, counted_is}
@@ -24,12 +24,12 @@ use Rattle.class_codec.proofs.AttributeLaws.{attribute_is, member_is}
 -- ---- the head
 
 version_is : IsReader (λ p. u2_at p >>= λ minor. u2_at minor.1 >>= λ major. need (major.0 == 49) (Version major.0) >>= λ _. Ok
-    (minor.0, major.1)) (λ minor. spelling.u2 minor ++ (spelling.u2 49 ++ [])) IsU2
+    (minor.0, major.1)) (λ minor. u2 minor ++ (u2 49 ++ [])) IsU2
 version_is = said (then {known = λ _. Unit {0}} _ u2_is (λ n. n) (λ n k. tt)
     (λ minor k. then_same (λ p x. Version x.0) u2_is 49 (omega arith) (done {known = λ n. Unit {0} × (n ≡ minor)} minor (tt, refl) (λ n k. k.1))))
     (λ n f k. (f.0, tt)) (λ n f k. ((f, tt), tt))
 
-head_is : IsReader head_at (λ minor. spelling.u4 0xCAFEBABE ++ (spelling.u2 minor ++ (spelling.u2 49 ++ []))) IsU2
+head_is : IsReader head_at (λ minor. u4 0xCAFEBABE ++ (u2 minor ++ (u2 49 ++ []))) IsU2
 unfolding head_at
 head_is = then_same (λ p x. Magic) u4_is 0xCAFEBABE (omega arith) version_is
 

@@ -8,23 +8,23 @@ use Rattle.class_codec.specs.declared.pool.Kind.{Kind}
 use Rattle.class_codec.specs.declared.tree.Const.{Const}
 use Rattle.class_codec.specs.Pool.{names}
 use Rattle.class_codec.specs.Spelling as spelling
-use Rattle.mon_base.specs.Widths.{IsU2, IsU4, IsU8}
+use Rattle.mon_base.specs.Widths.{IsU2, IsU4, IsU8, u1, u2, u4, u8}
 use Rattle.class_codec.specs.Fits.{IsIndex, FitsBlock, FitCounted}
 use Rattle.class_codec.specs.Reading.{Read, u1_at, u2_at, u4_at, u8_at, taken_at, block_at, index_at, counted_at}
 
-pub u1_is : IsReader u1_at spelling.u1 (λ n. n < 256)
+pub u1_is : IsReader u1_at u1 (λ n. n < 256)
 unfolding u1_at
 u1_is = number_is one (λ p. Short p.at)
 
-pub u2_is : IsReader u2_at spelling.u2 IsU2
+pub u2_is : IsReader u2_at u2 IsU2
 unfolding u2_at
 u2_is = number_is two (λ p. Short p.at)
 
-pub u4_is : IsReader u4_at spelling.u4 IsU4
+pub u4_is : IsReader u4_at u4 IsU4
 unfolding u4_at
 u4_is = number_is four (λ p. Short p.at)
 
-pub u8_is : IsReader u8_at spelling.u8 IsU8
+pub u8_is : IsReader u8_at u8 IsU8
 unfolding u8_at
 u8_is = number_is eight (λ p. Short p.at)
 
@@ -40,7 +40,7 @@ pub block_is : IsReader block_at spelling.block FitsBlock
 unfolding block_at u4_at taken_at
 block_is = text_is four (λ p. Short p.at) (λ p. Short p.at)
 
-pub index_is : (kind : Kind) (pool : List Const) → IsReader (index_at kind pool) spelling.u2 (IsIndex kind pool)
+pub index_is : (kind : Kind) (pool : List Const) → IsReader (index_at kind pool) u2 (IsIndex kind pool)
 unfolding index_at
 index_is kind pool = said (checked (λ index. names kind pool index ≡ true) (λ p index. need (names kind pool index) (Index p.at)) u2_is
     (λ p index e. need_holds (names kind pool index) (Index p.at) e)

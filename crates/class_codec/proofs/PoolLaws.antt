@@ -18,7 +18,7 @@ use Rattle.class_codec.specs.declared.tree.Const.{Const}
 use Rattle.class_codec.specs.declared.tree.Const.TheVariants.{Utf8, Integer, Float, Long, Double, Class, Str, Field, Method, IMethod, NameAndType, Second}
 use Rattle.class_codec.specs.Pool.{names}
 use Rattle.class_codec.specs.Spelling as spelling
-use Rattle.mon_base.specs.Widths.{IsU2, IsU8}
+use Rattle.mon_base.specs.Widths.{IsU2, IsU8, u1, u2, u4, u8}
 use Rattle.class_codec.specs.Fits.{IsTextByte, FitsConst, is_second, takes_two, HasSeconds, IsNamed, FitsPool}
 use Rattle.class_codec.specs.Reading.{Read, u2_at, u4_at, is_no_text_byte, text_checked, text_at, pair_at, wide_at, payload_at, constant_at, place_at, places_at, index_checked, pair_checked, constant_checked, all_checked, pool_at}
 use Rattle.class_codec.proofs.Numbers.{u1_is, u2_is, u4_is, u8_is, rest_is}
@@ -77,7 +77,7 @@ holds_text at o e = rw e refl
 
 -- the text of a constant
 abbrev text : List ℕ → List ℕ
-text bytes = spelling.u2 (length bytes) ++ bytes
+text bytes = u2 (length bytes) ++ bytes
 
 abbrev FitsText : List ℕ → Type 0
 FitsText bytes = IsU2 (length bytes) × AllByRecursion IsTextByte bytes
@@ -93,11 +93,11 @@ text_is = said (then {Fits = λ bytes. Unit {0} × AllByRecursion IsTextByte byt
 
 -- ---- pairs of indices, and numbers of eight bytes
 
-indices_are : IsReader pair_at (λ x. spelling.u2 x.0 ++ spelling.u2 x.1) (λ x. IsU2 x.0 × IsU2 x.1)
+indices_are : IsReader pair_at (λ x. u2 x.0 ++ u2 x.1) (λ x. IsU2 x.0 × IsU2 x.1)
 unfolding pair_at
 indices_are = pair_is u2_is u2_is
 
-wide_is : (at left : ℕ) → IsReader (wide_at at left) spelling.u8 (λ n. (0 < left) × IsU8 n)
+wide_is : (at left : ℕ) → IsReader (wide_at at left) u8 (λ n. (0 < left) × IsU8 n)
 unfolding wide_at
 wide_is at left = guard (λ _. 0 < left) (nat_lt 0 left) (λ _. Index at) (λ a k e. ltb-true 0 left e) (λ a k h. lt-ltb 0 left h) u8_is
 
@@ -120,16 +120,16 @@ tag_of Second = 0
 -- what follows the tag
 abbrev payload : Const → List ℕ
 payload (Utf8 bytes) = text bytes
-payload (Integer n) = spelling.u4 (cast_unsigned w32 n)
-payload (Float bits) = spelling.u4 bits
-payload (Long n) = spelling.u8 (cast_unsigned w64 n)
-payload (Double bits) = spelling.u8 bits
-payload (Class name) = spelling.u2 name
-payload (Str text) = spelling.u2 text
-payload (Field class name) = spelling.u2 class ++ spelling.u2 name
-payload (Method class name) = spelling.u2 class ++ spelling.u2 name
-payload (IMethod class name) = spelling.u2 class ++ spelling.u2 name
-payload (NameAndType name desc) = spelling.u2 name ++ spelling.u2 desc
+payload (Integer n) = u4 (cast_unsigned w32 n)
+payload (Float bits) = u4 bits
+payload (Long n) = u8 (cast_unsigned w64 n)
+payload (Double bits) = u8 bits
+payload (Class name) = u2 name
+payload (Str text) = u2 text
+payload (Field class name) = u2 class ++ u2 name
+payload (Method class name) = u2 class ++ u2 name
+payload (IMethod class name) = u2 class ++ u2 name
+payload (NameAndType name desc) = u2 name ++ u2 desc
 payload Second = []
 
 -- a constant with `left` places after its first, or the second place of one
@@ -211,7 +211,7 @@ utf8_is = one_place (λ x. Utf8 x) 1 text_is (λ x. (refl, refl, refl, refl)) (�
 
 integer_is : (left tag : ℕ) → tag ≡ 3 → IsPayload left tag (λ p. u4_at p >>= λ x. Ok (Integer (cast_signed w32 x.0), x.1))
 integer_is left tag t = wrapped (λ x. Integer (cast_signed w32 x)) u4_is
-    (λ x f k. (ap spelling.u4 (sym (of_z-to_z w32 x f)), record { fits = signed_fits w32 x f; first = refl; room = λ e. no_room left e }, (tt, sym t)))
+    (λ x f k. (ap u4 (sym (of_z-to_z w32 x f)), record { fits = signed_fits w32 x f; first = refl; room = λ e. no_room left e }, (tt, sym t)))
     (λ c f k. let g = is_integer c (k.1 ∙ t) in
     let fits : FitsSigned w32 g.0 = subst FitsConst (sym g.1) f.fits in
     (cast_unsigned w32 g.0, ap (λ (z : ℤ). Integer z) (to_z-of_z w32 g.0 fits) ∙ g.1, unsigned_fits w32 g.0 fits, tt))
@@ -221,7 +221,7 @@ float_is = one_place (λ x. Float x) 4 u4_is (λ x. (refl, refl, refl, refl)) (�
 
 long_is : (at left tag : ℕ) → tag ≡ 5 → IsPayload left tag (λ p. wide_at at left p >>= λ x. Ok (Long (cast_signed w64 x.0), x.1))
 long_is at left tag t = wrapped (λ x. Long (cast_signed w64 x)) (wide_is at left)
-    (λ x f k. (ap spelling.u8 (sym (of_z-to_z w64 x f.1)), record { fits = signed_fits w64 x f.1; first = refl; room = λ e. f.0 }, (tt, sym t)))
+    (λ x f k. (ap u8 (sym (of_z-to_z w64 x f.1)), record { fits = signed_fits w64 x f.1; first = refl; room = λ e. f.0 }, (tt, sym t)))
     (λ c f k. let g = is_long c (k.1 ∙ t) in
     let fits : FitsSigned w64 g.0 = subst FitsConst (sym g.1) f.fits in
     (cast_unsigned w64 g.0, ap (λ (z : ℤ). Long z) (to_z-of_z w64 g.0 fits) ∙ g.1, (f.room (ap takes_two (sym g.1)), unsigned_fits w64 g.0 fits), tt))
@@ -310,7 +310,7 @@ tag_small (IMethod class name) = omega arith
 tag_small (NameAndType name desc) = omega arith
 tag_small Second = omega arith
 
-tagged_is : (c : Const) → is_second c ≡ false → spelling.u1 (tag_of c) ++ payload c ≡ spelling.constant c
+tagged_is : (c : Const) → is_second c ≡ false → u1 (tag_of c) ++ payload c ≡ spelling.constant c
 tagged_is (Utf8 bytes) e = refl
 tagged_is (Integer n) e = refl
 tagged_is (Float bits) e = refl
@@ -326,7 +326,7 @@ tagged_is Second e = absurd (false≢true (sym e))
 
 constant_is : (left : ℕ) → IsReader (constant_at left) spelling.constant (Stands left)
 unfolding constant_at
-constant_is left = spelled_where {spell = λ c. spelling.u1 (tag_of c) ++ payload c} (said
+constant_is left = spelled_where {spell = λ c. u1 (tag_of c) ++ payload c} (said
     (then_from {spell = payload} {Fits = Stands left} {known = λ _. Unit {0}} (λ place tag. payload_at place.at left tag.0 tag.1) u1_is tag_of (λ c k. tt)
     (λ place tag k. payload_is place.at left tag))
     (λ c f k. (f.1, tt))

@@ -1,4 +1,4 @@
--- What indices into a constant pool name.
+-- What indices into a constant pool name. (The Java Virtual Machine Specification, section 4.4)
 use Rattle.std.specs.Prelude.{ℕ, Bool, true, false, List, [], ◌∷◌, Option, Some, None, slice_get, nat_eq}
 use Rattle.std.specs.Cmp.Lexicographic.{pointwise}
 use Rattle.mon_base.specs.declared.method.MethodId.{MethodId}

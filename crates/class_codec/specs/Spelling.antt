@@ -2,7 +2,7 @@
 use Rattle.std.specs.Prelude.{ℕ, List, [], ◌++◌, length}
 use Rattle.std.specs.List.{flat_map}
 use Rattle.std.specs.Int.{w32, w64, cast_unsigned}
-use Rattle.byteorder.specs.Endian.{big_bytes}
+use Rattle.mon_base.specs.Widths.{u1, u2, u4, u8}
 use Rattle.class_codec.specs.declared.tree.Const.{Const}
 use Rattle.class_codec.specs.declared.tree.Const.TheVariants.{Utf8, Integer, Float, Long, Double, Class, Str, Field, Method, IMethod, NameAndType, Second}
 use Rattle.class_codec.specs.declared.tree.TableEntry.{TableEntry}
@@ -12,19 +12,6 @@ use Rattle.class_codec.specs.declared.tree.Attr.{Attr}
 use Rattle.class_codec.specs.declared.tree.Attr.TheVariants as attributes
 use Rattle.class_codec.specs.declared.tree.Member.{Member}
 use Rattle.class_codec.specs.declared.tree.ClassFile.{ClassFile}
-
--- numbers of one, two, four and eight bytes, the highest byte first
-abbrev pub u1 : ℕ → List ℕ
-u1 n = big_bytes 1 n
-
-abbrev pub u2 : ℕ → List ℕ
-u2 n = big_bytes 2 n
-
-abbrev pub u4 : ℕ → List ℕ
-u4 n = big_bytes 4 n
-
-abbrev pub u8 : ℕ → List ℕ
-u8 n = big_bytes 8 n
 
 -- two bytes of count, and the items
 abbrev pub counted : {X : Type 0} → (X → List ℕ) → List X → List ℕ

@@ -2,7 +2,8 @@
 
 ghost use Rattle.std.specs.Prelude.{◌≡◌, ℕ, List, ◌++◌, ◌∷◌, [], length, OnOk, IfOk};
 ghost use Rattle.std.specs.List.{flat_map};
-ghost use Rattle.class_codec.specs.Spelling.{u1, u2, u4, u8, block, counted, constant, table_entry, other};
+ghost use Rattle.mon_base.specs.Widths.{u1, u2, u4, u8};
+ghost use Rattle.class_codec.specs.Spelling.{block, counted, constant, table_entry, other};
 ghost use Rattle.class_codec.specs.Spelling.{contents, attribute, member, body, spelling};
 ghost use Rattle.class_codec.specs.Fits.{CanSpell, SpellsClass};
 ghost use Rattle.class_codec.specs.declared.tree.ClassFile.{ClassFile};

@@ -11,7 +11,8 @@ use Rattle.insn_codec.specs.declared.fault.CodeFault.TheVariants as faults
 use Rattle.insn_codec.specs.declared.insn.Insn.{Insn}
 use Rattle.insn_codec.specs.declared.insn.Insn.TheVariants.{Plain, Byte, Short, Ldc, Pool, Iface, Local, Inc, Branch, GotoW, NewArray, Table, Lookup}
 use Rattle.insn_codec.specs.Opcodes.{goes_on}
-use Rattle.insn_codec.specs.Spelling.{u1, i4, range, keyed, opcode_of, padding, size, starts_of, offset, case, cases, bytes_of, bytes_from}
+use Rattle.mon_base.specs.Widths.{u1}
+use Rattle.insn_codec.specs.Spelling.{i4, range, keyed, opcode_of, padding, size, starts_of, offset, case, cases, bytes_of, bytes_from}
 use Rattle.insn_codec.specs.Fits.{IsInsn, AimsWithin, ReachFrom, Ends, SpellsCode}
 use Rattle.mon_base.specs.Answer.{Answers}
 use Rattle.insn_codec.specs.Reading.{Finder, any, among, insn_at, insns_at, insns_of, ended, code_of}

@@ -15,7 +15,8 @@ use Rattle.insn_codec.specs.declared.opcode.Operands.TheVariants as ops
 use Rattle.insn_codec.specs.declared.insn.Insn.{Insn}
 use Rattle.insn_codec.specs.declared.insn.Insn.TheVariants.{Plain, Byte, Short, Ldc, Pool, Iface, Local, Inc, Branch, GotoW, NewArray, Table, Lookup}
 use Rattle.insn_codec.specs.Opcodes.{operands_of}
-use Rattle.insn_codec.specs.Spelling.{u1, offset, padding, bytes_of}
+use Rattle.mon_base.specs.Widths.{u1}
+use Rattle.insn_codec.specs.Spelling.{offset, padding, bytes_of}
 use Rattle.mon_base.specs.Widths.{IsU1}
 use Rattle.insn_codec.specs.Fits.{is_item_type, IsInsn}
 use Rattle.insn_codec.specs.Reading.{Finder, u1_at, iface_at, new_array_at, inc_at, wide_inc_at, widened_at, wide_at, operands_at, insn_at}

@@ -7,7 +7,8 @@ use Rattle.mon_base.specs.Reading.{Place, ◌>>=◌}
 use Rattle.mon_base.proofs.Reading.{ok_or_ok, IsReader, number_is, one, two, four}
 use Rattle.mon_base.proofs.Readers.{through, signed_is}
 use Rattle.insn_codec.specs.declared.fault.CodeFault.TheVariants.{Cut, Target}
-use Rattle.insn_codec.specs.Spelling.{u1, u2, i1, i2, i4, offset}
+use Rattle.mon_base.specs.Widths.{u1, u2}
+use Rattle.insn_codec.specs.Spelling.{i1, i2, i4, offset}
 use Rattle.mon_base.specs.Widths.{IsU1, IsU2}
 use Rattle.insn_codec.specs.Reading.{Finder, Read, u1_at, u2_at, i1_at, i2_at, i4_at, target_of, near_at, far_at}
 

@@ -13,7 +13,8 @@ use Rattle.insn_codec.specs.declared.fault.CodeFault.TheVariants.{Cut, Form}
 use Rattle.insn_codec.specs.declared.insn.Case.{Case}
 use Rattle.insn_codec.specs.declared.insn.Insn.{Insn}
 use Rattle.insn_codec.specs.declared.insn.Insn.TheVariants.{Table, Lookup}
-use Rattle.insn_codec.specs.Spelling.{u4, i4, offset, padding, case, cases, keyed}
+use Rattle.mon_base.specs.Widths.{u4}
+use Rattle.insn_codec.specs.Spelling.{i4, offset, padding, case, cases, keyed}
 use Rattle.insn_codec.specs.Fits.{Ascend, FitsLookup}
 use Rattle.insn_codec.specs.Reading.{Finder, padding_at, all_zero, bounds_at, ranged_at, table_at, count_at, case_at, ascend_from, ascend, cases_at, keyed_at, lookup_at}
 use Rattle.insn_codec.proofs.Laws.{i4_is, Leads, FitsFar, far_is}

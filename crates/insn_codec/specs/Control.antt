@@ -53,7 +53,17 @@ by_key other (key ∷ keys) (to ∷ targets) n = if int_eq key n then to else by
 abbrev pub switched : Insn → ℤ → ℕ → ℕ
 switched (insns.Table other low targets) n next = in_range other low targets n
 switched (insns.Lookup other keys targets) n next = by_key other keys targets n
-switched other n next = next
+switched (insns.Plain op) n next = next
+switched (insns.Byte number) n next = next
+switched (insns.Short number) n next = next
+switched (insns.Ldc index) n next = next
+switched (insns.Pool op index) n next = next
+switched (insns.Iface index count) n next = next
+switched (insns.Local op slot wide) n next = next
+switched (insns.Inc slot by wide) n next = next
+switched (insns.Branch op to) n next = next
+switched (insns.GotoW to) n next = next
+switched (insns.NewArray item) n next = next
 
 -- ---- where control goes
 
@@ -65,7 +75,16 @@ goes_to view insn (shapes.CompareReferences same to) next stack = if of_two (λ 
 goes_to view insn (shapes.TestNull null to) next stack = if of_top (λ x. beq (view.is_null x) null) stack then to else next
 goes_to view insn (shapes.Goto to) next stack = to
 goes_to view insn shapes.Switch next stack = switched insn (option_map_or view.number (slice_get stack 0) (pos 0)) next
-goes_to view insn other next stack = next
+goes_to view insn shapes.Nothing next stack = next
+goes_to view insn (shapes.Push n) next stack = next
+goes_to view insn shapes.PushNull next stack = next
+goes_to view insn (shapes.Load kind slot) next stack = next
+goes_to view insn (shapes.Store kind slot) next stack = next
+goes_to view insn (shapes.Move form) next stack = next
+goes_to view insn (shapes.Two two) next stack = next
+goes_to view insn (shapes.One one) next stack = next
+goes_to view insn (shapes.Increment slot by) next stack = next
+goes_to view insn (shapes.Heap what) next stack = next
 
 abbrev pub next_of : {V : Type 0} → View V → Insn → ℕ → List V → ℕ
 next_of view insn at stack = goes_to view insn (shape_of insn) (at + 1) stack
@@ -77,7 +96,15 @@ jump_targets (insns.Branch op to) = to ∷ []
 jump_targets (insns.GotoW to) = to ∷ []
 jump_targets (insns.Table other low targets) = other ∷ targets
 jump_targets (insns.Lookup other keys targets) = other ∷ targets
-jump_targets other = []
+jump_targets (insns.Plain op) = []
+jump_targets (insns.Byte n) = []
+jump_targets (insns.Short n) = []
+jump_targets (insns.Ldc index) = []
+jump_targets (insns.Pool op index) = []
+jump_targets (insns.Iface index count) = []
+jump_targets (insns.Local op slot wide) = []
+jump_targets (insns.Inc slot by wide) = []
+jump_targets (insns.NewArray item) = []
 
 -- the next instruction, where control can go on to it, and the targets
 abbrev pub successors : ℕ → Insn → List ℕ

@@ -1,4 +1,5 @@
 -- What an instruction that works on its frame alone does to locals and operands, over any domain of what is moved.
+-- (The Java Virtual Machine Specification, section 6.5)
 use Rattle.std.specs.Prelude.{ℕ, ℤ, Bool, nat_le, nat_lt, if◌then◌else◌, List, ◌∷◌, ◌++◌, length, drop, Option, Some, None, option_map, option_and_then, slice_get, slice_set}
 use Rattle.std.specs.List.{filter_map}
 use Rattle.insn_codec.specs.declared.forms.StackForm.{StackForm}

@@ -1,4 +1,5 @@
 -- One domain follows another: what works on the types works on the values, and leaves values of the types.
+-- (The Java Virtual Machine Specification, section 6.5)
 use Rattle.std.specs.Prelude.{◌≡◌, ℤ, Bool, IsTrue, List, [], ◌∷◌, Some}
 use Rattle.insn_codec.specs.declared.shape.Kind.{Kind}
 use Rattle.insn_codec.specs.declared.shape.Kind.TheVariants as kinds

@@ -1,4 +1,4 @@
--- Reading a code from left to right: the instructions, or the first fault.
+-- Reading a code from left to right: the instructions, or the first fault. (docs/INSTRUCTIONS.md)
 use Rattle.std.specs.Prelude.{ℕ, zero, suc, ℤ, pos, negsuc, ◌+ℤ◌, ◌-ℤ◌, int_le, ◌+◌, ◌==◌, ◌&&◌, Bool, true, false, List, [], ◌∷◌, length, map, not, Option, Some, None, ok_or, Result, Ok, Err, nat_le, nat_abs, if◌then◌else◌}
 use Rattle.std.specs.List.{list_all}
 use Rattle.std.specs.Int.{w8, w16, w32, cast_signed}

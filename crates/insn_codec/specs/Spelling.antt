@@ -2,7 +2,7 @@
 use Rattle.std.specs.Prelude.{ℕ, ℤ, pos, ◌+ℤ◌, ◌-ℤ◌, ◌+◌, ◌-◌, ◌*◌, ◌%◌, true, false, List, [], ◌∷◌, ◌++◌, length, replicate, slice_index}
 use Rattle.std.specs.List.{flat_map}
 use Rattle.std.specs.Int.{w8, w16, w32, cast_unsigned}
-use Rattle.byteorder.specs.Endian.{big_bytes}
+use Rattle.mon_base.specs.Widths.{u1, u2, u4}
 use Rattle.insn_codec.specs.declared.insn.Case.{Case}
 use Rattle.insn_codec.specs.declared.insn.Insn.{Insn}
 use Rattle.insn_codec.specs.declared.insn.Insn.TheVariants.{Plain, Byte, Short, Ldc, Pool, Iface, Local, Inc, Branch, GotoW, NewArray, Table, Lookup}
@@ -18,16 +18,6 @@ use Rattle.insn_codec.specs.declared.opcodes.TheConstants.{
   WIDE,
   GOTO_W,
 }
-
--- numbers of one, two and four bytes, the highest byte first
-abbrev pub u1 : ℕ → List ℕ
-u1 n = big_bytes 1 n
-
-abbrev pub u2 : ℕ → List ℕ
-u2 n = big_bytes 2 n
-
-abbrev pub u4 : ℕ → List ℕ
-u4 n = big_bytes 4 n
 
 -- the same with a sign, as two's complement
 abbrev pub i1 : ℤ → List ℕ

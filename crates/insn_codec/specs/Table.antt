@@ -1,4 +1,4 @@
--- How the shapes agree with the table of opcodes.
+-- How the shapes agree with the table of opcodes. (docs/INSTRUCTIONS.md)
 use Rattle.std.specs.Prelude.{◌≡◌, ℕ, Bool, true, false, not, List, Contains}
 use Rattle.insn_codec.specs.declared.insn.Insn.{Insn}
 use Rattle.insn_codec.specs.declared.insn.Insn.TheVariants as insns

@@ -1,4 +1,5 @@
 -- Which instruction begins at a position, as the code keeps it: a mark for each byte.
+-- (The Java Virtual Machine Specification, section 6.5)
 use Rattle.std.specs.Prelude.{ℕ, ℤ, pos, negsuc, ◌+◌, ◌-◌, List, [], ◌∷◌, ◌++◌, replicate, Option, Some, None, slice_get}
 use Rattle.insn_codec.specs.declared.insn.Insn.{Insn}
 use Rattle.insn_codec.specs.declared.targets.Targets.{Targets}

@@ -1,4 +1,4 @@
--- Writing a code: its bytes, or why there are none.
+-- Writing a code: its bytes, or why there are none. (docs/INSTRUCTIONS.md)
 use Rattle.std.specs.Prelude.{◌≡◌, ℕ, ℤ, pos, negsuc, ◌+◌, ◌++◌, ◌&&◌, Bool, List, [], ◌∷◌, Result, Ok, Err, nat_le, int_le}
 use Rattle.mon_base.specs.Reading.{◌>>=◌, need}
 use Rattle.mon_base.specs.Answer.{Fails}

@@ -3,7 +3,8 @@
 ghost use Rattle.std.specs.Prelude.{◌≡◌, ◌<◌, ◌≤◌, ◌^◌, ℕ, ◌-ℤ◌, ◌+ℤ◌, ◌≤ℤ◌, pos, OnOk, IfOk, Ok, Err};
 ghost use Rattle.std.specs.Prelude.{List, [], ◌++◌, length, slice_index, replicate};
 ghost use Rattle.std.specs.List.{flat_map, AllByRecursion};
-ghost use Rattle.insn_codec.specs.Spelling.{u1, u2, u4, i1, i2, i4, offset, padding, case, cases, bytes_of, bytes_from};
+ghost use Rattle.mon_base.specs.Widths.{u1, u2, u4};
+ghost use Rattle.insn_codec.specs.Spelling.{i1, i2, i4, offset, padding, case, cases, bytes_of, bytes_from};
 ghost use Rattle.insn_codec.specs.Spelling.{range, keyed, len_from, size, starts_of, spelling};
 ghost use Rattle.insn_codec.specs.Fits.{FitsSlot, FitsBy, FitsTable, FitsLookup, IsInsn, SpellsCode};
 ghost use Rattle.insn_codec.specs.declared.insn.Insn.TheVariants.{Local, Inc};

@@ -1,7 +1,7 @@
 -- What is answered unless memory ran out, where one thing is read after another.
-use Rattle.std.proofs.Common.{◌≡◌, Result, Err, refl, sym, ap, ◌∙◌}
+use Rattle.std.proofs.Common.{◌≡◌, Result, Err, refl, sym, ◌∙◌}
 use Rattle.mon_base.specs.Reading.{◌>>=◌}
-use Rattle.mon_base.specs.Answer.{Fails, Tells}
+use Rattle.mon_base.specs.Answer.{Fails}
 
 -- A fault at the first is the answer.
 pub failed : {X Y E : Type 0} (memory fault : E) (first : Result X E) (others : X → Result Y E) → Fails memory fault first
@@ -18,11 +18,3 @@ told memory fault answer is is_told = sym is
 pub through : {A B E : Type 0} (memory fault : E) (part : Result A E) (all : Result B E) → (part ≡ Err fault → all ≡ Err fault)
     → Fails memory fault part → Fails memory fault all
 through memory fault part all goes_up h is_told = goes_up (h is_told)
-
--- What is told is the fault.
-pub tells : {X E : Type 0} (memory said fault : E) (given : Result X E) → Tells memory said fault → given ≡ Err fault → Fails memory said given
-tells memory said fault given h is is_told = is ∙ ap Err (sym (h is_told))
-
--- Want of memory is told as such.
-pub tells_memory : {X E : Type 0} (memory said : E) (given : Result X E) → Tells memory said memory → Fails memory said given
-tells_memory memory said given h is_told = absurd (is_told (h is_told))

@@ -1,4 +1,5 @@
 -- How a call answers what a definition gives: want of memory alone is free. `memory` is the fault that tells it.
+-- (docs/ARCHITECTURE.md)
 use Rattle.std.specs.Prelude.{◌≡◌, ◌≢◌, Result, Ok, Err}
 use Rattle.mon_base.specs.Reading.{Place}
 
@@ -25,7 +26,3 @@ Reads memory (Err fault) given new = Fails memory fault given
 abbrev pub ReadsAs : {X Y E : Type 0} → E → (X → Y) → Result X E → Result (Y × Place) E → Place → Type 0
 ReadsAs memory view (Ok x) given new = given ≡ Ok (view x, new)
 ReadsAs memory view (Err fault) given new = Fails memory fault given
-
--- A fault that is told is this one, unless memory ran out.
-abbrev pub Tells : {E : Type 0} → E → E → E → Type 0
-Tells memory told fault = told ≢ memory → told ≡ fault

@@ -1,4 +1,4 @@
--- Reading bytes from left to right.
+-- Reading bytes from left to right. (docs/ARCHITECTURE.md)
 use Rattle.std.specs.Prelude.{◌≡◌, ℕ, ℤ, zero, suc, ◌+◌, ◌<◌, ◌==◌, Bool, true, false, List, [], ◌∷◌, length, take, drop, slice_index, Option, Some, None, option_map, Result, Ok, Err, nat_lt, if◌then◌else◌}
 use Rattle.std.specs.Int.{w32, cast_signed}
 pub use Rattle.byteorder.specs.Endian.{big_number, big_bytes}

@@ -1,6 +1,7 @@
 use Rattle.std.proofs.Common.{◌≡◌, ◌++◌, length, take}
 use Rattle.std.specs.List.{flat_map}
-use Rattle.cert_format.specs.Spelling.{u2, spell_type}
+use Rattle.mon_base.specs.Widths.{u2}
+use Rattle.cert_format.specs.Spelling.{spell_type}
 use Rattle.cert_format.proofs.encoding.put_types.Given as goal
 
 abbrev pub invariant-loop-held : goal.invariant-loop-held

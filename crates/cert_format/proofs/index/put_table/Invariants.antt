@@ -1,6 +1,7 @@
 use Rattle.std.proofs.Common.{◌≡◌, ◌++◌, length, take}
 use Rattle.std.specs.List.{flat_map}
-use Rattle.cert_format.specs.Spelling.{u4, spell_name}
+use Rattle.mon_base.specs.Widths.{u4}
+use Rattle.cert_format.specs.Spelling.{spell_name}
 use Rattle.cert_format.proofs.index.put_table.Given as goal
 
 abbrev pub invariant-loop-name : goal.invariant-loop-name

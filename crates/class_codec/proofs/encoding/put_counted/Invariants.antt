@@ -1,6 +1,6 @@
 use Rattle.std.proofs.Common.{◌≡◌, ◌++◌, length, take}
 use Rattle.std.specs.List.{flat_map}
-use Rattle.class_codec.specs.Spelling.{u2}
+use Rattle.mon_base.specs.Widths.{u2}
 use Rattle.class_codec.proofs.encoding.put_counted.Given as goal
 
 abbrev pub invariant-loop-item : goal.invariant-loop-item
