@@ -1,4 +1,4 @@
--- How fields are spelled.
+-- How fields are spelled. (docs/PROMISES.md)
 use Rattle.std.specs.Prelude.{ℕ, List, [], ◌∷◌, ◌++◌, decimal}
 use Rattle.std.specs.Fmt.{signed_decimal}
 use Rattle.answer_text.specs.declared.field.Field.{Field}

@@ -1,4 +1,4 @@
--- The classes that every program has without declaring them, and their methods.
+-- The classes that every program has without declaring them, and their methods. (docs/LISTINGS.md)
 use Rattle.std.specs.Prelude.{ℕ, Bool, true, false, List, [], ◌∷◌, ◌&&◌, bytes_eq, codes, map, if◌then◌else◌}
 use Rattle.std.specs.List.{flat_map, list_any}
 use Rattle.mon_base.specs.declared.method.MethodId.{MethodId}

@@ -1,4 +1,5 @@
 -- Descriptors of methods and fields: how types are spelled, and how they are read from left to right.
+-- (The Java Virtual Machine Specification, section 4.3)
 use Rattle.std.specs.Prelude.{◌≡◌, ℕ, zero, suc, ◌+◌, ◌≤◌, ◌==◌, Bool, true, false, List, [], ◌∷◌, ◌++◌, length, drop, replicate, Option, Some, None, option_map, Ok, Err, ok_or, IsTrue, bytes_eq, codes, if◌then◌else◌}
 use Rattle.std.specs.List.{flat_map, list_all}
 use Rattle.mon_base.specs.Reading.{◌>>=◌, need}

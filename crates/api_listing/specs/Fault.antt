@@ -1,4 +1,4 @@
--- How words and bytes are read.
+-- How words and bytes are read. (docs/LISTINGS.md)
 use Rattle.std.specs.Prelude.{Result}
 use Rattle.api_listing.specs.declared.fault.FormFault.{FormFault}
 

@@ -1,4 +1,4 @@
--- The lines of a listing, each by itself: how a declaration is spelled.
+-- The lines of a listing, each by itself: how a declaration is spelled. (docs/LISTINGS.md)
 use Rattle.std.specs.Prelude.{◌≡◌, ℕ, Bool, true, false, ◌&&◌, ◌==◌, not, List, [], ◌∷◌, length, codes, IsTrue}
 use Rattle.std.specs.List.{list_all}
 use Rattle.mon_base.specs.declared.method.MethodId.{MethodId}

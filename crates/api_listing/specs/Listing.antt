@@ -1,4 +1,4 @@
--- What a listing is, and which listing a text spells.
+-- What a listing is, and which listing a text spells. (docs/LISTINGS.md)
 use Rattle.std.specs.Prelude.{◌≡◌, ℕ, ◌≤◌, Bool, true, ◌&&◌, ◌||◌, not, List, [], ◌∷◌, ◌++◌, length, codes, bytes_eq, Option, Some, None, IsTrue, filter}
 use Rattle.std.specs.List.{filter_map, list_any, list_all}
 use Rattle.mon_base.specs.declared.method.MethodId.{MethodId}

@@ -1,4 +1,4 @@
--- Where a method is declared, from a class upwards.
+-- Where a method is declared, from a class upwards. (docs/LISTINGS.md)
 use Rattle.std.specs.Prelude.{◌≡◌, ℕ, zero, suc, List, [], ◌∷◌, ◌++◌, length, map, find, bytes_eq, Option, Some, None, IsTrue, slice_get}
 use Rattle.std.specs.List.{flat_map, list_any, position_from}
 use Rattle.std.specs.Option.{option_or, option_map_or}

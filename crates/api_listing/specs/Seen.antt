@@ -1,4 +1,4 @@
--- Sets of names, of methods and of fields.
+-- Sets of names, of methods and of fields. (docs/LISTINGS.md)
 use Rattle.std.specs.Prelude.{ℕ, Bool, List}
 use Rattle.std.specs.declared.cmp.Ordering.{Ordering}
 use Rattle.std.specs.Ordering.{nat_cmp, ordering_then}

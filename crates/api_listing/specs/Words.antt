@@ -1,4 +1,4 @@
--- The parts of texts: pieces between bytes, lines, the letters of names, and names of classes.
+-- The parts of texts: pieces between bytes, lines, the letters of names, and names of classes. (docs/LISTINGS.md)
 use Rattle.std.specs.Prelude.{◌≡◌, ℕ, Bool, false, ◌||◌, ◌==◌, List, [], ◌∷◌, ◌++◌, length, IsTrue}
 use Rattle.std.specs.List.{slice_split, list_all}
 use Rattle.std.specs.Char.{is_ascii_digit, is_ascii_alphabetic}

@@ -1,4 +1,4 @@
--- What a policy tells of a site: its clause, and the arguments and the result of its method.
+-- What a policy tells of a site: its clause, and the arguments and the result of its method. (docs/CERTIFICATES.md)
 use Rattle.std.specs.Prelude.{ℕ, ◌==◌, ◌&&◌, Bool, true, false, length, Option, find, option_and_then}
 use Rattle.std.specs.Option.{option_map_or}
 use Rattle.cert_format.specs.declared.note.Phase8.{Phase8}

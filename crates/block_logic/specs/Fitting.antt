@@ -1,4 +1,4 @@
--- When a machine is as the notes of its threads say, and what of it is no part of any block.
+-- When a machine is as the notes of its threads say, and what of it is no part of any block. (docs/CERTIFICATES.md)
 use Rattle.std.specs.Prelude.{◌≡◌, ◌≢◌, ◌⊎◌, ℕ, true, false, IfSome, List, [], ◌∷◌, filter, Option, Some, None, slice_get}
 use Rattle.std.specs.List.{AllByRecursion}
 use Rattle.api_listing.specs.declared.events.Event.{Event}

@@ -1,4 +1,4 @@
--- What the code tells of terms, notes and rows without building them, and what each is.
+-- What the code tells of terms, notes and rows without building them, and what each is. (docs/CERTIFICATES.md)
 use Rattle.std.specs.Prelude.{List, [], ◌∷◌, ◌++◌, Some, None, false, if◌then◌else◌, slice_set}
 use Rattle.cert_format.specs.declared.note.Note.{Note}
 use Rattle.cert_format.specs.declared.note.Note.TheVariants as notes

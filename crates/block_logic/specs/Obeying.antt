@@ -1,4 +1,4 @@
--- What an accepted program does: whatever its steps are, the events obey, and the lock orders them.
+-- What an accepted program does: whatever its steps are, the events obey, and the lock orders them. (docs/CERTIFICATES.md)
 use Rattle.std.specs.Prelude.{◌≡◌, ◌≢◌, ℕ, false, List, length, is_some, Some, slice_get}
 use Rattle.std.specs.List.{AllByRecursion}
 use Rattle.api_listing.specs.declared.events.Event.{Event}

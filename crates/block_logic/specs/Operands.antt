@@ -1,4 +1,4 @@
--- What the rules of the notes ask of an instruction and of what its operand names.
+-- What the rules of the notes ask of an instruction and of what its operand names. (docs/CERTIFICATES.md)
 use Rattle.std.specs.Prelude.{ℕ, ℤ, ◌==◌, ◌&&◌, if◌then◌else◌, Bool, true, false, bytes_eq, codes, List, Option, Some, None}
 use Rattle.std.specs.Ordering.{int_eq}
 use Rattle.std.specs.Option.{option_map_or}

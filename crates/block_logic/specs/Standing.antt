@@ -1,4 +1,4 @@
--- Which notes may stand for one another.
+-- Which notes may stand for one another. (docs/CERTIFICATES.md)
 use Rattle.std.specs.Bool.{beq}
 use Rattle.std.specs.Prelude.{ℕ, ◌==◌, ◌&&◌, ◌||◌, not, Bool, true, false, if◌then◌else◌, List, [], ◌∷◌, length, is_some, slice_get}
 use Rattle.std.specs.Option.{option_map_or}

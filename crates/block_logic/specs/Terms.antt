@@ -1,5 +1,5 @@
 -- What stands on the stack above the client's operands while a check is made, and what the policy's variables are, told by what
--- stood when the lock was taken.
+-- stood when the lock was taken. (docs/CERTIFICATES.md)
 use Rattle.std.specs.Prelude.{ℕ, zero, suc, ◌+◌, ◌==◌, ◌&&◌, Bool, true, false, List, [], ◌∷◌, length, find, Option, slice_get}
 use Rattle.std.specs.Option.{option_map_or}
 use Rattle.std.specs.Ordering.{int_eq}

@@ -54,10 +54,3 @@ is_known policy mode method found e = by (has_clauses policy method) e
         → (b ≡ true) × (found ≡ items mode (bools_of policy) 0 (clauses_of policy method))
     by true e = (refl, cc)
     by false e = absurd cc
-
-pub none_known : (policy : Policy) (mode : Mode) (method : ℕ) → None ≡ known_items policy mode policy.clauses method → has_clauses policy method ≡ false
-none_known policy mode method e = by (has_clauses policy method) e
-  where
-    by : (b : Bool) → None ≡ cond b (Some (items mode (bools_of policy) 0 (clauses_of policy method))) None → b ≡ false
-    by true e = absurd cc
-    by false e = refl

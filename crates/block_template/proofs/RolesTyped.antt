@@ -134,10 +134,6 @@ kept_one : (o : Option Kind) → is_some o ≡ true → kept o ≡ 1
 kept_one None e = absurd cc
 kept_one (Some kind) e = refl
 
-either : (P : BlockInsn → Type 0) (b : Bool) (x y : BlockInsn) → P x → P y → P (cond b x y)
-either P true x y p q = p
-either P false x y p q = q
-
 low_either : (b : Bool) (s : List VType) → length (cond b (below 1 s) s) ≤ length s
 low_either true s = below_few 1 s
 low_either false s = omega arith

@@ -125,9 +125,6 @@ split_kept k n s lt le =
     ap (λ (i : ℕ). take i s) one ∙ take_one (length s - (k - n)) s (omega (arith, lt, le))
     ∙ ap (λ (t : VType). below (k - n) s ++ t ∷ []) (ap (type_at s) (sym at) ∙ sym (type_behind (length s - k) n s))
 
-pub topmost_length : (n : ℕ) (s : List VType) → n ≤ length s → length (topmost n s) ≡ n
-topmost_length n s le = omega (arith, length-drop (length s - n) s, le)
-
 pub topmost_few : (n : ℕ) (s : List VType) → length (topmost n s) ≤ n
 topmost_few n s = omega (arith, length-drop (length s - n) s)
 

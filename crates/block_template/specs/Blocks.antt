@@ -1,4 +1,4 @@
--- The block of a call: what is done before it, behind it where it returns, and where it throws.
+-- The block of a call: what is done before it, behind it where it returns, and where it throws. (docs/BLOCKS.md)
 use Rattle.std.specs.Prelude.{ℕ, ◌+◌, ◌==◌, ◌&&◌, max, Bool, true, false, not, if◌then◌else◌, List, [], ◌∷◌, ◌++◌, length, map, find, Option, Some, None}
 use Rattle.std.specs.Option.{option_map_or}
 use Rattle.bytecode_model.specs.declared.program.Target.{Target}

@@ -1,4 +1,5 @@
 -- Where control goes in a block, told by what is so before an instruction: a graph of roles, which Blocks lays out as a list.
+-- (docs/BLOCKS.md)
 use Rattle.std.specs.Prelude.{
   ◌≡◌,
   ◌≢◌,

@@ -1,4 +1,4 @@
--- The types before each instruction of a block, told of the types before its call and behind it.
+-- The types before each instruction of a block, told of the types before its call and behind it. (docs/BLOCKS.md)
 use Rattle.std.specs.Prelude.{
   ℕ,
   zero,

@@ -1,4 +1,4 @@
--- The plan of a policy can be spliced.
+-- The plan of a policy can be spliced. (docs/BLOCKS.md)
 use Rattle.std.specs.Prelude.{FitsSigned}
 use Rattle.std.specs.Int.{w32}
 use Rattle.std.specs.List.{AllByRecursion}

@@ -1,4 +1,4 @@
--- The items of the blocks of a policy, each in a method without locals of its own.
+-- The items of the blocks of a policy, each in a method without locals of its own. (docs/BLOCKS.md)
 use Rattle.std.specs.Prelude.{◌≡◌, ℕ, ◌==◌, if◌then◌else◌, List, Option, Some, None}
 use Rattle.std.specs.BTreeMap.{BTreeMap, get}
 use Rattle.std.specs.List.{list_any}

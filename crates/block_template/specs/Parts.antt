@@ -1,4 +1,5 @@
 -- The parts of blocks. Each instruction stands with what is so before it. Places are counted from the front of the block.
+-- (docs/BLOCKS.md)
 use Rattle.std.specs.Prelude.{ℕ, pos, ◌+◌, ◌*◌, Bool, true, false, List, [], ◌∷◌, ◌++◌, length, map, Option, Some, None}
 use Rattle.conspec_tree.specs.declared.types.Atom.{Atom}
 use Rattle.conspec_tree.specs.declared.types.Kind.{Kind}

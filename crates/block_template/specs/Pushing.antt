@@ -1,4 +1,4 @@
--- The instructions by which blocks push and store: numbers and locals, each in its shortest form.
+-- The instructions by which blocks push and store: numbers and locals, each in its shortest form. (docs/BLOCKS.md)
 use Rattle.std.specs.Prelude.{ℕ, ℤ, pos, neg_ℤ, ◌+◌, nat_lt, nat_le, int_le, ◌&&◌, if◌then◌else◌, Bool, false, List, map, slice_get}
 use Rattle.std.specs.Ordering.{int_eq}
 use Rattle.std.specs.Option.{option_map_or}

@@ -1,4 +1,4 @@
--- Control comes to no instruction of a block that is told to be unreached.
+-- Control comes to no instruction of a block that is told to be unreached. (docs/BLOCKS.md)
 use Rattle.std.specs.Prelude.{◌≡◌, ◌≢◌, ℕ, ◌+◌, Bool, true, List, Some, slice_get, IfSome}
 use Rattle.cert_format.specs.declared.certificate.Mode.{Mode}
 use Rattle.block_template.specs.declared.item.Item.{Item}

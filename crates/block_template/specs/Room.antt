@@ -1,4 +1,4 @@
--- What keeps the numbers in a block small: its places have 32 bits, and its locals 16.
+-- What keeps the numbers in a block small: its places have 32 bits, and its locals 16. (docs/BLOCKS.md)
 use Rattle.std.specs.Prelude.{ℕ, ◌+◌, ◌<◌, ◌^◌, length, IfSome, ⊤}
 use Rattle.std.specs.List.{AllByRecursion}
 use Rattle.conspec_tree.specs.declared.types.Atom.{Atom}

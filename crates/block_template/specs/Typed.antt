@@ -1,4 +1,4 @@
--- Each instruction of a block meets the rules of typing: the types before it are told by its role.
+-- Each instruction of a block meets the rules of typing: the types before it are told by its role. (docs/BLOCKS.md)
 use Rattle.std.specs.Prelude.{
   ◌≡◌,
   ℕ,

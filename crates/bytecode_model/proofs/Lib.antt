@@ -1,6 +1,7 @@
 pub mod Climbing
 pub mod Codes
 pub mod Ending
+pub mod ListedMethods
 pub mod Lists
 pub mod Names
 pub mod Passing

@@ -23,10 +23,6 @@ test_cases false P f g = g refl
 pub same_name : (a b : List ℕ) → bytes_eq a b ≡ true → a ≡ b
 same_name a b t = (bytes_eq-Decides a b).0 t
 
-pub is_some_or : {X : Type 0} (o p : Option X) → is_some o ≡ true → o ≡ option_or o p
-is_some_or (Some x) p e = refl
-is_some_or None p e = absurd (false≢true e)
-
 pub none_or : {X : Type 0} (o p : Option X) → is_some o ≡ false → p ≡ option_or o p
 none_or None p e = refl
 none_or (Some x) p e = absurd (false≢true (sym e))

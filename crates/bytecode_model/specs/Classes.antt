@@ -1,4 +1,4 @@
--- The classes of a linked program, upwards.
+-- The classes of a linked program, upwards. (docs/LINKING.md)
 use Rattle.std.specs.Prelude.{ℕ, Bool, false, bytes_eq, List, ◌++◌, length, map}
 use Rattle.std.specs.List.{list_any}
 use Rattle.std.specs.Option.{option_map_or}

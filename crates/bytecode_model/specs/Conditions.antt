@@ -1,4 +1,4 @@
--- The conditions that each class and each method of a program meets, one definition for each refusal.
+-- The conditions that each class and each method of a program meets, one definition for each refusal. (docs/LINKING.md)
 use Rattle.std.specs.Prelude.{ℕ, zero, suc, Bool, true, false, not, ◌==◌, ◌&&◌, ◌||◌, bytes_eq, if◌then◌else◌, List, [], ◌∷◌, length, nat_eq, Option, Some, None, is_ok}
 use Rattle.std.specs.List.{list_all, list_any, filter_map, starts_with}
 use Rattle.std.specs.Option.{option_map_or}

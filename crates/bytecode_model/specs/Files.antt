@@ -1,4 +1,4 @@
--- The class files of a program.
+-- The class files of a program. (docs/LINKING.md)
 use Rattle.std.specs.Prelude.{ℕ, List, map}
 use Rattle.class_codec.specs.declared.tree.ClassFile.{ClassFile}
 use Rattle.bytecode_model.specs.declared.program.LinkedClass.{LinkedClass}

@@ -1,4 +1,4 @@
--- Types that are lent, and the type that each is.
+-- Types that are lent, and the type that each is. (docs/TYPING.md)
 use Rattle.cert_format.specs.declared.typing.VType.{VType}
 use Rattle.cert_format.specs.declared.typing.VType.TheVariants as types
 use Rattle.bytecode_model.specs.declared.lending.TypeRef.{TypeRef}

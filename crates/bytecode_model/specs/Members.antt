@@ -1,4 +1,4 @@
--- Where a field or a method is declared, and the nearest declaration.
+-- Where a field or a method is declared, and the nearest declaration. (docs/LINKING.md)
 use Rattle.std.specs.Prelude.{ℕ, ◌+◌, true, List, [], ◌∷◌, ◌++◌, Option, None}
 use Rattle.std.specs.Map.{lookup}
 use Rattle.std.specs.Option.{option_or}

@@ -1,4 +1,4 @@
--- What is known of the operands of a linked program.
+-- What is known of the operands of a linked program. (docs/LINKING.md)
 use Rattle.std.specs.Prelude.{◌≡◌, ℕ, ◌<◌, List, [], length, slice_get, Some}
 use Rattle.std.specs.Option.{option_map_or}
 use Rattle.mon_base.specs.declared.method.MethodId.{MethodId}

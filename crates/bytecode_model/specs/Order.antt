@@ -1,4 +1,4 @@
--- Programs whose classes are in order.
+-- Programs whose classes are in order. (docs/LINKING.md)
 use Rattle.std.specs.Prelude.{◌≡◌, ℕ, suc, true, false, ◌⊎◌, List, length, None}
 use Rattle.api_listing.specs.declared.types.ListedClass.{ListedClass}
 use Rattle.api_listing.specs.BuiltIn.{object, throwable}

@@ -1,4 +1,4 @@
--- An instruction in its place, and what its operand names.
+-- An instruction in its place, and what its operand names. (docs/TYPING.md)
 use Rattle.std.specs.Prelude.{ℕ, Bool, true, false, ◌==◌, bytes_eq, List, [], Option}
 use Rattle.std.specs.Option.{option_map_or}
 use Rattle.mon_base.specs.declared.method.MethodId.{MethodId}

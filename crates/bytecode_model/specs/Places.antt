@@ -1,4 +1,4 @@
--- Places of classes and names in a map: of each name the first counts.
+-- Places of classes and names in a map: of each name the first counts. (docs/LINKING.md)
 use Rattle.std.specs.Prelude.{◌≡◌, ℕ, List, bytes_eq, Option}
 use Rattle.std.specs.List.{position_from}
 use Rattle.std.specs.Ordering.{nat_cmp}

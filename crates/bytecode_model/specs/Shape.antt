@@ -1,4 +1,5 @@
 -- The shape of a program and of what is told of its instructions: how many instructions each method with code has.
+-- (docs/TYPING.md)
 use Rattle.std.specs.Prelude.{◌≡◌, ℕ, Bool, nat_lt, List, length, map, filter}
 use Rattle.bytecode_model.specs.declared.program.LinkedClass.{LinkedClass}
 use Rattle.bytecode_model.specs.declared.program.Method.{Method}

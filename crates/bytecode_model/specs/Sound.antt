@@ -1,4 +1,4 @@
--- What holds of each linked program.
+-- What holds of each linked program. (docs/LINKING.md)
 use Rattle.std.specs.Prelude.{◌≡◌, ℕ, ◌^◌, ◌<◌, ◌≤◌, length, option_and_then, slice_get, IsSomeAnd}
 use Rattle.std.specs.List.{AllByRecursion}
 use Rattle.class_codec.specs.Fits.{CanSpell}

@@ -1,4 +1,4 @@
--- The handlers of an exception table, found by spans of 64 instructions.
+-- The handlers of an exception table, found by spans of 64 instructions. (docs/LINKING.md)
 use Rattle.std.specs.Prelude.{◌≡◌, ℕ, ◌/◌, ◌⊎◌, false, List, [], ◌∷◌, ◌++◌, get_or, slice_get, filter, filter_map}
 use Rattle.bytecode_model.specs.declared.program.Handler.{Handler}
 use Rattle.bytecode_model.specs.Rules.{covers}

@@ -1,4 +1,4 @@
--- What stands where in a linked program: its classes, their methods, and the method that it begins with.
+-- What stands where in a linked program: its classes, their methods, and the method that it begins with. (docs/LINKING.md)
 use Rattle.std.specs.Prelude.{◌≡◌, ℕ, ◌<◌, ◌≤◌, ◌==◌, Bool, true, false, not, ◌&&◌, ◌||◌, bytes_eq, if◌then◌else◌, List, [], ◌∷◌, length, slice_get, Some, None, Ok}
 use Rattle.std.specs.List.{AllByRecursion}
 use Rattle.class_codec.specs.declared.tree.Code.{Code}
@@ -19,7 +19,7 @@ use Rattle.bytecode_model.specs.Classes.{classes_of}
 use Rattle.bytecode_model.specs.Conditions.{codes_of, describes_method, has_its_code, has_supers, is_free, is_run, overrides_in}
 use Rattle.bytecode_model.specs.Starts.{index_at, insn_at}
 use Rattle.bytecode_model.specs.Heads.{class_at, head_of, heads_of, name_of, desc_of, is_static, is_native, is_abstract, is_synchronized, main_name, main_desc, maker, initialiser, takes_nothing}
-use Rattle.bytecode_model.specs.Files.{unlinked, max_files}
+use Rattle.bytecode_model.specs.Files.{unlinked}
 use Rattle.bytecode_model.specs.Operands.{literals_of}
 use Rattle.bytecode_model.specs.SearchOrder.{Name, search_order}
 use Rattle.bytecode_model.specs.Shape.{has_code}
@@ -126,7 +126,6 @@ pub record AreLiterals (program : Program) : Type 0 where
 
 -- What so many files, the listing and the class link to, on this side.
 pub record IsLinkedOf (side : Side) (listing : Listing) (main : List ℕ) (program : Program) : Type 0 where
-  pub few : length program.classes ≤ max_files
   pub listing_is : program.listing ≡ listing
   pub literals : AreLiterals program
   pub free : (own : ℕ) (class : LinkedClass) → slice_get program.classes own ≡ Some class → is_free side class.file ≡ true

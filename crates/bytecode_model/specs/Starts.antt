@@ -1,4 +1,4 @@
--- Which instructions begin at the bytes of a code.
+-- Which instructions begin at the bytes of a code. (docs/LINKING.md)
 use Rattle.std.specs.Prelude.{ℕ, ◌+◌, ◌==◌, nat_lt, if◌then◌else◌, List, length, Option, Some, None, option_and_then}
 use Rattle.std.specs.List.{position_from}
 

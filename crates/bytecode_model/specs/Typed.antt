@@ -1,4 +1,4 @@
--- When a program is typed, and the first place at which it is not.
+-- When a program is typed, and the first place at which it is not. (docs/TYPING.md)
 use Rattle.std.specs.Prelude.{◌≡◌, ℕ, Bool, false, ◌&&◌, List, [], length, take, Option, None, is_some, option_and_then, slice_get}
 use Rattle.std.specs.Option.{option_map_or}
 use Rattle.cert_format.specs.declared.typing.Typing.{Typing}

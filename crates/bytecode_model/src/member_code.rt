@@ -4,7 +4,7 @@ ghost use Rattle.std.specs.Prelude.{◌≡◌, length, option_copied, slice_get}
 ghost use Rattle.std.specs.List.{filter_map};
 ghost use Rattle.bytecode_model.specs.Conditions.{code_in, has_its_code};
 
-use crate::text::has_flag;
+use crate::flags::is_abstract;
 use class_codec::{Attr, Code, Member};
 
 /// Whether a method has one code, or none where it is abstract.
@@ -12,7 +12,7 @@ pub fn has_its_code(member: &Member) -> bool
     ensures { result ≡ has_its_code member.now }
 {
     let codes = count_codes(member.attrs.as_slice());
-    if has_flag(member.flags, 1024) {
+    if is_abstract(member.flags) {
         codes == 0
     } else {
         codes == 1

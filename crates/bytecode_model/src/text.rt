@@ -1,19 +1,12 @@
-//! Texts of a constant pool, and flags.
+//! Texts of a constant pool.
 
 ghost use Rattle.std.specs.Prelude.{◌≡◌, IfOk, bytes_eq};
-ghost use Rattle.bytecode_model.specs.Heads.{has_flag, text_at, class_at};
+ghost use Rattle.bytecode_model.specs.Heads.{text_at, class_at};
 ghost use Rattle.bytecode_model.specs.Operands.{id_at};
 
 use class_codec::{Const, class_name_at, name_and_type_at, utf8_at};
 use mon_base::{Bytes, MethodId, NoMemory};
 use std::alloc::Global;
-
-/// Whether the flags have this one.
-pub fn has_flag(flags: u16, flag: u16) -> bool
-    ensures { result ≡ has_flag flag flags }
-{
-    flags & flag != 0
-}
 
 /// Whether the bytes are the text.
 pub fn is_text(bytes: &[u8], text: &str) -> bool

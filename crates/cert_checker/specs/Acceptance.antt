@@ -1,4 +1,4 @@
--- The first test of the check that fails.
+-- The first test of the check that fails. (docs/CERTIFICATES.md)
 use Rattle.std.specs.Prelude.{ℕ, ◌+◌, ◌==◌, ◌&&◌, if◌then◌else◌, List, [], ◌∷◌, length, map, drop, sum_by, count_by, Option, Some, None, Result, Ok, Err}
 use Rattle.bytecode_model.specs.declared.program.LinkedClass.{LinkedClass}
 use Rattle.bytecode_model.specs.declared.program.Method.{Method}

@@ -1,4 +1,4 @@
--- A program that begins with a call that its policy refuses.
+-- A program that begins with a call that its policy refuses. (docs/PROMISES.md)
 use Rattle.std.specs.Prelude.{◌≡◌, ℕ, [], None}
 use Rattle.api_listing.specs.declared.events.Event.TheVariants as events
 use Rattle.bytecode_model.specs.declared.program.Program.{Program}

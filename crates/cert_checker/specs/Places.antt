@@ -1,4 +1,4 @@
--- The first place where something is found.
+-- The first place where something is found. (docs/CERTIFICATES.md)
 use Rattle.std.specs.Prelude.{ℕ, zero, suc, ◌+◌, Option, Some, None, option_map}
 
 abbrev pub or_else : {A : Type 0} → Option A → Option A → Option A

@@ -1,4 +1,4 @@
--- A program that obeys its policy, whatever the steps.
+-- A program that obeys its policy, whatever the steps. (docs/PROMISES.md)
 use Rattle.std.specs.Prelude.{List}
 use Rattle.bytecode_model.specs.declared.program.Program.{Program}
 use Rattle.cert_format.specs.declared.certificate.Mode.{Mode}

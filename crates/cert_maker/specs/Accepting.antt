@@ -1,4 +1,4 @@
--- The certificate of a woven program is accepted.
+-- The certificate of a woven program is accepted. (docs/PROMISES.md)
 use Rattle.std.specs.Prelude.{◌≡◌, ℕ, ◌+◌, true, false, slice_get, slice_index, Some}
 use Rattle.std.specs.List.{AllByRecursion}
 use Rattle.bytecode_model.specs.declared.program.LinkedClass.{LinkedClass}

@@ -1,4 +1,5 @@
 -- The certificate of a woven program: its types, and the note of each instruction, told by its role in its block.
+-- (docs/PROMISES.md)
 use Rattle.std.specs.Prelude.{ℕ, zero, suc, min, Bool, true, false, if◌then◌else◌, List, [], ◌∷◌, ◌++◌, drop, length, map, take, Option, Some, None, slice_get}
 use Rattle.std.specs.Option.{option_map_or}
 use Rattle.bytecode_model.specs.declared.program.LinkedClass.{LinkedClass}

@@ -1,4 +1,4 @@
--- What a policy names is told by a byte.
+-- What a policy names is told by a byte. (docs/CERTIFICATES.md)
 use Rattle.std.specs.Prelude.{◌<◌, ◌^◌, ⊤}
 use Rattle.std.specs.List.{AllByRecursion}
 use Rattle.conspec_tree.specs.declared.types.Atom.{Atom}

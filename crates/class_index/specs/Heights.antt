@@ -1,4 +1,4 @@
--- How far below a class that is not given each given one stands.
+-- How far below a class that is not given each given one stands. (docs/LINKING.md)
 use Rattle.std.specs.Prelude.{◌≡◌, ℕ, ◌+◌, true, false, List, Some}
 use Rattle.std.specs.BTreeMap.{BTreeMap}
 use Rattle.api_listing.specs.declared.types.ListedClass.{ListedClass}

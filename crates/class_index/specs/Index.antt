@@ -1,4 +1,4 @@
--- Ordered maps made once, from which each look-up gives what a plain scan gives.
+-- Ordered maps made once, from which each look-up gives what a plain scan gives. (docs/LINKING.md)
 use Rattle.std.specs.Prelude.{◌≡◌, ℕ, ◌+◌, List, length, Option, Some}
 use Rattle.std.specs.BTreeMap.{BTreeMap, get}
 use Rattle.std.specs.BTreeSet.{BTreeSet}

@@ -1,4 +1,4 @@
--- Which classes may have methods of the library, and lists of those above a class.
+-- Which classes may have methods of the library, and lists of those above a class. (docs/LINKING.md)
 use Rattle.std.specs.Prelude.{◌≡◌, ℕ, ◌≤◌, ◌||◌, ◌&&◌, not, true, Bool, List, ◌++◌, bytes_eq, nat_eq, codes, Some, slice_get}
 use Rattle.std.specs.List.{list_all, list_any, starts_with, filter}
 use Rattle.std.specs.BTreeSet.{BTreeSet}

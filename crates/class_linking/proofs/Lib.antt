@@ -3,7 +3,7 @@ pub mod ClassLoop
 pub mod Loop
 pub mod Sound
 pub mod Starting
-pub mod Telling
+pub mod Lengths
 pub mod Whole
 pub mod Constants
 pub mod Parts

@@ -14,6 +14,7 @@ use Rattle.class_codec.specs.declared.tree.Const.{Const}
 use Rattle.class_codec.specs.declared.tree.Const.TheVariants as constants
 use Rattle.class_codec.specs.Fits.{CanSpell, FitsPool, IsNamed}
 use Rattle.class_codec.specs.Pool.{names, utf8_at, class_name_at, class_name_of, name_and_type_at, member_id, reference_of, reference_at}
+use Rattle.insn_codec.specs.declared.opcodes.TheConstants.{INVOKESPECIAL, INVOKESTATIC, INVOKEVIRTUAL}
 use Rattle.insn_codec.specs.declared.insn.Insn.{Insn}
 use Rattle.insn_codec.specs.declared.insn.Insn.TheVariants as insns
 use Rattle.insn_codec.specs.declared.opcode.Operands.{Operands}
@@ -71,7 +72,7 @@ is_call (uses.Call static of_interface) = true
 is_call other = false
 
 is_calling : ℕ → Bool
-is_calling op = not (is_call (use_of_opcode op)) || (op == 182 || (op == 183 || op == 184))
+is_calling op = not (is_call (use_of_opcode op)) || (op == INVOKEVIRTUAL || (op == INVOKESPECIAL || op == INVOKESTATIC))
 
 all_calling : all_below 256 is_calling ≡ true
 unfolding is_calling
@@ -81,17 +82,17 @@ all_calling = refl
 abbrev CallsSo : Shape → Type 0
 CallsSo shape = (how : How) × (shape ≡ shapes.Heap (heap.Call how))
 
-one_of_three : (op : ℕ) → (op == 182 || (op == 183 || op == 184)) ≡ true → CallsSo (pool_shape op)
-one_of_three op e = by (op == 182) (op == 183) (op == 184) refl refl refl e where
+one_of_three : (op : ℕ) → (op == INVOKEVIRTUAL || (op == INVOKESPECIAL || op == INVOKESTATIC)) ≡ true → CallsSo (pool_shape op)
+one_of_three op e = by (op == INVOKEVIRTUAL) (op == INVOKESPECIAL) (op == INVOKESTATIC) refl refl refl e where
   shaped : (n : ℕ) → CallsSo (pool_shape n) → (op == n) ≡ true → CallsSo (pool_shape op)
   shaped n is e =
       let same : n ≡ op = sym (equal_numbers op n e) in
       subst (λ (k : ℕ). CallsSo (pool_shape k)) same is
 
-  by : (a b c : Bool) → (op == 182) ≡ a → (op == 183) ≡ b → (op == 184) ≡ c → (a || (b || c)) ≡ true → CallsSo (pool_shape op)
-  by true b c x y z e = shaped 182 (hows.Virtual, refl) x
-  by false true c x y z e = shaped 183 (hows.Special, refl) y
-  by false false true x y z e = shaped 184 (hows.Static, refl) z
+  by : (a b c : Bool) → (op == INVOKEVIRTUAL) ≡ a → (op == INVOKESPECIAL) ≡ b → (op == INVOKESTATIC) ≡ c → (a || (b || c)) ≡ true → CallsSo (pool_shape op)
+  by true b c x y z e = shaped INVOKEVIRTUAL (hows.Virtual, refl) x
+  by false true c x y z e = shaped INVOKESPECIAL (hows.Special, refl) y
+  by false false true x y z e = shaped INVOKESTATIC (hows.Static, refl) z
   by false false false x y z e = absurd (false≢true e)
 
 pool_calls : (op : ℕ) → op < 256 → is_call (use_of_opcode op) ≡ true → CallsSo (pool_shape op)

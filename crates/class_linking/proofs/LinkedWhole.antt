@@ -23,7 +23,7 @@ use Rattle.bytecode_model.specs.Conditions.{has_supers, is_free, overrides_in}
 use Rattle.class_linking.specs.Fault.{Linked}
 use Rattle.bytecode_model.specs.Heads.{head_of, heads_of, all_classes, class_at, name_of, desc_of, is_static, is_member, main_name, main_desc, maker}
 use Rattle.class_linking.specs.Linking.{assembled, method_linked}
-use Rattle.bytecode_model.specs.Files.{unlinked, max_files}
+use Rattle.bytecode_model.specs.Files.{unlinked}
 use Rattle.bytecode_model.specs.Members.{methods_declared, fields_declared}
 use Rattle.bytecode_model.specs.Operands.{literals_of}
 use Rattle.bytecode_model.specs.SearchOrder.{search_order}
@@ -248,11 +248,10 @@ module _ (files : List ClassFile) (listing : Listing) (main : List ℕ) (side : 
 -- ---- the law
 
 pub all_linked : LinkedAreNamed
-all_linked files listing main side program few e sound =
+all_linked files listing main side program e sound =
     let known = linked_known files listing main side program e in
     let whole = is_linked files listing main side program e in
     record {
-      few = subst (λ (n : ℕ). n ≤ max_files) (sym whole.count) few;
       free = class_free files listing main side program known sound;
       listing_is = known.listing_is;
       literals = literals_are files listing main side program known sound;
@@ -263,6 +262,6 @@ all_linked files listing main side program few e sound =
 
 -- the same of a call that answers what the files link to
 pub known : (files : List ClassFile) (listing : Listing) (main : List ℕ) (side : Side) (answer : Linked Program)
-    → Answers faults.Memory answer (assembled files listing main side) → IfOk answer IsSound → length files ≤ max_files → IfOk answer (IsLinkedOf side listing main)
-known files listing main side (Ok program) given sound few = all_linked files listing main side program few given sound
-known files listing main side (Err fault) given sound few = tt
+    → Answers faults.Memory answer (assembled files listing main side) → IfOk answer IsSound → IfOk answer (IsLinkedOf side listing main)
+known files listing main side (Ok program) given sound = all_linked files listing main side program given sound
+known files listing main side (Err fault) given sound = tt

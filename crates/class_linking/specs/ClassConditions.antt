@@ -1,4 +1,4 @@
--- The conditions that each class meets, in their order.
+-- The conditions that each class meets, in their order. (The Java Virtual Machine Specification, section 5.3)
 use Rattle.std.specs.Prelude.{Bool, not, List, [], ◌∷◌, Ok}
 use Rattle.mon_base.specs.Reading.{◌>>=◌, need}
 use Rattle.class_codec.specs.declared.tree.ClassFile.{ClassFile}

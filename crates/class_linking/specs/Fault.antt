@@ -1,4 +1,4 @@
--- What linking gives, and lists that are linked item by item.
+-- What linking gives, and lists that are linked item by item. (docs/LINKING.md)
 use Rattle.std.specs.Prelude.{ℕ, ◌+◌, List, [], ◌∷◌, Result, Ok}
 use Rattle.mon_base.specs.Reading.{◌>>=◌}
 use Rattle.class_linking.specs.declared.fault.LinkFault.{LinkFault}

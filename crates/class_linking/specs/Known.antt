@@ -1,4 +1,4 @@
--- What the operands of a class were found to name.
+-- What the operands of a class were found to name. (docs/LINKING.md)
 use Rattle.std.specs.Prelude.{◌≡◌, List, Option, Ok, IfSome}
 use Rattle.std.specs.List.{All}
 use Rattle.class_codec.specs.declared.tree.Const.{Const}

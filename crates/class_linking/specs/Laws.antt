@@ -1,11 +1,10 @@
--- What is known of each program that files link to, however many.
-use Rattle.std.specs.Prelude.{◌≡◌, ℕ, ◌≤◌, List, length, Ok}
+-- What is known of each program that files link to, however many. (docs/LINKING.md)
+use Rattle.std.specs.Prelude.{◌≡◌, ℕ, List, Ok}
 use Rattle.class_codec.specs.declared.tree.ClassFile.{ClassFile}
 use Rattle.api_listing.specs.declared.types.Listing.{Listing}
 use Rattle.api_listing.specs.Listing.{SpellsListing}
 use Rattle.bytecode_model.specs.declared.program.Program.{Program}
 use Rattle.bytecode_model.specs.declared.program.Side.{Side}
-use Rattle.bytecode_model.specs.Files.{max_files}
 use Rattle.bytecode_model.specs.Named.{AreRightOperands}
 use Rattle.bytecode_model.specs.Order.{IsInOrder}
 use Rattle.bytecode_model.specs.Sound.{IsSound}
@@ -17,10 +16,9 @@ LinkedOperandsAreRight =
     (files : List ClassFile) (listing : Listing) (main : List ℕ) (side : Side) (program : Program) → assembled files listing main side ≡ Ok program → IsSound program
     → AreRightOperands program
 
--- There are as many of them as may be given.
 abbrev pub LinkedAreNamed : Type 0
 LinkedAreNamed =
-    (files : List ClassFile) (listing : Listing) (main : List ℕ) (side : Side) (program : Program) → length files ≤ max_files
+    (files : List ClassFile) (listing : Listing) (main : List ℕ) (side : Side) (program : Program)
     → assembled files listing main side ≡ Ok program → IsSound program → IsLinkedOf side listing main program
 
 -- The classes of each program that links with a listing that was read are in order.

@@ -25,7 +25,7 @@ ghost use Rattle.class_linking.specs.ClassConditions.{class_linked, classes_link
 
 use crate::fault::LinkFault;
 use api_listing::{ListedClass, class_name};
-use bytecode_model::{Side, has_flag, is_text};
+use bytecode_model::{Side, is_static, is_text};
 use class_codec::{ClassFile, Const, Member};
 use class_index::{Heads, add_name, head_of};
 use mon_base::{Bytes, NoMemory};
@@ -244,7 +244,7 @@ fn are_static(fields: &[Member]) -> bool
     ensures { result ≡ list_all (λ (m : Member). is_static m.flags) fields.now }
 {
     for field in fields {
-        if !has_flag(field.flags, 8) {
+        if !is_static(field.flags) {
             return false;
         }
     }

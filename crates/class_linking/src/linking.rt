@@ -20,7 +20,7 @@ use crate::laws::{linked_is_in_order, linked_operands_are_right, linked_programs
 use crate::methods::methods_linked;
 use api_listing::{ListedClass, Listing};
 use bytecode_model::{
-    LinkedClass, Method, Program, Side, class_at, copy_class, has_flag, is_text, text_at,
+    LinkedClass, Method, Program, Side, class_at, copy_class, is_static, is_text, text_at,
 };
 use class_codec::{ClassFile, Const, Member};
 use class_index::{Heads, Index, heads_of};
@@ -44,6 +44,7 @@ pub fn link(
     requires fits { AllByRecursion CanSpell files }
     requires listed { IsFew listing }
     ensures exact { Answers LinkFault.Memory result (linked files listing main.now side) }
+    ensures few { IfOk result (λ program. length program.classes ≤ max_files) }
     ensures back { IfOk result (λ program. unlinked program ≡ files) }
     ensures sound { IfOk result IsSound }
     ensures operands { IfOk result AreRightOperands }
@@ -74,7 +75,7 @@ pub fn assemble(
     ensures back { IfOk result (λ program. unlinked program ≡ files) }
     ensures sound { IfOk result IsSound }
     ensures operands { IfOk result AreRightOperands }
-    ensures named { length files ≤ max_files → IfOk result (IsLinkedOf side listing main.now) }
+    ensures named { IfOk result (IsLinkedOf side listing main.now) }
     ensures order { IfOk result (λ program. (text : List ℕ) → SpellsListing text listing → IsInOrder program) }
 {
     linked_operands_are_right();
@@ -247,7 +248,7 @@ fn is_main(pool: &[Const], member: &Member) -> bool
 fn if_static(class: u32, method: u32, member: &Member) -> Option<(u32, u32)>
     ensures { result ≡ if_static class method member.now }
 {
-    if has_flag(member.flags, 8) {
+    if is_static(member.flags) {
         Some((class, method))
     } else {
         None

@@ -19,7 +19,9 @@ ghost use Rattle.bytecode_model.specs.Conditions.{
 };
 
 use api_listing::{FormFault, parse_descriptor};
-use bytecode_model::{copy_text, has_flag, has_its_code, is_text, text_at};
+use bytecode_model::{
+    copy_text, has_its_code, is_abstract, is_native, is_static, is_synchronized, is_text, text_at,
+};
 use class_codec::{Const, Member};
 use class_index::{Index, in_class};
 use mon_base::{Bytes, MethodId, NoMemory};
@@ -48,17 +50,16 @@ fn has_good_form(pool: &[Const], member: &Member) -> bool
 fn has_good_flags(pool: &[Const], member: &Member) -> bool
     ensures { result ≡ has_good_flags pool.now member.now }
 {
-    let is_abstract = has_flag(member.flags, 1024);
-    let is_static = has_flag(member.flags, 8);
     let is_maker = is_text(text_at(pool, member.name), "<init>");
-    !has_flag(member.flags, 256) && !(is_abstract && (is_static || is_maker))
+    !is_native(member.flags)
+        && !(is_abstract(member.flags) && (is_static(member.flags) || is_maker))
 }
 
 fn is_good_initialiser(pool: &[Const], member: &Member) -> bool
     ensures { result ≡ is_good_initialiser pool.now member.now }
 {
     !is_text(text_at(pool, member.name), "<clinit>")
-        || has_flag(member.flags, 8) && is_text(text_at(pool, member.desc), "()V")
+        || is_static(member.flags) && is_text(text_at(pool, member.desc), "()V")
 }
 
 fn is_begun_unlocked(pool: &[Const], member: &Member) -> bool
@@ -68,7 +69,7 @@ fn is_begun_unlocked(pool: &[Const], member: &Member) -> bool
     let desc = text_at(pool, member.desc);
     let is_main = is_text(name, "main") && is_text(desc, "([Ljava/lang/String;)V");
     let is_run = is_text(name, "run") && is_text(desc, "()V");
-    !(has_flag(member.flags, 32) && (is_main || (is_text(name, "<clinit>") || is_run)))
+    !(is_synchronized(member.flags) && (is_main || (is_text(name, "<clinit>") || is_run)))
 }
 
 fn describes_method(alloc: Global, desc: &[u8]) -> Result<bool, NoMemory>
@@ -95,7 +96,7 @@ pub fn overrides(
     ensures { IfOk result (λ b.
         b ≡ overrides (all_classes index.now.listing index.now.files) index.now.listing class.now pool.now member.now) }
 {
-    if has_flag(member.flags, 8) || is_text(text_at(pool, member.name), "<init>") {
+    if is_static(member.flags) || is_text(text_at(pool, member.name), "<init>") {
         return Ok(false);
     }
     let id = id_of(alloc, class, pool, member)?;

@@ -1,4 +1,3 @@
 pub mod Insns
 pub mod Loop
 pub mod Placing
-pub mod Telling

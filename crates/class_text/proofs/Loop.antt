@@ -22,10 +22,6 @@ pub fault_front : (front : List ℕ) (answer : Shown) (e : ShowFault) → with_f
 fault_front front (Ok text) e is = absurd (false≢true (sym (ap is_ok is)))
 fault_front front (Err f) e is = is
 
-pub no_front : (answer : Shown) → with_front [] answer ≡ answer
-no_front (Ok text) = refl
-no_front (Err e) = refl
-
 -- the others behind the first
 pub next : (front new : List ℕ) (first others : Shown) → with_front front first ≡ Ok new
     → with_front new others ≡ with_front front (first >>= λ text. others >>= λ rest. Ok (text ++ rest))

@@ -1,4 +1,4 @@
--- Ordered maps of a listing, from which each look-up gives what a scan of the listing gives.
+-- Ordered maps of a listing, from which each look-up gives what a scan of the listing gives. (docs/COMMANDS.md)
 use Rattle.std.specs.Prelude.{◌≡◌, ℕ, List, Option}
 use Rattle.std.specs.BTreeMap.{BTreeMap, get}
 use Rattle.mon_base.specs.declared.method.MethodId.{MethodId}

@@ -1,4 +1,4 @@
--- The lines that are printed of class files: words with a space between two, and a newline at the end.
+-- The lines that are printed of class files: words with a space between two, and a newline at the end. (docs/COMMANDS.md)
 use Rattle.std.specs.Prelude.{ℕ, ◌==◌, Bool, true, false, if◌then◌else◌, List, [], ◌∷◌, ◌++◌, map, codes, Option, Some, None, slice_get, option_and_then}
 use Rattle.std.specs.List.{flat_map}
 use Rattle.std.specs.Fmt.{decimal, signed_decimal}

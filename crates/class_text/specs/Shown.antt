@@ -1,4 +1,4 @@
--- The text of class files, or the first code that is of no form.
+-- The text of class files, or the first code that is of no form. (docs/COMMANDS.md)
 use Rattle.std.specs.Prelude.{◌≡◌, ℕ, ◌+◌, List, [], ◌∷◌, ◌++◌, Option, Some, None, Result, Ok, Err, slice_get}
 use Rattle.std.specs.List.{flat_map}
 use Rattle.mon_base.specs.Reading.{◌>>=◌}

@@ -1,4 +1,4 @@
--- Blocks that were made before, found by the method that is called.
+-- Blocks that were made before, found by the method that is called. (docs/BLOCKS.md)
 use Rattle.std.specs.Prelude.{◌≡◌, ℕ, List, Option, Some, slice_get}
 use Rattle.std.specs.BTreeMap.{BTreeMap, get}
 use Rattle.std.specs.Ordering.{nat_cmp}

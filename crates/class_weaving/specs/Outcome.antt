@@ -1,5 +1,5 @@
 -- What class files that were woven link to: the classes of the program, in which each instruction to which the plan gives a
--- block stands in it, and behind them conspec/State.
+-- block stands in it, and behind them conspec/State. (docs/BLOCKS.md)
 use Rattle.mon_base.specs.declared.method.MethodId.{MethodId}
 use Rattle.std.specs.Prelude.{◌≡◌, ◌≢◌, ℕ, ◌+◌, codes, if◌then◌else◌, List, [], ◌∷◌, ◌++◌, length, map, slice_index, Contains, Option, Some, None, ⊤}
 use Rattle.std.specs.List.{AllByRecursion}

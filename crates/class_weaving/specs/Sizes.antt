@@ -1,5 +1,5 @@
 -- The sizes of what a program is woven to, in the order in which they are told: the classes in theirs, and the methods of
--- each in theirs. Nothing is woven for them.
+-- each in theirs. Nothing is woven for them. (docs/BLOCKS.md)
 use Rattle.std.specs.Prelude.{◌≡◌, ℕ, ◌+◌, if◌then◌else◌, List, [], ◌∷◌, ◌++◌, map, slice_get, Option, Some, None}
 use Rattle.class_codec.specs.declared.tree.Code.{Code}
 use Rattle.class_codec.specs.declared.tree.Const.{Const}

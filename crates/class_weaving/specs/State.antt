@@ -1,4 +1,4 @@
--- The class file of conspec/State, which holds the variables of a policy, and whose monitor is the lock.
+-- The class file of conspec/State, which holds the variables of a policy, and whose monitor is the lock. (docs/BLOCKS.md)
 use Rattle.std.specs.Prelude.{ℕ, ◌+◌, ◌*◌, Bool, if◌then◌else◌, List, [], ◌∷◌, ◌++◌, codes}
 use Rattle.byteorder.specs.Endian.{big_bytes}
 use Rattle.class_codec.specs.declared.tree.Attr.TheVariants as attributes

@@ -1,5 +1,5 @@
 -- What weaving makes of a program: each instruction to which the plan gives a block stands in it, and behind the classes
--- stands conspec/State. Or the first size that does not fit.
+-- stands conspec/State. Or the first size that does not fit. (docs/BLOCKS.md)
 use Rattle.std.specs.Prelude.{ℕ, ◌+◌, Bool, max, if◌then◌else◌, List, [], ◌∷◌, ◌++◌, map, Option, Some, None, slice_get, Ok}
 use Rattle.std.specs.List.{list_any}
 use Rattle.mon_base.specs.Reading.{◌>>=◌}

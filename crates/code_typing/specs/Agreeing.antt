@@ -1,4 +1,4 @@
--- What is read off a descriptor without memory is what the listing reads of it.
+-- What is read off a descriptor without memory is what the listing reads of it. (docs/TYPING.md)
 use Rattle.std.specs.Prelude.{◌≡◌, ℕ, List, map, Ok}
 use Rattle.api_listing.specs.declared.descriptor.MethodType.{MethodType}
 use Rattle.api_listing.specs.Descriptor.{type_spelled, result_spelled, method_type}

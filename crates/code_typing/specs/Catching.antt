@@ -1,4 +1,4 @@
--- What handlers take.
+-- What handlers take. (docs/TYPING.md)
 use Rattle.std.specs.Prelude.{Bool, List}
 use Rattle.std.specs.List.{list_all}
 use Rattle.api_listing.specs.BuiltIn.{throwable}

@@ -1,4 +1,4 @@
--- What each name of a change means.
+-- What each name of a change means. (docs/TYPING.md)
 use Rattle.std.specs.Prelude.{ℕ, Bool, ◌&&◌, if◌then◌else◌, List, ◌++◌, map}
 use Rattle.cert_format.specs.declared.typing.FrameType.{FrameType}
 use Rattle.cert_format.specs.declared.typing.VType.{VType}

@@ -1,4 +1,4 @@
--- The places of a typed program that have a frame, and where control goes from them.
+-- The places of a typed program that have a frame, and where control goes from them. (docs/TYPING.md)
 use Rattle.std.specs.Prelude.{◌≡◌, ℕ, ◌≤◌, ◌<◌, IsTrue, Contains, Some, Option, option_and_then, slice_get, length}
 use Rattle.cert_format.specs.declared.typing.Typing.{Typing}
 use Rattle.insn_codec.specs.declared.insn.Insn.{Insn}

@@ -1,4 +1,4 @@
--- The first instruction at which a program is not typed.
+-- The first instruction at which a program is not typed. (docs/TYPING.md)
 use Rattle.std.specs.Prelude.{ℕ, zero, suc, ◌+◌, if◌then◌else◌, List, [], ◌∷◌, length, drop, Option, None, option_map}
 use Rattle.std.specs.Option.{option_or}
 use Rattle.cert_format.specs.declared.typing.Typing.{Typing}

@@ -1,4 +1,4 @@
--- What an instruction leaves, and the frames that take it.
+-- What an instruction leaves, and the frames that take it. (docs/TYPING.md)
 use Rattle.std.specs.Prelude.{ℕ, Bool, false}
 use Rattle.std.specs.Option.{option_map_or}
 use Rattle.cert_format.specs.declared.typing.FrameType.{FrameType}

@@ -1,4 +1,4 @@
--- What an instruction that works on its frame alone does to the verifier's types.
+-- What an instruction that works on its frame alone does to the verifier's types. (docs/TYPING.md)
 use Rattle.std.specs.Prelude.{◌≡◌, ℕ, false, IsTrue, List, length, map, reverse, Some}
 use Rattle.std.specs.List.{range_with_len}
 use Rattle.cert_format.specs.declared.typing.FrameType.{FrameType}

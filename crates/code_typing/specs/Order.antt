@@ -1,4 +1,4 @@
--- Frames in order: what an instruction does to a frame that may stand in the place of another.
+-- Frames in order: what an instruction does to a frame that may stand in the place of another. (docs/TYPING.md)
 use Rattle.std.specs.Prelude.{◌≡◌, ℕ, ◌≤◌, not, Bool, true, IsTrue, List, length, None}
 use Rattle.cert_format.specs.declared.typing.FrameType.{FrameType}
 use Rattle.cert_format.specs.declared.typing.VType.{VType}

@@ -1,4 +1,4 @@
--- One operand or one local after the other.
+-- One operand or one local after the other. (docs/TYPING.md)
 use Rattle.std.specs.Prelude.{ℕ, if◌then◌else◌, List, [], ◌∷◌, Option, Some, None}
 use Rattle.cert_format.specs.declared.typing.VType.{VType}
 use Rattle.bytecode_model.specs.declared.program.Program.{Program}

@@ -1,4 +1,4 @@
--- What each name of a want means.
+-- What each name of a want means. (docs/TYPING.md)
 use Rattle.bytecode_model.specs.declared.program.Program.{Program}
 use Rattle.code_typing.specs.declared.wanted.Wanted.{Wanted}
 use Rattle.code_typing.specs.declared.wanted.Wanted.TheVariants as wanted

@@ -13,11 +13,11 @@ use crate::entry::this_type;
 use crate::locals::local_told;
 use crate::operands::count_taken;
 use crate::place::PlaceRef;
-use bytecode_model::{Method, TypeRef, own};
+use bytecode_model::{Method, TypeRef, is_static, own};
 use cert_format::{FrameType, VType};
 use frame_types::{
-    arguments_text, array_named, class_of, constant_type, count_after, desc_referred, is_static,
-    moved_from, next_type, put_back, read_type, result_type, split_top, type_at, type_described,
+    arguments_text, array_named, class_of, constant_type, count_after, desc_referred, moved_from,
+    next_type, put_back, read_type, result_type, split_top, type_at, type_described,
 };
 use insn_codec::{Heap, Shape, StackForm, depth_of};
 use mon_base::{List, NoMemory};

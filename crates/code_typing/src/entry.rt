@@ -8,9 +8,9 @@ ghost use Rattle.bytecode_model.specs.Rules.{Entry, entry_locals, locals_fit, th
 ghost use Rattle.bytecode_model.specs.Lending.{type_lent};
 
 use crate::place::PlaceRef;
-use bytecode_model::TypeRef;
+use bytecode_model::{TypeRef, is_static};
 use cert_format::{FrameType, VType};
-use frame_types::{arguments_text, arity, is_maker, is_static, next_type, type_described};
+use frame_types::{arguments_text, arity, is_maker, next_type, type_described};
 use type_lattice::{Indexed, lent_fits};
 
 /// Whether locals that hold nothing are assignable to these.

@@ -1,4 +1,4 @@
--- The words of the command `inline`.
+-- The words of the command `inline`. (docs/COMMANDS.md)
 use Rattle.std.specs.Prelude.{◌≡◌, ◌≢◌, ℕ, List, [], ◌∷◌, codes}
 use Rattle.command_words.specs.declared.inline_words.InlineWords.{InlineWords}
 use Rattle.command_words.specs.declared.inline_words.Weaving.{Weaving}

@@ -1,4 +1,4 @@
--- The words of the command `replay`.
+-- The words of the command `replay`. (docs/COMMANDS.md)
 use Rattle.std.specs.Prelude.{◌≡◌, ◌≢◌, ℕ, List, [], ◌∷◌, codes}
 use Rattle.command_words.specs.declared.replay_words.ReplayWords.{ReplayWords}
 

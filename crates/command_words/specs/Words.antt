@@ -1,4 +1,4 @@
--- The commands and their words.
+-- The commands and their words. (docs/COMMANDS.md)
 use Rattle.std.specs.Prelude.{◌≡◌, ◌≢◌, ℕ, List, [], ◌∷◌, codes}
 use Rattle.std.specs.List.{AllByRecursion}
 use Rattle.command_words.specs.declared.words.CheckWords.{CheckWords}

@@ -1,4 +1,4 @@
--- The automaton of a policy: each list of atoms of a guard becomes a branch, with the guard's updates.
+-- The automaton of a policy: each list of atoms of a guard becomes a branch, with the guard's updates. (docs/POLICIES.md)
 use Rattle.std.specs.Prelude.{ℕ, ℤ, pos, ◌++◌, int_lt, if◌then◌else◌, List, [], ◌∷◌, map}
 use Rattle.std.specs.Int.{w32, int_wrapping_sub, int_wrapping_neg}
 use Rattle.std.specs.List.{flat_map}

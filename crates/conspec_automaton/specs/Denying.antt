@@ -1,4 +1,4 @@
--- Policies that deny calls outright: no variable, and no branch.
+-- Policies that deny calls outright: no variable, and no branch. (docs/FORMS.md)
 use Rattle.std.specs.Prelude.{◌≡◌, ◌&&◌, Bool, true, false, List, []}
 use Rattle.std.specs.List.{AllByRecursion, list_all}
 use Rattle.conspec_tree.specs.declared.types.Phase.{Phase}

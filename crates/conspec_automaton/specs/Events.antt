@@ -1,5 +1,5 @@
 -- The events that a running program can make: a number is passed where a method takes one, and a result is in the range of
--- its type.
+-- its type. (docs/POLICIES.md)
 use Rattle.std.specs.Prelude.{◌≡◌, ◌≢◌, ℕ, ℤ, pos, ◌-ℤ◌, true, Option, Some, slice_get}
 use Rattle.api_listing.specs.declared.events.ApiValue.{ApiValue}
 use Rattle.api_listing.specs.declared.events.ApiValue.TheVariants as api

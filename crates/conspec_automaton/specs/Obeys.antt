@@ -1,4 +1,4 @@
--- What it is for a list of events to obey a policy.
+-- What it is for a list of events to obey a policy. (ConSpec; docs/POLICIES.md)
 use Rattle.std.specs.Prelude.{◌≡◌, ◌⊎◌, Bool, true, false, List, [], ◌∷◌, ◌++◌, filter, Option, Some, option_and_then, IsTrue, IsSome}
 use Rattle.api_listing.specs.declared.events.Event.{Event}
 use Rattle.api_listing.specs.declared.events.Event.TheVariants as events

@@ -1,5 +1,6 @@
 -- The states and events at which it is tried whether the events of one or two clauses race. What a clause does changes only
 -- at its constants, so of all numbers a few are enough: those at a constant and beside it, as far as updates can shift them.
+-- (docs/RACES.md)
 use Rattle.std.specs.Prelude.{ℕ, ◌*◌, ℤ, pos, ◌+ℤ◌, ◌-ℤ◌, ◌==◌, ◌||◌, Bool, true, false, int_lt, if◌then◌else◌, List, [], ◌∷◌, ◌++◌, length, map, filter, Option, Some, None}
 use Rattle.std.specs.Ordering.{int_eq}
 use Rattle.std.specs.List.{enumerate_from, filter_map, flat_map, list_any}

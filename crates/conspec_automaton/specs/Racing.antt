@@ -1,4 +1,4 @@
--- When the events of a policy do not race: calls and ends of calls that another thread's may come between.
+-- When the events of a policy do not race: calls and ends of calls that another thread's may come between. (docs/RACES.md)
 use Rattle.std.specs.Prelude.{◌≡◌, true, false}
 use Rattle.api_listing.specs.declared.events.Event.{Event}
 use Rattle.conspec_automaton.specs.declared.policy.Policy.{Policy}

@@ -1,4 +1,4 @@
--- The states in range, and what an update needs to leave its variable in range.
+-- The states in range, and what an update needs to leave its variable in range. (docs/POLICIES.md)
 use Rattle.std.specs.Prelude.{◌≡◌, ◌≢◌, ◌&&◌, ℤ, pos, ◌+ℤ◌, Bool, true, false, int_le, List, [], ◌∷◌, Some, slice_get, AllPairs, FitsSigned}
 use Rattle.std.specs.Int.{w32}
 use Rattle.std.specs.List.{AllByRecursion, list_all}

@@ -1,5 +1,5 @@
 -- What a policy sees of an event: which method is called or ends, how, and the numbers that are passed or given. It sees no
--- thread and no object.
+-- thread and no object. (docs/POLICIES.md)
 use Rattle.std.specs.Prelude.{ℕ, ℤ, List, [], map, Option, None, option_and_then}
 use Rattle.api_listing.specs.declared.events.Event.{Event}
 use Rattle.api_listing.specs.declared.events.Event.TheVariants as events

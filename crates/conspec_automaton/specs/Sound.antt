@@ -1,4 +1,5 @@
 -- What is true of every automaton that is built: its limits and ranges, and that what its parts name is there, and is a number.
+-- (docs/POLICIES.md)
 use Rattle.std.specs.Prelude.{◌≡◌, ◌≢◌, ℕ, ◌<◌, ◌≤◌, ℤ, pos, ◌≤ℤ◌, List, length, AllPairs}
 use Rattle.std.specs.List.{AllByRecursion}
 use Rattle.conspec_tree.specs.declared.types.Atom.{Atom}

@@ -1,4 +1,4 @@
--- Which clauses are tried with which, in order, at which points, and when the events at a point race.
+-- Which clauses are tried with which, in order, at which points, and when the events at a point race. (docs/RACES.md)
 use Rattle.std.specs.Prelude.{ℕ, ◌*◌, ◌-◌, ◌^◌, Bool, true, false, not, nat_le, if◌then◌else◌, List, [], ◌∷◌, ◌++◌, map, filter, Option, Some, None, is_none}
 use Rattle.std.specs.Cmp.Lexicographic.{pointwise}
 use Rattle.std.specs.Ordering.{int_eq}

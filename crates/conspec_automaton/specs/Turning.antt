@@ -1,10 +1,7 @@
 -- Automata over any states and events: events that may turn, that are never refused, and states that stay in range.
-use Rattle.std.specs.Prelude.{◌≡◌, Bool, [], ◌∷◌, Option, Some, option_and_then, IsTrue, IsSome}
+-- (docs/RACES.md)
+use Rattle.std.specs.Prelude.{◌≡◌, Bool, [], ◌∷◌, Option, Some, IsTrue, IsSome}
 use Rattle.conspec_automaton.specs.Obeys.{after}
-
--- the state after an event, where neither it nor one before it is refused
-abbrev pub step : {S E : Type 0} → (S → E → Option S) → Option S → E → Option S
-step next state event = option_and_then (λ reached. next reached event) state
 
 -- Where d and then c are accepted, c and then d lead to the same end.
 abbrev pub Turns : {S E : Type 0} → (S → E → Option S) → (S → Bool) → E → E → Type 0

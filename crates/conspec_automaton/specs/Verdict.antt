@@ -1,4 +1,5 @@
 -- What is said of a list of events: accepted, stopped at a return that nothing asked about follows, or refused.
+-- (docs/POLICIES.md)
 use Rattle.std.specs.Prelude.{ℕ, ◌+◌, ◌&&◌, not, Bool, true, false, List, [], ◌∷◌, if◌then◌else◌}
 use Rattle.std.specs.List.{list_any}
 use Rattle.std.specs.Option.{option_map_or}

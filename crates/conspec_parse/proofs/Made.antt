@@ -80,10 +80,6 @@ pub answered : {X : Type 0} {read : Judged X} {Is : X → Type 0} (result : Judg
 answered (Ok x) makes e = makes.of x e
 answered (Err fault) makes e = tt
 
--- what is read is what the reading gives
-pub same : {X : Type 0} (read : Judged X) → Makes read (λ x. read ≡ Ok x)
-same read = record { of = λ x e. e }
-
 -- two laws of one reading
 pub together : {X : Type 0} {read : Judged X} {One Other : X → Type 0} → Makes read One → Makes read Other → Makes read (λ x. One x × Other x)
 together a b = record { of = λ x e. (a.of x e, b.of x e) }

@@ -1,4 +1,4 @@
--- Clauses: the events of a method, and what is asked and done there.
+-- Clauses: the events of a method, and what is asked and done there. (docs/POLICIES.md)
 use Rattle.std.specs.Prelude.{is_some, ◌||◌, ◌&&◌, not, ℕ, ℤ, Bool, true, List, [], ◌∷◌, ◌++◌, length, map, drop, codes, nat_lt, Option, Some, None, ok_or, Ok, if◌then◌else◌}
 use Rattle.mon_base.specs.Reading.{◌>>=◌, need}
 use Rattle.api_listing.specs.declared.types.ListedMethod.{ListedMethod}

@@ -1,4 +1,4 @@
--- How many of a text's tokens decide which fault it has.
+-- How many of a text's tokens decide which fault it has. (docs/POLICIES.md)
 use Rattle.std.specs.Prelude.{◌≡◌, ◌≢◌, ◌<◌, ◌≤◌, ℕ, Bool, true, false, List, [], ◌∷◌, ◌++◌, codes, None, Err, if◌then◌else◌}
 use Rattle.std.specs.List.{AllByRecursion}
 use Rattle.api_listing.specs.declared.types.Listing.{Listing}

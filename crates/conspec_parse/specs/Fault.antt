@@ -1,4 +1,4 @@
--- What a text is read as, or why it is no policy.
+-- What a text is read as, or why it is no policy. (docs/POLICIES.md)
 use Rattle.std.specs.Prelude.{Result}
 use Rattle.conspec_parse.specs.declared.fault.PolicyFault.{PolicyFault}
 

@@ -1,4 +1,4 @@
--- The forms in which tokens are read, one after another.
+-- The forms in which tokens are read, one after another. (docs/POLICIES.md)
 use Rattle.std.specs.Prelude.{ℕ, zero, suc, Bool, List, length, drop, nat_le, Option, ok_or, Ok, Err, if◌then◌else◌}
 use Rattle.mon_base.specs.Reading.{◌>>=◌}
 use Rattle.conspec_tokens.specs.declared.token.Token.{Token}

@@ -1,4 +1,4 @@
--- Guards: atoms over the variables, the arguments and the result.
+-- Guards: atoms over the variables, the arguments and the result. (docs/POLICIES.md)
 use Rattle.std.specs.Prelude.{◌||◌, not, ℕ, ◌+◌, ℤ, pos, neg_ℤ, Bool, List, [], ◌∷◌, ◌++◌, length, drop, codes, nat_le, nat_lt, Option, Some, None, ok_or, Ok, if◌then◌else◌}
 use Rattle.mon_base.specs.Reading.{◌>>=◌, need}
 use Rattle.conspec_tokens.specs.declared.token.Token.{Token}

@@ -1,4 +1,4 @@
--- The head of a policy and its state variables.
+-- The head of a policy and its state variables. (docs/POLICIES.md)
 use Rattle.std.specs.Prelude.{ℤ, pos, ◌&&◌, ◌||◌, not, Bool, true, false, List, [], ◌∷◌, ◌++◌, length, drop, codes, nat_le, nat_lt, int_le, Ok, Err, if◌then◌else◌}
 use Rattle.mon_base.specs.Reading.{◌>>=◌, need}
 use Rattle.conspec_tokens.specs.declared.token.Token.{Token}

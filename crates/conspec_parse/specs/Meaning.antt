@@ -1,4 +1,4 @@
--- What a written policy says, and which policy a text spells.
+-- What a written policy says, and which policy a text spells. (docs/POLICIES.md)
 use Rattle.std.specs.Prelude.{◌≡◌, ◌≢◌, ℕ, zero, suc, ◌+◌, ◌≤◌, ℤ, pos, neg_ℤ, ◌≤ℤ◌, Bool, true, false, List, [], ◌∷◌, ◌++◌, length, map, replicate, codes, Option, Some, None, IsTrue, AllPairs}
 use Rattle.std.specs.List.{AllByRecursion, flat_map}
 use Rattle.api_listing.specs.BuiltIn.{is_built_in}

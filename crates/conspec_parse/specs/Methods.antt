@@ -1,4 +1,4 @@
--- The method of a clause: its class and name, its parameters, and which listed method it is.
+-- The method of a clause: its class and name, its parameters, and which listed method it is. (docs/POLICIES.md)
 use Rattle.std.specs.Prelude.{◌||◌, not, ℕ, Bool, true, false, List, [], ◌∷◌, ◌++◌, length, drop, codes, bytes_eq, nat_le, Option, Some, None, ok_or, Ok, Err, if◌then◌else◌}
 use Rattle.std.specs.List.{flat_map}
 use Rattle.mon_base.specs.Reading.{◌>>=◌, need}

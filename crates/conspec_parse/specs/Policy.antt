@@ -1,4 +1,4 @@
--- How a policy is read.
+-- How a policy is read. (docs/POLICIES.md)
 use Rattle.std.specs.Prelude.{ℕ, List, [], Ok}
 use Rattle.mon_base.specs.Reading.{◌>>=◌, need}
 use Rattle.api_listing.specs.declared.types.ListedMethod.{ListedMethod}

@@ -1,4 +1,4 @@
--- What names mean in a clause.
+-- What names mean in a clause. (docs/POLICIES.md)
 use Rattle.std.specs.Prelude.{ℕ, ◌+◌, ◌≤◌, Bool, true, false, List, [], ◌∷◌, length, Option, Some, None, if◌then◌else◌}
 use Rattle.std.specs.Option.{option_or, option_map}
 use Rattle.conspec_tree.specs.declared.types.Base.{Base}

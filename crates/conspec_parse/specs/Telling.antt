@@ -1,4 +1,4 @@
--- What policies that are read tell of their methods.
+-- What policies that are read tell of their methods. (docs/POLICIES.md)
 use Rattle.std.specs.Prelude.{ℕ, List}
 use Rattle.api_listing.specs.declared.types.Listing.{Listing}
 use Rattle.conspec_tree.specs.declared.types.PolicyTree.{PolicyTree}

@@ -1,4 +1,4 @@
--- The types that a policy names, as descriptors say them.
+-- The types that a policy names, as descriptors say them. (docs/POLICIES.md)
 use Rattle.std.specs.Prelude.{◌||◌, not, ℕ, Bool, List, [], ◌∷◌, ◌++◌, drop, codes, Option, Some, None, Ok, if◌then◌else◌}
 use Rattle.mon_base.specs.Reading.{◌>>=◌, need}
 use Rattle.api_listing.specs.Descriptor.{class_spelled}

@@ -1,4 +1,4 @@
--- What a guard does to the variables.
+-- What a guard does to the variables. (docs/POLICIES.md)
 use Rattle.std.specs.Prelude.{◌||◌, ◌&&◌, ◌==◌, not, ℕ, ◌+◌, ℤ, pos, neg_ℤ, Bool, true, false, List, [], ◌∷◌, ◌++◌, codes, bytes_eq, nat_le, nat_lt, int_le, Option, Some, None, ok_or, Ok, if◌then◌else◌}
 use Rattle.mon_base.specs.Reading.{◌>>=◌, need}
 use Rattle.conspec_tokens.specs.declared.token.Token.{Token}

@@ -1,4 +1,4 @@
--- Policies as they are written: the grammar.
+-- Policies as they are written: the grammar. (docs/POLICIES.md)
 use Rattle.std.specs.Prelude.{ℕ, zero, suc, Bool, true, false, List, [], ◌∷◌, ◌++◌, codes, Option, Some, None}
 use Rattle.std.specs.List.{flat_map}
 use Rattle.conspec_tokens.specs.declared.token.Lexeme.{Lexeme}

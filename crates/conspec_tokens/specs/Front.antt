@@ -1,4 +1,4 @@
--- What stands first among tokens.
+-- What stands first among tokens. (docs/POLICIES.md)
 use Rattle.std.specs.Prelude.{is_some, ℕ, Bool, true, false, List, [], ◌∷◌, bytes_eq, Option, Some, None}
 use Rattle.conspec_tokens.specs.declared.token.Lexeme.{Lexeme}
 use Rattle.conspec_tokens.specs.declared.token.Lexeme.TheVariants.{Quoted, Name, Number, End}

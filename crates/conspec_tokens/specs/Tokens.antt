@@ -1,4 +1,4 @@
--- The tokens of a policy's text.
+-- The tokens of a policy's text. (docs/POLICIES.md)
 use Rattle.std.specs.Prelude.{min, ℕ, zero, suc, ◌+◌, ◌-◌, ◌*◌, ◌==◌, ◌||◌, ◌&&◌, Bool, true, false, List, [], ◌∷◌, ◌++◌, length, take, codes, nat_eq, nat_lt, Option, Some, None, if◌then◌else◌}
 use Rattle.std.specs.Option.{option_map_or}
 use Rattle.std.specs.List.{starts_with, prefix_len}

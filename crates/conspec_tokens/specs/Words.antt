@@ -1,4 +1,4 @@
--- The words and signs that the grammar of policies quotes, and the names.
+-- The words and signs that the grammar of policies quotes, and the names. (docs/POLICIES.md)
 use Rattle.std.specs.Prelude.{ℕ, Bool, List, [], ◌∷◌, codes, bytes_eq}
 use Rattle.std.specs.List.{list_any}
 

@@ -1,4 +1,4 @@
--- How many branches guards have, and how long these are.
+-- How many branches guards have, and how long these are. (docs/POLICIES.md)
 use Rattle.std.specs.Prelude.{max, ℕ, ◌+◌, List, [], ◌∷◌, length}
 use Rattle.conspec_tree.specs.declared.types.Atom.{Atom}
 use Rattle.conspec_tree.specs.declared.types.Guard.{Guard}

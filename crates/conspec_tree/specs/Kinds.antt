@@ -1,4 +1,4 @@
--- What is known of kinds and relations.
+-- What is known of kinds and relations. (docs/POLICIES.md)
 use Rattle.std.specs.Prelude.{ℕ, zero, suc, Bool, true, false, Option, Some, None}
 use Rattle.api_listing.specs.declared.descriptor.Element.{Element}
 use Rattle.api_listing.specs.declared.descriptor.Element.TheVariants as elements

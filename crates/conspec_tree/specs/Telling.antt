@@ -1,4 +1,4 @@
--- What the clauses of a policy tell of their methods.
+-- What the clauses of a policy tell of their methods. (docs/POLICIES.md)
 use Rattle.std.specs.Prelude.{◌≡◌, map, option_map, slice_get, Some}
 use Rattle.std.specs.List.{AllByRecursion}
 use Rattle.api_listing.specs.declared.descriptor.MethodType.{MethodType}

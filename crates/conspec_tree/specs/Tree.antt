@@ -1,4 +1,5 @@
 -- What is true of every policy that is read: its limits and ranges, and that what its parts name is there, and can be asked.
+-- (docs/POLICIES.md)
 use Rattle.std.specs.Prelude.{◌≡◌, ◌≢◌, ℕ, ◌+◌, ◌<◌, ◌≤◌, ℤ, pos, neg_ℤ, ◌≤ℤ◌, Bool, true, false, List, [], length, slice_get, Option, Some, None, AllPairs}
 use Rattle.std.specs.List.{AllByRecursion}
 use Rattle.api_listing.specs.declared.types.Listing.{Listing}

@@ -1,4 +1,4 @@
--- Which variables updates are of, and how many range atoms they ask for.
+-- Which variables updates are of, and how many range atoms they ask for. (docs/POLICIES.md)
 use Rattle.std.specs.Prelude.{◌||◌, ◌==◌, ℕ, ◌+◌, pos, Bool, false, List, [], ◌∷◌, if◌then◌else◌}
 use Rattle.std.specs.Ordering.{int_eq}
 use Rattle.conspec_tree.specs.declared.types.Update.{Update}

@@ -1,4 +1,4 @@
--- Variables by their names.
+-- Variables by their names. (docs/POLICIES.md)
 use Rattle.std.specs.Prelude.{ℕ, ◌+◌, ◌||◌, Bool, false, List, [], ◌∷◌, bytes_eq, Option, Some, None, if◌then◌else◌}
 use Rattle.conspec_tree.specs.declared.types.Var.{Var}
 

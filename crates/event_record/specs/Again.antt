@@ -1,4 +1,4 @@
--- What is printed of events is read again: a line, and a whole record.
+-- What is printed of events is read again: a line, and a whole record. (docs/RECORDS.md)
 use Rattle.std.specs.Prelude.{◌≡◌, ℕ, List, [], ◌∷◌, ◌++◌, Ok, Some, slice_get}
 use Rattle.std.specs.List.{AllByRecursion, flat_map, join_with_byte}
 use Rattle.api_listing.specs.Words.{pieces}

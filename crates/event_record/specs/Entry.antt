@@ -1,4 +1,4 @@
--- The lines of a record, each by itself: how its words are read.
+-- The lines of a record, each by itself: how its words are read. (docs/RECORDS.md)
 use Rattle.std.specs.Prelude.{ℕ, ◌-◌, ◌==◌, ◌||◌, ◌&&◌, Bool, true, false, nat_lt, bytes_eq, codes, List, [], ◌∷◌, ◌++◌, length, drop, Option, Some, None, Ok, Err, ok_or, if◌then◌else◌}
 use Rattle.std.specs.Option.{option_map_or}
 use Rattle.mon_base.specs.Reading.{◌>>=◌, need}

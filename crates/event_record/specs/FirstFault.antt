@@ -1,4 +1,4 @@
--- Which texts have the same fault: those that agree up to its line.
+-- Which texts have the same fault: those that agree up to its line. (docs/RECORDS.md)
 use Rattle.std.specs.Prelude.{◌≡◌, ℕ, ◌+◌, ◌≤◌, List, [], ◌∷◌, ◌++◌, length, Err}
 use Rattle.api_listing.specs.Words.{IsLines, pieces}
 use Rattle.api_listing.specs.declared.types.Listing.{Listing}

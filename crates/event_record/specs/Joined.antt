@@ -1,4 +1,4 @@
--- Plain steps of a thread that are joined and not written yet, while a record is written.
+-- Plain steps of a thread that are joined and not written yet, while a record is written. (docs/RECORDS.md)
 use Rattle.std.specs.Prelude.{◌≡◌, ℕ, zero, suc, ◌==◌, ◌++◌, List, [], codes, if◌then◌else◌}
 use Rattle.std.specs.Fmt.{signed_decimal}
 use Rattle.std.specs.List.{flat_map}

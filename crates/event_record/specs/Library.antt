@@ -1,4 +1,4 @@
--- What a listing knows: its classes, and the indices of its methods.
+-- What a listing knows: its classes, and the indices of its methods. (docs/RECORDS.md)
 use Rattle.std.specs.Prelude.{◌≡◌, ℕ, Bool, List, Option, Some, None, if◌then◌else◌}
 use Rattle.std.specs.Option.{option_or}
 use Rattle.std.specs.BTreeMap.{BTreeMap, get}

@@ -1,4 +1,4 @@
--- Values and events as they are printed.
+-- Values and events as they are printed. (docs/RECORDS.md)
 use Rattle.std.specs.Prelude.{◌≡◌, ◌≢◌, ◌<◌, ◌^◌, FitsSigned, ℕ, ◌++◌, decimal, codes, true, false, List, [], ◌∷◌, map, Option, Some, None, slice_get}
 use Rattle.std.specs.Int.{w32}
 use Rattle.std.specs.List.{AllByRecursion, flat_map}

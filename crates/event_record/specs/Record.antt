@@ -1,4 +1,4 @@
--- What a record is, which record a text spells, and how a text is read.
+-- What a record is, which record a text spells, and how a text is read. (docs/RECORDS.md)
 use Rattle.std.specs.Prelude.{ℕ, ◌+◌, ◌&&◌, nat_lt, Bool, true, false, List, [], ◌∷◌, ◌++◌, length, replicate, Result, Ok, Err, if◌then◌else◌}
 use Rattle.mon_base.specs.Reading.{◌>>=◌}
 use Rattle.api_listing.specs.Fault.{Read}

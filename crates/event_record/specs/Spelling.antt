@@ -1,4 +1,4 @@
--- Which record a text spells: its lines, as people read them.
+-- Which record a text spells: its lines, as people read them. (docs/RECORDS.md)
 use Rattle.std.specs.Prelude.{◌≡◌, ◌≢◌, ℕ, ℤ, ◌<◌, ◌≤◌, ◌^◌, FitsSigned, List, [], ◌∷◌, ◌++◌, length, replicate, decimal, codes, slice_get, Some, IsTrue}
 use Rattle.std.specs.Fmt.{signed_decimal}
 use Rattle.std.specs.Int.{w32}

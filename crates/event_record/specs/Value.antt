@@ -1,4 +1,4 @@
--- Values as words: how they are spelled, and how they are read.
+-- Values as words: how they are spelled, and how they are read. (docs/RECORDS.md)
 use Rattle.std.specs.Prelude.{ℕ, ◌+◌, ◌-◌, ◌*◌, ◌/◌, ◌%◌, ◌==◌, ◌&&◌, Bool, nat_eq, nat_le, nat_lt, bytes_eq, codes, List, [], ◌∷◌, ◌++◌, length, take, drop, decimal, Option, Some, None, Ok, Err, ok_or, if◌then◌else◌}
 use Rattle.std.specs.Fmt.{signed_decimal}
 use Rattle.std.specs.List.{flat_map, starts_with}

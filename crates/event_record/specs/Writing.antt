@@ -1,4 +1,4 @@
--- How a run is written: plain steps of one thread are joined up to the next event, answer or change of thread.
+-- How a run is written: plain steps of one thread are joined up to the next event, answer or change of thread. (docs/RECORDS.md)
 use Rattle.std.specs.Prelude.{◌≡◌, ℕ, suc, ◌≤◌, ◌<◌, ◌^◌, ◌==◌, List, [], ◌∷◌, ◌++◌, length, map, codes, decimal, Option, Some, None, Ok, IfSome, if◌then◌else◌}
 use Rattle.std.specs.List.{AllByRecursion, filter_map, flat_map}
 use Rattle.api_listing.specs.declared.events.ApiAnswer.{ApiAnswer}

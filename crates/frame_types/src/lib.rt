@@ -22,7 +22,7 @@ pub use described::{
 pub use kinds::{is_array_type, is_made, is_number, is_reference, is_this, of_kind};
 pub use lists::{moved_from, put_back, split_top, type_at};
 pub use locals::{count_after, stores, uses_local};
-pub use methods::{has_receiver, is_maker, is_static};
+pub use methods::{has_receiver, is_maker};
 pub use place::{InsnRef, calls_maker, class_referred, desc_referred};
 pub use targets::{array_named, class_of, constant_type, read_type};
 pub use thrown::{

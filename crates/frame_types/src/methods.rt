@@ -1,18 +1,10 @@
 //! What a method and a call tell of the object that they are called on.
 
 ghost use Rattle.std.specs.Prelude.{◌≡◌};
-ghost use Rattle.bytecode_model.specs.Heads.{is_static};
 ghost use Rattle.bytecode_model.specs.Place.{has_receiver, is_maker};
 
 use bytecode_model::Method;
 use insn_codec::How;
-
-/// Whether a method with these flags has no object.
-pub fn is_static(flags: u16) -> bool
-    ensures { result ≡ is_static flags }
-{
-    flags & 8 != 0
-}
 
 /// Whether the method makes an object.
 pub fn is_maker(method: &Method) -> bool

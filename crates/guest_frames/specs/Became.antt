@@ -1,4 +1,4 @@
--- How a call tells whether it did what a definition says.
+-- How a call tells whether it did what a definition says. (docs/MACHINE.md)
 use Rattle.std.specs.Prelude.{◌≡◌, Bool, true, false, Option, Some, None}
 
 -- It did, and this is what it left; or the definition gives nothing, and all is as it was.

@@ -1,4 +1,4 @@
--- Numbers that are made of operands, and of a local.
+-- Numbers that are made of operands, and of a local. (docs/MACHINE.md)
 use Rattle.std.specs.Prelude.{ℕ, ℤ, List, ◌∷◌, drop, Option, option_and_then, option_map}
 use Rattle.insn_codec.specs.declared.shape.Kind.TheVariants as kinds
 use Rattle.insn_codec.specs.declared.shape.One.{One}

@@ -1,4 +1,4 @@
--- What fits on an operand stack.
+-- What fits on an operand stack. (docs/MACHINE.md)
 use Rattle.std.specs.Prelude.{nat_lt, if◌then◌else◌, List, length, Option, Some, None, option_and_then, option_map}
 use Rattle.insn_codec.specs.Effect.{Moved}
 use Rattle.guest_heap.specs.declared.value.Value.{Value}

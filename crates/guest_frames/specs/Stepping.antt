@@ -1,4 +1,4 @@
--- Frames that go on, and the step of an instruction that changes its frame alone.
+-- Frames that go on, and the step of an instruction that changes its frame alone. (docs/MACHINE.md)
 use Rattle.std.specs.Prelude.{ℕ, ◌+◌, nat_lt, if◌then◌else◌, List, length, Option, Some, None, option_and_then}
 use Rattle.insn_codec.specs.declared.insn.Insn.{Insn}
 use Rattle.insn_codec.specs.Control.{next_of}

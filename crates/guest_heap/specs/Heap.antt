@@ -1,4 +1,4 @@
--- The fields and items of objects.
+-- The fields and items of objects. (docs/MACHINE.md)
 use Rattle.std.specs.Prelude.{ℕ, ◌<◌, List, [], length, slice_get, slice_set}
 use Rattle.std.specs.Option.{option_map_or}
 use Rattle.guest_heap.specs.declared.value.Value.{Value}

@@ -1,4 +1,4 @@
--- What becomes of frames of which the top one is lent.
+-- What becomes of frames of which the top one is lent. (docs/MACHINE.md)
 use Rattle.std.specs.Prelude.{List, slice_set}
 use Rattle.std.specs.Borrow.{Fml, Lends, MutBor}
 use Rattle.guest_heap.specs.declared.frame.Frame.{Frame}

@@ -1,4 +1,4 @@
--- What holds of every run.
+-- What holds of every run. (docs/MACHINE.md)
 use Rattle.std.specs.Prelude.{◌≡◌, Bool, IsTrue, List, [], ◌++◌, Some}
 use Rattle.std.specs.Option.{option_to_list}
 use Rattle.api_listing.specs.declared.events.Event.{Event}

@@ -1,4 +1,4 @@
--- Which numbers the library may give, and what it may throw.
+-- Which numbers the library may give, and what it may throw. (docs/MACHINE.md)
 use Rattle.std.specs.Prelude.{ℕ, ℤ, pos, ◌-ℤ◌, ◌==◌, ◌&&◌, Bool, false, int_le, List, Option, Some, None}
 use Rattle.api_listing.specs.declared.descriptor.Element.{Element}
 use Rattle.api_listing.specs.declared.descriptor.Element.TheVariants as elements

@@ -1,4 +1,4 @@
--- What calls take from the operands.
+-- What calls take from the operands. (docs/MACHINE.md)
 use Rattle.std.specs.Prelude.{ℕ, ◌+◌, Bool, true, false, nat_le, if◌then◌else◌, List, [], length, take, drop, reverse, Option, Some, None, Ok, Err, option_map, slice_get}
 use Rattle.std.specs.Option.{option_map_or}
 use Rattle.api_listing.specs.declared.descriptor.MethodType.{MethodType}

@@ -1,4 +1,4 @@
--- What a step changes, and what threads do that go on, throw, or end.
+-- What a step changes, and what threads do that go on, throw, or end. (docs/MACHINE.md)
 use Rattle.std.specs.Prelude.{ℕ, ℤ, ◌==◌, ◌+◌, ◌-◌, if◌then◌else◌, List, [], ◌∷◌, ◌++◌, length, replicate, slice_set, Option, Some, None, option_map}
 use Rattle.std.specs.List.{flat_map}
 use Rattle.std.specs.Option.{option_map_or, option_to_list}

@@ -1,4 +1,4 @@
--- The classes of what the machine itself throws.
+-- The classes of what the machine itself throws. (docs/MACHINE.md)
 use Rattle.bytecode_model.specs.SearchOrder.{Name}
 use Rattle.guest_model.specs.Parts.{bad_monitor, null_pointer}
 use Rattle.guest_model.specs.Calling.{second_start}

@@ -1,4 +1,4 @@
--- What a program does that begins with a call of the library, where no class has an initialiser.
+-- What a program does that begins with a call of the library, where no class has an initialiser. (docs/MACHINE.md)
 use Rattle.std.specs.Prelude.{◌≡◌, ℕ, List, [], ◌∷◌, map, Option, Some, None, slice_get, option_map, true}
 use Rattle.api_listing.specs.declared.events.Event.TheVariants as events
 use Rattle.bytecode_model.specs.declared.program.Program.{Program}

@@ -1,4 +1,4 @@
--- The numbers that the library sees are of 32 bits, and those that it returns are in the range of their type.
+-- The numbers that the library sees are of 32 bits, and those that it returns are in the range of their type. (docs/MACHINE.md)
 use Rattle.std.specs.Prelude.{◌≡◌, ℤ, ◌==◌, ◌&&◌, Bool, true, false, IsTrue, List, length, Option, Some, None, slice_get, IsSomeAnd, FitsSigned}
 use Rattle.std.specs.Int.{w32}
 use Rattle.std.specs.List.{AllByRecursion}

@@ -1,4 +1,4 @@
--- What may be there, one after the other.
+-- What may be there, one after the other. (docs/MACHINE.md)
 use Rattle.std.specs.Prelude.{Option, option_and_then}
 
 -- the second with what the first gives, if it gives anything

@@ -1,4 +1,4 @@
--- What a step is made of: threads that go on, what instructions do to their frame, name, return and throw.
+-- What a step is made of: threads that go on, what instructions do to their frame, name, return and throw. (docs/MACHINE.md)
 use Rattle.std.specs.Prelude.{ℕ, ℤ, Bool, false, codes, if◌then◌else◌, List, [], ◌∷◌, length, Option, Some, None, option_map, option_and_then, slice_get}
 use Rattle.std.specs.Option.{option_map_or}
 use Rattle.api_listing.specs.BuiltIn.{method_rows, is_row}

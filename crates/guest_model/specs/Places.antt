@@ -1,4 +1,4 @@
--- Where a frame stands in a program.
+-- Where a frame stands in a program. (docs/MACHINE.md)
 use Rattle.std.specs.Prelude.{ℕ, bytes_eq, List, Option, option_map, option_and_then, slice_get}
 use Rattle.std.specs.List.{position_from}
 use Rattle.api_listing.specs.declared.types.ListedClass.{ListedClass}

@@ -1,4 +1,4 @@
--- What is known of a program that is ready to run.
+-- What is known of a program that is ready to run. (docs/MACHINE.md)
 use Rattle.bytecode_model.specs.declared.program.Program.{Program}
 use Rattle.bytecode_model.specs.Order.{IsInOrder}
 use Rattle.bytecode_model.specs.Sound.{IsSound}

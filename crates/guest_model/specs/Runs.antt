@@ -1,4 +1,4 @@
--- The runs of a program: a step that is not enabled changes nothing and lets the library see nothing.
+-- The runs of a program: a step that is not enabled changes nothing and lets the library see nothing. (docs/MACHINE.md)
 use Rattle.std.specs.Prelude.{ℕ, List, [], ◌∷◌, ◌++◌, Option, None, option_map, codes, length, map, take, ◌-◌}
 use Rattle.std.specs.List.{filter_map, enumerate_from}
 use Rattle.std.specs.Option.{option_map_or, option_to_list}

@@ -1,4 +1,4 @@
--- Sets of places that control does not leave, and what the library can see of a program that stays in one.
+-- Sets of places that control does not leave, and what the library can see of a program that stays in one. (docs/MACHINE.md)
 use Rattle.std.specs.Prelude.{◌≡◌, ℕ, ◌≤◌, ◌<◌, IsTrue, List, length, Contains, Some, Bool}
 use Rattle.std.specs.List.{AllByRecursion}
 use Rattle.insn_codec.specs.declared.insn.Insn.{Insn}

@@ -1,4 +1,4 @@
--- What a step leaves as it was.
+-- What a step leaves as it was. (docs/MACHINE.md)
 use Rattle.std.specs.Prelude.{◌≡◌, ◌≢◌, ℕ, ◌<◌, length, slice_get, Option, Some}
 use Rattle.api_listing.specs.declared.events.Event.{Event}
 use Rattle.bytecode_model.specs.declared.program.Program.{Program}

@@ -1,4 +1,4 @@
--- What is asked of a machine before a step is made, and that it is what the rules say.
+-- What is asked of a machine before a step is made, and that it is what the rules say. (docs/MACHINE.md)
 use Rattle.std.specs.Prelude.{◌≡◌, ◌↔◌, ℕ, ◌&&◌, Bool, true, false, not, List, slice_get, is_some}
 use Rattle.std.specs.Option.{option_map_or}
 use Rattle.api_listing.specs.declared.events.ApiAnswer.{ApiAnswer}

@@ -1,4 +1,4 @@
--- What a built-in method does on an object.
+-- What a built-in method does on an object. (docs/MACHINE.md)
 use Rattle.std.specs.Prelude.{[], ◌∷◌, Option, None, pos}
 use Rattle.insn_codec.specs.declared.shape.How.{How}
 use Rattle.bytecode_model.specs.declared.program.Program.{Program}

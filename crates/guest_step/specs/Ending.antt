@@ -1,4 +1,4 @@
--- How a run ended, by the rules alone: the program was stopped, each thread has ended, or none can make a step.
+-- How a run ended, by the rules alone: the program was stopped, each thread has ended, or none can make a step. (docs/MACHINE.md)
 use Rattle.std.specs.Prelude.{◌≡◌, ◌↔◌, ℕ, ◌+◌, ◌||◌, Bool, false, not, if◌then◌else◌, List, [], ◌∷◌, slice_get, Option, Some, None, is_some}
 use Rattle.std.specs.List.{list_all}
 use Rattle.std.specs.Option.{option_map_or}

@@ -1,4 +1,4 @@
--- Which answers fit a result that is a class or an array.
+-- Which answers fit a result that is a class or an array. (docs/MACHINE.md)
 use Rattle.std.specs.Prelude.{ℕ, ◌&&◌, ◌||◌, Bool, true, false, nat_le, List, length, Option, option_map, slice_get}
 use Rattle.std.specs.Option.{option_map_or}
 use Rattle.api_listing.specs.declared.events.ApiAnswer.{ApiAnswer}

@@ -1,4 +1,4 @@
--- What an instruction that works on the heap did in its frame.
+-- What an instruction that works on the heap did in its frame. (docs/MACHINE.md)
 use Rattle.std.specs.Prelude.{◌≡◌, ⊤, ℕ, List, Option, Some, None, Result, Ok, Err, option_map}
 use Rattle.bytecode_model.specs.SearchOrder.{Name}
 use Rattle.mon_base.specs.declared.memory.NoMemory.{NoMemory}

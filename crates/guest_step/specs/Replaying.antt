@@ -1,4 +1,4 @@
--- Making the steps of a list, one after the other.
+-- Making the steps of a list, one after the other. (docs/MACHINE.md)
 use Rattle.std.specs.Prelude.{◌≡◌, ℕ, ◌+◌, List, [], ◌∷◌, ◌++◌, length, None, Result, Ok, Err, IsOk, IsSomeAnd}
 use Rattle.std.specs.Option.{option_map_or, option_to_list}
 use Rattle.mon_base.specs.Reading.{◌>>=◌}

@@ -1,4 +1,4 @@
--- Methods that make a class ready.
+-- Methods that make a class ready. (docs/MACHINE.md)
 use Rattle.std.specs.Prelude.{◌&&◌, Bool, bytes_eq}
 use Rattle.bytecode_model.specs.declared.program.Method.{Method}
 use Rattle.bytecode_model.specs.Heads.{initialiser, takes_nothing}

@@ -1,4 +1,4 @@
--- What a thread does in its turn, in parts.
+-- What a thread does in its turn, in parts. (docs/MACHINE.md)
 use Rattle.std.specs.Prelude.{List, [], ◌∷◌, Option, None, Result, Ok, Err, option_map}
 use Rattle.api_listing.specs.declared.events.Event.{Event}
 use Rattle.insn_codec.specs.declared.insn.Insn.{Insn}

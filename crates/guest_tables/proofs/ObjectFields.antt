@@ -13,7 +13,7 @@ use Rattle.bytecode_model.specs.Heads.{desc_of}
 use Rattle.bytecode_model.proofs.Lists.{some_is}
 use Rattle.guest_heap.specs.declared.value.Value.{Value}
 use Rattle.guest_model.specs.Layout.{class_given, fields_of, fields_up, first_value, is_in_objects, own_fields}
-use Rattle.guest_tables.specs.Layout.{begins_of, counts_from, counts_of, own_count}
+use Rattle.guest_tables.specs.Layout.{begins_of, counts_from, own_count}
 
 -- ---- upwards
 
@@ -78,19 +78,6 @@ pub begin_is : (program : Program) (begins : List ℕ) (k b : ℕ) (class : Link
 begin_is program begins k b class is at e =
     some_is _ _ (e ∙ ap (λ bs. slice_get bs k) is ∙ slice_get-map (λ (c : LinkedClass). length (fields_of program c.parent)) program.classes k
     ∙ ap (option_map (λ (c : LinkedClass). length (fields_of program c.parent))) (sym at))
-
-pub counts_are : (program : Program) (counts : List (List ℕ)) (k : ℕ) (row : List ℕ) (class : LinkedClass) → counts ≡ counts_of program → Some class ≡ slice_get program.classes k
-    → Some row ≡ slice_get counts k → row ≡ counts_from 0 class.file.fields
-counts_are program counts k row class is at e =
-    some_is _ _ (e ∙ ap (λ bs. slice_get bs k) is ∙ slice_get-map (λ (c : LinkedClass). counts_from 0 c.file.fields) program.classes k
-    ∙ ap (option_map (λ (c : LinkedClass). counts_from 0 c.file.fields)) (sym at))
-
--- where a table has nothing there is no class
-pub no_class : {A B C : Type 0} (table : List B) (f : A → B) (g : A → C) (xs : List A) (k : ℕ) → table ≡ map f xs → None ≡ slice_get table k → None ≡ option_map g (slice_get xs k)
-no_class table f g xs k is e = by (slice_get xs k) (e ∙ ap (λ t. slice_get t k) is ∙ slice_get-map f xs k) where
-  by : (o : Option _) → None ≡ option_map f o → None ≡ option_map g o
-  by None e = refl
-  by (Some x) e = absurd cc
 
 -- ---- the own fields of a class, from the last on
 

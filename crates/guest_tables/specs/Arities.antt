@@ -1,4 +1,4 @@
--- How many arguments methods take.
+-- How many arguments methods take. (docs/MACHINE.md)
 use Rattle.std.specs.Prelude.{ℕ, List, map}
 use Rattle.bytecode_model.specs.declared.program.LinkedClass.{LinkedClass}
 use Rattle.bytecode_model.specs.declared.program.Method.{Method}

@@ -1,4 +1,4 @@
--- Where the fields of objects are.
+-- Where the fields of objects are. (docs/MACHINE.md)
 use Rattle.std.specs.Prelude.{ℕ, ◌+◌, if◌then◌else◌, List, [], ◌∷◌, length, map, filter}
 use Rattle.class_codec.specs.declared.tree.ClassFile.{ClassFile}
 use Rattle.class_codec.specs.declared.tree.Member.{Member}

@@ -1,4 +1,4 @@
--- What a listing tells that is asked at each call of the library and each of its answers.
+-- What a listing tells that is asked at each call of the library and each of its answers. (docs/MACHINE.md)
 use Rattle.std.specs.Prelude.{ℕ, ◌&&◌, Bool, not, List, map}
 use Rattle.api_listing.specs.declared.types.ListedClass.{ListedClass}
 use Rattle.api_listing.specs.declared.types.ListedMethod.{ListedMethod}

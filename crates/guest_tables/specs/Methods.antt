@@ -1,4 +1,4 @@
--- Methods by their names and descriptors.
+-- Methods by their names and descriptors. (docs/MACHINE.md)
 use Rattle.std.specs.Prelude.{◌≡◌, ℕ, ◌&&◌, bytes_eq, List, [], ◌∷◌, Option, option_and_then, Vec}
 use Rattle.std.specs.List.{position_from}
 use Rattle.std.specs.BTreeMap.{BTreeMap}

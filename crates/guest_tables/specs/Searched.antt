@@ -1,4 +1,5 @@
--- In which classes the members of each class are looked for, by the places of these classes. (The JVM specification, section 5.4.3.)
+-- In which classes the members of each class are looked for, by the places of these classes. (The JVM specification, section 5.4.3.).
+-- (docs/MACHINE.md)
 use Rattle.std.specs.Prelude.{◌≡◌, ℕ, Bool, List, [], ◌∷◌, map, filter_map, Some}
 use Rattle.api_listing.specs.declared.types.ListedClass.{ListedClass}
 use Rattle.bytecode_model.specs.declared.program.Program.{Program}

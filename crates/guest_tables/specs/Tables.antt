@@ -1,4 +1,4 @@
--- Programs that are ready to run, with the tables that are kept beside them.
+-- Programs that are ready to run, with the tables that are kept beside them. (docs/MACHINE.md)
 use Rattle.std.specs.Prelude.{◌≡◌}
 use Rattle.bytecode_model.specs.declared.program.Program.{Program}
 use Rattle.guest_tables.specs.declared.tables.Tables.{Tables}

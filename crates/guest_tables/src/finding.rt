@@ -15,11 +15,8 @@ ghost use Rattle.guest_model.specs.Finding.{
 };
 
 use crate::guest::Guest;
-use bytecode_model::{Method, has_flag, is_text};
+use bytecode_model::{Method, is_static, is_text};
 use insn_codec::How;
-
-/// The `static` flag of methods.
-const STATIC: u16 = 8;
 
 /// That of the nearest given class that declares it, from this one upwards, by the indices of its class and of it there.
 pub fn nearest_given(guest: &Guest, name: &[u8], desc: &[u8], class: &[u8]) -> Option<(u32, u32)>
@@ -42,7 +39,7 @@ fn is_run_by_objects(guest: &Guest, to: (u32, u32)) -> bool
     ensures { result ≡ is_run_by_objects guest.now to }
 {
     match guest.method(to.0, to.1) {
-        Some(method) => !has_flag(method.flags, STATIC) && !method.insns.is_empty(),
+        Some(method) => !is_static(method.flags) && !method.insns.is_empty(),
         None => false,
     }
 }

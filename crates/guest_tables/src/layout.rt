@@ -6,15 +6,12 @@ ghost use Rattle.bytecode_model.specs.Heads.{desc_of};
 ghost use Rattle.guest_model.specs.Layout.{fields_of, first_value, is_in_objects, new_of, own_fields};
 
 use crate::guest::Guest;
-use bytecode_model::{has_flag, text_at};
+use bytecode_model::{is_static, text_at};
 use class_codec::{ClassFile, Member};
 use guest_heap::{Object, Value};
 use guest_model::first_value;
 use mon_base::{Bytes, List, NoMemory};
 use std::alloc::Global;
-
-/// The `static` flag of fields.
-const STATIC: u16 = 8;
 
 /// A new object of the class, not made yet.
 pub fn new_of(alloc: Global, guest: &Guest, name: &Bytes) -> Result<Object, NoMemory>
@@ -82,5 +79,5 @@ fn push_member(out: &mut Vec<Value>, file: &ClassFile, member: &Member) -> Resul
 pub fn is_in_objects(member: &Member) -> bool
     ensures { result ≡ is_in_objects member.now }
 {
-    !has_flag(member.flags, STATIC)
+    !is_static(member.flags)
 }

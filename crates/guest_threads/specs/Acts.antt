@@ -1,4 +1,4 @@
--- What a thread did that is taken out of the machine's list, beside what the machine's definition says.
+-- What a thread did that is taken out of the machine's list, beside what the machine's definition says. (docs/MACHINE.md)
 use Rattle.std.specs.Prelude.{◌≡◌, ⊤, ℕ, List, [], ◌∷◌, ◌++◌, Option, Some, None, Result, Ok, Err, IsSomeAnd, drop, option_and_then, option_map, slice_get}
 use Rattle.std.specs.Option.{option_map_or, option_or, option_to_list}
 use Rattle.api_listing.specs.declared.events.Event.{Event}

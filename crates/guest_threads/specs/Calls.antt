@@ -1,4 +1,4 @@
--- What a call passes, as the code holds it, beside what the machine's definition says.
+-- What a call passes, as the code holds it, beside what the machine's definition says. (docs/MACHINE.md)
 use Rattle.std.specs.Prelude.{◌≡◌, ℕ, List, [], ◌∷◌, ◌++◌, drop, Option, None, IfSome, option_map}
 use Rattle.guest_heap.specs.declared.frame.Frame.{Frame}
 use Rattle.guest_heap.specs.declared.thread.Thread.{Thread}

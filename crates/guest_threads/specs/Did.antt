@@ -1,4 +1,4 @@
--- What a call did, beside what the machine's definition says.
+-- What a call did, beside what the machine's definition says. (docs/MACHINE.md)
 use Rattle.std.specs.Prelude.{◌≡◌, Option, Some, None, Result, Ok, Err}
 use Rattle.api_listing.specs.declared.events.Event.{Event}
 use Rattle.guest_model.specs.declared.machine.Machine.{Machine}

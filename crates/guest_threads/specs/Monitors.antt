@@ -1,4 +1,4 @@
--- Monitors, by the place of the first of a value.
+-- Monitors, by the place of the first of a value. (docs/MACHINE.md)
 use Rattle.std.specs.Prelude.{ℕ, ◌+◌, ◌-◌, ◌==◌, if◌then◌else◌, List, ◌++◌, take, drop, slice_set, Option, Some, None}
 use Rattle.guest_heap.specs.declared.object.Monitor.{Monitor}
 use Rattle.guest_model.specs.Monitors.{held_once_more}

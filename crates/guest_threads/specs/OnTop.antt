@@ -1,4 +1,4 @@
--- What is done with the topmost operand: it is thrown, or its monitor is entered or left.
+-- What is done with the topmost operand: it is thrown, or its monitor is entered or left. (docs/MACHINE.md)
 use Rattle.std.specs.Prelude.{List, ◌∷◌, drop, Option, None, option_and_then, option_map}
 use Rattle.bytecode_model.specs.declared.program.Program.{Program}
 use Rattle.guest_frames.specs.Stepping.{after}

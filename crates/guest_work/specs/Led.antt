@@ -1,4 +1,4 @@
--- Where a reference leads that is to be an array.
+-- Where a reference leads that is to be an array. (docs/MACHINE.md)
 use Rattle.std.specs.Prelude.{◌≡◌, List, slice_get, Some, None, Err}
 use Rattle.guest_heap.specs.declared.object.Object.{Object}
 use Rattle.guest_heap.specs.declared.object.Object.TheVariants as objects

@@ -1,4 +1,4 @@
--- What static fields hold at the start, in parts.
+-- What static fields hold at the start, in parts. (docs/MACHINE.md)
 use Rattle.std.specs.Prelude.{ℕ, List, map, slice_get, Option, option_map, option_and_then}
 use Rattle.std.specs.List.{filter_map}
 use Rattle.class_codec.specs.declared.tree.ClassFile.{ClassFile}

@@ -1,4 +1,5 @@
 -- What an instruction did to the heap, the static fields and the operands, beside what the machine's definition says.
+-- (docs/MACHINE.md)
 use Rattle.std.specs.Prelude.{◌≡◌, ℕ, nat_lt, if◌then◌else◌, List, ◌∷◌, length, Option, Some, None, Result, Ok, Err}
 use Rattle.guest_heap.specs.declared.object.Monitor.{Monitor}
 use Rattle.guest_heap.specs.declared.object.Object.{Object}

@@ -6,7 +6,7 @@ ghost use Rattle.bytecode_model.specs.Operands.{place_of};
 ghost use Rattle.guest_model.specs.Layout.{constant_bytes, starting_value, statics_of, two_bytes, value_of_constant, value_told};
 ghost use Rattle.guest_work.specs.Statics.{class_statics, constant_told, text_value};
 
-use bytecode_model::{Program, has_flag, text_at};
+use bytecode_model::{Program, is_static, text_at};
 use class_codec::{Attr, ClassFile, Const, Member, utf8_at};
 use guest_heap::Value;
 use guest_model::{first_value, is_of_references};
@@ -43,7 +43,7 @@ fn class_statics(
 fn starting_value(program: &Program, file: &ClassFile, field: &Member) -> Result<Value, NoMemory>
     ensures { IfOk result (λ value. value ≡ starting_value program.now file.now field.now) }
 {
-    if has_flag(field.flags, 8) {
+    if is_static(field.flags) {
         if let Some(value) = value_told(program, file, field)? {
             return Ok(value);
         }

@@ -1,19 +1,14 @@
 -- What a policy that was read tells of the methods of its listing.
-use Rattle.std.proofs.Common.{◌≡◌, ℕ, suc, ℤ, List, [], ◌∷◌, length, map, filter, Option, Some, None, refl, sym, ap, ◌∙◌}
-use Rattle.std.specs.Prelude.{is_some, option_map, slice_get}
-use Rattle.std.specs.List.{AllByRecursion, filter_map}
-use Rattle.api_listing.specs.declared.declaration.Declaration.{Declaration}
-use Rattle.api_listing.specs.declared.declaration.Declaration.TheVariants as declared
+use Rattle.std.proofs.Common.{◌≡◌, ℕ, suc, ℤ, List, [], ◌∷◌, length, map, Option, Some, None, refl, sym, ap, ◌∙◌}
+use Rattle.std.specs.Prelude.{is_some, option_map}
+use Rattle.std.specs.List.{AllByRecursion}
 use Rattle.api_listing.specs.declared.descriptor.FieldType.{FieldType}
 use Rattle.api_listing.specs.declared.descriptor.MethodType.{MethodType}
-use Rattle.api_listing.specs.declared.types.ListedMethod.{ListedMethod}
 use Rattle.api_listing.specs.declared.types.Listing.{Listing}
-use Rattle.api_listing.specs.Descriptor.{SpellsDescriptor}
-use Rattle.api_listing.specs.Lines.{says_something}
-use Rattle.api_listing.specs.Listing.{AreSaid, SpellsListing, method_declared}
+use Rattle.api_listing.specs.Listing.{SpellsListing}
 use Rattle.api_listing.proofs.DescriptorLaws.{method_again}
 use Rattle.block_logic.specs.Obeying.{FitsListing}
-use Rattle.bytecode_model.proofs.Lists.{all_get}
+use Rattle.bytecode_model.proofs.ListedMethods.{method_spelled}
 use Rattle.conspec_automaton.specs.Building.{built, clause_built}
 use Rattle.conspec_parse.specs.Telling.{KindsAreTold, ResultsAreTold}
 use Rattle.conspec_tree.specs.declared.types.PolicyTree.{PolicyTree}
@@ -22,25 +17,6 @@ use Rattle.conspec_tree.specs.Kinds.{kind_of}
 use Rattle.conspec_tree.specs.Telling.{ClauseTellsKinds, ClauseTellsResult}
 use Rattle.guest_model.specs.Calls.{types_of, types_read}
 use Rattle.input_files.specs.Named.{IsListed, IsPolicyOf}
-
--- ---- the methods of a listing
-
--- The descriptor of the method spells types.
-abbrev IsSpelled : ListedMethod → Type 0
-IsSpelled m = (types : MethodType) × SpellsDescriptor m.id.desc types
-
-methods_said : (lines : List (List ℕ)) (said : List Declaration) → AreSaid lines said → AllByRecursion IsSpelled (filter_map method_declared said)
-methods_said [] [] are = tt
-methods_said [] (d ∷ said) are = absurd are
-methods_said (line ∷ lines) [] are = absurd are
-methods_said (line ∷ lines) (declared.Class c ∷ said) are = methods_said lines said are.1
-methods_said (line ∷ lines) (declared.Method m types ∷ said) are = ((types, are.0.1), methods_said lines said are.1)
-methods_said (line ∷ lines) (declared.Field id class ∷ said) are = methods_said lines said are.1
-
-listed_spelled : (text : List ℕ) (listing : Listing) (index : ℕ) (m : ListedMethod) → SpellsListing text listing → slice_get listing.methods index ≡ Some m → IsSpelled m
-listed_spelled text listing index m spells there =
-    let all = methods_said (filter says_something spells.lines) spells.said spells.spelled in
-    all_get IsSpelled (filter_map method_declared spells.said) index m all (ap (λ (l : Listing). slice_get l.methods index) (sym spells.listed) ∙ there)
 
 -- ---- clauses
 
@@ -55,7 +31,7 @@ kind_given (Some t) = refl
 module _ (text : List ℕ) (listing : Listing) (spells : SpellsListing text listing) (maxint : ℤ) where
   clause_fits : (clause : TreeClause) → ClauseTellsKinds listing clause → ClauseTellsResult listing clause → FitsListing listing (clause_built maxint clause)
   clause_fits clause kinds results method there =
-      let spelled = listed_spelled text listing clause.method method spells there in
+      let spelled = method_spelled text listing clause.method method spells there in
       let types : types_of method.id.desc ≡ spelled.0 = ap types_read (method_again method.id.desc spelled.0 spelled.1) in (
         ap length (kinds method spelled.0 there spelled.1) ∙ kinds_many spelled.0.arguments ∙ sym (ap (λ (t : MethodType). length t.arguments) types),
         ap is_some (results method spelled.0 there spelled.1) ∙ kind_given spelled.0.result ∙ sym (ap (λ (t : MethodType). is_some t.result) types),

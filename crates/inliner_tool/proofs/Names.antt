@@ -12,7 +12,8 @@ use Rattle.cert_format.specs.declared.typing.VType.{VType}
 use Rattle.cert_format.specs.declared.typing.VType.TheVariants as types
 use Rattle.cert_format.specs.Fits.{FitNames}
 use Rattle.cert_format.specs.Names.{Name, class_names, frame_names, method_names, name_index, names_of, type_names, typing_names, with_name, with_names}
-use Rattle.cert_format.specs.Spelling.{spell_certificate, spell_classes, spell_head, spell_name, spell_names, u2, u4}
+use Rattle.mon_base.specs.Widths.{u2, u4}
+use Rattle.cert_format.specs.Spelling.{spell_certificate, spell_classes, spell_head, spell_name, spell_names}
 use Rattle.output_files.specs.Outputs.{are_short, is_frame_short, is_type_short, is_written}
 
 -- ---- names that are short

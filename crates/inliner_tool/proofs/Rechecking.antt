@@ -164,12 +164,7 @@ module _ (law : LinkedAreNamed) (old new : Files) (count : Count) (named : Named
 
   linked_so : IsLinkedOf Inlined inlined.planned.given.client.listing named.main program
   linked_so =
-      let many : length inlined.planned.made.files ≡ length program.classes = sym (ap length inlined.planned.rewoven.same) ∙ count_files program.classes in
-      law inlined.planned.made.files inlined.planned.given.client.listing named.main Inlined program (omega (arith, many, names.few)) inlined.planned.rewoven.links inlined.planned.rewoven.sound
-    where
-      count_files : (list : List LinkedClass) → length (map (λ (c : LinkedClass). c.file) list) ≡ length list
-      count_files [] = refl
-      count_files (c ∷ list) = ap suc (count_files list)
+      law inlined.planned.made.files inlined.planned.given.client.listing named.main Inlined program inlined.planned.rewoven.links inlined.planned.rewoven.sound
 
   -- ---- what stands
 
@@ -214,7 +209,7 @@ module _ (law : LinkedAreNamed) (old new : Files) (count : Count) (named : Named
   links : program_of inlined.inputs.listing inputs.classes check.main Inlined ≡ Ok program
   links =
       let few : nat_lt 16777216 (sizes_of program.classes) ≡ false = le-ltb 16777216 (sizes_of program.classes) names.total in
-      let few_files : length inlined.planned.made.files ≤ max_files = omega (arith, linked_so.few, sym (ap length inlined.planned.rewoven.same) ∙ many_files program.classes) in
+      let few_files : length inlined.planned.made.files ≤ max_files = omega (arith, names.few, sym (ap length inlined.planned.rewoven.same) ∙ many_files program.classes) in
       let whole : linked inlined.planned.made.files inlined.planned.given.client.listing named.main Inlined ≡ Ok program =
       linked_of inlined.planned.made.files inlined.planned.given.client.listing named.main Inlined program few_files inlined.planned.rewoven.links in
       let here : linked (unlinked program) inlined.inputs.listing check.main Inlined ≡ Ok program =

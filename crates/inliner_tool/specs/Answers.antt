@@ -1,4 +1,4 @@
--- What is answered where reading stops, and how calls answer.
+-- What is answered where reading stops, and how calls answer. (docs/COMMANDS.md)
 use Rattle.std.specs.Prelude.{◌≡◌, false}
 use Rattle.conspec_automaton.specs.Verdict.{is_refused}
 use Rattle.inliner_tool.specs.declared.answer.Answer.{Answer}

@@ -1,4 +1,4 @@
--- What is answered to a check.
+-- What is answered to a check. (docs/FORMS.md)
 use Rattle.std.specs.Prelude.{◌≡◌, ℕ, ◌||◌, nat_lt, Bool, true, false, codes, List, if◌then◌else◌, Option, Some, None, Result, Ok, Err}
 use Rattle.std.specs.Option.{option_map_or}
 use Rattle.class_linking.specs.declared.fault.LinkFault.{LinkFault}

@@ -1,5 +1,5 @@
 -- That `check` decides: of files in their grammars and limits that link, with a certificate that is judged, it answers yes or no, or
--- memory runs out.
+-- memory runs out. (docs/COMMANDS.md)
 use Rattle.std.specs.Prelude.{◌≡◌, true, length, Ok, IsSome}
 use Rattle.api_listing.specs.declared.types.Listing.{Listing}
 use Rattle.bytecode_model.specs.declared.program.Program.{Program}

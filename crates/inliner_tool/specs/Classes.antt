@@ -1,4 +1,4 @@
--- The names of classes.
+-- The names of classes. (docs/COMMANDS.md)
 use Rattle.std.specs.Prelude.{ℕ, List, codes, slice_get}
 use Rattle.std.specs.Option.{option_map_or}
 use Rattle.bytecode_model.specs.declared.program.LinkedClass.{LinkedClass}

@@ -1,4 +1,5 @@
 -- That `race` decides: to a listing and a policy in their grammars and limits it answers yes or no, or memory runs out.
+-- (docs/COMMANDS.md)
 use Rattle.std.specs.Prelude.{◌≡◌, ◌⊎◌, Ok, IsSome}
 use Rattle.api_listing.specs.declared.types.Listing.{Listing}
 use Rattle.conspec_tree.specs.declared.types.PolicyTree.{PolicyTree}

@@ -1,4 +1,4 @@
--- What is expected of files that were woven.
+-- What is expected of files that were woven. (docs/COMMANDS.md)
 use Rattle.std.specs.Prelude.{◌≡◌, ℕ, true, List, length, Ok}
 use Rattle.bytecode_model.specs.declared.program.Program.{Program}
 use Rattle.bytecode_model.specs.Files.{unlinked}

@@ -1,4 +1,4 @@
--- What the command `inline` answers, and what stands in the store then.
+-- What the command `inline` answers, and what stands in the store then. (docs/COMMANDS.md)
 use Rattle.std.specs.Prelude.{◌≡◌, ◌⊎◌, ℕ, List, Ok, Err}
 use Rattle.mon_store.specs.Store.{Caused, Files}
 use Rattle.mon_store.specs.Outputs.{StopsAt, all_written}

@@ -1,5 +1,5 @@
 -- That `inline` weaves: of files in their grammars and limits that link to a program with types, a policy that is woven in this mode,
--- and sizes that fit, everything is written, or the certificate is too long, or memory runs out.
+-- and sizes that fit, everything is written, or the certificate is too long, or memory runs out. (docs/COMMANDS.md)
 use Rattle.std.specs.Prelude.{◌≡◌, Ok, IsSome}
 use Rattle.api_listing.specs.declared.types.Listing.{Listing}
 use Rattle.bytecode_model.specs.declared.program.Program.{Program}

@@ -1,4 +1,4 @@
--- What a policy says of the events of a run.
+-- What a policy says of the events of a run. (docs/COMMANDS.md)
 use Rattle.std.specs.Prelude.{length}
 use Rattle.std.specs.List.{AllByRecursion}
 use Rattle.api_listing.specs.declared.types.Listing.{Listing}

@@ -1,4 +1,4 @@
--- The program that class files link to, and its types; or the first thing for which a command ends there.
+-- The program that class files link to, and its types; or the first thing for which a command ends there. (docs/COMMANDS.md)
 use Rattle.std.specs.Prelude.{◌≡◌, ◌⊎◌, ℕ, nat_lt, List, if◌then◌else◌, Result, Ok, Err}
 use Rattle.api_listing.specs.declared.types.Listing.{Listing}
 use Rattle.bytecode_model.specs.declared.program.Program.{Program}

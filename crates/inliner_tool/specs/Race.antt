@@ -1,4 +1,4 @@
--- Whether the events of a policy race, and a state and events that show it.
+-- Whether the events of a policy race, and a state and events that show it. (docs/COMMANDS.md)
 use Rattle.std.specs.Prelude.{Result, Ok, Err}
 use Rattle.conspec_automaton.specs.Building.{built}
 use Rattle.input_files.specs.declared.race_inputs.RaceInputs.{RaceInputs}

@@ -1,4 +1,4 @@
--- That `check` accepts what `inline` wrote.
+-- That `check` accepts what `inline` wrote. (docs/COMMANDS.md)
 use Rattle.std.specs.Prelude.{◌≡◌, ◌⊎◌, ◌≤◌, ℕ, ◌+◌, List, [], ◌∷◌, length, map, Ok, IsSome}
 use Rattle.std.specs.List.{AllByRecursion}
 use Rattle.bytecode_model.specs.declared.program.LinkedClass.{LinkedClass}

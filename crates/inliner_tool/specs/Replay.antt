@@ -1,4 +1,4 @@
--- What the command `replay` tells of a recorded run.
+-- What the command `replay` tells of a recorded run. (docs/COMMANDS.md)
 use Rattle.std.specs.Prelude.{◌≡◌, ◌⊎◌, ℕ, List, length, Option, Some, None, Result, Ok, Err}
 use Rattle.mon_store.specs.Store.{Files}
 use Rattle.bytecode_model.specs.declared.program.Program.{Program}

@@ -1,5 +1,5 @@
 -- That `replay` decides: of files in their grammars and limits that link to a program with types it tells the run, or the first
--- step that is not enabled, or memory runs out.
+-- step that is not enabled, or memory runs out. (docs/COMMANDS.md)
 use Rattle.std.specs.Prelude.{◌≡◌, Ok, IsSome}
 use Rattle.api_listing.specs.declared.types.Listing.{Listing}
 use Rattle.bytecode_model.specs.declared.program.Program.{Program}

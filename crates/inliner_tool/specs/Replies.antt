@@ -1,4 +1,4 @@
--- What is printed for an answer.
+-- What is printed for an answer. (docs/COMMANDS.md)
 use Rattle.std.specs.Prelude.{ℕ, List, Option, Some, None, codes}
 use Rattle.answer_text.specs.declared.field.Report.{Report}
 use Rattle.answer_text.specs.declared.line.Line.TheVariants as lines

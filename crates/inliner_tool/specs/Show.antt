@@ -1,4 +1,4 @@
--- What is answered where class files are shown.
+-- What is answered where class files are shown. (docs/COMMANDS.md)
 use Rattle.std.specs.Prelude.{ℕ, nat_lt, List, if◌then◌else◌, Result, Ok, Err}
 use Rattle.class_linking.specs.declared.fault.LinkFault.TheVariants as links
 use Rattle.class_text.specs.declared.fault.ShowFault.{ShowFault}

@@ -1,4 +1,4 @@
--- The exit status of the program.
+-- The exit status of the program. (docs/COMMANDS.md)
 use Rattle.std.specs.Prelude.{ℕ}
 use Rattle.inliner_tool.specs.declared.tool.Status.{Status}
 use Rattle.inliner_tool.specs.declared.tool.Status.TheVariants.{Done, Denied, Usage, Input, Overflow, StoreFault, SinkFault, Memory}

@@ -1,4 +1,4 @@
--- What the top call answers, and what it prints.
+-- What the top call answers, and what it prints. (docs/COMMANDS.md)
 use Rattle.std.specs.Prelude.{◌≡◌, ◌⊎◌, ℕ, List, Option, Result, Ok, Err}
 use Rattle.mon_store.specs.Store.{Files}
 use Rattle.mon_store.specs.Sink.{Appends, AppendsFront}

@@ -1,4 +1,4 @@
--- What is woven of inputs, judged, and then written; or the first thing for which nothing is written.
+-- What is woven of inputs, judged, and then written; or the first thing for which nothing is written. (docs/BLOCKS.md)
 use Rattle.std.specs.Prelude.{◌≡◌, ℕ, true, List, length, if◌then◌else◌, Result, Ok, Err}
 use Rattle.mon_store.specs.declared.outputs.Output.{Output}
 use Rattle.api_listing.specs.declared.types.Listing.{Listing}

@@ -1,9 +1,9 @@
 //! The program that class files link to, and its types.
 
-ghost use Rattle.std.specs.Prelude.{◌≡◌, IfOk};
+ghost use Rattle.std.specs.Prelude.{◌≡◌, ◌≤◌, length, IfOk};
 ghost use Rattle.std.specs.List.{AllByRecursion};
 ghost use Rattle.api_listing.specs.Listing.{IsFew};
-ghost use Rattle.bytecode_model.specs.Files.{unlinked};
+ghost use Rattle.bytecode_model.specs.Files.{max_files, unlinked};
 ghost use Rattle.bytecode_model.specs.Order.{IsInOrder};
 ghost use Rattle.bytecode_model.specs.Shape.{IsShaped};
 ghost use Rattle.bytecode_model.specs.Sound.{IsSound};
@@ -41,6 +41,7 @@ pub fn program_of(
     ensures is { UnlessMemory (Equals (program_of listing classes main.now side)) result }
     ensures listing { IfOk result (λ program. program.listing ≡ listing) }
     ensures back { IfOk result (λ program. unlinked program ≡ classes.files) }
+    ensures few { IfOk result (λ program. length program.classes ≤ max_files) }
     ensures sound { IfOk result IsSound }
     ensures order { IfOk result IsInOrder }
     ensures links { IfOk result (IsLinkedOf side listing main.now) }
@@ -65,6 +66,7 @@ pub fn linked(
     requires fits { AllByRecursion CanSpell files }
     ensures is { UnlessMemory (Equals (link_step (linked files listing main.now side))) result }
     ensures back { IfOk result (λ program. unlinked program ≡ files) }
+    ensures few { IfOk result (λ program. length program.classes ≤ max_files) }
     ensures listing { IfOk result (λ program. program.listing ≡ listing) }
     ensures sound { IfOk result IsSound }
     ensures order { IfOk result IsInOrder }

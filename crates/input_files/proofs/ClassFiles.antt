@@ -1,7 +1,6 @@
 -- Reading class files, one after the other.
 use Rattle.std.proofs.Common.{◌≡◌, ℕ, ◌+◌, ◌≤◌, ◌<◌, ◌-◌, suc, List, [], ◌∷◌, ◌++◌, length, get_or, take, take_all, drop, Ok, Err, refl, sym, ap, subst, ◌∙◌, append_assoc, arith}
 use Rattle.std.specs.List.{AllByRecursion}
-use Rattle.std.proofs.lemmas.List.{append-nil}
 use Rattle.mon_store.specs.Store.{Files}
 use Rattle.class_codec.specs.declared.tree.ClassFile.{ClassFile}
 use Rattle.input_files.specs.declared.files.Stop.{Stop}
@@ -32,10 +31,6 @@ one_read files names classes total name left class len had one = record {
   whole = had.whole ∙ sym (append_assoc had.before (name ∷ []) left);
   read = push files had.before classes total name class len had.read one;
 }
-
-pub all_read : (files : Files) (names : List (List ℕ)) (classes : List ClassFile) (total : ℕ) (left : List (List ℕ)) → HaveRead files names classes total left → left ≡ [] → AreClasses files names classes total
-all_read files names classes total left had none =
-    subst (λ (ns : List (List ℕ)). AreClasses files ns classes total) (sym (had.whole ∙ ap (λ (l : List (List ℕ)). had.before ++ l) none ∙ append-nil had.before)) had.read
 
 -- the class file at which the reading ends
 stops_among : (files : Files) (names : List (List ℕ)) (classes : List ClassFile) (total : ℕ) (name : List ℕ) (left : List (List ℕ)) (count : Count) (stop : Stop)

@@ -1,4 +1,4 @@
--- What the files of a check are.
+-- What the files of a check are. (docs/COMMANDS.md)
 use Rattle.std.specs.Prelude.{length, Result}
 use Rattle.std.specs.List.{AllByRecursion}
 use Rattle.mon_store.specs.Store.{Files}

@@ -1,4 +1,4 @@
--- How the faults of texts are those of files.
+-- How the faults of texts are those of files. (docs/COMMANDS.md)
 use Rattle.listing_text.specs.declared.fault.ListFault.{ListFault}
 use Rattle.listing_text.specs.declared.fault.ListFault.TheVariants as listings
 use Rattle.cert_format.specs.declared.fault.CertForm.{CertForm}

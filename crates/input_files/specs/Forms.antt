@@ -1,4 +1,4 @@
--- What the files of a store are, as inputs: what is read of a text under a limit, or why nothing is.
+-- What the files of a store are, as inputs: what is read of a text under a limit, or why nothing is. (docs/COMMANDS.md)
 use Rattle.std.specs.Prelude.{◌≡◌, ◌⊎◌, ℕ, ◌<◌, ◌≤◌, List, length, Result, Ok, Err}
 use Rattle.mon_store.specs.Store.{Files, HasFile, Caused, Lacks}
 use Rattle.input_files.specs.declared.fault.InputFault.{InputFault}

@@ -1,4 +1,4 @@
--- What the files are of which a program is woven.
+-- What the files are of which a program is woven. (docs/COMMANDS.md)
 use Rattle.std.specs.Prelude.{◌≤◌, length, Result}
 use Rattle.std.specs.List.{AllByRecursion}
 use Rattle.mon_store.specs.Store.{Files}

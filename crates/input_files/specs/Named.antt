@@ -1,4 +1,4 @@
--- What the files of names are, and the first of them that is wrong.
+-- What the files of names are, and the first of them that is wrong. (docs/COMMANDS.md)
 use Rattle.std.specs.Prelude.{◌≡◌, ℕ, ◌+◌, List, [], ◌∷◌, ◌++◌, Result, Ok, Err}
 use Rattle.mon_store.specs.Store.{Files}
 use Rattle.api_listing.specs.declared.types.Listing.{Listing}

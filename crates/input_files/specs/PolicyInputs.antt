@@ -1,4 +1,4 @@
--- What the files of a policy and of a run are.
+-- What the files of a policy and of a run are. (docs/COMMANDS.md)
 use Rattle.std.specs.Prelude.{Result}
 use Rattle.mon_store.specs.Store.{Files}
 use Rattle.api_listing.specs.declared.types.Listing.{Listing}

@@ -1,4 +1,4 @@
--- What the files of a policy by itself are.
+-- What the files of a policy by itself are. (docs/COMMANDS.md)
 use Rattle.std.specs.Prelude.{Result}
 use Rattle.mon_store.specs.Store.{Files}
 use Rattle.input_files.specs.declared.files.Stop.{Stop}

@@ -1,4 +1,4 @@
--- What the files of a program and of a run of it are.
+-- What the files of a program and of a run of it are. (docs/COMMANDS.md)
 use Rattle.std.specs.Prelude.{Result}
 use Rattle.std.specs.List.{AllByRecursion}
 use Rattle.mon_store.specs.Store.{Files}

@@ -1,4 +1,4 @@
--- What the files that are shown are.
+-- What the files that are shown are. (docs/COMMANDS.md)
 use Rattle.std.specs.Prelude.{Result}
 use Rattle.mon_store.specs.Store.{Files}
 use Rattle.input_files.specs.declared.files.Stop.{Stop}

@@ -1,4 +1,4 @@
--- Which texts have the same fault: those that agree up to its line.
+-- Which texts have the same fault: those that agree up to its line. (docs/LISTINGS.md)
 use Rattle.std.specs.Prelude.{◌≡◌, ◌≢◌, ◌≤◌, ℕ, Bool, List, [], ◌∷◌, ◌++◌, length, Ok, Err, IsTrue}
 use Rattle.api_listing.specs.declared.types.ListedClass.{ListedClass}
 use Rattle.api_listing.specs.declared.types.Listing.{Listing}

@@ -1,4 +1,4 @@
--- A listing that grows with the sets of what it has.
+-- A listing that grows with the sets of what it has. (docs/LISTINGS.md)
 use Rattle.std.specs.Prelude.{◌≡◌, ℕ, List, Result, Ok, Err}
 use Rattle.mon_base.specs.declared.method.MethodId.{MethodId}
 use Rattle.api_listing.specs.declared.types.Listing.{Listing}

@@ -1,4 +1,4 @@
--- How a listing is read out of its text.
+-- How a listing is read out of its text. (docs/LISTINGS.md)
 use Rattle.std.specs.Prelude.{ℕ, ◌+◌, Bool, false, List, [], ◌∷◌, ◌++◌, length, bytes_eq, Option, Some, None, Result, Ok, Err, nat_lt, if◌then◌else◌}
 use Rattle.std.specs.List.{filter_map}
 use Rattle.mon_base.specs.Reading.{◌>>=◌}

@@ -1,4 +1,4 @@
--- The lines of a listing, each by itself: what its words are read as.
+-- The lines of a listing, each by itself: what its words are read as. (docs/LISTINGS.md)
 use Rattle.std.specs.Prelude.{ℕ, ◌-◌, Bool, true, false, ◌&&◌, ◌==◌, not, List, [], ◌∷◌, ◌++◌, length, map, take, codes, bytes_eq, Ok, Err, ok_or, if◌then◌else◌}
 use Rattle.std.specs.List.{slice_index_or}
 use Rattle.mon_base.specs.Reading.{◌>>=◌, need}

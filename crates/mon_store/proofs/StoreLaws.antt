@@ -1,6 +1,6 @@
 -- What a caller of several calls wants of them: a fault that was counted late was counted since the first call, and a
 -- file that was written is there.
-use Rattle.std.proofs.Common.{◌≡◌, ◌≤◌, ℕ, List, Bool, true, false, inl, inr, refl, arith}
+use Rattle.std.proofs.Common.{◌≤◌, ℕ, List, inl, inr, arith}
 use Rattle.mon_store.specs.Store.{Rose, Caused}
 
 -- what rose since a later count rose since the first
@@ -12,7 +12,3 @@ pub Caused-since : (first second third : ℕ) (last name : List ℕ) → first �
     → Caused first third last name
 Caused-since first second third last name le caused =
     record { rose = Rose-since first second third le caused.rose; named = caused.named }
-
-false_of : (b : Bool) → (b ≡ true → ⊥) → b ≡ false
-false_of true not = absurd (not refl)
-false_of false not = refl

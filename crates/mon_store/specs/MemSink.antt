@@ -1,4 +1,4 @@
--- What a sink in memory is seen as, and what a call makes of it.
+-- What a sink in memory is seen as, and what a call makes of it. (docs/PROMISES.md)
 use Rattle.std.specs.Prelude.{ℕ, List, ◌++◌, Bool, ◌==◌}
 use Rattle.std.specs.List.{list_any}
 use Rattle.mon_store.specs.Store.{one_more}

@@ -1,4 +1,4 @@
--- What a store in memory is seen as, and what a call makes of it.
+-- What a store in memory is seen as, and what a call makes of it. (docs/PROMISES.md)
 use Rattle.std.specs.Prelude.{◌≡◌, ℕ, List, [], ◌∷◌, Option, Some, None, Result, Ok, Err, Bool, true, false, is_none, ◌&&◌, ◌==◌, bytes_eq, if◌then◌else◌}
 use Rattle.std.specs.List.{list_any}
 use Rattle.mon_store.specs.Store.{one_more}

@@ -1,4 +1,4 @@
--- What stands in a store once several files are written, or once the writing of them came to an end too soon.
+-- What stands in a store once several files are written, or once the writing of them came to an end too soon. (docs/PROMISES.md)
 use Rattle.std.specs.Prelude.{◌≡◌, ℕ, List, [], ◌∷◌, ◌++◌, Result, Ok, Err}
 use Rattle.mon_store.specs.declared.outputs.Output.{Output}
 use Rattle.mon_store.specs.declared.outputs.WriteFault.{WriteFault}

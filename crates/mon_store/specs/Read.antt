@@ -1,4 +1,4 @@
--- What reading a whole file under a limit answers.
+-- What reading a whole file under a limit answers. (docs/PROMISES.md)
 use Rattle.std.specs.Prelude.{◌≡◌, ◌⊎◌, ℕ, List, length, take, nat_le, Option, Some, None, Result, Ok, Err, if◌then◌else◌}
 use Rattle.mon_store.specs.Store.{Files, OfFile}
 use Rattle.mon_store.specs.declared.store.StoreFault.{StoreFault}

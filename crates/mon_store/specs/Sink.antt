@@ -1,4 +1,4 @@
--- What a sink tells of its text, and what a call does to it.
+-- What a sink tells of its text, and what a call does to it. (docs/PROMISES.md)
 use Rattle.std.specs.Prelude.{◌≡◌, ℕ, List, ◌++◌, Option, option_map}
 use Rattle.mon_store.specs.Store.{IsFrontOf}
 

@@ -1,4 +1,5 @@
 -- What a store tells of its files, what a call does to them, and when a call has a fault to show for its failure.
+-- (docs/PROMISES.md)
 use Rattle.std.specs.Prelude.{◌≡◌, ◌⊎◌, ◌<◌, ◌≤◌, ◌+◌, ◌-◌, ◌^◌, min, ℕ, List, ◌++◌, length, take, drop, Option, Some, None, IfSome, IsSomeAnd, bytes_eq, if◌then◌else◌}
 
 -- The files of a store: None where it does not tell them, else the bytes of each name, None where it has no such file.

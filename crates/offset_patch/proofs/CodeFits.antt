@@ -12,6 +12,7 @@ use Rattle.class_codec.specs.declared.tree.Code.{Code}
 use Rattle.class_codec.specs.declared.tree.Const.{Const}
 use Rattle.class_codec.specs.declared.tree.TableEntry.{TableEntry}
 use Rattle.class_codec.specs.declared.tree.Other.{Other}
+use Rattle.mon_base.specs.Widths.{u2, u4}
 use Rattle.class_codec.specs.Spelling as spell
 use Rattle.class_codec.specs.declared.pool.Kind.TheVariants as kinds
 use Rattle.class_codec.specs.Fits.{IsIndex, FitsTableEntry, FitsOther, FitsCode}
@@ -182,8 +183,8 @@ within_len room (attr ∷ attrs) w =
       first.0,
       rest,
       length-append (spell.other attr) (flat_map spell.other attrs),
-      length-append (spell.u2 attr.name) (spell.block attr.bytes),
-      length-append (spell.u4 (length attr.bytes)) attr.bytes,
+      length-append (u2 attr.name) (spell.block attr.bytes),
+      length-append (u4 (length attr.bytes)) attr.bytes,
       length-bytes_high_first 2 attr.name,
       length-bytes_high_first 4 (length attr.bytes),
     )
@@ -229,7 +230,7 @@ entries_len (e ∷ entries) =
 
 contents_len : (c : Code) → length c.code ≤ 65535 → length c.table < 2 ^ 16 → length (flat_map spell.other c.attrs) ≤ 2 ^ 31 → length (spell.contents c) < 2 ^ 32
 contents_len c short few lines =
-    let head = spell.u2 c.max_stack ++ spell.u2 c.max_locals in
+    let head = u2 c.max_stack ++ u2 c.max_locals in
     let code = spell.block c.code in
     let table = spell.counted spell.table_entry c.table in
     let attrs = spell.counted spell.other c.attrs in
@@ -239,14 +240,14 @@ contents_len c short few lines =
       length-append head (code ++ (table ++ attrs)),
       length-append code (table ++ attrs),
       length-append table attrs,
-      length-append (spell.u2 (length c.attrs)) (flat_map spell.other c.attrs),
+      length-append (u2 (length c.attrs)) (flat_map spell.other c.attrs),
       length-bytes_high_first 2 (length c.attrs),
-      length-append (spell.u2 c.max_stack) (spell.u2 c.max_locals),
+      length-append (u2 c.max_stack) (u2 c.max_locals),
       length-bytes_high_first 2 c.max_stack,
       length-bytes_high_first 2 c.max_locals,
-      length-append (spell.u4 (length c.code)) c.code,
+      length-append (u4 (length c.code)) c.code,
       length-bytes_high_first 4 (length c.code),
-      length-append (spell.u2 (length c.table)) (flat_map spell.table_entry c.table),
+      length-append (u2 (length c.table)) (flat_map spell.table_entry c.table),
       length-bytes_high_first 2 (length c.table),
       entries_len c.table,
     )

@@ -4,22 +4,20 @@ use Rattle.std.specs.declared.cmp.Ordering.{Ordering}
 use Rattle.std.specs.declared.cmp.Ordering.TheVariants.{Less, Equal, Greater}
 use Rattle.std.specs.Ordering.{is_eq, nat_cmp, ordering_then}
 use Rattle.std.specs.Cmp.{unsigned_tied}
-use Rattle.std.specs.BTreeMap.{BTreeMap, is_at}
-use Rattle.std.specs.Map.{lookup}
+use Rattle.std.specs.BTreeMap.{BTreeMap}
 use Rattle.std.specs.List.{AllByRecursion, position_from}
 use Rattle.std.specs.Option.{option_or, is_some}
 use Rattle.std.proofs.lemmas.List.{length-append, length-map, map-append}
 use Rattle.std.proofs.lemmas.Option.{slice_get_within}
 use Rattle.std.proofs.lemmas.Map.Text.{is_eq-slice_cmp}
 use Rattle.class_codec.specs.declared.tree.Const.{Const}
-use Rattle.class_codec.specs.declared.tree.Const.TheVariants as constants
 use Rattle.bytecode_model.proofs.Lists.{or_none}
 use Rattle.bytecode_model.proofs.Placing.{test_cases, none_or, place_pushed}
 use Rattle.offset_patch.specs.declared.constants.Added.{Added}
 use Rattle.offset_patch.specs.declared.constants.Added.TheVariants.{Text, Class, NameAndType, Field, Method, Integer}
 use Rattle.offset_patch.specs.declared.growth.Growth.{Growth}
 use Rattle.offset_patch.specs.Added.{const_of, added_of, with_added, NamesBelow}
-use Rattle.offset_patch.specs.Entries.{same, placed, place_of, entry}
+use Rattle.offset_patch.specs.Entries.{same, placed, place_of}
 use Rattle.offset_patch.specs.Growth.{added_cmp, found_at, IsGrowth}
 use Rattle.offset_patch.proofs.EntryFits.{place_found}
 use Rattle.offset_patch.proofs.PoolFits.{each_on}
@@ -70,26 +68,6 @@ flips a b = alike (same (const_of a) (const_of b)) (same (const_of b) (const_of 
 
 -- ---- constants of a pool
 
--- a constant is what it is looked for as
-pub added_is : (c : Const) (k : Added) → added_of c ≡ Some k → c ≡ const_of k
-added_is (constants.Utf8 text) k e = ap const_of (some_is e)
-added_is (constants.Class name) k e = ap const_of (some_is e)
-added_is (constants.NameAndType name desc) k e = ap const_of (some_is e)
-added_is (constants.Field class member) k e = ap const_of (some_is e)
-added_is (constants.Method class member) k e = ap const_of (some_is e)
-added_is (constants.Integer n) k e = ap const_of (some_is e)
-added_is c k e = absurd cc
-
--- one that is not looked for is none of those that are
-pub not_added : (c : Const) → added_of c ≡ None → (q : Added) → same (const_of q) c ≡ false
-not_added c none q = by (same (const_of q) c) refl
-  where
-    by : (b : Bool) → same (const_of q) c ≡ b → b ≡ false
-    by false e = refl
-    by true e =
-        let both : Some q ≡ None = sym (is_added q) ∙ ap added_of (sym (same_is (const_of q) c e)) ∙ none in
-        absurd cc
-
 -- ---- what the map has
 
 -- a constant that is new
@@ -102,17 +80,7 @@ adds_first old new key at absent puts q =
     (λ e. none_or (found_at old q) (Some at) (subst (λ (k : Added). is_some (found_at old k) ≡ false) (sym (one_is q key e)) absent))
     (λ e. sym (or_none (found_at old q)))
 
--- one that is not looked for
-pub adds_none : (old : BTreeMap Added ℕ) (c : Const) (at : ℕ) → added_of c ≡ None
-    → (q : Added) → found_at old q ≡ option_or (found_at old q) (cond (same (const_of q) c) (Some at) None)
-adds_none old c at e q =
-    sym (or_none (found_at old q)) ∙ ap (λ (b : Bool). option_or (found_at old q) (cond b (Some at) None)) (sym (not_added c e q))
-
 -- ---- the pool is gone over
-
--- a map that is empty
-pub none_found : (places : BTreeMap Added ℕ) (q : Added) (o : Option ℕ) → places.entries ≡ [] → option_or (found_at places q) o ≡ o
-none_found places q o empty = ap (λ (es : List (Added × ℕ)). option_or (lookup (is_at (added_cmp q)) es) o) empty
 
 -- ---- one constant is added
 
@@ -130,27 +98,9 @@ found_below pool growth wanted at good e =
     let within = position_within (same (const_of wanted)) 0 (with_added pool growth.added) at (sym (good.placed wanted) ∙ sym e) in
     omega (arith, within, added_count pool growth.added)
 
--- what was found
-pub entry_found : (pool : List Const) (growth : Growth) (wanted : Added) (at : ℕ) → IsGrowth pool growth → Some at ≡ found_at growth.places wanted
-    → entry (const_of wanted) (with_added pool growth.added) ≡ (with_added pool growth.added, at)
-entry_found pool growth wanted at good e =
-    let all = with_added pool growth.added in
-    ap (placed all (const_of wanted)) (sym (good.placed wanted) ∙ sym e)
-
 pushed : (pool : List Const) (old new : List Added) (wanted : Added) → new ≡ old ++ wanted ∷ [] → with_added pool new ≡ with_added pool old ++ const_of wanted ∷ []
 pushed pool old new wanted is =
     ap (with_added pool) is ∙ ap (λ (xs : List Const). pool ++ xs) (map-append const_of old (wanted ∷ [])) ∙ sym (append_assoc pool (map const_of old) (const_of wanted ∷ []))
-
--- what was added
-pub entry_added : (pool : List Const) (growth : Growth) (wanted : Added) (added : List Added) (at : ℕ) → IsGrowth pool growth → None ≡ found_at growth.places wanted
-    → added ≡ growth.added ++ wanted ∷ [] → at ≡ length pool + length growth.added
-    → entry (const_of wanted) (with_added pool growth.added) ≡ (with_added pool added, at)
-entry_added pool growth wanted added at good e is at_is =
-    let all = with_added pool growth.added in
-    let count : length all ≡ at = added_count pool growth.added ∙ sym at_is in
-    ap (placed all (const_of wanted)) (sym (good.placed wanted) ∙ sym e)
-    ∙ ap (λ (n : ℕ). (all ++ const_of wanted ∷ [], n)) count
-    ∙ ap (λ (xs : List Const). (xs, at)) (sym (pushed pool growth.added added wanted is))
 
 names_more : (n m : ℕ) → n ≤ m → (a : Added) → NamesBelow n a → NamesBelow m a
 names_more n m less (Text bytes) h = tt

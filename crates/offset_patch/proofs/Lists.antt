@@ -1,5 +1,5 @@
 -- Lists that are gone over from the front.
-use Rattle.std.proofs.Common.{◌≡◌, ◌-◌, ◌<◌, ◌≤◌, List, [], ◌∷◌, ◌++◌, length, get_or, take, drop, refl, sym, ap, subst, ◌∙◌, append_assoc, arith}
+use Rattle.std.proofs.Common.{◌≡◌, ◌-◌, ◌<◌, ◌≤◌, List, [], ◌∷◌, ◌++◌, length, get_or, take, drop, refl, sym, ap, subst, arith}
 use Rattle.std.proofs.lemmas.List.{take_all}
 use Rattle.std.specs.List.{AllByRecursion}
 
@@ -20,12 +20,6 @@ pub none_left : {X : Type 0} (xs : List X) → length xs < 1 → xs ≡ []
 none_left [] short = refl
 none_left (x ∷ xs) short = absurd (omega arith)
 
--- what is made so far and what is left to be made are the whole
-pub piece : {X Y : Type 0} (make : List X → List Y) (out part later total : List Y) (left : List X) (x : X) (rest : List X)
-    → left ≡ x ∷ rest → make (x ∷ rest) ≡ part ++ later → out ++ make left ≡ total → (out ++ part) ++ later ≡ total
-piece make out part later total left x rest split first so_far =
-    append_assoc out part later ∙ ap (λ ys. out ++ ys) (sym first ∙ sym (ap make split)) ∙ so_far
-
 -- what is said of each is said of the first and of the others
 pub each_fits : {X : Type 0} (P : X → Type 0) (xs : List X) (x : X) (rest : List X) → xs ≡ x ∷ rest → AllByRecursion P xs → P x × AllByRecursion P rest
 each_fits {X = X} P xs x rest is all = let Q : List X → Type 0 = AllByRecursion P in subst Q is all
@@ -33,7 +27,3 @@ each_fits {X = X} P xs x rest is all = let Q : List X → Type 0 = AllByRecursio
 pub all_append : {X : Type 0} (P : X → Type 0) (xs ys : List X) → AllByRecursion P xs → AllByRecursion P ys → AllByRecursion P (xs ++ ys)
 all_append P [] ys a b = b
 all_append P (x ∷ xs) ys a b = (a.0, all_append P xs ys a.1 b)
-
--- one more, of which it holds, behind those of which it holds
-pub all_push : {X : Type 0} (P : X → Type 0) (xs new : List X) (x : X) → new ≡ xs ++ x ∷ [] → AllByRecursion P xs → P x → AllByRecursion P new
-all_push {X = X} P xs new x is all one = let Q : List X → Type 0 = AllByRecursion P in subst Q (sym is) (all_append P xs (x ∷ []) all (one, tt))

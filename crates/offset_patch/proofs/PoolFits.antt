@@ -49,10 +49,6 @@ each_on P Q f (x ∷ xs) h = (f x h.0, each_on P Q f xs h.1)
 pub counted_on : {X : Type 0} (P Q : X → Type 0) → ((x : X) → P x → Q x) → (xs : List X) → FitCounted P xs → FitCounted Q xs
 counted_on P Q f xs h = record { count = h.count; each = each_on P Q f xs h.each }
 
-or_true : (a b : Bool) → b ≡ true → (a || b) ≡ true
-or_true true b e = refl
-or_true false b e = e
-
 pub named_on : (pool more : List Const) (c : Const) → IsNamed pool c → IsNamed (pool ++ more) c
 named_on pool more (constants.Class name) h = names_on kinds.Utf8 pool more name h
 named_on pool more (constants.Str text) h = names_on kinds.Utf8 pool more text h

@@ -1,4 +1,4 @@
--- Constants that are added to a pool.
+-- Constants that are added to a pool. (docs/BLOCKS.md)
 use Rattle.std.specs.Prelude.{ℕ, ◌+◌, ◌<◌, List, ◌++◌, length, map, Option, Some, None, ⊤}
 use Rattle.std.specs.List.{AllByRecursion}
 use Rattle.class_codec.specs.declared.tree.Const.{Const}

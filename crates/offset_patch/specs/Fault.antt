@@ -1,4 +1,4 @@
--- How calls answer what weaving gives.
+-- How calls answer what weaving gives. (docs/BLOCKS.md)
 use Rattle.std.specs.Prelude.{◌<◌, ◌^◌, ⊤, ℕ, pos, nat_le, List, Option, Some, None, Result, Ok, Err}
 use Rattle.mon_base.specs.Reading.{need}
 use Rattle.insn_codec.specs.declared.fault.CodeOverflow.{CodeOverflow}

@@ -1,4 +1,4 @@
--- What blocks are made of.
+-- What blocks are made of. (docs/BLOCKS.md)
 use Rattle.std.specs.Prelude.{◌≡◌, ◌≤◌, ◌<◌, ◌^◌, ◌==◌, ◌||◌, ℕ, suc, Bool, List, [], ◌∷◌, length, FitsSigned, IsTrue, IfSome, Option, Some, None, ⊤}
 use Rattle.std.specs.List.{AllByRecursion}
 use Rattle.std.specs.Int.{w8, w16, w32}

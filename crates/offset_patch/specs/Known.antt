@@ -1,4 +1,4 @@
--- The entries that blocks named before, each with its place.
+-- The entries that blocks named before, each with its place. (docs/BLOCKS.md)
 use Rattle.std.specs.Prelude.{◌≡◌, ℕ, List, Option, Some, None}
 use Rattle.std.specs.declared.cmp.Ordering.{Ordering}
 use Rattle.std.specs.BTreeMap.{BTreeMap, get}

@@ -1,4 +1,4 @@
--- How many bytes the code of a method has with its blocks.
+-- How many bytes the code of a method has with its blocks. (docs/BLOCKS.md)
 use Rattle.std.specs.Prelude.{ℕ, ◌+◌, true, false, List, [], ◌∷◌, Option}
 use Rattle.insn_codec.specs.declared.insn.Insn.{Insn}
 use Rattle.insn_codec.specs.Spelling.{size}

@@ -1,4 +1,5 @@
 -- Plans: which instructions of a program have a block, and which. What splicing needs of blocks is said of any plan.
+-- (docs/BLOCKS.md)
 use Rattle.std.specs.Prelude.{◌≡◌, ◌+◌, ◌<◌, ◌^◌, ℕ, Bool, true, is_some, slice_get, List, Option, Some, ⊤}
 use Rattle.std.specs.List.{AllByRecursion}
 use Rattle.bytecode_model.specs.declared.program.Target.{Target}

@@ -1,5 +1,5 @@
 -- The sizes of a method with blocks, each of which has to fit: sums over the method and its blocks, in the order in which
--- they are told.
+-- they are told. (docs/BLOCKS.md)
 use Rattle.std.specs.Prelude.{ℕ, ℤ, pos, ◌+◌, ◌-ℤ◌, int_le, not, Bool, false, List, [], ◌∷◌, ◌++◌, length, map, take, find, slice_index, Option}
 use Rattle.class_codec.specs.declared.tree.Code.{Code}
 use Rattle.class_codec.specs.declared.tree.Const.{Const}

@@ -1,5 +1,5 @@
 -- Blocks in the code of a method: each stands in the place of the instruction that it is for, and what goes to that
--- instruction goes to the front of its block.
+-- instruction goes to the front of its block. (docs/BLOCKS.md)
 use Rattle.std.specs.Prelude.{ℕ, zero, suc, ◌+◌, ◌≤◌, ⊤, Bool, true, false, is_some, List, [], ◌∷◌, ◌++◌, length, map, take, slice_index, Option, Some, None, option_and_then, Ok}
 use Rattle.std.specs.List.{flat_map, filter_map, list_any, enumerate_from}
 use Rattle.mon_base.specs.Reading.{◌>>=◌}

@@ -1,4 +1,4 @@
--- The files that are written of a program and its certificate.
+-- The files that are written of a program and its certificate. (docs/COMMANDS.md)
 use Rattle.std.specs.Prelude.{ℕ, ◌&&◌, nat_le, nat_lt, Bool, true, if◌then◌else◌, List, [], ◌∷◌, ◌++◌, length, codes, map, Option, Some, None, Result, Ok, Err}
 use Rattle.std.specs.List.{list_all}
 use Rattle.bytecode_model.specs.declared.program.LinkedClass.{LinkedClass}

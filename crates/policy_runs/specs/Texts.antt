@@ -1,4 +1,4 @@
--- What two texts are: a listing, and a policy over its methods.
+-- What two texts are: a listing, and a policy over its methods. (docs/POLICIES.md)
 use Rattle.std.specs.Prelude.{◌≡◌, ℕ, List}
 use Rattle.mon_base.specs.Answer.{Fails}
 use Rattle.listing_text.specs.declared.fault.ListFault.{ListFault}

@@ -1,4 +1,4 @@
--- How a state of a policy and events are printed.
+-- How a state of a policy and events are printed. (docs/RACES.md)
 use Rattle.std.specs.Prelude.{ℕ, ℤ, pos, Bool, true, false, List, [], ◌∷◌, ◌++◌, codes, Option, Some, None}
 use Rattle.std.specs.Fmt.{signed_decimal}
 use Rattle.std.specs.Ordering.{int_eq}

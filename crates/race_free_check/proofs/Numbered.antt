@@ -1,7 +1,6 @@
 -- Choices by their numbers: each choice of a number below the count of choices is one of them, and there are so many.
 use Rattle.std.proofs.Common.{◌≡◌, ℕ, zero, suc, ◌+◌, ◌*◌, ◌/◌, ◌%◌, ◌<◌, ℤ, pos, List, [], ◌∷◌, ◌++◌, length, drop, get_or, map, Some, refl, sym, ap, subst, ◌∙◌, arith, add-one}
 use Rattle.std.specs.Prelude.{flat_map, option_map, slice_get}
-use Rattle.std.specs.List.{AllByRecursion}
 use Rattle.std.proofs.lemmas.List.{length-append, length-map}
 use Rattle.std.proofs.lemmas.Nat.{div-add-mod', div_below}
 use Rattle.std.proofs.Math.Nat.{mod-lt, mul-div_cancel_left, mul-zero, suc-mul, zero-mul}
@@ -128,9 +127,3 @@ module _ (lists rest : List (List ℤ)) (list : List ℤ) (number count size : �
       ap (λ (ls : List (List ℤ)). chosen ls number) front
       ∙ ap (λ (n : ℤ). n ∷ chosen rest (number % size_of rest)) (sym (got_number list (number / size_of rest)))
       ∙ ap (λ (n : ℕ). get_or list (number / n) (pos 0) ∷ chosen rest (number % n)) (sym count_left)
-
--- the number that is chosen of a list is one of it
-pub number_all : (P : ℤ → Type 0) (ns : List ℤ) (i : ℕ) → AllByRecursion P ns → i < length ns → P (number_at ns i)
-number_all P [] i all below = absurd (omega arith)
-number_all P (n ∷ ns) zero all below = all.0
-number_all P (n ∷ ns) (suc i) all below = number_all P ns i all.1 (omega arith)

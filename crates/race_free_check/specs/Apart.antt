@@ -1,4 +1,5 @@
 -- Clauses of which neither changes what the other names. Their events turn, so that no point of the two has to be tried.
+-- (docs/RACES.md)
 use Rattle.std.specs.Prelude.{ℕ, ◌+◌, ◌==◌, ◌&&◌, ◌||◌, Bool, false, not, List, [], ◌∷◌}
 use Rattle.std.specs.List.{list_any}
 use Rattle.std.specs.Option.{option_map_or}

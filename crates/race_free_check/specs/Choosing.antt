@@ -1,4 +1,4 @@
--- The choice of one number of each list that has this number, and the event that a clause makes of its numbers.
+-- The choice of one number of each list that has this number, and the event that a clause makes of its numbers. (docs/RACES.md)
 use Rattle.std.specs.Prelude.{◌≡◌, ℕ, ◌/◌, ◌%◌, ℤ, pos, List, [], ◌∷◌, map, slice_get, Option, Some, None}
 use Rattle.std.specs.List.{enumerate_from}
 use Rattle.std.specs.Option.{option_map_or}

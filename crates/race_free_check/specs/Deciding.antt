@@ -1,4 +1,5 @@
 -- What is decided of a policy: that there are too many points, or the first of them that breaks a condition, or that none does.
+-- (docs/RACES.md)
 use Rattle.std.specs.Prelude.{◌≡◌, ℕ, Bool, not, if◌then◌else◌, List, [], ◌∷◌, find, Option, Some, Result, Ok, IfSome, slice_get}
 use Rattle.std.specs.Option.{option_map_or}
 use Rattle.conspec_tree.specs.declared.types.Phase.{Phase}

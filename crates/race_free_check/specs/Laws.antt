@@ -1,4 +1,4 @@
--- That the points are enough, and that what breaks a condition at a point breaks it.
+-- That the points are enough, and that what breaks a condition at a point breaks it. (docs/RACES.md)
 use Rattle.std.specs.Prelude.{◌≡◌, ℕ, true, Some, None, slice_get}
 use Rattle.conspec_automaton.specs.declared.policy.Policy.{Policy}
 use Rattle.conspec_automaton.specs.Racing.{IsRaceFree}

@@ -1,4 +1,5 @@
 -- The search for the first point that breaks a condition: through the states, the first events, and the second ones.
+-- (docs/RACES.md)
 use Rattle.std.specs.Prelude.{◌≡◌, List, [], ◌∷◌, find, map, Option, Some, None}
 use Rattle.std.specs.Option.{option_or}
 use Rattle.api_listing.specs.declared.events.Event.{Event}

@@ -1,4 +1,4 @@
--- Numbers that are small enough to be added without overflow, and lists of the same numbers.
+-- Numbers that are small enough to be added without overflow, and lists of the same numbers. (docs/RACES.md)
 use Rattle.std.specs.Prelude.{◌≡◌, ℕ, ℤ, pos, neg_ℤ, ◌≤ℤ◌, Bool, List}
 use Rattle.std.specs.Ordering.{int_eq}
 use Rattle.std.specs.List.{AllByRecursion, list_any}

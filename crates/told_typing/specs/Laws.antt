@@ -1,4 +1,4 @@
--- A typing of a program is one still, as it is told.
+-- A typing of a program is one still, as it is told. (docs/CERTIFICATES.md)
 use Rattle.std.specs.Prelude.{◌≡◌, ℕ, false}
 use Rattle.cert_format.specs.declared.typing.Typing.{Typing}
 use Rattle.bytecode_model.specs.declared.program.Program.{Program}

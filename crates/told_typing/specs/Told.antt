@@ -1,5 +1,5 @@
 -- A typing as a certificate tells it: of each frame the locals without the Tops behind the last other type, and no frame for
--- which the method has no room.
+-- which the method has no room. (docs/CERTIFICATES.md)
 use Rattle.std.specs.Prelude.{◌&&◌, nat_le, Bool, if◌then◌else◌, List, [], ◌∷◌, drop, length, map, Option, Some, None, option_and_then, ⊤}
 use Rattle.std.specs.List.{AllByRecursion}
 use Rattle.cert_format.specs.declared.typing.FrameType.{FrameType}

@@ -25,10 +25,6 @@ pub not_some : {A : Type 0} (o : Option A) → is_some o ≡ false → o ≡ Non
 not_some None e = refl
 not_some (Some x) e = absurd cc
 
-pub is_there : {A : Type 0} (o : Option A) → is_some o ≡ true → (x : A) × (o ≡ Some x)
-is_there None e = absurd cc
-is_there (Some x) e = (x, refl)
-
 -- ---- one of a list is set
 
 pub slice_get-set_same : {A : Type 0} (xs : List A) (i : ℕ) (x : A) → i < length xs → slice_get (set xs i x) i ≡ Some x

@@ -1,4 +1,4 @@
--- What a certificate asks of the frames that it tells.
+-- What a certificate asks of the frames that it tells. (docs/TYPING.md)
 use Rattle.std.specs.Prelude.{List, Option, Some, None, ⊤}
 use Rattle.std.specs.List.{AllByRecursion}
 use Rattle.cert_format.specs.declared.typing.FrameType.{FrameType}

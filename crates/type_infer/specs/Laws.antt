@@ -1,4 +1,4 @@
--- The laws of types and frames that frames are found by.
+-- The laws of types and frames that frames are found by. (docs/TYPING.md)
 use Rattle.std.specs.Prelude.{◌≡◌, List, true, ℕ}
 use Rattle.api_listing.specs.BuiltIn.{throwable}
 use Rattle.cert_format.specs.declared.typing.FrameType.{FrameType}

@@ -1,4 +1,4 @@
--- What is said of each call that sends a frame on.
+-- What is said of each call that sends a frame on. (docs/TYPING.md)
 use Rattle.std.specs.Prelude.{◌≡◌, ℕ, ◌≤◌, length, Contains, IsTrue, List, Option, Some, ⊤}
 use Rattle.cert_format.specs.declared.typing.FrameType.{FrameType}
 use Rattle.insn_codec.specs.Control.{successors}

@@ -1,4 +1,4 @@
--- How many instructions each method of a class with code has.
+-- How many instructions each method of a class with code has. (docs/TYPING.md)
 use Rattle.std.specs.Prelude.{ℕ, List, length, map}
 use Rattle.bytecode_model.specs.declared.program.LinkedClass.{LinkedClass}
 use Rattle.bytecode_model.specs.declared.program.Method.{Method}

@@ -1,4 +1,4 @@
--- What holds of the frames that are found while the types of a method are looked for.
+-- What holds of the frames that are found while the types of a method are looked for. (docs/TYPING.md)
 use Rattle.std.specs.Prelude.{◌≡◌, ◌⊎◌, ℕ, ◌+◌, ◌<◌, ◌≤◌, Bool, true, false, if◌then◌else◌, IsTrue, Contains, List, [], ◌∷◌, length, drop, set, ⊤, Option, Some, None, option_map, slice_get}
 use Rattle.std.specs.Option.{option_map_or, option_or}
 use Rattle.cert_format.specs.declared.typing.FrameType.{FrameType}

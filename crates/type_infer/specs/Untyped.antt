@@ -1,4 +1,4 @@
--- Where a program has no typing, and which typing is the least.
+-- Where a program has no typing, and which typing is the least. (docs/TYPING.md)
 use Rattle.std.specs.Prelude.{◌≡◌, ◌⊎◌, ℕ, ◌+◌, ◌<◌, List, length, Some, None, slice_get, ⊤}
 use Rattle.cert_format.specs.declared.typing.FrameType.{FrameType}
 use Rattle.cert_format.specs.declared.typing.Typing.{Typing}

@@ -1,4 +1,4 @@
--- Maps by names.
+-- Maps by names. (docs/TYPING.md)
 use Rattle.std.specs.Prelude.{ℕ, List, Option, Vec}
 use Rattle.std.specs.Ordering.{nat_cmp}
 use Rattle.std.specs.Cmp.Lexicographic.{slice_cmp}

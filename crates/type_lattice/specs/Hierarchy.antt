@@ -1,4 +1,4 @@
--- Classes that are found by their names, with the ways up.
+-- Classes that are found by their names, with the ways up. (docs/TYPING.md)
 use Rattle.std.specs.Prelude.{◌≡◌, ℕ, Bool, bytes_eq, List, map, find, Option, option_map, Vec}
 use Rattle.std.specs.List.{list_any}
 use Rattle.std.specs.BTreeMap.{BTreeMap}

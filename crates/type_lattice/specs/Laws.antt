@@ -1,4 +1,4 @@
--- The types in order: what holds of assignability and of the least type above two.
+-- The types in order: what holds of assignability and of the least type above two. (docs/TYPING.md)
 use Rattle.std.specs.Prelude.{◌≡◌, ℕ, true, List}
 use Rattle.api_listing.specs.BuiltIn.{throwable}
 use Rattle.bytecode_model.specs.declared.program.Program.{Program}

@@ -1,4 +1,4 @@
--- Ways up: each place may have one above it, and each way ends.
+-- Ways up: each place may have one above it, and each way ends. (docs/TYPING.md)
 use Rattle.std.specs.Prelude.{◌≡◌, ℕ, zero, suc, ◌<◌, ◌≤◌, ◌==◌, Bool, List, [], ◌∷◌, length, map, find, Option, Some, slice_get, take, option_and_then}
 use Rattle.std.specs.List.{list_any}
 use Rattle.std.specs.Option.{option_map_or}

@@ -1,5 +1,5 @@
 -- The events that a typed program makes are those that a policy expects which tells the types of its methods; and so does each
--- policy that was read.
+-- policy that was read. (docs/MACHINE.md)
 use Rattle.std.specs.Prelude.{◌≡◌, ℕ, List, map, Some, option_map, slice_get}
 use Rattle.std.specs.List.{AllByRecursion}
 use Rattle.api_listing.specs.declared.types.ListedMethod.{ListedMethod}

@@ -1,4 +1,5 @@
 -- What it is for a frame to be as its typing says: where it stands, what its locals and operands hold, and what it waits for.
+-- (docs/PROMISES.md)
 use Rattle.std.specs.Prelude.{◌≡◌, ◌≤◌, List, [], ◌∷◌, length, reverse, slice_get, Option, Some}
 use Rattle.cert_format.specs.declared.typing.FrameType.{FrameType}
 use Rattle.cert_format.specs.declared.typing.Typing.{Typing}

@@ -1,4 +1,4 @@
--- How a heap grows: objects come, none goes, and each keeps its class.
+-- How a heap grows: objects come, none goes, and each keeps its class. (docs/PROMISES.md)
 use Rattle.std.specs.Prelude.{◌≡◌, ℕ, List, slice_get, Some, option_map}
 use Rattle.guest_heap.specs.declared.object.Object.{Object}
 use Rattle.guest_model.specs.Kinds.{class_of_object}

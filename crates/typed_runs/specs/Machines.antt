@@ -1,4 +1,4 @@
--- What it is for a machine to be as the typing of its program says.
+-- What it is for a machine to be as the typing of its program says. (docs/PROMISES.md)
 use Rattle.std.specs.Prelude.{◌≡◌, ℕ, ◌<◌, ◌⊎◌, true, IsTrue, List, [], ◌++◌, codes, length, slice_get, Some, IsSomeAnd}
 use Rattle.std.specs.List.{AllByRecursion}
 use Rattle.std.specs.Option.{option_to_list}

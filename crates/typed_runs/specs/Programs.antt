@@ -1,4 +1,5 @@
 -- The programs that the laws are about: those that files link to, with a listing that was read and a typing that meets the rules.
+-- (docs/MACHINE.md)
 use Rattle.std.specs.Prelude.{List, ℕ}
 use Rattle.api_listing.specs.Listing.{SpellsListing}
 use Rattle.cert_format.specs.declared.typing.Typing.{Typing}

@@ -1,4 +1,4 @@
--- What holds of every run of a typed program.
+-- What holds of every run of a typed program. (docs/PROMISES.md)
 use Rattle.std.specs.Prelude.{List, IsSome}
 use Rattle.cert_format.specs.declared.typing.Typing.{Typing}
 use Rattle.bytecode_model.specs.declared.program.Program.{Program}

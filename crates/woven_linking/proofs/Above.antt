@@ -30,13 +30,6 @@ find_none p (x ∷ xs) e = by (p x) e (find_none p xs) where
   by true e rest = absurd (false≢true (sym e))
   by false e rest = rest e
 
-pub find_some : {X : Type 0} (p : X → Bool) (xs : List X) → list_any p xs ≡ true → (x : X) × (find p xs ≡ Some x)
-find_some {X = X} p [] e = absurd (false≢true e)
-find_some {X = X} p (x ∷ xs) e = by (p x) e (find_some p xs) where
-  by : (b : Bool) → (b || list_any p xs) ≡ true → (list_any p xs ≡ true → (y : X) × (find p xs ≡ Some y)) → (y : X) × ((if b then Some x else find p xs) ≡ Some y)
-  by true e rest = (x, refl)
-  by false e rest = rest e
-
 -- what holds of each holds of the one that is found, which passes
 pub found_fits : {X : Type 0} (p : X → Bool) (P : X → Type 0) (xs : List X) (x : X) → AllByRecursion P xs → find p xs ≡ Some x → P x × (p x ≡ true)
 found_fits {X = X} p P [] x all e = absurd cc

@@ -19,7 +19,7 @@ use Rattle.insn_codec.specs.Spelling.{size, offset, starts_of, len_from, spellin
 use Rattle.insn_codec.specs.Writing.{held_by_2, held_by_4, near, far, all_far, reach, reach_from, written}
 use Rattle.insn_codec.proofs.CodeLaws.{spelled_code}
 use Rattle.bytecode_model.specs.declared.program.Method.{Method}
-use Rattle.class_linking.proofs.Telling.{count_len}
+use Rattle.class_linking.proofs.Lengths.{count_len}
 use Rattle.bytecode_model.specs.Sound.{IsSoundMethod}
 use Rattle.offset_patch.specs.Fits.{IsSite}
 use Rattle.offset_patch.specs.Plan.{Plan, IsGood}

@@ -9,7 +9,7 @@ use Rattle.class_codec.specs.declared.tree.Const.{Const}
 use Rattle.class_codec.specs.declared.tree.Const.TheVariants as constants
 use Rattle.insn_codec.specs.declared.insn.Insn.{Insn}
 use Rattle.insn_codec.specs.declared.insn.Insn.TheVariants as insns
-use Rattle.insn_codec.specs.declared.opcodes.TheConstants.{LDC_W, GETSTATIC, PUTSTATIC, GETFIELD, PUTFIELD, INVOKEVIRTUAL, INVOKESPECIAL, INVOKESTATIC, NEW, ANEWARRAY, CHECKCAST, INSTANCEOF}
+use Rattle.insn_codec.specs.declared.opcodes.TheConstants.{LDC_W, GETSTATIC, PUTSTATIC, GETFIELD, PUTFIELD, INVOKEVIRTUAL, INVOKESPECIAL, INVOKESTATIC, NEW, ANEWARRAY, CHECKCAST, INSTANCEOF, INVOKEINTERFACE}
 use Rattle.insn_codec.specs.Opcodes.{opcode_at, goes_on}
 use Rattle.insn_codec.specs.Spelling.{opcode_of}
 use Rattle.api_listing.specs.declared.types.Listing.{Listing}
@@ -35,7 +35,7 @@ is_call (uses.Field static writes) = false
 is_call uses.New = false
 is_call uses.Type = false
 
-call_goes_on : (goes_on INVOKEVIRTUAL ≡ true) × (goes_on INVOKESPECIAL ≡ true) × (goes_on INVOKESTATIC ≡ true) × (goes_on 0xB9 ≡ true)
+call_goes_on : (goes_on INVOKEVIRTUAL ≡ true) × (goes_on INVOKESPECIAL ≡ true) × (goes_on INVOKESTATIC ≡ true) × (goes_on INVOKEINTERFACE ≡ true)
 unfolding opcode_at
 call_goes_on = (refl, refl, refl, refl)
 

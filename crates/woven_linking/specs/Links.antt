@@ -1,4 +1,4 @@
--- What class files that were woven link to.
+-- What class files that were woven link to. (docs/BLOCKS.md)
 use Rattle.std.specs.Prelude.{◌≡◌, ℕ, ◌≤◌, List, length, map, Ok}
 use Rattle.class_codec.specs.declared.tree.ClassFile.{ClassFile}
 use Rattle.api_listing.specs.declared.types.Listing.{Listing}

@@ -1,4 +1,4 @@
--- Where the instructions of woven methods come from.
+-- Where the instructions of woven methods come from. (docs/BLOCKS.md)
 use Rattle.std.specs.Prelude.{◌≡◌, ◌≢◌, ℕ, ◌+◌, is_some, if◌then◌else◌, List, [], ◌∷◌, slice_get, slice_index, Some, Ok, ⊤}
 use Rattle.class_codec.specs.declared.tree.ClassFile.{ClassFile}
 use Rattle.class_codec.specs.declared.tree.Const.{Const}

@@ -2,6 +2,7 @@
 use Rattle.std.proofs.Common.{◌≡◌, ℕ, ◌+◌, ◌<◌, Bool, true, false, cond, List, [], ◌∷◌, ◌++◌, map, refl, sym, ap, ◌∙◌}
 use Rattle.std.specs.Prelude.{◌==◌, nat_lt, slice_index}
 use Rattle.std.proofs.lemmas.List.{map-append}
+use Rattle.insn_codec.specs.declared.opcodes.TheConstants.{GOTO, IFEQ, IFGE, IFGT, IFLE, IFLT, IFNE, IFNONNULL, IFNULL, IF_ACMPEQ, IF_ACMPNE, IF_ICMPEQ, IF_ICMPGE, IF_ICMPGT, IF_ICMPLE, IF_ICMPLT, IF_ICMPNE}
 use Rattle.insn_codec.specs.declared.insn.Insn.{Insn}
 use Rattle.insn_codec.specs.declared.insn.Insn.TheVariants as insns
 use Rattle.insn_codec.specs.Fits.{AimsWithin}
@@ -74,14 +75,14 @@ module _ (f : ℕ → ℕ) where
 
   tests : (op to : ℕ) → test_shape op (f to) ≡ retargeted f (test_shape op to)
   tests op to =
-      pick (op == 153) _ _ _ _ refl (pick (op == 154) _ _ _ _ refl (pick (op == 155) _ _ _ _ refl (pick (op == 156) _ _ _ _ refl (pick (op == 157) _ _ _ _ refl
-      (pick (op == 158) _ _ _ _ refl refl)))))
+      pick (op == IFEQ) _ _ _ _ refl (pick (op == IFNE) _ _ _ _ refl (pick (op == IFLT) _ _ _ _ refl (pick (op == IFGE) _ _ _ _ refl (pick (op == IFGT) _ _ _ _ refl
+      (pick (op == IFLE) _ _ _ _ refl refl)))))
 
   compares : (op to : ℕ) → comparing_shape op (f to) ≡ retargeted f (comparing_shape op to)
   compares op to =
-      pick (op == 159) _ _ _ _ refl (pick (op == 160) _ _ _ _ refl (pick (op == 161) _ _ _ _ refl (pick (op == 162) _ _ _ _ refl (pick (op == 163) _ _ _ _ refl
-      (pick (op == 164) _ _ _ _ refl (pick (op == 165) _ _ _ _ refl (pick (op == 166) _ _ _ _ refl (pick (op == 167) _ _ _ _ refl
-      (pick (op == 198) _ _ _ _ refl (pick (op == 199) _ _ _ _ refl refl))))))))))
+      pick (op == IF_ICMPEQ) _ _ _ _ refl (pick (op == IF_ICMPNE) _ _ _ _ refl (pick (op == IF_ICMPLT) _ _ _ _ refl (pick (op == IF_ICMPGE) _ _ _ _ refl (pick (op == IF_ICMPGT) _ _ _ _ refl
+      (pick (op == IF_ICMPLE) _ _ _ _ refl (pick (op == IF_ACMPEQ) _ _ _ _ refl (pick (op == IF_ACMPNE) _ _ _ _ refl (pick (op == GOTO) _ _ _ _ refl
+      (pick (op == IFNULL) _ _ _ _ refl (pick (op == IFNONNULL) _ _ _ _ refl refl))))))))))
 
   branches : (op to : ℕ) → branch_shape op (f to) ≡ retargeted f (branch_shape op to)
   branches op to = pick (nat_lt op 159) _ _ _ _ (tests op to) (compares op to)

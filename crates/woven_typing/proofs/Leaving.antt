@@ -5,6 +5,7 @@ use Rattle.std.proofs.lemmas.Bool.{and_from, and_parts}
 use Rattle.cert_format.specs.declared.typing.FrameType.{FrameType}
 use Rattle.cert_format.specs.declared.typing.VType.{VType}
 use Rattle.cert_format.specs.declared.typing.VType.TheVariants as types
+use Rattle.insn_codec.specs.declared.opcodes.TheConstants.{GOTO, IFEQ, IFGE, IFGT, IFLE, IFLT, IFNE, IFNONNULL, IFNULL, IF_ACMPEQ, IF_ACMPNE, IF_ICMPEQ, IF_ICMPGE, IF_ICMPGT, IF_ICMPLE, IF_ICMPLT, IF_ICMPNE}
 use Rattle.insn_codec.specs.declared.insn.Insn.{Insn}
 use Rattle.insn_codec.specs.declared.insn.Insn.TheVariants as insns
 use Rattle.insn_codec.specs.declared.shape.Heap.TheVariants as heap
@@ -39,14 +40,14 @@ either false x y p q = q
 
 tests_alone : (op to : ℕ) → IsFrameOnly (test_shape op to)
 tests_alone op to =
-    either (op == 153) _ _ refl (either (op == 154) _ _ refl (either (op == 155) _ _ refl (either (op == 156) _ _ refl
-    (either (op == 157) _ _ refl (either (op == 158) _ _ refl refl)))))
+    either (op == IFEQ) _ _ refl (either (op == IFNE) _ _ refl (either (op == IFLT) _ _ refl (either (op == IFGE) _ _ refl
+    (either (op == IFGT) _ _ refl (either (op == IFLE) _ _ refl refl)))))
 
 compares_alone : (op to : ℕ) → IsFrameOnly (comparing_shape op to)
 compares_alone op to =
-    either (op == 159) _ _ refl (either (op == 160) _ _ refl (either (op == 161) _ _ refl (either (op == 162) _ _ refl
-    (either (op == 163) _ _ refl (either (op == 164) _ _ refl (either (op == 165) _ _ refl (either (op == 166) _ _ refl
-    (either (op == 167) _ _ refl (either (op == 198) _ _ refl (either (op == 199) _ _ refl refl))))))))))
+    either (op == IF_ICMPEQ) _ _ refl (either (op == IF_ICMPNE) _ _ refl (either (op == IF_ICMPLT) _ _ refl (either (op == IF_ICMPGE) _ _ refl
+    (either (op == IF_ICMPGT) _ _ refl (either (op == IF_ICMPLE) _ _ refl (either (op == IF_ACMPEQ) _ _ refl (either (op == IF_ACMPNE) _ _ refl
+    (either (op == GOTO) _ _ refl (either (op == IFNULL) _ _ refl (either (op == IFNONNULL) _ _ refl refl))))))))))
 
 branches_alone : (op to : ℕ) → IsFrameOnly (branch_shape op to)
 branches_alone op to = either (nat_lt op 159) _ _ (tests_alone op to) (compares_alone op to)

@@ -1,26 +1,22 @@
 -- What a policy that was read tells of its methods, and that Throwable is a class of each listing.
-use Rattle.std.proofs.Common.{◌≡◌, ℕ, zero, suc, Bool, true, false, cond, List, [], ◌∷◌, ◌++◌, length, map, filter, replicate, Option, Some, None, refl, sym, ap, subst, ◌∙◌, append_assoc}
-use Rattle.std.specs.Prelude.{ℤ, IfSome, bytes_eq, codes, option_map, slice_get}
+use Rattle.std.proofs.Common.{◌≡◌, ℕ, zero, suc, Bool, true, false, cond, List, [], ◌∷◌, ◌++◌, length, map, replicate, Option, Some, None, refl, sym, ap, subst, ◌∙◌, append_assoc}
+use Rattle.std.specs.Prelude.{ℤ, IfSome, bytes_eq, codes, option_map}
 use Rattle.std.specs.List.{AllByRecursion, filter_map, list_any}
 use Rattle.api_listing.specs.declared.descriptor.Element.{Element}
 use Rattle.api_listing.specs.declared.descriptor.Element.TheVariants as elements
 use Rattle.api_listing.specs.declared.descriptor.FieldType.{FieldType}
 use Rattle.api_listing.specs.declared.descriptor.MethodType.{MethodType}
-use Rattle.api_listing.specs.declared.declaration.Declaration.{Declaration}
-use Rattle.api_listing.specs.declared.declaration.Declaration.TheVariants as declared
 use Rattle.api_listing.specs.declared.types.ListedClass.{ListedClass}
-use Rattle.api_listing.specs.declared.types.ListedMethod.{ListedMethod}
 use Rattle.api_listing.specs.declared.types.Listing.{Listing}
 use Rattle.api_listing.specs.BuiltIn.{built_in_classes, class_rows, throwable}
 use Rattle.api_listing.specs.Descriptor as listed
 use Rattle.api_listing.specs.Descriptor.{SpellsDescriptor}
-use Rattle.api_listing.specs.Lines.{says_something}
-use Rattle.api_listing.specs.Listing.{AreSaid, SpellsListing, class_declared, method_declared}
+use Rattle.api_listing.specs.Listing.{SpellsListing, class_declared}
 use Rattle.api_listing.specs.Nearest.{upwards}
 use Rattle.bytecode_model.specs.declared.program.LinkedClass.{LinkedClass}
 use Rattle.bytecode_model.specs.Described.{Descriptor, arguments, result_text, type_described}
 use Rattle.bytecode_model.specs.Heads.{head_of}
-use Rattle.bytecode_model.proofs.Lists.{all_get}
+use Rattle.bytecode_model.proofs.ListedMethods.{method_spelled}
 use Rattle.conspec_tree.specs.declared.types.Kind.{Kind}
 use Rattle.conspec_tree.specs.declared.types.TreeClause.{TreeClause}
 use Rattle.conspec_tree.specs.Kinds.{array_kind, kind_of}
@@ -54,25 +50,6 @@ not_nothing zero elements.Short = refl
 not_nothing zero elements.Int = refl
 not_nothing zero (elements.Class name) = refl
 
--- ---- the methods of the listing
-
--- The descriptor of the method spells types.
-abbrev IsSpelled : ListedMethod → Type 0
-IsSpelled m = (types : MethodType) × SpellsDescriptor m.id.desc types
-
-methods_said : (lines : List (List ℕ)) (said : List Declaration) → AreSaid lines said → AllByRecursion IsSpelled (filter_map method_declared said)
-methods_said [] [] are = tt
-methods_said [] (d ∷ said) are = absurd are
-methods_said (line ∷ lines) [] are = absurd are
-methods_said (line ∷ lines) (declared.Class c ∷ said) are = methods_said lines said are.1
-methods_said (line ∷ lines) (declared.Method m types ∷ said) are = ((types, are.0.1), methods_said lines said are.1)
-methods_said (line ∷ lines) (declared.Field id class ∷ said) are = methods_said lines said are.1
-
-listed_spelled : (text : List ℕ) (listing : Listing) (index : ℕ) (m : ListedMethod) → SpellsListing text listing → slice_get listing.methods index ≡ Some m → IsSpelled m
-listed_spelled text listing index m spells there =
-    let all = methods_said (filter says_something spells.lines) spells.said spells.spelled in
-    all_get IsSpelled (filter_map method_declared spells.said) index m all (ap (λ (l : Listing). slice_get l.methods index) (sym spells.listed) ∙ there)
-
 -- ---- clauses
 
 arguments_told : (args : List Kind) (desc : List ℕ) (types : MethodType) → SpellsDescriptor desc types → args ≡ map kind_of types.arguments
@@ -99,7 +76,7 @@ module _ (text : List ℕ) (listing : Listing) (spells : SpellsListing text list
   clause_tells : (clause : TreeClause) → ClauseTellsKinds listing clause → ClauseTellsResult listing clause
       → ClauseTells listing (clause_built maxint clause)
   clause_tells clause kinds results method there =
-      let spelled = listed_spelled text listing clause.method method spells there in
+      let spelled = method_spelled text listing clause.method method spells there in
       record {
         arguments = arguments_told clause.args method.id.desc spelled.0 spelled.1 (kinds method spelled.0 there spelled.1);
         result = result_told clause.result method.id.desc spelled.0 spelled.1 (results method spelled.0 there spelled.1);

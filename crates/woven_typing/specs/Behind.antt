@@ -1,4 +1,4 @@
--- The types behind a call, told of those before it.
+-- The types behind a call, told of those before it. (docs/TYPING.md)
 use Rattle.std.specs.Prelude.{ℕ, ◌+◌, if◌then◌else◌, List, ◌++◌, length, map}
 use Rattle.cert_format.specs.declared.typing.FrameType.{FrameType}
 use Rattle.cert_format.specs.declared.typing.VType.{VType}

@@ -1,5 +1,5 @@
 -- The frames of a woven program, told of the program and its frames: an instruction without a block has its frame, and each
--- instruction of a block has that of its role.
+-- instruction of a block has that of its role. (docs/TYPING.md)
 use Rattle.std.specs.Prelude.{ℕ, ◌+◌, ◌-◌, nat_lt, nat_le, if◌then◌else◌, List, [], ◌∷◌, ◌++◌, drop, length, map, slice_index, Option, Some, None, option_and_then, option_map}
 use Rattle.cert_format.specs.declared.certificate.Mode.{Mode}
 use Rattle.cert_format.specs.declared.typing.FrameType.{FrameType}

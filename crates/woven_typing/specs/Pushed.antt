@@ -1,4 +1,4 @@
--- What a block has pushed, as types; and what its types are told of.
+-- What a block has pushed, as types; and what its types are told of. (docs/BLOCKS.md)
 use Rattle.std.specs.Prelude.{codes, List, [], ◌∷◌}
 use Rattle.cert_format.specs.declared.typing.VType.{VType}
 use Rattle.cert_format.specs.declared.typing.VType.TheVariants as types

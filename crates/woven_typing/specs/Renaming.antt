@@ -1,4 +1,4 @@
--- Types of instructions that stand elsewhere: an object that is not made yet is told by the index of its `new`.
+-- Types of instructions that stand elsewhere: an object that is not made yet is told by the index of its `new`. (docs/BLOCKS.md)
 use Rattle.std.specs.Prelude.{ℕ, map}
 use Rattle.cert_format.specs.declared.typing.FrameType.{FrameType}
 use Rattle.cert_format.specs.declared.typing.VType.{VType}

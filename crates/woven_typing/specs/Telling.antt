@@ -1,4 +1,4 @@
--- What a policy tells of the methods that it has clauses for: the kinds of their arguments and of their results.
+-- What a policy tells of the methods that it has clauses for: the kinds of their arguments and of their results. (docs/TYPING.md)
 use Rattle.std.specs.Prelude.{◌≡◌, ℕ, List, [], ◌∷◌, slice_get, Some, IfSome, true, ⊤}
 use Rattle.std.specs.List.{AllByRecursion}
 use Rattle.api_listing.specs.declared.types.ListedMethod.{ListedMethod}

@@ -1,4 +1,4 @@
--- What is woven of a typed program is typed, for every policy and in both modes.
+-- What is woven of a typed program is typed, for every policy and in both modes. (docs/TYPING.md)
 use Rattle.std.specs.Prelude.{◌≡◌, ℕ, ◌+◌, ◌&&◌, Bool, true, false, is_some, slice_get, slice_index, Option, Some, option_map}
 use Rattle.cert_format.specs.declared.certificate.Mode.{Mode}
 use Rattle.cert_format.specs.declared.typing.FrameType.{FrameType}

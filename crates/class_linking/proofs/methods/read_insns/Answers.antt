@@ -1,5 +1,5 @@
 use Rattle.std.proofs.Common.{arith}
-use Rattle.class_linking.proofs.Telling.{count_len}
+use Rattle.class_linking.proofs.Lengths.{count_len}
 use Rattle.class_linking.proofs.methods.read_insns.Goals as goal
 
 pub returns-in-Ok-clause-count : goal.returns-in-Ok-clause-count

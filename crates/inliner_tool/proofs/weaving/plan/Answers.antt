@@ -27,7 +27,7 @@ rewoven-requires-clause-policy c =
 
 pub rewoven-requires-clause-count : goal.rewoven-requires-clause-count
 rewoven-requires-clause-count c =
-    few_woven (given_for c.in_ok-client.client c.in_ok-typing.typing c.in_ok-policy.policy c.in_ok-mode.mode) c.in_ok-made.made c.in_ok-client.ensures.links.few (rw (← c.program.ensures) c.in_ok-made.ensures.exact)
+    few_woven (given_for c.in_ok-client.client c.in_ok-typing.typing c.in_ok-policy.policy c.in_ok-mode.mode) c.in_ok-made.made c.in_ok-client.ensures.few (rw (← c.program.ensures) c.in_ok-made.ensures.exact)
 
 pub rewoven-requires-clause-expected : goal.rewoven-requires-clause-expected
 rewoven-requires-clause-expected c =
@@ -45,7 +45,7 @@ rewoven-requires-clause-expected c =
     c.told_is_typed.ensures c.woven_is_accepted.ensures.accepted c.woven_program_is_linked.ensures.linked c.woven_program_is_linked.ensures.back c.woven_program_is_linked.ensures.room
     c.woven_program_is_linked.ensures.sound inputs c.requires named.main given c.in_ok-made.made (inputs_link named inputs client (sym c.in_ok-client.ensures.is))
     c.in_ok-client.ensures.sound c.in_ok-client.ensures.links c.in_ok-policy.ensures.is good (rw (← c.program.ensures) c.in_ok-made.ensures.exact) c.in_ok-typing.ensures.is c.in_ok-typing.ensures.shaped
-    c.in_ok-made.ensures.fits (few_woven given c.in_ok-made.made c.in_ok-client.ensures.links.few (rw (← c.program.ensures) c.in_ok-made.ensures.exact)))
+    c.in_ok-made.ensures.fits (few_woven given c.in_ok-made.made c.in_ok-client.ensures.few (rw (← c.program.ensures) c.in_ok-made.ensures.exact)))
 
 pub returns-clause-plans : goal.returns-clause-plans
 returns-clause-plans c =
