@@ -13,5 +13,6 @@ pub mod Keeping
 pub mod Obeyed
 pub mod Starting
 pub mod Whole
+pub mod Locking
 pub mod Client
 pub mod Owner

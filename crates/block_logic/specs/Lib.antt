@@ -10,3 +10,4 @@ pub mod Accepted
 pub mod Meaning
 pub mod Fitting
 pub mod Obeying
+pub mod Locking

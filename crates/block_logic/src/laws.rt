@@ -1,8 +1,10 @@
 //! What accepted programs do.
 
+ghost use Rattle.block_logic.specs.Locking.{FreeLockIsTaken};
 ghost use Rattle.block_logic.specs.Obeying.{AcceptedObeys, LockOrders};
 
 use conspec_automaton::seen_is_enough;
+use guest_model::steps_are_enabled;
 
 /// Whatever the steps of an accepted program are, its events obey the policy.
 pub fn accepted_obeys()
@@ -17,4 +19,12 @@ pub fn lock_orders()
     ensures orders { LockOrders }
 {
     seen_is_enough();
+}
+
+/// What is promised of the lock is not empty: where nobody holds it, and a thread stands before `monitorenter` with the lock on
+/// top of its operands, the step of this thread is enabled, and behind it the thread holds the lock.
+pub fn free_lock_is_taken()
+    ensures taken { FreeLockIsTaken }
+{
+    steps_are_enabled();
 }

@@ -4,3 +4,4 @@ pub mod Built
 pub mod Obeying
 pub mod Turned
 mod Seeing
+mod Refusing

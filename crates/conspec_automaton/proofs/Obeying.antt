@@ -70,7 +70,7 @@ no_clause policy state event e = by (clause_of policy event) e where
   by None is = refl
   by (Some clause) is = absurd (false≢true (sym is))
 
-refused_has_clause : (policy : Policy) (state : Values) (event : Event) → next policy state event ≡ None → has_clause policy event ≡ true
+pub refused_has_clause : (policy : Policy) (state : Values) (event : Event) → next policy state event ≡ None → has_clause policy event ≡ true
 refused_has_clause policy state event e = by (has_clause policy event) refl where
   by : (b : Bool) → has_clause policy event ≡ b → has_clause policy event ≡ true
   by true is = is

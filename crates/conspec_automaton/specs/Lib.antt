@@ -6,6 +6,7 @@ pub mod Sound
 pub mod Obeys
 pub mod Turning
 pub mod Verdict
+pub mod Refused
 pub mod Denying
 pub mod Events
 pub mod Racing

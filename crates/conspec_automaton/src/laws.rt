@@ -7,6 +7,7 @@ ghost use Rattle.api_listing.specs.declared.events.Event.TheVariants as events;
 ghost use Rattle.conspec_automaton.specs.declared.policy.Policy.{Policy};
 ghost use Rattle.conspec_automaton.specs.Next.{Values, next};
 ghost use Rattle.conspec_automaton.specs.Obeys.{after};
+ghost use Rattle.conspec_automaton.specs.Refused.{RefusedCallsDisobey, RefusedReturnsDiffer};
 ghost use Rattle.conspec_automaton.specs.Sight.{sight_of};
 ghost use Rattle.conspec_automaton.specs.Turning.{Keeps};
 
@@ -30,4 +31,11 @@ pub fn seen_is_enough()
     ensures alike { (method thread other object another : ℕ) (class next : List ℕ)
         → sight_of (events.Call thread method (api.Obj class object ∷ []))
         ≡ sight_of (events.Call other method (api.Obj next another ∷ [])) }
+{}
+
+/// The modes differ: where the events are accepted and then a return is refused, which comes last, they obey in mode hold
+/// and do not obey in mode release; where a call is refused, they obey in neither.
+pub fn modes_differ()
+    ensures returns { RefusedReturnsDiffer }
+    ensures calls { RefusedCallsDisobey }
 {}

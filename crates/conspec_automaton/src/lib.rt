@@ -15,7 +15,7 @@ mod state;
 
 pub use asking::{clause_of, has_clause, is_return};
 pub use building::{build, denies_only};
-pub use laws::{ranges_are_kept, runs_join, seen_is_enough};
+pub use laws::{modes_differ, ranges_are_kept, runs_join, seen_is_enough};
 pub use policy::{Branch, Clause, Policy, has_clauses};
 pub use running::{Verdict, accept, initial, next, stays_in_range};
 pub use state::State;

@@ -1,6 +1,6 @@
 -- The events of a typed program are well formed for a policy that tells the types of its methods.
 use Rattle.std.proofs.Common.{◌≡◌, ℕ, ℤ, zero, suc, ◌<◌, true, ◌&&◌, List, [], ◌∷◌, map, Option, Some, None, refl, sym, ap, subst, ◌∙◌, arith}
-use Rattle.std.specs.Prelude.{◌≢◌, pos, negsuc, ◌==◌, find, int_le, slice_get, option_map, FitsSigned}
+use Rattle.std.specs.Prelude.{◌≢◌, pos, negsuc, ◌==◌, int_le, slice_get, option_map, FitsSigned}
 use Rattle.std.specs.Int.{w32}
 use Rattle.std.specs.List.{AllByRecursion}
 use Rattle.std.proofs.lemmas.Bool.{and_parts, and_from, eqb-true, le-leb}
@@ -12,6 +12,7 @@ use Rattle.api_listing.specs.declared.events.ApiValue.{ApiValue}
 use Rattle.api_listing.specs.declared.events.ApiValue.TheVariants as api
 use Rattle.api_listing.specs.declared.events.Event.{Event}
 use Rattle.api_listing.specs.declared.events.Event.TheVariants as events
+use Rattle.api_listing.specs.declared.types.Listing.{Listing}
 use Rattle.bytecode_model.specs.declared.program.Program.{Program}
 use Rattle.bytecode_model.specs.Sound.{IsSound}
 use Rattle.bytecode_model.specs.Standing.{AreLiterals}
@@ -23,7 +24,7 @@ use Rattle.conspec_tree.specs.Kinds.{kind_of, array_kind, element_kind}
 use Rattle.conspec_automaton.specs.declared.policy.Clause.{Clause}
 use Rattle.conspec_automaton.specs.declared.policy.Policy.{Policy}
 use Rattle.conspec_automaton.specs.Events.{IsNumberOf, IsWellFormed, least_of, greatest_of}
-use Rattle.conspec_automaton.specs.Next.{speaks_of}
+use Rattle.conspec_automaton.specs.Next.{clause_of, method_of, speaks_of}
 use Rattle.conspec_automaton.specs.Range.{is_between}
 use Rattle.guest_model.specs.Answers.{is_number_of, fits_number}
 use Rattle.guest_model.specs.Calls.{types_of}
@@ -98,26 +99,26 @@ given (Some t) result value told returned kind e some =
 
 -- ---- events
 
-module _ (program : Program) (policy : Policy) (tells : AllByRecursion (TellsTypes program.listing) policy.clauses) where
-  -- The clause that is found is of the method, and tells its types.
-  found : (event : Event) (clause : Clause) → find (speaks_of event) policy.clauses ≡ Some clause
-      → TellsTypes program.listing clause × (speaks_of event clause ≡ true)
-  found event clause e =
-      let f = find_is (speaks_of event) policy.clauses clause e in
-      (among (TellsTypes program.listing) policy.clauses clause tells f.0, f.1)
+-- The clause that is found is of the method, and tells its types.
+pub found : (listing : Listing) (policy : Policy) → AllByRecursion (TellsTypes listing) policy.clauses → (event : Event) (clause : Clause)
+    → clause_of policy event ≡ Some clause → TellsTypes listing clause × (clause.method ≡ method_of event)
+found listing policy tells event clause e =
+    let f = find_is (speaks_of event) policy.clauses clause e in (
+      among (TellsTypes listing) policy.clauses clause tells f.0,
+      eqb-true clause.method (method_of event) (and_parts (clause.method == method_of event) _ f.1).0,
+    )
 
+module _ (program : Program) (policy : Policy) (tells : AllByRecursion (TellsTypes program.listing) policy.clauses) where
   formed : (event : Event) → IsInRange program event → PassesNumbers program event → IsWellFormed policy event
   formed (events.Call thread method arguments) range numbers clause e =
-      let f = found (events.Call thread method arguments) clause e in
-      let of : clause.method ≡ method = eqb-true clause.method method (and_parts (clause.method == method) _ f.1).0 in
+      let f = found program.listing policy tells (events.Call thread method arguments) clause e in
       let l = there_and (slice_get program.listing.methods method) range in
-      passed (types_of l.0.id.desc).arguments clause.args arguments (f.0.args l.0 (ap (slice_get program.listing.methods) of ∙ l.1)) l.2.words
+      passed (types_of l.0.id.desc).arguments clause.args arguments (f.0.args l.0 (ap (slice_get program.listing.methods) f.1 ∙ l.1)) l.2.words
       (numbers l.0 l.1)
   formed (events.Return thread method value) range numbers clause e =
-      let f = found (events.Return thread method value) clause e in
-      let of : clause.method ≡ method = eqb-true clause.method method (and_parts (clause.method == method) _ f.1).0 in
+      let f = found program.listing policy tells (events.Return thread method value) clause e in
       let l = there_and (slice_get program.listing.methods method) range in
-      given (types_of l.0.id.desc).result clause.result value (f.0.result l.0 (ap (slice_get program.listing.methods) of ∙ l.1)) l.2
+      given (types_of l.0.id.desc).result clause.result value (f.0.result l.0 (ap (slice_get program.listing.methods) f.1 ∙ l.1)) l.2
   formed (events.Except thread method) range numbers clause e = tt
 
   each_formed : (seen : List Event) → AllByRecursion (IsInRange program) seen → AllByRecursion (PassesNumbers program) seen

@@ -35,4 +35,5 @@ pub mod Library
 pub mod Passed
 pub mod Runs
 pub mod Formed
+pub mod IllFormed
 pub mod Telling

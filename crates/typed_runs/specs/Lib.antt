@@ -5,3 +5,4 @@ pub mod Machines
 pub mod Programs
 pub mod Runs
 pub mod Formed
+pub mod IllFormed

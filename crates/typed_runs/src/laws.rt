@@ -1,6 +1,7 @@
 //! What a typing promises of runs.
 
 ghost use Rattle.typed_runs.specs.Formed.{PoliciesTellTypes, SeesWellFormed};
+ghost use Rattle.typed_runs.specs.IllFormed.{NullIsNoArgument, NullIsNoResult, WideIsNoResult};
 ghost use Rattle.typed_runs.specs.Runs.{RunsFit, NeverStuck};
 
 use bytecode_model::uses_are_shaped;
@@ -24,6 +25,15 @@ pub fn events_are_well_formed()
     uses_are_shaped();
     sees_numbers_in_range();
 }
+
+/// What is promised of events is not empty. Where a policy tells the types of its methods, an event with a clause is not well
+/// formed for it that returns null, or a number of 33 bits, from a method that gives an int; nor is one that passes null
+/// where the method takes an int.
+pub fn ill_formed_events()
+    ensures null { NullIsNoResult }
+    ensures wide { WideIsNoResult }
+    ensures passed { NullIsNoArgument }
+{}
 
 /// The automaton of a policy that was read, with a listing that was read, tells the types of its methods.
 pub fn policies_tell_types()

@@ -4,4 +4,6 @@
 
 mod laws;
 
-pub use laws::{events_are_well_formed, policies_tell_types, typed_programs_run};
+pub use laws::{
+    events_are_well_formed, ill_formed_events, policies_tell_types, typed_programs_run,
+};
