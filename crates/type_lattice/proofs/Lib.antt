@@ -8,4 +8,3 @@ pub mod Orders
 mod Bounds
 mod Least
 mod Alone
-mod Circles

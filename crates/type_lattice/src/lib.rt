@@ -10,7 +10,6 @@ mod assigning;
 mod by_name;
 mod classes;
 mod comparing;
-mod ending;
 mod hierarchy;
 mod indexed;
 mod laws;
