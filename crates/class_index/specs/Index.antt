@@ -1,7 +1,8 @@
 -- Ordered maps made once, from which each look-up gives what a plain scan gives.
-use Rattle.std.specs.Prelude.{◌≡◌, ℕ, ◌+◌, List, length, Option, Some}
+use Rattle.std.specs.Prelude.{◌≡◌, ℕ, ◌+◌, List, length, Option, Some, Vec}
 use Rattle.std.specs.BTreeMap.{BTreeMap, get}
 use Rattle.std.specs.BTreeSet.{BTreeSet}
+use Rattle.std.specs.Global.{Global}
 use Rattle.std.specs.Option.{option_or}
 use Rattle.mon_base.specs.declared.method.MethodId.{MethodId}
 use Rattle.class_codec.specs.declared.tree.ClassFile.{ClassFile}
@@ -30,7 +31,7 @@ abbrev pub Notes : List Declared → BTreeMap MethodId Found → BTreeMap Method
 Notes declared old new = (q : MethodId) → found_in new q ≡ option_or (found_in old q) (first_of declared q)
 
 -- The map has the place of the first class of each name, and the number is how many interfaces they name.
-pub record AreClasses (places : BTreeMap (List ℕ) ℕ) (interfaces : ℕ) (classes : List ListedClass) : Type 0 where
+pub record AreClasses (places : BTreeMap (Vec ℕ Global) ℕ) (interfaces : ℕ) (classes : List ListedClass) : Type 0 where
   pub placed : ClassesPlaced places classes
   pub count : interfaces ≡ length (interfaces_of classes)
 

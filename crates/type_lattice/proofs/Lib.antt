@@ -1,7 +1,6 @@
 pub mod Ascending
 pub mod Filling
 pub mod OnNames
-pub mod ByName
 pub mod Arrays
 pub mod Within
 pub mod Orders
