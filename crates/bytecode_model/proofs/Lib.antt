@@ -1,3 +1,4 @@
+pub mod ByName
 pub mod Climbing
 pub mod Codes
 pub mod Ending

@@ -1,18 +1,16 @@
 -- Places of names in a map: of each name the first counts.
-use Rattle.std.proofs.Common.{◌≡◌, ℕ, ◌+◌, Bool, true, false, cond, List, [], ◌∷◌, Option, Some, None, refl, sym, ap, ◌∙◌, subst, ◌||◌, ◌++◌, ◌<◌, ◌≤◌, length, get_or, arith, add-one}
+use Rattle.std.proofs.Common.{◌≡◌, ℕ, ◌+◌, Bool, true, false, cond, List, [], ◌∷◌, Option, Some, None, refl, sym, ap, ◌∙◌, ◌||◌, ◌++◌, ◌<◌, ◌≤◌, length, get_or, arith, add-one}
 use denote.Ref.{Bor}
-use Rattle.std.specs.Prelude.{bytes_eq, find, MatchOption, IfSome}
+use Rattle.std.specs.Prelude.{bytes_eq, find, MatchOption, IfSome, Vec}
 use Rattle.std.proofs.lemmas.Option.{slice_get_past, slice_get_read}
 use Rattle.std.specs.List.{position_from, list_any, slice_get, HoldsAt}
 use Rattle.std.specs.Option.{option_or, option_map, is_some, option_and_then, option_copied}
-use Rattle.std.specs.Ordering.{is_eq, nat_cmp}
-use Rattle.std.specs.Cmp.Lexicographic.{slice_cmp}
-use Rattle.std.specs.BTreeMap.{BTreeMap, is_at}
-use Rattle.std.specs.Map.{lookup}
+use Rattle.std.specs.BTreeMap.{BTreeMap}
+use Rattle.std.specs.Global.{Global}
 use Rattle.std.proofs.lemmas.Bool.{false≢true}
-use Rattle.std.proofs.lemmas.Map.Text.{is_eq-slice_cmp}
 use Rattle.std.proofs.lemmas.Slice.Eq.{bytes_eq-Decides}
-use Rattle.bytecode_model.specs.Places.{place_in, name_place, NamesPlaced}
+use Rattle.bytecode_model.specs.ByName.{noted}
+use Rattle.bytecode_model.specs.Places.{name_place, NamesPlaced}
 use Rattle.bytecode_model.specs.SearchOrder.{is_one_of, with_name}
 use Rattle.bytecode_model.proofs.Lists.{or_none, or_or}
 
@@ -27,15 +25,6 @@ pub none_or : {X : Type 0} (o p : Option X) → is_some o ≡ false → p ≡ op
 none_or None p e = refl
 none_or (Some x) p e = absurd (false≢true (sym e))
 
--- a new name
-pub adds_place : {X : Type 0} (old new : BTreeMap (List ℕ) X) (name : List ℕ) (place : X) → is_some (place_in old name) ≡ false
-    → ((q : List ℕ) → place_in new q ≡ cond (is_eq (slice_cmp nat_cmp name q)) (Some place) (place_in old q)) → (q : List ℕ) → place_in new q ≡ option_or (place_in old q) (cond (bytes_eq name q) (Some place) None)
-adds_place old new name place absent puts q =
-    puts q ∙ ap (λ b. cond b (Some place) (place_in old q)) (is_eq-slice_cmp name q)
-    ∙ test_cases (bytes_eq name q) (λ b. cond b (Some place) (place_in old q) ≡ option_or (place_in old q) (cond b (Some place) None))
-    (λ e. none_or (place_in old q) (Some place) (subst (λ (n : List ℕ). is_some (place_in old n) ≡ false) (same_name name q e) absent))
-    (λ e. sym (or_none (place_in old q)))
-
 -- one item more
 pub place_goes_on : {X : Type 0} (test : X → Bool) (all rest : List X) (x : X) (index : ℕ) (before after total : Option ℕ) → all ≡ x ∷ rest
     → after ≡ option_or before (cond (test x) (Some index) None) → option_or before (position_from test index all) ≡ total → option_or after (position_from test (index + 1) rest) ≡ total
@@ -48,12 +37,6 @@ place_goes_on test all rest x index before after total is more so_far =
 
 pub place_is_done : {X : Type 0} (test : X → Bool) (all : List X) (index : ℕ) (before total : Option ℕ) → all ≡ [] → option_or before (position_from test index all) ≡ total → before ≡ total
 place_is_done test all index before total is so_far = sym (or_none before) ∙ ap (λ xs. option_or before (position_from test index xs)) (sym is) ∙ so_far
-
--- a map that is empty
-pub no_place : (places : BTreeMap (List ℕ) ℕ) (q : List ℕ) (o : Option ℕ) → places.entries ≡ [] → option_or (place_in places q) o ≡ o
-no_place places q o empty = ap (λ p. option_or p o) (none_in places.entries empty) where
-  none_in : (es : List (List ℕ × ℕ)) → es ≡ [] → lookup (is_at (slice_cmp nat_cmp q)) es ≡ None
-  none_in es e = ap (lookup (is_at (slice_cmp nat_cmp q))) e
 
 -- whether there is a place
 pub has_place : {X : Type 0} (test : X → Bool) (index : ℕ) (xs : List X) → is_some (position_from test index xs) ≡ list_any test xs
@@ -107,11 +90,11 @@ with_known names name e = sym (ap (λ b. cond b names (names ++ name ∷ [])) e)
 pub with_new : (names : List (List ℕ)) (name : List ℕ) → is_one_of names name ≡ false → names ++ name ∷ [] ≡ with_name names name
 with_new names name e = sym (ap (λ b. cond b names (names ++ name ∷ [])) e)
 
-pub is_placed : (places : BTreeMap (List ℕ) ℕ) (names : List (List ℕ)) (name : List ℕ) (b : Bool) → NamesPlaced places names → b ≡ is_some (place_in places name) → is_one_of names name ≡ b
+pub is_placed : (places : BTreeMap (Vec ℕ Global) ℕ) (names : List (List ℕ)) (name : List ℕ) (b : Bool) → NamesPlaced places names → b ≡ is_some (noted places name) → is_one_of names name ≡ b
 is_placed places names name b placed e = sym (e ∙ ap is_some (placed name) ∙ has_place (λ other. bytes_eq other name) 0 names)
 
-pub text_pushed : (old new : BTreeMap (List ℕ) ℕ) (texts more : List (List ℕ)) (text copy : List ℕ) (n : ℕ) → copy ≡ text → more ≡ texts ++ copy ∷ [] → n ≡ length texts → NamesPlaced old texts
-    → ((q : List ℕ) → place_in new q ≡ option_or (place_in old q) (cond (bytes_eq text q) (Some n) None)) → NamesPlaced new more
+pub text_pushed : (old new : BTreeMap (Vec ℕ Global) ℕ) (texts more : List (List ℕ)) (text copy : List ℕ) (n : ℕ) → copy ≡ text → more ≡ texts ++ copy ∷ [] → n ≡ length texts → NamesPlaced old texts
+    → ((q : List ℕ) → noted new q ≡ option_or (noted old q) (cond (bytes_eq text q) (Some n) None)) → NamesPlaced new more
 text_pushed old new texts more text copy n same is count placed puts q =
     puts q ∙ ap (λ o. option_or o (cond (bytes_eq text q) (Some n) None)) (placed q)
     ∙ sym (place_pushed (λ other. bytes_eq other q) texts 0 n text (omega arith))

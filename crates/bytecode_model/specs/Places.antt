@@ -1,14 +1,10 @@
 -- Places of classes and names in a map: of each name the first counts. (docs/LINKING.md)
-use Rattle.std.specs.Prelude.{◌≡◌, ℕ, List, bytes_eq, Option}
+use Rattle.std.specs.Prelude.{◌≡◌, ℕ, List, bytes_eq, Option, Vec}
 use Rattle.std.specs.List.{position_from}
-use Rattle.std.specs.Ordering.{nat_cmp}
-use Rattle.std.specs.Cmp.Lexicographic.{slice_cmp}
-use Rattle.std.specs.BTreeMap.{BTreeMap, get}
+use Rattle.std.specs.BTreeMap.{BTreeMap}
+use Rattle.std.specs.Global.{Global}
 use Rattle.api_listing.specs.declared.types.ListedClass.{ListedClass}
-
--- what a map has for the name
-abbrev pub place_in : {X : Type 0} → BTreeMap (List ℕ) X → List ℕ → Option X
-place_in places name = get (slice_cmp nat_cmp) places name
+use Rattle.bytecode_model.specs.ByName.{noted}
 
 -- the index of the first class with the name
 abbrev pub class_place : List ListedClass → List ℕ → Option ℕ
@@ -19,9 +15,9 @@ abbrev pub name_place : List (List ℕ) → List ℕ → Option ℕ
 name_place names name = position_from (λ other. bytes_eq other name) 0 names
 
 -- The map has the place of the first class of each name.
-abbrev pub ClassesPlaced : BTreeMap (List ℕ) ℕ → List ListedClass → Type 0
-ClassesPlaced places classes = (q : List ℕ) → place_in places q ≡ class_place classes q
+abbrev pub ClassesPlaced : BTreeMap (Vec ℕ Global) ℕ → List ListedClass → Type 0
+ClassesPlaced places classes = (q : List ℕ) → noted places q ≡ class_place classes q
 
 -- The map has the place of each name.
-abbrev pub NamesPlaced : BTreeMap (List ℕ) ℕ → List (List ℕ) → Type 0
-NamesPlaced places names = (q : List ℕ) → place_in places q ≡ name_place names q
+abbrev pub NamesPlaced : BTreeMap (Vec ℕ Global) ℕ → List (List ℕ) → Type 0
+NamesPlaced places names = (q : List ℕ) → noted places q ≡ name_place names q

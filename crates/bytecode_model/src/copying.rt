@@ -156,7 +156,8 @@ fn copy_listing(alloc: Global, listing: &Listing) -> Result<Listing, NoMemory>
     })
 }
 
-fn copy_classes(alloc: Global, classes: &[ListedClass]) -> Result<List<ListedClass>, NoMemory>
+/// Equal classes.
+pub fn copy_classes(alloc: Global, classes: &[ListedClass]) -> Result<List<ListedClass>, NoMemory>
     ensures { IfOk result (λ copy. copy ≡ classes.now) }
 {
     let mut copy = List::new(alloc);

@@ -6,11 +6,13 @@
 #![tactic(auto)]
 
 mod arrays;
+mod by_name;
 mod copying;
 mod covering;
 mod exception_table;
 mod files;
 mod flags;
+mod heads;
 mod laws;
 mod lending;
 mod member_code;
@@ -18,14 +20,17 @@ mod members;
 mod nested;
 mod operand;
 mod origin;
+mod places;
 mod program;
 mod text;
 
 pub use arrays::{is_array, push_described};
-pub use copying::{copy_insn, copy_keys};
+pub use by_name::{ByName, note, noted};
+pub use copying::{copy_classes, copy_insn, copy_keys};
 pub use exception_table::{Handlers, NearHandlers, next_place};
 pub use files::unlink;
 pub use flags::{is_abstract, is_interface, is_native, is_static, is_synchronized};
+pub use heads::head_of;
 pub use laws::uses_are_shaped;
 pub use lending::{TypeRef, lend, own};
 pub use member_code::{code_of, has_its_code};
@@ -33,5 +38,6 @@ pub use members::{Found, MemberKind};
 pub use nested::{behind_first, list_at};
 pub use operand::{Use, index_of, use_of};
 pub use origin::Origin;
+pub use places::{class_places, placed_class};
 pub use program::{Handler, LinkedClass, Method, Program, Side, Target};
 pub use text::{class_at, copy_class, copy_text, id_at, is_text, text_at};

@@ -1,14 +1,15 @@
 -- How far below a class that is not given a given one stands.
 use Rattle.std.proofs.Common.{◌≡◌, ℕ, zero, suc, ◌+◌, ◌≤◌, ◌<◌, Bool, true, false, cond, List, length, Option, Some, None, refl, sym, ap, subst, ◌∙◌, arith}
-use Rattle.std.specs.Prelude.{bytes_eq, nat_lt, IfSome}
+use Rattle.std.specs.Prelude.{bytes_eq, nat_lt, IfSome, Vec}
 use Rattle.std.specs.Option.{option_map_or, option_or}
 use Rattle.std.specs.BTreeMap.{BTreeMap}
+use Rattle.std.specs.Global.{Global}
 use Rattle.std.proofs.lemmas.Bool.{false≢true}
 use Rattle.std.proofs.lemmas.Bool.Decides.{nat_tests}
 use Rattle.api_listing.specs.declared.types.ListedClass.{ListedClass}
 use Rattle.api_listing.specs.Nearest.{class_named}
 use Rattle.bytecode_model.specs.Conditions.{stays_within, runs_in_circle}
-use Rattle.bytecode_model.specs.Places.{place_in}
+use Rattle.bytecode_model.specs.ByName.{noted}
 use Rattle.class_index.specs.Heights.{LeavesAfter, AreHeights}
 use Rattle.bytecode_model.proofs.Lists.{some_is}
 use Rattle.bytecode_model.proofs.Placing.{test_cases, same_name}
@@ -72,10 +73,10 @@ leaves_sooner heads at h less c some is leaves =
     )
 
 -- one height more
-pub with_height : (heads : List ListedClass) (old new : BTreeMap (List ℕ) ℕ) (name : List ℕ) (h : ℕ) → AreHeights old heads → LeavesAfter heads name h
-    → ((q : List ℕ) → place_in new q ≡ option_or (place_in old q) (cond (bytes_eq name q) (Some h) None)) → AreHeights new heads
-with_height heads old new name h known leaves puts q n found = by (place_in old q) (bytes_eq name q) refl refl (sym (puts q) ∙ found) where
-  by : (o : Option ℕ) (b : Bool) → place_in old q ≡ o → bytes_eq name q ≡ b → option_or o (cond b (Some h) None) ≡ Some n → LeavesAfter heads q n
+pub with_height : (heads : List ListedClass) (old new : BTreeMap (Vec ℕ Global) ℕ) (name : List ℕ) (h : ℕ) → AreHeights old heads → LeavesAfter heads name h
+    → ((q : List ℕ) → noted new q ≡ option_or (noted old q) (cond (bytes_eq name q) (Some h) None)) → AreHeights new heads
+with_height heads old new name h known leaves puts q n found = by (noted old q) (bytes_eq name q) refl refl (sym (puts q) ∙ found) where
+  by : (o : Option ℕ) (b : Bool) → noted old q ≡ o → bytes_eq name q ≡ b → option_or o (cond b (Some h) None) ≡ Some n → LeavesAfter heads q n
   by (Some m) b was same e =
       let is : m ≡ n = some_is m n e in
       known q n (was ∙ ap Some is)

@@ -10,7 +10,7 @@ use Rattle.std.proofs.lemmas.List.Elements.{filter-append}
 use Rattle.api_listing.specs.declared.types.ListedClass.{ListedClass}
 use Rattle.api_listing.specs.Nearest.{class_named, interfaces_of, names_of, upwards}
 use Rattle.api_listing.specs.Seen.{has_name}
-use Rattle.bytecode_model.specs.Places.{place_in}
+use Rattle.bytecode_model.specs.ByName.{noted}
 use Rattle.bytecode_model.specs.SearchOrder.{interfaces_from, search_order}
 use Rattle.bytecode_model.proofs.Lists.{some_is}
 use Rattle.bytecode_model.proofs.Placing.{same_name}
@@ -129,14 +129,14 @@ module _ (owners : BTreeSet (List ℕ)) (classes : List ListedClass) where
 
   -- one class more
   pub with_shared : (old new : Shared) (name : List ℕ) (above : Above) → AreShared owners classes old → new.lists ≡ old.lists → new.quiet ≡ old.quiet → IsShared owners classes old.lists name above
-      → ((q : List ℕ) → place_in new.places q ≡ option_or (place_in old.places q) (cond (bytes_eq name q) (Some above) None)) → AreShared owners classes new
+      → ((q : List ℕ) → noted new.places q ≡ option_or (noted old.places q) (cond (bytes_eq name q) (Some above) None)) → AreShared owners classes new
   with_shared old new name above shared lists quiet here puts =
       record {
         known = λ q a found.
-            subst (λ (l : List (List (List ℕ))). IsShared owners classes l q a) (sym lists) (by q a (place_in old.places q) (bytes_eq name q) refl refl (sym (puts q) ∙ found));
+            subst (λ (l : List (List (List ℕ))). IsShared owners classes l q a) (sym lists) (by q a (noted old.places q) (bytes_eq name q) refl refl (sym (puts q) ∙ found));
         quiet = subst (λ (set : BTreeSet (List ℕ)). AreQuiet owners classes set) (sym quiet) shared.quiet;
       } where
-        by : (q : List ℕ) (a : Above) (o : Option Above) (b : Bool) → place_in old.places q ≡ o → bytes_eq name q ≡ b → option_or o (cond b (Some above) None) ≡ Some a → IsShared owners classes old.lists q a
+        by : (q : List ℕ) (a : Above) (o : Option Above) (b : Bool) → noted old.places q ≡ o → bytes_eq name q ≡ b → option_or o (cond b (Some above) None) ≡ Some a → IsShared owners classes old.lists q a
         by q a (Some m) b was same e = shared.known q a (was ∙ ap Some (some_is m a e))
         by q a None true was same e =
             subst (λ (k : Above). IsShared owners classes old.lists q k) (some_is above a e) (subst (λ (x : List ℕ). IsShared owners classes old.lists x above) (same_name name q same) here)

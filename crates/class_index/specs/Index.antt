@@ -1,7 +1,8 @@
 -- Ordered maps made once, from which each look-up gives what a plain scan gives. (docs/LINKING.md)
-use Rattle.std.specs.Prelude.{◌≡◌, ℕ, ◌+◌, List, length, Option, Some}
+use Rattle.std.specs.Prelude.{◌≡◌, ℕ, ◌+◌, List, length, Option, Some, Vec}
 use Rattle.std.specs.BTreeMap.{BTreeMap, get}
 use Rattle.std.specs.BTreeSet.{BTreeSet}
+use Rattle.std.specs.Global.{Global}
 use Rattle.std.specs.Option.{option_or}
 use Rattle.mon_base.specs.declared.method.MethodId.{MethodId}
 use Rattle.class_codec.specs.declared.tree.ClassFile.{ClassFile}
@@ -25,12 +26,16 @@ use Rattle.bytecode_model.specs.Places.{ClassesPlaced}
 abbrev pub found_in : BTreeMap MethodId Found → MethodId → Option Found
 found_in found id = get id_cmp found id
 
+-- The map has what the first declaration of each class, name and descriptor has.
+abbrev pub AreFirst : List Declared → BTreeMap MethodId Found → Type 0
+AreFirst declared found = (q : MethodId) → found_in found q ≡ first_of declared q
+
 -- What is declared is noted behind what the map has: the first of each name counts.
 abbrev pub Notes : List Declared → BTreeMap MethodId Found → BTreeMap MethodId Found → Type 0
 Notes declared old new = (q : MethodId) → found_in new q ≡ option_or (found_in old q) (first_of declared q)
 
 -- The map has the place of the first class of each name, and the number is how many interfaces they name.
-pub record AreClasses (places : BTreeMap (List ℕ) ℕ) (interfaces : ℕ) (classes : List ListedClass) : Type 0 where
+pub record AreClasses (places : BTreeMap (Vec ℕ Global) ℕ) (interfaces : ℕ) (classes : List ListedClass) : Type 0 where
   pub placed : ClassesPlaced places classes
   pub count : interfaces ≡ length (interfaces_of classes)
 
@@ -60,8 +65,8 @@ pub record Given : Type 0 where
 
 pub record IsIndex (files : List ClassFile) (listing : Listing) (classes : List ListedClass) (methods fields : BTreeMap MethodId Found) (near_methods near_fields : BTreeMap MethodId Near) (library : BTreeSet MethodId) (owners : BTreeSet (List ℕ)) (shared : Shared) (literals : List (List ℕ)) : Type 0 where
   pub all : classes ≡ all_classes listing files
-  pub methods_found : (q : MethodId) → found_in methods q ≡ first_of (methods_declared files listing) q
-  pub fields_found : (q : MethodId) → found_in fields q ≡ first_of (fields_declared files listing) q
+  pub methods_found : AreFirst (methods_declared files listing) methods
+  pub fields_found : AreFirst (fields_declared files listing) fields
   pub methods_near : AreNear near_methods methods classes
   pub fields_near : AreNear near_fields fields classes
   pub listed : (q : MethodId) → has_id library q ≡ has_method listing.methods q

@@ -10,7 +10,7 @@ use Rattle.api_listing.specs.BuiltIn.{runnable}
 use Rattle.api_listing.specs.Nearest.{interfaces_of, names_of, upwards}
 use Rattle.api_listing.specs.Seen.{has_name}
 use Rattle.bytecode_model.specs.Conditions.{overrides_in}
-use Rattle.bytecode_model.specs.Places.{place_in}
+use Rattle.bytecode_model.specs.ByName.{noted}
 use Rattle.bytecode_model.specs.SearchOrder.{Name, interfaces_above, interfaces_from}
 use Rattle.class_index.specs.declared.library.Above.{Above}
 use Rattle.class_index.specs.declared.library.Shared.{Shared}
@@ -71,5 +71,5 @@ pub record IsShared (owners : Owners) (classes : List ListedClass) (lists : List
 
 -- It is so of each class whose list is known, and the interfaces are quiet.
 pub record AreShared (owners : Owners) (classes : List ListedClass) (shared : Shared) : Type 0 where
-  pub known : (name : Name) (above : Above) → place_in shared.places name ≡ Some above → IsShared owners classes shared.lists name above
+  pub known : (name : Name) (above : Above) → noted shared.places name ≡ Some above → IsShared owners classes shared.lists name above
   pub quiet : AreQuiet owners classes shared.quiet

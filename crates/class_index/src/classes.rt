@@ -1,22 +1,20 @@
 //! Lists of classes in which one is found by its name without a search through the list.
 
-ghost use Rattle.std.specs.Prelude.{◌≡◌, ◌+◌, ◌<◌, ◌≤◌, ◌^◌, ℕ, length, IfOk, OnOk, option_copied};
+ghost use Rattle.std.specs.Prelude.{◌≡◌, ◌+◌, length, IfOk, option_copied};
 ghost use Rattle.api_listing.specs.Listing.{is_known};
 ghost use Rattle.api_listing.specs.Nearest.{class_named, interfaces_of};
-ghost use Rattle.bytecode_model.specs.Places.{place_in, class_place, ClassesPlaced};
 
-use crate::places::add_place;
 use api_listing::ListedClass;
+use bytecode_model::{ByName, class_places, placed_class};
 use mon_base::{Bytes, List, NoMemory};
 use std::alloc::Global;
-use std::collections::BTreeMap;
 use std::marker::Model;
 
 /// Classes, of which the first of each name is found by that name. A contract sees the list.
 #[derive(Drop)]
 pub struct Classes {
     list: List<ListedClass>,
-    places: BTreeMap<Bytes, usize>,
+    places: ByName<usize>,
     interfaces: u64,
 }
 
@@ -37,7 +35,7 @@ impl Classes {
     pub fn new(alloc: Global, list: List<ListedClass>) -> Result<Classes, NoMemory>
         ensures { IfOk result (λ classes. classes ≡ list) }
     {
-        let places = places_of(alloc, list.as_slice())?;
+        let places = class_places(alloc, list.as_slice())?;
         let interfaces = count_interfaces(list.as_slice())?;
         Ok(Classes {
             list,
@@ -50,17 +48,14 @@ impl Classes {
     pub fn named(&self, name: &Bytes) -> Option<&ListedClass>
         ensures { option_copied result ≡ class_named self.now name.now }
     {
-        match self.places.get(name) {
-            Some(place) => self.list.as_slice().get(*place),
-            None => None,
-        }
+        placed_class(self.list.as_slice(), &self.places, name.as_slice())
     }
 
     /// Whether one has the name.
     pub fn has(&self, name: &Bytes) -> bool
         ensures { result ≡ is_known self.now name.now }
     {
-        self.places.contains_key(name)
+        self.places.contains_key(name.as_slice())
     }
 
     /// The classes in their order.
@@ -106,19 +101,4 @@ pub fn add(count: u64, more: usize) -> Result<u64, NoMemory>
         Some(sum) => Ok(sum),
         None => Err(NoMemory),
     }
-}
-
-/// The place of the first class of each name.
-fn places_of(alloc: Global, classes: &[ListedClass]) -> Result<BTreeMap<Bytes, usize>, NoMemory>
-    ensures { IfOk result (λ places. ClassesPlaced places classes.now) }
-{
-    let mut places = BTreeMap::new(alloc);
-    let mut index = 0;
-    let mut left = classes;
-    while let [class, rest @ ..] = left {
-        add_place(alloc, &mut places, &class.name, index)?;
-        index += 1;
-        left = rest;
-    }
-    Ok(places)
 }

@@ -7,15 +7,15 @@ ghost use Rattle.class_codec.specs.Fits.{CanSpell};
 ghost use Rattle.api_listing.specs.BuiltIn.{is_method};
 ghost use Rattle.api_listing.specs.Seen.{has_id, has_name};
 ghost use Rattle.api_listing.specs.Listing.{has_method};
-ghost use Rattle.class_index.specs.Index.{found_in, Notes};
+ghost use Rattle.class_index.specs.Index.{AreFirst, Notes};
 ghost use Rattle.class_index.specs.Library.{is_owner};
-ghost use Rattle.bytecode_model.specs.Members.{target_in, members_of, member_declared, members_from, file_members, given_from};
+ghost use Rattle.bytecode_model.specs.Members.{target_in, members_of, member_declared, file_members, given_from};
 ghost use Rattle.bytecode_model.specs.Members.{listed_from, listed_fields_from, row_declared, rows_from};
-ghost use Rattle.bytecode_model.specs.Members.{methods_declared, fields_declared, first_of};
+ghost use Rattle.bytecode_model.specs.Members.{methods_declared, fields_declared};
 
 use crate::places::add_name;
 use api_listing::{ListedMethod, Listing, METHODS};
-use bytecode_model::{Found, MemberKind, Target, class_at, copy_text, has_flag};
+use bytecode_model::{Found, MemberKind, Target, class_at, copy_text, is_static};
 use class_codec::{ClassFile, Const, Member};
 use mon_base::{Bytes, MethodId, NoMemory};
 use std::alloc::Global;
@@ -30,7 +30,7 @@ pub fn methods_of(
     requires count { length files.now ≤ 1001 }
     requires fits { AllByRecursion CanSpell files.now }
     requires listed { length listing.now.methods ≤ 20000 }
-    ensures { IfOk result (λ found. (q : MethodId) → found_in found q ≡ first_of (methods_declared files.now listing.now) q) }
+    ensures { IfOk result (AreFirst (methods_declared files.now listing.now)) }
 {
     let mut found = BTreeMap::new(alloc);
     add_files(alloc, &mut found, MemberKind::Method, files)?;
@@ -48,7 +48,7 @@ pub fn fields_of(
     requires count { length files.now ≤ 1001 }
     requires fits { AllByRecursion CanSpell files.now }
     requires listed { length listing.now.fields ≤ 20000 }
-    ensures { IfOk result (λ found. (q : MethodId) → found_in found q ≡ first_of (fields_declared files.now listing.now) q) }
+    ensures { IfOk result (AreFirst (fields_declared files.now listing.now)) }
 {
     let mut found = BTreeMap::new(alloc);
     add_files(alloc, &mut found, MemberKind::Field, files)?;
@@ -158,7 +158,7 @@ fn add_member(
     };
     let first = Found {
         target: target_in(kind, class, index),
-        is_static: has_flag(member.flags, 8),
+        is_static: is_static(member.flags),
     };
     add_first(alloc, found, id, first)
 }

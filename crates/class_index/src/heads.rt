@@ -1,36 +1,13 @@
 //! What class files say of their classes.
 
-ghost use Rattle.std.specs.Prelude.{◌≡◌, ◌++◌, IfOk, map};
-ghost use Rattle.bytecode_model.specs.Heads.{head_of, heads_of, class_at};
+ghost use Rattle.std.specs.Prelude.{◌≡◌, ◌++◌, IfOk};
+ghost use Rattle.bytecode_model.specs.Heads.{heads_of};
 
 use api_listing::ListedClass;
-use bytecode_model::{copy_class, has_flag};
-use class_codec::{ClassFile, Const};
-use mon_base::{Bytes, List, NoMemory};
+use bytecode_model::{copy_classes, head_of};
+use class_codec::ClassFile;
+use mon_base::{List, NoMemory};
 use std::alloc::Global;
-
-/// What a class file says of its class.
-pub fn head_of(alloc: Global, file: &ClassFile) -> Result<ListedClass, NoMemory>
-    ensures { IfOk result (λ head. head ≡ head_of file.now) }
-{
-    let pool = file.pool.as_slice();
-    Ok(ListedClass {
-        name: copy_class(alloc, pool, file.this_class)?,
-        parent: copy_class(alloc, pool, file.super_class)?,
-        interfaces: class_names(alloc, pool, file.interfaces.as_slice())?,
-        is_interface: has_flag(file.flags, 512),
-    })
-}
-
-fn class_names(alloc: Global, pool: &[Const], indices: &[u16]) -> Result<List<Bytes>, NoMemory>
-    ensures { IfOk result (λ names. names ≡ map (class_at pool.now) indices.now) }
-{
-    let mut names = List::new(alloc);
-    for index in indices {
-        names.push(copy_class(alloc, pool, *index)?)?;
-    }
-    Ok(names)
-}
 
 /// What each class file says of its class.
 pub fn heads_of(alloc: Global, files: &[ClassFile]) -> Result<List<ListedClass>, NoMemory>
@@ -51,10 +28,7 @@ pub fn copy_both(
 ) -> Result<List<ListedClass>, NoMemory>
     ensures { IfOk result (λ all. all ≡ classes.now ++ others.now) }
 {
-    let mut all = List::new(alloc);
-    for class in classes {
-        all.push(class.copy(alloc)?)?;
-    }
+    let mut all = copy_classes(alloc, classes)?;
     for class in others {
         all.push(class.copy(alloc)?)?;
     }

@@ -1,14 +1,13 @@
 //! Given classes, with how far below a class that is not given each stands.
 
-ghost use Rattle.std.specs.Prelude.{◌≡◌, ◌≤◌, ◌<◌, ◌+◌, ℕ, length, option_copied, IfOk, IfSome, OnOk};
+ghost use Rattle.std.specs.Prelude.{◌≡◌, ◌≤◌, ◌+◌, length, IfOk, IfSome, OnOk};
 ghost use Rattle.api_listing.specs.Listing.{is_known};
-ghost use Rattle.api_listing.specs.Nearest.{class_named};
 ghost use Rattle.bytecode_model.specs.Conditions.{has_interface, runs_in_circle};
 ghost use Rattle.class_index.specs.Heights.{AreHeights, LeavesAfter};
 
 use crate::classes::Classes;
-use crate::places::add_place;
 use api_listing::ListedClass;
+use bytecode_model::{ByName, note, noted};
 use mon_base::{Bytes, List, NoMemory};
 use std::alloc::Global;
 use std::collections::BTreeMap;
@@ -18,7 +17,7 @@ use std::marker::Model;
 #[derive(Drop)]
 pub struct Heads {
     classes: Classes,
-    heights: BTreeMap<Bytes, usize>,
+    heights: ByName<usize>,
 }
 
 impl Model for Heads {
@@ -72,8 +71,8 @@ impl Heads {
         requires { length self.now ≤ 1001 }
         ensures { result ≡ runs_in_circle self.now name.now }
     {
-        match self.heights.get(name) {
-            Some(height) => *height > self.classes.len(),
+        match noted(&self.heights, name.as_slice()) {
+            Some(height) => height > self.classes.len(),
             None => runs_in_circle(&self.classes, name),
         }
     }
@@ -96,7 +95,7 @@ fn runs_in_circle(classes: &Classes, name: &Bytes) -> bool
 
 /// How many classes up the way from each class leaves the given ones, where it does. A way is gone no further than to
 /// a class whose height is known.
-fn heights_of(alloc: Global, classes: &Classes) -> Result<BTreeMap<Bytes, usize>, NoMemory>
+fn heights_of(alloc: Global, classes: &Classes) -> Result<ByName<usize>, NoMemory>
     ensures { IfOk result (λ heights. AreHeights heights classes.now) }
 {
     let mut heights = BTreeMap::new(alloc);
@@ -109,18 +108,14 @@ fn heights_of(alloc: Global, classes: &Classes) -> Result<BTreeMap<Bytes, usize>
 }
 
 /// How far the way is gone, and the height of the class.
-fn height_of(
-    classes: &Classes,
-    heights: &BTreeMap<Bytes, usize>,
-    name: &Bytes,
-) -> Option<(usize, usize)>
+fn height_of(classes: &Classes, heights: &ByName<usize>, name: &Bytes) -> Option<(usize, usize)>
     requires { AreHeights heights.now classes.now }
     ensures { IfSome result (λ found. LeavesAfter classes.now name.now found.1) }
 {
     let mut at = name;
     for steps in 0..classes.len() {
-        if let Some(height) = heights.get(at) {
-            return sum(steps, *height);
+        if let Some(height) = noted(heights, at.as_slice()) {
+            return sum(steps, height);
         }
         let Some(class) = classes.named(at) else {
             return sum(steps, 0);
@@ -144,7 +139,7 @@ fn sum(steps: usize, height: usize) -> Option<(usize, usize)>
 fn add_heights(
     alloc: Global,
     classes: &Classes,
-    heights: &mut BTreeMap<Bytes, usize>,
+    heights: &mut ByName<usize>,
     name: &Bytes,
     steps: usize,
     height: usize,
@@ -156,7 +151,7 @@ fn add_heights(
     let mut at = name;
     let mut height = height;
     for _ in 0..steps {
-        add_place(alloc, heights, at, height)?;
+        note(alloc, heights, at, height)?;
         let Some(class) = classes.named(at) else {
             return Ok(());
         };

@@ -17,7 +17,7 @@ mod quiet;
 mod search;
 
 pub use classes::Classes;
-pub use heads::{head_of, heads_of};
+pub use heads::heads_of;
 pub use heights::Heads;
 pub use index::Index;
 pub use near::in_class;

@@ -8,10 +8,10 @@ ghost use Rattle.bytecode_model.specs.SearchOrder.{search_order};
 ghost use Rattle.class_index.specs.Library.{may_own, owners_up, AreQuiet, AreShared, IsShared, Owners};
 
 use crate::classes::Classes;
-use crate::places::add_place;
 use crate::quiet::{are_among, may_own, quiet_of};
 use crate::search::{add_names, search_order};
 use api_listing::ListedClass;
+use bytecode_model::{ByName, note, noted};
 use mon_base::{Bytes, List, NoMemory};
 use std::alloc::Global;
 use std::collections::{BTreeMap, BTreeSet};
@@ -26,7 +26,7 @@ pub struct Above {
 /// Lists of classes, which of them is that of a class, and interfaces that are quiet.
 #[derive(Drop)]
 pub struct Shared {
-    pub places: BTreeMap<Bytes, Above>,
+    pub places: ByName<Above>,
     pub lists: List<List<Bytes>>,
     pub quiet: BTreeSet<Bytes>,
 }
@@ -96,7 +96,7 @@ fn end_of<'a>(
 {
     let mut at = name;
     for steps in 0..classes.len() {
-        if shared.places.contains_key(at) {
+        if shared.places.contains_key(at.as_slice()) {
             return Some((at, steps));
         }
         let Some(parent) = step_from(classes, owners, &shared.quiet, at) else {
@@ -138,8 +138,8 @@ fn above_of(
     ensures shared { OnOk result (AreShared owners.now classes.now shared.new) }
     ensures is { IfOk result (λ found. IfSome found (IsShared owners.now classes.now shared.new.lists name.now)) }
 {
-    if let Some(above) = shared.places.get(name) {
-        return Ok(Some(*above));
+    if let Some(above) = noted(&shared.places, name.as_slice()) {
+        return Ok(Some(above));
     }
     let order = search_order(alloc, classes, name)?;
     if order.len() >= classes.len() {
@@ -172,7 +172,7 @@ fn add_steps(
     let mut height = above.height;
     let place = above.place;
     for _ in 0..steps {
-        add_place(alloc, &mut shared.places, at, Above { place, height })?;
+        note(alloc, &mut shared.places, at, Above { place, height })?;
         let Some(parent) = step_from(classes, owners, &shared.quiet, at) else {
             return Ok(());
         };
@@ -182,7 +182,7 @@ fn add_steps(
         height = less;
         at = parent;
     }
-    add_place(alloc, &mut shared.places, at, Above { place, height })?;
+    note(alloc, &mut shared.places, at, Above { place, height })?;
     Ok(())
 }
 
@@ -211,7 +211,7 @@ fn known_above<'a>(classes: &Classes, shared: &'a Shared, name: &Bytes) -> Optio
     ensures { IfSome result (λ names. (owners : Owners) → AreShared owners classes.now shared.now
         → owners_up owners classes.now (length classes.now) name.now ≡ names.now) }
 {
-    let above = shared.places.get(name)?;
+    let above = noted(&shared.places, name.as_slice())?;
     if above.height > classes.len() {
         return None;
     }

@@ -1,12 +1,12 @@
 //! The string constants of a program, each text once.
 
-ghost use Rattle.std.specs.Prelude.{◌≡◌, ◌++◌, ◌<◌, ◌≤◌, ◌^◌, [], ℕ, length, IfOk, OnOk, IfSome, option_copied};
+ghost use Rattle.std.specs.Prelude.{◌≡◌, IfOk, OnOk, option_copied};
 ghost use Rattle.std.specs.List.{fold, flat_map, filter_map};
-ghost use Rattle.bytecode_model.specs.Places.{place_in, name_place, NamesPlaced};
+ghost use Rattle.bytecode_model.specs.Places.{NamesPlaced};
 ghost use Rattle.bytecode_model.specs.Operands.{literals_of, strings_in, place_of, text_of_string};
 ghost use Rattle.bytecode_model.specs.SearchOrder.{with_name};
 
-use crate::places::add_place;
+use bytecode_model::{ByName, note, noted};
 use class_codec::{ClassFile, Const, utf8_at};
 use mon_base::{Bytes, List, NoMemory};
 use std::alloc::Global;
@@ -17,7 +17,7 @@ use std::marker::Model;
 #[derive(Drop)]
 pub struct Literals {
     texts: List<Bytes>,
-    places: BTreeMap<Bytes, usize>,
+    places: ByName<usize>,
 }
 
 impl Model for Literals {
@@ -46,8 +46,8 @@ impl Literals {
     pub fn place(&self, text: &Bytes) -> usize
         ensures { result ≡ place_of self.now text.now }
     {
-        match self.places.get(text) {
-            Some(place) => *place,
+        match noted(&self.places, text.as_slice()) {
+            Some(place) => place,
             None => 0,
         }
     }
@@ -64,7 +64,7 @@ impl Literals {
 fn add_files(
     alloc: Global,
     texts: &mut List<Bytes>,
-    places: &mut BTreeMap<Bytes, usize>,
+    places: &mut ByName<usize>,
     files: &[ClassFile],
 ) -> Result<(), NoMemory>
     requires { NamesPlaced places.old texts.old }
@@ -83,7 +83,7 @@ fn add_files(
 fn add_pool(
     alloc: Global,
     texts: &mut List<Bytes>,
-    places: &mut BTreeMap<Bytes, usize>,
+    places: &mut ByName<usize>,
     pool: &[Const],
     constants: &[Const],
 ) -> Result<(), NoMemory>
@@ -114,14 +114,14 @@ fn text_of_string<'a>(pool: &'a [Const], constant: &Const) -> Option<&'a Bytes>
 fn add_text(
     alloc: Global,
     texts: &mut List<Bytes>,
-    places: &mut BTreeMap<Bytes, usize>,
+    places: &mut ByName<usize>,
     text: &Bytes,
 ) -> Result<(), NoMemory>
     requires { NamesPlaced places.old texts.old }
     ensures { OnOk result (NamesPlaced places.new texts.new × (texts.new ≡ with_name texts.old text.now)) }
 {
-    if !places.contains_key(text) {
-        add_place(alloc, places, text, texts.len())?;
+    if !places.contains_key(text.as_slice()) {
+        note(alloc, places, text, texts.len())?;
         texts.push(text.copy(alloc)?)?;
     }
     Ok(())

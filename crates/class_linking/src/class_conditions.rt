@@ -25,9 +25,9 @@ ghost use Rattle.class_linking.specs.ClassConditions.{class_linked, classes_link
 
 use crate::fault::LinkFault;
 use api_listing::{ListedClass, class_name};
-use bytecode_model::{Side, is_static, is_text};
+use bytecode_model::{Side, head_of, is_static, is_text};
 use class_codec::{ClassFile, Const, Member};
-use class_index::{Heads, add_name, head_of};
+use class_index::{Heads, add_name};
 use mon_base::{Bytes, NoMemory};
 use std::alloc::Global;
 use std::collections::BTreeSet;

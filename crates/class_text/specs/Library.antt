@@ -1,6 +1,7 @@
 -- Ordered maps of a listing, from which each look-up gives what a scan of the listing gives. (docs/COMMANDS.md)
-use Rattle.std.specs.Prelude.{◌≡◌, ℕ, List, Option}
+use Rattle.std.specs.Prelude.{◌≡◌, ℕ, List, Option, Vec}
 use Rattle.std.specs.BTreeMap.{BTreeMap, get}
+use Rattle.std.specs.Global.{Global}
 use Rattle.mon_base.specs.declared.method.MethodId.{MethodId}
 use Rattle.api_listing.specs.declared.types.ListedMethod.{ListedMethod}
 use Rattle.api_listing.specs.declared.types.Listing.{Listing}
@@ -15,6 +16,6 @@ method_in places id = get id_cmp places id
 abbrev pub MethodsPlaced : BTreeMap MethodId ℕ → List ListedMethod → Type 0
 MethodsPlaced places methods = (q : MethodId) → method_in places q ≡ declared_in methods q.name q.desc q.class
 
-pub record IsLibrary (classes : BTreeMap (List ℕ) ℕ) (methods : BTreeMap MethodId ℕ) (listing : Listing) : Type 0 where
+pub record IsLibrary (classes : BTreeMap (Vec ℕ Global) ℕ) (methods : BTreeMap MethodId ℕ) (listing : Listing) : Type 0 where
   pub classes_placed : ClassesPlaced classes listing.classes
   pub methods_placed : MethodsPlaced methods listing.methods

@@ -1,15 +1,15 @@
 //! The methods of a listing, found through ordered maps that are made once.
 
-ghost use Rattle.std.specs.Prelude.{◌≡◌, ◌++◌, ℕ, List, Some, None, length, bytes_eq, if◌then◌else◌, IfOk, OnOk, option_copied};
+ghost use Rattle.std.specs.Prelude.{◌≡◌, ◌++◌, Some, None, length, if◌then◌else◌, IfOk, OnOk, option_copied};
 ghost use Rattle.std.specs.Option.{option_or};
 ghost use Rattle.mon_base.specs.declared.method.MethodId.{MethodId};
 ghost use Rattle.api_listing.specs.BuiltIn.{is_method};
 ghost use Rattle.api_listing.specs.Nearest.{class_named, declared_in, first_declared, upwards, names_of, interfaces_of, looked_in};
-ghost use Rattle.bytecode_model.specs.Places.{place_in, ClassesPlaced};
 ghost use Rattle.class_text.specs.Library.{method_in, MethodsPlaced};
 ghost use Rattle.class_text.specs.Lines.{listed_for};
 
 use api_listing::{ListedClass, ListedMethod, Listing};
+use bytecode_model::{ByName, class_places, placed_class};
 use mon_base::{Bytes, List, MethodId, NoMemory};
 use std::alloc::Global;
 use std::collections::BTreeMap;
@@ -19,7 +19,7 @@ use std::marker::Model;
 #[derive(Drop)]
 pub struct Library<'a> {
     listing: &'a Listing,
-    classes: BTreeMap<Bytes, usize>,
+    classes: ByName<usize>,
     methods: BTreeMap<MethodId, usize>,
 }
 
@@ -107,10 +107,11 @@ impl<'a> Library<'a> {
     fn class_named(&self, name: &Bytes) -> Option<&ListedClass>
         ensures { option_copied result ≡ class_named self.now.classes name.now }
     {
-        match self.classes.get(name) {
-            Some(place) => self.listing.classes.as_slice().get(*place),
-            None => None,
-        }
+        placed_class(
+            self.listing.classes.as_slice(),
+            &self.classes,
+            name.as_slice(),
+        )
     }
 
     /// The classes in which a method of the class is looked for.
@@ -157,37 +158,6 @@ fn add_names(alloc: Global, names: &mut List<Bytes>, others: &[Bytes]) -> Result
         names.push(name.copy(alloc)?)?;
     }
     Ok(())
-}
-
-/// Notes the place of a class, if its name is new.
-fn add_class(
-    alloc: Global,
-    places: &mut BTreeMap<Bytes, usize>,
-    name: &Bytes,
-    place: usize,
-) -> Result<(), NoMemory>
-    ensures { OnOk result ((q : List ℕ) → place_in places.new q
-        ≡ option_or (place_in places.old q) (if bytes_eq name.now q then Some place else None)) }
-{
-    if !places.contains_key(name) {
-        places.insert(name.copy(alloc)?, place)?;
-    }
-    Ok(())
-}
-
-/// The place of the first class of each name.
-fn class_places(alloc: Global, classes: &[ListedClass]) -> Result<BTreeMap<Bytes, usize>, NoMemory>
-    ensures { IfOk result (λ places. ClassesPlaced places classes.now) }
-{
-    let mut places = BTreeMap::new(alloc);
-    let mut index = 0;
-    let mut left = classes;
-    while let [class, rest @ ..] = left {
-        add_class(alloc, &mut places, &class.name, index)?;
-        index += 1;
-        left = rest;
-    }
-    Ok(places)
 }
 
 /// Notes the place of a method, if its name is new.

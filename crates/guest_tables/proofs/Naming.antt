@@ -10,8 +10,8 @@ use Rattle.bytecode_model.proofs.Lists.{or_none}
 use Rattle.bytecode_model.proofs.Placing.{test_cases, same_name}
 use Rattle.guest_model.specs.Finding.{declared_in}
 use Rattle.guest_tables.specs.Methods.{method_in, Methods, HasMethods, AreMethods}
-use Rattle.type_lattice.specs.ByName.{noted}
-use Rattle.type_lattice.proofs.ByName.{empty_noted}
+use Rattle.bytecode_model.specs.ByName.{noted}
+use Rattle.bytecode_model.proofs.ByName.{empty_noted}
 
 pub method_added : (old taken new : Methods) (name desc : List ℕ) (index : ℕ) (before after : BTreeMap (Vec ℕ Global) ℕ)
     → ((d : List ℕ) → noted before d ≡ method_in old name d)

@@ -5,7 +5,7 @@ use Rattle.std.specs.BTreeMap.{BTreeMap}
 use Rattle.std.specs.Global.{Global}
 use Rattle.bytecode_model.specs.declared.program.LinkedClass.{LinkedClass}
 use Rattle.bytecode_model.specs.declared.program.Method.{Method}
-use Rattle.type_lattice.specs.ByName.{noted}
+use Rattle.bytecode_model.specs.ByName.{noted}
 
 abbrev pub Methods : Type 0
 Methods = BTreeMap (Vec ℕ Global) (BTreeMap (Vec ℕ Global) ℕ)

@@ -19,14 +19,13 @@ ghost use Rattle.std.specs.Prelude.{
 ghost use Rattle.guest_model.specs.Ready.{IsReady};
 ghost use Rattle.guest_tables.specs.Arities.{arities_of};
 ghost use Rattle.guest_tables.specs.Methods.{AreMethods, HasMethods, method_in};
-ghost use Rattle.type_lattice.specs.ByName.{noted};
+ghost use Rattle.bytecode_model.specs.ByName.{noted};
 
 use crate::arities::arities_of;
-use bytecode_model::{Method, Program};
+use bytecode_model::{ByName, Method, Program, note, noted};
 use mon_base::{Bytes, List, NoMemory};
 use std::alloc::Global;
 use std::collections::BTreeMap;
-use type_lattice::{ByName, note, noted};
 
 /// The indices of methods by their names, and of those of one name by their descriptors.
 pub type Methods = ByName<ByName<u32>>;

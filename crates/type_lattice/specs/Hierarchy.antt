@@ -4,10 +4,9 @@ use Rattle.std.specs.List.{list_any}
 use Rattle.std.specs.BTreeMap.{BTreeMap}
 use Rattle.std.specs.Global.{Global}
 use Rattle.api_listing.specs.declared.types.ListedClass.{ListedClass}
-use Rattle.bytecode_model.specs.Places.{class_place}
+use Rattle.bytecode_model.specs.Places.{ClassesPlaced, class_place}
 use Rattle.bytecode_model.specs.Order.{EachWayEnds}
 use Rattle.bytecode_model.specs.SearchOrder.{superclasses}
-use Rattle.type_lattice.specs.ByName.{noted}
 
 -- the class is of this name, or one of its superclasses is
 abbrev pub is_up : List ListedClass → List ℕ → List ℕ → Bool
@@ -19,16 +18,12 @@ nearest_common classes a b = option_map (λ (c : ListedClass). c.name) (find (λ
 
 -- ---- places
 
--- The map has the place of the first class of each name.
-abbrev pub ArePlaced : BTreeMap (Vec ℕ Global) ℕ → List ListedClass → Type 0
-ArePlaced places classes = (q : List ℕ) → noted places q ≡ class_place classes q
-
 -- the place of the superclass of each class
 abbrev pub parents_in : List ListedClass → List (Option ℕ)
 parents_in classes = map (λ (c : ListedClass). class_place classes c.parent) classes
 
 -- The classes are found by their names, and the ways are those to their superclasses.
 pub record IsHierarchy (classes : List ListedClass) (places : BTreeMap (Vec ℕ Global) ℕ) (ways : List (Option ℕ)) : Type 0 where
-  pub placed : ArePlaced places classes
+  pub placed : ClassesPlaced places classes
   pub parents : ways ≡ parents_in classes
   pub ends : EachWayEnds classes

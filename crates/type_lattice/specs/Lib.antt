@@ -1,4 +1,3 @@
-pub mod ByName
 pub mod Ways
 pub mod Hierarchy
 pub mod Merging

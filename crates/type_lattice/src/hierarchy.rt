@@ -4,16 +4,15 @@ ghost use Rattle.std.specs.Prelude.{◌≡◌, false, option_copied, option_map,
 ghost use Rattle.std.specs.Option.{option_map_or};
 ghost use Rattle.api_listing.specs.declared.types.ListedClass.{ListedClass};
 ghost use Rattle.api_listing.specs.Nearest.{class_named};
-ghost use Rattle.type_lattice.specs.Hierarchy.{ArePlaced, is_up, nearest_common, parents_in};
+ghost use Rattle.type_lattice.specs.Hierarchy.{is_up, nearest_common, parents_in};
 ghost use Rattle.bytecode_model.specs.Order.{EachWayEnds};
-ghost use Rattle.bytecode_model.specs.Places.{class_place};
+ghost use Rattle.bytecode_model.specs.Places.{ClassesPlaced, class_place};
 
-use crate::by_name::{ByName, note, noted};
 use crate::ways::Ways;
 use api_listing::ListedClass;
+use bytecode_model::{ByName, class_places, noted, placed_class};
 use mon_base::{List, NoMemory};
 use std::alloc::Global;
-use std::collections::BTreeMap;
 use std::marker::Model;
 
 /// Classes, of which the first of each name is found by that name, with the ways up. A contract sees the list.
@@ -42,7 +41,7 @@ impl Hierarchy {
         requires { EachWayEnds classes }
         ensures { IfOk result (λ hierarchy. hierarchy ≡ classes) }
     {
-        let places = places_by_name(alloc, classes.as_slice())?;
+        let places = class_places(alloc, classes.as_slice())?;
         let parents = parent_places(alloc, classes.as_slice(), &places)?;
         let ways = Ways::new(alloc, parents.as_slice())?;
         Ok(Hierarchy {
@@ -70,10 +69,7 @@ impl Hierarchy {
     pub fn class_named(&self, name: &[u8]) -> Option<&ListedClass>
         ensures { option_copied result ≡ class_named self.now name.now }
     {
-        match noted(&self.places, name) {
-            Some(place) => self.classes.as_slice().get(place),
-            None => None,
-        }
+        placed_class(self.classes.as_slice(), &self.places, name)
     }
 
     /// Whether the class is an interface.
@@ -120,28 +116,13 @@ fn name_at(classes: &[ListedClass], place: usize) -> Option<&[u8]>
     }
 }
 
-/// The place of the first class of each name.
-fn places_by_name(alloc: Global, classes: &[ListedClass]) -> Result<ByName<usize>, NoMemory>
-    ensures { IfOk result (λ places. ArePlaced places classes.now) }
-{
-    let mut places = BTreeMap::new(alloc);
-    let mut index = 0;
-    let mut left = classes;
-    while let [class, rest @ ..] = left {
-        note(alloc, &mut places, &class.name, index)?;
-        index += 1;
-        left = rest;
-    }
-    Ok(places)
-}
-
 /// The place of the superclass of each class.
 fn parent_places(
     alloc: Global,
     classes: &[ListedClass],
     places: &ByName<usize>,
 ) -> Result<Vec<Option<usize>>, NoMemory>
-    requires { ArePlaced places.now classes.now }
+    requires { ClassesPlaced places.now classes.now }
     ensures { IfOk result (λ parents. parents.items ≡ parents_in classes.now) }
 {
     let mut parents = Vec::new(alloc);

@@ -1,6 +1,6 @@
 //! A program with an index of its classes, and what is asked of these. None of the answers takes memory.
 
-ghost use Rattle.std.specs.Prelude.{◌≡◌, option_map, option_copied, find, length, IfOk, MatchOption};
+ghost use Rattle.std.specs.Prelude.{◌≡◌, option_map, option_copied, find, length, IfOk};
 ghost use Rattle.api_listing.specs.declared.types.ListedClass.{ListedClass};
 ghost use Rattle.api_listing.specs.Nearest.{upwards};
 ghost use Rattle.bytecode_model.specs.Classes.{classes_of, is_below, is_interface};
@@ -8,7 +8,6 @@ ghost use Rattle.bytecode_model.specs.Order.{EachWayEnds};
 ghost use Rattle.bytecode_model.specs.Places.{class_place};
 
 use crate::classes::classes_of;
-use crate::ending::each_way_ends;
 use crate::hierarchy::Hierarchy;
 use api_listing::ListedClass;
 use bytecode_model::Program;
@@ -44,19 +43,6 @@ impl Indexed {
         let classes = classes_of(alloc, &program)?;
         let hierarchy = Hierarchy::new(alloc, classes)?;
         Ok(Indexed { program, hierarchy })
-    }
-
-    /// The same, where it is not known whether each way up ends: none where one does not.
-    pub fn tested(alloc: Global, program: Program) -> Result<Option<Indexed>, NoMemory>
-        ensures { IfOk result (λ found. MatchOption found (EachWayEnds (classes_of program) → ⊥)
-            (λ indexed. (indexed ≡ program) × EachWayEnds (classes_of program))) }
-    {
-        let classes = classes_of(alloc, &program)?;
-        if !each_way_ends(classes.as_slice()) {
-            return Ok(None);
-        }
-        let hierarchy = Hierarchy::new(alloc, classes)?;
-        Ok(Some(Indexed { program, hierarchy }))
     }
 
     /// The program.

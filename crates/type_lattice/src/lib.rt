@@ -7,10 +7,8 @@
 #![tactic(auto)]
 
 mod assigning;
-mod by_name;
 mod classes;
 mod comparing;
-mod ending;
 mod hierarchy;
 mod indexed;
 mod laws;
@@ -18,7 +16,6 @@ mod merging;
 mod ways;
 
 pub use assigning::{assignable, fits_class, lent_fits};
-pub use by_name::{ByName, note, noted};
 pub use classes::classes_of;
 pub use comparing::{Compared, arrays_compared, reference_of};
 pub use hierarchy::Hierarchy;

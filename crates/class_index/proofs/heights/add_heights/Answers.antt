@@ -9,9 +9,9 @@ loop-preserved c =
     let less = c.in-Some-checked_sub.less in
     let one : c.loop.height ≡ less + 1 = omega (arith, c.in-Some-checked_sub.ensures) in
     record {
-      known = with_height classes c.loop.heights c.add_place.new.places at c.loop.height c.loop.invariant.known c.loop.invariant.leaves c.in_ok-add_place.ensures;
+      known = with_height classes c.loop.heights c.note.new.names at c.loop.height c.loop.invariant.known c.loop.invariant.leaves c.in_ok-note.ensures;
       leaves = leaves_sooner classes at c.loop.height less c.in-Some.class.now (sym c.in-Some.ensures) one c.loop.invariant.leaves;
     }
 
 pub returns-in_default : goal.returns-in_default
-returns-in_default c = with_height c.args.classes.now c.loop.heights c.add_place.new.places c.loop.at.now c.loop.height c.loop.invariant.known c.loop.invariant.leaves c.in_ok-add_place.ensures
+returns-in_default c = with_height c.args.classes.now c.loop.heights c.note.new.names c.loop.at.now c.loop.height c.loop.invariant.known c.loop.invariant.leaves c.in_ok-note.ensures

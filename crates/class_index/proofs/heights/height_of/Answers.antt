@@ -1,4 +1,5 @@
-use Rattle.std.proofs.Common.{◌≡◌, ℕ, ◌+◌, ap, sym, arith}
+use Rattle.std.proofs.Common.{◌≡◌, ℕ, ◌+◌, ◌∙◌, ap, sym, arith}
+use Rattle.bytecode_model.specs.ByName.{noted}
 use Rattle.bytecode_model.specs.Conditions.{stays_within}
 use Rattle.class_index.proofs.Leaving.{gone_up, leaves_known, sum_leaves}
 use Rattle.class_index.proofs.heights.height_of.Goals as goal
@@ -15,6 +16,6 @@ pub returns-in-Some : goal.returns-in-Some
 returns-in-Some c =
     let classes = c.args.classes.now in
     let at = c.loop-steps.at.now in
-    let leaves = c.requires at c.in-Some.height.now (sym c.in-Some.ensures.value) in
-    sum_leaves classes c.args.name.now c.loop-steps.steps c.in-Some.height.now c.sum.result c.sum.ensures
-    (leaves_known classes c.args.name.now at c.loop-steps.steps c.in-Some.height.now leaves c.loop-steps.invariant)
+    let leaves = c.requires at c.in-Some.height (ap (noted c.args.heights.now) (sym c.as_slice.ensures) ∙ sym c.in-Some.ensures) in
+    sum_leaves classes c.args.name.now c.loop-steps.steps c.in-Some.height c.sum.result c.sum.ensures
+    (leaves_known classes c.args.name.now at c.loop-steps.steps c.in-Some.height leaves c.loop-steps.invariant)

@@ -25,4 +25,4 @@ returns-clause-is c =
     let few : length order < length classes = omega (arith, c.if-len.false, c.len.ensures, c.len-2.ensures) in
     subst (λ l. IsShared owners classes l name (record { place = c.len-3.result; height = c.len-4.result })) (sym c.in_ok-push.ensures.ok)
     (shared_here owners classes c.args.shared.now.lists name order c.in_ok-names.names (record { place = c.len-3.result; height = c.len-4.result }) c.in_ok-order.ensures few
-    (c.in_ok-names.ensures ∙ ap (filter (may_own owners)) c.as_slice.ensures) c.len-3.ensures c.len-4.ensures)
+    (c.in_ok-names.ensures ∙ ap (filter (may_own owners)) c.as_slice-2.ensures) c.len-3.ensures c.len-4.ensures)

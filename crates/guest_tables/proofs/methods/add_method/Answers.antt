@@ -2,9 +2,9 @@ use Rattle.std.proofs.Common.{◌&&◌, List, ℕ, Some, None, cond, sym, ap, �
 use Rattle.std.specs.Prelude.{bytes_eq}
 use Rattle.std.specs.Option.{option_or}
 use Rattle.guest_tables.specs.Methods.{method_in}
-use Rattle.type_lattice.specs.ByName.{noted}
+use Rattle.bytecode_model.specs.ByName.{noted}
 use Rattle.guest_tables.proofs.Naming.{method_added}
-use Rattle.type_lattice.proofs.ByName.{noted_put}
+use Rattle.bytecode_model.proofs.ByName.{noted_put}
 use Rattle.guest_tables.proofs.methods.add_method.Goals as goal
 
 pub returns : goal.returns

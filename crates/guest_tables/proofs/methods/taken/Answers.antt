@@ -1,5 +1,5 @@
 use Rattle.std.proofs.Common.{None}
-use Rattle.type_lattice.proofs.ByName.{noted_put}
+use Rattle.bytecode_model.proofs.ByName.{noted_put}
 use Rattle.guest_tables.proofs.methods.taken.Goals as goal
 
 pub returns-in-Some-clause-left : goal.returns-in-Some-clause-left

@@ -1,25 +1,12 @@
-use Rattle.std.proofs.Common.{◌∙◌, sym, ap}
-use Rattle.std.specs.Prelude.{bytes_eq, option_and_then}
-use Rattle.std.specs.List.{slice_get}
-use Rattle.api_listing.specs.declared.types.ListedClass.{ListedClass}
+use Rattle.std.proofs.Common.{◌∙◌, ap}
 use Rattle.api_listing.specs.declared.types.Listing.{Listing}
 use Rattle.api_listing.specs.Nearest.{class_named}
-use Rattle.bytecode_model.proofs.Placing.{find_at, got}
 use Rattle.class_text.proofs.library.Library.class_named.Goals as goal
 
-pub returns-in-None : goal.returns-in-None
-returns-in-None c =
-    let classes = c.self.inside.listing.now.classes in
-    ap (option_and_then (slice_get classes)) (c.in-None.ensures.value ∙ c.self.invariant.classes_placed c.args.name.now)
-    ∙ sym (find_at (λ (x : ListedClass). bytes_eq x.name c.args.name.now) classes)
-    ∙ ap (λ (l : Listing). class_named l.classes c.args.name.now) c.self.view_is
+pub placed_class-requires : goal.placed_class-requires
+placed_class-requires c = rw c.as_slice.ensures c.self.invariant.classes_placed
 
-pub returns-in-Some : goal.returns-in-Some
-returns-in-Some c =
-    let h = c.get-in-Some.ensures.lookup in
-    let classes = c.self.inside.listing.now.classes in
-    got c.get-in-Some.result c.as_slice.result.now c.in-Some.place.now h.3 h.1
-    ∙ ap (λ xs. slice_get xs c.in-Some.place.now) c.as_slice.ensures
-    ∙ ap (option_and_then (slice_get classes)) (c.in-Some.ensures.value ∙ c.self.invariant.classes_placed c.args.name.now)
-    ∙ sym (find_at (λ (x : ListedClass). bytes_eq x.name c.args.name.now) classes)
+pub returns : goal.returns
+returns c =
+    c.placed_class.ensures ∙ ap (λ cs. class_named cs c.as_slice-2.result.now) c.as_slice.ensures ∙ ap (class_named c.self.inside.listing.now.classes) c.as_slice-2.ensures
     ∙ ap (λ (l : Listing). class_named l.classes c.args.name.now) c.self.view_is

@@ -1,7 +1,7 @@
 -- A map by names that is asked for their bytes.
 use Rattle.std.proofs.Common.{◌≡◌, ℕ, Bool, true, false, cond, List, [], Option, Some, None, sym, ap, subst, ◌∙◌, inl, inr}
 use Rattle.std.specs.Prelude.{bytes_eq, is_some, Vec}
-use Rattle.std.specs.declared.alloc.Global.{Global}
+use Rattle.std.specs.Global.{Global}
 use Rattle.std.specs.Option.{option_or}
 use Rattle.std.specs.Ordering.{is_eq, nat_cmp}
 use Rattle.std.specs.Cmp.Lexicographic.{slice_cmp, nat_list_cmp_total}
@@ -13,7 +13,7 @@ use Rattle.std.proofs.lemmas.Map.Text.{is_eq-slice_cmp}
 use Rattle.std.proofs.lemmas.Slice.Eq.{bytes_eq-Decides}
 use Rattle.bytecode_model.proofs.Lists.{or_none}
 use Rattle.bytecode_model.proofs.Placing.{none_or, same_name, test_cases}
-use Rattle.type_lattice.specs.ByName.{noted}
+use Rattle.bytecode_model.specs.ByName.{noted}
 
 apart : (name q k : List ℕ) → bytes_eq name q ≡ false → is_eq (slice_cmp nat_cmp name k) ≡ true → is_eq (slice_cmp nat_cmp q k) ≡ false
 apart name q k other at =

@@ -1,8 +1,8 @@
 use Rattle.std.proofs.Common.{List, ℕ, Some, cond, sym, ap, ◌∙◌}
 use Rattle.std.specs.Prelude.{bytes_eq, is_some}
-use Rattle.type_lattice.specs.ByName.{noted}
-use Rattle.type_lattice.proofs.ByName.{noted_added, noted_put}
-use Rattle.type_lattice.proofs.by_name.note.Goals as goal
+use Rattle.bytecode_model.specs.ByName.{noted}
+use Rattle.bytecode_model.proofs.ByName.{noted_added, noted_put}
+use Rattle.bytecode_model.proofs.by_name.note.Goals as goal
 
 pub returns-in_ok-insert : goal.returns-in_ok-insert
 returns-in_ok-insert g c =

@@ -2,7 +2,7 @@
 
 ghost use Rattle.std.specs.Option.{option_or};
 ghost use Rattle.std.specs.Prelude.{List, None, OnOk, Some, bytes_eq, if◌then◌else◌, ℕ, ◌≡◌};
-ghost use Rattle.type_lattice.specs.ByName.{noted};
+ghost use Rattle.bytecode_model.specs.ByName.{noted};
 
 use mon_base::{Bytes, NoMemory};
 use std::alloc::Global;

@@ -1,10 +1,10 @@
 use Rattle.std.proofs.Common.{arith}
 use Rattle.std.specs.Prelude.{bytes_eq}
 use Rattle.api_listing.specs.declared.types.ListedClass.{ListedClass}
-use Rattle.type_lattice.proofs.ByName.{none_noted}
+use Rattle.bytecode_model.proofs.ByName.{none_noted}
 use Rattle.bytecode_model.proofs.Lists.{front_is, rest_length, none_left}
 use Rattle.bytecode_model.proofs.Placing.{place_goes_on, place_is_done}
-use Rattle.type_lattice.proofs.hierarchy.places_by_name.Goals as goal
+use Rattle.bytecode_model.proofs.places.class_places.Goals as goal
 
 pub loop-left-preserved : goal.loop-left-preserved
 loop-left-preserved c =

@@ -1,6 +1,0 @@
-use Rattle.std.proofs.Common.{◌≡◌, take, map}
-use Rattle.bytecode_model.specs.Heads.{class_at}
-use Rattle.class_index.proofs.heads.class_names.Given as goal
-
-abbrev pub invariant-loop-index : goal.invariant-loop-index
-invariant-loop-index l = l.names ≡ map (class_at l.pool) (take l.index-index l.indices)
