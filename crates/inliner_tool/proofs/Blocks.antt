@@ -35,8 +35,8 @@ use Rattle.inliner_tool.specs.Weaving.{Accepts, IsPlanned, IsRewoven, Remakes, T
 use Rattle.inliner_tool.proofs.Constants.{has_numbers}
 use Rattle.inliner_tool.proofs.Counting.{assembled_of, files_counted}
 
--- A step that gives a program comes from files that link to it.
-pub linked_by : (r : Linked Program) (program : Program) → link_step r ≡ Ok program → r ≡ Ok program
+-- a step that gives a program comes from files that link to it
+linked_by : (r : Linked Program) (program : Program) → link_step r ≡ Ok program → r ≡ Ok program
 linked_by (Ok other) program e =
     let same : other ≡ program = cc in
     ap (λ (p : Program). Ok p) same

@@ -1,15 +1,12 @@
 -- What `check` answers to files that the store tells, without a fault: what it is of what they are, or that memory ran out.
-use Rattle.std.proofs.Common.{◌≡◌, ◌⊎◌, inl, inr, ℕ, Bool, true, false, cond, List, length, Result, Ok, Err, refl, sym, ap, subst, ◌∙◌}
-use Rattle.std.specs.Prelude.{IsSome, nat_lt}
+use Rattle.std.proofs.Common.{◌≡◌, ◌⊎◌, inl, inr, ℕ, Bool, true, cond, List, length, Result, Ok, Err, refl, sym, ap, subst, ◌∙◌}
+use Rattle.std.specs.Prelude.{IsSome}
 use Rattle.api_listing.specs.declared.types.Listing.{Listing}
 use Rattle.bytecode_model.specs.declared.program.Program.{Program}
-use Rattle.bytecode_model.specs.declared.program.Side.TheVariants.{Inlined}
 use Rattle.cert_checker.specs.declared.checking.Accepted.{Accepted}
 use Rattle.cert_checker.specs.declared.fault.CheckFault.{CheckFault}
 use Rattle.cert_checker.specs.Acceptance.{verdict}
 use Rattle.cert_format.specs.declared.certificate.Certificate.{Certificate}
-use Rattle.class_linking.specs.Fault.{Linked}
-use Rattle.class_linking.specs.Linking.{linked}
 use Rattle.command_words.specs.Words.{Check, NamedCheck}
 use Rattle.conspec_automaton.specs.Building.{built}
 use Rattle.conspec_tree.specs.declared.types.PolicyTree.{PolicyTree}
@@ -24,12 +21,10 @@ use Rattle.inliner_tool.specs.declared.answer.Answer.{Answer}
 use Rattle.inliner_tool.specs.declared.answer.Answer.TheVariants as answers
 use Rattle.inliner_tool.specs.declared.refusal.Refusal.TheVariants as refusals
 use Rattle.inliner_tool.specs.Answers.{stopped}
-use Rattle.inliner_tool.specs.Check.{check_answer, is_judged, linked_answer, program_answer, verdict_answer}
+use Rattle.inliner_tool.specs.Check.{check_answer, is_judged, link_inputs, linked_answer, verdict_answer}
 use Rattle.inliner_tool.specs.CheckDecision.{CheckDecides}
 use Rattle.inliner_tool.specs.Decision.{IsDecision}
-use Rattle.inliner_tool.specs.Programs.{link_step, program_of}
 use Rattle.inliner_tool.specs.Tool.{CarriesOut, Ends, IsAnswer, status_of}
-use Rattle.inliner_tool.proofs.Blocks.{linked_by}
 use Rattle.inliner_tool.proofs.Told.{MayRead, may_read, says_of, stops_once, tree_once}
 use Rattle.inliner_tool.proofs.ToldClasses.{MayClasses, classes_stop, may_classes, same_classes}
 
@@ -89,17 +84,12 @@ module _ (files : Files) (count : Count) (named : NamedCheck) (quiet : Rose coun
 
 -- ---- what is answered
 
-linked_when : (long : Bool) (total : ℕ) (policy : PolicyTree) (certificate : Certificate) (r : Linked Program) (program : Program)
-    → cond long (Err (refusals.TotalLong total)) (link_step r) ≡ Ok program → cond long (answers.TotalLong total) (linked_answer policy certificate r) ≡ program_answer policy certificate program
-linked_when true total policy certificate r program e = absurd cc
-linked_when false total policy certificate r program e = ap (linked_answer policy certificate) (linked_by r program e)
-
 -- To inputs that link the answer is the verdict, where the certificate is judged.
-pub answers_verdict : (main : List ℕ) (inputs : CheckInputs) (program : Program) → program_of inputs.listing inputs.classes main Inlined ≡ Ok program → is_judged inputs.certificate.mode inputs.policy ≡ true
+pub answers_verdict : (main : List ℕ) (inputs : CheckInputs) (program : Program) → link_inputs main inputs ≡ Ok program → is_judged inputs.certificate.mode inputs.policy ≡ true
     → check_answer main inputs ≡ verdict_answer program (verdict program (built inputs.policy) inputs.certificate)
 answers_verdict main inputs program links judged =
-    linked_when (nat_lt 16777216 inputs.classes.total) inputs.classes.total inputs.policy inputs.certificate (linked inputs.classes.files inputs.listing main Inlined) program links
-    ∙ ap (λ (b : Bool). cond b (verdict_answer program (verdict program (built inputs.policy) inputs.certificate)) answers.NotBuilt) judged
+    ap (linked_answer inputs.policy inputs.certificate) links
+    ∙ ap (λ (b : Bool). cond b (verdict_answer program (verdict program (built inputs.policy) inputs.certificate)) (answers.Refused refusals.NotBuilt)) judged
 
 verdict_decides : (program : Program) (r : Result Accepted CheckFault) → IsDecision (status_of (verdict_answer program r))
 verdict_decides program (Ok accepted) = inl refl

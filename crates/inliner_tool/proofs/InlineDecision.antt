@@ -32,10 +32,10 @@ use Rattle.inliner_tool.specs.declared.weaving.Given.{Given}
 use Rattle.inliner_tool.specs.Answers.{refused, stopped}
 use Rattle.inliner_tool.specs.Inline.{Inlines, Refuses}
 use Rattle.inliner_tool.specs.InlineDecision.{InlineDecides, IsWeaving, NamesWoven}
-use Rattle.inliner_tool.specs.Programs.{Equals, Step, Types}
+use Rattle.inliner_tool.specs.Programs.{Equals, Step}
 use Rattle.inliner_tool.specs.Tool.{CarriesOut}
 use Rattle.inliner_tool.specs.Weaving.{Chosen, Fits, Plans, Told, Typed, certificate_for, outputs_step, weave_step}
-use Rattle.inliner_tool.proofs.RunDecision.{typed_nowhere}
+use Rattle.inliner_tool.proofs.RunDecision.{types_are_found}
 use Rattle.inliner_tool.proofs.Told.{may_read, says_of, stops_once, tree_once}
 use Rattle.inliner_tool.proofs.ToldClasses.{classes_stop, may_classes, same_classes}
 
@@ -76,18 +76,8 @@ module _ (files : Files) (named : NamedInline) (names : NamesWoven files named) 
       let is : mode ≡ names.mode = cc in
       sizes_fail (record { client = client; typing = typing; policy = built names.policy; mode = mode }) same refl is e fits
 
-  no_types : (client : Program) → client ≡ names.client → (e : Refusal) → Types client (Err e) → ⊥
-  no_types client same (refusals.Untyped label method at) told = typed_nowhere client told.0 method at (subst IsTypable (sym same) names.typable) told.2
-  no_types client same (refusals.TotalLong len) told = told
-  no_types client same (refusals.Link fault) told = told
-  no_types client same refusals.NotBuilt told = told
-  no_types client same (refusals.Overflow class method what value) told = told
-  no_types client same (refusals.LongCertificate value) told = told
-  no_types client same (refusals.NotEnabled index) told = told
-  no_types client same refusals.Memory told = told
-
   types_fail : (client : Program) → client ≡ names.client → (e : Refusal) → Typed named names.policy client (Err e) → IsWeaving (refused e)
-  types_fail client same e (inl untyped) = absurd (no_types client same e untyped)
+  types_fail client same e (inl untyped) = absurd (types_are_found client (subst IsTypable (sym same) names.typable) e untyped)
   types_fail client same e (inr (typing, first, chosen)) = mode_fails client typing same e chosen
 
   plan_fails : (e : Refusal) → Plans named known (Err e) → IsWeaving (refused e)
@@ -144,7 +134,6 @@ module _ (files : Files) (named : NamedInline) (names : NamesWoven files named) 
     inlines_decide new (answers.Inlined accepted classes) says = tt
     inlines_decide new (answers.Unwritten name) says = absurd (quiet says.so.1.rose)
     inlines_decide new answers.Memory says = tt
-    inlines_decide new (answers.LongCertificate value) says = tt
     inlines_decide new (answers.Accepted accepted) says = refuses_decide (answers.Accepted accepted) says.0
     inlines_decide new (answers.Denied fault label) says = refuses_decide (answers.Denied fault label) says.0
     inlines_decide new (answers.Shown text) says = refuses_decide (answers.Shown text) says.0
@@ -153,13 +142,8 @@ module _ (files : Files) (named : NamedInline) (names : NamesWoven files named) 
     inlines_decide new (answers.Racy condition example) says = refuses_decide (answers.Racy condition example) says.0
     inlines_decide new (answers.CellLimit first second n) says = refuses_decide (answers.CellLimit first second n) says.0
     inlines_decide new (answers.Replayed text) says = refuses_decide (answers.Replayed text) says.0
-    inlines_decide new (answers.NotEnabled index) says = refuses_decide (answers.NotEnabled index) says.0
     inlines_decide new (answers.Input name fault) says = refuses_decide (answers.Input name fault) says.0
-    inlines_decide new (answers.TotalLong len) says = refuses_decide (answers.TotalLong len) says.0
-    inlines_decide new (answers.Link fault) says = refuses_decide (answers.Link fault) says.0
-    inlines_decide new (answers.Untyped class method at) says = refuses_decide (answers.Untyped class method at) says.0
-    inlines_decide new answers.NotBuilt says = refuses_decide answers.NotBuilt says.0
-    inlines_decide new (answers.Overflow class method what value) says = refuses_decide (answers.Overflow class method what value) says.0
+    inlines_decide new (answers.Refused refusal) says = refuses_decide (answers.Refused refusal) says.0
     inlines_decide new (answers.Unread name) says = refuses_decide (answers.Unread name) says.0
     inlines_decide new answers.Usage says = refuses_decide answers.Usage says.0
 

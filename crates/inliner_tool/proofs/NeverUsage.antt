@@ -1,10 +1,6 @@
 -- What is answered to inputs is never that the words are no command's.
 use Rattle.std.proofs.Common.{◌≡◌, ℕ, Bool, true, false, cond, List, Ok, Err, sym}
-use Rattle.std.specs.Prelude.{nat_lt}
-use Rattle.class_linking.specs.declared.fault.LinkFault.{LinkFault}
-use Rattle.class_linking.specs.declared.fault.LinkFault.TheVariants as links
 use Rattle.bytecode_model.specs.declared.program.Program.{Program}
-use Rattle.class_linking.specs.Fault.{Linked}
 use Rattle.cert_checker.specs.declared.checking.Accepted.{Accepted}
 use Rattle.cert_checker.specs.declared.fault.CheckFault.{CheckFault}
 use Rattle.cert_checker.specs.Acceptance.{verdict}
@@ -14,9 +10,12 @@ use Rattle.conspec_automaton.specs.Building.{built}
 use Rattle.conspec_tree.specs.declared.types.PolicyTree.{PolicyTree}
 use Rattle.inliner_tool.specs.declared.answer.Answer.{Answer}
 use Rattle.inliner_tool.specs.declared.answer.Answer.TheVariants as answers
+use Rattle.inliner_tool.specs.declared.refusal.Refusal.{Refusal}
+use Rattle.inliner_tool.specs.declared.refusal.Refusal.TheVariants as refusals
 use Rattle.input_files.specs.declared.check_inputs.CheckInputs.{CheckInputs}
-use Rattle.inliner_tool.specs.Answers.{Is}
-use Rattle.inliner_tool.specs.Check.{check_answer, is_judged, linked_answer, link_answer, link_inputs, verdict_answer}
+use Rattle.inliner_tool.specs.Answers.{Is, refused}
+use Rattle.inliner_tool.specs.Check.{check_answer, is_judged, linked_answer, link_inputs, verdict_answer}
+use Rattle.inliner_tool.specs.Programs.{Step}
 use Rattle.inliner_tool.specs.Race.{decided_answer, fault_answer, race_answer, verdict_answer as race_verdict_answer}
 use Rattle.inliner_tool.specs.Tool.{IsAnswer}
 use Rattle.input_files.specs.declared.race_inputs.RaceInputs.{RaceInputs}
@@ -30,36 +29,27 @@ no_verdict : (program : Program) (verdict : Result Accepted CheckFault) → verd
 no_verdict program (Ok accepted) e = absurd cc
 no_verdict program (Err fault) e = absurd cc
 
-no_choice : (b : Bool) (judged : Answer) → (judged ≡ answers.Usage → ⊥) → cond b judged answers.NotBuilt ≡ answers.Usage → ⊥
+no_choice : (b : Bool) (judged : Answer) → (judged ≡ answers.Usage → ⊥) → cond b judged (answers.Refused refusals.NotBuilt) ≡ answers.Usage → ⊥
 no_choice true judged none e = none e
 no_choice false judged none e = absurd cc
 
-no_link : (fault : LinkFault) → link_answer fault ≡ answers.Usage → ⊥
-no_link links.NoMain e = absurd cc
-no_link (links.Twice class) e = absurd cc
-no_link (links.Unresolved class name) e = absurd cc
-no_link (links.SuperLeftOut class) e = absurd cc
-no_link (links.NameTaken class) e = absurd cc
-no_link (links.Method class name) e = absurd cc
-no_link (links.TooMany count) e = absurd cc
-no_link (links.Code class method fault) e = absurd cc
-no_link (links.Overrides class name) e = absurd cc
-no_link (links.Name class) e = absurd cc
-no_link (links.Operand class method at) e = absurd cc
-no_link links.Memory e = absurd cc
+no_refusal : (refusal : Refusal) → refused refusal ≡ answers.Usage → ⊥
+no_refusal (refusals.TotalLong len) e = absurd cc
+no_refusal (refusals.Link fault) e = absurd cc
+no_refusal (refusals.Untyped class method at) e = absurd cc
+no_refusal refusals.NotBuilt e = absurd cc
+no_refusal (refusals.Overflow class method what value) e = absurd cc
+no_refusal (refusals.LongCertificate value) e = absurd cc
+no_refusal (refusals.NotEnabled index) e = absurd cc
+no_refusal refusals.Memory e = absurd cc
 
-no_linked : (policy : PolicyTree) (certificate : Certificate) (linked : Linked Program) → linked_answer policy certificate linked ≡ answers.Usage → ⊥
+no_linked : (policy : PolicyTree) (certificate : Certificate) (linked : Step Program) → linked_answer policy certificate linked ≡ answers.Usage → ⊥
 no_linked policy certificate (Ok program) e =
     no_choice (is_judged certificate.mode policy) (verdict_answer program (verdict program (built policy) certificate)) (no_verdict program (verdict program (built policy) certificate)) e
-no_linked policy certificate (Err fault) e = no_link fault e
-
-no_total : (b : Bool) (total : ℕ) (other : Answer) → (other ≡ answers.Usage → ⊥) → cond b (answers.TotalLong total) other ≡ answers.Usage → ⊥
-no_total true total other none e = absurd cc
-no_total false total other none e = none e
+no_linked policy certificate (Err refusal) e = no_refusal refusal e
 
 no_usage : (main : List ℕ) (inputs : CheckInputs) → check_answer main inputs ≡ answers.Usage → ⊥
-no_usage main inputs e =
-    no_total (nat_lt 16777216 inputs.classes.total) inputs.classes.total (linked_answer inputs.policy inputs.certificate (link_inputs main inputs)) (no_linked inputs.policy inputs.certificate (link_inputs main inputs)) e
+no_usage main inputs e = no_linked inputs.policy inputs.certificate (link_inputs main inputs) e
 
 -- ---- policies by themselves
 
@@ -91,14 +81,8 @@ says wanted (answers.Racy condition example) P none is so = so is
 says wanted (answers.CellLimit first second count) P none is so = so is
 says wanted (answers.Inlined accepted classes) P none is so = so is
 says wanted (answers.Replayed text) P none is so = so is
-says wanted (answers.NotEnabled index) P none is so = so is
 says wanted (answers.Input name fault) P none is so = so is
-says wanted (answers.TotalLong len) P none is so = so is
-says wanted (answers.Link fault) P none is so = so is
-says wanted (answers.Untyped class method at) P none is so = so is
-says wanted answers.NotBuilt P none is so = so is
-says wanted (answers.Overflow class method what value) P none is so = so is
-says wanted (answers.LongCertificate value) P none is so = so is
+says wanted (answers.Refused refusal) P none is so = so is
 says wanted (answers.Unread name) P none is so = so is
 says wanted (answers.Unwritten name) P none is so = so is
 says wanted answers.Usage P none is so = none (sym is)

@@ -3,9 +3,21 @@ use Rattle.std.proofs.Common.{◌≡◌, refl}
 use Rattle.conspec_automaton.specs.declared.running.Verdict.TheVariants as verdicts
 use Rattle.inliner_tool.specs.declared.answer.Answer.{Answer}
 use Rattle.inliner_tool.specs.declared.answer.Answer.TheVariants as answers
+use Rattle.inliner_tool.specs.declared.refusal.Refusal.{Refusal}
+use Rattle.inliner_tool.specs.declared.refusal.Refusal.TheVariants as refusals
 use Rattle.inliner_tool.specs.declared.tool.Status.TheVariants as statuses
 use Rattle.inliner_tool.specs.Answers.{EndsWell}
-use Rattle.inliner_tool.specs.Tool.{status_of}
+use Rattle.inliner_tool.specs.Tool.{refusal_status, status_of}
+
+refusal_ends : (refusal : Refusal) → refusal_status refusal ≡ statuses.Done → ⊥
+refusal_ends (refusals.TotalLong len) is = absurd cc
+refusal_ends (refusals.Link fault) is = absurd cc
+refusal_ends (refusals.Untyped class method at) is = absurd cc
+refusal_ends refusals.NotBuilt is = absurd cc
+refusal_ends (refusals.Overflow class method what value) is = absurd cc
+refusal_ends (refusals.LongCertificate value) is = absurd cc
+refusal_ends (refusals.NotEnabled index) is = absurd cc
+refusal_ends refusals.Memory is = absurd cc
 
 pub ends_well : (answer : Answer) → status_of answer ≡ statuses.Done → EndsWell answer
 ends_well (answers.Accepted accepted) is = tt
@@ -16,17 +28,11 @@ ends_well (answers.Racy condition example) is = absurd cc
 ends_well (answers.CellLimit first second count) is = absurd cc
 ends_well (answers.Inlined accepted classes) is = tt
 ends_well (answers.Replayed text) is = tt
-ends_well (answers.NotEnabled index) is = absurd cc
 ends_well (answers.Judged verdicts.Accepted) is = refl
 ends_well (answers.Judged (verdicts.StoppedAt index)) is = refl
 ends_well (answers.Judged (verdicts.Refused index)) is = absurd cc
 ends_well (answers.Input name fault) is = absurd cc
-ends_well (answers.TotalLong len) is = absurd cc
-ends_well (answers.Link fault) is = absurd cc
-ends_well (answers.Untyped class method at) is = absurd cc
-ends_well answers.NotBuilt is = absurd cc
-ends_well (answers.Overflow class method what value) is = absurd cc
-ends_well (answers.LongCertificate value) is = absurd cc
+ends_well (answers.Refused refusal) is = absurd (refusal_ends refusal is)
 ends_well (answers.Unread name) is = absurd cc
 ends_well (answers.Unwritten name) is = absurd cc
 ends_well answers.Usage is = absurd cc

@@ -37,10 +37,21 @@ use Rattle.type_infer.specs.Untyped.{IsTypable, IsUntypedAt}
 
 -- ---- types
 
--- A program with types is untyped nowhere.
-pub typed_nowhere : (program : Program) (class method at : ℕ) → IsTypable program → IsUntypedAt program class method at → ⊥
+-- a program with types is untyped nowhere
+typed_nowhere : (program : Program) (class method at : ℕ) → IsTypable program → IsUntypedAt program class method at → ⊥
 typed_nowhere program class method at (typing, typed) untyped =
     untyped.fails (frames_in untyped.of.methods (frames_told typing class) method, λ i below. rw (untyped.class_there, untyped.method_there) at (typed class method i))
+
+-- The types of such a program are found.
+pub types_are_found : (program : Program) → IsTypable program → (e : Refusal) → Types program (Err e) → ⊥
+types_are_found program typable (refusals.Untyped label method at) told = typed_nowhere program told.0 method at typable told.2
+types_are_found program typable (refusals.TotalLong len) told = told
+types_are_found program typable (refusals.Link fault) told = told
+types_are_found program typable refusals.NotBuilt told = told
+types_are_found program typable (refusals.Overflow class method what value) told = told
+types_are_found program typable (refusals.LongCertificate value) told = told
+types_are_found program typable (refusals.NotEnabled index) told = told
+types_are_found program typable refusals.Memory told = told
 
 -- ---- what is told
 
@@ -65,18 +76,6 @@ module _ (files : Files) (count : Count) (named : NamedReplay) (quiet : Rose cou
       same_classes files count names.told quiet named.classes classes names.classes read (may_classes files named.classes names.classes.files names.classes.total names.classes_read) in
       rw (same, is) names.links
 
-  -- the program has types
-  no_refusal : (program : Program) (e : Refusal) → program ≡ names.program → Types program (Err e) → ⊥
-  no_refusal program (refusals.Untyped label method at) same told =
-      typed_nowhere program told.0 method at (subst IsTypable (sym same) names.typable) told.2
-  no_refusal program (refusals.TotalLong len) same told = told
-  no_refusal program (refusals.Link fault) same told = told
-  no_refusal program refusals.NotBuilt same told = told
-  no_refusal program (refusals.Overflow class method what value) same told = told
-  no_refusal program (refusals.LongCertificate value) same told = told
-  no_refusal program (refusals.NotEnabled index) same told = told
-  no_refusal program refusals.Memory same told = told
-
   told_decides : (inputs : ReplayInputs) (told : Step (List ℕ)) → program_of inputs.listing inputs.classes named.main Inlined ≡ Ok names.program → Tells named.main inputs told
       → IsDecision (status_of (replay_answer told))
   told_decides inputs (Ok text) links (program, first, (typing, typed, is)) = steps_decide program inputs (Ok text) is
@@ -86,7 +85,7 @@ module _ (files : Files) (count : Count) (named : NamedReplay) (quiet : Rose cou
   told_decides inputs (Err e) links (inr (program, first, inl untyped)) =
       let right : ◌≡◌ {A = Step Program} (Ok program) (Ok names.program) = first ∙ links in
       let same : program ≡ names.program = cc in
-      absurd (no_refusal program e same untyped)
+      absurd (types_are_found program (subst IsTypable (sym same) names.typable) e untyped)
   told_decides inputs (Err e) links (inr (program, first, inr (typing, typed, is))) = steps_decide program inputs (Err e) is
 
   read_links : (inputs : ReplayInputs) → ReadsReplay files count named (Ok inputs) → program_of inputs.listing inputs.classes named.main Inlined ≡ Ok names.program

@@ -16,14 +16,8 @@ stopped stops.Memory = answers.Memory
 
 -- where a command ended before its work was done
 abbrev pub refused : Refusal → Answer
-refused (refusals.TotalLong len) = answers.TotalLong len
-refused (refusals.Link fault) = answers.Link fault
-refused (refusals.Untyped class method at) = answers.Untyped class method at
-refused refusals.NotBuilt = answers.NotBuilt
-refused (refusals.Overflow class method what value) = answers.Overflow class method what value
-refused (refusals.LongCertificate value) = answers.LongCertificate value
-refused (refusals.NotEnabled index) = answers.NotEnabled index
 refused refusals.Memory = answers.Memory
+refused refusal = answers.Refused refusal
 
 -- It is this answer, unless memory ran out.
 abbrev pub Is : Answer → Answer → Type 0

@@ -1,12 +1,8 @@
 -- What is answered to a check. (docs/FORMS.md)
-use Rattle.std.specs.Prelude.{◌≡◌, ℕ, ◌||◌, nat_lt, Bool, true, false, codes, List, if◌then◌else◌, Option, Some, None, Result, Ok, Err}
+use Rattle.std.specs.Prelude.{◌≡◌, ℕ, ◌||◌, Bool, true, false, codes, List, if◌then◌else◌, Option, Some, None, Result, Ok, Err}
 use Rattle.std.specs.Option.{option_map_or}
-use Rattle.class_linking.specs.declared.fault.LinkFault.{LinkFault}
-use Rattle.class_linking.specs.declared.fault.LinkFault.TheVariants as links
 use Rattle.bytecode_model.specs.declared.program.Program.{Program}
 use Rattle.bytecode_model.specs.declared.program.Side.TheVariants.{Inlined}
-use Rattle.class_linking.specs.Fault.{Linked}
-use Rattle.class_linking.specs.Linking.{linked}
 use Rattle.cert_checker.specs.declared.checking.Accepted.{Accepted}
 use Rattle.cert_checker.specs.declared.fault.CheckFault.{CheckFault}
 use Rattle.cert_checker.specs.declared.fault.CheckFault.TheVariants.{Shape, StateClass, Typing, Local}
@@ -22,7 +18,10 @@ use Rattle.conspec_tree.specs.declared.types.PolicyTree.{PolicyTree}
 use Rattle.inliner_tool.specs.declared.answer.Answer.{Answer}
 use Rattle.inliner_tool.specs.declared.answer.Answer.TheVariants as answers
 use Rattle.input_files.specs.declared.check_inputs.CheckInputs.{CheckInputs}
+use Rattle.inliner_tool.specs.declared.refusal.Refusal.TheVariants as refusals
+use Rattle.inliner_tool.specs.Answers.{refused}
 use Rattle.inliner_tool.specs.Classes.{label_of}
+use Rattle.inliner_tool.specs.Programs.{Step, program_of}
 
 -- the number of the class that a fault is told of, if it is of one
 abbrev pub faulty_class : CheckFault → Option ℕ
@@ -51,24 +50,18 @@ is_judged mode policy = is_hold mode || denies_only policy
 
 abbrev pub program_answer : PolicyTree → Certificate → Program → Answer
 program_answer policy certificate program =
-    if is_judged certificate.mode policy then verdict_answer program (verdict program (built policy) certificate) else answers.NotBuilt
+    if is_judged certificate.mode policy then verdict_answer program (verdict program (built policy) certificate)
+    else answers.Refused refusals.NotBuilt
 
-abbrev pub link_answer : LinkFault → Answer
-link_answer links.Memory = answers.Memory
-link_answer fault = answers.Link fault
-
-abbrev pub linked_answer : PolicyTree → Certificate → Linked Program → Answer
+abbrev pub linked_answer : PolicyTree → Certificate → Step Program → Answer
 linked_answer policy certificate (Ok program) = program_answer policy certificate program
-linked_answer policy certificate (Err fault) = link_answer fault
+linked_answer policy certificate (Err refusal) = refused refusal
 
-abbrev pub link_inputs : List ℕ → CheckInputs → Linked Program
-link_inputs main inputs = linked inputs.classes.files inputs.listing main Inlined
+abbrev pub link_inputs : List ℕ → CheckInputs → Step Program
+link_inputs main inputs = program_of inputs.listing inputs.classes main Inlined
 
--- the class files have at most 16 MiB in all
 abbrev pub check_answer : List ℕ → CheckInputs → Answer
-check_answer main inputs =
-    if nat_lt 16777216 inputs.classes.total then answers.TotalLong inputs.classes.total
-    else linked_answer inputs.policy inputs.certificate (link_inputs main inputs)
+check_answer main inputs = linked_answer inputs.policy inputs.certificate (link_inputs main inputs)
 
 -- The program is accepted with the certificate, and obeys the policy for every list of guest steps, as its mode promises.
 pub record ProgramIsChecked (policy : PolicyTree) (certificate : Certificate) (program : Program) : Type 0 where

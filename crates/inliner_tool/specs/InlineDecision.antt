@@ -19,6 +19,7 @@ use Rattle.input_files.specs.Named.{AreClasses}
 use Rattle.type_infer.specs.Untyped.{IsTypable}
 use Rattle.inliner_tool.specs.declared.answer.Answer.{Answer}
 use Rattle.inliner_tool.specs.declared.answer.Answer.TheVariants as answers
+use Rattle.inliner_tool.specs.declared.refusal.Refusal.TheVariants as refusals
 use Rattle.inliner_tool.specs.Tool.{CarriesOut, IsAnswer}
 use Rattle.inliner_tool.specs.Weaving.{mode_for, original}
 
@@ -43,7 +44,7 @@ pub record NamesWoven (files : Files) (named : NamedInline) : Type 0 where
 -- Everything is written, a certificate is too long, or memory ran out: the statuses 0, 4 and 7.
 abbrev pub IsWeaving : Answer → Type 0
 IsWeaving (answers.Inlined accepted classes) = Unit {0}
-IsWeaving (answers.LongCertificate value) = Unit {0}
+IsWeaving (answers.Refused (refusals.LongCertificate value)) = Unit {0}
 IsWeaving answers.Memory = Unit {0}
 IsWeaving other = ⊥
 

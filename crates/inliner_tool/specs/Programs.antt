@@ -42,10 +42,13 @@ abbrev pub link_step : Linked Program → Step Program
 link_step (Ok program) = Ok program
 link_step (Err fault) = Err (link_refusal fault)
 
--- The class files have at most 16 MiB in all, and link on this side.
+-- what a step gives, where the class files have at most 16 MiB in all
+abbrev pub within_total : {A : Type 0} → Classes → Step A → Step A
+within_total classes step = if nat_lt 16777216 classes.total then Err (refusals.TotalLong classes.total) else step
+
+-- The class files are not too long in all, and link on this side.
 abbrev pub program_of : Listing → Classes → List ℕ → Side → Step Program
-program_of listing classes main side =
-    if nat_lt 16777216 classes.total then Err (refusals.TotalLong classes.total) else link_step (linked classes.files listing main side)
+program_of listing classes main side = within_total classes (link_step (linked classes.files listing main side))
 
 -- what class files that were woven link to, which may be one more than may be given
 abbrev pub woven_links : List ClassFile → Listing → List ℕ → Linked Program

@@ -11,6 +11,8 @@ use Rattle.conspec_automaton.specs.declared.running.Verdict.{Verdict}
 use Rattle.conspec_automaton.specs.declared.running.Verdict.TheVariants as verdicts
 use Rattle.inliner_tool.specs.declared.answer.Answer.{Answer}
 use Rattle.inliner_tool.specs.declared.answer.Answer.TheVariants as answers
+use Rattle.inliner_tool.specs.declared.refusal.Refusal.{Refusal}
+use Rattle.inliner_tool.specs.declared.refusal.Refusal.TheVariants as refusals
 use Rattle.inliner_tool.specs.Numbers.{cells_report, check_report, event_report, input_report, length_report, link_report, race_report, size_report, step_report, total_report, unbuilt_report, untyped_report}
 
 abbrev pub mode_name : Mode → List ℕ
@@ -26,6 +28,16 @@ verdict_reply verdicts.Accepted = replies.Line lines.Obeyed
 verdict_reply (verdicts.StoppedAt index) = replies.Line (lines.Stopped index)
 verdict_reply (verdicts.Refused index) = replies.Line (lines.Denied (event_report index))
 
+abbrev pub refusal_reply : Refusal → Reply
+refusal_reply (refusals.TotalLong len) = input None (total_report len)
+refusal_reply (refusals.Link fault) = input None (link_report fault)
+refusal_reply (refusals.Untyped class method at) = input None (untyped_report class method at)
+refusal_reply refusals.NotBuilt = input None unbuilt_report
+refusal_reply (refusals.Overflow class method what value) = replies.Line (lines.Overflow (size_report class method what value).fields)
+refusal_reply (refusals.LongCertificate value) = replies.Line (lines.Overflow (length_report value).fields)
+refusal_reply (refusals.NotEnabled index) = replies.Line (lines.Denied (step_report index))
+refusal_reply refusals.Memory = replies.Nothing
+
 abbrev pub reply_of : Answer → Reply
 reply_of (answers.Accepted accepted) = replies.Line (lines.Accepted (mode_name accepted.mode) accepted.sites)
 reply_of (answers.Denied fault label) = replies.Line (lines.Denied (check_report fault label))
@@ -36,14 +48,8 @@ reply_of (answers.Racy condition example) = replies.Line (lines.Denied (race_rep
 reply_of (answers.CellLimit first second count) = replies.Line (lines.Denied (cells_report first second count))
 reply_of (answers.Inlined accepted classes) = replies.Line (lines.Inlined (mode_name accepted.mode) accepted.sites classes)
 reply_of (answers.Replayed text) = replies.Text text
-reply_of (answers.NotEnabled index) = replies.Line (lines.Denied (step_report index))
 reply_of (answers.Input name fault) = input (Some name) (input_report fault)
-reply_of (answers.TotalLong len) = input None (total_report len)
-reply_of (answers.Link fault) = input None (link_report fault)
-reply_of (answers.Untyped class method at) = input None (untyped_report class method at)
-reply_of answers.NotBuilt = input None unbuilt_report
-reply_of (answers.Overflow class method what value) = replies.Line (lines.Overflow (size_report class method what value).fields)
-reply_of (answers.LongCertificate value) = replies.Line (lines.Overflow (length_report value).fields)
+reply_of (answers.Refused refusal) = refusal_reply refusal
 reply_of (answers.Unread name) = replies.Line (lines.Store name)
 reply_of (answers.Unwritten name) = replies.Line (lines.Store name)
 reply_of answers.Usage = replies.Line lines.Usage

@@ -1,5 +1,5 @@
 -- What is answered where class files are shown. (docs/COMMANDS.md)
-use Rattle.std.specs.Prelude.{ℕ, nat_lt, List, if◌then◌else◌, Result, Ok, Err}
+use Rattle.std.specs.Prelude.{ℕ, List, Result, Ok, Err}
 use Rattle.class_linking.specs.declared.fault.LinkFault.TheVariants as links
 use Rattle.class_text.specs.declared.fault.ShowFault.{ShowFault}
 use Rattle.class_text.specs.declared.fault.ShowFault.TheVariants as shows
@@ -7,12 +7,26 @@ use Rattle.class_text.specs.Shown.{shown}
 use Rattle.inliner_tool.specs.declared.answer.Answer.{Answer}
 use Rattle.inliner_tool.specs.declared.answer.Answer.TheVariants as answers
 use Rattle.input_files.specs.declared.show_inputs.ShowInputs.{ShowInputs}
+use Rattle.inliner_tool.specs.declared.refusal.Refusal.{Refusal}
+use Rattle.inliner_tool.specs.declared.refusal.Refusal.TheVariants as refusals
+use Rattle.inliner_tool.specs.Answers.{refused}
+use Rattle.inliner_tool.specs.Programs.{Step, within_total}
 
-abbrev pub shown_answer : Result (List ℕ) ShowFault → Answer
+abbrev pub show_refusal : ShowFault → Refusal
+show_refusal (shows.Code class method fault) = refusals.Link (links.Code class method fault)
+show_refusal shows.Memory = refusals.Memory
+
+abbrev pub show_step : Result (List ℕ) ShowFault → Step (List ℕ)
+show_step (Ok text) = Ok text
+show_step (Err fault) = Err (show_refusal fault)
+
+-- the text of class files that are not too long in all
+abbrev pub text_of : ShowInputs → Step (List ℕ)
+text_of inputs = within_total inputs.classes (show_step (shown inputs.listing inputs.classes.files))
+
+abbrev pub shown_answer : Step (List ℕ) → Answer
 shown_answer (Ok text) = answers.Shown text
-shown_answer (Err (shows.Code class method fault)) = answers.Link (links.Code class method fault)
-shown_answer (Err shows.Memory) = answers.Memory
+shown_answer (Err refusal) = refused refusal
 
 abbrev pub show_answer : ShowInputs → Answer
-show_answer inputs =
-    if nat_lt 16777216 inputs.classes.total then answers.TotalLong inputs.classes.total else shown_answer (shown inputs.listing inputs.classes.files)
+show_answer inputs = shown_answer (text_of inputs)

@@ -8,6 +8,8 @@ use Rattle.inliner_tool.specs.declared.answer.Answer.{Answer}
 use Rattle.inliner_tool.specs.declared.answer.Answer.TheVariants as answers
 use Rattle.input_files.specs.declared.files.Stop.{Stop}
 use Rattle.input_files.specs.declared.check_inputs.CheckInputs.{CheckInputs}
+use Rattle.inliner_tool.specs.declared.refusal.Refusal.{Refusal}
+use Rattle.inliner_tool.specs.declared.refusal.Refusal.TheVariants as refusals
 use Rattle.inliner_tool.specs.declared.tool.Status.{Status}
 use Rattle.inliner_tool.specs.declared.tool.Status.TheVariants as statuses
 use Rattle.input_files.specs.Forms.{Count}
@@ -69,6 +71,16 @@ judged_status verdicts.Accepted = statuses.Done
 judged_status (verdicts.StoppedAt index) = statuses.Done
 judged_status (verdicts.Refused index) = statuses.Denied
 
+abbrev pub refusal_status : Refusal → Status
+refusal_status (refusals.TotalLong len) = statuses.Input
+refusal_status (refusals.Link fault) = statuses.Input
+refusal_status (refusals.Untyped class method at) = statuses.Input
+refusal_status refusals.NotBuilt = statuses.Input
+refusal_status (refusals.Overflow class method what value) = statuses.Overflow
+refusal_status (refusals.LongCertificate value) = statuses.Overflow
+refusal_status (refusals.NotEnabled index) = statuses.Denied
+refusal_status refusals.Memory = statuses.Memory
+
 abbrev pub status_of : Answer → Status
 status_of (answers.Accepted accepted) = statuses.Done
 status_of (answers.Denied fault label) = statuses.Denied
@@ -79,14 +91,8 @@ status_of (answers.Racy condition example) = statuses.Denied
 status_of (answers.CellLimit first second count) = statuses.Denied
 status_of (answers.Inlined accepted classes) = statuses.Done
 status_of (answers.Replayed text) = statuses.Done
-status_of (answers.NotEnabled index) = statuses.Denied
 status_of (answers.Input name fault) = statuses.Input
-status_of (answers.TotalLong len) = statuses.Input
-status_of (answers.Link fault) = statuses.Input
-status_of (answers.Untyped class method at) = statuses.Input
-status_of answers.NotBuilt = statuses.Input
-status_of (answers.Overflow class method what value) = statuses.Overflow
-status_of (answers.LongCertificate value) = statuses.Overflow
+status_of (answers.Refused refusal) = refusal_status refusal
 status_of (answers.Unread name) = statuses.StoreFault
 status_of (answers.Unwritten name) = statuses.StoreFault
 status_of answers.Usage = statuses.Usage

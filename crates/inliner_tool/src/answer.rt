@@ -1,15 +1,13 @@
 //! What is answered to a command.
 
 ghost use Rattle.std.specs.Prelude.{◌≡◌};
-ghost use Rattle.inliner_tool.specs.Answers.{refused, stopped};
+ghost use Rattle.inliner_tool.specs.Answers.{EndsWell, refused, stopped};
 
 use crate::refusal::Refusal;
 use cert_checker::{Accepted, CheckFault};
-use class_linking::LinkFault;
 use conspec_automaton::Verdict;
 use input_files::{InputFault, Stop};
 use mon_base::Bytes;
-use offset_patch::Size;
 
 /// What is answered to a command.
 #[derive(Debug, Drop, PartialEq, Eq)]
@@ -25,55 +23,18 @@ pub enum Answer {
     /// The events of a policy do not race.
     RaceFree,
     /// They do: the first condition that is broken, by its number, and a state and events that break it, as they are printed.
-    Racy {
-        condition: u8,
-        example: Bytes,
-    },
+    Racy { condition: u8, example: Bytes },
     /// So many points would have to be tried for two clauses, by their places in the policy, or for one, which is told
     /// twice. That is too many.
-    CellLimit {
-        first: u32,
-        second: u32,
-        count: u64,
-    },
+    CellLimit { first: u32, second: u32, count: u64 },
     /// The program was woven, checked and written, in so many class files.
-    Inlined {
-        accepted: Accepted,
-        classes: u64,
-    },
+    Inlined { accepted: Accepted, classes: u64 },
     /// The events of a run and its end, as they are printed.
     Replayed(Bytes),
-    /// The step of a run that has this index is the first that is not enabled in its place.
-    NotEnabled {
-        index: u64,
-    },
     /// The first file that is not what it is named for, and why.
     Input(Bytes, InputFault),
-    /// The class files have so many bytes in all, which is too many.
-    TotalLong {
-        len: u64,
-    },
-    /// The first condition of linking that fails.
-    Link(LinkFault),
-    /// No types fit at an instruction: the name of its class, its method and its index.
-    Untyped {
-        class: Bytes,
-        method: u32,
-        at: u32,
-    },
-    /// The policy, in this mode, is not built yet.
-    NotBuilt,
-    /// A method, by its class and its index there, would have this size, which does not fit.
-    Overflow {
-        class: Bytes,
-        method: u32,
-        what: Size,
-        value: i64,
-    },
-    /// The certificate would have so many bytes, which is too many.
-    LongCertificate {
-        value: u64,
-    },
+    /// Why the command ended before its work was done.
+    Refused(Refusal),
     /// The file that could not be read.
     Unread(Bytes),
     /// The file that could not be written.
@@ -97,26 +58,11 @@ pub fn stopped(stop: Stop) -> Answer
 
 /// The answer where a command ended before its work was done.
 pub fn refused(refusal: Refusal) -> Answer
-    ensures { result ≡ refused refusal }
+    ensures is { result ≡ refused refusal }
+    ensures no { EndsWell result → ⊥ }
 {
     match refusal {
-        Refusal::TotalLong { len } => Answer::TotalLong { len },
-        Refusal::Link(fault) => Answer::Link(fault),
-        Refusal::Untyped { class, method, at } => Answer::Untyped { class, method, at },
-        Refusal::NotBuilt => Answer::NotBuilt,
-        Refusal::Overflow {
-            class,
-            method,
-            what,
-            value,
-        } => Answer::Overflow {
-            class,
-            method,
-            what,
-            value,
-        },
-        Refusal::LongCertificate { value } => Answer::LongCertificate { value },
-        Refusal::NotEnabled { index } => Answer::NotEnabled { index },
         Refusal::Memory => Answer::Memory,
+        refusal => Answer::Refused(refusal),
     }
 }

@@ -3,7 +3,6 @@
 ghost use Rattle.std.specs.Prelude.{◌≡◌, ◌≤◌, IfOk, IsTrue};
 ghost use Rattle.block_logic.specs.Meaning.{Promised};
 ghost use Rattle.conspec_automaton.specs.Building.{built};
-ghost use Rattle.bytecode_model.specs.Classes.{classes_of};
 ghost use Rattle.bytecode_model.specs.Sound.{IsSound};
 ghost use Rattle.command_words.specs.Words.{Check, check_named};
 ghost use Rattle.inliner_tool.specs.Answers.{EndsWell, Is, stopped};
@@ -16,7 +15,6 @@ ghost use Rattle.inliner_tool.specs.Check.{
   is_hold,
   is_judged,
   label_for,
-  link_answer,
   program_answer,
 };
 ghost use Rattle.inliner_tool.specs.CheckDecision.{CheckDecides};
@@ -24,14 +22,14 @@ ghost use Rattle.inliner_tool.specs.Tool.{CarriesOut, Holds, IsAnswer};
 ghost use Rattle.input_files.specs.CheckInputs.{AreSound};
 ghost use Rattle.input_files.specs.Forms.{since};
 ghost use Rattle.input_files.specs.Named.{IsListed, IsPolicyOf};
-ghost use Rattle.bytecode_model.specs.Order.{EachWayEnds};
 
-use crate::answer::{Answer, stopped};
-use crate::classes::{TOTAL_LIMIT, label_of};
+use crate::answer::{Answer, refused, stopped};
+use crate::classes::label_of;
+use crate::programs::program_of;
+use crate::refusal::Refusal;
 use bytecode_model::{Program, Side};
 use cert_checker::{CheckFault, check};
 use cert_format::{Certificate, Mode};
-use class_linking::{LinkFault, link};
 use command_words::CheckWords;
 use conspec_automaton::{build, denies_only};
 use conspec_parse::kinds_are_told;
@@ -63,50 +61,15 @@ fn check_answer(alloc: Global, inputs: CheckInputs, main: &Bytes) -> Answer
     ensures is { Is result (check_answer main.now inputs) }
     ensures checked { EndsWell result → IsChecked main.now inputs }
 {
-    let total = inputs.classes.total;
-    if total > TOTAL_LIMIT {
-        return Answer::TotalLong { len: total };
-    }
     let CheckInputs {
         listing,
         policy,
         certificate,
         classes,
     } = inputs;
-    match link(alloc, classes.files, listing, main, Side::Inlined) {
-        Ok(program) => indexed_answer(alloc, program, &policy, &certificate),
-        Err(fault) => link_answer(fault),
-    }
-}
-
-/// The first condition of linking that fails.
-fn link_answer(fault: LinkFault) -> Answer
-    ensures is { result ≡ link_answer fault }
-    ensures no { EndsWell result → ⊥ }
-{
-    match fault {
-        LinkFault::Memory => Answer::Memory,
-        fault => Answer::Link(fault),
-    }
-}
-
-/// What is answered to a check of a linked program, whose classes are indexed first.
-fn indexed_answer(
-    alloc: Global,
-    program: Program,
-    policy: &PolicyTree,
-    certificate: &Certificate,
-) -> Answer
-    requires sound { IsSound program }
-    requires listed { IsListed program.listing }
-    requires policy { IsPolicyOf program.listing policy.now }
-    requires ends { EachWayEnds (classes_of program) }
-    ensures is { Is result (program_answer policy.now certificate.now program) }
-    ensures checked { EndsWell result → ProgramIsChecked policy.now certificate.now program }
-{
-    match Indexed::new(alloc, program) {
-        Ok(program) => program_answer(alloc, &program, policy, certificate),
-        Err(NoMemory) => Answer::Memory,
+    match program_of(alloc, listing, classes, main, Side::Inlined) {
+        Ok(program) => program_answer(alloc, &program, &policy, &certificate),
+        Err(refusal) => refused(refusal),
     }
 }
 
@@ -124,7 +87,7 @@ fn program_answer(
     ensures checked { EndsWell result → ProgramIsChecked policy.now certificate.now program.now }
 {
     if !is_judged(certificate.mode, policy) {
-        return Answer::NotBuilt;
+        return Answer::Refused(Refusal::NotBuilt);
     }
     let Ok(policy) = build(alloc, policy) else {
         return Answer::Memory;

@@ -24,5 +24,6 @@ pub use answer::Answer;
 pub use check::check_decides;
 pub use inline::{inline_decides, written_is_accepted};
 pub use race::race_decides;
+pub use refusal::Refusal;
 pub use replay::replay_decides;
 pub use tool::{Status, run_tool};

@@ -14,7 +14,7 @@ ghost use Rattle.input_files.specs.Named.{IsListed};
 ghost use Rattle.inliner_tool.specs.Programs.{Equals, Types, UnlessMemory, link_refusal, link_step, program_of};
 ghost use Rattle.type_infer.specs.Untyped.{IsLeast};
 
-use crate::classes::{TOTAL_LIMIT, label_of};
+use crate::classes::{label_of, within_total};
 use crate::refusal::Refusal;
 use api_listing::Listing;
 use bytecode_model::Side;
@@ -46,15 +46,12 @@ pub fn program_of(
     ensures order { IfOk result IsInOrder }
     ensures links { IfOk result (IsLinkedOf side listing main.now) }
 {
-    let total = classes.total;
-    if total > TOTAL_LIMIT {
-        return Err(Refusal::TotalLong { len: total });
-    }
+    within_total(&classes)?;
     linked(alloc, classes.files, listing, main, side)
 }
 
 /// The program that the files link to, with an index of its classes.
-pub fn linked(
+fn linked(
     alloc: Global,
     files: List<ClassFile>,
     listing: Listing,

@@ -7,7 +7,7 @@ use class_linking::LinkFault;
 use mon_base::{Bytes, NoMemory};
 use offset_patch::Size;
 
-/// Why nothing is written of what was to be woven, or nothing told of a run.
+/// Why a command ends before its work is done.
 #[derive(Debug, Drop, PartialEq, Eq)]
 pub enum Refusal {
     /// The class files have so many bytes in all, which is too many.
@@ -24,18 +24,18 @@ pub enum Refusal {
     },
     /// The policy, in this mode, is not built yet.
     NotBuilt,
-    /// A method, by its class and its index there, would have this size.
+    /// A method, by its class and its index there, would have this size, which does not fit.
     Overflow {
         class: Bytes,
         method: u32,
         what: Size,
         value: i64,
     },
-    /// The certificate would have so many bytes.
+    /// The certificate would have so many bytes, which is too many.
     LongCertificate {
         value: u64,
     },
-    /// The step of a run that has this index is not enabled in its place.
+    /// The step of a run that has this index is the first that is not enabled in its place.
     NotEnabled {
         index: u64,
     },

@@ -4,13 +4,14 @@ ghost use Rattle.std.specs.Prelude.{◌≡◌, None, Some, IfOk};
 ghost use Rattle.answer_text.specs.declared.line.Line.TheVariants as lines;
 ghost use Rattle.answer_text.specs.declared.reply.Reply.TheVariants as replies;
 ghost use Rattle.inliner_tool.specs.declared.answer.Answer.TheVariants as answers;
-ghost use Rattle.inliner_tool.specs.Replies.{input, mode_name, reply_of, answer_spelled, verdict_reply};
+ghost use Rattle.inliner_tool.specs.Replies.{input, mode_name, refusal_reply, reply_of, answer_spelled, verdict_reply};
 
 use crate::answer::Answer;
 use crate::numbers::{
     cells_report, check_report, event_report, input_report, length_report, link_report,
     race_report, size_report, step_report, total_report, unbuilt_report, untyped_report,
 };
+use crate::refusal::Refusal;
 use answer_text::{Line, Reply, Report};
 use cert_checker::Accepted;
 use cert_format::Mode;
@@ -44,21 +45,8 @@ fn reply_of(alloc: Global, answer: Answer) -> Result<Reply, NoMemory>
         } => Ok(denied(cells_report(alloc, first, second, count)?)),
         Answer::Inlined { accepted, classes } => inlined_reply(alloc, accepted, classes),
         Answer::Replayed(text) => Ok(Reply::Text(text)),
-        Answer::NotEnabled { index } => Ok(denied(step_report(alloc, index)?)),
         Answer::Input(name, fault) => Ok(input(Some(name), input_report(alloc, fault)?)),
-        Answer::TotalLong { len } => Ok(input(None, total_report(alloc, len)?)),
-        Answer::Link(fault) => Ok(input(None, link_report(alloc, fault)?)),
-        Answer::Untyped { class, method, at } => {
-            Ok(input(None, untyped_report(alloc, class, method, at)?))
-        }
-        Answer::NotBuilt => Ok(input(None, unbuilt_report(alloc)?)),
-        Answer::Overflow {
-            class,
-            method,
-            what,
-            value,
-        } => Ok(overflow(size_report(alloc, class, method, what, value)?)),
-        Answer::LongCertificate { value } => Ok(overflow(length_report(alloc, value)?)),
+        Answer::Refused(refusal) => refusal_reply(alloc, refusal),
         Answer::Unread(name) => Ok(Reply::Line(Line::Store(name))),
         Answer::Unwritten(name) => Ok(Reply::Line(Line::Store(name))),
         Answer::Usage => Ok(Reply::Line(Line::Usage)),
@@ -101,6 +89,29 @@ fn verdict_reply(alloc: Global, verdict: Verdict) -> Result<Reply, NoMemory>
         Verdict::Accepted => Ok(Reply::Line(Line::Obeyed)),
         Verdict::StoppedAt { index } => Ok(Reply::Line(Line::Stopped { index })),
         Verdict::Refused { index } => Ok(denied(event_report(alloc, index)?)),
+    }
+}
+
+/// What is printed where a command ended before its work was done.
+fn refusal_reply(alloc: Global, refusal: Refusal) -> Result<Reply, NoMemory>
+    ensures { IfOk result (λ reply. reply ≡ refusal_reply refusal) }
+{
+    match refusal {
+        Refusal::TotalLong { len } => Ok(input(None, total_report(alloc, len)?)),
+        Refusal::Link(fault) => Ok(input(None, link_report(alloc, fault)?)),
+        Refusal::Untyped { class, method, at } => {
+            Ok(input(None, untyped_report(alloc, class, method, at)?))
+        }
+        Refusal::NotBuilt => Ok(input(None, unbuilt_report(alloc)?)),
+        Refusal::Overflow {
+            class,
+            method,
+            what,
+            value,
+        } => Ok(overflow(size_report(alloc, class, method, what, value)?)),
+        Refusal::LongCertificate { value } => Ok(overflow(length_report(alloc, value)?)),
+        Refusal::NotEnabled { index } => Ok(denied(step_report(alloc, index)?)),
+        Refusal::Memory => Ok(Reply::Nothing),
     }
 }
 

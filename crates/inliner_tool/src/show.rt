@@ -5,16 +5,19 @@ ghost use Rattle.std.specs.List.{AllByRecursion};
 ghost use Rattle.class_codec.specs.Fits.{CanSpell};
 ghost use Rattle.command_words.specs.Words.{Show, show_named};
 ghost use Rattle.inliner_tool.specs.Answers.{Is, stopped};
-ghost use Rattle.inliner_tool.specs.Show.{show_answer};
+ghost use Rattle.inliner_tool.specs.Programs.{Equals, UnlessMemory};
+ghost use Rattle.inliner_tool.specs.Show.{show_answer, show_refusal, text_of};
 ghost use Rattle.inliner_tool.specs.Tool.{CarriesOut, IsAnswer};
 ghost use Rattle.input_files.specs.Forms.{since};
 
-use crate::answer::{Answer, stopped};
-use crate::classes::TOTAL_LIMIT;
+use crate::answer::{Answer, refused, stopped};
+use crate::classes::within_total;
+use crate::refusal::Refusal;
 use class_linking::LinkFault;
 use class_text::{ShowFault, show};
 use command_words::ShowWords;
 use input_files::{ShowInputs, read_show};
+use mon_base::Bytes;
 use mon_store::Store;
 use std::alloc::Global;
 
@@ -36,23 +39,38 @@ fn show_answer(alloc: Global, inputs: &ShowInputs) -> Answer
     requires { AllByRecursion CanSpell inputs.now.classes.files }
     ensures { Is result (show_answer inputs.now) }
 {
-    let total = inputs.classes.total;
-    if total > TOTAL_LIMIT {
-        return Answer::TotalLong { len: total };
-    }
-    match show(alloc, &inputs.listing, inputs.classes.files.as_slice()) {
+    match text_of(alloc, inputs) {
         Ok(text) => Answer::Shown(text),
-        Err(
-            ShowFault::Code {
-                class,
-                method,
-                fault,
-            },
-        ) => Answer::Link(LinkFault::Code {
+        Err(refusal) => refused(refusal),
+    }
+}
+
+/// The text of class files that are not too long in all.
+fn text_of(alloc: Global, inputs: &ShowInputs) -> Result<Bytes, Refusal>
+    requires { AllByRecursion CanSpell inputs.now.classes.files }
+    ensures { UnlessMemory (Equals (text_of inputs.now)) result }
+{
+    within_total(&inputs.classes)?;
+    match show(alloc, &inputs.listing, inputs.classes.files.as_slice()) {
+        Ok(text) => Ok(text),
+        Err(fault) => Err(show_refusal(fault)),
+    }
+}
+
+/// Why class files are not shown.
+fn show_refusal(fault: ShowFault) -> Refusal
+    ensures { result ≡ show_refusal fault }
+{
+    match fault {
+        ShowFault::Code {
+            class,
+            method,
+            fault,
+        } => Refusal::Link(LinkFault::Code {
             class,
             method,
             fault,
         }),
-        Err(ShowFault::Memory) => Answer::Memory,
+        ShowFault::Memory => Refusal::Memory,
     }
 }

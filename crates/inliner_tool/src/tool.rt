@@ -1,13 +1,12 @@
 //! The top call: the words of a command, the answer over a store, and the output that a sink takes.
 
-ghost use Rattle.std.specs.Prelude.{◌≡◌, ◌≤◌, ◌↔◌, IsTrue};
+ghost use Rattle.std.specs.Prelude.{◌≡◌, ◌≤◌};
 ghost use Rattle.command_words.specs.InlineWords.{IsInline, NamedInline};
 ghost use Rattle.command_words.specs.Words.{IsCheck, NamedCheck};
-ghost use Rattle.inliner_tool.specs.declared.answer.Answer.TheVariants as answers;
 ghost use Rattle.inliner_tool.specs.Answers.{EndsWell};
 ghost use Rattle.inliner_tool.specs.Inline.{IsInlined, Leaves};
 ghost use Rattle.inliner_tool.specs.Status.{code_of};
-ghost use Rattle.inliner_tool.specs.Tool.{Holds, Replies, Says, judged_status, status_of};
+ghost use Rattle.inliner_tool.specs.Tool.{Holds, Replies, Says, judged_status, refusal_status, status_of};
 ghost use Rattle.input_files.specs.Forms.{since};
 ghost use Rattle.mon_store.specs.Store.{Rose};
 
@@ -16,6 +15,7 @@ use crate::check::answer_check;
 use crate::inline::answer_inline;
 use crate::policy::answer_policy;
 use crate::race::answer_race;
+use crate::refusal::Refusal;
 use crate::replay::answer_replay;
 use crate::replies::answer_spelled;
 use crate::show::answer_show;
@@ -99,10 +99,10 @@ pub fn run_tool<S: Store, K: Sink>(
     ensures sink_faults { K.faults out.old ≤ K.faults out.new }
 {
     let answer = answer_to(alloc, words, store);
-    if is_memory(&answer) {
+    let status = status_of(&answer);
+    if status == Status::Memory {
         return Status::Memory;
     }
-    let status = status_of(&answer);
     let Ok(text) = answer_spelled(alloc, answer) else {
         return Status::Memory;
     };
@@ -111,12 +111,6 @@ pub fn run_tool<S: Store, K: Sink>(
         Err(SinkFault::Failed) => Status::SinkFault,
         Err(SinkFault::Memory) => Status::Memory,
     }
-}
-
-fn is_memory(answer: &Answer) -> bool
-    ensures { IsTrue result ↔ (answer.now ≡ answers.Memory) }
-{
-    matches!(answer, Answer::Memory)
 }
 
 /// The answer to the words, over the store's files.
@@ -156,14 +150,8 @@ fn status_of(answer: &Answer) -> Status
         Answer::CellLimit { .. } => Status::Denied,
         Answer::Inlined { .. } => Status::Done,
         Answer::Replayed(_) => Status::Done,
-        Answer::NotEnabled { .. } => Status::Denied,
         Answer::Input(_, _) => Status::Input,
-        Answer::TotalLong { .. } => Status::Input,
-        Answer::Link(_) => Status::Input,
-        Answer::Untyped { .. } => Status::Input,
-        Answer::NotBuilt => Status::Input,
-        Answer::Overflow { .. } => Status::Overflow,
-        Answer::LongCertificate { .. } => Status::Overflow,
+        Answer::Refused(refusal) => refusal_status(refusal),
         Answer::Unread(_) => Status::StoreFault,
         Answer::Unwritten(_) => Status::StoreFault,
         Answer::Usage => Status::Usage,
@@ -179,5 +167,21 @@ fn judged_status(verdict: Verdict) -> Status
         Verdict::Accepted => Status::Done,
         Verdict::StoppedAt { .. } => Status::Done,
         Verdict::Refused { .. } => Status::Denied,
+    }
+}
+
+/// The status where a command ended before its work was done.
+fn refusal_status(refusal: &Refusal) -> Status
+    ensures { result ≡ refusal_status refusal.now }
+{
+    match refusal {
+        Refusal::TotalLong { .. } => Status::Input,
+        Refusal::Link(_) => Status::Input,
+        Refusal::Untyped { .. } => Status::Input,
+        Refusal::NotBuilt => Status::Input,
+        Refusal::Overflow { .. } => Status::Overflow,
+        Refusal::LongCertificate { .. } => Status::Overflow,
+        Refusal::NotEnabled { .. } => Status::Denied,
+        Refusal::Memory => Status::Memory,
     }
 }
