@@ -97,8 +97,7 @@ pub fn method_of<'a>(program: &'a Indexed, class: u32, index: u32) -> Option<&'a
     ensures is { option_copied result ≡ method_at program.now class index }
     ensures few { IfSome (option_copied result) (λ method. class < 2 ^ 16) }
 {
-    let of = program.program().classes.as_slice().get(class as usize)?;
-    of.methods.as_slice().get(index as usize)
+    method_at(program.program(), class, index)
 }
 
 /// The monitor that a synchronized method takes: that of its receiver, or else of the object of its class.
