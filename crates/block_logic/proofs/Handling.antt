@@ -1,6 +1,6 @@
 -- Which of a method's handlers takes what is thrown at an instruction, and where those begin that may.
 use Rattle.std.proofs.Common.{◌≡◌, ℕ, Bool, true, false, List, [], ◌∷◌, Option, Some, None, refl, sym, subst, inl, inr}
-use Rattle.std.specs.Prelude.{◌&&◌, find, is_some, nat_le, nat_lt, if◌then◌else◌}
+use Rattle.std.specs.Prelude.{find, is_some, if◌then◌else◌}
 use Rattle.std.specs.List.{list_all}
 use Rattle.std.specs.Option.{option_map_or}
 use Rattle.std.proofs.lemmas.Bool.{and_from, and_parts, and_left, cases_Bool}
@@ -10,37 +10,21 @@ use Rattle.bytecode_model.specs.declared.program.Program.{Program}
 use Rattle.bytecode_model.specs.Classes.{is_below}
 use Rattle.bytecode_model.specs.Rules.{covers}
 use Rattle.bytecode_model.specs.SearchOrder.{Name}
-use Rattle.guest_model.specs.Throwing.{catches}
+use Rattle.guest_model.specs.Throwing.{catches, takes}
 use Rattle.block_logic.specs.Notes.{first_handler, handlers_of}
 
 module _ (program : Program) (at : ℕ) (class : Name) where
-  -- whether a handler takes the class, wherever it stands
-  abbrev takes : Handler → Bool
-  takes handler = option_map_or (λ (caught : Name). is_below program class caught) handler.class true
-
   -- a handler that takes what is thrown here covers the instruction
   pub catching_covers : (handler : Handler) → catches program at class handler ≡ true → covers at handler ≡ true
-  catching_covers handler e =
-      let a = and_parts (nat_le handler.from at) (nat_lt at handler.to && takes handler) e in
-      let b = and_parts (nat_lt at handler.to) (takes handler) a.1 in
-      and_from (nat_le handler.from at) (nat_lt at handler.to) a.0 b.0
-
-  uncovered : (from to any : Bool) → (from && to) ≡ false → (from && (to && any)) ≡ false
-  uncovered true to any e = and_left to any e
-  uncovered false to any e = refl
+  catching_covers handler e = (and_parts (covers at handler) (takes program class handler) e).0
 
   -- one that does not cover it takes nothing here
   pub not_catching : (handler : Handler) → covers at handler ≡ false → catches program at class handler ≡ false
-  not_catching handler e = uncovered (nat_le handler.from at) (nat_lt at handler.to) (takes handler) e
-
-  covered : (from to any : Bool) → (from && to) ≡ true → any ≡ true → (from && (to && any)) ≡ true
-  covered from to any both all =
-      let b = and_parts from to both in
-      and_from from (to && any) b.0 (and_from to any b.1 all)
+  not_catching handler e = and_left (covers at handler) (takes program class handler) e
 
   -- one that covers it and takes any class takes what is thrown
   pub catching_any : (handler : Handler) → covers at handler ≡ true → is_some handler.class ≡ false → catches program at class handler ≡ true
-  catching_any handler e none = covered (nat_le handler.from at) (nat_lt at handler.to) (takes handler) e (of_none handler.class none) where
+  catching_any handler e none = and_from (covers at handler) (takes program class handler) e (of_none handler.class none) where
     of_none : (caught : Option Name) → is_some caught ≡ false → option_map_or (λ (c : Name). is_below program class c) caught true ≡ true
     of_none None e = refl
     of_none (Some c) e = absurd cc

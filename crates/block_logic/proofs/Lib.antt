@@ -1,4 +1,3 @@
-pub mod ExitRows
 pub mod Lists
 pub mod Ruled
 pub mod Steps

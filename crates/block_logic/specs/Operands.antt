@@ -12,7 +12,9 @@ use Rattle.bytecode_model.specs.declared.program.Target.{Target}
 use Rattle.bytecode_model.specs.declared.program.Target.TheVariants as target
 use Rattle.conspec_automaton.specs.declared.policy.Policy.{Policy}
 use Rattle.conspec_automaton.specs.Next.{has_clauses}
-use Rattle.guest_model.specs.Parts.{is_exit}
+use Rattle.guest_model.specs.declared.builtin.Builtin.{Builtin}
+use Rattle.guest_model.specs.declared.builtin.Builtin.TheVariants as builtins
+use Rattle.guest_model.specs.Builtins.{builtin_at}
 
 -- the class that holds the policy's variables, and whose monitor is the lock
 abbrev pub state_name : List ℕ
@@ -98,9 +100,19 @@ abbrev pub has_clause : Policy → Target → Bool
 has_clause policy (target.ApiMethod method) = has_clauses policy method
 has_clause policy other = false
 
+-- The built-in method stops the program.
+abbrev pub stops : Builtin → Bool
+stops builtins.Exit = true
+stops builtins.Make = false
+stops builtins.MakeOn = false
+stops builtins.Start = false
+stops builtins.Run = false
+stops builtins.Join = false
+stops builtins.Length = false
+
 -- The operand names the method that stops the program.
 abbrev pub is_way_out : Target → Bool
-is_way_out (target.Builtin index) = is_exit index
+is_way_out (target.Builtin index) = option_map_or stops (builtin_at index) false
 is_way_out other = false
 
 abbrev pub number_named : Target → Option ℤ

@@ -1,20 +1,17 @@
 //! What the rules of the notes ask of an instruction and of what its operand names.
 
 ghost use Rattle.std.specs.Prelude.{◌≡◌};
-ghost use Rattle.guest_model.specs.Parts.{is_exit};
 ghost use Rattle.block_logic.specs.Operands.{adds, calls, compared, enters, goes, has_clause, is_state_name, is_way_out, leaves};
 ghost use Rattle.block_logic.specs.Operands.{loaded, loaded_number, loads_constant, number_named, number_pushed, pushes, pushes_null};
-ghost use Rattle.block_logic.specs.Operands.{pushes_state, reads_static, stored, throws, variable_named, writes_static};
+ghost use Rattle.block_logic.specs.Operands.{pushes_state, reads_static, stops, stored, throws, variable_named, writes_static};
 
 use bytecode_model::Target;
 use conspec_automaton::{Policy, has_clauses};
+use guest_model::{Builtin, builtin_at};
 use insn_codec::{Heap, Kind, Relation, Shape, Two};
 
 /// The name of the class that holds the policy's variables, and whose monitor is the lock.
 pub const STATE: &[u8] = b"conspec/State";
-
-/// The place of the method that stops the program in the table of built-in methods.
-const EXIT: u32 = 7;
 
 fn loads_constant(shape: Shape) -> bool
     ensures { result ≡ loads_constant shape }
@@ -169,16 +166,19 @@ pub fn is_way_out(target: &Target) -> bool
     ensures { result ≡ is_way_out target.now }
 {
     match target {
-        Target::Builtin(index) => is_exit(*index),
+        Target::Builtin(index) => match builtin_at(*index) {
+            Some(builtin) => stops(builtin),
+            None => false,
+        },
         _ => false,
     }
 }
 
-/// Whether the built-in method of this index is the one that stops the program.
-fn is_exit(index: u32) -> bool
-    ensures { result ≡ is_exit index }
+/// Whether the built-in method stops the program.
+fn stops(builtin: Builtin) -> bool
+    ensures { result ≡ stops builtin }
 {
-    index == EXIT
+    matches!(builtin, Builtin::Exit)
 }
 
 /// The number that the instruction pushes.

@@ -22,7 +22,6 @@ use Rattle.conspec_tree.specs.declared.types.Update.{Update}
 use Rattle.conspec_automaton.specs.declared.policy.Branch.{Branch}
 use Rattle.conspec_automaton.specs.declared.policy.Clause.{Clause}
 use Rattle.offset_patch.specs.declared.block.BlockInsn.{BlockInsn}
-use Rattle.guest_model.specs.Parts.{is_exit}
 use Rattle.block_template.specs.declared.item.Role.{Role}
 use Rattle.block_template.specs.declared.item.Role.TheVariants as roles
 use Rattle.block_template.specs.Flow.{argument_at, jump_of, jumps, loading, may_pass, next}
@@ -30,7 +29,7 @@ use Rattle.block_template.specs.Frames.{kept_arguments}
 use Rattle.block_template.proofs.Policies.{IsOf}
 use Rattle.block_logic.specs.Clauses.{clause_at, clause_of, needs, result_kind}
 use Rattle.block_logic.specs.Notes.{calls_well, is_duty_of, is_free, meets}
-use Rattle.block_logic.specs.Operands.{calls, has_clause, pushes_state, variable_named}
+use Rattle.block_logic.specs.Operands.{calls, has_clause, is_way_out, pushes_state, variable_named}
 use Rattle.block_logic.specs.Rows as rows
 use Rattle.block_logic.specs.Rows.{Asked, Given, Open, Row}
 use Rattle.block_logic.specs.Standing.{asks_kept, done, is_done, may_begin, same_note, stands_for_held}
@@ -41,7 +40,7 @@ use Rattle.cert_maker.proofs.ClausesAlike.{clause_alike}
 use Rattle.cert_maker.proofs.Same.{note_itself, same_bool, same_number, terms_itself}
 use Rattle.cert_maker.proofs.Shapes.{held, named, placed}
 
-pub exit_is : is_exit 7 ≡ true
+pub exit_is : is_way_out (target.Builtin 7) ≡ true
 unfolding method_rows
 exit_is = refl
 

@@ -6,7 +6,7 @@ ghost use Rattle.class_codec.specs.Fits.{CanSpell, FitsMember};
 ghost use Rattle.insn_codec.specs.Fits as insns;
 ghost use Rattle.insn_codec.specs.Reading.{code_of};
 ghost use Rattle.insn_codec.specs.Spelling.{len_from};
-ghost use Rattle.mon_base.specs.Answer.{Answers, Tells};
+ghost use Rattle.mon_base.specs.Answer.{Answers, TellsFault};
 ghost use Rattle.bytecode_model.specs.Heads.{all_classes, head_of};
 ghost use Rattle.bytecode_model.specs.SearchOrder.{search_order};
 ghost use Rattle.class_index.specs.Library.{OverridesAs};
@@ -189,7 +189,7 @@ fn read_insns(
 }
 
 fn code_told(alloc: Global, class: &Bytes, method: u32, fault: CodeFault) -> LinkFault
-    ensures { Tells LinkFault.Memory result (code_told class.now method fault) }
+    ensures { TellsFault LinkFault.Memory result (code_told class.now method fault) }
 {
     match fault {
         CodeFault::Memory => LinkFault::Memory,

@@ -5,7 +5,7 @@ ghost use Rattle.std.specs.Result.{is_ok};
 ghost use Rattle.mon_base.specs.Reading.{need};
 ghost use Rattle.api_listing.specs.Descriptor.{whole_type, method_type};
 ghost use Rattle.class_linking.specs.declared.operand_fault.OperandFault.TheVariants.{Wrong, Missing};
-ghost use Rattle.mon_base.specs.Answer.{Answers, Tells};
+ghost use Rattle.mon_base.specs.Answer.{Answers, TellsFault};
 ghost use Rattle.bytecode_model.specs.Arrays.{is_array};
 ghost use Rattle.class_linking.specs.Operands.{is_nothing, array_linked, class_linked, field_fits};
 ghost use Rattle.bytecode_model.specs.Operands.{element_is_known};
@@ -83,7 +83,7 @@ pub fn operand_fault_told(
     at: u32,
     fault: OperandFault,
 ) -> LinkFault
-    ensures { Tells LinkFault.Memory result (operand_fault_told class.now method at fault) }
+    ensures { TellsFault LinkFault.Memory result (operand_fault_told class.now method at fault) }
 {
     match class.copy(alloc) {
         Ok(class) => match fault {

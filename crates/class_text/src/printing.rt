@@ -10,7 +10,7 @@ ghost use Rattle.bytecode_model.specs.Heads.{class_at};
 ghost use Rattle.bytecode_model.specs.Conditions.{code_in};
 ghost use Rattle.class_text.specs.Lines.{handler_line};
 ghost use Rattle.class_text.specs.Shown.{insn_lines, code_told, read_of, body_shown, method_shown, texts_from, class_shown};
-ghost use Rattle.mon_base.specs.Answer.{Answers, Tells};
+ghost use Rattle.mon_base.specs.Answer.{Answers, TellsFault};
 ghost use Rattle.class_text.specs.Shown.{shown, Appends};
 
 use crate::fault::ShowFault;
@@ -146,7 +146,7 @@ fn read_insns(
 }
 
 fn code_told(alloc: Global, class: &[u8], method: u32, fault: CodeFault) -> ShowFault
-    ensures { Tells ShowFault.Memory result (code_told class.now method fault) }
+    ensures { TellsFault ShowFault.Memory result (code_told class.now method fault) }
 {
     match fault {
         CodeFault::Memory => ShowFault::Memory,

@@ -1,6 +1,6 @@
 -- Values that may be there, and lists of which something holds.
-use Rattle.std.proofs.Common.{◌≡◌, ℕ, zero, suc, Bool, true, false, cond, List, [], ◌∷◌, ◌++◌, length, map, take, drop, replicate, Option, Some, None, refl, sym, subst, arith}
-use Rattle.std.specs.Prelude.{◌<◌, slice_get, slice_set, find, option_map, option_and_then, reverse, Contains, IsSomeAnd}
+use Rattle.std.proofs.Common.{◌≡◌, ℕ, zero, suc, Bool, true, false, cond, List, [], ◌∷◌, ◌++◌, length, map, take, drop, replicate, Option, Some, None, refl, sym, ap, ◌∙◌, subst, arith}
+use Rattle.std.specs.Prelude.{◌<◌, get_or, slice_get, slice_set, find, option_map, option_and_then, reverse, Contains, IsSome, IsSomeAnd}
 use Rattle.std.specs.List.{AllByRecursion}
 use Rattle.std.specs.Option.{option_map_or, option_to_list}
 use Rattle.std.proofs.lemmas.Grind.{reverse_onto}
@@ -34,6 +34,19 @@ found_or false p first others x is e later =
 pub find_is : {A : Type 0} (p : A → Bool) (xs : List A) (x : A) → find p xs ≡ Some x → Contains xs x × (p x ≡ true)
 find_is p [] x e = absurd cc
 find_is p (first ∷ others) x e = found_or (p first) p first others x refl e (find_is p others x)
+
+some_or : {A : Type 0} (b : Bool) (first : A) (later : Option A) → (b ≡ false → IsSome later) → IsSome (cond b (Some first) later)
+some_or true first later rest = refl
+some_or false first later rest = rest refl
+
+-- where one is there of which the test holds, one is found
+pub found_some : {A : Type 0} (p : A → Bool) (xs : List A) (x : A) → Contains xs x → p x ≡ true → IsSome (find p xs)
+found_some {A} p xs x has holds = by xs has.0 has.1 has.2 where
+  by : (ys : List A) (k : ℕ) → k < length ys → get_or ys k x ≡ x → IsSome (find p ys)
+  by [] k within is = absurd (omega (arith, within))
+  by (first ∷ others) zero within is =
+      some_or (p first) first (find p others) (λ fails. let not_so : true ≡ false = sym holds ∙ ap p (sym is) ∙ fails in absurd cc)
+  by (first ∷ others) (suc k) within is = some_or (p first) first (find p others) (λ fails. by others k (omega (arith, within)) is)
 
 -- ---- what holds of a value that may be there
 

@@ -1,6 +1,6 @@
 -- What calls do: of given methods, of built-in ones, and of the library's. (The Java Virtual Machine Specification, section 6.5,
 -- invokevirtual to invokeinterface; docs/MACHINE.md)
-use Rattle.std.specs.Prelude.{ℕ, ℤ, pos, Bool, true, false, codes, if◌then◌else◌, List, [], ◌∷◌, ◌++◌, length, slice_get, slice_set, Option, Some, None, option_map, option_and_then}
+use Rattle.std.specs.Prelude.{ℕ, ℤ, pos, Bool, true, false, not, codes, if◌then◌else◌, List, [], ◌∷◌, ◌++◌, length, slice_get, slice_set, Option, Some, None, option_map, option_and_then}
 use Rattle.std.specs.Option.{option_map_or, option_or}
 use Rattle.api_listing.specs.BuiltIn.{MethodRow, method_rows}
 use Rattle.api_listing.specs.declared.events.Event.TheVariants as events
@@ -11,6 +11,7 @@ use Rattle.bytecode_model.specs.declared.program.Method.{Method}
 use Rattle.bytecode_model.specs.declared.program.Program.{Program}
 use Rattle.bytecode_model.specs.declared.program.Target.{Target}
 use Rattle.bytecode_model.specs.declared.program.Target.TheVariants as target
+use Rattle.bytecode_model.specs.Place.{has_receiver}
 use Rattle.bytecode_model.specs.SearchOrder.{Name}
 use Rattle.guest_heap.specs.declared.frame.Frame.{Frame}
 use Rattle.guest_heap.specs.declared.object.Object.{Object}
@@ -249,10 +250,7 @@ desc_named program (target.Number n) = None
 desc_named program (target.Literal index) = None
 
 abbrev pub is_static_call : How → Bool
-is_static_call hows.Static = true
-is_static_call hows.Virtual = false
-is_static_call hows.Special = false
-is_static_call hows.Interface = false
+is_static_call how = not (has_receiver how)
 
 abbrev pub calls_named : Program → Machine → Calling → How → Target → Option Change
 calls_named program machine c how (target.ApiMethod index) = Some (calls_library program (world_of machine) c index)

@@ -1,7 +1,5 @@
 -- What a step is made of: threads that go on, what instructions do to their frame, name, return and throw. (docs/MACHINE.md)
-use Rattle.std.specs.Prelude.{ℕ, ℤ, Bool, false, codes, if◌then◌else◌, List, [], ◌∷◌, length, Option, Some, None, option_map, option_and_then, slice_get}
-use Rattle.std.specs.Option.{option_map_or}
-use Rattle.api_listing.specs.BuiltIn.{method_rows, is_row}
+use Rattle.std.specs.Prelude.{ℕ, ℤ, codes, if◌then◌else◌, List, [], ◌∷◌, length, Option, Some, None, option_map, option_and_then, slice_get}
 use Rattle.insn_codec.specs.declared.shape.Kind.{Kind}
 use Rattle.bytecode_model.specs.declared.program.Program.{Program}
 use Rattle.bytecode_model.specs.declared.program.Target.{Target}
@@ -61,7 +59,3 @@ number_in values.Null = None
 number_in (values.Ref at) = None
 number_in (values.Class index) = None
 number_in (values.Lit index) = None
-
--- whether the built-in method of the index is the one that stops the program
-abbrev pub is_exit : ℕ → Bool
-is_exit index = option_map_or (is_row (codes "java/lang/System") (codes "exit") (codes "(I)V")) (slice_get method_rows index) false

@@ -1,5 +1,5 @@
 -- What throwing does: frames are left until one has a handler. (The Java Virtual Machine Specification, section 2.10.)
-use Rattle.std.specs.Prelude.{◌≡◌, ◌≤◌, ◌<◌, ℕ, Bool, true, ◌&&◌, nat_le, nat_lt, if◌then◌else◌, List, [], ◌∷◌, ◌++◌, find, Option, Some, None, option_and_then}
+use Rattle.std.specs.Prelude.{◌≡◌, ◌≤◌, ◌<◌, ℕ, Bool, true, ◌&&◌, nat_lt, if◌then◌else◌, IsTrue, Contains, List, [], ◌∷◌, ◌++◌, find, Option, Some, None, IsSome, option_and_then}
 use Rattle.std.specs.Option.{option_map_or, option_to_list}
 use Rattle.bytecode_model.specs.declared.program.Handler.{Handler}
 use Rattle.bytecode_model.specs.declared.program.Method.{Method}
@@ -10,13 +10,17 @@ use Rattle.guest_heap.specs.declared.object.Object.TheVariants as objects
 use Rattle.guest_heap.specs.declared.value.Value.{Value}
 use Rattle.guest_heap.specs.declared.value.Value.TheVariants as values
 use Rattle.bytecode_model.specs.Classes.{is_below}
+use Rattle.bytecode_model.specs.Rules.{covers}
 use Rattle.guest_model.specs.Places.{method_at}
 use Rattle.guest_frames.specs.Stepping.{moved_to}
 
+-- the handler takes exceptions of the class: those of its own class and below it, or else all
+abbrev pub takes : Program → List ℕ → Handler → Bool
+takes program class handler = option_map_or (λ caught. is_below program class caught) handler.class true
+
 -- the handler catches what is thrown at this instruction
 abbrev pub catches : Program → ℕ → List ℕ → Handler → Bool
-catches program at class handler =
-    nat_le handler.from at && (nat_lt at handler.to && option_map_or (λ caught. is_below program class caught) handler.class true)
+catches program at class handler = covers at handler && takes program class handler
 
 -- the first handler of a frame's method that catches an exception of the class
 abbrev pub handler_of : Program → Frame → List ℕ → Option Handler
@@ -27,6 +31,12 @@ handler_of program frame class =
 abbrev pub HandlersCover : Type 0
 HandlersCover = (program : Program) (frame : Frame) (class : List ℕ) (handler : Handler) → handler_of program frame class ≡ Some handler
     → (handler.from ≤ frame.at) × (frame.at < handler.to)
+
+-- Where a handler of the frame's method covers that instruction and takes exceptions of the class, one is found.
+abbrev pub CoveringIsFound : Type 0
+CoveringIsFound = (program : Program) (frame : Frame) (class : List ℕ) (method : Method) (handler : Handler)
+    → method_at program frame.class frame.method ≡ Some method → Contains method.handlers handler
+    → handler.from ≤ frame.at → frame.at < handler.to → IsTrue (takes program class handler) → IsSome (handler_of program frame class)
 
 -- the frame at the handler, with the exception alone on its stack; a stack that holds nothing takes none
 abbrev pub caught_in : Program → Value → List ℕ → Frame → Option Frame

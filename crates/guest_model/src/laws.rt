@@ -12,7 +12,7 @@ ghost use Rattle.guest_model.specs.Always.{IsKeptBySteps, HoldsAlways};
 ghost use Rattle.guest_model.specs.First.{SeesFirstCall, GoesOnBehindFirstCall};
 ghost use Rattle.guest_model.specs.Numbers.{SeesInRange, AnswersAreWords, OneMakesWords, TwoMakeWords};
 ghost use Rattle.guest_model.specs.Staying.{OtherThreadsStay};
-ghost use Rattle.guest_model.specs.Throwing.{HandlersCover};
+ghost use Rattle.guest_model.specs.Throwing.{CoveringIsFound, HandlersCover};
 
 /// What instructions make of numbers of 32 bits is of 32 bits, and so is a number that the library may give.
 pub fn numbers_are_of_32_bits()
@@ -24,6 +24,11 @@ pub fn numbers_are_of_32_bits()
 /// A handler that is found covers the instruction at which the frame stands.
 pub fn handlers_cover()
     ensures cover { HandlersCover }
+{}
+
+/// Where a handler covers the instruction at which the frame stands, and takes what is thrown, one is found.
+pub fn covering_handlers_are_found()
+    ensures found { CoveringIsFound }
 {}
 
 /// What holds at the start, of the machine and of what the library saw, and is kept by each change that a step makes, holds

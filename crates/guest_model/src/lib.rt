@@ -17,8 +17,9 @@ mod thrown;
 pub use arities::{arity, arity_of_row, is_static_call};
 pub use builtin::{Builtin, builtin_at};
 pub use laws::{
-    handlers_cover, numbers_are_of_32_bits, other_threads_stay, sees_numbers_in_range,
-    sees_only_what_is_called, sees_the_first_call, what_each_step_keeps_holds_always,
+    covering_handlers_are_found, handlers_cover, numbers_are_of_32_bits, other_threads_stay,
+    sees_numbers_in_range, sees_only_what_is_called, sees_the_first_call,
+    what_each_step_keeps_holds_always,
 };
 pub use laws_of_steps::{
     enabled_steps_are_made, fitting_answers_are_taken, frames_are_left, free_monitors_are_entered,

@@ -65,7 +65,7 @@ standing frame at stack = record { class = frame.class; method = frame.method; a
 
 -- what an instruction did to heap, static fields and stack, it did in its frame
 pub in_frame : (outcome : Option Outcome) (frame : Frame) (heap heap_left : List Object) (statics statics_left : List (List Value)) (stack : Operands) (made : World → Worked) (n : ℕ)
-    → Works (Ok outcome) (at heap statics frame.stack) (at heap_left statics_left stack) made → n ≡ at_after outcome frame.at (frame.at + 1)
+    → Works (Ok outcome) (at heap statics frame.stack) (at heap_left statics_left stack) made → n ≡ at_after outcome frame.at
     → WorksIn (Ok outcome) (inside heap statics frame) (inside heap_left statics_left (standing frame n stack)) made
 in_frame None frame heap heap_left statics statics_left stack made n h is = (
   λ monitors. gone_nowhere frame (made (record { heap = heap; statics = statics; monitors = monitors })) (h.0 monitors),

@@ -9,3 +9,5 @@ mod Ends
 mod Given
 mod Asks
 mod Runs
+mod Standing
+mod Initialisers

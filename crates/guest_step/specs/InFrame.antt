@@ -1,5 +1,5 @@
 -- What an instruction that works on the heap did in its frame. (docs/MACHINE.md)
-use Rattle.std.specs.Prelude.{◌≡◌, ⊤, ℕ, List, Option, Some, None, Result, Ok, Err, option_map}
+use Rattle.std.specs.Prelude.{◌≡◌, ⊤, ℕ, ◌+◌, List, Option, Some, None, Result, Ok, Err, option_map}
 use Rattle.bytecode_model.specs.SearchOrder.{Name}
 use Rattle.mon_base.specs.declared.memory.NoMemory.{NoMemory}
 use Rattle.guest_heap.specs.declared.frame.Frame.{Frame}
@@ -49,7 +49,7 @@ WorksIn (Ok outcome) old new made = ((monitors : List Monitor) → gone old.fram
 WorksIn (Err e) old new made = new ≡ old
 
 -- where a frame stands afterwards: behind its instruction where that went on
-abbrev pub at_after : Option Outcome → ℕ → ℕ → ℕ
-at_after None at behind = at
-at_after (Some outcomes.Goes) at behind = behind
-at_after (Some (outcomes.Throws t)) at behind = at
+abbrev pub at_after : Option Outcome → ℕ → ℕ
+at_after None at = at
+at_after (Some outcomes.Goes) at = at + 1
+at_after (Some (outcomes.Throws t)) at = at

@@ -1,7 +1,10 @@
 -- Methods that make a class ready. (docs/MACHINE.md)
-use Rattle.std.specs.Prelude.{◌&&◌, Bool, bytes_eq}
-use Rattle.bytecode_model.specs.declared.program.Method.{Method}
-use Rattle.bytecode_model.specs.Heads.{initialiser, takes_nothing}
+use Rattle.std.specs.Prelude.{ℕ, Option, option_and_then, slice_get}
+use Rattle.bytecode_model.specs.declared.program.LinkedClass.{LinkedClass}
+use Rattle.bytecode_model.specs.declared.program.Program.{Program}
+use Rattle.guest_model.specs.Finding.{Given}
+use Rattle.guest_model.specs.Runs.{initialiser_of}
 
-abbrev pub is_initialiser : Method → Bool
-is_initialiser m = bytes_eq m.name initialiser && bytes_eq m.desc takes_nothing
+-- the initialiser of the class with this index, if there is the class and it has one
+abbrev pub initialiser_at : Program → ℕ → Option Given
+initialiser_at program class = option_and_then (λ (c : LinkedClass). initialiser_of (class, c)) (slice_get program.classes class)

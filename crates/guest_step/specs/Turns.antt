@@ -1,5 +1,5 @@
 -- What a thread does in its turn, in parts. (docs/MACHINE.md)
-use Rattle.std.specs.Prelude.{List, [], ◌∷◌, Option, None, Result, Ok, Err, option_map}
+use Rattle.std.specs.Prelude.{◌^◌, ◌<◌, List, [], ◌∷◌, Option, None, IfSome, Result, Ok, Err, option_map, slice_get}
 use Rattle.api_listing.specs.declared.events.Event.{Event}
 use Rattle.insn_codec.specs.declared.insn.Insn.{Insn}
 use Rattle.guest_heap.specs.declared.frame.Frame.{Frame}
@@ -22,3 +22,7 @@ unseen (Err fault) = Err fault
 -- the thread, doing this
 abbrev pub doing_this : Thread → Doing → Thread
 doing_this thread doing = record { frames = thread.frames; to_begin = thread.to_begin; doing = doing }
+
+-- The top frame stands at an instruction of a linked program, so that there is a number behind its counter.
+abbrev pub StandsInCode : List Frame → Type 0
+StandsInCode frames = IfSome (slice_get frames 0) (λ (f : Frame). f.at < 2 ^ 16)

@@ -1,15 +1,13 @@
 //! The machine before the first step.
 
-ghost use Rattle.std.specs.List.{position_from};
 ghost use Rattle.std.specs.Option.{option_to_list};
-ghost use Rattle.std.specs.Prelude.{IfOk, OnOk, [], map, ◌++◌, ◌∷◌, ◌≡◌};
+ghost use Rattle.std.specs.Prelude.{IfOk, OnOk, [], length, map, ◌++◌, ◌∷◌, ◌≡◌};
 ghost use Rattle.guest_model.specs.Changes.{rests};
-ghost use Rattle.guest_model.specs.Runs.{first_heap, initialiser_of, initialisers, inner, start_of};
+ghost use Rattle.guest_model.specs.Runs.{first_heap, initialisers, inner, start_of};
 ghost use Rattle.guest_model.specs.Throwing.{bare_object};
-ghost use Rattle.guest_step.specs.Start.{is_initialiser};
+ghost use Rattle.guest_step.specs.Start.{initialiser_at};
 ghost use Rattle.mon_base.specs.declared.method.MethodId.{MethodId};
 
-use bytecode_model::{LinkedClass, Method};
 use guest_heap::{Doing, Frames, Object, Thread};
 use guest_model::Machine;
 use guest_tables::Guest;
@@ -54,45 +52,27 @@ fn initialisers(alloc: Global, guest: &Guest) -> Result<List<(u32, u32)>, NoMemo
     ensures { IfOk result (λ found. found ≡ initialisers guest.now) }
 {
     let mut found = List::new(alloc);
-    let mut index: u32 = 0;
-    let mut left = guest.program().classes.as_slice();
-    while let [class, rest @ ..] = left {
-        push_initialiser(&mut found, index, class)?;
-        index = index.checked_add(1).ok_or(NoMemory)?;
-        left = rest;
+    for class in 0..class_count(guest) {
+        push_initialiser(&mut found, guest, class)?;
     }
     Ok(found)
 }
 
+/// How many given classes there are.
+fn class_count(guest: &Guest) -> u32
+    ensures { result ≡ length guest.now.classes }
+{
+    guest.program().classes.len() as u32
+}
+
 /// Appends the initialiser of the class with this index, if it has one.
-fn push_initialiser(
-    found: &mut List<(u32, u32)>,
-    index: u32,
-    class: &LinkedClass,
-) -> Result<(), NoMemory>
-    ensures { OnOk result (found.new ≡ found.old ++ option_to_list (initialiser_of (index, class.now))) }
+fn push_initialiser(found: &mut List<(u32, u32)>, guest: &Guest, class: u32) -> Result<(), NoMemory>
+    ensures { OnOk result (found.new ≡ found.old ++ option_to_list (initialiser_at guest.now class)) }
 {
-    let Some(place) = initialiser_in(class.methods.as_slice()) else {
-        return Ok(());
-    };
-    let Ok(method) = u32::try_from(place) else {
-        return Err(NoMemory);
-    };
-    found.push((index, method))
-}
-
-/// The place of the first initialiser among the methods.
-fn initialiser_in(methods: &[Method]) -> Option<usize>
-    ensures { result ≡ position_from is_initialiser 0 methods.now }
-{
-    methods.iter().position(|method| is_initialiser(method))
-}
-
-/// Whether the method makes a class ready.
-fn is_initialiser(method: &Method) -> bool
-    ensures { result ≡ is_initialiser method.now }
-{
-    method.name.as_slice() == b"<clinit>".as_slice() && method.desc.as_slice() == b"()V".as_slice()
+    match guest.declared(class, b"<clinit>", b"()V") {
+        Some(method) => found.push((class, method)),
+        None => Ok(()),
+    }
 }
 
 /// An object for each field of the listing, and then the array of no strings that main takes.

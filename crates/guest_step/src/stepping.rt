@@ -1,13 +1,13 @@
 //! Steps.
 
 ghost use Rattle.std.specs.Borrow.{Bor};
-ghost use Rattle.std.specs.Prelude.{if◌then◌else◌, option_map, ◌≡◌};
+ghost use Rattle.std.specs.Prelude.{IfSome, if◌then◌else◌, option_map, ◌<◌, ◌^◌, ◌≡◌};
 ghost use Rattle.bytecode_model.specs.declared.program.Target.{Target};
 ghost use Rattle.guest_frames.specs.Stepping.{frame_stepped};
 ghost use Rattle.guest_heap.specs.declared.thread.Doing.TheVariants as doings;
 ghost use Rattle.guest_model.specs.Places.{insn_at};
 ghost use Rattle.guest_model.specs.Stepping.{Acting, doing_stepped, frames_stepped, heap_in, heap_stepped, running_stepped, stepped};
-ghost use Rattle.guest_step.specs.Turns.{doing_this, thread_stepped, unseen};
+ghost use Rattle.guest_step.specs.Turns.{StandsInCode, doing_this, thread_stepped, unseen};
 ghost use Rattle.guest_threads.specs.Acts.{ActsIn, acting};
 ghost use Rattle.guest_threads.specs.Did.{Becomes, Did};
 ghost use Rattle.insn_codec.specs.declared.insn.Insn.{Insn};
@@ -21,7 +21,7 @@ use guest_frames::local_step;
 use guest_heap::{Doing, Frame, Frames, Thread};
 use guest_model::{Choice, Machine, Step};
 use guest_tables::Guest;
-use guest_threads::{OnTop, StepFault, act_on_top, return_from};
+use guest_threads::{OnTop, StepFault, act_on_top, method_of, return_from};
 use insn_codec::{Heap, Insn, Shape, shape_of};
 use mon_base::List;
 use std::alloc::Global;
@@ -142,9 +142,10 @@ fn run(
 
 /// The instruction that comes next in the frame, and what its operand names.
 pub fn insn_at<'a>(guest: &'a Guest, frame: &Frame) -> Option<(&'a Insn, &'a Target)>
-    ensures { option_map (λ (next : Bor Insn × Bor Target). (next.0.now, next.1.now)) result ≡ insn_at guest.now frame.now }
+    ensures is { option_map (λ (next : Bor Insn × Bor Target). (next.0.now, next.1.now)) result ≡ insn_at guest.now frame.now }
+    ensures few { IfSome result (λ (next : Bor Insn × Bor Target). frame.now.at < 2 ^ 16) }
 {
-    let method = guest.method(frame.class, frame.method)?;
+    let method = method_of(guest.indexed(), frame.class, frame.method)?;
     let insn = method.insns.as_slice().get(frame.at as usize)?;
     let target = method.refs.as_slice().get(frame.at as usize)?;
     Some((insn, target))
@@ -209,6 +210,7 @@ fn unseen(made: Result<(), StepFault>) -> Result<Option<Event>, StepFault>
 
 /// The instruction changes the top frame alone.
 fn run_alone(thread: &mut Thread, insn: &Insn) -> Result<(), StepFault>
+    requires { StandsInCode thread.old.frames }
     ensures { Becomes result thread.old thread.new (thread_stepped thread.old thread.old.frames insn.now) }
 {
     if thread.frames.top().is_none() {
@@ -221,11 +223,9 @@ fn run_alone(thread: &mut Thread, insn: &Insn) -> Result<(), StepFault>
 
 /// The instruction changes the frame alone.
 fn step_frame(frame: &mut Frame, insn: &Insn) -> Result<(), StepFault>
+    requires { frame.old.at < 2 ^ 16 }
     ensures { Becomes result frame.old frame.new (frame_stepped insn.now frame.old) }
 {
-    if frame.at == u32::MAX {
-        return Err(StepFault::Memory);
-    }
     if local_step(frame, insn) {
         Ok(())
     } else {
@@ -243,6 +243,7 @@ fn run_heap(
     what: Heap,
     target: &Target,
 ) -> Result<Option<Event>, StepFault>
+    requires { StandsInCode thread.old.frames }
     ensures { ActsIn result machine.old machine.new thread.old thread.new (acting number thread.old thread.old.frames
         (λ (a : Acting). heap_stepped guest.now machine.old a what target.now)) }
 {

@@ -1,11 +1,12 @@
 //! Instructions that work on the heap or on static fields, or divide, in the frame of a thread.
 
-ghost use Rattle.std.specs.Prelude.{◌≡◌};
+ghost use Rattle.std.specs.Prelude.{◌<◌, ◌^◌, ◌≡◌};
 ghost use Rattle.guest_model.specs.Changes.{World, world_of};
 ghost use Rattle.guest_model.specs.Parts.{running};
 ghost use Rattle.guest_model.specs.Stepping.{Acting, works};
 ghost use Rattle.guest_model.specs.Working.{worked};
 ghost use Rattle.guest_step.specs.InFrame.{WorksIn, at_after, inside};
+ghost use Rattle.guest_step.specs.Turns.{StandsInCode};
 ghost use Rattle.guest_threads.specs.Acts.{ActsIn, acting};
 
 use crate::work::work;
@@ -30,6 +31,7 @@ pub fn run_work(
     what: Heap,
     target: &Target,
 ) -> Result<Option<Event>, StepFault>
+    requires { StandsInCode thread.old.frames }
     ensures { ActsIn result machine.old machine.new thread.old thread.new (acting number thread.old thread.old.frames
         (λ (a : Acting). works guest.now (world_of machine.old) a what target.now)) }
 {
@@ -82,23 +84,22 @@ fn work_in(
     what: Heap,
     target: &Target,
 ) -> Result<Option<Outcome>, NoMemory>
+    requires { frame.old.at < 2 ^ 16 }
     ensures { WorksIn result (inside heap.old statics.old frame.old) (inside heap.new statics.new frame.new)
         (λ (world : World). worked guest.now world what target.now frame.old.stack.items) }
 {
-    let Some(at) = frame.at.checked_add(1) else {
-        return Err(NoMemory);
-    };
     let outcome = work(alloc, guest, what, target, heap, statics, &mut frame.stack)?;
-    frame.at = at_after(outcome, frame.at, at);
+    frame.at = at_after(outcome, frame.at);
     Ok(outcome)
 }
 
 /// Where a frame stands afterwards: behind its instruction where that went on.
-fn at_after(outcome: Option<Outcome>, at: u32, behind: u32) -> u32
-    ensures { result ≡ at_after outcome at behind }
+fn at_after(outcome: Option<Outcome>, at: u32) -> u32
+    requires { at < 2 ^ 16 }
+    ensures { result ≡ at_after outcome at }
 {
     match outcome {
-        Some(Outcome::Goes) => behind,
+        Some(Outcome::Goes) => at + 1,
         Some(Outcome::Throws(_)) | None => at,
     }
 }

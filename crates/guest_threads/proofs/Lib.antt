@@ -2,3 +2,4 @@ pub mod Held
 mod Unwinding
 mod Passed
 mod GivenUp
+mod Methods

@@ -1,16 +1,16 @@
 -- Frames that are left until one catches what is thrown.
 use Rattle.std.proofs.Common.{◌≡◌, ℕ, Bool, true, false, cond, List, [], ◌∷◌, ◌++◌, drop, Option, Some, None, refl, sym, ap, ◌∙◌}
-use Rattle.std.specs.Prelude.{◌&&◌, nat_le, nat_lt, filter, find, slice_get, slice_set}
+use Rattle.std.specs.Prelude.{filter, find, slice_get, slice_set}
 use Rattle.std.specs.Option.{option_map_or, option_to_list}
+use Rattle.std.proofs.lemmas.Bool.{and_left}
 use Rattle.bytecode_model.specs.declared.program.Handler.{Handler}
 use Rattle.bytecode_model.specs.declared.program.Program.{Program}
-use Rattle.bytecode_model.specs.Classes.{is_below}
 use Rattle.bytecode_model.specs.Rules.{covers}
 use Rattle.guest_heap.specs.declared.frame.Frame.{Frame}
 use Rattle.guest_heap.specs.declared.object.Monitor.{Monitor}
 use Rattle.guest_heap.specs.declared.value.Value.{Value}
 use Rattle.guest_model.specs.Monitors.{all_given_up, given_up}
-use Rattle.guest_model.specs.Throwing.{catches, caught_in, locks_left, unwound}
+use Rattle.guest_model.specs.Throwing.{catches, caught_in, locks_left, takes, unwound}
 use Rattle.guest_frames.specs.Became.{Became}
 use Rattle.guest_threads.specs.Acts.{lock_on_top}
 use Rattle.guest_threads.proofs.Held.{set_same}
@@ -25,24 +25,14 @@ found_among p q fails (x ∷ xs) = by (q x) refl (found_among p q fails xs) wher
   by true is rest = ap (cond (p x) (Some x)) rest
   by false is rest = ap (λ (b : Bool). cond b (Some x) (find p xs)) (fails x is) ∙ rest
 
-not_covering : (a b c : Bool) → (a && b) ≡ false → (a && (b && c)) ≡ false
-not_covering true true c e = absurd cc
-not_covering true false c e = refl
-not_covering false b c e = refl
-
 pub catching_covers : (program : Program) (at : ℕ) (class : List ℕ) (h : Handler) → covers at h ≡ false → catches program at class h ≡ false
-catching_covers program at class h e =
-    not_covering (nat_le h.from at) (nat_lt at h.to) (option_map_or (λ (caught : List ℕ). is_below program class caught) h.class true) e
+catching_covers program at class h e = and_left (covers at h) (takes program class h) e
 
 pub same_handler : (program : Program) (at : ℕ) (class : List ℕ) (near all : List Handler) → filter (covers at) near ≡ filter (covers at) all
     → find (catches program at class) near ≡ find (catches program at class) all
 same_handler program at class near all same =
     found_among (catches program at class) (covers at) (catching_covers program at class) near ∙ ap (find (catches program at class)) same
     ∙ sym (found_among (catches program at class) (covers at) (catching_covers program at class) all)
-
-pub and_regrouped : (a b c : Bool) → ((a && b) && c) ≡ (a && (b && c))
-and_regrouped true b c = refl
-and_regrouped false b c = refl
 
 -- ---- what a call did
 

@@ -12,6 +12,7 @@ pub enum StepFault {
     /// The thread can not make it, as the machine stands.
     #[error("the step is not enabled")]
     NotEnabled,
+    /// Memory ran out, or the numbers of 32 bits did: of objects, of threads, of entries of a monitor, of instructions.
     #[error("out of memory")]
     Memory,
 }

@@ -19,7 +19,6 @@ ghost use Rattle.std.specs.Prelude.{
   ◌^◌,
   ◌≡◌,
 };
-ghost use Rattle.bytecode_model.specs.Heads.{is_synchronized};
 ghost use Rattle.guest_frames.specs.Stepping.{after, moved_to};
 ghost use Rattle.guest_heap.specs.declared.value.Value.TheVariants as values;
 ghost use Rattle.guest_model.specs.Changes.{frame_of, lock_of};
@@ -29,7 +28,7 @@ ghost use Rattle.guest_threads.specs.Acts.{CanGoOn};
 ghost use Rattle.guest_threads.specs.Did.{Becomes};
 
 use crate::fault::StepFault;
-use bytecode_model::{Method, Program};
+use bytecode_model::{Method, Program, is_synchronized};
 use guest_heap::{Frame, Stack, Value};
 use mon_base::{List, NoMemory};
 use std::alloc::Global;
@@ -97,8 +96,7 @@ pub fn method_of<'a>(program: &'a Indexed, class: u32, index: u32) -> Option<&'a
     ensures is { option_copied result ≡ method_at program.now class index }
     ensures few { IfSome (option_copied result) (λ method. class < 2 ^ 16) }
 {
-    let of = program.program().classes.as_slice().get(class as usize)?;
-    of.methods.as_slice().get(index as usize)
+    method_at(program.program(), class, index)
 }
 
 /// The monitor that a synchronized method takes: that of its receiver, or else of the object of its class.
@@ -119,13 +117,6 @@ pub fn lock_of(
         Some(value) => Some(value),
         None => Some(Value::Class(listed_classes(program) + class)),
     }
-}
-
-/// Whether a method with these flags takes a monitor as it is called.
-fn is_synchronized(flags: u16) -> bool
-    ensures { result ≡ is_synchronized flags }
-{
-    flags & 32 != 0
 }
 
 /// How many classes the listing has.

@@ -26,3 +26,7 @@ Reads memory (Err fault) given new = Fails memory fault given
 abbrev pub ReadsAs : {X Y E : Type 0} → E → (X → Y) → Result X E → Result (Y × Place) E → Place → Type 0
 ReadsAs memory view (Ok x) given new = given ≡ Ok (view x, new)
 ReadsAs memory view (Err fault) given new = Fails memory fault given
+
+-- A fault that is told is this one, unless memory ran out.
+abbrev pub TellsFault : {E : Type 0} → E → E → E → Type 0
+TellsFault memory told fault = told ≢ memory → told ≡ fault

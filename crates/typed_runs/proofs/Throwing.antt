@@ -1,9 +1,9 @@
 -- Where throwing leads: a handler's frame is ready, with the exception alone on its operands, and the frames below it wait as before.
 use Rattle.std.proofs.Common.{◌≡◌, ℕ, ◌<◌, Bool, true, cond, List, [], ◌∷◌, ◌++◌, length, reverse, Option, Some, None, refl, sym, ap, subst, ◌∙◌}
-use Rattle.std.specs.Prelude.{Contains, IsTrue, find, nat_le, nat_lt}
+use Rattle.std.specs.Prelude.{Contains, IsTrue, find, nat_lt}
 use Rattle.std.specs.List.{AllByRecursion, range_with_len}
 use Rattle.std.specs.Option.{option_map_or}
-use Rattle.std.proofs.lemmas.Bool.{and_from, and_parts, ltb-true, or_right}
+use Rattle.std.proofs.lemmas.Bool.{and_parts, ltb-true, or_right}
 use Rattle.std.proofs.lemmas.Option.{cond_some}
 use Rattle.std.proofs.lemmas.Slice.Eq.{bytes_eq-Decides}
 use Rattle.api_listing.specs.BuiltIn.{throwable}
@@ -30,7 +30,7 @@ use Rattle.guest_model.specs.Answers.{may_throw}
 use Rattle.guest_model.specs.Places.{method_at}
 use Rattle.guest_frames.specs.Stepping.{moved_to}
 use Rattle.guest_model.specs.Parts.{thrown_thread}
-use Rattle.guest_model.specs.Throwing.{bare_object, catches, caught_in, handler_of, unwound}
+use Rattle.guest_model.specs.Throwing.{bare_object, catches, caught_in, handler_of, takes, unwound}
 use Rattle.guest_frames.specs.Values.{is_null}
 use Rattle.guest_model.proofs.Options.{and_then_of, find_is, some_is}
 use Rattle.guest_model.specs.Changes.{World, throws, throws_new}
@@ -81,9 +81,7 @@ module _ (program : Program) (typing : Typing) where
     caught_fits : (heap : List Object) (class : Name) (handler : Handler) (at : ℕ) (v : Value) → IsThrown program heap v class
         → catches program at class handler ≡ true → is_of program heap (class_caught handler) v ≡ true
     caught_fits heap class handler at v thrown e =
-        let a = and_parts (nat_le handler.from at) _ e in
-        let b = and_parts (nat_lt at handler.to) _ a.1 in
-        by handler.class b.1 where
+        by handler.class (and_parts (covers at handler) (takes program class handler) e).1 where
           by : (caught : Option Name) → option_map_or (λ (name : Name). is_below program class name) caught true ≡ true
               → is_of program heap (option_map_or (λ (name : Name). name) caught throwable) v ≡ true
           by None is = thrown.thrown
@@ -103,10 +101,7 @@ module _ (program : Program) (typing : Typing) where
     alone_fits heap class method name (t ∷ u ∷ stack) v e h = absurd cc
 
     covered_by : (at : ℕ) (class : Name) (handler : Handler) → catches program at class handler ≡ true → covers at handler ≡ true
-    covered_by at class handler e =
-        let a = and_parts (nat_le handler.from at) _ e in
-        let b = and_parts (nat_lt at handler.to) _ a.1 in
-        and_from (nat_le handler.from at) (nat_lt at handler.to) a.0 b.0
+    covered_by at class handler e = (and_parts (covers at handler) (takes program class handler) e).0
 
     module _ (heap : List Object) (v : Value) (class : Name) (thrown : IsThrown program heap v class) where
       handler_runs : (frame : Frame) (s : Stands program typing frame) (below : List Frame) (handler : Handler) → LocalsFit program typing heap frame s

@@ -1,10 +1,9 @@
 -- Steps of the way out: its value is pushed, and the program is stopped.
 use Rattle.std.proofs.Common.{◌≡◌, ℕ, zero, suc, ℤ, pos, true, false, List, [], ◌∷◌, ◌++◌, Option, Some, None, refl, sym, ap, ◌∙◌, subst, append-nil}
-use Rattle.std.specs.Prelude.{codes, option_and_then, option_map, slice_get}
+use Rattle.std.specs.Prelude.{option_and_then, slice_get}
 use Rattle.std.specs.Option.{option_map_or, option_to_list}
 use Rattle.std.specs.Ordering.{int_eq}
 use Rattle.std.proofs.lemmas.Bool.{and_parts}
-use Rattle.api_listing.specs.BuiltIn.{MethodRow, is_row, method_rows}
 use Rattle.api_listing.specs.declared.events.Event.{Event}
 use Rattle.insn_codec.specs.declared.insn.Insn.{Insn}
 use Rattle.insn_codec.specs.declared.shape.Heap.TheVariants as heap
@@ -24,16 +23,16 @@ use Rattle.guest_heap.specs.declared.value.Value.TheVariants as values
 use Rattle.guest_model.specs.declared.builtin.Builtin.{Builtin}
 use Rattle.guest_model.specs.declared.builtin.Builtin.TheVariants as builtins
 use Rattle.guest_model.specs.declared.machine.Machine.{Machine}
-use Rattle.guest_model.specs.Builtins.{builtin_at, builtin_of_row}
+use Rattle.guest_model.specs.Builtins.{builtin_at}
 use Rattle.guest_model.specs.Calling.{Calling, built_in, calls as calls_out, calls_named, desc_named, exits, goes_past, is_static_call, stopped_by}
 use Rattle.guest_model.specs.Calls.{Taken, arity, taken}
 use Rattle.guest_model.specs.Changes.{Change, World, world_of}
-use Rattle.guest_model.specs.Parts.{is_exit, number_in}
+use Rattle.guest_model.specs.Parts.{number_in}
 use Rattle.guest_model.specs.Stepping.{Acting}
 use Rattle.guest_model.proofs.Options.{and_then_of, map_of}
 use Rattle.block_logic.specs.Meaning.{MeansStop}
 use Rattle.block_logic.specs.Obeying.{IsObeying}
-use Rattle.block_logic.specs.Operands.{calls, is_way_out, number_pushed}
+use Rattle.block_logic.specs.Operands.{calls, is_way_out, number_pushed, stops}
 use Rattle.block_logic.proofs.Owner.Acting.{ActsHolding, goes_with_behind}
 use Rattle.block_logic.proofs.Owner.Granted.{how_calls}
 use Rattle.block_logic.proofs.Owner.Moves.{on_heap}
@@ -44,15 +43,14 @@ use Rattle.block_logic.proofs.Steps.{ChangesOwner}
 
 -- ---- the method that stops the program
 
-way_out_is : (ref : Target) → is_way_out ref ≡ true → (index : ℕ) × (ref ≡ target.Builtin index) × (is_exit index ≡ true)
-way_out_is (target.Builtin index) e = (index, refl, e)
-way_out_is ref e = absurd cc
+stopping_is : (o : Option Builtin) → option_map_or stops o false ≡ true → o ≡ Some builtins.Exit
+stopping_is (Some builtins.Exit) e = refl
+stopping_is (Some builtin) e = absurd cc
+stopping_is None e = absurd cc
 
-exit_is : (index : ℕ) → is_exit index ≡ true → builtin_at index ≡ Some builtins.Exit
-exit_is index e = by (slice_get method_rows index) e where
-  by : (o : Option MethodRow) → option_map_or (is_row (codes "java/lang/System") (codes "exit") (codes "(I)V")) o false ≡ true → option_map builtin_of_row o ≡ Some builtins.Exit
-  by None e = absurd cc
-  by (Some row) e = rw e refl
+way_out_is : (ref : Target) → is_way_out ref ≡ true → (index : ℕ) × (ref ≡ target.Builtin index) × (builtin_at index ≡ Some builtins.Exit)
+way_out_is (target.Builtin index) e = (index, refl, stopping_is (builtin_at index) e)
+way_out_is ref e = absurd cc
 
 -- A call of it stops the program, begins no thread and has no event.
 record Stops (change : Change) : Type 0 where
@@ -121,5 +119,5 @@ module _ (program : Program) (policy : Policy) (certificate : Certificate) (o : 
       let how = how_calls (shape_of next.0) p.0 in
       let made : calls_out program machine a.number a.thread a.frame a.below how.0 (target.Builtin index.0) ≡ Some change =
       subst (λ (ref : Target). calls_out program machine a.number a.thread a.frame a.below how.0 ref ≡ Some change) index.1 (on_heap program machine a change next h.step (heap.Call how.0) how.1) in
-      stopping (exit_stops program machine a change how.0 index.0 (exit_is index.0 index.2) made) m.followed
+      stopping (exit_stops program machine a change how.0 index.0 index.2 made) m.followed
   stop_steps (suc (suc n)) h m = absurd m.stopping
