@@ -16,7 +16,7 @@ use Rattle.guest_model.specs.Enabled.{StepsAreEnabled}
 use Rattle.guest_model.specs.Runs.{stepped_or_same}
 use Rattle.guest_model.specs.Stepping.{Acting, changed, enters, frames_stepped, insn_stepped}
 use Rattle.block_logic.specs.Fitting.{held_locks, locked_by}
-use Rattle.block_logic.specs.Locking.{FreeLockIsTaken, IsAtLock, goes_on}
+use Rattle.block_logic.specs.Locking.{FreeLockIsTaken, IsAtLock, plain_step}
 use Rattle.block_logic.specs.Meaning.{lock_of}
 use Rattle.block_logic.proofs.Owner.Lock.{IsTaken, lock_taken}
 
@@ -44,18 +44,18 @@ module _ (program : Program) (machine : Machine) (number : ℕ) (h : IsAtLock pr
   frames_is : frames_stepped program machine number h.thread (h.frame ∷ h.below) ≡ Some change
   frames_is = rw h.next insn_is
 
-  pub changed_is : changed program machine (goes_on number) ≡ Some change
+  pub changed_is : changed program machine (plain_step number) ≡ Some change
   changed_is = rw (h.runs, h.there, h.running, h.top) frames_is
 
-  pub lock_held : held_locks program (stepped_or_same program machine (goes_on number)).monitors ≡ locked_by program number
+  pub lock_held : held_locks program (stepped_or_same program machine (plain_step number)).monitors ≡ locked_by program number
   lock_held =
-      let made : stepped_or_same program machine (goes_on number) ≡ applied number machine change =
+      let made : stepped_or_same program machine (plain_step number) ≡ applied number machine change =
       ap (λ (o : Option Change). option_map_or (λ (made : Machine × Option Event). made.0) (option_map (λ (c : Change). (applied number machine c, c.event)) o) machine) changed_is in
       ap (λ (m : Machine). held_locks program m.monitors) made ∙ lock.locks
 
 pub free_lock_is_taken : StepsAreEnabled → FreeLockIsTaken
 free_lock_is_taken enabled program machine number h free =
     let lock = lock_taken program number machine.monitors free in (
-      enabled program machine (goes_on number) (change program machine number h lock) (changed_is program machine number h lock),
+      enabled program machine (plain_step number) (change program machine number h lock) (changed_is program machine number h lock),
       lock_held program machine number h lock,
     )

@@ -31,13 +31,13 @@ pub record IsAtLock (program : Program) (machine : Machine) (number : ℕ) : Typ
   pub lock : slice_get frame.stack.items 0 ≡ Some (lock_of program)
   pub fits : StackFits frame
 
--- the thread goes on
-abbrev pub goes_on : ℕ → Step
-goes_on number = record { thread = number; choice = choices.Plain }
+-- the step in which the thread goes on
+abbrev pub plain_step : ℕ → Step
+plain_step number = record { thread = number; choice = choices.Plain }
 
 -- Where nobody holds the lock, the step of such a thread is enabled, and behind it the thread holds the lock.
 abbrev pub FreeLockIsTaken : Type 0
 FreeLockIsTaken =
     (program : Program) (machine : Machine) (number : ℕ) → IsAtLock program machine number → held_locks program machine.monitors ≡ []
-    → IsEnabled program machine (goes_on number)
-    × (held_locks program (stepped_or_same program machine (goes_on number)).monitors ≡ locked_by program number)
+    → IsEnabled program machine (plain_step number)
+    × (held_locks program (stepped_or_same program machine (plain_step number)).monitors ≡ locked_by program number)

@@ -21,12 +21,12 @@ show_step (Ok text) = Ok text
 show_step (Err fault) = Err (show_refusal fault)
 
 -- the text of class files that are not too long in all
-abbrev pub text_of : ShowInputs → Step (List ℕ)
-text_of inputs = within_total inputs.classes (show_step (shown inputs.listing inputs.classes.files))
+abbrev pub text_shown : ShowInputs → Step (List ℕ)
+text_shown inputs = within_total inputs.classes (show_step (shown inputs.listing inputs.classes.files))
 
 abbrev pub shown_answer : Step (List ℕ) → Answer
 shown_answer (Ok text) = answers.Shown text
 shown_answer (Err refusal) = refused refusal
 
 abbrev pub show_answer : ShowInputs → Answer
-show_answer inputs = shown_answer (text_of inputs)
+show_answer inputs = shown_answer (text_shown inputs)

@@ -6,7 +6,7 @@ ghost use Rattle.class_codec.specs.Fits.{CanSpell};
 ghost use Rattle.command_words.specs.Words.{Show, show_named};
 ghost use Rattle.inliner_tool.specs.Answers.{Is, stopped};
 ghost use Rattle.inliner_tool.specs.Programs.{Equals, UnlessMemory};
-ghost use Rattle.inliner_tool.specs.Show.{show_answer, show_refusal, text_of};
+ghost use Rattle.inliner_tool.specs.Show.{show_answer, show_refusal, text_shown};
 ghost use Rattle.inliner_tool.specs.Tool.{CarriesOut, IsAnswer};
 ghost use Rattle.input_files.specs.Forms.{since};
 
@@ -39,16 +39,16 @@ fn show_answer(alloc: Global, inputs: &ShowInputs) -> Answer
     requires { AllByRecursion CanSpell inputs.now.classes.files }
     ensures { Is result (show_answer inputs.now) }
 {
-    match text_of(alloc, inputs) {
+    match text_shown(alloc, inputs) {
         Ok(text) => Answer::Shown(text),
         Err(refusal) => refused(refusal),
     }
 }
 
 /// The text of class files that are not too long in all.
-fn text_of(alloc: Global, inputs: &ShowInputs) -> Result<Bytes, Refusal>
+fn text_shown(alloc: Global, inputs: &ShowInputs) -> Result<Bytes, Refusal>
     requires { AllByRecursion CanSpell inputs.now.classes.files }
-    ensures { UnlessMemory (Equals (text_of inputs.now)) result }
+    ensures { UnlessMemory (Equals (text_shown inputs.now)) result }
 {
     within_total(&inputs.classes)?;
     match show(alloc, &inputs.listing, inputs.classes.files.as_slice()) {
