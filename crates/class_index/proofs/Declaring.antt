@@ -13,7 +13,7 @@ use Rattle.class_index.specs.Index.{found_in, Notes}
 use Rattle.bytecode_model.specs.Members.{Declared, first_of, first_found, in_class}
 use Rattle.bytecode_model.proofs.Lists.{or_none, or_or}
 use Rattle.bytecode_model.proofs.Names.{id_cmp-is, same_id}
-use Rattle.bytecode_model.proofs.Placing.{test_cases, is_some_or, none_or}
+use Rattle.bytecode_model.proofs.Placing.{test_cases, none_or}
 
 pub methods_are : map (λ r. (r.0.now, r.1.now, r.2.now, r.3)) METHODS ≡ method_rows
 unfolding method_rows
@@ -26,13 +26,6 @@ first_of-append (x ∷ xs) ys q = by (is_method q.class q.name q.desc x.0) (firs
   by : (b : Bool) {rest : Option Found} → rest ≡ option_or (first_of xs q) (first_of ys q) → cond b (Some x.1) rest ≡ option_or (cond b (Some x.1) (first_of xs q)) (first_of ys q)
   by true e = refl
   by false e = e
-
--- a name that is there already
-pub keeps : (found : BTreeMap MethodId Found) (id : MethodId) (first : Found) → is_some (found_in found id) ≡ true → Notes ((id, first) ∷ []) found found
-keeps found id first there q =
-    test_cases (is_method q.class q.name q.desc id) (λ b. found_in found q ≡ option_or (found_in found q) (cond b (Some first) None))
-    (λ e. is_some_or (found_in found q) (Some first) (subst (λ (i : MethodId). is_some (found_in found i) ≡ true) (same_id id q e) there))
-    (λ e. sym (or_none (found_in found q)))
 
 -- a new name
 pub adds : (old new : BTreeMap MethodId Found) (id : MethodId) (first : Found) → is_some (found_in old id) ≡ false

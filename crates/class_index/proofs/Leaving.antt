@@ -51,12 +51,6 @@ gone_up heads name at steps c some gone m =
     let n : steps + 1 + m ≡ steps + suc m = omega arith in
     ap (λ (k : ℕ). stays_within k heads name) n ∙ gone (suc m) ∙ one_up m heads at c some
 
--- the way leaves here
-pub leaves_here : (heads : List ListedClass) (name at : List ℕ) (steps : ℕ) → class_named heads at ≡ None → Gone heads name at steps → LeavesAfter heads name (steps + 0)
-leaves_here heads name at steps none gone =
-    let n : steps + 0 + 1 ≡ steps + 1 = omega arith in
-    (gone 0, ap (λ (k : ℕ). stays_within k heads name) n ∙ gone 1 ∙ ap (λ (o : Option ListedClass). option_map_or (λ (x : ListedClass). stays_within 0 heads x.parent) o false) none)
-
 -- the way comes to a class whose height is known
 pub leaves_known : (heads : List ListedClass) (name at : List ℕ) (steps h : ℕ) → LeavesAfter heads at h → Gone heads name at steps → LeavesAfter heads name (steps + h)
 leaves_known heads name at steps h leaves gone =

@@ -1,5 +1,5 @@
 -- Which classes may have methods of the library.
-use Rattle.std.proofs.Common.{◌≡◌, ℕ, Bool, true, false, cond, not, ◌&&◌, ◌||◌, List, [], ◌∷◌, ◌++◌, refl, sym, ap, ◌∙◌}
+use Rattle.std.proofs.Common.{◌≡◌, ℕ, Bool, true, false, cond, not, ◌&&◌, ◌||◌, List, [], ◌∷◌, refl, sym, ap, ◌∙◌}
 use Rattle.std.specs.Prelude.{bytes_eq}
 use Rattle.std.specs.List.{filter, list_any, list_all}
 use Rattle.std.specs.BTreeSet.{BTreeSet}
@@ -40,12 +40,6 @@ first_of_two false true e f = f
 first_of_two false false e f = e
 
 -- ---- lists
-
-pub filter_front : {X : Type 0} (p : X → Bool) (x : X) (xs : List X) → filter p (x ∷ xs) ≡ filter p (x ∷ []) ++ filter p xs
-filter_front p x xs = by (p x) where
-  by : (b : Bool) → cond b (x ∷ filter p xs) (filter p xs) ≡ cond b (x ∷ []) [] ++ filter p xs
-  by true = refl
-  by false = refl
 
 -- what passes a test is kept by a weaker one
 any_kept : {X : Type 0} (f p : X → Bool) → ((x : X) → f x ≡ true → p x ≡ true) → (xs : List X) → list_any f (filter p xs) ≡ list_any f xs

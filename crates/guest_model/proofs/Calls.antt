@@ -156,9 +156,6 @@ found_at p i (x ∷ xs) k e = found_or (p x) p i x xs k refl e (found_at p (i + 
 stands : {A : Type 0} (p : A → Bool) (xs : List A) (k : ℕ) → position_from p 0 xs ≡ Some k → Stands p xs k
 stands p xs k e = let f = found_at p 0 xs k e in let same : f.0 ≡ k = omega (arith, f.1) in subst (Stands p xs) same f.2
 
-is_named : Name → Name → Method → Bool
-is_named name desc m = bytes_eq m.name name && bytes_eq m.desc desc
-
 -- the method of these indices, which has the name and the descriptor
 record Named (program : Program) (name desc : Name) (to : Given) : Type 0 where
   pub method : Method

@@ -3,7 +3,7 @@ use Rattle.std.proofs.Common.{◌≡◌, ℕ, zero, suc, ◌+◌, ◌-◌, ◌�
 use Rattle.std.specs.Prelude.{◌==◌, bytes_eq, slice_get, option_map}
 use Rattle.std.specs.List.{position_from}
 use Rattle.std.specs.Option.{option_map_or, option_or}
-use Rattle.std.proofs.lemmas.Bool.{and_parts, false≢true, ne_eqb}
+use Rattle.std.proofs.lemmas.Bool.{and_parts, ne_eqb}
 use Rattle.std.proofs.lemmas.Option.{none-some, slice_get-map, slice_get_within}
 use Rattle.std.proofs.lemmas.Slice.Eq.{bytes_eq-Decides}
 use Rattle.api_listing.specs.declared.types.ListedClass.{ListedClass}
@@ -51,21 +51,6 @@ one_stands test from x xs at later h = by (test x) refl h where
 pub stands : {X : Type 0} (test : X → Bool) (from : ℕ) (xs : List X) (at : ℕ) → position_from test from xs ≡ Some at → StandsAt test from xs at
 stands test from [] at h = absurd cc
 stands test from (x ∷ xs) at h = one_stands test from x xs at (stands test (from + 1) xs at) h
-
--- where none is found, none passes
-one_fails : {X : Type 0} (test : X → Bool) (from : ℕ) (x : X) (xs : List X) → position_from test from (x ∷ xs) ≡ None
-    → (test x ≡ false) × (position_from test (from + 1) xs ≡ None)
-one_fails test from x xs h = by (test x) refl h where
-  by : (b : Bool) → test x ≡ b → cond b (Some from) (position_from test (from + 1) xs) ≡ None → (test x ≡ false) × (position_from test (from + 1) xs ≡ None)
-  by true is h = absurd cc
-  by false is h = (is, h)
-
-pub none_passes : {X : Type 0} (test : X → Bool) (from : ℕ) (xs : List X) → position_from test from xs ≡ None
-    → (i : ℕ) (x : X) → slice_get xs i ≡ Some x → test x ≡ true → ⊥
-none_passes test from [] h i x there passes = absurd cc
-none_passes test from (y ∷ ys) h zero x there passes =
-    false≢true (sym (one_fails test from y ys h).0 ∙ ap test (some_is y x there) ∙ passes)
-none_passes test from (y ∷ ys) h (suc i) x there passes = none_passes test (from + 1) ys (one_fails test from y ys h).1 i x there passes
 
 -- the first that passes stands no later than any that does
 one_first : {X : Type 0} (test : X → Bool) (from : ℕ) (x : X) (xs : List X) (at i : ℕ) (y : X) → position_from test from (x ∷ xs) ≡ Some at
