@@ -40,7 +40,8 @@ fn reference(
 ) -> Result<VType, CertForm>
     ensures { Uses result (reference_at names.now at used.old from.old) used.new from.new }
 {
-    let place = u4(from)? as usize;
+    let number = u4(from)?;
+    let place = number as usize;
     if place > *used || place >= names.len() {
         return Err(CertForm::Form { at });
     }

@@ -69,7 +69,8 @@ fn phase(from: &mut Cursor) -> Result<Phase8, CertForm>
     ensures { Reads CertForm.Memory result (phase_at from.old) from.new }
 {
     let at = from.position();
-    match u1(from)? {
+    let number = u1(from)?;
+    match number {
         0 => Ok(Phase8::Before),
         1 => Ok(Phase8::After),
         2 => Ok(Phase8::Exceptional),

@@ -38,7 +38,8 @@ pub fn u4(from: &mut Cursor) -> Result<u32, CertForm>
 pub fn i4(from: &mut Cursor) -> Result<i32, CertForm>
     ensures { Reads CertForm.Memory result (i4_at from.old) from.new }
 {
-    Ok(u4(from)?.cast_signed())
+    let n = u4(from)?;
+    Ok(n.cast_signed())
 }
 
 /// The next `n` bytes.
@@ -56,7 +57,8 @@ pub fn flag(from: &mut Cursor) -> Result<bool, CertForm>
     ensures { Reads CertForm.Memory result (flag_at from.old) from.new }
 {
     let at = from.position();
-    match u1(from)? {
+    let number = u1(from)?;
+    match number {
         0 => Ok(false),
         1 => Ok(true),
         _ => Err(CertForm::Form { at }),
