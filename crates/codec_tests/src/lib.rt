@@ -1,5 +1,5 @@
-//! Tests of the crates that read and write bytes: class files, the codes of methods, certificates; and the bytes that they
-//! begin with, as tests write them.
+//! Tests of the crates that read and write bytes and texts: class files, the codes of methods, certificates, listings and
+//! records; and the bytes that they begin with, as tests write them.
 #![tactic(auto)]
 
 mod bytes;

@@ -3,3 +3,5 @@
 mod certificates;
 mod class_files;
 mod instructions;
+mod listings;
+mod records;

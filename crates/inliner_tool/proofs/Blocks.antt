@@ -28,8 +28,8 @@ use Rattle.output_files.specs.Outputs.{is_written, outputs_of}
 use Rattle.woven_linking.specs.Links.{WovenLinks}
 use Rattle.woven_linking.specs.Program.{IsWovenOf}
 use Rattle.inliner_tool.specs.declared.refusal.Refusal.TheVariants as refusals
-use Rattle.inliner_tool.specs.declared.weaving.Given.{Given}
-use Rattle.inliner_tool.specs.declared.weaving.Ready.{Ready}
+use Rattle.inliner_tool.specs.declared.inline.Given.{Given}
+use Rattle.inliner_tool.specs.declared.inline.Ready.{Ready}
 use Rattle.inliner_tool.specs.Programs.{Equals, Step, UnlessMemory, link_step, woven_links}
 use Rattle.inliner_tool.specs.Weaving.{Accepts, IsPlanned, IsRewoven, Remakes, Told, certificate_for, mode_for, original, outputs_step}
 use Rattle.inliner_tool.proofs.Constants.{has_numbers}

@@ -40,7 +40,7 @@ use Rattle.std.specs.List.{AllByRecursion}
 use Rattle.woven_typing.specs.Framing.{typing_of}
 use Rattle.woven_typing.specs.Telling.{ListingsKnowThrowable, PoliciesTell, TellsKinds}
 use Rattle.woven_typing.specs.WovenTyping.{BlocksAreReachedSo, IsGiven, IsTypedSo, WovenIsTyped, front, is_reached, kept_frame}
-use Rattle.inliner_tool.specs.declared.weaving.Given.{Given}
+use Rattle.inliner_tool.specs.declared.inline.Given.{Given}
 use Rattle.inliner_tool.specs.Expected.{IsExpected, woven_program}
 use Rattle.inliner_tool.specs.Policy.{IsSoundFor}
 use Rattle.inliner_tool.specs.Programs.{woven_links}

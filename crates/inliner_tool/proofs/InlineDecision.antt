@@ -28,7 +28,7 @@ use Rattle.inliner_tool.specs.declared.answer.Answer.{Answer}
 use Rattle.inliner_tool.specs.declared.answer.Answer.TheVariants as answers
 use Rattle.inliner_tool.specs.declared.refusal.Refusal.{Refusal}
 use Rattle.inliner_tool.specs.declared.refusal.Refusal.TheVariants as refusals
-use Rattle.inliner_tool.specs.declared.weaving.Given.{Given}
+use Rattle.inliner_tool.specs.declared.inline.Given.{Given}
 use Rattle.inliner_tool.specs.Answers.{refused, stopped}
 use Rattle.inliner_tool.specs.Inline.{Inlines, Refuses}
 use Rattle.inliner_tool.specs.InlineDecision.{InlineDecides, IsWeaving, NamesWoven}

@@ -18,8 +18,8 @@ use Rattle.conspec_parse.specs.Telling.{KindsAreTold, ResultsAreTold}
 use Rattle.input_files.specs.declared.inline_inputs.InlineInputs.{InlineInputs}
 use Rattle.input_files.specs.InlineInputs.{InlineSound}
 use Rattle.inliner_tool.specs.declared.refusal.Refusal.{Refusal}
-use Rattle.inliner_tool.specs.declared.weaving.Given.{Given}
-use Rattle.inliner_tool.specs.declared.weaving.Ready.{Ready}
+use Rattle.inliner_tool.specs.declared.inline.Given.{Given}
+use Rattle.inliner_tool.specs.declared.inline.Ready.{Ready}
 use Rattle.inliner_tool.specs.Policy.{IsSoundFor}
 use Rattle.inliner_tool.specs.Programs.{Equals, Step, Types, UnlessMemory}
 use Rattle.inliner_tool.specs.Weaving.{Chosen, Fits, Plans, Remakes, Typed, mode_for, original, weave_step}

@@ -11,7 +11,7 @@ use Rattle.class_weaving.specs.declared.woven.Woven.{Woven}
 use Rattle.output_files.specs.Outputs.{is_written}
 use Rattle.told_typing.specs.Told.{FitsTyping}
 use Rattle.woven_linking.specs.Program.{HaveRoom, program_with}
-use Rattle.inliner_tool.specs.declared.weaving.Given.{Given}
+use Rattle.inliner_tool.specs.declared.inline.Given.{Given}
 use Rattle.inliner_tool.specs.Programs.{woven_links}
 use Rattle.inliner_tool.specs.Weaving.{certificate_for}
 

@@ -7,7 +7,7 @@ use Rattle.inliner_tool.specs.declared.answer.Answer.TheVariants as answers
 use Rattle.input_files.specs.declared.files.Stop.{Stop}
 use Rattle.input_files.specs.declared.inline_inputs.InlineInputs.{InlineInputs}
 use Rattle.inliner_tool.specs.declared.refusal.Refusal.{Refusal}
-use Rattle.inliner_tool.specs.declared.weaving.Ready.{Ready}
+use Rattle.inliner_tool.specs.declared.inline.Ready.{Ready}
 use Rattle.input_files.specs.Forms.{Count}
 use Rattle.input_files.specs.InlineInputs.{ReadsInline}
 use Rattle.command_words.specs.InlineWords.{IsInline, NamedInline}

@@ -40,8 +40,8 @@ use Rattle.told_typing.specs.Told.{told}
 use Rattle.woven_typing.specs.Framing.{typing_of}
 use Rattle.inliner_tool.specs.declared.refusal.Refusal.{Refusal}
 use Rattle.inliner_tool.specs.declared.refusal.Refusal.TheVariants as refusals
-use Rattle.inliner_tool.specs.declared.weaving.Given.{Given}
-use Rattle.inliner_tool.specs.declared.weaving.Ready.{Ready}
+use Rattle.inliner_tool.specs.declared.inline.Given.{Given}
+use Rattle.inliner_tool.specs.declared.inline.Ready.{Ready}
 use Rattle.inliner_tool.specs.Programs.{Equals, Step, Types, UnlessMemory, program_of, woven_links}
 
 -- ---- the steps

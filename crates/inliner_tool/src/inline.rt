@@ -1,10 +1,29 @@
-//! The command `inline`: its inputs, what it answers, and what it writes.
-
-ghost use Rattle.std.specs.Prelude.{◌≡◌, ◌≤◌};
+//! The command `inline`: its inputs, what is woven of them and judged before anything is written, what it answers, and what it
+//! writes.
+ghost use Rattle.std.specs.Prelude.{◌≡◌, ◌≤◌, IfOk, Ok, length, true};
+ghost use Rattle.std.specs.List.{AllByRecursion};
+ghost use Rattle.api_listing.specs.Listing.{IsFew};
+ghost use Rattle.block_logic.specs.Accepted.{IsAccepted};
+ghost use Rattle.block_logic.specs.Meaning.{Promised};
+ghost use Rattle.block_template.specs.Blocks.{plan_of};
+ghost use Rattle.bytecode_model.specs.Sound.{IsSound};
+ghost use Rattle.cert_checker.specs.Acceptance.{verdict};
+ghost use Rattle.cert_checker.specs.Secure.{Secure};
+ghost use Rattle.class_codec.specs.Fits.{CanSpell};
+ghost use Rattle.class_weaving.specs.Woven.{woven};
+ghost use Rattle.command_words.specs.InlineWords.{inline_named};
+ghost use Rattle.conspec_automaton.specs.Building.{built};
+ghost use Rattle.conspec_automaton.specs.Sound.{IsPolicy};
+ghost use Rattle.input_files.specs.InlineInputs.{InlineSound};
+ghost use Rattle.input_files.specs.Named.{IsListed};
+ghost use Rattle.mon_base.specs.Answer.{Answers};
+ghost use Rattle.output_files.specs.Outputs.{is_written, outputs_of};
+ghost use Rattle.inliner_tool.specs.Expected.{IsExpected};
+ghost use Rattle.inliner_tool.specs.Policy.{IsSoundFor};
+ghost use Rattle.inliner_tool.specs.Programs.{Equals, UnlessMemory};
+ghost use Rattle.inliner_tool.specs.Weaving.{Accepts, IsPlanned, IsRewoven, Plans, Remakes, mode_for, outputs_step, releasing, splice_refusal, weave_step};
 ghost use Rattle.input_files.specs.Forms.{since};
 ghost use Rattle.inliner_tool.specs.Inline.{Begins, IsInlined, Outputs};
-ghost use Rattle.input_files.specs.InlineInputs.{InlineSound};
-ghost use Rattle.command_words.specs.InlineWords.{inline_named};
 ghost use Rattle.inliner_tool.specs.Answers.{EndsWell};
 ghost use Rattle.inliner_tool.specs.InlineDecision.{InlineDecides};
 ghost use Rattle.inliner_tool.specs.Rechecking.{WrittenIsAccepted};
@@ -12,12 +31,49 @@ ghost use Rattle.inliner_tool.specs.Tool.{CarriesOut, IsAnswer};
 ghost use Rattle.command_words.specs.Words.{Inline};
 
 use crate::answer::{Answer, refused, stopped};
-use crate::weaving::{Ready, plan};
-use class_linking::linked_programs_are_named;
-use command_words::InlineWords;
-use input_files::read_inline;
-use mon_store::{Store, WriteFault, write_all};
+use crate::programs::{program_of, types_of};
+use crate::refusal::Refusal;
+use block_template::{PolicyPlan, plans_are_good};
+use bytecode_model::{Program, Side};
+use cert_checker::{Accepted, check};
+use cert_format::{CertLong, Certificate, Mode, Typing};
+use cert_maker::{make, woven_is_accepted};
+use class_linking::{linked_is_in_order, linked_operands_are_right, linked_programs_are_named};
+use class_weaving::Woven;
+use command_words::{InlineWords, Weaving};
+use conspec_automaton::{Policy, build, denies_only};
+use conspec_parse::kinds_are_told;
+use conspec_tree::PolicyTree;
+use input_files::{InlineInputs, read_inline};
+use mon_base::{Bytes, List};
+use mon_store::{Output, Store, WriteFault, write_all};
+use offset_patch::SpliceFault;
+use policy_weaving::inline;
 use std::alloc::Global;
+use told_typing::{told, told_is_typed};
+use type_lattice::Indexed;
+use woven_linking::{original_is_free, program_with, woven_files_link, woven_program_is_linked};
+use woven_typing::{
+    items_are_reached, listings_know_throwable, policies_tell, typing_of, woven_is_typed,
+};
+
+/// What is to be written, and what is said of it.
+#[derive(Debug, Drop, PartialEq, Eq)]
+pub struct Ready {
+    pub outputs: List<Output>,
+    pub accepted: Accepted,
+    /// The number of class files among the outputs.
+    pub classes: u64,
+}
+
+/// What is woven: a program with its types, a policy, and the mode.
+#[derive(Drop)]
+pub struct Given {
+    pub client: Program,
+    pub typing: Typing,
+    pub policy: Policy,
+    pub mode: Mode,
+}
 
 /// The answer to `inline`.
 pub fn answer_inline<S: Store>(alloc: Global, words: &InlineWords, store: &mut S) -> Answer
@@ -53,6 +109,179 @@ fn write_out<S: Store>(alloc: Global, ready: Ready, store: &mut S) -> Answer
         },
         Err(WriteFault::Failed(name)) => Answer::Unwritten(name),
         Err(WriteFault::Memory) => Answer::Memory,
+    }
+}
+
+/// Links and types the inputs, weaves them, and checks what is woven.
+pub fn plan(alloc: Global, inputs: InlineInputs, words: &InlineWords) -> Result<Ready, Refusal>
+    requires { InlineSound inputs }
+    // The first step that fails is told.
+    ensures plans { UnlessMemory (Plans (inline_named words.now) inputs) result }
+    // What is ready is the program with its blocks, and is accepted.
+    ensures planned { IfOk result (λ ready. IsPlanned (inline_named words.now) inputs ready) }
+{
+    let InlineInputs {
+        listing,
+        policy,
+        classes,
+    } = inputs;
+    let client = program_of(alloc, listing, classes, words.main, Side::Original)?;
+    let typing = types_of(alloc, &client)?;
+    let mode = mode_for(words.weaving, &policy)?;
+    let policy = build(alloc, &policy)?;
+    let made = woven(alloc, client.program(), &policy, mode)?;
+    plans_are_good();
+    woven_files_link();
+    woven_program_is_linked();
+    original_is_free();
+    linked_is_in_order();
+    linked_operands_are_right();
+    kinds_are_told();
+    policies_tell();
+    listings_know_throwable();
+    woven_is_typed();
+    items_are_reached();
+    told_is_typed();
+    woven_is_accepted();
+    let given = Given {
+        client: client.into_program(),
+        typing,
+        policy,
+        mode,
+    };
+    rewoven(alloc, words, given, made)
+}
+
+/// The mode in which a policy is woven, where that is built.
+fn mode_for(weaving: Weaving, policy: &PolicyTree) -> Result<Mode, Refusal>
+    ensures is { result ≡ mode_for weaving policy.now }
+    ensures promised { IfOk result (λ mode. Promised mode (built policy.now)) }
+{
+    match weaving {
+        Weaving::Hold => Ok(Mode::Hold),
+        Weaving::Release => releasing(policy),
+        Weaving::Auto => releasing(policy),
+    }
+}
+
+/// The lock is let go where calls are denied outright.
+fn releasing(policy: &PolicyTree) -> Result<Mode, Refusal>
+    ensures is { result ≡ releasing policy.now }
+    ensures promised { IfOk result (λ mode. Promised mode (built policy.now)) }
+{
+    if denies_only(policy) {
+        Ok(Mode::Release)
+    } else {
+        Err(Refusal::NotBuilt)
+    }
+}
+
+/// The woven files.
+fn woven(alloc: Global, client: &Program, policy: &Policy, mode: Mode) -> Result<Woven, Refusal>
+    requires sound { IsSound client.now }
+    requires policy { IsPolicy policy.now }
+    ensures is { UnlessMemory (Equals (weave_step (woven client.now (plan_of policy.now mode) policy.now.vars))) result }
+    ensures exact { IfOk result (λ made. woven client.now (plan_of policy.now mode) policy.now.vars ≡ Ok made) }
+    ensures fits { IfOk result (λ made. AllByRecursion CanSpell made.files) }
+{
+    match inline(alloc, client, policy, mode) {
+        Ok(made) => Ok(made),
+        Err(fault) => Err(unfit(fault)),
+    }
+}
+
+/// Why nothing is woven.
+fn unfit(fault: SpliceFault) -> Refusal
+    ensures { result ≡ splice_refusal fault }
+{
+    match fault {
+        SpliceFault::Overflow {
+            class,
+            method,
+            what,
+            value,
+        } => Refusal::Overflow {
+            class,
+            method,
+            what,
+            value,
+        },
+        SpliceFault::Memory => Refusal::Memory,
+    }
+}
+
+/// What is woven, as the program that it links to, with its certificate, which is accepted.
+fn rewoven(alloc: Global, words: &InlineWords, given: Given, made: Woven) -> Result<Ready, Refusal>
+    requires few { IsFew given.client.listing }
+    requires listed { IsListed given.client.listing }
+    requires policy { IsSoundFor given.client.listing given.policy }
+    requires promised { Promised given.mode given.policy }
+    requires count { length made.files ≤ 1001 }
+    requires fits { AllByRecursion CanSpell made.files }
+    requires expected { IsExpected (inline_named words.now).main given made }
+    ensures steps { UnlessMemory (Remakes (inline_named words.now).main (inline_named words.now).folder given made) result }
+    ensures rewoven { IfOk result (λ ready. IsRewoven (inline_named words.now) given made.files ready) }
+{
+    let Given {
+        client,
+        typing: before,
+        policy,
+        mode,
+    } = given;
+    let typing = typing_of(alloc, &client, &policy, mode, &before)?;
+    drop(before);
+    let plan = PolicyPlan::new(&policy, mode);
+    let (woven, classes) = program_with(alloc, &plan, client, made.files)?;
+    let program = Indexed::new(alloc, woven)?;
+    let typing = told(alloc, program.program(), typing)?;
+    let certificate = make(alloc, classes.as_slice(), &policy, mode, typing)?;
+    judged(alloc, words.folder, &policy, &program, &certificate)
+}
+
+/// What is to be written of a woven program, which is checked with its certificate.
+fn judged(
+    alloc: Global,
+    folder: &Bytes,
+    policy: &Policy,
+    program: &Indexed,
+    certificate: &Certificate,
+) -> Result<Ready, Refusal>
+    requires sound { IsSound program.now }
+    requires policy { IsSoundFor program.now.listing policy.now }
+    requires promised { Promised certificate.now.mode policy.now }
+    requires accepted { IsAccepted program.now policy.now certificate.now }
+    ensures accepts { Accepts folder.now policy.now program.now certificate.now result }
+    ensures accepted { IsAccepted program.now policy.now certificate.now }
+    ensures secure { Secure certificate.now.mode program.now policy.now }
+    ensures verdict { IfOk result (λ ready. verdict program.now policy.now certificate.now ≡ Ok ready.accepted) }
+    ensures written { IfOk result (λ ready. is_written certificate.now ≡ true) }
+    ensures outputs { IfOk result (λ ready. ready.outputs ≡ outputs_of folder.now program.now certificate.now) }
+{
+    let accepted = check(program, policy, certificate).unwrap();
+    let program = program.program();
+    let outputs = outputs_of(alloc, folder, program, certificate)?;
+    Ok(Ready {
+        outputs,
+        accepted,
+        classes: program.classes.len() as u64,
+    })
+}
+
+/// The class files in their order, and behind them the certificate.
+fn outputs_of(
+    alloc: Global,
+    folder: &Bytes,
+    program: &Program,
+    certificate: &Certificate,
+) -> Result<List<Output>, Refusal>
+    ensures is { UnlessMemory (Equals (outputs_step folder.now program.now certificate.now)) result }
+    ensures written { IfOk result (λ outputs. is_written certificate.now ≡ true) }
+    ensures outputs { IfOk result (λ outputs. outputs ≡ outputs_of folder.now program.now certificate.now) }
+{
+    match output_files::outputs_of(alloc, folder, program, certificate) {
+        Ok(outputs) => Ok(outputs),
+        Err(CertLong::Certificate { value }) => Err(Refusal::LongCertificate { value }),
+        Err(CertLong::Memory) => Err(Refusal::Memory),
     }
 }
 

@@ -18,7 +18,6 @@ mod replay;
 mod replies;
 mod show;
 mod tool;
-mod weaving;
 
 pub use answer::Answer;
 pub use check::check_decides;

@@ -20,13 +20,13 @@ use Rattle.std.specs.Prelude.{IfOk, true, length}
 use Rattle.told_typing.specs.Told.{FitsTyping, told}
 use Rattle.woven_linking.specs.Program.{HaveRoom, program_with}
 use Rattle.woven_typing.specs.Framing.{typing_of}
-use Rattle.inliner_tool.specs.declared.weaving.Given.{Given}
-use Rattle.inliner_tool.specs.declared.weaving.Ready.{Ready}
+use Rattle.inliner_tool.specs.declared.inline.Given.{Given}
+use Rattle.inliner_tool.specs.declared.inline.Ready.{Ready}
 use Rattle.inliner_tool.specs.Expected.{woven_program}
 use Rattle.inliner_tool.specs.Programs.{woven_links}
 use Rattle.inliner_tool.specs.Weaving.{Accepts, certificate_for}
 use Rattle.inliner_tool.proofs.Blocks.{known_rewoven, remakes}
-use Rattle.inliner_tool.proofs.weaving.rewoven.Goals as goal
+use Rattle.inliner_tool.proofs.inline.rewoven.Goals as goal
 
 -- what is made by this plan is the woven program
 made_by : (given : Given) (made : Woven) (plan : Planned) (program : Program) → plan ≡ record { policy = given.policy; mode = given.mode }

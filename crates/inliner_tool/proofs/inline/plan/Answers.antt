@@ -3,12 +3,12 @@ use Rattle.std.proofs.lemmas.Result.{err_from_is_err_and}
 use Rattle.block_template.specs.Blocks.{plan_of}
 use Rattle.class_weaving.specs.Woven.{woven}
 use Rattle.command_words.specs.InlineWords.{NamedInline, inline_named}
-use Rattle.inliner_tool.specs.declared.weaving.Given.{Given}
+use Rattle.inliner_tool.specs.declared.inline.Given.{Given}
 use Rattle.inliner_tool.specs.Policy.{IsSoundFor}
 use Rattle.inliner_tool.proofs.Blocks.{few_woven, inputs_link, planned, remade}
 use Rattle.inliner_tool.proofs.Expected.{expected}
 use Rattle.inliner_tool.proofs.Planned.{given_for, plan_fails, plan_goes, sound_for}
-use Rattle.inliner_tool.proofs.weaving.plan.Goals as goal
+use Rattle.inliner_tool.proofs.inline.plan.Goals as goal
 
 pub woven-requires-clause-policy : goal.woven-requires-clause-policy
 woven-requires-clause-policy c = (c.in_ok-policy.ensures.sound c.args.inputs.listing c.requires.policy.sound).0
