@@ -84,7 +84,7 @@ pub struct Method {
 }
 
 /// A given class, with its file.
-#[derive(Debug, Drop)]
+#[derive(Drop)]
 pub struct LinkedClass {
     pub name: Bytes,
     pub parent: Bytes,
@@ -93,7 +93,7 @@ pub struct LinkedClass {
 }
 
 /// Class files that are linked with a listing.
-#[derive(Debug, Drop)]
+#[derive(Drop)]
 pub struct Program {
     pub classes: List<LinkedClass>,
     pub listing: Listing,

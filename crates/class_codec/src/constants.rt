@@ -24,7 +24,8 @@ fn text(alloc: Global, from: &mut Cursor) -> Result<Bytes, ClassFault>
     let len = u2(from)?;
     let bytes = taken(len as usize, from)?;
     check_text(bytes, from.position())?;
-    Ok(Bytes::from_slice(alloc, bytes)?)
+    let text = Bytes::from_slice(alloc, bytes)?;
+    Ok(text)
 }
 
 /// Whether all bytes of a text, which ends at a place of the file, may stand there.

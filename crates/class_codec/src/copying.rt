@@ -50,7 +50,10 @@ impl Copied for TableEntry {
 impl Copied for Const {
     fn copy(&self, alloc: Global) -> Result<Const, NoMemory> {
         match self {
-            Const::Utf8(text) => Ok(Const::Utf8(text.copy(alloc)?)),
+            Const::Utf8(text) => {
+                let text = text.copy(alloc)?;
+                Ok(Const::Utf8(text))
+            }
             Const::Integer(n) => Ok(Const::Integer(*n)),
             Const::Float(bits) => Ok(Const::Float(*bits)),
             Const::Long(n) => Ok(Const::Long(*n)),
@@ -68,9 +71,10 @@ impl Copied for Const {
 
 impl Copied for Other {
     fn copy(&self, alloc: Global) -> Result<Other, NoMemory> {
+        let bytes = self.bytes.copy(alloc)?;
         Ok(Other {
             name: self.name,
-            bytes: self.bytes.copy(alloc)?,
+            bytes,
         })
     }
 }
@@ -114,16 +118,21 @@ impl ClassFile {
     pub fn copy(&self, alloc: Global) -> Result<ClassFile, NoMemory>
         ensures { IfOk result (λ copy. copy ≡ self.now) }
     {
+        let pool = copy_list(alloc, &self.pool)?;
+        let interfaces = copy_list(alloc, &self.interfaces)?;
+        let fields = copy_list(alloc, &self.fields)?;
+        let methods = copy_list(alloc, &self.methods)?;
+        let attrs = copy_list(alloc, &self.attrs)?;
         Ok(ClassFile {
             minor: self.minor,
-            pool: copy_list(alloc, &self.pool)?,
+            pool,
             flags: self.flags,
             this_class: self.this_class,
             super_class: self.super_class,
-            interfaces: copy_list(alloc, &self.interfaces)?,
-            fields: copy_list(alloc, &self.fields)?,
-            methods: copy_list(alloc, &self.methods)?,
-            attrs: copy_list(alloc, &self.attrs)?,
+            interfaces,
+            fields,
+            methods,
+            attrs,
         })
     }
 }

@@ -23,7 +23,8 @@ pub const MAX_LEN: usize = 1_048_576;
 fn head(from: &mut Cursor) -> Result<u16, ClassFault>
     ensures { Reads ClassFault.Memory result (head_at from.old) from.new }
 {
-    if u4(from)? != 0xCAFE_BABE {
+    let magic = u4(from)?;
+    if magic != 0xCAFE_BABE {
         return Err(ClassFault::Magic);
     }
     let minor = u2(from)?;
@@ -44,13 +45,14 @@ fn body(
 ) -> Result<ClassFile, ClassFault>
     ensures { Reads ClassFault.Memory result (body_at minor pool from.old) from.new }
 {
+    let places = pool.as_slice();
     let flags = u2(from)?;
-    let this_class = index(Kind::Class, pool.as_slice(), from)?;
-    let super_class = index(Kind::Class, pool.as_slice(), from)?;
-    let interfaces = counted(alloc, pool.as_slice(), false, from)?;
-    let fields = counted(alloc, pool.as_slice(), false, from)?;
-    let methods = counted(alloc, pool.as_slice(), true, from)?;
-    let attrs = counted(alloc, pool.as_slice(), false, from)?;
+    let this_class = index(Kind::Class, places, from)?;
+    let super_class = index(Kind::Class, places, from)?;
+    let interfaces = counted(alloc, places, false, from)?;
+    let fields = counted(alloc, places, false, from)?;
+    let methods = counted(alloc, places, true, from)?;
+    let attrs = counted(alloc, places, false, from)?;
     Ok(ClassFile {
         minor,
         pool,

@@ -31,11 +31,10 @@ pub fn check_all(pool: &[Const], start: u64, end: u64) -> Result<(), ClassFault>
 fn check_index(pool: &[Const], kind: Kind, index: u16, at: u64) -> Result<(), ClassFault>
     ensures { Answers ClassFault.Memory result (index_checked pool.now kind index at) }
 {
-    if names(kind, pool, index) {
-        Ok(())
-    } else {
-        Err(ClassFault::Index { at })
+    if !names(kind, pool, index) {
+        return Err(ClassFault::Index { at });
     }
+    Ok(())
 }
 
 /// Whether two indices after a tag name constants of their kinds.

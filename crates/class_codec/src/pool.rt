@@ -7,7 +7,7 @@ use crate::tree::Const;
 use mon_base::Bytes;
 
 /// What an index may have to name.
-#[derive(Clone, Copy, Debug, PartialEq, Eq)]
+#[derive(Clone, Copy, PartialEq, Eq)]
 pub enum Kind {
     Utf8,
     Class,
@@ -84,7 +84,7 @@ pub fn name_and_type_at(pool: &[Const], index: u16) -> Option<(&Bytes, &Bytes)>
 }
 
 /// A field or a method that a constant refers to.
-#[derive(Clone, Copy, Debug)]
+#[derive(Clone, Copy)]
 pub struct Reference<'a> {
     pub class: &'a Bytes,
     pub name: &'a Bytes,

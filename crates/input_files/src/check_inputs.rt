@@ -16,7 +16,7 @@ use mon_store::Store;
 use std::alloc::Global;
 
 /// What the files of a check are.
-#[derive(Debug, Drop)]
+#[derive(Drop)]
 pub struct CheckInputs {
     pub listing: Listing,
     pub policy: PolicyTree,

@@ -14,7 +14,7 @@ use mon_store::Store;
 use std::alloc::Global;
 
 /// What the files of which a program is woven are.
-#[derive(Debug, Drop)]
+#[derive(Drop)]
 pub struct InlineInputs {
     pub listing: Listing,
     pub policy: PolicyTree,

@@ -25,7 +25,7 @@ use mon_store::Store;
 use std::alloc::Global;
 
 /// Class files, and how many bytes their texts have in all.
-#[derive(Debug, Drop, PartialEq, Eq)]
+#[derive(Drop, PartialEq, Eq)]
 pub struct ReadClasses {
     pub files: List<ClassFile>,
     pub total: u64,

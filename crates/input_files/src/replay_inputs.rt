@@ -14,7 +14,7 @@ use mon_store::Store;
 use std::alloc::Global;
 
 /// What the files of a program and of a run of it are.
-#[derive(Debug, Drop)]
+#[derive(Drop)]
 pub struct ReplayInputs {
     pub listing: Listing,
     pub recorded: Record,

@@ -15,7 +15,7 @@ use mon_store::Store;
 use std::alloc::Global;
 
 /// What the files that are shown are.
-#[derive(Debug, Drop)]
+#[derive(Drop)]
 pub struct ShowInputs {
     pub listing: Listing,
     pub classes: ReadClasses,

@@ -1,0 +1,8 @@
+use Rattle.std.proofs.Common.{arith}
+use Rattle.std.proofs.lemmas.Grind.{common_steps}
+use Rattle.class_codec.specs.Reading.{taken_at}
+use Rattle.class_codec.proofs.place.taken.Goals as goal
+
+pub returns-clause-reads : goal.returns-clause-reads
+unfolding taken_at
+returns-clause-reads c = grind (arith, common_steps)
