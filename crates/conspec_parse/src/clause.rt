@@ -175,7 +175,10 @@ pub fn begins_clause(tokens: &[Token]) -> bool
 fn is_assigned(tokens: &[Token]) -> bool
     ensures { result ≡ is_assigned tokens.now }
 {
-    is_name(tokens) && is_next("=", rest_of(tokens))
+    if !is_name(tokens) {
+        return false;
+    }
+    is_next("=", rest_of(tokens))
 }
 
 /// The name of a result, and the tokens behind `=`.
@@ -218,10 +221,10 @@ fn result_name_at<'a>(
 {
     if is_after(phase) && is_assigned(tokens) {
         let (name, rest) = given_result_at(vars, kind, tokens)?;
-        Ok((Some(Bytes::from_slice(alloc, name)?), rest))
-    } else {
-        Ok((None, tokens))
+        let name = Bytes::from_slice(alloc, name)?;
+        return Ok((Some(name), rest));
     }
+    Ok((None, tokens))
 }
 
 /// At a call the arguments may be asked.
@@ -264,13 +267,10 @@ fn clause_at<'a>(
             at: front_at(tokens),
         });
     }
-    let phase = match next_phase(tokens) {
-        Some(phase) => phase,
-        None => {
-            return Err(PolicyFault::Syntax {
-                at: front_at(tokens),
-            });
-        }
+    let Some(phase) = next_phase(tokens) else {
+        return Err(PolicyFault::Syntax {
+            at: front_at(tokens),
+        });
     };
     let (returned, left) = type_at(alloc, true, rest_of(tokens))?;
     let (name, left) = result_name_at(alloc, vars, phase, returned.kind, left)?;

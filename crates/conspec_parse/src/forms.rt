@@ -11,37 +11,36 @@ use conspec_tokens::{Token, front_at, is_next, next_name, next_number, rest_of};
 pub fn behind<'a>(text: &str, tokens: &'a [Token]) -> Result<&'a [Token], PolicyFault>
     ensures { AnswersAs PolicyFault.Memory (λ r. r.now) result (behind text.now tokens.now) }
 {
-    if is_next(text, tokens) {
-        Ok(rest_of(tokens))
-    } else {
-        Err(PolicyFault::Syntax {
+    if !is_next(text, tokens) {
+        return Err(PolicyFault::Syntax {
             at: front_at(tokens),
-        })
+        });
     }
+    Ok(rest_of(tokens))
 }
 
 /// The name that has to stand first, and the tokens behind it.
 pub fn name_at(tokens: &[Token]) -> Result<(&[u8], &[Token]), PolicyFault>
     ensures { AnswersAs PolicyFault.Memory (λ r. (r.0.now, r.1.now)) result (name_at tokens.now) }
 {
-    match next_name(tokens) {
-        Some(name) => Ok((name, rest_of(tokens))),
-        None => Err(PolicyFault::Syntax {
+    let Some(name) = next_name(tokens) else {
+        return Err(PolicyFault::Syntax {
             at: front_at(tokens),
-        }),
-    }
+        });
+    };
+    Ok((name, rest_of(tokens)))
 }
 
 /// The number that has to stand first, and the tokens behind it.
 pub fn number_at(tokens: &[Token]) -> Result<(u64, &[Token]), PolicyFault>
     ensures { AnswersAs PolicyFault.Memory (λ r. (r.0, r.1.now)) result (number_at tokens.now) }
 {
-    match next_number(tokens) {
-        Some(number) => Ok((number, rest_of(tokens))),
-        None => Err(PolicyFault::Syntax {
+    let Some(number) = next_number(tokens) else {
+        return Err(PolicyFault::Syntax {
             at: front_at(tokens),
-        }),
-    }
+        });
+    };
+    Ok((number, rest_of(tokens)))
 }
 
 /// At most 64 bytes are not too many for a name.

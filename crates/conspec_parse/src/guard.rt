@@ -135,13 +135,10 @@ fn atom_at<'a>(
     ensures room { IfOk result (λ r. IsTrue room) }
 {
     let (name, compared) = name_at(tokens)?;
-    let (base, kind) = match names.base_named(name) {
-        Some(found) => found,
-        None => {
-            return Err(PolicyFault::Name {
-                at: front_at(tokens),
-            });
-        }
+    let Some((base, kind)) = names.base_named(name) else {
+        return Err(PolicyFault::Name {
+            at: front_at(tokens),
+        });
     };
     if is_object(kind) {
         return Err(PolicyFault::Kind {
@@ -175,7 +172,8 @@ fn next_atom<'a>(
     ensures { AnswersAs PolicyFault.Memory (λ r. (r.0, r.1.now)) result (next_atom names.now atoms tokens.now) }
 {
     let room = atoms.len() < 16;
-    let (atom, rest) = atom_at(names, room, behind("&&", tokens)?)?;
+    let left = behind("&&", tokens)?;
+    let (atom, rest) = atom_at(names, room, left)?;
     let mut atoms = atoms;
     atoms.push(atom)?;
     Ok((atoms, rest))
@@ -217,7 +215,8 @@ fn no_atoms(
             at: front_at(tokens),
         });
     }
-    Ok((List::new(alloc), rest_of(tokens)))
+    let none = List::new(alloc);
+    Ok((none, rest_of(tokens)))
 }
 
 #[tactic(auto, unfolding(crate::specs::Guards::atoms_at))]
@@ -269,7 +268,8 @@ fn next_conj<'a>(
     ensures within { IfOk result (λ r. before + length r.0 ≤ 64) }
 {
     let room = before + conjs.len() < 64;
-    let (conj, rest) = conj_at(alloc, names, room, behind("||", tokens)?)?;
+    let left = behind("||", tokens)?;
+    let (conj, rest) = conj_at(alloc, names, room, left)?;
     let mut conjs = conjs;
     conjs.push(conj)?;
     Ok((conjs, rest))

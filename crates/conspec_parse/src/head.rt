@@ -111,11 +111,13 @@ fn variable_at<'a>(
         });
     }
     let is_bool = is_next("bool", tokens);
-    let (first, end) = first_at(maxint, is_bool, behind("=", equals)?)?;
+    let value = behind("=", equals)?;
+    let (first, end) = first_at(maxint, is_bool, value)?;
     let rest = behind(";", end)?;
+    let name = Bytes::from_slice(alloc, name)?;
     let mut vars = vars;
     vars.push(Var {
-        name: Bytes::from_slice(alloc, name)?,
+        name,
         is_bool,
         first,
     })?;

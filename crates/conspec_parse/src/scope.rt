@@ -10,7 +10,7 @@ use std::marker::Model;
 
 /// The names of a clause: the variables, the parameters that may be asked, and the result's name, where it has one,
 /// with its kind.
-#[derive(Debug, Drop)]
+#[derive(Drop)]
 pub struct Names<'a> {
     pub vars: &'a [Var],
     pub args: &'a [Param],

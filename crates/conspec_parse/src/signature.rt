@@ -30,7 +30,7 @@ use mon_base::{Bytes, List, NoMemory};
 use std::alloc::Global;
 
 /// A parameter: its name, where it has one, its descriptor and its kind.
-#[derive(Debug, Drop)]
+#[derive(Drop)]
 pub struct Param {
     pub name: Option<Bytes>,
     pub desc: Bytes,
@@ -38,7 +38,7 @@ pub struct Param {
 }
 
 /// A method's class, with `/` between its parts, and its name.
-#[derive(Debug, Drop)]
+#[derive(Drop)]
 pub struct Path {
     pub class: Bytes,
     pub name: Bytes,
@@ -46,7 +46,7 @@ pub struct Path {
 
 /// The parts of a path so far: the last, whether this is `<init>`, below which nothing stands, and those before it,
 /// with `/` between, where there are any.
-#[derive(Debug, Drop)]
+#[derive(Drop)]
 pub struct Parts {
     pub class: Option<Bytes>,
     pub name: Bytes,
@@ -54,7 +54,7 @@ pub struct Parts {
 }
 
 /// A method as a clause names it.
-#[derive(Debug, Drop)]
+#[derive(Drop)]
 pub struct Signature {
     pub path: Path,
     pub params: List<Param>,
@@ -121,12 +121,12 @@ fn parameter_name_at<'a>(
 ) -> Result<(Option<Bytes>, &'a [Token]), PolicyFault>
     ensures { AnswersAs PolicyFault.Memory (λ r. (r.0, r.1.now)) result (parameter_name_at judged vars.now params.now tokens.now) }
 {
-    if is_name(tokens) {
-        let (name, rest) = given_name_at(judged, vars, params, tokens)?;
-        Ok((Some(Bytes::from_slice(alloc, name)?), rest))
-    } else {
-        Ok((None, tokens))
+    if !is_name(tokens) {
+        return Ok((None, tokens));
     }
+    let (name, rest) = given_name_at(judged, vars, params, tokens)?;
+    let name = Bytes::from_slice(alloc, name)?;
+    Ok((Some(name), rest))
 }
 
 /// The parameters and, behind them, the one that stands first.
@@ -222,26 +222,25 @@ fn part_at(alloc: Global, judged: bool, tokens: &[Token]) -> Result<(Bytes, &[To
     ensures { AnswersAs PolicyFault.Memory (λ r. (r.0, r.1.now)) result (part_at judged tokens.now) }
 {
     if is_next("<init>", tokens) {
-        Ok((Bytes::from_slice(alloc, b"<init>")?, rest_of(tokens)))
-    } else {
-        let (name, rest) = judged_name(judged, tokens)?;
-        Ok((Bytes::from_slice(alloc, name)?, rest))
+        let name = Bytes::from_slice(alloc, b"<init>")?;
+        return Ok((name, rest_of(tokens)));
     }
+    let (name, rest) = judged_name(judged, tokens)?;
+    let name = Bytes::from_slice(alloc, name)?;
+    Ok((name, rest))
 }
 
 fn class_under(parts: Parts) -> Result<Bytes, NoMemory>
     ensures { IfOk result (λ class. class ≡ class_under parts.class parts.name) }
 {
     let Parts { class, name, .. } = parts;
-    match class {
-        None => Ok(name),
-        Some(class) => {
-            let mut class = class;
-            class.push(b'/')?;
-            class.extend(name.as_slice())?;
-            Ok(class)
-        }
-    }
+    let Some(class) = class else {
+        return Ok(name);
+    };
+    let mut class = class;
+    class.push(b'/')?;
+    class.extend(name.as_slice())?;
+    Ok(class)
 }
 
 /// The parts so far, and below them the one behind the dot. Nothing stands below a constructor.
@@ -299,9 +298,10 @@ fn path_at(alloc: Global, judged: bool, tokens: &[Token]) -> Result<(Path, &[Tok
     ensures { AnswersAs PolicyFault.Memory (λ r. (r.0, r.1.now)) result (path_at judged tokens.now) }
 {
     let (name, left) = judged_name(judged, tokens)?;
+    let name = Bytes::from_slice(alloc, name)?;
     let first = Parts {
         class: None,
-        name: Bytes::from_slice(alloc, name)?,
+        name,
         is_last: false,
     };
     let (Parts { class, name, .. }, rest) = path_from(alloc, judged, first, left)?;

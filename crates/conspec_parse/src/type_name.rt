@@ -26,7 +26,7 @@ use std::alloc::Global;
 
 /// A type, by its descriptor and by its kind: `void` alone has none. (The Java Virtual Machine Specification, section
 /// 4.3.)
-#[derive(Debug, Drop)]
+#[derive(Drop)]
 pub struct TypeName {
     pub desc: Bytes,
     pub kind: Option<Kind>,
@@ -49,10 +49,8 @@ pub fn judged_name(judged: bool, tokens: &[Token]) -> Result<(&[u8], &[Token]), 
 fn type_named(alloc: Global, desc: &str, kind: Option<Kind>) -> Result<TypeName, NoMemory>
     ensures { IfOk result (λ t. t ≡ type_named desc.now kind) }
 {
-    Ok(TypeName {
-        desc: Bytes::from_slice(alloc, desc.as_bytes())?,
-        kind,
-    })
+    let desc = Bytes::from_slice(alloc, desc.as_bytes())?;
+    Ok(TypeName { desc, kind })
 }
 
 /// The type that the first token is, where it is a keyword.
@@ -98,7 +96,8 @@ fn class_at(alloc: Global, judged: bool, tokens: &[Token]) -> Result<(Bytes, &[T
     ensures { AnswersAs PolicyFault.Memory (λ r. (r.0, r.1.now)) result (class_at judged tokens.now) }
 {
     let (first, rest) = judged_name(judged, tokens)?;
-    class_from(judged, Bytes::from_slice(alloc, first)?, rest)
+    let first = Bytes::from_slice(alloc, first)?;
+    class_from(judged, first, rest)
 }
 
 fn class_from<'a>(
@@ -164,7 +163,8 @@ fn dimension_at<'a>(
 ) -> Result<(Bytes, &'a [Token]), PolicyFault>
     ensures { AnswersAs PolicyFault.Memory (λ r. (r.0, r.1.now)) result (dimension_at brackets tokens.now) }
 {
-    let rest = behind("]", behind("[", tokens)?)?;
+    let opened = behind("[", tokens)?;
+    let rest = behind("]", opened)?;
     let mut brackets = brackets;
     brackets.push(b'[')?;
     Ok((brackets, rest))
@@ -214,5 +214,6 @@ pub fn type_at(
 {
     let (element, left) = element_at(alloc, judged, tokens)?;
     let (brackets, rest) = dimensions_from(Bytes::new(alloc), left)?;
-    Ok((array_of(brackets, element)?, rest))
+    let named = array_of(brackets, element)?;
+    Ok((named, rest))
 }

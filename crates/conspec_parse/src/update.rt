@@ -44,12 +44,12 @@ fn next_sign(tokens: &[Token]) -> Option<bool>
     ensures { result ≡ next_sign tokens.now }
 {
     if is_next("+", tokens) {
-        Some(false)
-    } else if is_next("-", tokens) {
-        Some(true)
-    } else {
-        None
+        return Some(false);
     }
+    if is_next("-", tokens) {
+        return Some(true);
+    }
+    None
 }
 
 /// Whether the sign that has to stand first is `-`, and the tokens behind it.
@@ -143,13 +143,10 @@ fn update_at<'a>(
     ensures { AnswersAs PolicyFault.Memory (λ r. (r.0, r.1.now)) result (update_at vars.now maxint atoms updates tokens.now) }
 {
     let (name, equals) = name_at(tokens)?;
-    let var = match variable_named(vars, name) {
-        Some(var) => var,
-        None => {
-            return Err(PolicyFault::Name {
-                at: front_at(tokens),
-            });
-        }
+    let Some(var) = variable_named(vars, name) else {
+        return Err(PolicyFault::Name {
+            at: front_at(tokens),
+        });
     };
     if is_updated(updates.as_slice(), var.0) {
         return Err(PolicyFault::Twice {
