@@ -14,10 +14,13 @@ impl Program {
     pub fn copy(&self, alloc: Global) -> Result<Program, NoMemory>
         ensures { IfOk result (λ copy. copy ≡ self.now) }
     {
+        let classes = copy_list(alloc, &self.classes)?;
+        let listing = copy_listing(alloc, &self.listing)?;
+        let literals = copy_texts(alloc, self.literals.as_slice())?;
         Ok(Program {
-            classes: copy_list(alloc, &self.classes)?,
-            listing: copy_listing(alloc, &self.listing)?,
-            literals: copy_texts(alloc, self.literals.as_slice())?,
+            classes,
+            listing,
+            literals,
             main_class: self.main_class,
             main_method: self.main_method,
         })
@@ -26,26 +29,35 @@ impl Program {
 
 impl Copied for LinkedClass {
     fn copy(&self, alloc: Global) -> Result<LinkedClass, NoMemory> {
+        let name = self.name.copy(alloc)?;
+        let parent = self.parent.copy(alloc)?;
+        let file = self.file.copy(alloc)?;
+        let methods = copy_list(alloc, &self.methods)?;
         Ok(LinkedClass {
-            name: self.name.copy(alloc)?,
-            parent: self.parent.copy(alloc)?,
-            file: self.file.copy(alloc)?,
-            methods: copy_list(alloc, &self.methods)?,
+            name,
+            parent,
+            file,
+            methods,
         })
     }
 }
 
 impl Copied for Method {
     fn copy(&self, alloc: Global) -> Result<Method, NoMemory> {
+        let name = self.name.copy(alloc)?;
+        let desc = self.desc.copy(alloc)?;
+        let insns = copy_insns(alloc, self.insns.as_slice())?;
+        let refs = copy_list(alloc, &self.refs)?;
+        let handlers = self.handlers.copy(alloc)?;
         Ok(Method {
             flags: self.flags,
-            name: self.name.copy(alloc)?,
-            desc: self.desc.copy(alloc)?,
+            name,
+            desc,
             max_stack: self.max_stack,
             max_locals: self.max_locals,
-            insns: copy_insns(alloc, self.insns.as_slice())?,
-            refs: copy_list(alloc, &self.refs)?,
-            handlers: self.handlers.copy(alloc)?,
+            insns,
+            refs,
+            handlers,
         })
     }
 }
@@ -75,7 +87,8 @@ fn copy_insns(alloc: Global, insns: &[Insn]) -> Result<List<Insn>, NoMemory>
 {
     let mut copy = List::new(alloc);
     for insn in insns {
-        copy.push(copy_insn(alloc, insn)?)?;
+        let one = copy_insn(alloc, insn)?;
+        copy.push(one)?;
     }
     Ok(copy)
 }
@@ -135,7 +148,8 @@ fn copy_targets(alloc: Global, targets: &[u32]) -> Result<BoxedList<u32>, NoMemo
     ensures { IfOk result (λ copy. copy ≡ targets.now) }
 {
     let items = Vec::from_slice(alloc, targets)?;
-    BoxedList::new(alloc, List::from_vec(items))
+    let list = List::from_vec(items);
+    BoxedList::new(alloc, list)
 }
 
 /// The keys of a `lookupswitch` again.
@@ -143,7 +157,8 @@ pub fn copy_keys(alloc: Global, keys: &[i32]) -> Result<BoxedList<i32>, NoMemory
     ensures { IfOk result (λ copy. copy ≡ keys.now) }
 {
     let items = Vec::from_slice(alloc, keys)?;
-    BoxedList::new(alloc, List::from_vec(items))
+    let list = List::from_vec(items);
+    BoxedList::new(alloc, list)
 }
 
 fn copy_listing(alloc: Global, listing: &Listing) -> Result<Listing, NoMemory>
@@ -162,7 +177,8 @@ pub fn copy_classes(alloc: Global, classes: &[ListedClass]) -> Result<List<Liste
 {
     let mut copy = List::new(alloc);
     for class in classes {
-        copy.push(class.copy(alloc)?)?;
+        let one = class.copy(alloc)?;
+        copy.push(one)?;
     }
     Ok(copy)
 }
@@ -172,7 +188,8 @@ fn copy_methods(alloc: Global, methods: &[ListedMethod]) -> Result<List<ListedMe
 {
     let mut copy = List::new(alloc);
     for method in methods {
-        copy.push(method.copy(alloc)?)?;
+        let one = method.copy(alloc)?;
+        copy.push(one)?;
     }
     Ok(copy)
 }
@@ -182,7 +199,8 @@ fn copy_ids(alloc: Global, ids: &[MethodId]) -> Result<List<MethodId>, NoMemory>
 {
     let mut copy = List::new(alloc);
     for id in ids {
-        copy.push(id.copy(alloc)?)?;
+        let one = id.copy(alloc)?;
+        copy.push(one)?;
     }
     Ok(copy)
 }
@@ -192,7 +210,8 @@ fn copy_texts(alloc: Global, texts: &[Bytes]) -> Result<List<Bytes>, NoMemory>
 {
     let mut copy = List::new(alloc);
     for text in texts {
-        copy.push(text.copy(alloc)?)?;
+        let one = text.copy(alloc)?;
+        copy.push(one)?;
     }
     Ok(copy)
 }

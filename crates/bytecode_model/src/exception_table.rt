@@ -18,7 +18,7 @@ const SPAN: usize = 64;
 
 /// The exception table of a method. For each span of instructions it keeps the places of the handlers that cover one of
 /// them. A contract sees the list of all handlers.
-#[derive(Debug, Drop)]
+#[derive(Drop)]
 pub struct Handlers {
     list: List<Handler>,
     spans: Vec<List<u32>>,
@@ -130,10 +130,10 @@ fn first_at<'a>(table: &'a [Handler], places: &'a [u32]) -> (Option<&'a Handler>
 fn places_near(spans: &[List<u32>], at: u32) -> &[u32]
     ensures { result.now ≡ places_near spans.now at }
 {
-    match spans.get(at as usize / SPAN) {
-        Some(places) => places.as_slice(),
-        None => &[],
-    }
+    let Some(places) = spans.get(at as usize / SPAN) else {
+        return &[];
+    };
+    places.as_slice()
 }
 
 /// For each span of instructions the places of the handlers that cover one of them.
@@ -182,7 +182,8 @@ fn lengthen(alloc: Global, spans: &mut Vec<List<u32>>, count: usize) -> Result<(
     ensures count { OnOk result (count ≤ vec_len spans.new) }
 {
     while spans.len() < count {
-        spans.push(List::new(alloc))?;
+        let span = List::new(alloc);
+        spans.push(span)?;
     }
     Ok(())
 }

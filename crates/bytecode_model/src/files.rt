@@ -14,7 +14,8 @@ pub fn unlink(alloc: Global, program: &Program) -> Result<List<ClassFile>, NoMem
 {
     let mut files = List::new(alloc);
     for class in program.classes.as_slice() {
-        files.push(class.file.copy(alloc)?)?;
+        let file = class.file.copy(alloc)?;
+        files.push(file)?;
     }
     Ok(files)
 }

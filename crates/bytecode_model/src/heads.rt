@@ -29,7 +29,8 @@ fn class_names(alloc: Global, pool: &[Const], indices: &[u16]) -> Result<List<By
 {
     let mut names = List::new(alloc);
     for index in indices {
-        names.push(copy_class(alloc, pool, *index)?)?;
+        let name = copy_class(alloc, pool, *index)?;
+        names.push(name)?;
     }
     Ok(names)
 }

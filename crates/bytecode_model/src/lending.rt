@@ -2,6 +2,7 @@
 
 ghost use Rattle.std.specs.Prelude.{◌≡◌, IfOk};
 ghost use Rattle.bytecode_model.specs.Lending.{type_lent};
+ghost use Rattle.bytecode_model.specs.Arrays.{array_of};
 
 use crate::arrays::push_described;
 use cert_format::{Name, VType};
@@ -41,19 +42,25 @@ pub fn lend(of: &VType) -> TypeRef<'_>
 pub fn own(alloc: Global, lent: TypeRef) -> Result<VType, NoMemory>
     ensures { IfOk result (λ t. t ≡ type_lent lent.entry) }
 {
-    match lent {
-        TypeRef::Top => Ok(VType::Top),
-        TypeRef::Int => Ok(VType::Int),
-        TypeRef::Null => Ok(VType::Null),
-        TypeRef::Ref(name) => Ok(VType::Ref(Name::from_slice(alloc, name)?)),
-        TypeRef::Shared(name) => Ok(VType::Ref(name.share()?)),
-        TypeRef::ArrayOf(item) => {
-            let mut name = Bytes::new(alloc);
-            name.push(b'[')?;
-            push_described(&mut name, item)?;
-            Ok(VType::Ref(Name::from_bytes(alloc, name)?))
-        }
-        TypeRef::UninitThis => Ok(VType::UninitThis),
-        TypeRef::Uninit(at) => Ok(VType::Uninit(at)),
-    }
+    let name = match lent {
+        TypeRef::Top => return Ok(VType::Top),
+        TypeRef::Int => return Ok(VType::Int),
+        TypeRef::Null => return Ok(VType::Null),
+        TypeRef::Ref(name) => Name::from_slice(alloc, name)?,
+        TypeRef::Shared(name) => name.share()?,
+        TypeRef::ArrayOf(item) => array_of(alloc, item)?,
+        TypeRef::UninitThis => return Ok(VType::UninitThis),
+        TypeRef::Uninit(at) => return Ok(VType::Uninit(at)),
+    };
+    Ok(VType::Ref(name))
+}
+
+/// The name of the arrays of items of this class, or of this array type.
+fn array_of(alloc: Global, item: &[u8]) -> Result<Name, NoMemory>
+    ensures { IfOk result (λ name. name ≡ array_of item.now) }
+{
+    let mut name = Bytes::new(alloc);
+    name.push(b'[')?;
+    push_described(&mut name, item)?;
+    Name::from_bytes(alloc, name)
 }

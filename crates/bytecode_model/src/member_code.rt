@@ -25,21 +25,12 @@ fn count_codes(attrs: &[Attr]) -> usize
     let mut count = 0;
     let mut left = attrs;
     while let [attr, rest @ ..] = left {
-        if code_in(attr).is_some() {
+        if let Attr::Code(_) = attr {
             count += 1;
         }
         left = rest;
     }
     count
-}
-
-fn code_in(attr: &Attr) -> Option<&Code>
-    ensures { option_copied result ≡ code_in attr.now }
-{
-    match attr {
-        Attr::Code(code) => Some(code),
-        Attr::Other(_) => None,
-    }
 }
 
 /// The first code of a method.

@@ -19,15 +19,16 @@ impl Found {
     pub fn copy(&self, alloc: Global) -> Result<Found, NoMemory>
         ensures { IfOk result (λ found. found ≡ self.now) }
     {
+        let target = self.target.copy(alloc)?;
         Ok(Found {
-            target: self.target.copy(alloc)?,
+            target,
             is_static: self.is_static,
         })
     }
 }
 
 /// Which members of a class are meant.
-#[derive(Clone, Copy, Debug, PartialEq, Eq)]
+#[derive(Clone, Copy, PartialEq, Eq)]
 pub enum MemberKind {
     Method,
     Field,

@@ -9,10 +9,10 @@ use mon_base::List;
 pub fn list_at<T>(lists: &[List<T>], index: usize) -> &[T]
     ensures { result.now ≡ list_at lists.now index }
 {
-    match lists.get(index) {
-        Some(list) => list.as_slice(),
-        None => &[],
-    }
+    let Some(list) = lists.get(index) else {
+        return &[];
+    };
+    list.as_slice()
 }
 
 /// The lists behind the first.

@@ -10,7 +10,7 @@ use insn_codec::opcodes::{
 };
 
 /// How an instruction uses a constant.
-#[derive(Clone, Copy, Debug, PartialEq, Eq)]
+#[derive(Clone, Copy, PartialEq, Eq)]
 pub enum Use {
     /// It names none.
     Nothing,

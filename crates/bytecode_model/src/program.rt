@@ -8,7 +8,7 @@ use mon_base::{Bytes, List, NoMemory};
 use std::alloc::Global;
 
 /// Whether the files come from a compiler, or were written by this tool.
-#[derive(Clone, Copy, Debug, PartialEq, Eq)]
+#[derive(Clone, Copy, PartialEq, Eq)]
 pub enum Side {
     Original,
     Inlined,
@@ -16,7 +16,7 @@ pub enum Side {
 
 /// An entry of an exception table, by indices of instructions: the first that is covered, the first behind those
 /// that are, and the handler. `class` is what is caught, or `None` for anything.
-#[derive(Debug, Drop, PartialEq, Eq)]
+#[derive(Drop, PartialEq, Eq)]
 pub struct Handler {
     pub from: u32,
     pub to: u32,
@@ -62,7 +62,10 @@ impl Copied for Target {
                 field: *field,
             }),
             Target::ApiField(index) => Ok(Target::ApiField(*index)),
-            Target::ClassName(name) => Ok(Target::ClassName(name.copy(alloc)?)),
+            Target::ClassName(name) => {
+                let name = name.copy(alloc)?;
+                Ok(Target::ClassName(name))
+            }
             Target::Number(n) => Ok(Target::Number(*n)),
             Target::Literal(index) => Ok(Target::Literal(*index)),
         }
@@ -70,7 +73,7 @@ impl Copied for Target {
 }
 
 /// A method of a given class. One without code has no instructions, and sizes of 0.
-#[derive(Debug, Drop)]
+#[derive(Drop)]
 pub struct Method {
     pub flags: u16,
     pub name: Bytes,

@@ -53,16 +53,15 @@ pub fn copy_class(alloc: Global, pool: &[Const], index: u16) -> Result<Bytes, No
 pub fn id_at(alloc: Global, pool: &[Const], class: u16, member: u16) -> Result<MethodId, NoMemory>
     ensures { IfOk result (λ id. id ≡ id_at pool.now class member) }
 {
-    match name_and_type_at(pool, member) {
-        Some((name, desc)) => Ok(MethodId {
-            class: copy_class(alloc, pool, class)?,
-            name: name.copy(alloc)?,
-            desc: desc.copy(alloc)?,
-        }),
-        None => Ok(MethodId {
-            class: copy_class(alloc, pool, class)?,
+    let class = copy_class(alloc, pool, class)?;
+    let Some((name, desc)) = name_and_type_at(pool, member) else {
+        return Ok(MethodId {
+            class,
             name: Bytes::new(alloc),
             desc: Bytes::new(alloc),
-        }),
-    }
+        });
+    };
+    let name = name.copy(alloc)?;
+    let desc = desc.copy(alloc)?;
+    Ok(MethodId { class, name, desc })
 }
