@@ -1,6 +1,7 @@
 pub mod ByName
 pub mod Climbing
 pub mod Codes
+pub mod CopiedItems
 pub mod Ending
 pub mod ListedMethods
 pub mod Lists

@@ -3,4 +3,4 @@ use Rattle.bytecode_model.specs.declared.program.LinkedClass.{LinkedClass}
 use Rattle.bytecode_model.proofs.files.unlink.Given as goal
 
 abbrev pub invariant-loop-class : goal.invariant-loop-class
-invariant-loop-class l = l.files ≡ map (λ (c : LinkedClass). c.file) (take l.class-index l.program.classes)
+invariant-loop-class l = l.files ≡ map (λ (c : LinkedClass). c.file) (take l.class-index l.class-items)
