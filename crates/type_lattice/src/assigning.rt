@@ -110,13 +110,15 @@ fn class_fits(program: &Indexed, from: &[u8], to: &[u8]) -> bool
 fn array_fits(program: &Indexed, from: &[u8], to: &[u8]) -> bool
     ensures { result ≡ array_fits program.now from.now to.now }
 {
-    are_fitting(program, arrays_compared(from, to))
+    let compared = arrays_compared(from, to);
+    are_fitting(program, compared)
 }
 
 fn component_fits(program: &Indexed, from: &[u8], to: &[u8]) -> bool
     ensures { result ≡ component_fits program.now from.now to.now }
 {
-    are_fitting(program, components_compared(from, to))
+    let compared = components_compared(from, to);
+    are_fitting(program, compared)
 }
 
 /// Whether the one of two components that are compared fits the other.

@@ -28,7 +28,8 @@ fn push_heads(
     ensures { OnOk result (out.new ≡ out.old ++ map (λ (c : LinkedClass). head_of c.file) classes.now) }
 {
     for class in classes {
-        out.push(head_of(alloc, &class.file)?)?;
+        let head = head_of(alloc, &class.file)?;
+        out.push(head)?;
     }
     Ok(())
 }

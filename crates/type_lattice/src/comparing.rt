@@ -62,19 +62,16 @@ fn leaves_compared<'a>(from: &'a [u8], to: &'a [u8]) -> Compared<'a>
 pub fn both_within<'a>(a: &'a [u8], b: &'a [u8]) -> Option<(&'a [u8], &'a [u8])>
     ensures { option_map (λ r. (r.0.now, r.1.now)) result ≡ both_within a.now b.now }
 {
-    match a {
-        [] => None,
-        [c, x @ ..] => {
-            match b {
-                [] => None,
-                [d, y @ ..] => if *c == b'[' && *d == b'[' {
-                    Some((x, y))
-                } else {
-                    None
-                },
-            }
-        }
+    let [c, x @ ..] = a else {
+        return None;
+    };
+    let [d, y @ ..] = b else {
+        return None;
+    };
+    if *c == b'[' && *d == b'[' {
+        return Some((x, y));
     }
+    None
 }
 
 /// The name of the class or array that a component is, if it is one.
@@ -92,7 +89,10 @@ pub fn reference_of<'a>(component: &'a [u8]) -> Option<&'a [u8]>
 fn class_name<'a>(name: &'a [u8]) -> Option<&'a [u8]>
     ensures { option_copied result ≡ class_name name.now }
 {
-    if is_array(name) { None } else { Some(name) }
+    if is_array(name) {
+        return None;
+    }
+    Some(name)
 }
 
 /// The name in a component `Lname;`. A class is not named as an array is.

@@ -94,10 +94,9 @@ impl Ways {
             return None;
         };
         if kept.steps <= most {
-            Some((kept.jump, kept.steps))
-        } else {
-            Some((parent, 1))
+            return Some((kept.jump, kept.steps));
         }
+        Some((parent, 1))
     }
 
     /// Whether the other place is on the way.
@@ -143,8 +142,12 @@ impl Ways {
     {
         let low = self.kept(a);
         let high = self.kept(b);
-        let above = low.parent?;
-        let beyond = high.parent?;
+        let Some(above) = low.parent else {
+            return None;
+        };
+        let Some(beyond) = high.parent else {
+            return None;
+        };
         if low.steps == high.steps && low.jump != high.jump {
             return Some((low.jump, high.jump));
         }

@@ -13,7 +13,7 @@ returns-then-low-high-2 c =
       gone = c.kept-low.result.steps;
       one = low.jump;
       other = other;
-      some = low.moves c.in_ok-above.above (sym c.kept-low.ensures.parent ∙ c.in_ok-above.was);
+      some = low.moves c.in-Some.above (sym c.kept-low.ensures.parent ∙ c.in-Some.is);
       apart = λ k x less e f. c.if-low-high-2.true (together ps c.kept-low.ensures.parents c.args.a c.args.b c.kept-low.result.steps k x _ _ less e f low.jump other);
     }
 
@@ -23,8 +23,8 @@ returns c =
     let parents = c.kept-low.ensures.parents in
     record {
       gone = 1;
-      one = next_is ps parents c.args.a c.in_ok-above.above (sym c.kept-low.ensures.parent ∙ c.in_ok-above.was);
-      other = next_is ps parents c.args.b c.in_ok-beyond.beyond (sym c.kept-high.ensures.parent ∙ c.in_ok-beyond.was);
+      one = next_is ps parents c.args.a c.in-Some.above (sym c.kept-low.ensures.parent ∙ c.in-Some.is);
+      other = next_is ps parents c.args.b c.in-Some-parent.beyond (sym c.kept-high.ensures.parent ∙ c.in-Some-parent.is);
       some = omega arith;
       apart = λ k x less e f. c.requires.apart (at_first ps parents c.args.a c.args.b k x less e f);
     }

@@ -18,3 +18,9 @@ returns c =
       parent = sym (parent_kept items c.args.at kept there) ∙ ap (λ (l : List (Option ℕ)). parent_of l c.args.at) c.self.view_is;
       way = subst (λ (l : List (Option ℕ)). IsWay l c.args.at kept) c.self.view_is (c.self.invariant.right c.args.at kept there);
     }
+
+pub index-requires : goal.index-requires
+index-requires c =
+    let size = ap (λ (l : List (Option ℕ)). length l) c.self.view_is in
+    let same = parents-length c.self.inside.items.items in
+    omega arith

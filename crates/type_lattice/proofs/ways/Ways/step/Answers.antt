@@ -3,8 +3,8 @@ use Rattle.type_lattice.specs.Ways.{parent_of}
 use Rattle.type_lattice.proofs.Ascending.{next_is}
 use Rattle.type_lattice.proofs.ways.Ways.step.Goals as goal
 
-pub returns-else-kept-most-clause-leads : goal.returns-else-kept-most-clause-leads
-returns-else-kept-most-clause-leads c =
+pub returns-clause-leads : goal.returns-clause-leads
+returns-clause-leads c =
     let some : parent_of c.args.self.now c.args.at ≡ Some c.in-Some.parent = sym c.kept-kept.ensures.parent ∙ c.in-Some.is in
     record {
       some = omega arith;
