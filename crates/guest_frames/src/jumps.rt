@@ -99,10 +99,10 @@ pub fn are_one(x: Value, y: Value) -> bool
 fn tests(relation: Relation, top: Option<Value>) -> bool
     ensures { result ≡ option_map_or (λ x. relates relation (number_of x) (pos 0)) top false }
 {
-    match top {
-        Some(x) => relates(relation, number_of(x), 0),
-        None => false,
-    }
+    let Some(x) = top else {
+        return false;
+    };
+    relates(relation, number_of(x), 0)
 }
 
 /// Whether the two topmost numbers relate so, the lower first.
@@ -184,10 +184,10 @@ fn in_range(other: u32, low: i32, targets: &[u32], n: i32) -> u32
 fn target_at(other: u32, targets: &[u32], place: usize) -> u32
     ensures { result ≡ option_map_or (λ (to : ℕ). to) (slice_get targets.now place) other }
 {
-    match targets.get(place) {
-        Some(to) => *to,
-        None => other,
-    }
+    let Some(to) = targets.get(place) else {
+        return other;
+    };
+    *to
 }
 
 /// The target of the key that the number is, or the other.

@@ -61,26 +61,33 @@ fn operand(kind: Kind, depth: u8, stack: &Stack) -> Option<Value>
     ensures { result ≡ operand values_moved kind depth stack.now.items }
 {
     let value = stack.get(depth)?;
-    if fits(kind, value) { Some(value) } else { None }
+    if fits(kind, value) {
+        return Some(value);
+    }
+    None
 }
 
 /// The local, where it is one, and of the kind.
 fn local(kind: Kind, slot: u16, locals: &List<Value>) -> Option<Value>
     ensures { result ≡ local values_moved kind slot locals.now }
 {
-    let value = *locals.as_slice().get(slot as usize)?;
-    if fits(kind, value) { Some(value) } else { None }
+    let found = locals.as_slice().get(slot as usize)?;
+    let value = *found;
+    if fits(kind, value) {
+        return Some(value);
+    }
+    None
 }
 
 /// Puts the value on top, where there is room.
 fn push(stack: &mut Stack, value: Value) -> bool
     ensures { Became result stack.old stack.new (with_items stack.old (value ∷ stack.old.items)) }
 {
-    let has_room = stack.len() < stack.size() as usize;
-    if has_room {
+    if stack.len() < stack.size() as usize {
         stack.push(value);
+        return true;
     }
-    has_room
+    false
 }
 
 /// Puts the local on top.
@@ -218,9 +225,10 @@ fn put(top: &[Value], place: u8, stack: &mut Stack)
     requires { length stack.old.items < stack.old.size }
     ensures { stack.new ≡ record { items = cons_option (slice_get top.now place) stack.old.items; size = stack.old.size } }
 {
-    if let Some(value) = top.get(place as usize) {
-        stack.push(*value);
-    }
+    let Some(value) = top.get(place as usize) else {
+        return;
+    };
+    stack.push(*value);
 }
 
 /// Which of the operands that a form takes are put back, the topmost first.

@@ -12,7 +12,7 @@ use std::marker::Model;
 
 /// A method that is running: where it stands, its locals and its operands. (The Java Virtual Machine Specification,
 /// section 2.6.)
-#[derive(Debug, Drop)]
+#[derive(Drop)]
 pub struct Frame {
     /// The index of its class among the given ones.
     pub class: u32,
@@ -27,7 +27,7 @@ pub struct Frame {
 }
 
 /// The frames of a thread. A contract sees them with the top one first.
-#[derive(Debug, Drop)]
+#[derive(Drop)]
 pub struct Frames {
     items: Vec<Frame>,
 }
@@ -89,8 +89,11 @@ impl Frames {
     pub fn caller(&self) -> Option<&Frame>
         ensures { option_copied result ≡ slice_get self.now 1 }
     {
-        let place = self.items.len().checked_sub(2)?;
-        Some(&self.items[place])
+        let count = self.items.len();
+        if count < 2 {
+            return None;
+        }
+        Some(&self.items[count - 2])
     }
 
     /// The frame under the top one, which can be written.

@@ -4,7 +4,7 @@ use crate::value::Value;
 use mon_base::{Bytes, List};
 
 /// An object of the heap. (The Java Virtual Machine Specification, section 2.4.)
-#[derive(Debug, Drop, PartialEq, Eq)]
+#[derive(Drop, PartialEq, Eq)]
 pub enum Object {
     /// An object of a class, with the fields of the class and its superclasses.
     Plain {
@@ -25,7 +25,7 @@ pub enum Object {
 }
 
 /// A monitor that a thread holds, and how many times it entered it.
-#[derive(Clone, Copy, Debug, PartialEq, Eq)]
+#[derive(Clone, Copy, PartialEq, Eq)]
 pub struct Monitor {
     pub on: Value,
     pub owner: u32,

@@ -9,7 +9,7 @@ use std::marker::Model;
 
 /// An operand stack, whose memory is taken when it is made. A contract sees its operands, the top first, and its
 /// size: how many it holds at most. (The Java Virtual Machine Specification, section 2.6.2.)
-#[derive(Debug, Drop)]
+#[derive(Drop)]
 pub struct Stack {
     items: Vec<Value>,
     size: u16,

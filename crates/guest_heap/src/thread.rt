@@ -5,7 +5,7 @@ use crate::value::Value;
 use mon_base::List;
 
 /// What a thread does.
-#[derive(Debug, Drop, PartialEq, Eq)]
+#[derive(Drop, PartialEq, Eq)]
 pub enum Doing {
     Running,
     /// It waits for the answer of the library's method with this index in the listing.
@@ -19,7 +19,7 @@ pub enum Doing {
 }
 
 /// A guest thread.
-#[derive(Debug, Drop)]
+#[derive(Drop)]
 pub struct Thread {
     pub frames: Frames,
     /// The methods, by class and index, that are begun one after the other once the frames are left.

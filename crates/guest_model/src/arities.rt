@@ -15,11 +15,12 @@ pub fn arity(alloc: Global, desc: &[u8]) -> Result<usize, NoMemory>
     ensures is { IfOk result (λ count. count ≡ arity desc.now) }
     ensures few { IfOk result (λ count. count < 2 ^ 8) }
 {
-    match parse_descriptor(alloc, desc) {
-        Ok(types) => Ok(types.arguments.len()),
-        Err(FormFault::NoForm) => Ok(0),
-        Err(FormFault::Memory) => Err(NoMemory),
-    }
+    let types = match parse_descriptor(alloc, desc) {
+        Ok(types) => types,
+        Err(FormFault::NoForm) => return Ok(0),
+        Err(FormFault::Memory) => return Err(NoMemory),
+    };
+    Ok(types.arguments.len())
 }
 
 /// Whether the call has no receiver.

@@ -5,7 +5,7 @@ use guest_heap::{Monitor, Object, Thread, Value};
 use mon_base::List;
 
 /// A state of a guest program.
-#[derive(Debug, Drop)]
+#[derive(Drop)]
 pub struct Machine {
     /// The objects, which are never taken away.
     pub heap: List<Object>,

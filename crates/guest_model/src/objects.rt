@@ -14,11 +14,12 @@ pub const STRING: &[u8] = b"java/lang/String";
 pub fn class_of_object(object: &Object) -> &[u8]
     ensures { result.now ≡ class_of_object object.now }
 {
-    match object {
-        Object::Plain { class, .. } => class.as_slice(),
-        Object::Array { desc, .. } => desc.as_slice(),
-        Object::Text(_) => STRING,
-    }
+    let class = match object {
+        Object::Plain { class, .. } => class,
+        Object::Array { desc, .. } => desc,
+        Object::Text(_) => return STRING,
+    };
+    class.as_slice()
 }
 
 /// The same of a value. A number is no object, and null is none.
