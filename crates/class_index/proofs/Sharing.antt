@@ -143,7 +143,6 @@ module _ (owners : BTreeSet (List ℕ)) (classes : List ListedClass) where
         by q a None false was same e = absurd cc
 
 -- what is said of the list of a place is said of the one that is read there
-pub read_there : (r : Option (Bor (List (List ℕ)))) (found : Option (List (List ℕ))) (P : List (List ℕ) → Type 0) → option_copied r ≡ found → ((names : List (List ℕ)) → found ≡ Some names → P names)
-    → IfSome r (λ names. P names.now)
+pub read_there : {X : Type 0} (r : Option (Bor X)) (found : Option X) (P : X → Type 0) → option_copied r ≡ found → ((x : X) → found ≡ Some x → P x) → IfSome r (λ x. P x.now)
 read_there None found P same told = tt
-read_there (Some names) found P same told = told names.now (sym same)
+read_there (Some x) found P same told = told x.now (sym same)

@@ -13,11 +13,12 @@ use Rattle.api_listing.specs.Seen.{id_cmp, has_id, has_name}
 use Rattle.api_listing.specs.Listing.{has_method}
 use Rattle.bytecode_model.specs.declared.members.Found.{Found}
 use Rattle.class_index.specs.declared.library.Shared.{Shared}
-use Rattle.class_index.specs.declared.near.Near.{Near}
+use Rattle.class_index.specs.declared.nearest.Nearest.{Nearest}
 use Rattle.bytecode_model.specs.Heads.{all_classes}
 use Rattle.bytecode_model.specs.Members.{Declared, methods_declared, fields_declared, first_of, first_found}
 use Rattle.bytecode_model.specs.Operands.{literals_of}
 use Rattle.class_index.specs.Library.{is_owner, AreShared}
+use Rattle.class_index.specs.Nearest.{AreVersions}
 use Rattle.bytecode_model.specs.SearchOrder.{is_one_of}
 use Rattle.bytecode_model.specs.Places.{ClassesPlaced}
 
@@ -43,19 +44,6 @@ pub record AreClasses (places : BTreeMap (Vec ℕ Global) ℕ) (interfaces : ℕ
 abbrev pub NamesSeen : BTreeSet (List ℕ) → List (List ℕ) → Type 0
 NamesSeen seen names = (q : List ℕ) → has_name seen q ≡ is_one_of names q
 
--- ---- references
-
-abbrev pub near_in : BTreeMap MethodId Near → MethodId → Option Near
-near_in near id = get id_cmp near id
-
--- The class or a superclass so many classes up declares it, and none between them.
-abbrev pub FoundAbove : BTreeMap MethodId Found → List ListedClass → MethodId → Near → Type 0
-FoundAbove declared classes id near = first_found (found_in declared) id (names_of (upwards (near.steps + 1) classes id.class)) ≡ Some near.found
-
--- The map has such declarations.
-abbrev pub AreNear : BTreeMap MethodId Near → BTreeMap MethodId Found → List ListedClass → Type 0
-AreNear near declared classes = (q : MethodId) (n : Near) → near_in near q ≡ Some n → FoundAbove declared classes q n
-
 -- ---- the index of files and a listing
 
 -- what an index is made of
@@ -63,12 +51,12 @@ pub record Given : Type 0 where
   pub files : List ClassFile
   pub listing : Listing
 
-pub record IsIndex (files : List ClassFile) (listing : Listing) (classes : List ListedClass) (methods fields : BTreeMap MethodId Found) (near_methods near_fields : BTreeMap MethodId Near) (library : BTreeSet MethodId) (owners : BTreeSet (List ℕ)) (shared : Shared) (literals : List (List ℕ)) : Type 0 where
+pub record IsIndex (files : List ClassFile) (listing : Listing) (classes : List ListedClass) (methods fields : BTreeMap MethodId Found) (near_methods near_fields : Nearest) (library : BTreeSet MethodId) (owners : BTreeSet (List ℕ)) (shared : Shared) (literals : List (List ℕ)) : Type 0 where
   pub all : classes ≡ all_classes listing files
   pub methods_found : AreFirst (methods_declared files listing) methods
   pub fields_found : AreFirst (fields_declared files listing) fields
-  pub methods_near : AreNear near_methods methods classes
-  pub fields_near : AreNear near_fields fields classes
+  pub methods_near : AreVersions (found_in methods) near_methods.numbers classes near_methods.versions
+  pub fields_near : AreVersions (found_in fields) near_fields.numbers classes near_fields.versions
   pub listed : (q : MethodId) → has_id library q ≡ has_method listing.methods q
   pub owned : (q : List ℕ) → has_name owners q ≡ is_owner listing.methods q
   pub lists : AreShared owners classes shared

@@ -1,3 +1,5 @@
+pub mod Arrays
 pub mod Heights
 pub mod Library
+pub mod Nearest
 pub mod Index

@@ -1,11 +1,11 @@
 //! Lists of classes in which one is found by its name without a search through the list.
 
-ghost use Rattle.std.specs.Prelude.{◌≡◌, ◌+◌, length, IfOk, option_copied};
+ghost use Rattle.std.specs.Prelude.{◌≡◌, ◌+◌, Some, length, slice_get, IfOk, IfSome, option_copied};
 ghost use Rattle.api_listing.specs.Listing.{is_known};
 ghost use Rattle.api_listing.specs.Nearest.{class_named, interfaces_of};
 
 use api_listing::ListedClass;
-use bytecode_model::{ByName, class_places, placed_class};
+use bytecode_model::{ByName, class_places, noted, placed_class};
 use mon_base::{Bytes, List, NoMemory};
 use std::alloc::Global;
 use std::marker::Model;
@@ -49,6 +49,16 @@ impl Classes {
         ensures { option_copied result ≡ class_named self.now name.now }
     {
         placed_class(self.list.as_slice(), &self.places, name.as_slice())
+    }
+
+    /// The same, and its place.
+    pub fn placed(&self, name: &Bytes) -> Option<(usize, &ListedClass)>
+        ensures { IfSome result (λ found. (slice_get self.now found.0 ≡ Some found.1.now)
+            × (class_named self.now name.now ≡ Some found.1.now)) }
+    {
+        let place = noted(&self.places, name.as_slice())?;
+        let class = self.list.as_slice().get(place)?;
+        Some((place, class))
     }
 
     /// Whether one has the name.

@@ -17,7 +17,8 @@ use crate::declared::{fields_of, listed_methods, methods_of, owners_of};
 use crate::heads::copy_both;
 use crate::library::{Shared, owners_above, shared_of};
 use crate::literals::Literals;
-use crate::near::{Near, member_of, near_of};
+use crate::members::member_of;
+use crate::nearest::{Nearest, nearest_of};
 use api_listing::{ListedClass, Listing, is_built_in};
 use bytecode_model::{Found, MemberKind, is_text};
 use class_codec::ClassFile;
@@ -35,8 +36,8 @@ pub struct Index<'a> {
     classes: Classes,
     methods: BTreeMap<MethodId, Found>,
     fields: BTreeMap<MethodId, Found>,
-    near_methods: BTreeMap<MethodId, Near>,
-    near_fields: BTreeMap<MethodId, Near>,
+    near_methods: Nearest,
+    near_fields: Nearest,
     library: BTreeSet<MethodId>,
     owners: BTreeSet<Bytes>,
     shared: Shared,
@@ -72,8 +73,8 @@ impl<'a> Index<'a> {
         let classes = Classes::new(alloc, all)?;
         let methods = methods_of(alloc, files, listing)?;
         let fields = fields_of(alloc, files, listing)?;
-        let near_methods = near_of(alloc, &classes, &methods, MemberKind::Method, files)?;
-        let near_fields = near_of(alloc, &classes, &fields, MemberKind::Field, files)?;
+        let near_methods = nearest_of(alloc, &classes, &methods, MemberKind::Method, files)?;
+        let near_fields = nearest_of(alloc, &classes, &fields, MemberKind::Field, files)?;
         let library = listed_methods(alloc, listing.methods.as_slice())?;
         let owners = owners_of(alloc, listing.methods.as_slice())?;
         let shared = shared_of(alloc, &classes, &owners, heads)?;

@@ -4,6 +4,7 @@
 //! member, and has the string constants, each text once. (The Java Virtual Machine Specification, section 5.4.3.)
 #![tactic(auto)]
 
+mod arrays;
 mod classes;
 mod declared;
 mod heads;
@@ -11,7 +12,9 @@ mod heights;
 mod index;
 mod library;
 mod literals;
-mod near;
+mod members;
+mod nearest;
+mod numbers;
 mod places;
 mod quiet;
 mod search;
@@ -20,6 +23,6 @@ pub use classes::Classes;
 pub use heads::heads_of;
 pub use heights::Heads;
 pub use index::Index;
-pub use near::in_class;
+pub use members::in_class;
 pub use places::add_name;
 pub use search::search_order;

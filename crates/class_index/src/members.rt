@@ -1,0 +1,66 @@
+//! Members that classes have.
+
+ghost use Rattle.std.specs.Prelude.{◌≡◌, IfOk};
+ghost use Rattle.class_index.specs.Index.{found_in};
+ghost use Rattle.class_index.specs.Nearest.{AreVersions};
+ghost use Rattle.bytecode_model.specs.Members.{first_found, in_class};
+ghost use Rattle.bytecode_model.specs.SearchOrder.{search_order};
+
+use crate::classes::Classes;
+use crate::nearest::{Nearest, found_above};
+use crate::search::search_order;
+use bytecode_model::Found;
+use mon_base::{Bytes, MethodId, NoMemory};
+use std::alloc::Global;
+use std::collections::BTreeMap;
+
+/// What the class has: its own, or the nearest above it.
+pub fn member_of(
+    alloc: Global,
+    classes: &Classes,
+    declared: &BTreeMap<MethodId, Found>,
+    nearest: &Nearest,
+    id: &MethodId,
+) -> Result<Option<Found>, NoMemory>
+    requires { AreVersions (found_in declared.now) nearest.now.numbers classes.now nearest.now.versions }
+    ensures { IfOk result (λ found.
+        found ≡ first_found (found_in declared.now) id.now (search_order classes.now id.now.class)) }
+{
+    if let Some(found) = found_above(alloc, classes, declared, nearest, id)? {
+        return Ok(Some(found));
+    }
+    let order = search_order(alloc, classes, &id.class)?;
+    first_found(alloc, declared, id, order.as_slice())
+}
+
+/// What the first of the classes that declares it has.
+fn first_found(
+    alloc: Global,
+    declared: &BTreeMap<MethodId, Found>,
+    id: &MethodId,
+    order: &[Bytes],
+) -> Result<Option<Found>, NoMemory>
+    ensures { IfOk result (λ found. found ≡ first_found (found_in declared.now) id.now order.now) }
+{
+    let mut left = order;
+    while let [class, rest @ ..] = left {
+        let id = in_class(alloc, id, class)?;
+        if let Some(found) = declared.get(&id) {
+            let found = found.copy(alloc)?;
+            return Ok(Some(found));
+        }
+        left = rest;
+    }
+    Ok(None)
+}
+
+/// The same name and descriptor in another class.
+pub fn in_class(alloc: Global, id: &MethodId, class: &Bytes) -> Result<MethodId, NoMemory>
+    ensures { IfOk result (λ other. other ≡ in_class id.now class.now) }
+{
+    Ok(MethodId {
+        class: class.copy(alloc)?,
+        name: id.name.copy(alloc)?,
+        desc: id.desc.copy(alloc)?,
+    })
+}
