@@ -32,7 +32,8 @@ fn iface(at: u64, from: &mut Cursor) -> Result<Insn, CodeFault>
 {
     let index = u2(at, from)?;
     let count = u1(at, from)?;
-    if u1(at, from)? != 0 {
+    let last = u1(at, from)?;
+    if last != 0 {
         return Err(CodeFault::Form { at });
     }
     Ok(Insn::Iface { index, count })

@@ -161,16 +161,18 @@ fn plain_shape(op: u8) -> Shape
     ensures { result ≡ plain_shape op }
 {
     if op < IALOAD {
-        pushing_shape(op)
-    } else if op < POP {
-        storing_shape(op)
-    } else if op < IADD {
-        moving_shape(op)
-    } else if op < IFEQ {
-        number_shape(op)
-    } else {
-        leaving_shape(op)
+        return pushing_shape(op);
     }
+    if op < POP {
+        return storing_shape(op);
+    }
+    if op < IADD {
+        return moving_shape(op);
+    }
+    if op < IFEQ {
+        return number_shape(op);
+    }
+    leaving_shape(op)
 }
 
 /// The opcodes that push, up to `aload_3`.

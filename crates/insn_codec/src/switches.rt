@@ -124,10 +124,11 @@ fn ranged(
     if !all_zero(pad) {
         return Err(CodeFault::Form { at });
     }
+    let targets = BoxedList::new(alloc, List::from_vec(all))?;
     Ok(Insn::Table {
         other,
         low,
-        targets: BoxedList::new(alloc, List::from_vec(all))?,
+        targets,
     })
 }
 
@@ -236,10 +237,14 @@ fn keyed(
     if !all_zero(pad) || !ascend(&all) {
         return Err(CodeFault::Form { at });
     }
+    let keys = keys_of(alloc, &all)?;
+    let keys = BoxedList::new(alloc, keys)?;
+    let targets = targets_of(alloc, &all)?;
+    let targets = BoxedList::new(alloc, targets)?;
     Ok(Insn::Lookup {
         other,
-        keys: BoxedList::new(alloc, keys_of(alloc, &all)?)?,
-        targets: BoxedList::new(alloc, targets_of(alloc, &all)?)?,
+        keys,
+        targets,
     })
 }
 

@@ -272,30 +272,30 @@ fn put_insn(out: &mut Bytes, starts: &[u32], at: u64, insn: &Insn) -> Result<(),
     ensures { Puts result (reach starts.now at insn.now) (bytes_of starts.now at insn.now) out.old out.new }
 {
     match insn {
-        Insn::Plain(op) => out.push(*op)?,
-        Insn::Byte(n) => put_pair(out, BIPUSH, n.cast_unsigned())?,
-        Insn::Short(n) => put_pool(out, SIPUSH, n.cast_unsigned())?,
-        Insn::Ldc(index) => put_pair(out, LDC, *index)?,
-        Insn::Pool { op, index } => put_pool(out, *op, *index)?,
-        Insn::Iface { index, count } => put_iface(out, *index, *count)?,
-        Insn::Local { op, slot, wide } => put_local(out, *op, *slot, *wide)?,
-        Insn::Inc { slot, by, wide } => put_inc(out, *slot, *by, *wide)?,
+        Insn::Plain(op) => Ok(out.push(*op)?),
+        Insn::Byte(n) => Ok(put_pair(out, BIPUSH, n.cast_unsigned())?),
+        Insn::Short(n) => Ok(put_pool(out, SIPUSH, n.cast_unsigned())?),
+        Insn::Ldc(index) => Ok(put_pair(out, LDC, *index)?),
+        Insn::Pool { op, index } => Ok(put_pool(out, *op, *index)?),
+        Insn::Iface { index, count } => Ok(put_iface(out, *index, *count)?),
+        Insn::Local { op, slot, wide } => Ok(put_local(out, *op, *slot, *wide)?),
+        Insn::Inc { slot, by, wide } => Ok(put_inc(out, *slot, *by, *wide)?),
         Insn::Branch { op, to } => {
             out.push(*op)?;
-            put_near(out, starts, at, *to)?
+            put_near(out, starts, at, *to)
         }
         Insn::GotoW { to } => {
             out.push(GOTO_W)?;
-            put_far(out, starts, at, *to)?
+            put_far(out, starts, at, *to)
         }
-        Insn::NewArray(kind) => put_pair(out, NEWARRAY, *kind)?,
+        Insn::NewArray(kind) => Ok(put_pair(out, NEWARRAY, *kind)?),
         Insn::Table {
             other,
             low,
             targets,
         } => {
             put_switch(out, starts, TABLESWITCH, at, *other)?;
-            put_range(out, starts, at, *low, targets.as_slice())?
+            put_range(out, starts, at, *low, targets.as_slice())
         }
         Insn::Lookup {
             other,
@@ -303,10 +303,9 @@ fn put_insn(out: &mut Bytes, starts: &[u32], at: u64, insn: &Insn) -> Result<(),
             targets,
         } => {
             put_switch(out, starts, LOOKUPSWITCH, at, *other)?;
-            put_keyed(out, starts, at, keys.as_slice(), targets.as_slice())?
+            put_keyed(out, starts, at, keys.as_slice(), targets.as_slice())
         }
     }
-    Ok(())
 }
 
 /// How many bytes the instructions have.

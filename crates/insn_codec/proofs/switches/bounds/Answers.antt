@@ -1,0 +1,8 @@
+use Rattle.std.proofs.Common.{arith}
+use Rattle.std.proofs.lemmas.Grind.{common_steps}
+use Rattle.insn_codec.specs.Reading.{bounds_at}
+use Rattle.insn_codec.proofs.switches.bounds.Goals as goal
+
+pub returns-clause-reads : goal.returns-clause-reads
+unfolding bounds_at
+returns-clause-reads c = grind (arith, common_steps)
