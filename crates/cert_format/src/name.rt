@@ -55,7 +55,8 @@ impl Name {
     pub fn as_slice(&self) -> &[u8]
         ensures { result.now ≡ self.now }
     {
-        self.text.as_ref().as_slice()
+        let text = self.text.as_ref();
+        text.as_slice()
     }
 
     /// The number of bytes.

@@ -51,11 +51,12 @@ fn put_terms(out: &mut Bytes, terms: &[Term]) -> Result<(), NoMemory>
 fn put_phase(out: &mut Bytes, phase: Phase8) -> Result<(), NoMemory>
     ensures { OnOk result (out.new ≡ out.old ++ spell_phase phase) }
 {
-    match phase {
-        Phase8::Before => out.push(0),
-        Phase8::After => out.push(1),
-        Phase8::Exceptional => out.push(2),
-    }
+    let number = match phase {
+        Phase8::Before => 0,
+        Phase8::After => 1,
+        Phase8::Exceptional => 2,
+    };
+    out.push(number)
 }
 
 /// Appends the kind of a note and its site.
