@@ -23,7 +23,7 @@ pub fn count_of(lists: &[List<i32>]) -> u64
 
 /// A choice of one number of each list, which are told one after the other. Choices are counted from 0, and the last list
 /// changes first. A contract sees the numbers that are still to be told.
-#[derive(Debug, Drop)]
+#[derive(Drop)]
 pub struct Choosing<'a> {
     left: &'a [List<i32>],
     number: u64,

@@ -29,15 +29,13 @@ pub fn is_named(trial: &TrialRef, var: u32) -> bool
     ensures { result ≡ is_named var (clauses_of trial.now) }
 {
     let first = trial.first.clause;
-    match &trial.second {
-        None => is_asked(first, var) || is_changed(first, var),
-        Some(second) => {
-            is_asked(first, var)
-                || is_asked(second.clause, var)
-                || is_changed(first, var)
-                || is_changed(second.clause, var)
-        }
-    }
+    let Some(second) = &trial.second else {
+        return is_asked(first, var) || is_changed(first, var);
+    };
+    is_asked(first, var)
+        || is_asked(second.clause, var)
+        || is_changed(first, var)
+        || is_changed(second.clause, var)
 }
 
 /// Whether an atom of the clause asks for the variable.
@@ -135,7 +133,8 @@ fn add_compared(numbers: &mut Vec<i64>, atoms: &[Atom], base: Base) -> Result<()
     ensures small { OnOk result (AreSmall (2 ^ 31) numbers.new.items) }
 {
     for atom in atoms {
-        add_some(numbers, compared_with(base, *atom))?;
+        let number = compared_with(base, *atom);
+        add_some(numbers, number)?;
     }
     Ok(())
 }
@@ -155,11 +154,10 @@ fn add_some(numbers: &mut Vec<i64>, number: Option<i32>) -> Result<(), NoMemory>
 fn compared_with(base: Base, atom: Atom) -> Option<i32>
     ensures { result ≡ compared_with base atom }
 {
-    if is_same(base, atom.base) {
-        Some(atom.value)
-    } else {
-        None
+    if !is_same(base, atom.base) {
+        return None;
     }
+    Some(atom.value)
 }
 
 /// Adds the numbers that the clauses set the variable to.
@@ -193,7 +191,8 @@ fn add_each_assigned(numbers: &mut Vec<i64>, updates: &[Update], var: u32) -> Re
     ensures small { OnOk result (AreSmall (2 ^ 31) numbers.new.items) }
 {
     for update in updates {
-        add_some(numbers, assigned_to(var, *update))?;
+        let number = assigned_to(var, *update);
+        add_some(numbers, number)?;
     }
     Ok(())
 }
@@ -201,10 +200,13 @@ fn add_each_assigned(numbers: &mut Vec<i64>, updates: &[Update], var: u32) -> Re
 fn assigned_to(var: u32, update: Update) -> Option<i32>
     ensures { result ≡ assigned_to var update }
 {
-    match update {
-        Update::Set { var: i, value } => { if i == var { Some(value) } else { None } }
-        Update::Add { .. } => None,
+    let Update::Set { var: i, value } = update else {
+        return None;
+    };
+    if i != var {
+        return None;
     }
+    Some(value)
 }
 
 /// Adds the numbers that the clauses add to the variable.
@@ -238,7 +240,8 @@ fn add_each_addend(numbers: &mut Vec<i64>, updates: &[Update], var: u32) -> Resu
     ensures small { OnOk result (AreSmall (2 ^ 31) numbers.new.items) }
 {
     for update in updates {
-        add_some(numbers, added_to(var, *update))?;
+        let number = added_to(var, *update);
+        add_some(numbers, number)?;
     }
     Ok(())
 }
@@ -246,8 +249,11 @@ fn add_each_addend(numbers: &mut Vec<i64>, updates: &[Update], var: u32) -> Resu
 fn added_to(var: u32, update: Update) -> Option<i32>
     ensures { result ≡ added_to var update }
 {
-    match update {
-        Update::Set { .. } => None,
-        Update::Add { var: i, by } => { if i == var { Some(by) } else { None } }
+    let Update::Add { var: i, by } = update else {
+        return None;
+    };
+    if i != var {
+        return None;
     }
+    Some(by)
 }

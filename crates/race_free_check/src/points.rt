@@ -60,8 +60,10 @@ fn thresholds(
     ensures same { IfOk result (λ found. HasSame found.items (thresholds maxint place (clauses_of trial.now))) }
     ensures small { IfOk result (λ found. AreSmall (2 ^ 34) found.items) }
 {
-    let marks = ascending(marks(alloc, maxint, trial, place)?);
-    let shifts = ascending(shifts(alloc, trial, place)?);
+    let marks = marks(alloc, maxint, trial, place)?;
+    let marks = ascending(marks);
+    let shifts = shifts(alloc, trial, place)?;
+    let shifts = ascending(shifts);
     let found = differences(alloc, marks.as_slice(), shifts.as_slice())?;
     Ok(ascending(found))
 }

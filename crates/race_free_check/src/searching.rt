@@ -21,7 +21,7 @@ use std::alloc::Global;
 use std::marker::Model;
 
 /// A state, and an event or two in this order.
-#[derive(Debug, Drop)]
+#[derive(Drop)]
 pub struct Point {
     pub state: State,
     pub first: Event,
@@ -37,7 +37,7 @@ impl Model for Point {
 }
 
 /// The events of a clause that are tried, by the numbers of which each has one. A contract sees the clause.
-#[derive(Debug, Drop)]
+#[derive(Drop)]
 struct Events<'a> {
     clause: &'a Clause,
     lists: List<List<i32>>,
@@ -68,7 +68,7 @@ impl<'a> Events<'a> {
 
 /// What is tried of a trial: states, first events, and second ones if there are any. A contract sees the policy and the
 /// trial.
-#[derive(Debug, Drop)]
+#[derive(Drop)]
 struct Search<'a> {
     policy: &'a Policy,
     trial: TrialRef<'a>,

@@ -12,7 +12,7 @@ use std::alloc::Global;
 use std::marker::Model;
 
 /// A clause with its place in the policy.
-#[derive(Debug, Drop)]
+#[derive(Drop)]
 pub struct PlacedClause<'a> {
     pub place: u32,
     pub clause: &'a Clause,
@@ -39,7 +39,7 @@ impl<'a> PlacedClause<'a> {
 }
 
 /// A condition, by its number, that is tried of one clause or of two in this order.
-#[derive(Debug, Drop)]
+#[derive(Drop)]
 pub struct TrialRef<'a> {
     pub condition: u8,
     pub first: PlacedClause<'a>,
@@ -114,10 +114,9 @@ fn is_wanted(of_calls: bool, phase: Phase) -> bool
     ensures { result ≡ is_wanted of_calls phase }
 {
     if of_calls {
-        is_of_calls(phase)
-    } else {
-        !is_of_calls(phase)
+        return is_of_calls(phase);
     }
+    !is_of_calls(phase)
 }
 
 fn is_of_calls(phase: Phase) -> bool
@@ -170,10 +169,12 @@ fn add_pairs_with<'a>(
     ensures { OnOk result (trials.new.items ≡ trials.old.items ++ map (both condition first.now) seconds.now) }
 {
     for second in seconds {
+        let first = first.again();
+        let second = second.again();
         trials.push(TrialRef {
             condition,
-            first: first.again(),
-            second: Some(second.again()),
+            first,
+            second: Some(second),
         })?;
     }
     Ok(())

@@ -6,6 +6,11 @@ use Rattle.race_free_check.proofs.Bounded.{small_at}
 use Rattle.race_free_check.proofs.Grown.{mapped_more, small_more}
 use Rattle.race_free_check.proofs.numbers.add_lessened.Goals as goal
 
+pub overflow_sub-mark : goal.overflow_sub-mark
+overflow_sub-mark c =
+    let small = small_at (2 ^ 32) c.args.shifts.now c.loop-shift.shift-index (pos 0) c.requires.shifts c.loop-shift-test.true in
+    grind (arith, ints)
+
 pub loop-shift-preserved : goal.loop-shift-preserved
 loop-shift-preserved c =
     let small = small_at (2 ^ 32) c.args.shifts.now c.loop-shift.shift-index (pos 0) c.requires.shifts c.loop-shift-test.true in
@@ -20,3 +25,6 @@ returns-clause-adds c =
     c.loop-shift.invariant.adds
     ∙ ap (λ (m : ℤ). c.args.found.now.items ++ map (λ k. m -ℤ k) (take c.loop-shift.shift-index c.args.shifts.now)) same
     ∙ ap (λ (ns : List ℤ). c.args.found.now.items ++ map (λ k. c.args.mark -ℤ k) ns) (take_all c.loop-shift.shift-index c.args.shifts.now c.loop-shift-test.false)
+
+pub returns-clause-small : goal.returns-clause-small
+returns-clause-small c = c.loop-shift.invariant.small

@@ -5,6 +5,11 @@ use Rattle.race_free_check.proofs.Bounded.{small_at}
 use Rattle.race_free_check.proofs.Grown.{mapped_more, small_more}
 use Rattle.race_free_check.proofs.numbers.add_shifted.Goals as goal
 
+pub overflow_add-by : goal.overflow_add-by
+overflow_add-by c =
+    let small = small_at (2 ^ 31) c.args.numbers.now c.loop-number.number-index (pos 0) c.requires.numbers c.loop-number-test.true in
+    grind (arith, ints)
+
 pub loop-number-preserved : goal.loop-number-preserved
 loop-number-preserved c =
     let small = small_at (2 ^ 31) c.args.numbers.now c.loop-number.number-index (pos 0) c.requires.numbers c.loop-number-test.true in
@@ -19,3 +24,6 @@ returns-clause-adds c =
     c.loop-number.invariant.adds
     ∙ ap (λ (m : ℤ). c.args.found.now.items ++ map (λ n. m +ℤ n) (take c.loop-number.number-index c.args.numbers.now)) same
     ∙ ap (λ (ns : List ℤ). c.args.found.now.items ++ map (λ n. c.args.by +ℤ n) ns) (take_all c.loop-number.number-index c.args.numbers.now c.loop-number-test.false)
+
+pub returns-clause-small : goal.returns-clause-small
+returns-clause-small c = c.loop-number.invariant.small

@@ -11,6 +11,11 @@ overflow_add-number c =
     let small = small_at (2 ^ 34) c.args.numbers.now c.loop-number.number-index (pos 0) c.requires c.loop-number-test.true in
     omega (arith, ints)
 
+pub overflow_sub-number : goal.overflow_sub-number
+overflow_sub-number c =
+    let small = small_at (2 ^ 34) c.args.numbers.now c.loop-number.number-index (pos 0) c.requires c.loop-number-test.true in
+    omega (arith, ints)
+
 pub loop-number-preserved : goal.loop-number-preserved
 loop-number-preserved c =
     let small = small_at (2 ^ 34) c.args.numbers.now c.loop-number.number-index (pos 0) c.requires c.loop-number-test.true in

@@ -1,9 +1,22 @@
-use Rattle.std.proofs.Common.{◌++◌, ◌∷◌, ℤ, pos, ◌+ℤ◌, List, map, ap, ◌∙◌, arith}
+use Rattle.std.proofs.Common.{◌^◌, ◌++◌, ◌∷◌, ℤ, pos, ◌+ℤ◌, List, map, ap, ◌∙◌, arith}
 use Rattle.std.specs.Prelude.{flat_map}
 use Rattle.std.proofs.lemmas.Int.{ints}
 use Rattle.std.proofs.lemmas.List.{take_all}
-use Rattle.race_free_check.proofs.Grown.{listed_more}
+use Rattle.std.proofs.lemmas.Grind.{common_steps}
+use Rattle.race_free_check.proofs.Bounded.{small_at}
+use Rattle.race_free_check.proofs.Grown.{listed_more, small_more}
 use Rattle.race_free_check.proofs.numbers.sums.Goals as goal
+
+pub loop-addend-preserved : goal.loop-addend-preserved
+loop-addend-preserved c =
+    let small = small_at (2 ^ 31) c.args.addends.now c.loop-addend.addend-index (pos 0) c.requires c.loop-addend-test.true in
+    record {
+      is = grind (arith, common_steps);
+      small = small_more (2 ^ 32) c.loop-addend.found.items c.push-in-loop-addend.new.self.items _ c.loop-addend.invariant.small c.in_ok-push-2.ensures.items (record { low = omega (arith, ints); high = omega (arith, ints) });
+    }
+
+pub loop-by-init : goal.loop-by-init
+loop-by-init c = record { is = grind (arith, common_steps); small = c.loop-addend.invariant.small }
 
 pub loop-by-preserved : goal.loop-by-preserved
 loop-by-preserved c = record {
