@@ -1,7 +1,7 @@
 -- Interfaces with no method of the library above them are not missed among the classes above.
-use Rattle.std.proofs.Common.{◌≡◌, ℕ, zero, suc, ◌+◌, ◌≤◌, Bool, true, false, cond, not, ◌&&◌, ◌||◌, List, [], ◌∷◌, ◌++◌, length, Option, Some, None, refl, sym, ap, subst, ◌∙◌, inl, inr, arith}
+use Rattle.std.proofs.Common.{◌≡◌, ℕ, zero, suc, ◌+◌, ◌≤◌, Bool, true, false, cond, not, ◌&&◌, ◌||◌, List, [], ◌∷◌, ◌++◌, length, Some, refl, sym, ap, subst, ◌∙◌, inl, inr, arith}
 use Rattle.std.specs.Prelude.{bytes_eq}
-use Rattle.std.specs.List.{filter, list_all, list_any}
+use Rattle.std.specs.List.{filter, list_all}
 use Rattle.std.specs.Option.{option_map_or}
 use Rattle.std.specs.BTreeSet.{BTreeSet}
 use Rattle.std.proofs.lemmas.Bool.{cases_Bool, false≢true}
@@ -13,7 +13,7 @@ use Rattle.api_listing.specs.Nearest.{class_named, interfaces_of}
 use Rattle.api_listing.specs.Seen.{has_name}
 use Rattle.bytecode_model.specs.SearchOrder.{Name, interfaces_above, interfaces_from, is_one_of, most, reached, with_above, with_name}
 use Rattle.bytecode_model.proofs.Placing.{same_name}
-use Rattle.class_index.specs.Library.{may_own, is_quiet, AreQuiet}
+use Rattle.class_index.specs.Library.{may_own, AreQuiet}
 
 same_as_itself : (name : Name) → bytes_eq name name ≡ true
 same_as_itself name = (bytes_eq-Decides name name).1 refl

@@ -1,11 +1,7 @@
 -- Arrays that share what they have in common.
-use Rattle.std.proofs.Common.{◌≡◌, ℕ, zero, suc, ◌+◌, ◌-◌, ◌/◌, ◌%◌, ◌^◌, ◌<◌, ◌≤◌, get_or, length, take, drop, ◌==◌, Bool, true, false, cond, ◌||◌, List, [], ◌∷◌, ◌++◌, Option, Some, None, refl, sym, ap, subst, ◌∙◌, arith}
-use denote.Ref.{Bor}
-use Rattle.std.specs.Prelude.{slice_get, MatchOption, IfSome}
-use Rattle.std.specs.List.{HoldsAt}
-use Rattle.std.proofs.lemmas.Option.{slice_get_past, slice_get_read}
-use Rattle.std.proofs.lemmas.List.{take_all}
-use Rattle.std.specs.Option.{option_and_then, option_copied}
+use Rattle.std.proofs.Common.{◌≡◌, ℕ, zero, suc, ◌/◌, ◌%◌, ◌^◌, ◌<◌, ◌==◌, Bool, true, false, cond, ◌||◌, List, ◌∷◌, Option, Some, None, refl, sym, ap, ◌∙◌, arith}
+use Rattle.std.specs.Prelude.{slice_get}
+use Rattle.std.specs.Option.{option_and_then}
 use Rattle.std.proofs.lemmas.Bool.Decides.{nat_tests}
 use Rattle.class_index.specs.declared.arrays.Halves.{Halves}
 use Rattle.class_index.specs.Arrays.{half_of, with_half, item_at, Keeps, Puts, PutsEach, is_number}

@@ -1,10 +1,8 @@
 -- Arrays of what is found in classes and their superclasses.
-use Rattle.std.proofs.Common.{◌≡◌, ℕ, zero, suc, ◌+◌, ◌-◌, ◌<◌, ◌≤◌, ◌^◌, Bool, true, false, cond, List, [], ◌∷◌, length, Option, Some, None, refl, sym, ap, subst, ◌∙◌, arith}
-use Rattle.std.specs.Prelude.{bytes_eq, is_some, slice_get, Vec}
-use Rattle.std.specs.BTreeMap.{BTreeMap, btree_map_len}
-use Rattle.std.specs.Global.{Global}
+use Rattle.std.proofs.Common.{◌≡◌, ℕ, zero, suc, ◌-◌, ◌≤◌, ◌^◌, Bool, true, false, cond, List, [], ◌∷◌, length, Option, Some, None, refl, sym, ap, subst, ◌∙◌, arith}
+use Rattle.std.specs.Prelude.{bytes_eq, is_some, slice_get}
+use Rattle.std.specs.BTreeMap.{btree_map_len}
 use Rattle.std.specs.Option.{option_and_then, option_map_or, option_or}
-use Rattle.std.proofs.lemmas.Bool.{false≢true}
 use Rattle.mon_base.specs.declared.method.MethodId.{MethodId}
 use Rattle.api_listing.specs.declared.types.ListedClass.{ListedClass}
 use Rattle.api_listing.specs.Nearest.{class_named, names_of, upwards}
@@ -15,7 +13,7 @@ use Rattle.bytecode_model.specs.SearchOrder.{superclasses}
 use Rattle.bytecode_model.proofs.Lists.{some_is}
 use Rattle.bytecode_model.proofs.Placing.{same_name}
 use Rattle.class_index.specs.Arrays.{item_at, is_number, Keeps, PutsEach}
-use Rattle.class_index.specs.Nearest.{Numbers, number_of, told, Tells, IsVersion, AreVersions}
+use Rattle.class_index.specs.Nearest.{Numbers, told, Tells, IsVersion, AreVersions}
 use Rattle.class_index.specs.declared.arrays.Halves.{Halves}
 use Rattle.class_index.specs.declared.nearest.Version.{Version}
 use Rattle.class_index.specs.declared.nearest.Versions.{Versions}

@@ -1,5 +1,5 @@
 -- Ordered maps made once, from which each look-up gives what a plain scan gives. (docs/LINKING.md)
-use Rattle.std.specs.Prelude.{◌≡◌, ℕ, ◌+◌, List, length, Option, Some, Vec}
+use Rattle.std.specs.Prelude.{◌≡◌, ℕ, List, length, Option, Vec}
 use Rattle.std.specs.BTreeMap.{BTreeMap, get}
 use Rattle.std.specs.BTreeSet.{BTreeSet}
 use Rattle.std.specs.Global.{Global}
@@ -8,14 +8,14 @@ use Rattle.mon_base.specs.declared.method.MethodId.{MethodId}
 use Rattle.class_codec.specs.declared.tree.ClassFile.{ClassFile}
 use Rattle.api_listing.specs.declared.types.ListedClass.{ListedClass}
 use Rattle.api_listing.specs.declared.types.Listing.{Listing}
-use Rattle.api_listing.specs.Nearest.{interfaces_of, names_of, upwards}
+use Rattle.api_listing.specs.Nearest.{interfaces_of}
 use Rattle.api_listing.specs.Seen.{id_cmp, has_id, has_name}
 use Rattle.api_listing.specs.Listing.{has_method}
 use Rattle.bytecode_model.specs.declared.members.Found.{Found}
 use Rattle.class_index.specs.declared.library.Shared.{Shared}
 use Rattle.class_index.specs.declared.nearest.Nearest.{Nearest}
 use Rattle.bytecode_model.specs.Heads.{all_classes}
-use Rattle.bytecode_model.specs.Members.{Declared, methods_declared, fields_declared, first_of, first_found}
+use Rattle.bytecode_model.specs.Members.{Declared, methods_declared, fields_declared, first_of}
 use Rattle.bytecode_model.specs.Operands.{literals_of}
 use Rattle.class_index.specs.Library.{is_owner, AreShared}
 use Rattle.class_index.specs.Nearest.{AreVersions}

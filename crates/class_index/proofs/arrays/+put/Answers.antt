@@ -1,7 +1,7 @@
 use Rattle.std.proofs.Common.{◌≡◌, ◌∙◌, suc, ◌-◌, ◌/◌, [], ◌∷◌, ◌++◌, Some, ap, sym, subst, arith}
 use Rattle.std.specs.Prelude.{slice_get}
 use Rattle.std.specs.Option.{option_copied}
-use Rattle.class_index.specs.Arrays.{half_of, with_half, Keeps, Puts}
+use Rattle.class_index.specs.Arrays.{with_half, Keeps, Puts}
 use Rattle.bytecode_model.proofs.Placing.{got}
 use Rattle.class_index.proofs.Putting.{puts_up}
 use Rattle.class_index.proofs.Sharing.{get_kept, get_pushed}

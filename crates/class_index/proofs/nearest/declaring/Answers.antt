@@ -1,4 +1,4 @@
-use Rattle.std.proofs.Common.{◌≡◌, ◌∙◌, ℕ, suc, ◌≤◌, Some, Option, length, ap, sym, arith}
+use Rattle.std.proofs.Common.{◌≡◌, ◌∙◌, suc, ◌≤◌, Some, Option, length, ap, sym, arith}
 use Rattle.std.specs.Prelude.{slice_get}
 use Rattle.mon_base.specs.declared.method.MethodId.{MethodId}
 use Rattle.api_listing.specs.Nearest.{names_of}

@@ -1,7 +1,6 @@
-use Rattle.std.proofs.Common.{◌≡◌, ◌∙◌, ◌+◌, false, ap, sym}
+use Rattle.std.proofs.Common.{◌≡◌, ◌∙◌, ◌+◌, ap, sym}
 use Rattle.std.specs.Prelude.{is_some, if◌then◌else◌}
-use Rattle.std.specs.BTreeMap.{btree_map_len, get}
-use Rattle.api_listing.specs.Seen.{id_cmp}
+use Rattle.std.specs.BTreeMap.{btree_map_len}
 use Rattle.class_index.proofs.Numbering.{with_number}
 use Rattle.class_index.proofs.numbers.add_number.Goals as goal
 
