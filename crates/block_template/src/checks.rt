@@ -110,17 +110,16 @@ fn put_ask(
     requires { HasLocal base asked.base }
     ensures { OnOk result (items.new ≡ items.old ++ ask (bools_in vars.now) base phase branch atom next asked) }
 {
+    let first = push_base(vars, base, asked.base);
+    put(items, first, ask_role(phase, branch, atom, 0))?;
+    let second = push(asked.value);
+    put(items, second, ask_role(phase, branch, atom, 1))?;
     let jump = BlockInsn::Jump {
         op: negated(asked.rel),
         place: next,
     };
-    put(
-        items,
-        push_base(vars, base, asked.base),
-        ask_role(phase, branch, atom, 0),
-    )?;
-    put(items, push(asked.value), ask_role(phase, branch, atom, 1))?;
-    put(items, jump, ask_role(phase, branch, atom, 2))
+    put(items, jump, ask_role(phase, branch, atom, 2))?;
+    Ok(())
 }
 
 fn ask_role(phase: Phase, branch: u32, atom: u32, pushed: u32) -> Role
@@ -182,12 +181,11 @@ fn put_set(
 ) -> Result<(), NoMemory>
     ensures { OnOk result (items.new ≡ items.old ++ write (bools_in vars.now) phase branch update (Set var value)) }
 {
-    put(items, push(value), update_role(phase, branch, update, 0))?;
-    put(
-        items,
-        put_field(vars, var),
-        update_role(phase, branch, update, 1),
-    )
+    let first = push(value);
+    put(items, first, update_role(phase, branch, update, 0))?;
+    let last = put_field(vars, var);
+    put(items, last, update_role(phase, branch, update, 1))?;
+    Ok(())
 }
 
 fn put_add(
@@ -201,17 +199,12 @@ fn put_add(
 ) -> Result<(), NoMemory>
     ensures { OnOk result (items.new ≡ items.old ++ write (bools_in vars.now) phase branch update (Add var by)) }
 {
-    put(
-        items,
-        get_field(vars, var),
-        update_role(phase, branch, update, 0),
-    )?;
+    let first = get_field(vars, var);
+    put(items, first, update_role(phase, branch, update, 0))?;
     put_sum(items, phase, branch, update, by)?;
-    put(
-        items,
-        put_field(vars, var),
-        update_role(phase, branch, update, 3),
-    )
+    let last = put_field(vars, var);
+    put(items, last, update_role(phase, branch, update, 3))?;
+    Ok(())
 }
 
 /// The number is added to the variable, which is on top.
@@ -225,12 +218,11 @@ fn put_sum(
     ensures { OnOk result (items.new ≡ items.old ++ item (push by) (roles.Update phase branch update 1)
         ∷ item (Plain IADD) (roles.Update phase branch update 2) ∷ []) }
 {
-    put(items, push(by), update_role(phase, branch, update, 1))?;
-    put(
-        items,
-        BlockInsn::Plain(IADD),
-        update_role(phase, branch, update, 2),
-    )
+    let pushed = push(by);
+    put(items, pushed, update_role(phase, branch, update, 1))?;
+    let sum = BlockInsn::Plain(IADD);
+    put(items, sum, update_role(phase, branch, update, 2))?;
+    Ok(())
 }
 
 fn update_role(phase: Phase, branch: u32, update: u32, done: u32) -> Role

@@ -56,7 +56,8 @@ pub fn put_unlock(items: &mut List<Item>, phase: Phase, checked: bool) -> Result
         checked,
         pushed: true,
     };
-    put(items, BlockInsn::Plain(MONITOREXIT), last)
+    put(items, BlockInsn::Plain(MONITOREXIT), last)?;
+    Ok(())
 }
 
 /// `bipush 77; invokestatic java/lang/System.exit (I)V; aconst_null; athrow`.
