@@ -194,10 +194,8 @@ fn known_site<'a>(
 ) -> Option<&'a Option<Block>>
     ensures { option_copied result ≡ option_and_then (slice_get sites.now) (get nat_cmp places.now method) }
 {
-    match places.get(&method) {
-        Some(place) => sites.get(*place),
-        None => None,
-    }
+    let place = places.get(&method)?;
+    sites.get(*place)
 }
 
 fn note_place(places: &mut BTreeMap<u32, usize>, method: u32, place: usize) -> Result<(), NoMemory>

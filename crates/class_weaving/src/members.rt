@@ -56,13 +56,11 @@ fn member_woven<P: Planner>(
         let made = bare_put(alloc, made, member)?;
         return Ok(made);
     };
-    match first_code(member.attrs.as_slice()) {
-        Some(code) => body_woven(alloc, planner, &class.name, made, member, method, code),
-        None => {
-            let made = bare_put(alloc, made, member)?;
-            Ok(made)
-        }
-    }
+    let Some(code) = first_code(member.attrs.as_slice()) else {
+        let made = bare_put(alloc, made, member)?;
+        return Ok(made);
+    };
+    body_woven(alloc, planner, &class.name, made, member, method, code)
 }
 
 fn bare_put(alloc: Global, made: Members, member: &Member) -> Result<Members, NoMemory>
@@ -76,7 +74,8 @@ fn bare_put(alloc: Global, made: Members, member: &Member) -> Result<Members, No
         origins,
     } = made;
     let mut items = items;
-    items.push(member.copy(alloc)?)?;
+    let copy = member.copy(alloc)?;
+    items.push(copy)?;
     Ok(Members {
         number: number + 1,
         entries,
@@ -116,7 +115,8 @@ fn body_woven<P: Planner>(
     } = woven;
     let mut items = items;
     let mut origins = origins;
-    items.push(member_with(alloc, member, code)?)?;
+    let woven = member_with(alloc, member, code)?;
+    items.push(woven)?;
     origins.push(of_code)?;
     Ok(Members {
         number: number + 1,
@@ -146,7 +146,8 @@ fn member_with(alloc: Global, member: &Member, code: Code) -> Result<Member, NoM
 {
     let mut attrs = List::with_room(alloc, member.attrs.len())?;
     for attr in member.attrs.as_slice() {
-        attrs.push(attr_with(alloc, &code, attr)?)?;
+        let one = attr_with(alloc, &code, attr)?;
+        attrs.push(one)?;
     }
     Ok(Member {
         flags: member.flags,
@@ -160,7 +161,10 @@ fn attr_with(alloc: Global, code: &Code, attr: &Attr) -> Result<Attr, NoMemory>
     ensures { IfOk result (λ other. other ≡ attr_with code.now attr.now) }
 {
     match attr {
-        Attr::Code(_) => Ok(Attr::Code(copy_code(alloc, code)?)),
+        Attr::Code(_) => {
+            let code = copy_code(alloc, code)?;
+            Ok(Attr::Code(code))
+        }
         Attr::Other(_) => attr.copy(alloc),
     }
 }

@@ -20,6 +20,7 @@ pub fn state_file(alloc: Global, vars: &[Var]) -> Result<ClassFile, NoMemory>
 {
     let mut pool = head(alloc)?;
     put_values(alloc, &mut pool, vars)?;
+    let fields = fields(alloc, vars)?;
     Ok(ClassFile {
         minor: 0,
         pool,
@@ -27,7 +28,7 @@ pub fn state_file(alloc: Global, vars: &[Var]) -> Result<ClassFile, NoMemory>
         this_class: 2,
         super_class: 4,
         interfaces: List::new(alloc),
-        fields: fields(alloc, vars)?,
+        fields,
         methods: List::new(alloc),
         attrs: List::new(alloc),
     })
@@ -52,7 +53,8 @@ fn head(alloc: Global) -> Result<List<Const>, NoMemory>
 fn text(alloc: Global, text: &str) -> Result<Const, NoMemory>
     ensures { IfOk result (λ constant. constant ≡ Utf8 text.now) }
 {
-    Ok(Const::Utf8(Bytes::from_slice(alloc, text.as_bytes())?))
+    let text = Bytes::from_slice(alloc, text.as_bytes())?;
+    Ok(Const::Utf8(text))
 }
 
 /// Appends the name and the first value of each variable.
@@ -88,7 +90,8 @@ fn fields(alloc: Global, vars: &[Var]) -> Result<List<Member>, NoMemory>
     let mut index: u16 = 0;
     let mut left = vars;
     while let [var, rest @ ..] = left {
-        fields.push(field(alloc, index, var)?)?;
+        let one = field(alloc, index, var)?;
+        fields.push(one)?;
         index += 1;
         left = rest;
     }
