@@ -46,7 +46,8 @@ fn notes_of(
     let mut frames = frames;
     while let [class, later @ ..] = classes {
         let methods = class.methods.as_slice();
-        notes.push(class_notes(alloc, items, methods, list_at(frames, 0))?)?;
+        let one = class_notes(alloc, items, methods, list_at(frames, 0))?;
+        notes.push(one)?;
         classes = later;
         frames = behind_first(frames);
     }
@@ -69,7 +70,8 @@ fn class_notes(
     let mut frames = frames;
     while let [method, later @ ..] = methods {
         if !method.insns.is_empty() {
-            notes.push(method_notes(alloc, items, method, list_at(frames, 0))?)?;
+            let one = method_notes(alloc, items, method, list_at(frames, 0))?;
+            notes.push(one)?;
             frames = behind_first(frames);
         }
         methods = later;

@@ -116,7 +116,8 @@ fn put_items(
         let [frame, later @ ..] = frames else {
             return Ok(());
         };
-        notes.push(framed_note(alloc, policy, call, item.role, frame)?)?;
+        let one = framed_note(alloc, policy, call, item.role, frame)?;
+        notes.push(one)?;
         items = others;
         frames = later;
     }

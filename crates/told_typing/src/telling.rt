@@ -39,7 +39,8 @@ fn classes_told(
             Some(first) => first,
             None => List::new(alloc),
         };
-        made.push(methods_told(alloc, class.methods.as_slice(), first)?)?;
+        let one = methods_told(alloc, class.methods.as_slice(), first)?;
+        made.push(one)?;
         left = later;
     }
     Ok(made)
@@ -63,7 +64,8 @@ fn methods_told(
                 Some(first) => first,
                 None => List::new(alloc),
             };
-            made.push(method_told(alloc, method, first)?)?;
+            let one = method_told(alloc, method, first)?;
+            made.push(one)?;
         }
         left = later;
     }
@@ -99,10 +101,8 @@ fn frame_told(
 {
     match frame {
         Some(FrameType { locals, stack }) => {
-            let frame = FrameType {
-                locals: locals_told(alloc, before, locals)?,
-                stack,
-            };
+            let locals = locals_told(alloc, before, locals)?;
+            let frame = FrameType { locals, stack };
             Ok(if_room(method, frame))
         }
         None => Ok(None),

@@ -85,7 +85,8 @@ fn put_moved(
     ensures { OnOk result (list.new ≡ list.old ++ map (at_fronts fronts.now) handlers.now) }
 {
     for handler in handlers {
-        list.push(at_fronts(alloc, fronts, handler)?)?;
+        let one = at_fronts(alloc, fronts, handler)?;
+        list.push(one)?;
     }
     Ok(())
 }

@@ -48,7 +48,8 @@ fn put_named(
     ensures { OnOk result (named.new ≡ named.old ++ map (part_named state own.now) part.now) }
 {
     for insn in part {
-        named.push(part_named(alloc, state, own, *insn)?)?;
+        let one = part_named(alloc, state, own, *insn)?;
+        named.push(one)?;
     }
     Ok(())
 }

@@ -91,9 +91,11 @@ fn state_with(alloc: Global, file: ClassFile) -> Result<LinkedClass, NoMemory>
     ensures { IfOk result (λ class. class ≡ state_with file) }
 {
     let pool = file.pool.as_slice();
+    let name = copy_class(alloc, pool, file.this_class)?;
+    let parent = copy_class(alloc, pool, file.super_class)?;
     Ok(LinkedClass {
-        name: copy_class(alloc, pool, file.this_class)?,
-        parent: copy_class(alloc, pool, file.super_class)?,
+        name,
+        parent,
         file,
         methods: List::new(alloc),
     })
@@ -115,9 +117,11 @@ fn class_with<P: Planner>(
     let mut entries = Entries::new(file.pool);
     let methods = methods_with(alloc, planner, state, &mut entries, old.methods.as_slice())?;
     file.pool = entries.into_list(alloc)?;
+    let name = old.name.copy(alloc)?;
+    let parent = old.parent.copy(alloc)?;
     Ok(LinkedClass {
-        name: old.name.copy(alloc)?,
-        parent: old.parent.copy(alloc)?,
+        name,
+        parent,
         file,
         methods,
     })
@@ -141,7 +145,8 @@ fn methods_with<P: Planner>(
     let mut methods = List::with_room(alloc, olds.len())?;
     let mut left = olds;
     while let [old, rest @ ..] = left {
-        methods.push(method_with(alloc, planner, state, entries, old)?)?;
+        let one = method_with(alloc, planner, state, entries, old)?;
+        methods.push(one)?;
         left = rest;
     }
     Ok(methods)
@@ -191,14 +196,17 @@ fn with_blocks<P: Planner>(
     let insns = parts(alloc, entries, fronts, old.insns.as_slice(), sites)?;
     let refs = parts_named(alloc, state, old.refs.as_slice(), sites)?;
     let handlers = handlers_with(alloc, fronts, sites, old.handlers.as_slice())?;
+    let name = old.name.copy(alloc)?;
+    let desc = old.desc.copy(alloc)?;
+    let handlers = Handlers::new(alloc, handlers)?;
     Ok(Method {
         flags: old.flags,
-        name: old.name.copy(alloc)?,
-        desc: old.desc.copy(alloc)?,
+        name,
+        desc,
         max_stack: old.max_stack + OPERANDS,
         max_locals: old.max_locals + locals,
         insns,
         refs,
-        handlers: Handlers::new(alloc, handlers)?,
+        handlers,
     })
 }

@@ -55,7 +55,8 @@ fn put_behind(
 {
     let change = when_called(place, taken);
     for t in stay {
-        out.push(own(alloc, change_told(change, t))?)?;
+        let one = own(alloc, change_told(change, t))?;
+        out.push(one)?;
     }
     Ok(())
 }
@@ -99,8 +100,8 @@ pub fn frame_behind(
 ) -> Result<FrameType, NoMemory>
     ensures { IfOk result (λ made. made ≡ frame_behind place.now frame.now) }
 {
-    Ok(FrameType {
-        locals: SharedList::new(alloc, locals_behind(alloc, place, frame)?)?,
-        stack: stack_behind(alloc, place, frame.stack.as_slice())?,
-    })
+    let behind = locals_behind(alloc, place, frame)?;
+    let locals = SharedList::new(alloc, behind)?;
+    let stack = stack_behind(alloc, place, frame.stack.as_slice())?;
+    Ok(FrameType { locals, stack })
 }

@@ -187,11 +187,13 @@ impl<'a> Client<'a> {
         }) }
     {
         let behind = frame_behind(alloc, place, frame)?;
+        let before = self.renamed(alloc, frame)?;
+        let after = self.renamed(alloc, &behind)?;
         Ok(CallTypes {
             names: self.weaving.names,
             clauses: clauses_of(self.weaving.items.policy(), callee),
-            before: self.renamed(alloc, frame)?,
-            after: self.renamed(alloc, &behind)?,
+            before,
+            after,
             base: place.method.max_locals,
         })
     }

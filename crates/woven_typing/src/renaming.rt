@@ -73,7 +73,8 @@ fn all_renamed(alloc: Global, fronts: &Fronts, types: &[VType]) -> Result<List<V
 {
     let mut made = List::with_room(alloc, types.len())?;
     for t in types {
-        made.push(renamed(fronts, t)?)?;
+        let one = renamed(fronts, t)?;
+        made.push(one)?;
     }
     Ok(made)
 }
@@ -87,8 +88,7 @@ pub fn frame_renamed(
     ensures { IfOk result (λ made. made ≡ frame_renamed (moved_by fronts.now.list fronts.now.count) frame.now) }
 {
     let locals = all_renamed(alloc, fronts, frame.locals.as_slice())?;
-    Ok(FrameType {
-        locals: SharedList::new(alloc, locals)?,
-        stack: all_renamed(alloc, fronts, frame.stack.as_slice())?,
-    })
+    let locals = SharedList::new(alloc, locals)?;
+    let stack = all_renamed(alloc, fronts, frame.stack.as_slice())?;
+    Ok(FrameType { locals, stack })
 }

@@ -207,7 +207,8 @@ fn put_thrown(alloc: Global, out: &mut List<VType>, locals: &[VType]) -> Result<
     ensures { OnOk result (out.new ≡ out.old ++ map when_thrown locals.now) }
 {
     for t in locals {
-        out.push(own(alloc, when_thrown(t))?)?;
+        let one = own(alloc, when_thrown(t))?;
+        out.push(one)?;
     }
     Ok(())
 }
@@ -275,10 +276,10 @@ impl<'a> CallTypes<'a> {
         }) }
     {
         let (below, _) = split_top(self.before.stack.as_slice(), taken);
-        Ok(FrameType {
-            locals: SharedList::new(alloc, self.saved_locals(alloc, left)?)?,
-            stack: copied_types(alloc, below, more)?,
-        })
+        let saved = self.saved_locals(alloc, left)?;
+        let locals = SharedList::new(alloc, saved)?;
+        let stack = copied_types(alloc, below, more)?;
+        Ok(FrameType { locals, stack })
     }
 
     /// Where the result is kept, and is on the stack no more.
@@ -289,10 +290,9 @@ impl<'a> CallTypes<'a> {
         let (below, top) = split_top(self.after.stack.as_slice(), count);
         let mut locals = locals_padded(alloc, self.base, self.after.locals.as_slice(), count)?;
         put_types(&mut locals, top)?;
-        Ok(FrameType {
-            locals: SharedList::new(alloc, locals)?,
-            stack: copied_types(alloc, below, more)?,
-        })
+        let locals = SharedList::new(alloc, locals)?;
+        let stack = copied_types(alloc, below, more)?;
+        Ok(FrameType { locals, stack })
     }
 
     /// Where the call gave its result, or its block is left.
@@ -303,10 +303,9 @@ impl<'a> CallTypes<'a> {
         }) }
     {
         let locals = locals_padded(alloc, self.base, self.after.locals.as_slice(), 0)?;
-        Ok(FrameType {
-            locals: SharedList::new(alloc, locals)?,
-            stack: copied_types(alloc, self.after.stack.as_slice(), 0)?,
-        })
+        let locals = SharedList::new(alloc, locals)?;
+        let stack = copied_types(alloc, self.after.stack.as_slice(), 0)?;
+        Ok(FrameType { locals, stack })
     }
 
     /// Where the call threw.
@@ -314,12 +313,11 @@ impl<'a> CallTypes<'a> {
         ensures { IfOk result (λ made. made ≡ phase_frame self.now.clauses self.now.around Exceptional) }
     {
         let mut stack = List::with_room(alloc, more.saturating_add(1))?;
-        stack.push(self.names.thrown()?)?;
+        let one = self.names.thrown()?;
+        stack.push(one)?;
         let locals = locals_caught(alloc, self.base, self.before.locals.as_slice())?;
-        Ok(FrameType {
-            locals: SharedList::new(alloc, locals)?,
-            stack,
-        })
+        let locals = SharedList::new(alloc, locals)?;
+        Ok(FrameType { locals, stack })
     }
 
     /// While a check of this phase is made. So many operands are pushed then.
@@ -356,10 +354,10 @@ impl<'a> CallTypes<'a> {
           stack = self.now.around.before.stack;
         }) }
     {
-        Ok(FrameType {
-            locals: SharedList::new(alloc, self.saved_locals(alloc, 0)?)?,
-            stack: copied_types(alloc, self.before.stack.as_slice(), 0)?,
-        })
+        let saved = self.saved_locals(alloc, 0)?;
+        let locals = SharedList::new(alloc, saved)?;
+        let stack = copied_types(alloc, self.before.stack.as_slice(), 0)?;
+        Ok(FrameType { locals, stack })
     }
 
     /// Where so many of the arguments are kept, or stand on the stack again.

@@ -55,7 +55,8 @@ fn methods_framed(
     let mut told = told;
     while let [method, later @ ..] = methods {
         if !method.insns.is_empty() {
-            made.push(method_framed(alloc, weaving, own, class, method, told)?)?;
+            let one = method_framed(alloc, weaving, own, class, method, told)?;
+            made.push(one)?;
             told = behind_first(told);
         }
         methods = later;
@@ -80,7 +81,8 @@ fn classes_framed(
     let mut told = told;
     while let [class, later @ ..] = classes {
         let methods = class.methods.as_slice();
-        made.push(methods_framed(alloc, weaving, own, class, methods, list_at(told, 0))?)?;
+        let one = methods_framed(alloc, weaving, own, class, methods, list_at(told, 0))?;
+        made.push(one)?;
         let Some(next) = own.checked_add(1) else {
             return Err(NoMemory);
         };
