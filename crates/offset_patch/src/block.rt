@@ -3,7 +3,7 @@
 use mon_base::List;
 
 /// An entry of the constant pool that a block names.
-#[derive(Clone, Copy, Debug, PartialEq, Eq, PartialOrd, Ord)]
+#[derive(Clone, Copy, PartialEq, Eq, PartialOrd, Ord)]
 pub enum PoolWant {
     /// The class `conspec/State`.
     StateClass,
@@ -16,7 +16,7 @@ pub enum PoolWant {
 }
 
 /// An instruction of a block.
-#[derive(Clone, Copy, Debug, PartialEq, Eq)]
+#[derive(Clone, Copy, PartialEq, Eq)]
 pub enum BlockInsn {
     /// An opcode alone.
     Plain(u8),
@@ -35,7 +35,7 @@ pub enum BlockInsn {
 }
 
 /// A block. It stands in the place of a client's instruction.
-#[derive(Debug, Drop, PartialEq, Eq)]
+#[derive(Drop, PartialEq, Eq)]
 pub struct Block {
     pub insns: List<BlockInsn>,
     /// Where in the block what the client's instruction throws is caught, if it is.

@@ -9,7 +9,7 @@ use std::alloc::Global;
 
 /// A constant that is added to a pool. It may name a place that two bytes do not hold: whether all fit is known once all
 /// are there.
-#[derive(Debug, Drop, PartialEq, Eq, PartialOrd, Ord)]
+#[derive(Drop, PartialEq, Eq, PartialOrd, Ord)]
 pub enum Added {
     Text(Bytes),
     Class(u64),
@@ -25,7 +25,10 @@ impl Added {
         ensures { IfOk result (λ other. other ≡ self.now) }
     {
         match self {
-            Added::Text(text) => Ok(Added::Text(text.copy(alloc)?)),
+            Added::Text(text) => {
+                let text = text.copy(alloc)?;
+                Ok(Added::Text(text))
+            }
             Added::Class(name) => Ok(Added::Class(*name)),
             Added::NameAndType(name, desc) => Ok(Added::NameAndType(*name, *desc)),
             Added::Field(class, member) => Ok(Added::Field(*class, *member)),
@@ -40,7 +43,10 @@ pub fn added_of(alloc: Global, constant: &Const) -> Result<Option<Added>, NoMemo
     ensures { IfOk result (λ added. added ≡ added_of constant.now) }
 {
     match constant {
-        Const::Utf8(text) => Ok(Some(Added::Text(text.copy(alloc)?))),
+        Const::Utf8(text) => {
+            let text = text.copy(alloc)?;
+            Ok(Some(Added::Text(text)))
+        }
         Const::Class(name) => Ok(Some(Added::Class(u64::from(*name)))),
         Const::NameAndType(name, desc) => Ok(Some(Added::NameAndType(
             u64::from(*name),

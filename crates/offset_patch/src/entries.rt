@@ -158,7 +158,10 @@ fn constant(alloc: Global, added: &Added) -> Result<Const, NoMemory>
     ensures { IfOk result (λ constant. constant ≡ const_of added.now) }
 {
     match added {
-        Added::Text(text) => Ok(Const::Utf8(text.copy(alloc)?)),
+        Added::Text(text) => {
+            let text = text.copy(alloc)?;
+            Ok(Const::Utf8(text))
+        }
         Added::Class(name) => Ok(Const::Class(*name as u16)),
         Added::NameAndType(name, desc) => Ok(Const::NameAndType(*name as u16, *desc as u16)),
         Added::Field(class, member) => Ok(Const::Field(*class as u16, *member as u16)),
