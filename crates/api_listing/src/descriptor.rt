@@ -178,10 +178,10 @@ fn is_closed(bytes: &[u8]) -> bool
     ensures value { result ≡ is_closed bytes.now }
     ensures long { IsTrue result → 1 ≤ length bytes.now }
 {
-    match bytes {
-        [] => false,
-        [first, ..] => *first == b')',
-    }
+    let [first, ..] = bytes else {
+        return false;
+    };
+    *first == b')'
 }
 
 #[tactic(auto, unfolding(crate::specs::Descriptor::result_of))]

@@ -34,10 +34,13 @@ impl ListedClass {
     pub fn copy(&self, alloc: Global) -> Result<ListedClass, NoMemory>
         ensures { IfOk result (λ c. c ≡ self.now) }
     {
+        let name = self.name.copy(alloc)?;
+        let parent = self.parent.copy(alloc)?;
+        let interfaces = copies(alloc, self.interfaces.as_slice())?;
         Ok(ListedClass {
-            name: self.name.copy(alloc)?,
-            parent: self.parent.copy(alloc)?,
-            interfaces: copies(alloc, self.interfaces.as_slice())?,
+            name,
+            parent,
+            interfaces,
             is_interface: self.is_interface,
         })
     }
@@ -48,8 +51,9 @@ impl ListedMethod {
     pub fn copy(&self, alloc: Global) -> Result<ListedMethod, NoMemory>
         ensures { IfOk result (λ m. m ≡ self.now) }
     {
+        let id = self.id.copy(alloc)?;
         Ok(ListedMethod {
-            id: self.id.copy(alloc)?,
+            id,
             is_static: self.is_static,
         })
     }
@@ -60,7 +64,8 @@ fn copies(alloc: Global, names: &[Bytes]) -> Result<List<Bytes>, NoMemory>
 {
     let mut made = List::new(alloc);
     for name in names {
-        made.push(name.copy(alloc)?)?;
+        let copy = name.copy(alloc)?;
+        made.push(copy)?;
     }
     Ok(made)
 }
