@@ -213,7 +213,8 @@ fn add_class(alloc: Global, draft: &mut Draft, class: &ListedClass) -> Result<()
     requires { Agrees draft.old }
     ensures { OnOk result (Agrees draft.new × (draft.new.listing ≡ with_class draft.old.listing class.now)) }
 {
-    draft.listing.classes.push(class.copy(alloc)?)?;
+    let copy = class.copy(alloc)?;
+    draft.listing.classes.push(copy)?;
     add_name(alloc, &mut draft.names, &class.name)?;
     Ok(())
 }
@@ -222,7 +223,8 @@ fn add_method(alloc: Global, draft: &mut Draft, method: &ListedMethod) -> Result
     requires { Agrees draft.old }
     ensures { OnOk result (Agrees draft.new × (draft.new.listing ≡ with_method draft.old.listing method.now)) }
 {
-    draft.listing.methods.push(method.copy(alloc)?)?;
+    let copy = method.copy(alloc)?;
+    draft.listing.methods.push(copy)?;
     add_id(alloc, &mut draft.methods, &method.id)?;
     Ok(())
 }
@@ -231,7 +233,8 @@ fn add_field(alloc: Global, draft: &mut Draft, id: &MethodId) -> Result<(), NoMe
     requires { Agrees draft.old }
     ensures { OnOk result (Agrees draft.new × (draft.new.listing ≡ with_field draft.old.listing id.now)) }
 {
-    draft.listing.fields.push(id.copy(alloc)?)?;
+    let copy = id.copy(alloc)?;
+    draft.listing.fields.push(copy)?;
     add_id(alloc, &mut draft.fields, id)?;
     Ok(())
 }

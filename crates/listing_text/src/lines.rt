@@ -29,7 +29,7 @@ use mon_base::{Bytes, List, MethodId, NoMemory};
 use std::alloc::Global;
 
 /// What a line says.
-#[derive(Debug, Drop, PartialEq, Eq)]
+#[derive(Drop, PartialEq, Eq)]
 pub enum Said {
     /// It is empty or a remark.
     Nothing,
@@ -42,11 +42,12 @@ pub enum Said {
 pub fn said_lines(alloc: Global, text: &[u8]) -> Result<List<Said>, NoMemory>
     ensures { IfOk result (λ said. said ≡ said_lines (pieces 10 text.now)) }
 {
-    let mut parts = pieces(alloc, text, b'\n')?.into_vec();
-    match parts.pop() {
-        Some(last) => with_last(alloc, parts.as_slice(), &last),
-        None => Ok(List::new(alloc)),
-    }
+    let parts = pieces(alloc, text, b'\n')?;
+    let mut parts = parts.into_vec();
+    let Some(last) = parts.pop() else {
+        return Ok(List::new(alloc));
+    };
+    with_last(alloc, parts.as_slice(), &last)
 }
 
 fn with_last(alloc: Global, lines: &[Bytes], last: &Bytes) -> Result<List<Said>, NoMemory>
@@ -64,7 +65,8 @@ fn said_by(alloc: Global, lines: &[Bytes]) -> Result<List<Said>, NoMemory>
 {
     let mut found = List::new(alloc);
     for line in lines {
-        found.push(read_line(alloc, line.as_slice())?)?;
+        let line = read_line(alloc, line.as_slice())?;
+        found.push(line)?;
     }
     Ok(found)
 }
@@ -124,18 +126,20 @@ fn two_words(alloc: Global, verb: &[u8], name: &[u8]) -> Result<Declaration, For
     ensures { Answers FormFault.Memory result (two_words verb.now name.now) }
 {
     if is_text(verb, "interface") && class_name(name) {
-        Ok(Declaration::Class(interface_named(alloc, name)?))
-    } else {
-        Err(FormFault::NoForm)
+        let named = interface_named(alloc, name)?;
+        return Ok(Declaration::Class(named));
     }
+    Err(FormFault::NoForm)
 }
 
 fn interface_named(alloc: Global, name: &[u8]) -> Result<ListedClass, NoMemory>
     ensures { IfOk result (λ c. c ≡ interface_named name.now) }
 {
+    let name = Bytes::from_slice(alloc, name)?;
+    let parent = Bytes::from_slice(alloc, b"java/lang/Object")?;
     Ok(ListedClass {
-        name: Bytes::from_slice(alloc, name)?,
-        parent: Bytes::from_slice(alloc, b"java/lang/Object")?,
+        name,
+        parent,
         interfaces: List::new(alloc),
         is_interface: true,
     })
@@ -196,9 +200,11 @@ fn class_line(
     if !class_name(name) || !class_name(parent) || !are_class_names(interfaces.as_slice()) {
         return Err(FormFault::NoForm);
     }
+    let name = Bytes::from_slice(alloc, name)?;
+    let parent = Bytes::from_slice(alloc, parent)?;
     Ok(Declaration::Class(ListedClass {
-        name: Bytes::from_slice(alloc, name)?,
-        parent: Bytes::from_slice(alloc, parent)?,
+        name,
+        parent,
         interfaces,
         is_interface: false,
     }))
@@ -256,18 +262,18 @@ fn field_line(
 fn class_of(alloc: Global, desc: &[u8]) -> Result<Bytes, FormFault>
     ensures { Answers FormFault.Memory result (class_of desc.now) }
 {
-    match parse_class_descriptor(desc) {
-        Some(class) => Ok(Bytes::from_slice(alloc, class)?),
-        None => Err(FormFault::NoForm),
-    }
+    let Some(class) = parse_class_descriptor(desc) else {
+        return Err(FormFault::NoForm);
+    };
+    let class = Bytes::from_slice(alloc, class)?;
+    Ok(class)
 }
 
 fn member(alloc: Global, class: &[u8], name: &[u8], desc: &[u8]) -> Result<MethodId, NoMemory>
     ensures { IfOk result (λ id. id ≡ member class.now name.now desc.now) }
 {
-    Ok(MethodId {
-        class: Bytes::from_slice(alloc, class)?,
-        name: Bytes::from_slice(alloc, name)?,
-        desc: Bytes::from_slice(alloc, desc)?,
-    })
+    let class = Bytes::from_slice(alloc, class)?;
+    let name = Bytes::from_slice(alloc, name)?;
+    let desc = Bytes::from_slice(alloc, desc)?;
+    Ok(MethodId { class, name, desc })
 }

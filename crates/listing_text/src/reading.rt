@@ -62,8 +62,8 @@ fn add_class(alloc: Global, names: &mut BTreeSet<Bytes>, line: &Said) -> Result<
     ensures { OnOk result ((q : List ℕ) → has_name names.new q
         ≡ (is_named q (class_said line.now) || has_name names.old q)) }
 {
-    match line {
-        Said::Says(Declaration::Class(class)) => add_name(alloc, names, &class.name),
-        _ => Ok(()),
-    }
+    let Said::Says(Declaration::Class(class)) = line else {
+        return Ok(());
+    };
+    add_name(alloc, names, &class.name)
 }

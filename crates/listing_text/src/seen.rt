@@ -26,7 +26,8 @@ pub fn names_of(alloc: Global, classes: &[ListedClass]) -> Result<BTreeSet<Bytes
 pub fn add_name(alloc: Global, names: &mut BTreeSet<Bytes>, name: &Bytes) -> Result<(), NoMemory>
     ensures { OnOk result ((q : List ℕ) → has_name names.new q ≡ (bytes_eq name.now q || has_name names.old q)) }
 {
-    names.insert(name.copy(alloc)?)?;
+    let copy = name.copy(alloc)?;
+    names.insert(copy)?;
     Ok(())
 }
 
@@ -35,6 +36,7 @@ pub fn add_id(alloc: Global, ids: &mut BTreeSet<MethodId>, id: &MethodId) -> Res
     ensures { OnOk result ((q : MethodId) → has_id ids.new q
         ≡ (is_method q.class q.name q.desc id.now || has_id ids.old q)) }
 {
-    ids.insert(id.copy(alloc)?)?;
+    let copy = id.copy(alloc)?;
+    ids.insert(copy)?;
     Ok(())
 }

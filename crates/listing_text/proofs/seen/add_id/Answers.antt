@@ -8,5 +8,5 @@ use Rattle.listing_text.proofs.seen.add_id.Goals as goal
 
 pub returns : goal.returns
 returns c =
-    λ q. c.in_ok-insert.ensures.updates.0 q ∙ cond_or (is_eq (id_cmp c.in_ok-copy.field-0 q)) (has_id c.args.ids.now q)
-    ∙ ap (λ b. b || has_id c.args.ids.now q) (id_cmp-is c.in_ok-copy.field-0 q ∙ ap (is_method q.class q.name q.desc) c.in_ok-copy.ensures)
+    λ q. c.in_ok-insert.ensures.updates.0 q ∙ cond_or (is_eq (id_cmp c.in_ok-copy.copy q)) (has_id c.args.ids.now q)
+    ∙ ap (λ b. b || has_id c.args.ids.now q) (id_cmp-is c.in_ok-copy.copy q ∙ ap (is_method q.class q.name q.desc) c.in_ok-copy.ensures)
