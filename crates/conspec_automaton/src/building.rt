@@ -93,7 +93,8 @@ fn clauses_built(
 {
     let mut built = List::new(alloc);
     for clause in clauses {
-        built.push(clause_built(alloc, maxint, clause)?)?;
+        let clause = clause_built(alloc, maxint, clause)?;
+        built.push(clause)?;
     }
     Ok(built)
 }
@@ -130,7 +131,8 @@ fn add_branches(
     ensures { OnOk result (branches.new ≡ branches.old ++ guard_branches maxint guard.now) }
 {
     for atoms in guard.conjs.as_slice() {
-        branches.push(branch_of(alloc, maxint, atoms.as_slice(), guard.updates.as_slice())?)?;
+        let branch = branch_of(alloc, maxint, atoms.as_slice(), guard.updates.as_slice())?;
+        branches.push(branch)?;
     }
     Ok(())
 }
@@ -158,7 +160,8 @@ fn atoms_of(
 ) -> Result<List<Atom>, NoMemory>
     ensures { IfOk result (λ all. all ≡ atoms_of maxint updates.now atoms.now) }
 {
-    let mut all = List::from_vec(Vec::from_slice(alloc, atoms)?);
+    let copy = Vec::from_slice(alloc, atoms)?;
+    let mut all = List::from_vec(copy);
     for update in updates {
         add_range_atom(maxint, *update, &mut all)?;
     }
