@@ -112,11 +112,11 @@ pub fn tokens_of(alloc: Global, text: &[u8]) -> Result<List<Token>, NoMemory>
 fn with_begun(tokens: List<Token>, at: u64, found: Piece) -> Result<List<Token>, NoMemory>
     ensures { IfOk result (λ more. more ≡ tokens ++ begun at found) }
 {
+    let Piece::Begins(lexeme, _) = found else {
+        return Ok(tokens);
+    };
     let mut tokens = tokens;
-    match found {
-        Piece::Skips(_) => {}
-        Piece::Begins(lexeme, _) => tokens.push(Token { at, lexeme })?,
-    }
+    tokens.push(Token { at, lexeme })?;
     Ok(tokens)
 }
 
