@@ -26,11 +26,12 @@ use type_lattice::Indexed;
 fn top_operand(frames: &Frames) -> Option<Value>
     ensures { result ≡ option_and_then (λ (f : Frame). slice_get f.stack.items 0) (slice_get frames.now 0) }
 {
-    frames.top()?.stack.get(0)
+    let frame = frames.top()?;
+    frame.stack.get(0)
 }
 
 /// What is done with what is on top: it is thrown, or its monitor is entered or left.
-#[derive(Clone, Copy, Debug, PartialEq, Eq)]
+#[derive(Clone, Copy, PartialEq, Eq)]
 pub enum OnTop {
     Throw,
     Enter,

@@ -48,19 +48,12 @@ fn frame_of_main(
     ensures { IfOk result (λ frame. frame ≡ frame_of program.now (class, index) method.now None
         (if arity method.now.desc == 0 then [] else main_argument program.now ∷ [])) }
 {
-    if arity(alloc, method.desc.as_slice())? == 0 {
-        frame_of(alloc, program, class, index, method, None, &[])
-    } else {
-        frame_of(
-            alloc,
-            program,
-            class,
-            index,
-            method,
-            None,
-            &[main_argument(program)],
-        )
+    let count = arity(alloc, method.desc.as_slice())?;
+    if count == 0 {
+        return frame_of(alloc, program, class, index, method, None, &[]);
     }
+    let arguments = [main_argument(program)];
+    frame_of(alloc, program, class, index, method, None, &arguments)
 }
 
 /// The thread, which leaves its frames, begins the next method, or has ended.
@@ -104,7 +97,8 @@ fn frames_begun(alloc: Global, program: &Indexed, to: (u32, u32)) -> Result<Fram
     ensures { IfOk result (λ frames. frames ≡ option_to_list (frame_begun program.now to)) }
 {
     let mut frames = Frames::new(alloc);
-    if let Some(frame) = frame_begun(alloc, program, to)? {
+    let begun = frame_begun(alloc, program, to)?;
+    if let Some(frame) = begun {
         frames.push(frame)?;
     }
     Ok(frames)

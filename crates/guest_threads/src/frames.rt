@@ -39,10 +39,11 @@ fn has_room(stack: &Stack, taken: usize, value: Option<Value>) -> bool
     ensures { result ≡ not (nat_lt stack.now.size (length (option_to_list value ++ drop taken stack.now.items))) }
 {
     let left = stack.len().saturating_sub(taken);
-    match value {
-        Some(_) => left < stack.size() as usize,
-        None => left <= stack.size() as usize,
+    let most = stack.size() as usize;
+    if value.is_none() {
+        return left <= most;
     }
+    left < most
 }
 
 /// Where the frame goes on behind its instruction, which takes so many operands and leaves the result above the others; that is
@@ -86,7 +87,9 @@ pub fn go_on(frame: &mut Frame, taken: usize, value: Option<Value>) -> Result<()
 pub fn method_at(program: &Program, class: u32, index: u32) -> Option<&Method>
     ensures { option_copied result ≡ method_at program.now class index }
 {
-    let of = program.classes.as_slice().get(class as usize)?;
+    let Some(of) = program.classes.as_slice().get(class as usize) else {
+        return None;
+    };
     of.methods.as_slice().get(index as usize)
 }
 
@@ -142,12 +145,14 @@ pub fn frame_of(
     requires few { class < 2 ^ 16 }
     ensures { IfOk result (λ frame. frame ≡ frame_of program.now (class, index) method.now receiver arguments.now) }
 {
+    let locals = locals_of(alloc, method.max_locals, receiver, arguments)?;
+    let stack = Stack::new(alloc, method.max_stack)?;
     Ok(Frame {
         class,
         method: index,
         at: 0,
-        locals: locals_of(alloc, method.max_locals, receiver, arguments)?,
-        stack: Stack::new(alloc, method.max_stack)?,
+        locals,
+        stack,
         lock: lock_of(program, class, method, receiver),
     })
 }

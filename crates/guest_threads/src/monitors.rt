@@ -135,8 +135,8 @@ pub fn take_lock(
 ) -> Result<(), StepFault>
     ensures { Becomes result monitors.old monitors.new (lock_taken monitors.old thread lock) }
 {
-    match lock {
-        Some(on) => enter(monitors, thread, on),
-        None => Ok(()),
-    }
+    let Some(on) = lock else {
+        return Ok(());
+    };
+    enter(monitors, thread, on)
 }

@@ -9,7 +9,7 @@ use mon_base::{List, NoMemory};
 use std::alloc::Global;
 
 /// A call under way: the number of its thread, and what it takes from the operands.
-#[derive(Debug, Drop)]
+#[derive(Drop)]
 pub struct Call {
     pub number: u32,
     /// The receiver, where the method has one.

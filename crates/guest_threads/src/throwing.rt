@@ -33,10 +33,10 @@ fn catches(program: &Indexed, at: u32, class: &[u8], handler: &Handler) -> bool
 fn is_of_class(program: &Indexed, class: &[u8], caught: &Option<Bytes>) -> bool
     ensures { result ≡ option_map_or (λ (name : List ℕ). is_below program.now class.now name) caught.now true }
 {
-    match caught {
-        Some(name) => is_below(program, class, name.as_slice()),
-        None => true,
-    }
+    let Some(name) = caught else {
+        return true;
+    };
+    is_below(program, class, name.as_slice())
 }
 
 /// Where the first of the handlers begins that catches an exception of the class, thrown at this instruction.
@@ -163,12 +163,19 @@ pub fn push_object(alloc: Global, heap: &mut List<Object>, class: &[u8]) -> Resu
     if heap.len() >= u32::MAX as usize {
         return Err(NoMemory);
     }
+    let object = bare_object(alloc, class)?;
+    new_object(heap, object)
+}
+
+/// An object of the class without fields.
+fn bare_object(alloc: Global, class: &[u8]) -> Result<Object, NoMemory>
+    ensures { IfOk result (λ object. object ≡ bare_object class.now) }
+{
     let class = Bytes::from_slice(alloc, class)?;
-    let object = Object::Plain {
+    Ok(Object::Plain {
         class,
         fields: List::new(alloc),
         target: Value::Null,
         thread: None,
-    };
-    new_object(heap, object)
+    })
 }
