@@ -19,7 +19,8 @@ pub fn statics_of(alloc: Global, program: &Program) -> Result<List<List<Value>>,
 {
     let mut statics = List::new(alloc);
     for class in program.classes.as_slice() {
-        statics.push(class_statics(alloc, program, &class.file)?)?;
+        let values = class_statics(alloc, program, &class.file)?;
+        statics.push(values)?;
     }
     Ok(statics)
 }
@@ -34,7 +35,8 @@ fn class_statics(
 {
     let mut values = List::new(alloc);
     for field in file.fields.as_slice() {
-        values.push(starting_value(program, file, field)?)?;
+        let value = starting_value(program, file, field)?;
+        values.push(value)?;
     }
     Ok(values)
 }
@@ -44,7 +46,8 @@ fn starting_value(program: &Program, file: &ClassFile, field: &Member) -> Result
     ensures { IfOk result (λ value. value ≡ starting_value program.now file.now field.now) }
 {
     if is_static(field.flags) {
-        if let Some(value) = value_told(program, file, field)? {
+        let told = value_told(program, file, field)?;
+        if let Some(value) = told {
             return Ok(value);
         }
     }

@@ -141,12 +141,16 @@ fn first_items(alloc: Global, desc: &[u8], count: usize) -> Result<List<Value>, 
         [] => first_value(b""),
         [_, item @ ..] => first_value(item),
     };
-    Ok(List::from_vec(vec![in alloc; first; count]?))
+    let items = vec![in alloc; first; count]?;
+    Ok(List::from_vec(items))
 }
 
 /// A truth value as a number.
 pub fn truth(test: bool) -> Value
     ensures { result ≡ truth test }
 {
-    if test { Value::Int(1) } else { Value::Int(0) }
+    if test {
+        return Value::Int(1);
+    }
+    Value::Int(0)
 }

@@ -35,7 +35,8 @@ pub fn replace(stack: &mut Stack, taken: usize, came: Option<Comes>) -> Option<O
 pub fn number_operand(stack: &Stack, depth: u8) -> Option<i32>
     ensures { result ≡ number_operand stack.now.items depth }
 {
-    match stack.get(depth)? {
+    let value = stack.get(depth)?;
+    match value {
         Value::Int(n) => Some(n),
         Value::Null | Value::Ref(_) | Value::Class(_) | Value::Lit(_) => None,
     }
@@ -47,5 +48,8 @@ pub fn operand_of(kind: Kind, stack: &Stack, depth: u8) -> Option<Value>
     ensures few { length stack.now.items ≤ stack.now.size }
 {
     let value = stack.get(depth)?;
-    if fits(kind, value) { Some(value) } else { None }
+    if fits(kind, value) {
+        return Some(value);
+    }
+    None
 }
