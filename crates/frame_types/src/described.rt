@@ -59,7 +59,8 @@ fn split_type<'a>(text: &'a [u8]) -> (&'a [u8], &'a [u8])
     ensures first { result.0.now ≡ first_type text.now }
     ensures behind { result.1.now ≡ behind_type text.now }
 {
-    text.split_at(type_length(text))
+    let count = type_length(text);
+    text.split_at(count)
 }
 
 /// The type at the front and what stands behind it, unless the arguments end there.
@@ -141,7 +142,8 @@ pub fn type_described(text: &[u8]) -> TypeRef<'_>
 pub fn without_last(text: &[u8]) -> &[u8]
     ensures { result.now ≡ take (length text.now - 1) text.now }
 {
-    &text[..text.len().saturating_sub(1)]
+    let count = text.len().saturating_sub(1);
+    &text[..count]
 }
 
 /// The type of a method's result, or nothing where it has none.

@@ -13,10 +13,10 @@ use insn_codec::StackForm;
 pub fn type_at(list: &[VType], i: usize) -> TypeRef<'_>
     ensures { type_lent result ≡ type_at list.now i }
 {
-    match list.get(i) {
-        Some(t) => lend(t),
-        None => TypeRef::Top,
-    }
+    let Some(t) = list.get(i) else {
+        return TypeRef::Top;
+    };
+    lend(t)
 }
 
 /// The operands below the n topmost, and these.

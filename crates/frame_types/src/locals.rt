@@ -16,10 +16,10 @@ use insn_codec::{Kind, Shape};
 fn holds_kind(kind: Kind, locals: &[VType], slot: u16) -> bool
     ensures { result ≡ of_kind kind (type_at locals.now slot) }
 {
-    match locals.get(usize::from(slot)) {
-        Some(t) => of_kind(kind, t),
-        None => false,
-    }
+    let Some(t) = locals.get(usize::from(slot)) else {
+        return false;
+    };
+    of_kind(kind, t)
 }
 
 /// Whether a method has the local that is used, and this holds what is wanted.

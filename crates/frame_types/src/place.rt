@@ -42,30 +42,33 @@ impl<'a> Model for InsnRef<'a> {
 pub fn class_referred<'a>(place: &InsnRef<'a>) -> &'a [u8]
     ensures { result.now ≡ class_referred place.now }
 {
-    match reference_at(place.class.file.pool.as_slice(), index_of(place.insn)) {
-        Some(id) => id.class.as_slice(),
-        None => b"".as_slice(),
-    }
+    let pool = place.class.file.pool.as_slice();
+    let Some(id) = reference_at(pool, index_of(place.insn)) else {
+        return b"".as_slice();
+    };
+    id.class.as_slice()
 }
 
 /// Its name, or none.
 fn name_referred<'a>(place: &InsnRef<'a>) -> &'a [u8]
     ensures { result.now ≡ name_referred place.now }
 {
-    match reference_at(place.class.file.pool.as_slice(), index_of(place.insn)) {
-        Some(id) => id.name.as_slice(),
-        None => b"".as_slice(),
-    }
+    let pool = place.class.file.pool.as_slice();
+    let Some(id) = reference_at(pool, index_of(place.insn)) else {
+        return b"".as_slice();
+    };
+    id.name.as_slice()
 }
 
 /// The descriptor of the field or method that is referred to, or none.
 pub fn desc_referred<'a>(place: &InsnRef<'a>) -> &'a [u8]
     ensures { result.now ≡ desc_referred place.now }
 {
-    match reference_at(place.class.file.pool.as_slice(), index_of(place.insn)) {
-        Some(id) => id.desc.as_slice(),
-        None => b"".as_slice(),
-    }
+    let pool = place.class.file.pool.as_slice();
+    let Some(id) = reference_at(pool, index_of(place.insn)) else {
+        return b"".as_slice();
+    };
+    id.desc.as_slice()
 }
 
 /// Whether a call is of the method that makes an object.

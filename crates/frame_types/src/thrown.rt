@@ -39,10 +39,10 @@ pub fn when_thrown(t: &VType) -> TypeRef<'_>
 pub fn local_caught(locals: &[VType], j: usize) -> TypeRef<'_>
     ensures { type_lent result ≡ local_caught locals.now j }
 {
-    match locals.get(j) {
-        Some(t) => when_thrown(t),
-        None => TypeRef::Top,
-    }
+    let Some(t) = locals.get(j) else {
+        return TypeRef::Top;
+    };
+    when_thrown(t)
 }
 
 fn is_reference_to(class: &[u8], t: &VType) -> bool
@@ -75,7 +75,8 @@ pub fn locals_thrown(alloc: Global, locals: &[VType]) -> Result<List<VType>, NoM
 {
     let mut found = List::new(alloc);
     for t in locals {
-        found.push(own(alloc, when_thrown(t))?)?;
+        let left = own(alloc, when_thrown(t))?;
+        found.push(left)?;
     }
     Ok(found)
 }
@@ -85,6 +86,7 @@ pub fn stack_thrown(alloc: Global, handler: &Handler) -> Result<List<VType>, NoM
     ensures { IfOk result (λ stack. stack ≡ Ref (class_caught handler.now) ∷ []) }
 {
     let mut stack = List::new(alloc);
-    stack.push(VType::Ref(Name::from_slice(alloc, class_caught(handler))?))?;
+    let class = Name::from_slice(alloc, class_caught(handler))?;
+    stack.push(VType::Ref(class))?;
     Ok(stack)
 }

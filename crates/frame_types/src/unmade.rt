@@ -17,25 +17,23 @@ use insn_codec::{Heap, Shape, shape_of};
 fn made_by<'a>(shape: Shape, target: Option<&'a Target>) -> &'a [u8]
     ensures { result.now ≡ made_by shape (target_or_none (option_copied target.entry)) }
 {
-    match shape {
-        Shape::Heap(Heap::New) => class_of(target),
-        _ => b"".as_slice(),
-    }
+    let Shape::Heap(Heap::New) = shape else {
+        return b"".as_slice();
+    };
+    class_of(target)
 }
 
 /// The class of the `new` of this index, or none.
 pub fn new_at<'a>(method: &'a Method, i: u32) -> &'a [u8]
     ensures { result.now ≡ new_at method.now i }
 {
-    match method.insns.as_slice().get(i as usize) {
-        None => b"".as_slice(),
-        Some(insn) => {
-            match method.refs.as_slice().get(i as usize) {
-                None => b"".as_slice(),
-                Some(target) => made_by(shape_of(insn), Some(target)),
-            }
-        }
-    }
+    let Some(insn) = method.insns.as_slice().get(i as usize) else {
+        return b"".as_slice();
+    };
+    let Some(target) = method.refs.as_slice().get(i as usize) else {
+        return b"".as_slice();
+    };
+    made_by(shape_of(insn), Some(target))
 }
 
 /// Whether the types are of one object that is not made yet.
