@@ -2,10 +2,9 @@
 //! it, has an array of what is found in it and its superclasses, by the numbers of names and descriptors: that of its
 //! superclass with its own members put in.
 
-ghost use Rattle.std.specs.Prelude.{◌≡◌, ◌≤◌, ◌^◌, List, Option, Some, IfOk, IfSome, OnOk, length};
-ghost use Rattle.std.specs.BTreeMap.{BTreeMap, btree_map_len};
+ghost use Rattle.std.specs.Prelude.{◌≡◌, List, Option, Some, IfOk, IfSome, OnOk};
 ghost use Rattle.mon_base.specs.declared.method.MethodId.{MethodId};
-ghost use Rattle.api_listing.specs.Nearest.{names_of, upwards};
+ghost use Rattle.api_listing.specs.Nearest.{names_of};
 ghost use Rattle.bytecode_model.specs.declared.members.Found.{Found};
 ghost use Rattle.bytecode_model.specs.Members.{first_found, in_class};
 ghost use Rattle.bytecode_model.specs.SearchOrder.{superclasses};
@@ -89,7 +88,7 @@ pub fn nearest_of(
     Ok(Nearest { numbers, versions })
 }
 
-/// No array but that of zeros, with room for so many items.
+/// No array but that of zeros, with room for all numbers.
 fn no_versions(alloc: Global, numbers: &Numbers) -> Result<Versions, NoMemory>
     requires { AreNumbers numbers.now }
     ensures { IfOk result (λ versions. (look : MethodId → Option Found) (classes : List ListedClass) → AreVersions look numbers.now classes versions) }

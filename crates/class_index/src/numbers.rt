@@ -1,15 +1,13 @@
 //! Numbers of the names and descriptors that references have, and which of them each class declares.
 
-ghost use Rattle.std.specs.Prelude.{◌≡◌, ◌==◌, ◌||◌, ◌&&◌, ◌∷◌, [], ℕ, List, Some, None, IfOk, OnOk, bytes_eq, if◌then◌else◌};
-ghost use Rattle.std.specs.BTreeMap.{get};
-ghost use Rattle.std.specs.Cmp.Lexicographic.{slice_cmp};
-ghost use Rattle.std.specs.Ordering.{nat_cmp, is_eq};
+ghost use Rattle.std.specs.Prelude.{◌≡◌, ◌==◌, ◌||◌, ◌&&◌, [], ℕ, List, Some, IfOk, OnOk, bytes_eq, if◌then◌else◌};
+ghost use Rattle.std.specs.Ordering.{is_eq};
 ghost use Rattle.mon_base.specs.declared.method.MethodId.{MethodId};
 ghost use Rattle.api_listing.specs.Seen.{id_cmp};
-ghost use Rattle.bytecode_model.specs.Members.{in_class};
 ghost use Rattle.class_index.specs.Arrays.{is_number};
 ghost use Rattle.class_index.specs.Nearest.{number_of, own_of, AreNumbers, AreOwn};
 
+use crate::members::in_class;
 use bytecode_model::{Found, MemberKind};
 use class_codec::{ClassFile, Const, name_and_type_at};
 use mon_base::{Bytes, List, MethodId, NoMemory};
@@ -52,15 +50,23 @@ fn add_references(
 /// The class and the name with its type, if the constant refers to a member of the kind.
 pub fn reference(kind: MemberKind, constant: &Const) -> Option<(u16, u16)> {
     match kind {
-        MemberKind::Method => match constant {
-            Const::Method(class, member) => Some((*class, *member)),
-            Const::IMethod(class, member) => Some((*class, *member)),
-            _ => None,
-        },
-        MemberKind::Field => match constant {
-            Const::Field(class, member) => Some((*class, *member)),
-            _ => None,
-        },
+        MemberKind::Method => method_reference(constant),
+        MemberKind::Field => field_reference(constant),
+    }
+}
+
+fn method_reference(constant: &Const) -> Option<(u16, u16)> {
+    match constant {
+        Const::Method(class, member) => Some((*class, *member)),
+        Const::IMethod(class, member) => Some((*class, *member)),
+        _ => None,
+    }
+}
+
+fn field_reference(constant: &Const) -> Option<(u16, u16)> {
+    match constant {
+        Const::Field(class, member) => Some((*class, *member)),
+        _ => None,
     }
 }
 
@@ -90,11 +96,7 @@ fn add_number(
 pub fn number_of(alloc: Global, numbers: &Numbers, id: &MethodId) -> Result<Option<usize>, NoMemory>
     ensures { IfOk result (λ number. number ≡ number_of numbers.now id.now) }
 {
-    let key = MethodId {
-        class: Bytes::new(alloc),
-        name: id.name.copy(alloc)?,
-        desc: id.desc.copy(alloc)?,
-    };
+    let key = in_class(alloc, id, &Bytes::new(alloc))?;
     match numbers.get(&key) {
         Some(number) => Ok(Some(*number)),
         None => Ok(None),
