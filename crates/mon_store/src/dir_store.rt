@@ -66,21 +66,25 @@ fn path_of(name: &Bytes) -> io::Result<&str> {
 
 /// The length of the file, in bytes.
 fn size_of<R: Files>(rt: &R, name: &Bytes) -> io::Result<u64> {
-    Ok(fs::metadata(rt, path_of(name)?)?.len())
+    let path = path_of(name)?;
+    let data = fs::metadata(rt, path)?;
+    Ok(data.len())
 }
 
 /// Reads from this position of the file on.
 fn read_at<R: Files>(rt: &R, name: &Bytes, at: u64, into: &mut [u8]) -> io::Result<usize>
     ensures { IfOk result (λ n. n ≤ length into.new) }
 {
-    let mut file = File::open(rt, path_of(name)?)?;
+    let path = path_of(name)?;
+    let mut file = File::open(rt, path)?;
     file.seek(SeekFrom::Start(at))?;
     file.read(into)
 }
 
 /// Makes the folders that the path names, and the file with these bytes.
 fn write_whole<R: Files>(rt: &R, name: &Bytes, bytes: &[u8]) -> io::Result<()> {
-    let path = Path::new(path_of(name)?);
+    let path = path_of(name)?;
+    let path = Path::new(path);
     if let Some(folder) = path.parent() {
         fs::create_dir_all(rt, folder)?;
     }

@@ -63,8 +63,10 @@ fn write_one<S: Store>(alloc: Global, store: &mut S, output: &Output) -> Result<
 {
     match store.write(&output.name, output.bytes.as_slice()) {
         Ok(()) => Ok(()),
-        Err(StoreFault::Absent) => Err(WriteFault::Failed(output.name.copy(alloc)?)),
-        Err(StoreFault::Failed) => Err(WriteFault::Failed(output.name.copy(alloc)?)),
+        Err(StoreFault::Absent | StoreFault::Failed) => {
+            let name = output.name.copy(alloc)?;
+            Err(WriteFault::Failed(name))
+        }
         Err(StoreFault::Memory) => Err(WriteFault::Memory),
     }
 }

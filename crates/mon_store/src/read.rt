@@ -97,7 +97,8 @@ fn read_to_end<S: Store>(
 {
     let mut text = Bytes::new(alloc);
     while text.len() as u64 <= limit {
-        if read_piece(store, name, limit, &mut text)? == 0 {
+        let count = read_piece(store, name, limit, &mut text)?;
+        if count == 0 {
             return Ok(text);
         }
     }
