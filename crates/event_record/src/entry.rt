@@ -97,10 +97,10 @@ fn line_of(
 fn listed_index(word: &[u8]) -> Result<u32, FormFault>
     ensures { Answers FormFault.Memory result (listed_index word.now) }
 {
-    match index_of(word) {
-        Some(index) => Ok(index),
-        None => Err(FormFault::NoForm),
-    }
+    let Some(index) = index_of(word) else {
+        return Err(FormFault::NoForm);
+    };
+    Ok(index)
 }
 
 // ---- steps
@@ -193,17 +193,18 @@ fn answer_with(
 fn int_answer(word: &[u8]) -> Result<ApiAnswer, FormFault>
     ensures { Answers FormFault.Memory result (int_answer word.now) }
 {
-    match int_of(word) {
-        Some(n) => Ok(ApiAnswer::Int(n)),
-        None => Err(FormFault::NoForm),
-    }
+    let Some(n) = int_of(word) else {
+        return Err(FormFault::NoForm);
+    };
+    Ok(ApiAnswer::Int(n))
 }
 
 #[tactic(auto, unfolding(crate::specs::Entry::text_answer))]
 fn text_answer(alloc: Global, word: &[u8]) -> Result<ApiAnswer, FormFault>
     ensures { Answers FormFault.Memory result (text_answer word.now) }
 {
-    Ok(ApiAnswer::Text(hex_at(alloc, word)?))
+    let bytes = hex_at(alloc, word)?;
+    Ok(ApiAnswer::Text(bytes))
 }
 
 #[tactic(auto, unfolding(crate::specs::Entry::fresh_answer))]
@@ -213,7 +214,8 @@ fn fresh_answer(alloc: Global, names: &Names, word: &Bytes) -> Result<ApiAnswer,
     if !names.classes.contains(word) {
         return Err(FormFault::NoForm);
     }
-    Ok(ApiAnswer::Fresh(word.copy(alloc)?))
+    let class = word.copy(alloc)?;
+    Ok(ApiAnswer::Fresh(class))
 }
 
 #[tactic(auto, unfolding(crate::specs::Entry::throws_answer))]
@@ -223,14 +225,16 @@ fn throws_answer(alloc: Global, names: &Names, word: &Bytes) -> Result<ApiAnswer
     if !names.classes.contains(word) {
         return Err(FormFault::NoForm);
     }
-    Ok(ApiAnswer::Throws(word.copy(alloc)?))
+    let class = word.copy(alloc)?;
+    Ok(ApiAnswer::Throws(class))
 }
 
 #[tactic(auto, unfolding(crate::specs::Entry::arg_answer))]
 fn arg_answer(word: &[u8]) -> Result<ApiAnswer, FormFault>
     ensures { Answers FormFault.Memory result (arg_answer word.now) }
 {
-    Ok(ApiAnswer::Arg(listed_index(word)?))
+    let place = listed_index(word)?;
+    Ok(ApiAnswer::Arg(place))
 }
 
 // ---- events
@@ -258,11 +262,10 @@ fn event_line(
 fn id_of(alloc: Global, class: &[u8], name: &Bytes, desc: &Bytes) -> Result<MethodId, NoMemory>
     ensures { IfOk result (λ id. id ≡ id_of class.now name.now desc.now) }
 {
-    Ok(MethodId {
-        class: Bytes::from_slice(alloc, class)?,
-        name: name.copy(alloc)?,
-        desc: desc.copy(alloc)?,
-    })
+    let class = Bytes::from_slice(alloc, class)?;
+    let name = name.copy(alloc)?;
+    let desc = desc.copy(alloc)?;
+    Ok(MethodId { class, name, desc })
 }
 
 #[tactic(auto, unfolding(crate::specs::Entry::method_event))]
@@ -277,13 +280,11 @@ fn method_event(
     ensures { Answers FormFault.Memory result (method_event (library_in names.now) verb.now thread.now id.now values.now) }
 {
     let thread = listed_index(thread)?;
-    match names.methods.get(id) {
-        Some(method) => {
-            let void = gives_nothing(id.desc.as_slice());
-            event_of(alloc, verb, thread, *method, void, values)
-        }
-        None => Err(FormFault::NoForm),
-    }
+    let Some(method) = names.methods.get(id) else {
+        return Err(FormFault::NoForm);
+    };
+    let void = gives_nothing(id.desc.as_slice());
+    event_of(alloc, verb, thread, *method, void, values)
 }
 
 /// Whether the descriptor is that of a method without a result.
@@ -333,7 +334,8 @@ fn values_of(alloc: Global, words: &[Bytes]) -> Result<List<ApiValue>, FormFault
     let mut values = List::new(alloc);
     let mut left = words;
     while let [word, rest @ ..] = left {
-        values.push(value_at(alloc, word.as_slice())?)?;
+        let value = value_at(alloc, word.as_slice())?;
+        values.push(value)?;
         left = rest;
     }
     Ok(values)
@@ -373,7 +375,8 @@ fn result_of(alloc: Global, void: bool, values: &[Bytes]) -> Result<Option<ApiVa
             if void {
                 Err(FormFault::NoForm)
             } else {
-                Ok(Some(value_at(alloc, word.as_slice())?))
+                let value = value_at(alloc, word.as_slice())?;
+                Ok(Some(value))
             }
         }
         _ => Err(FormFault::NoForm),

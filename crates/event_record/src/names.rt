@@ -25,10 +25,9 @@ pub fn names_of(alloc: Global, listing: &Listing) -> Result<Names, NoMemory>
     requires { length listing.now.methods < 2 ^ 32 }
     ensures { IfOk result (λ names. AreNames listing.now names) }
 {
-    Ok(Names {
-        classes: classes_of(alloc, listing.classes.as_slice())?,
-        methods: methods_of(alloc, listing.methods.as_slice())?,
-    })
+    let classes = classes_of(alloc, listing.classes.as_slice())?;
+    let methods = methods_of(alloc, listing.methods.as_slice())?;
+    Ok(Names { classes, methods })
 }
 
 /// The index of a method is that of the first method of the listing with its class, name and descriptor.
@@ -52,7 +51,8 @@ fn classes_of(alloc: Global, classes: &[ListedClass]) -> Result<BTreeSet<Bytes>,
 fn add_name(alloc: Global, names: &mut BTreeSet<Bytes>, name: &Bytes) -> Result<(), NoMemory>
     ensures { OnOk result ((q : List ℕ) → has_name names.new q ≡ (bytes_eq name.now q || has_name names.old q)) }
 {
-    names.insert(name.copy(alloc)?)?;
+    let copy = name.copy(alloc)?;
+    names.insert(copy)?;
     Ok(())
 }
 
@@ -82,7 +82,8 @@ fn add_first(
     ensures { OnOk result (AddsFirst places.old places.new id.now index) }
 {
     if !places.contains_key(id) {
-        places.insert(id.copy(alloc)?, index)?;
+        let copy = id.copy(alloc)?;
+        places.insert(copy, index)?;
     }
     Ok(())
 }

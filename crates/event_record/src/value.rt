@@ -58,17 +58,18 @@ fn behind(text: &[u8], n: usize) -> &[u8]
 fn text_value(alloc: Global, text: &[u8]) -> Result<ApiValue, FormFault>
     ensures { Answers FormFault.Memory result (text_value text.now) }
 {
-    Ok(ApiValue::Text(hex_at(alloc, text)?))
+    let bytes = hex_at(alloc, text)?;
+    Ok(ApiValue::Text(bytes))
 }
 
 #[tactic(auto, unfolding(crate::specs::Value::object_value))]
 fn object_value(alloc: Global, text: &[u8]) -> Result<ApiValue, FormFault>
     ensures { Answers FormFault.Memory result (object_value text.now) }
 {
-    match last_at(text) {
-        Some(place) => object_parts(alloc, text, place),
-        None => Err(FormFault::NoForm),
-    }
+    let Some(place) = last_at(text) else {
+        return Err(FormFault::NoForm);
+    };
+    object_parts(alloc, text, place)
 }
 
 #[tactic(auto, unfolding(crate::specs::Value::object_parts))]
@@ -79,15 +80,11 @@ fn object_parts(alloc: Global, text: &[u8], place: usize) -> Result<ApiValue, Fo
     if place == 0 {
         return Err(FormFault::NoForm);
     }
-    match index_of(&text[place + 1..]) {
-        Some(at) => {
-            Ok(ApiValue::Obj {
-                class: Bytes::from_slice(alloc, &text[..place])?,
-                at,
-            })
-        }
-        None => Err(FormFault::NoForm),
-    }
+    let Some(at) = index_of(&text[place + 1..]) else {
+        return Err(FormFault::NoForm);
+    };
+    let class = Bytes::from_slice(alloc, &text[..place])?;
+    Ok(ApiValue::Obj { class, at })
 }
 
 /// The place of the last `@`.
@@ -111,17 +108,18 @@ fn class_value(alloc: Global, text: &[u8]) -> Result<ApiValue, FormFault>
     if text.is_empty() {
         return Err(FormFault::NoForm);
     }
-    Ok(ApiValue::Class(Bytes::from_slice(alloc, text)?))
+    let name = Bytes::from_slice(alloc, text)?;
+    Ok(ApiValue::Class(name))
 }
 
 #[tactic(auto, unfolding(crate::specs::Value::int_value))]
 fn int_value(text: &[u8]) -> Result<ApiValue, FormFault>
     ensures { Answers FormFault.Memory result (int_value text.now) }
 {
-    match int_of(text) {
-        Some(n) => Ok(ApiValue::Int(n)),
-        None => Err(FormFault::NoForm),
-    }
+    let Some(n) = int_of(text) else {
+        return Err(FormFault::NoForm);
+    };
+    Ok(ApiValue::Int(n))
 }
 
 /// The bytes that pairs of digits spell, or `-` for none.
@@ -144,7 +142,8 @@ fn bytes_of(alloc: Global, text: &[u8]) -> Result<Bytes, FormFault>
     let mut bytes = Bytes::new(alloc);
     let mut left = text;
     while let [high, low, rest @ ..] = left {
-        bytes.push(byte_at(*high, *low)?)?;
+        let byte = byte_at(*high, *low)?;
+        bytes.push(byte)?;
         left = rest;
     }
     if left.is_empty() {

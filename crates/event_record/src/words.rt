@@ -26,7 +26,8 @@ fn copies_of(alloc: Global, parts: &[&[u8]]) -> Result<List<Bytes>, NoMemory>
 {
     let mut copies = List::new(alloc);
     for part in parts {
-        copies.push(Bytes::from_slice(alloc, part)?)?;
+        let copy = Bytes::from_slice(alloc, part)?;
+        copies.push(copy)?;
     }
     Ok(copies)
 }

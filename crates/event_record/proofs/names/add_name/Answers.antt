@@ -9,5 +9,5 @@ use Rattle.event_record.proofs.names.add_name.Goals as goal
 
 pub returns : goal.returns
 returns c =
-    λ q. c.in_ok-insert.ensures.updates.0 q ∙ cond_or (is_eq (slice_cmp nat_cmp c.in_ok-copy.field-0 q)) (has_name c.args.names.now q)
-    ∙ ap (λ b. b || has_name c.args.names.now q) (is_eq-slice_cmp c.in_ok-copy.field-0 q ∙ ap (λ n. bytes_eq n q) c.in_ok-copy.ensures)
+    λ q. c.in_ok-insert.ensures.updates.0 q ∙ cond_or (is_eq (slice_cmp nat_cmp c.in_ok-copy.copy q)) (has_name c.args.names.now q)
+    ∙ ap (λ b. b || has_name c.args.names.now q) (is_eq-slice_cmp c.in_ok-copy.copy q ∙ ap (λ n. bytes_eq n q) c.in_ok-copy.ensures)

@@ -8,4 +8,4 @@ loop-left-preserved c =
     let left = c.loop-left.left.now in
     let rest = take (length left - 2) (drop 2 left) in
     ap (λ (bs : List ℕ). bytes_from bs rest) c.in_ok-push.ensures.ok
-    ∙ byte_more c.loop-left.bytes left rest (get_or left 0 0) (get_or left 1 0) c.in_ok-byte_at.field-0 _ (two_front left c.in-len2-up.len_at_least) c.in_ok-byte_at.ensures c.loop-left.invariant
+    ∙ byte_more c.loop-left.bytes left rest (get_or left 0 0) (get_or left 1 0) c.in_ok-byte.byte _ (two_front left c.in-len2-up.len_at_least) c.in_ok-byte.ensures c.loop-left.invariant
