@@ -2,6 +2,8 @@ pub mod Covering
 pub mod Choices
 pub mod Describing
 pub mod Fitting
+pub mod LocalsOver
+pub mod StacksOver
 pub mod Arriving
 pub mod Faults
 pub mod Reaching

@@ -57,7 +57,8 @@ fn push_moved(
     let depth = depth_of(form);
     let order = put_back(form);
     for place in order {
-        out.push(own(alloc, moved_from(depth, taken, *place))?)?;
+        let moved = own(alloc, moved_from(depth, taken, *place))?;
+        out.push(moved)?;
     }
     Ok(())
 }
@@ -66,10 +67,11 @@ fn push_moved(
 fn push_one(alloc: Global, out: &mut List<VType>, lent: Option<TypeRef>) -> Result<(), NoMemory>
     ensures { OnOk result (out.new ≡ out.old ++ option_to_list (option_map type_lent lent.entry)) }
 {
-    match lent {
-        None => Ok(()),
-        Some(t) => out.push(own(alloc, t)?),
-    }
+    let Some(t) = lent else {
+        return Ok(());
+    };
+    let one = own(alloc, t)?;
+    out.push(one)
 }
 
 /// Appends what the instruction pushes.
@@ -85,7 +87,10 @@ fn push_yields(
     match place.shape() {
         Shape::Push(_) | Shape::Two(_) | Shape::One(_) => out.push(VType::Int),
         Shape::PushNull => out.push(VType::Null),
-        Shape::Load { slot, .. } => { out.push(own(alloc, type_at(locals, usize::from(slot)))?) }
+        Shape::Load { slot, .. } => {
+            let local = own(alloc, type_at(locals, usize::from(slot)))?;
+            out.push(local)
+        }
         Shape::Move(form) => push_moved(alloc, out, form, taken),
         Shape::Heap(what) => push_one(alloc, out, heap_yielded(place, taken, what)),
         _ => Ok(()),
@@ -106,7 +111,8 @@ pub fn stack_after(
     let change = change_of(place, taken);
     let mut stack = List::new(alloc);
     for t in below {
-        stack.push(own(alloc, change_told(change, t))?)?;
+        let told = own(alloc, change_told(change, t))?;
+        stack.push(told)?;
     }
     push_yields(alloc, &mut stack, place, frame.locals.as_slice(), taken)?;
     Ok(stack)
@@ -129,7 +135,8 @@ pub fn locals_after(
     let found = frame.locals.as_slice();
     let mut locals = List::new(alloc);
     for j in 0..count_after(shape, found.len()) {
-        locals.push(own(alloc, local_told(shape, change, found, taken, j))?)?;
+        let local = own(alloc, local_told(shape, change, found, taken, j))?;
+        locals.push(local)?;
     }
     Ok(locals)
 }
@@ -145,7 +152,8 @@ fn push_arguments(alloc: Global, out: &mut List<VType>, method: &Method) -> Resu
         let Some((desc, behind)) = next_type(text) else {
             return Ok(());
         };
-        out.push(own(alloc, type_described(desc))?)?;
+        let argument = own(alloc, type_described(desc))?;
+        out.push(argument)?;
         text = behind;
     }
     Ok(())
@@ -157,7 +165,8 @@ pub fn entry_locals(alloc: Global, place: &PlaceRef) -> Result<List<VType>, NoMe
 {
     let mut locals = List::new(alloc);
     if !is_static(place.method.flags) {
-        locals.push(own(alloc, this_type(place))?)?;
+        let this = own(alloc, this_type(place))?;
+        locals.push(this)?;
     }
     push_arguments(alloc, &mut locals, place.method)?;
     Ok(locals)

@@ -28,24 +28,20 @@ pub fn class_made<'a>(place: &InsnRef<'a>, receiver: &VType) -> Option<&'a [u8]>
     ensures { option_copied result ≡ class_made place.now receiver.now }
 {
     let class = class_referred(place);
-    match receiver {
-        VType::Uninit(i) => {
-            if class == new_at(place.method, *i) {
-                Some(class)
-            } else {
-                None
-            }
+    if let VType::Uninit(i) = receiver {
+        if class == new_at(place.method, *i) {
+            return Some(class);
         }
-        VType::UninitThis => {
-            let own = place.class.name.as_slice();
-            if class == own || class == place.class.parent.as_slice() {
-                Some(own)
-            } else {
-                None
-            }
-        }
-        _ => None,
+        return None;
     }
+    let VType::UninitThis = receiver else {
+        return None;
+    };
+    let own = place.class.name.as_slice();
+    if class == own || class == place.class.parent.as_slice() {
+        return Some(own);
+    }
+    None
 }
 
 /// What a call that takes these operands does with the types that stay.
@@ -85,17 +81,15 @@ pub fn change_told<'a>(change: Change<'a>, t: &'a VType) -> TypeRef<'a>
         Change::Nothing => lend(t),
         Change::Forget(at) => {
             if is_made_at(at, t) {
-                TypeRef::Top
-            } else {
-                lend(t)
+                return TypeRef::Top;
             }
+            lend(t)
         }
         Change::Make(receiver, class) => {
             if is_same_object(receiver, t) {
-                TypeRef::Ref(class)
-            } else {
-                lend(t)
+                return TypeRef::Ref(class);
             }
+            lend(t)
         }
     }
 }

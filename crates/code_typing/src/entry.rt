@@ -33,16 +33,13 @@ fn are_top(program: &Indexed, to: &[VType]) -> bool
 fn behind_fit<'a>(program: &Indexed, from: TypeRef, to: &'a [VType]) -> Option<&'a [VType]>
     ensures { option_copied result ≡ behind_fit program.now (type_lent from.entry) to.now }
 {
-    match to {
-        [] => Some(to),
-        [first, others @ ..] => {
-            if lent_fits(program, from, first) {
-                Some(others)
-            } else {
-                None
-            }
-        }
+    let [first, others @ ..] = to else {
+        return Some(to);
+    };
+    if lent_fits(program, from, first) {
+        return Some(others);
     }
+    None
 }
 
 /// Whether arguments of these types, and locals that hold nothing behind them, are assignable to these.
@@ -102,10 +99,9 @@ fn count_entry(place: &PlaceRef) -> usize
 {
     let count = arity(place.method.desc.as_slice());
     if is_static(place.method.flags) {
-        count
-    } else {
-        count + 1
+        return count;
     }
+    count + 1
 }
 
 /// Rule 1, of a frame that is there.

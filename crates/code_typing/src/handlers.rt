@@ -51,7 +51,8 @@ pub fn catches_well(place: &PlaceRef, frame: &FrameType, handler: &Handler, to: 
 fn takes_thrown(program: &Indexed, handler: &Handler) -> bool
     ensures { result ≡ takes_thrown program.now handler.now }
 {
-    is_below(program, class_caught(handler), THROWABLE)
+    let class = class_caught(handler);
+    is_below(program, class, THROWABLE)
 }
 
 /// The same, where it is known whether one that takes any class does.
@@ -59,10 +60,10 @@ fn takes_thrown_by(program: &Indexed, any: bool, handler: &Handler) -> bool
     requires { any ≡ is_below program.now throwable throwable }
     ensures { result ≡ takes_thrown program.now handler.now }
 {
-    match &handler.class {
-        Some(class) => is_below(program, class.as_slice(), THROWABLE),
-        None => any,
-    }
+    let Some(class) = &handler.class else {
+        return any;
+    };
+    is_below(program, class.as_slice(), THROWABLE)
 }
 
 /// Whether each of the handlers takes what may be thrown.

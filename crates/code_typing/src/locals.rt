@@ -48,10 +48,10 @@ pub fn local_told<'a>(
 fn local_fits(program: &Indexed, from: &[VType], j: usize, to: &VType) -> bool
     ensures { result ≡ assignable program.now (type_at from.now j) to.now }
 {
-    match from.get(j) {
-        Some(t) => assignable(program, t, to),
-        None => lent_fits(program, TypeRef::Top, to),
-    }
+    let Some(t) = from.get(j) else {
+        return lent_fits(program, TypeRef::Top, to);
+    };
+    assignable(program, t, to)
 }
 
 /// Whether locals are assignable to these.

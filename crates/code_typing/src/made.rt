@@ -18,10 +18,10 @@ fn makes_receiver(place: &PlaceRef, how: How, frame: &FrameType, taken: &[VType]
     if !calls_maker(&insn) {
         return true;
     }
-    match taken {
-        [] => false,
-        [receiver, ..] => has_receiver(how) && class_made(&insn, receiver).is_some(),
-    }
+    let [receiver, ..] = taken else {
+        return false;
+    };
+    has_receiver(how) && class_made(&insn, receiver).is_some()
 }
 
 /// Rule 5, of an instruction that takes these operands.

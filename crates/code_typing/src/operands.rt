@@ -43,7 +43,10 @@ fn call_count(place: &PlaceRef, how: How) -> usize
     ensures { result ≡ length (call_takes place.now how) }
 {
     let count = arity(desc_referred(&place.insn_ref()));
-    if has_receiver(how) { count + 1 } else { count }
+    if has_receiver(how) {
+        return count + 1;
+    }
+    count
 }
 
 fn heap_count(place: &PlaceRef, what: Heap) -> usize
@@ -84,16 +87,13 @@ fn none_wanted(types: &[VType]) -> bool
 fn behind_met<'a>(program: &Indexed, desc: &[u8], types: &'a [VType]) -> Option<&'a [VType]>
     ensures { option_copied result ≡ behind_met program.now desc.now types.now }
 {
-    match types {
-        [] => None,
-        [first, others @ ..] => {
-            if to_described(program, desc, first) {
-                Some(others)
-            } else {
-                None
-            }
-        }
+    let [first, others @ ..] = types else {
+        return None;
+    };
+    if to_described(program, desc, first) {
+        return Some(others);
     }
+    None
 }
 
 /// Whether each type is what the argument in its place is told to be.
@@ -184,15 +184,20 @@ fn write_met(place: &PlaceRef, types: &[VType]) -> bool
     }
 }
 
+/// Whether the type is what the method gives back.
+fn to_result(place: &PlaceRef, t: &VType) -> bool
+    ensures { result ≡ to_result place.now t.now }
+{
+    let text = result_text(place.method.desc.as_slice());
+    text != b"V".as_slice() && to_described(place.program, text, t)
+}
+
 fn result_met(place: &PlaceRef, types: &[VType]) -> bool
     ensures { result ≡ all_met (to_result place.now ∷ []) types.now }
 {
     match types {
         [] => false,
-        [first, rest @ ..] => {
-            let text = result_text(place.method.desc.as_slice());
-            text != b"V".as_slice() && to_described(place.program, text, first) && rest.is_empty()
-        }
+        [first, rest @ ..] => to_result(place, first) && rest.is_empty(),
     }
 }
 
@@ -269,13 +274,18 @@ fn operands_met(place: &PlaceRef, shape: Shape, types: &[VType]) -> bool
 fn is_result_of(kind: Option<Kind>, result_type: Option<TypeRef>) -> bool
     ensures { result ≡ is_result_of kind (option_map type_lent result_type.entry) }
 {
+    let Some(kind) = kind else {
+        return result_type.is_none();
+    };
+    let Some(t) = result_type else {
+        return false;
+    };
     match kind {
-        None => result_type.is_none(),
-        Some(Kind::Int) => matches!(result_type, Some(TypeRef::Int)),
-        Some(Kind::Reference) => {
+        Kind::Int => matches!(t, TypeRef::Int),
+        Kind::Reference => {
             matches!(
-                result_type,
-                Some(TypeRef::Ref(_)) | Some(TypeRef::Shared(_)) | Some(TypeRef::ArrayOf(_))
+                t,
+                TypeRef::Ref(_) | TypeRef::Shared(_) | TypeRef::ArrayOf(_)
             )
         }
     }

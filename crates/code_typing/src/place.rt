@@ -78,6 +78,8 @@ impl<'a> PlaceRef<'a> {
         ensures { result ≡ option_map (place_at program.now own class.now method.now at) (slice_get method.now.insns at) }
     {
         let insn = method.insns.as_slice().get(at as usize)?;
+        let target = method.refs.as_slice().get(at as usize);
+        let shape = shape_of(insn);
         Some(PlaceRef {
             program,
             own,
@@ -85,8 +87,8 @@ impl<'a> PlaceRef<'a> {
             method,
             at,
             insn,
-            target: method.refs.as_slice().get(at as usize),
-            shape: shape_of(insn),
+            target,
+            shape,
             handlers_known,
         })
     }
@@ -125,8 +127,8 @@ impl<'a> PlaceRef<'a> {
 pub fn is_own_field(place: &PlaceRef) -> bool
     ensures { result ≡ is_own_field place.now.own place.now.ref }
 {
-    match place.target {
-        Some(Target::Field { class, .. }) => *class == place.own,
-        _ => false,
-    }
+    let Some(Target::Field { class, .. }) = place.target else {
+        return false;
+    };
+    *class == place.own
 }

@@ -6,6 +6,7 @@ ghost use Rattle.bytecode_model.specs.Makes.{moved_from, call_yields, heap_yield
 ghost use Rattle.bytecode_model.specs.Rules.{stack_fits};
 ghost use Rattle.cert_format.specs.declared.typing.VType.{VType};
 ghost use Rattle.bytecode_model.specs.Described.{result_type};
+ghost use Rattle.bytecode_model.specs.Place.{desc_referred};
 
 use crate::place::PlaceRef;
 use bytecode_model::TypeRef;
@@ -49,10 +50,10 @@ fn form_fits(program: &Indexed, depth: u8, taken: &[VType], order: &[u8], to: &[
 fn call_fits(program: &Indexed, desc: &[u8], to: &[VType]) -> bool
     ensures { result ≡ stack_fits program.now (call_yields (result_type desc.now)) to.now }
 {
-    match result_type(desc) {
-        None => to.is_empty(),
-        Some(t) => one_fits(program, t, to),
-    }
+    let Some(t) = result_type(desc) else {
+        return to.is_empty();
+    };
+    one_fits(program, t, to)
 }
 
 fn heap_fits(place: &PlaceRef, taken: &[VType], what: Heap, to: &[VType]) -> bool
@@ -110,17 +111,23 @@ pub fn yields_fit(place: &PlaceRef, locals: &[VType], taken: &[VType], to: &[VTy
 
 // ---- how many are pushed
 
+fn call_count(place: &PlaceRef) -> usize
+    ensures few { result ≤ 1 }
+    ensures value { result ≡ length (call_yields (result_type (desc_referred place.now))) }
+{
+    let pushed = result_type(desc_referred(&place.insn_ref()));
+    if pushed.is_none() {
+        return 0;
+    }
+    1
+}
+
 fn heap_count(place: &PlaceRef, what: Heap) -> usize
     ensures few { result ≤ 1 }
     ensures value { (taken : List VType) → result ≡ length (heap_yields place.now taken what) }
 {
     match what {
-        Heap::Call(_) => {
-            match result_type(desc_referred(&place.insn_ref())) {
-                None => 0,
-                Some(_) => 1,
-            }
-        }
+        Heap::Call(_) => call_count(place),
         Heap::WriteItem(_) | Heap::WriteStatic | Heap::WriteField | Heap::Throw => 0,
         Heap::Enter | Heap::Exit | Heap::Return(_) => 0,
         _ => 1,

@@ -11,7 +11,7 @@ use Rattle.code_typing.proofs.after.locals_after.Goals as goal
 pub loop-j-preserved : goal.loop-j-preserved
 loop-j-preserved c =
     pushed_each (local_told c.shape-shape.result c.change_of-change.result c.as_slice-found.result.now c.split_top.result.1.now) c.loop-j.locals _ _ c.loop-j.j c.in_ok-push.ensures.ok
-    c.loop-j.invariant.0 (c.in_ok-own.ensures ∙ c.local_told.ensures) c.loop-j.invariant.1
+    c.loop-j.invariant.0 (c.in_ok-local.ensures ∙ c.local_told.ensures) c.loop-j.invariant.1
 
 pub returns-clause-are : goal.returns-clause-are
 returns-clause-are c j =

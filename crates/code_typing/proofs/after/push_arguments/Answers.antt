@@ -15,7 +15,7 @@ loop-preserved c =
     let step = types_some 255 c.loop.counter c.loop.text.now _ c.loop-test.true (sym c.in-Some.ensures) in
     let later = map type_described (types_at (255 - (c.loop.counter + 1)) c.in-Some.behind.now) in
     ap (λ (l : List VType). l ++ later) c.in_ok-push.ensures.ok
-    ∙ ap (λ (t : VType). (c.loop.out ++ t ∷ []) ++ later) (c.in_ok-own.ensures ∙ c.type_described.ensures)
+    ∙ ap (λ (t : VType). (c.loop.out ++ t ∷ []) ++ later) (c.in_ok-argument.ensures ∙ c.type_described.ensures)
     ∙ append_assoc c.loop.out (type_described c.in-Some.desc.now ∷ []) later
     ∙ sym (ap (λ (t : List Descriptor). c.loop.out ++ map type_described t) step) ∙ c.loop.invariant
 
