@@ -16,5 +16,5 @@ loop-class-preserved c =
     c.in_ok-push.ensures.ok ∙ ap (λ (xs : List ListedClass). xs ++ one ∷ []) c.loop-class.invariant
     ∙ append_assoc before (map f (take i classes)) (one ∷ [])
     ∙ ap (λ (xs : List ListedClass). before ++ xs)
-      (one_more_mapped f classes (map f (take i classes)) (map f (take i classes) ++ one ∷ []) i c.class-item.result one c.loop-class-test.true refl
-       (c.in_ok-head.ensures ∙ ap f c.class-item.is) refl)
+    (one_more_mapped f classes (map f (take i classes)) (map f (take i classes) ++ one ∷ []) i c.class-item.result one c.loop-class-test.true refl
+    (c.in_ok-head.ensures ∙ ap f c.class-item.is) refl)
