@@ -10,7 +10,7 @@ use input_files::{InputFault, Stop};
 use mon_base::Bytes;
 
 /// What is answered to a command.
-#[derive(Debug, Drop, PartialEq, Eq)]
+#[derive(Drop)]
 pub enum Answer {
     /// The program is accepted.
     Accepted(Accepted),

@@ -58,7 +58,7 @@ use woven_typing::{
 };
 
 /// What is to be written, and what is said of it.
-#[derive(Debug, Drop, PartialEq, Eq)]
+#[derive(Drop)]
 pub struct Ready {
     pub outputs: List<Output>,
     pub accepted: Accepted,

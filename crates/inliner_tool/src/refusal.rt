@@ -8,7 +8,7 @@ use mon_base::{Bytes, NoMemory};
 use offset_patch::Size;
 
 /// Why a command ends before its work is done.
-#[derive(Debug, Drop, PartialEq, Eq)]
+#[derive(Drop)]
 pub enum Refusal {
     /// The class files have so many bytes in all, which is too many.
     TotalLong {

@@ -33,19 +33,31 @@ fn reply_of(alloc: Global, answer: Answer) -> Result<Reply, NoMemory>
 {
     match answer {
         Answer::Accepted(accepted) => accepted_reply(alloc, accepted),
-        Answer::Denied(fault, label) => Ok(denied(check_report(alloc, fault, label)?)),
+        Answer::Denied(fault, label) => {
+            let report = check_report(alloc, fault, label)?;
+            Ok(denied(report))
+        }
         Answer::Shown(text) => Ok(Reply::Text(text)),
         Answer::Judged(verdict) => verdict_reply(alloc, verdict),
         Answer::RaceFree => Ok(Reply::Line(Line::Free)),
-        Answer::Racy { condition, example } => Ok(denied(race_report(alloc, condition, example)?)),
+        Answer::Racy { condition, example } => {
+            let report = race_report(alloc, condition, example)?;
+            Ok(denied(report))
+        }
         Answer::CellLimit {
             first,
             second,
             count,
-        } => Ok(denied(cells_report(alloc, first, second, count)?)),
+        } => {
+            let report = cells_report(alloc, first, second, count)?;
+            Ok(denied(report))
+        }
         Answer::Inlined { accepted, classes } => inlined_reply(alloc, accepted, classes),
         Answer::Replayed(text) => Ok(Reply::Text(text)),
-        Answer::Input(name, fault) => Ok(input(Some(name), input_report(alloc, fault)?)),
+        Answer::Input(name, fault) => {
+            let report = input_report(alloc, fault)?;
+            Ok(input(Some(name), report))
+        }
         Answer::Refused(refusal) => refusal_reply(alloc, refusal),
         Answer::Unread(name) => Ok(Reply::Line(Line::Store(name))),
         Answer::Unwritten(name) => Ok(Reply::Line(Line::Store(name))),
@@ -57,8 +69,9 @@ fn reply_of(alloc: Global, answer: Answer) -> Result<Reply, NoMemory>
 fn accepted_reply(alloc: Global, accepted: Accepted) -> Result<Reply, NoMemory>
     ensures { IfOk result (λ reply. reply ≡ reply_of (answers.Accepted accepted)) }
 {
+    let mode = Bytes::from_slice(alloc, mode_name(accepted.mode))?;
     Ok(Reply::Line(Line::Accepted {
-        mode: Bytes::from_slice(alloc, mode_name(accepted.mode))?,
+        mode,
         sites: accepted.sites,
     }))
 }
@@ -66,8 +79,9 @@ fn accepted_reply(alloc: Global, accepted: Accepted) -> Result<Reply, NoMemory>
 fn inlined_reply(alloc: Global, accepted: Accepted, classes: u64) -> Result<Reply, NoMemory>
     ensures { IfOk result (λ reply. reply ≡ reply_of (answers.Inlined accepted classes)) }
 {
+    let mode = Bytes::from_slice(alloc, mode_name(accepted.mode))?;
     Ok(Reply::Line(Line::Inlined {
-        mode: Bytes::from_slice(alloc, mode_name(accepted.mode))?,
+        mode,
         sites: accepted.sites,
         classes,
     }))
@@ -88,7 +102,10 @@ fn verdict_reply(alloc: Global, verdict: Verdict) -> Result<Reply, NoMemory>
     match verdict {
         Verdict::Accepted => Ok(Reply::Line(Line::Obeyed)),
         Verdict::StoppedAt { index } => Ok(Reply::Line(Line::Stopped { index })),
-        Verdict::Refused { index } => Ok(denied(event_report(alloc, index)?)),
+        Verdict::Refused { index } => {
+            let report = event_report(alloc, index)?;
+            Ok(denied(report))
+        }
     }
 }
 
@@ -97,20 +114,39 @@ fn refusal_reply(alloc: Global, refusal: Refusal) -> Result<Reply, NoMemory>
     ensures { IfOk result (λ reply. reply ≡ refusal_reply refusal) }
 {
     match refusal {
-        Refusal::TotalLong { len } => Ok(input(None, total_report(alloc, len)?)),
-        Refusal::Link(fault) => Ok(input(None, link_report(alloc, fault)?)),
-        Refusal::Untyped { class, method, at } => {
-            Ok(input(None, untyped_report(alloc, class, method, at)?))
+        Refusal::TotalLong { len } => {
+            let report = total_report(alloc, len)?;
+            Ok(input(None, report))
         }
-        Refusal::NotBuilt => Ok(input(None, unbuilt_report(alloc)?)),
+        Refusal::Link(fault) => {
+            let report = link_report(alloc, fault)?;
+            Ok(input(None, report))
+        }
+        Refusal::Untyped { class, method, at } => {
+            let report = untyped_report(alloc, class, method, at)?;
+            Ok(input(None, report))
+        }
+        Refusal::NotBuilt => {
+            let report = unbuilt_report(alloc)?;
+            Ok(input(None, report))
+        }
         Refusal::Overflow {
             class,
             method,
             what,
             value,
-        } => Ok(overflow(size_report(alloc, class, method, what, value)?)),
-        Refusal::LongCertificate { value } => Ok(overflow(length_report(alloc, value)?)),
-        Refusal::NotEnabled { index } => Ok(denied(step_report(alloc, index)?)),
+        } => {
+            let report = size_report(alloc, class, method, what, value)?;
+            Ok(overflow(report))
+        }
+        Refusal::LongCertificate { value } => {
+            let report = length_report(alloc, value)?;
+            Ok(overflow(report))
+        }
+        Refusal::NotEnabled { index } => {
+            let report = step_report(alloc, index)?;
+            Ok(denied(report))
+        }
         Refusal::Memory => Ok(Reply::Nothing),
     }
 }
