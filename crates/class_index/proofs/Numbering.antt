@@ -17,8 +17,8 @@ use Rattle.bytecode_model.specs.Members.{in_class}
 use Rattle.bytecode_model.proofs.Lists.{some_is}
 use Rattle.bytecode_model.proofs.Names.{id_cmp-is, same_id}
 use Rattle.bytecode_model.proofs.Placing.{same_name, test_cases}
-use Rattle.class_index.specs.Arrays.{is_number}
-use Rattle.class_index.specs.Nearest.{Numbers, ByClass, number_of, own_of, AreNumbers}
+use Rattle.class_index.specs.Arrays.{has_number}
+use Rattle.class_index.specs.Nearest.{Numbers, ByClass, member_number, own_of, AreNumbers}
 
 -- ---- numbers
 
@@ -94,7 +94,7 @@ id_itself id =
 
 module _ (numbers : Numbers) (numbered : AreNumbers numbers) where
   -- of members with numbers, class and number tell which is meant
-  same_member : (q id : MethodId) (n number : ℕ) → number_of numbers q ≡ Some n → number_of numbers id ≡ Some number → (bytes_eq id.class q.class && n == number) ≡ is_eq (id_cmp q id)
+  same_member : (q id : MethodId) (n number : ℕ) → member_number numbers q ≡ Some n → member_number numbers id ≡ Some number → (bytes_eq id.class q.class && n == number) ≡ is_eq (id_cmp q id)
   same_member q id n number e f = two_ways (bytes_eq id.class q.class && n == number) (is_eq (id_cmp q id)) there back where
     there : (bytes_eq id.class q.class && n == number) ≡ true → is_eq (id_cmp q id) ≡ true
     there t =
@@ -108,32 +108,32 @@ module _ (numbers : Numbers) (numbered : AreNumbers numbers) where
     back : is_eq (id_cmp q id) ≡ true → (bytes_eq id.class q.class && n == number) ≡ true
     back t =
         let same : q ≡ id = same_id q id (sym (id_cmp-is q id) ∙ t) in
-        let is : number ≡ n = some_is number n (sym f ∙ ap (number_of numbers) (sym same) ∙ e) in
+        let is : number ≡ n = some_is number n (sym f ∙ ap (member_number numbers) (sym same) ∙ e) in
         ap (λ (x : MethodId). bytes_eq id.class x.class && n == number) same
         ∙ ap (λ (b : Bool). b && n == number) (same_as_itself id.class) ∙ ap (λ (m : ℕ). n == m) is ∙ number_itself n
 
   -- one declaration more
-  pub own_more : (old new : ByClass) (id : MethodId) (number : ℕ) → number_of numbers id ≡ Some number
-      → ((q : List ℕ) (n : ℕ) → is_number (own_of new q) n ≡ (is_number (own_of old q) n || (bytes_eq id.class q && n == number)))
-      → (q : MethodId) (n : ℕ) → number_of numbers q ≡ Some n → is_number (own_of new q.class) n ≡ (is_number (own_of old q.class) n || is_eq (id_cmp q id))
-  own_more old new id number f puts q n e = puts q.class n ∙ ap (λ (b : Bool). is_number (own_of old q.class) n || b) (same_member q id n number e f)
+  pub own_more : (old new : ByClass) (id : MethodId) (number : ℕ) → member_number numbers id ≡ Some number
+      → ((q : List ℕ) (n : ℕ) → has_number (own_of new q) n ≡ (has_number (own_of old q) n || (bytes_eq id.class q && n == number)))
+      → (q : MethodId) (n : ℕ) → member_number numbers q ≡ Some n → has_number (own_of new q.class) n ≡ (has_number (own_of old q.class) n || is_eq (id_cmp q id))
+  own_more old new id number f puts q n e = puts q.class n ∙ ap (λ (b : Bool). has_number (own_of old q.class) n || b) (same_member q id n number e f)
 
   -- and one without a number
-  pub own_same : (old : ByClass) (id : MethodId) → number_of numbers id ≡ None
-      → (q : MethodId) (n : ℕ) → number_of numbers q ≡ Some n → is_number (own_of old q.class) n ≡ (is_number (own_of old q.class) n || is_eq (id_cmp q id))
-  own_same old id none q n e = or_false (is_number (own_of old q.class) n) ∙ ap (λ (b : Bool). is_number (own_of old q.class) n || b) (sym other) where
+  pub own_same : (old : ByClass) (id : MethodId) → member_number numbers id ≡ None
+      → (q : MethodId) (n : ℕ) → member_number numbers q ≡ Some n → has_number (own_of old q.class) n ≡ (has_number (own_of old q.class) n || is_eq (id_cmp q id))
+  own_same old id none q n e = or_false (has_number (own_of old q.class) n) ∙ ap (λ (b : Bool). has_number (own_of old q.class) n || b) (sym other) where
     other : is_eq (id_cmp q id) ≡ false
     other = test_cases (is_eq (id_cmp q id)) (λ b. b ≡ false)
         (λ t.
         let same : q ≡ id = same_id q id (sym (id_cmp-is q id) ∙ t) in
-        let gone : ◌≡◌ {A = Option ℕ} None (Some n) = sym none ∙ ap (number_of numbers) (sym same) ∙ e in
+        let gone : ◌≡◌ {A = Option ℕ} None (Some n) = sym none ∙ ap (member_number numbers) (sym same) ∙ e in
         absurd cc)
         (λ f. refl)
 
-number_pushed : (xs : List ℕ) (n number : ℕ) → is_number (xs ++ number ∷ []) n ≡ (is_number xs n || n == number)
+number_pushed : (xs : List ℕ) (n number : ℕ) → has_number (xs ++ number ∷ []) n ≡ (has_number xs n || n == number)
 number_pushed [] n number = sym (or_false (n == number))
 number_pushed (x ∷ xs) n number = by (n == x) (number_pushed xs n number) where
-  by : (b : Bool) → is_number (xs ++ number ∷ []) n ≡ (is_number xs n || n == number) → (b || is_number (xs ++ number ∷ []) n) ≡ ((b || is_number xs n) || n == number)
+  by : (b : Bool) → has_number (xs ++ number ∷ []) n ≡ (has_number xs n || n == number) → (b || has_number (xs ++ number ∷ []) n) ≡ ((b || has_number xs n) || n == number)
   by true e = refl
   by false e = e
 
@@ -141,16 +141,16 @@ number_pushed (x ∷ xs) n number = by (n == x) (number_pushed xs n number) wher
 pub own_put : (old mid new : ByClass) (class : List ℕ) (numbers : List ℕ) (number : ℕ) → numbers ≡ own_of old class ++ number ∷ []
     → ((q : List ℕ) → own_of mid q ≡ cond (bytes_eq class q) [] (own_of old q))
     → ((q : List ℕ) → get (slice_cmp nat_cmp) new q ≡ cond (is_eq (slice_cmp nat_cmp class q)) (Some numbers) (get (slice_cmp nat_cmp) mid q))
-    → (q : List ℕ) (n : ℕ) → is_number (own_of new q) n ≡ (is_number (own_of old q) n || (bytes_eq class q && n == number))
+    → (q : List ℕ) (n : ℕ) → has_number (own_of new q) n ≡ (has_number (own_of old q) n || (bytes_eq class q && n == number))
 own_put old mid new class numbers number is left puts q n =
-    ap (λ (o : Option (List ℕ)). is_number (unwrap_or o []) n) (puts q ∙ ap (λ (b : Bool). cond b (Some numbers) (get (slice_cmp nat_cmp) mid q)) (is_eq-slice_cmp class q))
+    ap (λ (o : Option (List ℕ)). has_number (unwrap_or o []) n) (puts q ∙ ap (λ (b : Bool). cond b (Some numbers) (get (slice_cmp nat_cmp) mid q)) (is_eq-slice_cmp class q))
     ∙ by (bytes_eq class q) refl (left q) where
       by : (b : Bool) → bytes_eq class q ≡ b → own_of mid q ≡ cond b [] (own_of old q)
-          → is_number (unwrap_or (cond b (Some numbers) (get (slice_cmp nat_cmp) mid q)) []) n ≡ (is_number (own_of old q) n || (b && n == number))
+          → has_number (unwrap_or (cond b (Some numbers) (get (slice_cmp nat_cmp) mid q)) []) n ≡ (has_number (own_of old q) n || (b && n == number))
       by true same e =
-          ap (λ (xs : List ℕ). is_number xs n) is ∙ number_pushed (own_of old class) n number
-          ∙ ap (λ (c : List ℕ). is_number (own_of old c) n || n == number) (same_name class q same)
-      by false same e = ap (λ (xs : List ℕ). is_number xs n) e ∙ or_false (is_number (own_of old q) n)
+          ap (λ (xs : List ℕ). has_number xs n) is ∙ number_pushed (own_of old class) n number
+          ∙ ap (λ (c : List ℕ). has_number (own_of old c) n || n == number) (same_name class q same)
+      by false same e = ap (λ (xs : List ℕ). has_number xs n) e ∙ or_false (has_number (own_of old q) n)
 
 -- a class's numbers are taken out
 pub own_left : (old new : ByClass) (class : List ℕ) → ((q : List ℕ) → get (slice_cmp nat_cmp) new q ≡ cond (is_eq (slice_cmp nat_cmp class q)) None (get (slice_cmp nat_cmp) old q))

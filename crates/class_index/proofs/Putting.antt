@@ -4,7 +4,7 @@ use Rattle.std.specs.Prelude.{slice_get}
 use Rattle.std.specs.Option.{option_and_then}
 use Rattle.std.proofs.lemmas.Bool.Decides.{nat_tests}
 use Rattle.class_index.specs.declared.arrays.Halves.{Halves}
-use Rattle.class_index.specs.Arrays.{half_of, with_half, item_at, Keeps, Puts, PutsEach, is_number}
+use Rattle.class_index.specs.Arrays.{half_of, with_half, item_at, Keeps, Puts, PutsEach, has_number}
 
 -- ---- a step down
 
@@ -81,7 +81,7 @@ puts_up old mid new depth less root place number item half h is there first seco
 pub puts_more : (old mid new : List Halves) (depth root next result number item : ℕ) (rest : List ℕ) → Puts old mid depth root number item next → PutsEach mid new depth next rest item result
     → PutsEach old new depth root (number ∷ rest) item result
 puts_more old mid new depth root next result number item rest first others q x e =
-    others q (cond (q == number) item x) (first q x e) ∙ by (is_number rest q) (q == number) where
+    others q (cond (q == number) item x) (first q x e) ∙ by (has_number rest q) (q == number) where
       by : (b c : Bool) → Some (cond b item (cond c item x)) ≡ Some (cond (c || b) item x)
       by true true = refl
       by true false = refl

@@ -12,8 +12,8 @@ use Rattle.bytecode_model.specs.Members.{first_found, in_class}
 use Rattle.bytecode_model.specs.SearchOrder.{superclasses}
 use Rattle.bytecode_model.proofs.Lists.{some_is}
 use Rattle.bytecode_model.proofs.Placing.{same_name}
-use Rattle.class_index.specs.Arrays.{item_at, is_number, Keeps, PutsEach}
-use Rattle.class_index.specs.Nearest.{Numbers, told, Tells, IsVersion, AreVersions}
+use Rattle.class_index.specs.Arrays.{item_at, has_number, Keeps, PutsEach}
+use Rattle.class_index.specs.Nearest.{Numbers, item_tells, Tells, IsVersion, AreVersions}
 use Rattle.class_index.specs.declared.arrays.Halves.{Halves}
 use Rattle.class_index.specs.declared.nearest.Version.{Version}
 use Rattle.class_index.specs.declared.nearest.Versions.{Versions}
@@ -35,26 +35,26 @@ module _ (look : MethodId → Option Found) (numbers : Numbers) (classes : List 
   -- the array of a class is that of its superclass with what the class has put in
   pub tells_up : (old new : List Halves) (depth place item root : ℕ) (name : List ℕ) (c : ListedClass) (above below : Version) (own : List ℕ) → class_named classes name ≡ Some c → slice_get classes place ≡ Some c
       → item ≡ suc place → below.root ≡ root → below.height ≡ suc above.height → PutsEach old new depth above.root own item root
-      → (id : MethodId) (n : ℕ) → is_number own n ≡ is_some (look (in_class id name)) → Tells look classes old depth c.parent above id n → Tells look classes new depth name below id n
+      → (id : MethodId) (n : ℕ) → has_number own n ≡ is_some (look (in_class id name)) → Tells look classes old depth c.parent above id n → Tells look classes new depth name below id n
   tells_up old new depth place item root name c above below own some placed is rooted high puts id n has t = record {
-    item = cond (is_number own n) item t.item;
+    item = cond (has_number own n) item t.item;
     there = ap (λ (r : ℕ). item_at new depth r n) rooted ∙ puts n t.item t.there;
     tells = λ m le.
         let one : m ≡ suc (m - 1) = omega (arith, le, high) in
         by (look (in_class id name)) refl (first_found look id (names_of (upwards (m - 1) classes c.parent))) (t.tells (m - 1) (omega (arith, le, high)))
         ∙ sym (ap (λ (k : ℕ). first_found look id (names_of (upwards k classes name))) one ∙ up_front look id classes (m - 1) name c some);
   } where
-    here : told look classes id item ≡ look (in_class id name)
+    here : item_tells look classes id item ≡ look (in_class id name)
     here =
-        ap (told look classes id) is ∙ ap (λ (o : Option ListedClass). option_and_then (λ (x : ListedClass). look (in_class id x.name)) o) placed
+        ap (item_tells look classes id) is ∙ ap (λ (o : Option ListedClass). option_and_then (λ (x : ListedClass). look (in_class id x.name)) o) placed
         ∙ ap (λ (q : List ℕ). look (in_class id q)) (named_is classes name c some)
 
-    by : (o : Option Found) → look (in_class id name) ≡ o → (rest : Option Found) → told look classes id t.item ≡ rest
-        → told look classes id (cond (is_number own n) item t.item) ≡ option_or (look (in_class id name)) rest
+    by : (o : Option Found) → look (in_class id name) ≡ o → (rest : Option Found) → item_tells look classes id t.item ≡ rest
+        → item_tells look classes id (cond (has_number own n) item t.item) ≡ option_or (look (in_class id name)) rest
     by (Some f) found rest e =
-        ap (λ (b : Bool). told look classes id (cond b item t.item)) (has ∙ ap is_some found) ∙ here ∙ found ∙ sym (ap (λ (o : Option Found). option_or o rest) found)
+        ap (λ (b : Bool). item_tells look classes id (cond b item t.item)) (has ∙ ap is_some found) ∙ here ∙ found ∙ sym (ap (λ (o : Option Found). option_or o rest) found)
     by None found rest e =
-        ap (λ (b : Bool). told look classes id (cond b item t.item)) (has ∙ ap is_some found) ∙ e ∙ sym (ap (λ (o : Option Found). option_or o rest) found)
+        ap (λ (b : Bool). item_tells look classes id (cond b item t.item)) (has ∙ ap is_some found) ∙ e ∙ sym (ap (λ (o : Option Found). option_or o rest) found)
 
   tells_kept : (old new : List Halves) (depth : ℕ) (name : List ℕ) (version : Version) (id : MethodId) (n : ℕ) → Keeps old new → Tells look classes old depth name version id n → Tells look classes new depth name version id n
   tells_kept old new depth name version id n keeps t = record {
@@ -89,4 +89,4 @@ module _ (look : MethodId → Option Found) (numbers : Numbers) (classes : List 
       → look (in_class id c.name) ≡ first_found look id (names_of (superclasses classes name))
   declares versions name version id n item place c t few read is placed =
       let same : t.item ≡ suc place = some_is t.item item (sym t.there ∙ read) ∙ is in
-      sym (ap (told look classes id) same ∙ ap (λ (o : Option ListedClass). option_and_then (λ (x : ListedClass). look (in_class id x.name)) o) placed) ∙ t.tells (length classes) few
+      sym (ap (item_tells look classes id) same ∙ ap (λ (o : Option ListedClass). option_and_then (λ (x : ListedClass). look (in_class id x.name)) o) placed) ∙ t.tells (length classes) few

@@ -30,10 +30,10 @@ Puts old new depth root number item result =
     (q x : ℕ) → item_at old depth root q ≡ Some x → item_at new depth result q ≡ Some (if q == number then item else x)
 
 -- whether the number is one of these
-abbrev pub is_number : List ℕ → ℕ → Bool
-is_number numbers number = list_any (λ other. number == other) numbers
+abbrev pub has_number : List ℕ → ℕ → Bool
+has_number numbers number = list_any (λ other. number == other) numbers
 
 -- The one array is the other with this item at these numbers.
 abbrev pub PutsEach : List Halves → List Halves → ℕ → ℕ → List ℕ → ℕ → ℕ → Type 0
 PutsEach old new depth root numbers item result =
-    (q x : ℕ) → item_at old depth root q ≡ Some x → item_at new depth result q ≡ Some (if is_number numbers q then item else x)
+    (q x : ℕ) → item_at old depth root q ≡ Some x → item_at new depth result q ≡ Some (if has_number numbers q then item else x)

@@ -13,7 +13,7 @@ use Rattle.bytecode_model.specs.declared.members.Found.{Found}
 use Rattle.bytecode_model.specs.ByName.{noted}
 use Rattle.bytecode_model.specs.Members.{first_found, in_class}
 use Rattle.bytecode_model.specs.SearchOrder.{Name}
-use Rattle.class_index.specs.Arrays.{item_at, is_number}
+use Rattle.class_index.specs.Arrays.{item_at, has_number}
 use Rattle.class_index.specs.declared.arrays.Halves.{Halves}
 use Rattle.class_index.specs.declared.nearest.Version.{Version}
 use Rattle.class_index.specs.declared.nearest.Versions.{Versions}
@@ -24,8 +24,8 @@ abbrev pub Numbers : Type 0
 Numbers = BTreeMap MethodId ℕ
 
 -- the number of a member's name and descriptor, which are noted without a class
-abbrev pub number_of : Numbers → MethodId → Option ℕ
-number_of numbers id = get id_cmp numbers (in_class id [])
+abbrev pub member_number : Numbers → MethodId → Option ℕ
+member_number numbers id = get id_cmp numbers (in_class id [])
 
 -- Each number is below their count, and no two are one.
 pub record AreNumbers (numbers : Numbers) : Type 0 where
@@ -41,25 +41,25 @@ own_of own class = unwrap_or (get (slice_cmp nat_cmp) own class) []
 
 -- Each class has the numbers of what it declares, as far as that has a number.
 abbrev pub AreOwn : ByClass → Numbers → List (MethodId × Found) → Type 0
-AreOwn own numbers declared = (id : MethodId) (n : ℕ) → number_of numbers id ≡ Some n
-    → is_number (own_of own id.class) n ≡ is_some (lookup (is_at (id_cmp id)) declared)
+AreOwn own numbers declared = (id : MethodId) (n : ℕ) → member_number numbers id ≡ Some n
+    → has_number (own_of own id.class) n ≡ is_some (lookup (is_at (id_cmp id)) declared)
 
 -- ---- arrays of classes
 
 -- what an item tells of a member: 0 that no class declares it, and else in which of the classes it is found
-abbrev pub told : (MethodId → Option Found) → List ListedClass → MethodId → ℕ → Option Found
-told look classes id zero = None
-told look classes id (suc place) = option_and_then (λ c. look (in_class id c.name)) (slice_get classes place)
+abbrev pub item_tells : (MethodId → Option Found) → List ListedClass → MethodId → ℕ → Option Found
+item_tells look classes id zero = None
+item_tells look classes id (suc place) = option_and_then (λ c. look (in_class id c.name)) (slice_get classes place)
 
 -- The item of this number tells what the class and its superclasses have, however far one goes up from this height on.
 pub record Tells (look : MethodId → Option Found) (classes : List ListedClass) (nodes : List Halves) (depth : ℕ) (name : Name) (version : Version) (id : MethodId) (number : ℕ) : Type 0 where
   pub item : ℕ
   pub there : item_at nodes depth version.root number ≡ Some item
-  pub tells : (n : ℕ) → version.height ≤ n → told look classes id item ≡ first_found look id (names_of (upwards n classes name))
+  pub tells : (n : ℕ) → version.height ≤ n → item_tells look classes id item ≡ first_found look id (names_of (upwards n classes name))
 
 -- It is so of each member that has a number.
 abbrev pub IsVersion : (MethodId → Option Found) → Numbers → List ListedClass → Versions → Name → Version → Type 0
-IsVersion look numbers classes versions name version = (id : MethodId) (n : ℕ) → number_of numbers id ≡ Some n
+IsVersion look numbers classes versions name version = (id : MethodId) (n : ℕ) → member_number numbers id ≡ Some n
     → Tells look classes versions.nodes versions.depth name version id n
 
 -- It is so of each class whose array is known, and the array with root 0 has room for all numbers and no other item.

@@ -9,12 +9,12 @@ ghost use Rattle.bytecode_model.specs.declared.members.Found.{Found};
 ghost use Rattle.bytecode_model.specs.Members.{first_found, in_class};
 ghost use Rattle.bytecode_model.specs.SearchOrder.{superclasses};
 ghost use Rattle.class_index.specs.Index.{found_in};
-ghost use Rattle.class_index.specs.Nearest.{number_of, AreNumbers, AreOwn, AreVersions, IsVersion, Numbers};
+ghost use Rattle.class_index.specs.Nearest.{member_number, AreNumbers, AreOwn, AreVersions, IsVersion, Numbers};
 
 use crate::arrays::{Halves, depth_of, item_at, put_each};
 use crate::classes::Classes;
 use crate::members::in_class;
-use crate::numbers::{ByClass, Numbers, by_class, number_of, numbers_of, own_of, reference};
+use crate::numbers::{ByClass, Numbers, by_class, member_number, numbers_of, own_of, reference};
 use crate::places::add_name;
 use api_listing::ListedClass;
 use bytecode_model::{ByName, Found, MemberKind, copy_class, note, noted};
@@ -91,7 +91,8 @@ pub fn nearest_of(
 /// No array but that of zeros, with room for all numbers.
 fn no_versions(alloc: Global, numbers: &Numbers) -> Result<Versions, NoMemory>
     requires { AreNumbers numbers.now }
-    ensures { IfOk result (λ versions. (look : MethodId → Option Found) (classes : List ListedClass) → AreVersions look numbers.now classes versions) }
+    ensures { IfOk result (λ versions. (look : MethodId → Option Found) (classes : List ListedClass)
+        → AreVersions look numbers.now classes versions) }
 {
     let mut nodes = List::new(alloc);
     nodes.push(Halves { even: 0, odd: 0 })?;
@@ -223,7 +224,7 @@ pub fn found_above(
     ensures { IfOk result (λ o. IfSome o (λ found.
         first_found (found_in declared.now) id.now (names_of (superclasses classes.now id.now.class)) ≡ Some found)) }
 {
-    let Some(number) = number_of(alloc, &nearest.numbers, id)? else {
+    let Some(number) = member_number(alloc, &nearest.numbers, id)? else {
         return Ok(None);
     };
     let Some(class) = declaring(classes, &nearest.versions, &id.class, number) else {
@@ -244,7 +245,7 @@ fn declaring<'a>(
     number: usize,
 ) -> Option<&'a ListedClass>
     ensures { IfSome result (λ class. (look : MethodId → Option Found) (numbers : Numbers) (id : MethodId)
-        → AreVersions look numbers classes.now versions.now → number_of numbers id ≡ Some number
+        → AreVersions look numbers classes.now versions.now → member_number numbers id ≡ Some number
         → look (in_class id class.now.name) ≡ first_found look id (names_of (superclasses classes.now name.now))) }
 {
     let version = version_of(classes, versions, name)?;

@@ -4,8 +4,8 @@ ghost use Rattle.std.specs.Prelude.{◌≡◌, ◌==◌, ◌||◌, ◌&&◌, [],
 ghost use Rattle.std.specs.Ordering.{is_eq};
 ghost use Rattle.mon_base.specs.declared.method.MethodId.{MethodId};
 ghost use Rattle.api_listing.specs.Seen.{id_cmp};
-ghost use Rattle.class_index.specs.Arrays.{is_number};
-ghost use Rattle.class_index.specs.Nearest.{number_of, own_of, AreNumbers, AreOwn};
+ghost use Rattle.class_index.specs.Arrays.{has_number};
+ghost use Rattle.class_index.specs.Nearest.{member_number, own_of, AreNumbers, AreOwn};
 
 use crate::members::in_class;
 use bytecode_model::{Found, MemberKind};
@@ -48,7 +48,7 @@ fn add_references(
 }
 
 /// The class and the name with its type, if the constant refers to a member of the kind.
-pub fn reference(kind: MemberKind, constant: &Const) -> Option<(u16, u16)> {
+pub(crate) fn reference(kind: MemberKind, constant: &Const) -> Option<(u16, u16)> {
     match kind {
         MemberKind::Method => method_reference(constant),
         MemberKind::Field => field_reference(constant),
@@ -93,8 +93,12 @@ fn add_number(
 }
 
 /// The number of the member's name and descriptor.
-pub fn number_of(alloc: Global, numbers: &Numbers, id: &MethodId) -> Result<Option<usize>, NoMemory>
-    ensures { IfOk result (λ number. number ≡ number_of numbers.now id.now) }
+pub fn member_number(
+    alloc: Global,
+    numbers: &Numbers,
+    id: &MethodId,
+) -> Result<Option<usize>, NoMemory>
+    ensures { IfOk result (λ number. number ≡ member_number numbers.now id.now) }
 {
     let key = in_class(alloc, id, &Bytes::new(alloc))?;
     match numbers.get(&key) {
@@ -130,18 +134,18 @@ fn add_declared(
     id: &MethodId,
 ) -> Result<(), NoMemory>
     requires { AreNumbers numbers.now }
-    ensures { OnOk result ((q : MethodId) (n : ℕ) → number_of numbers.now q ≡ Some n
-        → is_number (own_of own.new q.class) n ≡ (is_number (own_of own.old q.class) n || is_eq (id_cmp q id.now))) }
+    ensures { OnOk result ((q : MethodId) (n : ℕ) → member_number numbers.now q ≡ Some n
+        → has_number (own_of own.new q.class) n ≡ (has_number (own_of own.old q.class) n || is_eq (id_cmp q id.now))) }
 {
-    if let Some(number) = number_of(alloc, numbers, id)? {
+    if let Some(number) = member_number(alloc, numbers, id)? {
         add_own(alloc, own, &id.class, number)?;
     }
     Ok(())
 }
 
 fn add_own(alloc: Global, own: &mut ByClass, class: &Bytes, number: usize) -> Result<(), NoMemory>
-    ensures { OnOk result ((q : List ℕ) (n : ℕ) → is_number (own_of own.new q) n
-        ≡ (is_number (own_of own.old q) n || (bytes_eq class.now q && n == number))) }
+    ensures { OnOk result ((q : List ℕ) (n : ℕ) → has_number (own_of own.new q) n
+        ≡ (has_number (own_of own.old q) n || (bytes_eq class.now q && n == number))) }
 {
     let mut numbers = taken(alloc, own, class);
     numbers.push(number)?;

@@ -21,7 +21,18 @@ ghost use Rattle.output_files.specs.Outputs.{is_written, outputs_of};
 ghost use Rattle.inliner_tool.specs.Expected.{IsExpected};
 ghost use Rattle.inliner_tool.specs.Policy.{IsSoundFor};
 ghost use Rattle.inliner_tool.specs.Programs.{Equals, UnlessMemory};
-ghost use Rattle.inliner_tool.specs.Weaving.{Accepts, IsPlanned, IsRewoven, Plans, Remakes, mode_for, outputs_step, releasing, splice_refusal, weave_step};
+ghost use Rattle.inliner_tool.specs.Weaving.{
+  Accepts,
+  IsPlanned,
+  IsRewoven,
+  Plans,
+  Remakes,
+  mode_for,
+  outputs_step,
+  releasing,
+  splice_refusal,
+  weave_step,
+};
 ghost use Rattle.input_files.specs.Forms.{since};
 ghost use Rattle.inliner_tool.specs.Inline.{Begins, IsInlined, Outputs};
 ghost use Rattle.inliner_tool.specs.Answers.{EndsWell};

@@ -1,6 +1,6 @@
 use Rattle.std.proofs.Common.{◌≡◌, ◌∙◌, suc, ap, refl, arith}
 use Rattle.bytecode_model.specs.Members.{in_class}
-use Rattle.class_index.specs.Arrays.{is_number}
+use Rattle.class_index.specs.Arrays.{has_number}
 use Rattle.class_index.specs.Index.{found_in}
 use Rattle.class_index.specs.declared.nearest.Version.{Version}
 use Rattle.class_index.specs.declared.nearest.Versions.{Versions}
@@ -27,5 +27,5 @@ returns c =
     with_version look numbers classes old new name version c.requires.versions refl c.in_ok-root.ensures.keeps
     (λ id n e.
     tells_up look numbers classes old.nodes nodes old.depth place item root name c.in-Some.class.now above version own c.in-Some.ensures.1 c.in-Some.ensures.0 is refl high c.in_ok-root.ensures.puts id n
-    (ap (λ xs. is_number xs n) c.own_of-own.ensures ∙ c.requires.own (in_class id name) n e) (c.in-Some-version_of.ensures look numbers c.requires.versions id n e))
+    (ap (λ xs. has_number xs n) c.own_of-own.ensures ∙ c.requires.own (in_class id name) n e) (c.in-Some-version_of.ensures look numbers c.requires.versions id n e))
     c.in_ok-note.ensures

@@ -7,7 +7,7 @@ use Rattle.bytecode_model.specs.Members.{first_found, in_class}
 use Rattle.bytecode_model.specs.SearchOrder.{superclasses}
 use Rattle.bytecode_model.proofs.Placing.{got}
 use Rattle.class_index.specs.Arrays.{item_at}
-use Rattle.class_index.specs.Nearest.{number_of, AreVersions, Numbers}
+use Rattle.class_index.specs.Nearest.{member_number, AreVersions, Numbers}
 use Rattle.class_index.proofs.Sharing.{read_there}
 use Rattle.class_index.proofs.Versions.{declares}
 use Rattle.class_index.proofs.nearest.declaring.Goals as goal
@@ -27,7 +27,7 @@ returns c =
     let h = c.get.ensures.lookup in
     let there_is = got c.get.result c.as_slice-2.result.now place h.3 h.1 ∙ ap (λ xs. slice_get xs place) c.as_slice-2.ensures in
     read_there c.get.result (slice_get classes place)
-    (λ class. (look : MethodId → Option Found) (numbers : Numbers) (id : MethodId) → AreVersions look numbers classes versions → number_of numbers id ≡ Some c.args.number
+    (λ class. (look : MethodId → Option Found) (numbers : Numbers) (id : MethodId) → AreVersions look numbers classes versions → member_number numbers id ≡ Some c.args.number
     → look (in_class id class.name) ≡ first_found look id (names_of (superclasses classes name)))
     there_is
     (λ class some look numbers id are e.
