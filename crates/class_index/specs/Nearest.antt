@@ -9,7 +9,11 @@ use Rattle.mon_base.specs.declared.method.MethodId.{MethodId}
 use Rattle.api_listing.specs.declared.types.ListedClass.{ListedClass}
 use Rattle.api_listing.specs.Nearest.{names_of, upwards}
 use Rattle.api_listing.specs.Seen.{id_cmp}
+use Rattle.class_codec.specs.declared.tree.Const.{Const}
+use Rattle.class_codec.specs.declared.tree.Const.TheVariants as constants
 use Rattle.bytecode_model.specs.declared.members.Found.{Found}
+use Rattle.bytecode_model.specs.declared.members.MemberKind.{MemberKind}
+use Rattle.bytecode_model.specs.declared.members.MemberKind.TheVariants as kinds
 use Rattle.bytecode_model.specs.ByName.{noted}
 use Rattle.bytecode_model.specs.Members.{first_found, in_class}
 use Rattle.bytecode_model.specs.SearchOrder.{Name}
@@ -17,6 +21,23 @@ use Rattle.class_index.specs.Arrays.{item_at, has_number}
 use Rattle.class_index.specs.declared.arrays.Halves.{Halves}
 use Rattle.class_index.specs.declared.nearest.Version.{Version}
 use Rattle.class_index.specs.declared.nearest.Versions.{Versions}
+
+-- ---- references
+
+-- the constants of a method's class and of its name and descriptor, where the constant refers to a method
+abbrev pub method_reference : Const → Option (ℕ × ℕ)
+method_reference (constants.Method class member) = Some (class, member)
+method_reference (constants.IMethod class member) = Some (class, member)
+method_reference other = None
+
+-- the same of a field
+abbrev pub field_reference : Const → Option (ℕ × ℕ)
+field_reference (constants.Field class member) = Some (class, member)
+field_reference other = None
+
+abbrev pub reference : MemberKind → Const → Option (ℕ × ℕ)
+reference kinds.Method constant = method_reference constant
+reference kinds.Field constant = field_reference constant
 
 -- ---- numbers of names and descriptors
 

@@ -5,7 +5,7 @@ ghost use Rattle.std.specs.Ordering.{is_eq};
 ghost use Rattle.mon_base.specs.declared.method.MethodId.{MethodId};
 ghost use Rattle.api_listing.specs.Seen.{id_cmp};
 ghost use Rattle.class_index.specs.Arrays.{has_number};
-ghost use Rattle.class_index.specs.Nearest.{member_number, own_of, AreNumbers, AreOwn};
+ghost use Rattle.class_index.specs.Nearest.{field_reference, member_number, method_reference, own_of, reference, AreNumbers, AreOwn};
 
 use crate::members::in_class;
 use bytecode_model::{Found, MemberKind};
@@ -48,14 +48,18 @@ fn add_references(
 }
 
 /// The class and the name with its type, if the constant refers to a member of the kind.
-pub(crate) fn reference(kind: MemberKind, constant: &Const) -> Option<(u16, u16)> {
+pub fn reference(kind: MemberKind, constant: &Const) -> Option<(u16, u16)>
+    ensures { result ≡ reference kind constant.now }
+{
     match kind {
         MemberKind::Method => method_reference(constant),
         MemberKind::Field => field_reference(constant),
     }
 }
 
-fn method_reference(constant: &Const) -> Option<(u16, u16)> {
+fn method_reference(constant: &Const) -> Option<(u16, u16)>
+    ensures { result ≡ method_reference constant.now }
+{
     match constant {
         Const::Method(class, member) => Some((*class, *member)),
         Const::IMethod(class, member) => Some((*class, *member)),
@@ -63,7 +67,9 @@ fn method_reference(constant: &Const) -> Option<(u16, u16)> {
     }
 }
 
-fn field_reference(constant: &Const) -> Option<(u16, u16)> {
+fn field_reference(constant: &Const) -> Option<(u16, u16)>
+    ensures { result ≡ field_reference constant.now }
+{
     match constant {
         Const::Field(class, member) => Some((*class, *member)),
         _ => None,
