@@ -8,7 +8,7 @@ use mon_base::{Bytes, NoMemory};
 use std::alloc::Global;
 
 /// What is printed.
-#[derive(Debug, Drop, PartialEq, Eq)]
+#[derive(Drop, PartialEq, Eq)]
 pub enum Reply {
     /// A line.
     Line(Line),
