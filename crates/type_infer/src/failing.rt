@@ -47,7 +47,8 @@ fn halved(alloc: Global, body: &Body, met: u32, unmet: u32) -> Result<(u32, u32)
         → CannotBeMet body.now.program body.now.own body.now.class body.now.method r.1) }
 {
     let middle = met + (unmet - met) / 2;
-    if can_be_met(alloc, body, middle)? {
+    let is_met = can_be_met(alloc, body, middle)?;
+    if is_met {
         Ok((middle, unmet))
     } else {
         Ok((met, middle))

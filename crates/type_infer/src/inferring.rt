@@ -44,7 +44,8 @@ fn class_frames(
                 class,
                 method,
             };
-            told.push(solve(alloc, &body, method.insns.len() as u32)?)?;
+            let frames = solve(alloc, &body, method.insns.len() as u32)?;
+            told.push(frames)?;
         }
         left = later;
     }

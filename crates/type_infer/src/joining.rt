@@ -30,7 +30,8 @@ fn types_joined(
 {
     let mut joined = List::new(alloc);
     for i in 0..a.len().min(b.len()) {
-        joined.push(merge(alloc, program, &a[i], &b[i])?)?;
+        let one = merge(alloc, program, &a[i], &b[i])?;
+        joined.push(one)?;
     }
     Ok(joined)
 }

@@ -15,7 +15,7 @@ loop-left-preserved-in_ok-push c =
     let class = c.args.class.now in
     let method = c.method-item.result in
     let left = c.loop-left.left.now in
-    let frames = c.in_ok-solve.field-0 in
+    let frames = c.in_ok-frames.frames in
     let empty = c.is_empty.ensures in
     let some = c.if-not-is_empty.true in
     let has : has_code method ≡ true = lt-ltb 0 (length method.insns) (filled method.insns c.is_empty.result empty.1 some) in
@@ -25,7 +25,7 @@ loop-left-preserved-in_ok-push c =
       sound = grind (arith, common_steps);
       solved = λ rest s.
           let solved : IsSolved (scope_of program c.args.own class method) (length method.insns) frames =
-          subst (λ (n : ℕ). IsSolved (scope_of program c.args.own class method) n frames) c.len.ensures c.in_ok-solve.ensures.solved in
+          subst (λ (n : ℕ). IsSolved (scope_of program c.args.own class method) n frames) c.len.ensures c.in_ok-frames.ensures.solved in
           let split = first_rest left method (omega arith) in
           let item : get_or left 0 method ≡ method = sym c.method-item.is in
           let with' : MethodsAreSolved program c.args.own class (method ∷ between 1 (length left) left) (frames ∷ rest) = (λ code. (solved, s), λ none. absurd (false≢true (sym none ∙ has))) in

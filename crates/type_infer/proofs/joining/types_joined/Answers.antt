@@ -8,11 +8,11 @@ use Rattle.type_infer.proofs.joining.types_joined.Goals as goal
 
 pub loop-i-preserved : goal.loop-i-preserved
 loop-i-preserved c =
-    let x = c.in_ok-merge.field-0 in
+    let x = c.in_ok-one.one in
     let is : c.push.new.self ≡ c.loop-i.joined ++ x ∷ [] = c.in_ok-push.ensures.ok in
     let a = type_at-read c.args.a.now c.loop-i.i c.index-a-i.result (omega arith) c.index-a-i.is in
     let b = type_at-read c.args.b.now c.loop-i.i c.index-b-i.result (omega arith) c.index-b-i.is in
-    let value : x ≡ merged c.args.program.now (type_at c.args.a.now c.loop-i.i) (type_at c.args.b.now c.loop-i.i) = rw (a, b) c.in_ok-merge.ensures in
+    let value : x ≡ merged c.args.program.now (type_at c.args.a.now c.loop-i.i) (type_at c.args.b.now c.loop-i.i) = rw (a, b) c.in_ok-one.ensures in
     let seam : type_at (c.loop-i.joined ++ x ∷ []) c.loop-i.i ≡ x =
     subst (λ (n : ℕ). type_at (c.loop-i.joined ++ x ∷ []) n ≡ x) c.loop-i.invariant.0 (type_at-seam c.loop-i.joined x []) in
     let earlier = λ (j : ℕ) (h : j < c.loop-i.i). ap (λ l. type_at l j) is ∙ type_at-append c.loop-i.joined (x ∷ []) j (omega arith) ∙ c.loop-i.invariant.1 j h in
