@@ -16,7 +16,7 @@ use std::marker::Model;
 const KEPT_USES: usize = 2;
 
 /// What the constant of this index names, where it is used so.
-#[derive(Debug, Drop)]
+#[derive(Drop)]
 pub struct Named {
     pub index: u16,
     pub how: Use,

@@ -6,7 +6,7 @@ ghost use Rattle.class_linking.specs.declared.operand_fault.OperandFault.TheVari
 use mon_base::{Bytes, NoMemory};
 
 /// Why an operand has no target.
-#[derive(Debug, Drop, PartialEq, Eq)]
+#[derive(Drop, PartialEq, Eq)]
 pub enum OperandFault {
     /// The instruction does not take such a constant.
     Wrong,

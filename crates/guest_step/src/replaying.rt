@@ -17,7 +17,7 @@ use std::alloc::Global;
 use thiserror::Error;
 
 /// What the library saw of a run, and where it left the machine.
-#[derive(Debug, Drop)]
+#[derive(Drop)]
 pub struct Replayed {
     pub events: List<Event>,
     pub machine: Machine,

@@ -18,7 +18,7 @@ use type_lattice::Indexed;
 
 /// How many fields the objects of the superclass of each given class have; and of each field of each given class, and behind the
 /// last, how many of the fields before it are in objects.
-#[derive(Debug, Drop)]
+#[derive(Drop)]
 pub struct Places {
     pub begins: List<u32>,
     pub counts: List<List<u32>>,

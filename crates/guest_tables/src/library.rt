@@ -17,7 +17,7 @@ use mon_base::{Bytes, List, NoMemory};
 use std::alloc::Global;
 
 /// The result of a listed method: its type, if there is one, and the class or the array, where it is no number.
-#[derive(Debug, Drop)]
+#[derive(Drop)]
 pub struct Gives {
     pub of: Option<FieldType>,
     pub class: Option<Bytes>,
@@ -25,7 +25,7 @@ pub struct Gives {
 
 /// Of each listed method how many arguments it takes and what it gives; of each listed class whether an answer may make an
 /// object of it.
-#[derive(Debug, Drop)]
+#[derive(Drop)]
 pub struct Library {
     pub arities: List<u8>,
     pub gives: List<Gives>,
