@@ -3,4 +3,4 @@ use Rattle.class_weaving.specs.Woven.{attr_with}
 use Rattle.class_weaving.proofs.members.member_with.Given as goal
 
 abbrev pub invariant-loop-attr : goal.invariant-loop-attr
-invariant-loop-attr l = l.attrs ≡ map (attr_with l.code) (take l.attr-index l.member.attrs)
+invariant-loop-attr l = l.attrs ≡ map (attr_with l.code) (take l.attr-index l.attr-items)
