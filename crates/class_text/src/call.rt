@@ -74,8 +74,10 @@ pub fn push_call(
 ) -> Result<(), NoMemory>
     ensures { OnOk result (out.new ≡ out.old ++ spaced (call_words library.now pool.now insn.now)) }
 {
-    match called_by(alloc, pool, insn)? {
-        Some(id) => push_api(out, library.listed_for(alloc, &id)?),
-        None => Ok(()),
-    }
+    let called = called_by(alloc, pool, insn)?;
+    let Some(id) = called else {
+        return Ok(());
+    };
+    let listed = library.listed_for(alloc, &id)?;
+    push_api(out, listed)
 }

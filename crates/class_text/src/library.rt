@@ -57,7 +57,8 @@ impl<'a> Library<'a> {
         ensures { IfOk result (λ method. option_copied method ≡ listed_for self.now id.now) }
     {
         let classes = self.looked_in(alloc, &id.class)?;
-        match self.first_declared(alloc, id, classes.as_slice())? {
+        let place = self.first_declared(alloc, id, classes.as_slice())?;
+        match place {
             Some(place) => Ok(self.listing.methods.as_slice().get(place)),
             None => Ok(None),
         }
@@ -92,11 +93,10 @@ impl<'a> Library<'a> {
     ) -> Result<Option<usize>, NoMemory>
         ensures { IfOk result (λ place. place ≡ declared_in self.now.methods id.now.name id.now.desc class.now) }
     {
-        let own = MethodId {
-            class: class.copy(alloc)?,
-            name: id.name.copy(alloc)?,
-            desc: id.desc.copy(alloc)?,
-        };
+        let class = class.copy(alloc)?;
+        let name = id.name.copy(alloc)?;
+        let desc = id.desc.copy(alloc)?;
+        let own = MethodId { class, name, desc };
         match self.methods.get(&own) {
             Some(place) => Ok(Some(*place)),
             None => Ok(None),
@@ -143,7 +143,8 @@ impl<'a> Library<'a> {
             let Some(class) = self.class_named(at) else {
                 return Ok(());
             };
-            names.push(class.name.copy(alloc)?)?;
+            let own = class.name.copy(alloc)?;
+            names.push(own)?;
             add_names(alloc, interfaces, class.interfaces.as_slice())?;
             at = &class.parent;
         }
@@ -155,7 +156,8 @@ fn add_names(alloc: Global, names: &mut List<Bytes>, others: &[Bytes]) -> Result
     ensures { OnOk result (names.new ≡ names.old ++ others.now) }
 {
     for name in others {
-        names.push(name.copy(alloc)?)?;
+        let one = name.copy(alloc)?;
+        names.push(one)?;
     }
     Ok(())
 }
@@ -171,7 +173,8 @@ fn add_method(
         ≡ option_or (method_in places.old q) (if is_method q.class q.name q.desc id.now then Some place else None)) }
 {
     if !places.contains_key(id) {
-        places.insert(id.copy(alloc)?, place)?;
+        let id = id.copy(alloc)?;
+        places.insert(id, place)?;
     }
     Ok(())
 }

@@ -12,6 +12,6 @@ loop-preserved c =
     let count = ap (λ (l : Listing). length l.classes) c.self.view_is in
     let up = upwards_some (length classes) c.loop.counter classes c.loop.at.now class (omega (arith, c.loop-test.true, c.len-end.ensures, count)) found in
     record {
-      named = pushed c.loop.names c.push.new.self _ _ _ class.name (c.in_ok-push.ensures.ok ∙ ap (λ n. c.loop.names ++ n ∷ []) c.in_ok-copy.ensures) (ap names_of up) c.loop.invariant.named;
+      named = pushed c.loop.names c.push.new.self _ _ _ class.name (c.in_ok-push.ensures.ok ∙ ap (λ n. c.loop.names ++ n ∷ []) c.in_ok-own.ensures) (ap names_of up) c.loop.invariant.named;
       above = appended c.loop.interfaces c.add_names.new.names class.interfaces _ _ _ (c.in_ok-add_names.ensures ∙ ap (λ ns. c.loop.interfaces ++ ns) c.as_slice.ensures) (ap interfaces_of up) c.loop.invariant.above;
     }
