@@ -289,11 +289,14 @@ fn outputs_of(
     ensures written { IfOk result (λ outputs. is_written certificate.now ≡ true) }
     ensures outputs { IfOk result (λ outputs. outputs ≡ outputs_of folder.now program.now certificate.now) }
 {
-    match output_files::outputs_of(alloc, folder, program, certificate) {
-        Ok(outputs) => Ok(outputs),
-        Err(CertLong::Certificate { value }) => Err(Refusal::LongCertificate { value }),
-        Err(CertLong::Memory) => Err(Refusal::Memory),
-    }
+    let fault = match output_files::outputs_of(alloc, folder, program, certificate) {
+        Ok(outputs) => return Ok(outputs),
+        Err(fault) => fault,
+    };
+    let CertLong::Certificate { value } = fault else {
+        return Err(Refusal::Memory);
+    };
+    Err(Refusal::LongCertificate { value })
 }
 
 /// To files in their grammars and limits that link to a program with types, with a policy that is woven in this mode and sizes that

@@ -93,12 +93,13 @@ pub fn types_of(alloc: Global, program: &Indexed) -> Result<Typing, Refusal>
     ensures shaped { IfOk result (λ typing. IsShaped program.now typing.frames) }
     ensures least { IfOk result (λ typing. IsLeast program.now typing) }
 {
-    match infer(alloc, program) {
-        Ok(typing) => Ok(typing),
-        Err(InferFault::Untyped { class, method, at }) => {
-            let class = label_of(alloc, program.program(), class)?;
-            Err(Refusal::Untyped { class, method, at })
-        }
-        Err(InferFault::Memory) => Err(Refusal::Memory),
-    }
+    let fault = match infer(alloc, program) {
+        Ok(typing) => return Ok(typing),
+        Err(fault) => fault,
+    };
+    let InferFault::Untyped { class, method, at } = fault else {
+        return Err(Refusal::Memory);
+    };
+    let class = label_of(alloc, program.program(), class)?;
+    Err(Refusal::Untyped { class, method, at })
 }
