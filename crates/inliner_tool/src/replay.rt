@@ -90,11 +90,13 @@ fn run_text(alloc: Global, guest: &Guest, count: u64, run: &Replayed) -> Result<
 fn end_told(end: Option<End>) -> EndLine
     ensures { result ≡ end_told end }
 {
+    let Some(end) = end else {
+        return EndLine::Running;
+    };
     match end {
-        None => EndLine::Running,
-        Some(End::Finished) => EndLine::Finished,
-        Some(End::Deadlock) => EndLine::Deadlock,
-        Some(End::Stopped(value)) => EndLine::Stopped(value),
+        End::Finished => EndLine::Finished,
+        End::Deadlock => EndLine::Deadlock,
+        End::Stopped(value) => EndLine::Stopped(value),
     }
 }
 
