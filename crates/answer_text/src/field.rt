@@ -7,7 +7,7 @@ use mon_base::{Bytes, List, NoMemory, push_count, push_number};
 use std::alloc::Global;
 
 /// What stands in a line behind a space.
-#[derive(Drop, PartialEq, Eq)]
+#[derive(Drop)]
 pub enum Field {
     /// How many, or at which place.
     Count(u64),
@@ -18,7 +18,7 @@ pub enum Field {
 }
 
 /// What is wrong, by its number, with the fields that say where.
-#[derive(Drop, PartialEq, Eq)]
+#[derive(Drop)]
 pub struct Report {
     pub number: u32,
     pub fields: List<Field>,

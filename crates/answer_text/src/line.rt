@@ -8,7 +8,7 @@ use crate::field::{Field, Report, push_counted, push_fields, push_word};
 use mon_base::{Bytes, List, NoMemory};
 
 /// A line of one of the kinds that are printed.
-#[derive(Drop, PartialEq, Eq)]
+#[derive(Drop)]
 pub enum Line {
     /// `accepted MODE sites N`: the program is accepted in this mode, with so many sites.
     Accepted {

@@ -8,7 +8,7 @@ use mon_base::{Bytes, NoMemory};
 use std::alloc::Global;
 
 /// What is printed.
-#[derive(Drop, PartialEq, Eq)]
+#[derive(Drop)]
 pub enum Reply {
     /// A line.
     Line(Line),

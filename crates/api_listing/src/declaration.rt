@@ -5,7 +5,7 @@ use crate::types::{ListedClass, ListedMethod};
 use mon_base::{Bytes, MethodId};
 
 /// What a line of a listing declares.
-#[derive(Debug, Drop, PartialEq, Eq)]
+#[derive(Drop)]
 pub enum Declaration {
     /// A class or an interface.
     Class(ListedClass),

@@ -51,7 +51,7 @@ use mon_base::{Bytes, List};
 use std::alloc::Global;
 
 /// What an array has in the end, or a type that is no array.
-#[derive(Debug, Drop, PartialEq, Eq)]
+#[derive(Drop)]
 pub enum Element {
     Boolean,
     Byte,
@@ -63,14 +63,14 @@ pub enum Element {
 }
 
 /// A type of a field, an argument or a result: so many dimensions of arrays over an element.
-#[derive(Debug, Drop, PartialEq, Eq)]
+#[derive(Drop)]
 pub struct FieldType {
     pub dimensions: usize,
     pub element: Element,
 }
 
 /// The types of a method's arguments, and that of its result, if it has one.
-#[derive(Debug, Drop, PartialEq, Eq)]
+#[derive(Drop)]
 pub struct MethodType {
     pub arguments: List<FieldType>,
     pub result: Option<FieldType>,

@@ -3,7 +3,7 @@
 use mon_base::{Bytes, List, MethodId};
 
 /// A value that is passed to a method of the library or comes back from it.
-#[derive(Debug, Drop, PartialEq, Eq)]
+#[derive(Drop, PartialEq, Eq)]
 pub enum ApiValue {
     /// A number of 32 bits; of a narrow type too, as it was passed.
     Int(i32),
@@ -17,7 +17,7 @@ pub enum ApiValue {
 }
 
 /// A call of a method of the library. Where `instance` is set the receiver is not among the arguments.
-#[derive(Debug, Drop, PartialEq, Eq)]
+#[derive(Drop)]
 pub struct ApiCall {
     pub method: MethodId,
     pub instance: bool,
@@ -25,7 +25,7 @@ pub struct ApiCall {
 }
 
 /// How the library answers a call.
-#[derive(Debug, Drop, PartialEq, Eq)]
+#[derive(Drop, PartialEq, Eq)]
 pub enum ApiAnswer {
     /// The method has no result.
     Nothing,
@@ -43,7 +43,7 @@ pub enum ApiAnswer {
 }
 
 /// What is seen of a call. `method` is its index among the listed methods.
-#[derive(Debug, Drop, PartialEq, Eq)]
+#[derive(Drop)]
 pub enum Event {
     Call {
         thread: u32,

@@ -6,14 +6,14 @@ use mon_base::{Bytes, List, MethodId, NoMemory};
 use std::alloc::Global;
 
 /// A method that a listing declares.
-#[derive(Debug, Drop, PartialEq, Eq)]
+#[derive(Drop)]
 pub struct ListedMethod {
     pub id: MethodId,
     pub is_static: bool,
 }
 
 /// A class or an interface that is built in or that a listing declares. `java/lang/Object` alone has an empty parent.
-#[derive(Debug, Drop, PartialEq, Eq)]
+#[derive(Drop)]
 pub struct ListedClass {
     pub name: Bytes,
     pub parent: Bytes,
@@ -22,7 +22,7 @@ pub struct ListedClass {
 }
 
 /// What a listing tells: the built-in classes and then its own, its methods and its fields, each in order of lines.
-#[derive(Debug, Drop, PartialEq, Eq)]
+#[derive(Drop)]
 pub struct Listing {
     pub classes: List<ListedClass>,
     pub methods: List<ListedMethod>,

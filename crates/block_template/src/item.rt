@@ -4,7 +4,7 @@ use conspec_tree::Phase;
 use offset_patch::BlockInsn;
 
 /// What is so before an instruction of a block. From it the types and the note are told that a certificate has there.
-#[derive(Clone, Copy, PartialEq, Eq)]
+#[derive(Clone, Copy)]
 pub enum Role {
     /// So many arguments are not kept yet, and the next one is.
     Save {
@@ -70,7 +70,7 @@ pub enum Role {
 }
 
 /// An instruction of a block.
-#[derive(Clone, Copy, PartialEq, Eq)]
+#[derive(Clone, Copy)]
 pub struct Item {
     pub insn: BlockInsn,
     pub role: Role,

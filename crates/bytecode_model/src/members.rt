@@ -8,7 +8,7 @@ use mon_base::NoMemory;
 use std::alloc::Global;
 
 /// What a declaration is of, and whether it is static.
-#[derive(Debug, Drop, PartialEq, Eq)]
+#[derive(Drop)]
 pub struct Found {
     pub target: Target,
     pub is_static: bool,
@@ -28,7 +28,7 @@ impl Found {
 }
 
 /// Which members of a class are meant.
-#[derive(Clone, Copy, PartialEq, Eq)]
+#[derive(Clone, Copy)]
 pub enum MemberKind {
     Method,
     Field,

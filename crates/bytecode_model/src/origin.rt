@@ -1,7 +1,7 @@
 //! Where instructions come from that this tool wrote.
 
 /// Where an instruction of the output comes from.
-#[derive(Clone, Copy, PartialEq, Eq)]
+#[derive(Clone, Copy)]
 pub enum Origin {
     /// The client's instruction of this index.
     Client(u32),

@@ -8,7 +8,7 @@ use mon_base::{Bytes, List, NoMemory};
 use std::alloc::Global;
 
 /// Whether the files come from a compiler, or were written by this tool.
-#[derive(Clone, Copy, PartialEq, Eq)]
+#[derive(Clone, Copy)]
 pub enum Side {
     Original,
     Inlined,
@@ -16,7 +16,7 @@ pub enum Side {
 
 /// An entry of an exception table, by indices of instructions: the first that is covered, the first behind those
 /// that are, and the handler. `class` is what is caught, or `None` for anything.
-#[derive(Drop, PartialEq, Eq)]
+#[derive(Drop)]
 pub struct Handler {
     pub from: u32,
     pub to: u32,
@@ -25,7 +25,7 @@ pub struct Handler {
 }
 
 /// What an instruction's operand names.
-#[derive(Debug, Drop, PartialEq, Eq)]
+#[derive(Drop)]
 pub enum Target {
     /// Nothing: the instruction names no constant.
     None,

@@ -24,7 +24,7 @@ use conspec_automaton::Policy;
 use type_lattice::Indexed;
 
 /// The answer yes.
-#[derive(Clone, Copy, Debug, PartialEq, Eq)]
+#[derive(Clone, Copy)]
 pub struct Accepted {
     /// How the blocks of the program use the lock.
     pub mode: Mode,

@@ -4,7 +4,7 @@ use thiserror::Error;
 
 /// The first test that fails, with its first place. Classes, methods and instructions are counted from 0; of a shape the
 /// methods with code alone are counted.
-#[derive(Clone, Copy, Debug, PartialEq, Eq, Error)]
+#[derive(Clone, Copy, Debug, Error)]
 pub enum CheckFault {
     /// The certificate is of a program of another shape.
     #[error("the certificate is of another program")]

@@ -18,7 +18,7 @@ use cert_format::Note;
 use insn_codec::{Insn, goes_on};
 
 /// How what is asked of a note is tested.
-#[derive(Clone, Copy, Debug, PartialEq, Eq)]
+#[derive(Clone, Copy)]
 pub enum Test {
     /// It is so.
     Meets,

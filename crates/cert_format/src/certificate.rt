@@ -14,7 +14,7 @@ pub enum Mode {
 }
 
 /// What a checker is told of a program: the frame types, and the notes by class, method with code, and instruction.
-#[derive(Debug, Drop, PartialEq, Eq)]
+#[derive(Drop)]
 pub struct Certificate {
     pub mode: Mode,
     pub typing: Typing,

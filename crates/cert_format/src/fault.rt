@@ -44,7 +44,7 @@ impl<T: Drop> From<AllocFailed<T>> for CertForm {
 }
 
 /// Why a certificate cannot be written.
-#[derive(Clone, Copy, Debug, PartialEq, Eq, Error)]
+#[derive(Clone, Copy, Debug, Error)]
 pub enum CertLong {
     /// It has this many bytes, more than 67,108,864.
     #[error("a certificate of {value} bytes")]

@@ -12,7 +12,7 @@ use std::rc::Rc;
 
 /// The name of a class or of an array type. All who [share](Name::share) it hold the same bytes in memory. A contract sees the list
 /// of its bytes.
-#[derive(Debug, Drop)]
+#[derive(Drop)]
 pub struct Name {
     text: Rc<Bytes>,
 }

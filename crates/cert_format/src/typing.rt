@@ -7,7 +7,7 @@ use mon_base::{List, NoMemory, SharedList};
 
 /// What a local or a stack place holds, as the verifier sees it. (The Java Virtual Machine Specification, section
 /// 4.10.1.2.)
-#[derive(Debug, Drop, PartialEq, Eq)]
+#[derive(Drop, PartialEq, Eq)]
 pub enum VType {
     /// Anything.
     Top,
@@ -41,14 +41,14 @@ impl VType {
 
 /// The types before an instruction: of the locals, and of the operand stack from its bottom. Instructions that follow one
 /// another mostly have the same locals, and share them.
-#[derive(Debug, Drop, PartialEq, Eq)]
+#[derive(Drop)]
 pub struct FrameType {
     pub locals: SharedList<VType>,
     pub stack: List<VType>,
 }
 
 /// The frame types of a program by class, method with code, and instruction. `None`: it is not reached.
-#[derive(Debug, Drop, PartialEq, Eq)]
+#[derive(Drop)]
 pub struct Typing {
     pub frames: List<List<List<Option<FrameType>>>>,
 }

@@ -7,7 +7,7 @@ use cert_format::{Phase8, Site};
 use conspec_tree::Phase;
 
 /// A call of this method, in a method whose own locals end at `base`.
-#[derive(Clone, Copy, Debug, PartialEq, Eq)]
+#[derive(Clone, Copy)]
 pub struct Called {
     pub callee: u32,
     pub base: u16,

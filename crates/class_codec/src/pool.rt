@@ -7,7 +7,7 @@ use crate::tree::Const;
 use mon_base::Bytes;
 
 /// What an index may have to name.
-#[derive(Clone, Copy, PartialEq, Eq)]
+#[derive(Clone, Copy)]
 pub enum Kind {
     Utf8,
     Class,

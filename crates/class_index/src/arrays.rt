@@ -7,7 +7,7 @@ ghost use Rattle.class_index.specs.Arrays.{half_of, item_at, with_half, Keeps, P
 use mon_base::{List, NoMemory};
 
 /// Two arrays, of the items of even and of odd numbers.
-#[derive(Clone, Copy, Debug, PartialEq, Eq)]
+#[derive(Clone, Copy)]
 pub struct Halves {
     pub even: usize,
     pub odd: usize,

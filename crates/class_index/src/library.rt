@@ -17,7 +17,7 @@ use std::alloc::Global;
 use std::collections::{BTreeMap, BTreeSet};
 
 /// Which of the lists is that of a class, and how many classes up no more are found.
-#[derive(Clone, Copy, Debug, PartialEq, Eq)]
+#[derive(Clone, Copy)]
 pub struct Above {
     pub place: usize,
     pub height: usize,

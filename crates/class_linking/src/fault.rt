@@ -10,7 +10,7 @@ use thiserror::Error;
 
 /// The first condition of linking that fails. Classes and members are named as the files name them; methods are
 /// counted in their class from 0, and instructions in their code.
-#[derive(Debug, Drop, PartialEq, Eq, Error)]
+#[derive(Debug, Drop, Error)]
 pub enum LinkFault {
     #[error("the main class has no static main([Ljava/lang/String;)V")]
     NoMain,

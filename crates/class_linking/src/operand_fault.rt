@@ -6,7 +6,7 @@ ghost use Rattle.class_linking.specs.declared.operand_fault.OperandFault.TheVari
 use mon_base::{Bytes, NoMemory};
 
 /// Why an operand has no target.
-#[derive(Drop, PartialEq, Eq)]
+#[derive(Drop)]
 pub enum OperandFault {
     /// The instruction does not take such a constant.
     Wrong,

@@ -9,7 +9,7 @@ use std::alloc::AllocError;
 use thiserror::Error;
 
 /// Why class files have no text.
-#[derive(Debug, Drop, PartialEq, Eq, Error)]
+#[derive(Debug, Drop, Error)]
 pub enum ShowFault {
     /// The code of the method, counted from 0 in its class, is none. It is the first such in the order of the files.
     #[error("code of a method")]

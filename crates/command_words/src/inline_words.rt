@@ -8,7 +8,7 @@ use crate::words::first_of;
 use mon_base::Bytes;
 
 /// How the blocks that are woven are to use the lock.
-#[derive(Clone, Copy, Debug, PartialEq, Eq)]
+#[derive(Clone, Copy)]
 pub enum Weaving {
     /// They let it go before the call where the policy allows that, and hold it over the call elsewhere.
     Auto,

@@ -7,7 +7,7 @@ use conspec_tree::{Atom, Kind, Phase, Update, Var};
 use mon_base::List;
 
 /// What is done where all atoms hold.
-#[derive(Debug, Drop, PartialEq, Eq)]
+#[derive(Drop)]
 pub struct Branch {
     /// The atoms that were written, and behind them those that keep the updates in range.
     pub atoms: List<Atom>,
@@ -15,7 +15,7 @@ pub struct Branch {
 }
 
 /// What is asked and done at one kind of event of a method. An event that no branch takes is refused.
-#[derive(Debug, Drop, PartialEq, Eq)]
+#[derive(Drop)]
 pub struct Clause {
     /// The index of the method in its listing.
     pub method: u32,
@@ -27,7 +27,7 @@ pub struct Clause {
 }
 
 /// A policy. Its states are the values of its variables, in their order.
-#[derive(Debug, Drop, PartialEq, Eq)]
+#[derive(Drop)]
 pub struct Policy {
     /// The greatest value of an int variable, from 1 to 1,000,000,000.
     pub maxint: i32,

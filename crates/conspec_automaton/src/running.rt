@@ -18,7 +18,7 @@ use api_listing::Event;
 use conspec_tree::Update;
 
 /// What is said of a list of events. The indices count all events, from 0.
-#[derive(Clone, Copy, Debug, PartialEq, Eq)]
+#[derive(Clone, Copy)]
 pub enum Verdict {
     /// Each event is accepted.
     Accepted,

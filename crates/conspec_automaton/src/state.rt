@@ -5,7 +5,7 @@ ghost use Rattle.std.specs.Prelude.{◌≡◌, ◌<◌, ◌∷◌, [], ◌++◌,
 use std::marker::Model;
 
 /// The values of a policy's variables, in their order; true and false are 1 and 0. A contract sees their list.
-#[derive(Debug, Drop)]
+#[derive(Drop)]
 pub struct State {
     values: [i32; 16],
     count: u32,

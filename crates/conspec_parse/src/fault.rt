@@ -9,7 +9,7 @@ use thiserror::Error;
 
 /// What is wrong with the text: the fault that stands first in it, and of several at one token that which is
 /// named first here. `at` is how many bytes stand before its token.
-#[derive(Clone, Copy, Debug, PartialEq, Eq, Error)]
+#[derive(Clone, Copy, Debug, Error)]
 pub enum PolicyFault {
     /// No text of the grammar goes on with this token, or the text ends too early.
     #[error("no policy goes on with the token at byte {at}")]

@@ -65,7 +65,7 @@ pub static SIGNS: [&str; 22] = [
 const MOST: u64 = 10_000_000_000;
 
 /// Where a byte stands.
-#[derive(Clone, Copy, Debug, PartialEq, Eq)]
+#[derive(Clone, Copy)]
 pub enum Spot {
     Comment,
     /// So many bytes of a token are still to come: none between tokens.
@@ -73,7 +73,7 @@ pub enum Spot {
 }
 
 /// What a byte is.
-#[derive(Debug, Drop, PartialEq, Eq)]
+#[derive(Drop)]
 pub enum Piece {
     /// Layout or a later byte of a token; the next byte stands here.
     Skips(Spot),

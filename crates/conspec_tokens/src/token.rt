@@ -3,7 +3,7 @@
 use mon_base::Bytes;
 
 /// What a token is.
-#[derive(Debug, Drop, PartialEq, Eq)]
+#[derive(Drop)]
 pub enum Lexeme {
     /// A keyword or a sign of the grammar, by its bytes.
     Quoted(Bytes),
@@ -18,7 +18,7 @@ pub enum Lexeme {
 }
 
 /// A token, and how many bytes of the text stand before it.
-#[derive(Debug, Drop, PartialEq, Eq)]
+#[derive(Drop)]
 pub struct Token {
     pub at: u64,
     pub lexeme: Lexeme,

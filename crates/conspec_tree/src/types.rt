@@ -3,7 +3,7 @@
 use mon_base::{Bytes, List};
 
 /// What an atom compares.
-#[derive(Clone, Copy, Debug, PartialEq, Eq)]
+#[derive(Clone, Copy)]
 pub enum Base {
     /// A state variable, by its index.
     Var(u32),
@@ -14,7 +14,7 @@ pub enum Base {
 }
 
 /// How an atom compares.
-#[derive(Clone, Copy, Debug, PartialEq, Eq)]
+#[derive(Clone, Copy)]
 pub enum Rel {
     Eq,
     Ne,
@@ -25,7 +25,7 @@ pub enum Rel {
 }
 
 /// A comparison of a base with a constant. Truth values are 1 and 0.
-#[derive(Clone, Copy, Debug, PartialEq, Eq)]
+#[derive(Clone, Copy)]
 pub struct Atom {
     pub base: Base,
     pub rel: Rel,
@@ -33,14 +33,14 @@ pub struct Atom {
 }
 
 /// What becomes of a state variable.
-#[derive(Clone, Copy, Debug, PartialEq, Eq)]
+#[derive(Clone, Copy)]
 pub enum Update {
     Set { var: u32, value: i32 },
     Add { var: u32, by: i32 },
 }
 
 /// Which events of a method a clause is for: its call, its return, or its exception.
-#[derive(Clone, Copy, Debug, PartialEq, Eq)]
+#[derive(Clone, Copy)]
 pub enum Phase {
     Before,
     After,
@@ -48,7 +48,7 @@ pub enum Phase {
 }
 
 /// What a policy knows of a type. Classes and arrays are all `Object`.
-#[derive(Clone, Copy, Debug, PartialEq, Eq)]
+#[derive(Clone, Copy)]
 pub enum Kind {
     Int,
     Bool,
@@ -59,7 +59,7 @@ pub enum Kind {
 }
 
 /// A state variable, and what it is at first: of a bool 1 or 0.
-#[derive(Debug, Drop, PartialEq, Eq)]
+#[derive(Drop)]
 pub struct Var {
     pub name: Bytes,
     pub is_bool: bool,
@@ -67,14 +67,14 @@ pub struct Var {
 }
 
 /// Some lists of atoms, and what is done where all atoms of one of them hold. No atoms always hold.
-#[derive(Debug, Drop)]
+#[derive(Drop)]
 pub struct Guard {
     pub conjs: List<List<Atom>>,
     pub updates: List<Update>,
 }
 
 /// What is asked and done at one kind of event of a method. `ELSE` is a last guard with one empty list.
-#[derive(Debug, Drop)]
+#[derive(Drop)]
 pub struct TreeClause {
     /// The index of the method in its listing.
     pub method: u32,
@@ -86,7 +86,7 @@ pub struct TreeClause {
 }
 
 /// What a policy says.
-#[derive(Debug, Drop)]
+#[derive(Drop)]
 pub struct PolicyTree {
     /// The greatest value of an int variable, from 1 to 1,000,000,000.
     pub maxint: i32,

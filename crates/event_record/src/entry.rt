@@ -43,7 +43,7 @@ use mon_base::{Bytes, List, MethodId, NoMemory};
 use std::alloc::Global;
 
 /// What a line of a record tells.
-#[derive(Debug, Drop, PartialEq, Eq)]
+#[derive(Drop)]
 pub enum Entry {
     /// So many plain steps of the thread, at least one.
     Go { thread: u32, count: u32 },

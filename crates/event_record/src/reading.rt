@@ -29,14 +29,14 @@ use mon_base::{List, NoMemory};
 use std::alloc::Global;
 
 /// The steps and the events of a record, each in their order.
-#[derive(Debug, Drop, PartialEq, Eq)]
+#[derive(Drop)]
 pub struct Record {
     pub steps: List<Step>,
     pub events: List<Event>,
 }
 
 /// The record after a line, and whether that was the end line.
-#[derive(Debug, Drop)]
+#[derive(Drop)]
 pub struct Told {
     pub after: Record,
     pub is_last: bool,

@@ -29,14 +29,14 @@ use mon_base::{Bytes, NoMemory, push_count, push_number};
 use std::alloc::Global;
 
 /// A step of a run, and what the library saw of it.
-#[derive(Debug, Drop, PartialEq, Eq)]
+#[derive(Drop)]
 pub struct Line {
     pub step: Step,
     pub event: Option<Event>,
 }
 
 /// How a record ends.
-#[derive(Clone, Copy, Debug, PartialEq, Eq)]
+#[derive(Clone, Copy)]
 pub enum EndLine {
     /// Each thread ended.
     Finished,
@@ -53,7 +53,7 @@ pub enum EndLine {
 }
 
 /// Plain steps of a thread that are not written yet.
-#[derive(Clone, Copy, Debug)]
+#[derive(Clone, Copy)]
 pub struct Joined {
     pub thread: u32,
     pub count: u64,

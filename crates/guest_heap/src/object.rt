@@ -4,7 +4,7 @@ use crate::value::Value;
 use mon_base::{Bytes, List};
 
 /// An object of the heap. (The Java Virtual Machine Specification, section 2.4.)
-#[derive(Drop, PartialEq, Eq)]
+#[derive(Drop)]
 pub enum Object {
     /// An object of a class, with the fields of the class and its superclasses.
     Plain {
@@ -25,7 +25,7 @@ pub enum Object {
 }
 
 /// A monitor that a thread holds, and how many times it entered it.
-#[derive(Clone, Copy, PartialEq, Eq)]
+#[derive(Clone, Copy)]
 pub struct Monitor {
     pub on: Value,
     pub owner: u32,

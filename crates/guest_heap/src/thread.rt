@@ -5,7 +5,7 @@ use crate::value::Value;
 use mon_base::List;
 
 /// What a thread does.
-#[derive(Drop, PartialEq, Eq)]
+#[derive(Drop)]
 pub enum Doing {
     Running,
     /// It waits for the answer of the library's method with this index in the listing.

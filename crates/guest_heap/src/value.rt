@@ -2,7 +2,7 @@
 
 /// What a local, an operand, a field or an item of an array holds. (The Java Virtual Machine Specification, sections
 /// 2.3 and 2.4.)
-#[derive(Clone, Copy, PartialEq, Eq)]
+#[derive(Clone, Copy)]
 pub enum Value {
     /// A number of 32 bits.
     Int(i32),

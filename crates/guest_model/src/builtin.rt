@@ -4,7 +4,7 @@ ghost use Rattle.std.specs.Prelude.{◌≡◌};
 ghost use Rattle.guest_model.specs.Builtins.{builtin_at};
 
 /// What a built-in method does. (docs/MACHINE.md has the row of each.)
-#[derive(Clone, Copy, PartialEq, Eq)]
+#[derive(Clone, Copy)]
 pub enum Builtin {
     /// Nothing but taking its operands: `<init>` of Object, of what can be thrown, and of a Thread without a target.
     Make,

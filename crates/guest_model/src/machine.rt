@@ -19,7 +19,7 @@ pub struct Machine {
 }
 
 /// What a thread does in a step.
-#[derive(Debug, Drop, PartialEq, Eq)]
+#[derive(Drop)]
 pub enum Choice {
     /// Its next instruction.
     Plain,
@@ -28,7 +28,7 @@ pub enum Choice {
 }
 
 /// One guest step.
-#[derive(Debug, Drop, PartialEq, Eq)]
+#[derive(Drop)]
 pub struct Step {
     /// The number of the thread.
     pub thread: u32,
@@ -36,7 +36,7 @@ pub struct Step {
 }
 
 /// How a guest program ended.
-#[derive(Clone, Copy, Debug, PartialEq, Eq)]
+#[derive(Clone, Copy)]
 pub enum End {
     /// Each thread has ended.
     Finished,

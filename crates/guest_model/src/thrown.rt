@@ -4,7 +4,7 @@ ghost use Rattle.std.specs.Prelude.{◌≡◌};
 ghost use Rattle.guest_model.specs.Exceptions.{name_of};
 
 /// What the machine itself throws.
-#[derive(Clone, Copy, PartialEq, Eq)]
+#[derive(Clone, Copy)]
 pub enum Thrown {
     /// Null is used as an object.
     NullPointer,

@@ -24,7 +24,7 @@ pub struct Replayed {
 }
 
 /// Why a run is not made.
-#[derive(Clone, Copy, Debug, PartialEq, Eq, Error)]
+#[derive(Clone, Copy, Debug, Error)]
 pub enum ReplayFault {
     /// The step of this index, from 0, is not enabled in its place.
     #[error("step {index} is not enabled")]

@@ -31,7 +31,7 @@ fn top_operand(frames: &Frames) -> Option<Value>
 }
 
 /// What is done with what is on top: it is thrown, or its monitor is entered or left.
-#[derive(Clone, Copy, PartialEq, Eq)]
+#[derive(Clone, Copy)]
 pub enum OnTop {
     Throw,
     Enter,

@@ -7,7 +7,7 @@ use mon_base::NoMemory;
 use thiserror::Error;
 
 /// Why a step is not made.
-#[derive(Clone, Copy, Debug, PartialEq, Eq, Error)]
+#[derive(Clone, Copy, Debug, Error)]
 pub enum StepFault {
     /// The thread can not make it, as the machine stands.
     #[error("the step is not enabled")]

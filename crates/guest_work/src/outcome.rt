@@ -4,7 +4,7 @@ use guest_heap::Value;
 use guest_model::Thrown;
 
 /// What comes of operands that are taken.
-#[derive(Clone, Copy, PartialEq, Eq)]
+#[derive(Clone, Copy)]
 pub enum Comes {
     /// A value, which is put on top.
     Value(Value),
@@ -13,7 +13,7 @@ pub enum Comes {
 }
 
 /// What an instruction comes to.
-#[derive(Clone, Copy, PartialEq, Eq)]
+#[derive(Clone, Copy)]
 pub enum Outcome {
     /// The thread goes on behind it.
     Goes,

@@ -26,7 +26,7 @@ use mon_store::{Sink, SinkFault, Store};
 use std::alloc::Global;
 
 /// How a command ended.
-#[derive(Clone, Copy, Debug, PartialEq, Eq)]
+#[derive(Clone, Copy)]
 pub enum Status {
     /// The command's answer was printed.
     Done,

@@ -10,7 +10,7 @@ use event_record::RecordFault;
 use listing_text::ListFault;
 
 /// Why a file is not read as what it is named for.
-#[derive(Clone, Copy, Debug, PartialEq, Eq)]
+#[derive(Clone, Copy)]
 pub enum InputFault {
     /// It is longer than a file of its kind may be, in bytes.
     TooLong { len: u64 },

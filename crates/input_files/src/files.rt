@@ -10,7 +10,7 @@ use mon_store::{ReadFault, Store, read_file};
 use std::alloc::{AllocError, AllocFailed, Global};
 
 /// Why the reading of files ended.
-#[derive(Debug, Drop, PartialEq, Eq)]
+#[derive(Drop)]
 pub enum Stop {
     /// The file of this name is not what it is named for.
     Input(Bytes, InputFault),

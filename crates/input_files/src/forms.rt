@@ -37,7 +37,7 @@ pub const CLASS_LIMIT: u64 = 1_048_576;
 pub const RECORD_LIMIT: u64 = 268_435_456;
 
 /// A class file, and the length of its text, in bytes.
-#[derive(Drop, PartialEq, Eq)]
+#[derive(Drop)]
 pub struct ReadClass {
     pub file: ClassFile,
     pub len: u64,

@@ -25,7 +25,7 @@ use mon_store::Store;
 use std::alloc::Global;
 
 /// Class files, and how many bytes their texts have in all.
-#[derive(Drop, PartialEq, Eq)]
+#[derive(Drop)]
 pub struct ReadClasses {
     pub files: List<ClassFile>,
     pub total: u64,

@@ -14,7 +14,7 @@ use mon_store::Store;
 use std::alloc::Global;
 
 /// What the files of a policy and of a run are.
-#[derive(Debug, Drop)]
+#[derive(Drop)]
 pub struct PolicyInputs {
     pub policy: PolicyTree,
     pub recorded: Record,

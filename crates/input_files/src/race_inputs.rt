@@ -15,7 +15,7 @@ use mon_store::Store;
 use std::alloc::Global;
 
 /// What the files of a policy by itself are.
-#[derive(Debug, Drop)]
+#[derive(Drop)]
 pub struct RaceInputs {
     pub listing: Listing,
     pub policy: PolicyTree,

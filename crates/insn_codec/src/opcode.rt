@@ -6,7 +6,7 @@ ghost use Rattle.insn_codec.specs.Opcodes.{operands_of, is_frame_only, goes_on};
 use Operands::*;
 
 /// What follows an opcode, and whether it may stand in the code at all.
-#[derive(Clone, Copy, Debug, PartialEq, Eq)]
+#[derive(Clone, Copy)]
 pub enum Operands {
     /// Nothing.
     Plain,

@@ -9,7 +9,7 @@ use crate::forms::StackForm;
 use crate::opcodes::*;
 
 /// What a local or an operand holds.
-#[derive(Clone, Copy, Debug, PartialEq, Eq)]
+#[derive(Clone, Copy)]
 pub enum Kind {
     Int,
     /// A reference, also to an object that is not made yet.
@@ -17,7 +17,7 @@ pub enum Kind {
 }
 
 /// What is made of two numbers. Each wraps at 32 bits; a distance counts by its low five bits.
-#[derive(Clone, Copy, Debug, PartialEq, Eq)]
+#[derive(Clone, Copy)]
 pub enum Two {
     Add,
     Subtract,
@@ -31,7 +31,7 @@ pub enum Two {
 }
 
 /// What is made of one number.
-#[derive(Clone, Copy, Debug, PartialEq, Eq)]
+#[derive(Clone, Copy)]
 pub enum One {
     Negate,
     ToByte,
@@ -40,7 +40,7 @@ pub enum One {
 }
 
 /// How two numbers, or a number and 0, are compared.
-#[derive(Clone, Copy, Debug, PartialEq, Eq)]
+#[derive(Clone, Copy)]
 pub enum Relation {
     Equal,
     NotEqual,
@@ -51,7 +51,7 @@ pub enum Relation {
 }
 
 /// What an array holds, as the instructions that read and write its items tell it.
-#[derive(Clone, Copy, Debug, PartialEq, Eq)]
+#[derive(Clone, Copy)]
 pub enum Item {
     Int,
     Reference,
@@ -62,7 +62,7 @@ pub enum Item {
 }
 
 /// How a call finds its method. (The Java Virtual Machine Specification, section 6.5.)
-#[derive(Clone, Copy, Debug, PartialEq, Eq)]
+#[derive(Clone, Copy)]
 pub enum How {
     /// By the class of the receiver: `invokevirtual`.
     Virtual,
@@ -75,7 +75,7 @@ pub enum How {
 }
 
 /// What an instruction does with more than its frame.
-#[derive(Clone, Copy, Debug, PartialEq, Eq)]
+#[derive(Clone, Copy)]
 pub enum Heap {
     /// Pushes the constant that it names.
     Constant,
@@ -105,7 +105,7 @@ pub enum Heap {
 }
 
 /// What an instruction does, with numbers alone. `to` is the index of the instruction that is jumped to.
-#[derive(Clone, Copy, Debug, PartialEq, Eq)]
+#[derive(Clone, Copy)]
 pub enum Shape {
     Nothing,
     Push(i32),

@@ -29,7 +29,7 @@ use mon_base::{Bytes, List, MethodId, NoMemory};
 use std::alloc::Global;
 
 /// What a line says.
-#[derive(Drop, PartialEq, Eq)]
+#[derive(Drop)]
 pub enum Said {
     /// It is empty or a remark.
     Nothing,

@@ -13,7 +13,7 @@ use std::convert::AsSlice;
 use std::marker::Model;
 
 /// A list that is held by one word, for types of which few values have it. A contract sees the list of its items.
-#[derive(Debug, Drop)]
+#[derive(Drop)]
 pub struct BoxedList<T> {
     list: Box<List<T>>,
 }

@@ -10,7 +10,7 @@ use std::marker::Model;
 ///
 /// Numbers are read with the highest byte first. Where too few bytes are left a reading is `None`, and the place
 /// stays where it was.
-#[derive(Debug, Drop)]
+#[derive(Drop)]
 pub struct Cursor<'a> {
     at: u64,
     rest: &'a [u8],

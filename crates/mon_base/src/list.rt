@@ -15,7 +15,7 @@ use std::convert::AsSlice;
 use std::marker::Model;
 
 /// A list. A contract sees the list of its items.
-#[derive(Debug, Drop)]
+#[derive(Drop)]
 pub struct List<T> {
     items: Vec<T>,
 }

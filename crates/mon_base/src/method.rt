@@ -7,7 +7,7 @@ use crate::memory::NoMemory;
 use std::alloc::Global;
 
 /// The name of a method or a field: its class with `/` between packages, its own name, and its descriptor.
-#[derive(Debug, Drop, PartialEq, Eq, PartialOrd, Ord)]
+#[derive(Drop, PartialEq, Eq, PartialOrd, Ord)]
 pub struct MethodId {
     pub class: Bytes,
     pub name: Bytes,

@@ -8,7 +8,7 @@ use std::alloc::Global;
 use std::marker::Model;
 
 /// A list with memory for some items more. A contract sees its items, and as `spare` how many more it takes.
-#[derive(Debug, Drop)]
+#[derive(Drop)]
 pub struct Room<T> {
     items: Vec<T>,
 }

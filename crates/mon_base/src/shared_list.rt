@@ -13,7 +13,7 @@ use std::marker::Model;
 use std::rc::Rc;
 
 /// A list. All who [share](SharedList::share) it hold the same items in memory. A contract sees the list of its items.
-#[derive(Debug, Drop)]
+#[derive(Drop)]
 pub struct SharedList<T> {
     list: Rc<List<T>>,
 }

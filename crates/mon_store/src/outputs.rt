@@ -10,7 +10,7 @@ use mon_base::{Bytes, NoMemory};
 use std::alloc::Global;
 
 /// A file that is to be written.
-#[derive(Debug, Drop, PartialEq, Eq)]
+#[derive(Drop)]
 pub struct Output {
     pub name: Bytes,
     pub bytes: Bytes,

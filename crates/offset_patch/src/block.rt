@@ -16,7 +16,7 @@ pub enum PoolWant {
 }
 
 /// An instruction of a block.
-#[derive(Clone, Copy, PartialEq, Eq)]
+#[derive(Clone, Copy)]
 pub enum BlockInsn {
     /// An opcode alone.
     Plain(u8),
@@ -35,7 +35,7 @@ pub enum BlockInsn {
 }
 
 /// A block. It stands in the place of a client's instruction.
-#[derive(Drop, PartialEq, Eq)]
+#[derive(Drop)]
 pub struct Block {
     pub insns: List<BlockInsn>,
     /// Where in the block what the client's instruction throws is caught, if it is.

@@ -10,7 +10,7 @@ use std::alloc::{AllocError, AllocFailed, Global};
 use thiserror::Error;
 
 /// A size of a method or of its class.
-#[derive(Clone, Copy, Debug, PartialEq, Eq)]
+#[derive(Clone, Copy, Debug)]
 pub enum Size {
     /// The greatest number of operands.
     Stack,
@@ -27,7 +27,7 @@ pub enum Size {
 }
 
 /// The first size that does not fit.
-#[derive(Debug, Drop, PartialEq, Eq, Error)]
+#[derive(Debug, Drop, Error)]
 pub enum SpliceFault {
     /// A method, by its class and its index there, would have this size.
     #[error("a size of {value}")]

@@ -8,7 +8,7 @@ use std::alloc::{AllocError, AllocFailed};
 use thiserror::Error;
 
 /// Why it is not decided whether a policy is race-free.
-#[derive(Clone, Copy, Debug, PartialEq, Eq, Error)]
+#[derive(Clone, Copy, Debug, Error)]
 pub enum RaceFault {
     /// So many points would have to be tried for two clauses, by their places in the policy, or for one, which is told
     /// twice: more than 1,000,000. It is the first such pair.

@@ -4,7 +4,7 @@ use api_listing::Event;
 use conspec_automaton::State;
 
 /// What is decided of a policy.
-#[derive(Debug, Drop)]
+#[derive(Drop)]
 pub enum RaceVerdict {
     /// The policy is race-free.
     Free,

@@ -8,7 +8,7 @@ use std::alloc::{AllocError, AllocFailed};
 use thiserror::Error;
 
 /// Why a program has no typing.
-#[derive(Clone, Copy, Debug, PartialEq, Eq, Error)]
+#[derive(Clone, Copy, Debug, Error)]
 pub enum InferFault {
     /// No types fit: the index of the class, of the method among all methods of the class, and of the instruction.
     #[error("no types fit at instruction {at}")]

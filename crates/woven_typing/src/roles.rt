@@ -78,7 +78,7 @@ impl Names {
 // ---- what a block has pushed
 
 /// What a block has pushed on the operands.
-#[derive(Clone, Copy, Debug, PartialEq, Eq)]
+#[derive(Clone, Copy)]
 pub enum Pushed {
     /// The class of the lock.
     Class,
