@@ -21,6 +21,7 @@ use Rattle.input_files.specs.Forms.{Count, Then}
 use Rattle.input_files.specs.ReplayInputs.{ReadsReplay}
 use Rattle.inliner_tool.specs.declared.answer.Answer.{Answer}
 use Rattle.inliner_tool.specs.declared.answer.Answer.TheVariants as answers
+use Rattle.inliner_tool.specs.declared.refusal.Refusal.{Refusal}
 use Rattle.inliner_tool.specs.declared.refusal.Refusal.TheVariants as refusals
 use Rattle.inliner_tool.specs.Answers.{refused, stopped}
 use Rattle.inliner_tool.specs.Programs.{Equals, Step, Types, program_of}
@@ -38,10 +39,13 @@ end_told (Some (ends.Stopped value)) = lines.Stopped value
 abbrev pub run_text : Program → ℕ → Replayed → List ℕ
 run_text program count run = events_text program.listing run.events (end_told (end_of program run.machine)) count
 
+abbrev pub replay_refusal : ReplayFault → Refusal
+replay_refusal (faults.NotEnabled index) = refusals.NotEnabled index
+replay_refusal faults.Memory = refusals.Memory
+
 abbrev pub run_told : Program → ℕ → Result Replayed ReplayFault → Step (List ℕ)
 run_told program count (Ok run) = Ok (run_text program count run)
-run_told program count (Err (faults.NotEnabled index)) = Err (refusals.NotEnabled index)
-run_told program count (Err faults.Memory) = Err refusals.Memory
+run_told program count (Err fault) = Err (replay_refusal fault)
 
 -- what is told of the run that these steps are
 abbrev pub steps_told : Program → List GuestStep → Step (List ℕ)

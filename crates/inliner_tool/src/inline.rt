@@ -9,6 +9,7 @@ ghost use Rattle.block_template.specs.Blocks.{plan_of};
 ghost use Rattle.bytecode_model.specs.Sound.{IsSound};
 ghost use Rattle.cert_checker.specs.Acceptance.{verdict};
 ghost use Rattle.cert_checker.specs.Secure.{Secure};
+ghost use Rattle.cert_maker.specs.Noting.{certificate_of};
 ghost use Rattle.class_codec.specs.Fits.{CanSpell};
 ghost use Rattle.class_weaving.specs.Woven.{woven};
 ghost use Rattle.command_words.specs.InlineWords.{inline_named};
@@ -18,6 +19,7 @@ ghost use Rattle.input_files.specs.InlineInputs.{InlineSound};
 ghost use Rattle.input_files.specs.Named.{IsListed};
 ghost use Rattle.mon_base.specs.Answer.{Answers};
 ghost use Rattle.output_files.specs.Outputs.{is_written, outputs_of};
+ghost use Rattle.told_typing.specs.Told.{FitsTyping, told};
 ghost use Rattle.inliner_tool.specs.Expected.{IsExpected};
 ghost use Rattle.inliner_tool.specs.Policy.{IsSoundFor};
 ghost use Rattle.inliner_tool.specs.Programs.{Equals, UnlessMemory};
@@ -45,7 +47,7 @@ use crate::answer::{Answer, refused, stopped};
 use crate::programs::{program_of, types_of};
 use crate::refusal::Refusal;
 use block_template::{PolicyPlan, plans_are_good};
-use bytecode_model::{Program, Side};
+use bytecode_model::{LinkedClass, Program, Side};
 use cert_checker::{Accepted, check};
 use cert_format::{CertLong, Certificate, Mode, Typing};
 use cert_maker::{make, woven_is_accepted};
@@ -56,7 +58,7 @@ use conspec_automaton::{Policy, build, denies_only};
 use conspec_parse::kinds_are_told;
 use conspec_tree::PolicyTree;
 use input_files::{InlineInputs, read_inline};
-use mon_base::{Bytes, List};
+use mon_base::{Bytes, List, NoMemory};
 use mon_store::{Output, Store, WriteFault, write_all};
 use offset_patch::SpliceFault;
 use policy_weaving::inline;
@@ -244,9 +246,33 @@ fn rewoven(alloc: Global, words: &InlineWords, given: Given, made: Woven) -> Res
     let plan = PolicyPlan::new(&policy, mode);
     let (woven, classes) = program_with(alloc, &plan, client, made.files)?;
     let program = Indexed::new(alloc, woven)?;
-    let typing = told(alloc, program.program(), typing)?;
-    let certificate = make(alloc, classes.as_slice(), &policy, mode, typing)?;
+    let certificate = certified(
+        alloc,
+        classes.as_slice(),
+        &policy,
+        mode,
+        program.program(),
+        typing,
+    )?;
     judged(alloc, words.folder, &policy, &program, &certificate)
+}
+
+/// The certificate of a woven program of these classes with these types.
+fn certified(
+    alloc: Global,
+    classes: &[LinkedClass],
+    policy: &Policy,
+    mode: Mode,
+    program: &Program,
+    typing: Typing,
+) -> Result<Certificate, NoMemory>
+    requires { IsPolicy policy.now }
+    ensures is { IfOk result (λ made. made ≡ certificate_of classes.now policy.now mode (told program.now typing)) }
+    // It can be told.
+    ensures fits { IfOk result (λ made. FitsTyping made.typing) }
+{
+    let typing = told(alloc, program, typing)?;
+    make(alloc, classes, policy, mode, typing)
 }
 
 /// What is to be written of a woven program, which is checked with its certificate.

@@ -1,9 +1,11 @@
 //! Why a command ends before its work is done.
 
 ghost use Rattle.std.specs.Prelude.{◌≡◌};
+ghost use Rattle.inliner_tool.specs.Replay.{replay_refusal};
 ghost use Rattle.inliner_tool.specs.declared.refusal.Refusal.TheVariants as refusals;
 
 use class_linking::LinkFault;
+use guest_step::ReplayFault;
 use mon_base::{Bytes, NoMemory};
 use offset_patch::Size;
 
@@ -41,6 +43,17 @@ pub enum Refusal {
     },
     /// Memory ran out.
     Memory,
+}
+
+impl From<ReplayFault> for Refusal {
+    ghost from_gives = { λ fault refusal. refusal ≡ replay_refusal fault };
+
+    fn from(fault: ReplayFault) -> Refusal {
+        match fault {
+            ReplayFault::NotEnabled { index } => Refusal::NotEnabled { index },
+            ReplayFault::Memory => Refusal::Memory,
+        }
+    }
 }
 
 impl From<NoMemory> for Refusal {

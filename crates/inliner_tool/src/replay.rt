@@ -18,7 +18,7 @@ use bytecode_model::Side;
 use command_words::ReplayWords;
 use event_record::{EndLine, events_text};
 use guest_model::{End, Step};
-use guest_step::{ReplayFault, Replayed, ended, replay};
+use guest_step::{Replayed, ended, replay};
 use guest_tables::Guest;
 use input_files::{ReplayInputs, read_replay};
 use mon_base::{Bytes, NoMemory};
@@ -65,11 +65,15 @@ fn steps_told(alloc: Global, program: Indexed, steps: &[Step]) -> Result<Bytes, 
     ensures { UnlessMemory (Equals (steps_told program steps.now)) result }
 {
     let guest = Guest::new(alloc, program)?;
-    match replay(alloc, &guest, steps) {
-        Ok(run) => Ok(run_text(alloc, &guest, steps.len() as u64, &run)?),
-        Err(ReplayFault::NotEnabled { index }) => Err(Refusal::NotEnabled { index }),
-        Err(ReplayFault::Memory) => Err(Refusal::Memory),
-    }
+    run_told(alloc, &guest, steps)
+}
+
+/// What is told of the run that these steps are of the guest's program.
+fn run_told(alloc: Global, guest: &Guest, steps: &[Step]) -> Result<Bytes, Refusal>
+    ensures { UnlessMemory (Equals (steps_told guest.now steps.now)) result }
+{
+    let run = replay(alloc, guest, steps)?;
+    Ok(run_text(alloc, guest, steps.len() as u64, &run)?)
 }
 
 /// The lines of the events of a run of so many steps, and its end line.

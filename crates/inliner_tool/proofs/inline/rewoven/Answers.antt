@@ -34,15 +34,12 @@ made_by : (given : Given) (made : Woven) (plan : Planned) (program : Program) �
 made_by given made plan program is so = so ∙ ap (λ (p : Planned). program_with (plan_of p.policy p.mode) given.client made.files) is
 
 -- what is made of these types is the certificate of the program
-certificate_is : (given : Given) (program indexed : Program) (before after : Typing) (classes : List LinkedClass) (certificate : Certificate)
-    → before ≡ typing_of given.client given.policy given.mode given.typing → indexed ≡ program → after ≡ told indexed before → classes ≡ given.client.classes
-    → certificate ≡ certificate_of classes given.policy given.mode after
-    → (after ≡ told program (typing_of given.client given.policy given.mode given.typing)) × (certificate ≡ certificate_for given program)
-certificate_is given program indexed before after classes certificate first same then all is =
-    let typing : after ≡ told program (typing_of given.client given.policy given.mode given.typing) = then ∙ ap (λ (p : Program). told p before) same ∙ ap (told program) first in (
-      typing,
-      is ∙ ap (λ (cs : List LinkedClass). certificate_of cs given.policy given.mode after) all ∙ ap (certificate_of given.client.classes given.policy given.mode) typing,
-    )
+certificate_is : (given : Given) (program indexed : Program) (before : Typing) (classes : List LinkedClass) (certificate : Certificate)
+    → before ≡ typing_of given.client given.policy given.mode given.typing → indexed ≡ program → classes ≡ given.client.classes
+    → certificate ≡ certificate_of classes given.policy given.mode (told indexed before) → certificate ≡ certificate_for given program
+certificate_is given program indexed before classes certificate first same all is =
+    let typing : told indexed before ≡ told program (typing_of given.client given.policy given.mode given.typing) = ap (λ (p : Program). told p before) same ∙ ap (told program) first in
+    is ∙ ap (λ (cs : List LinkedClass). certificate_of cs given.policy given.mode (told indexed before)) all ∙ ap (certificate_of given.client.classes given.policy given.mode) typing
 
 pub program_with-requires-clause-room : goal.program_with-requires-clause-room
 program_with-requires-clause-room c =
@@ -63,10 +60,10 @@ judged-requires-clause-accepted c =
     let given = c.args.given in
     let program = c.in_ok-program.program in
     let same = made_by given c.args.made c.new-plan.result program c.new-plan.ensures.is (c.in_ok-program.ensures ∙ c.in_ok-woven.ensures.is) in
-    let is = certificate_is given program c.program-2.result.now c.in_ok-typing.typing c.in_ok-typing-2.typing c.as_slice.result.now c.in_ok-certificate.certificate c.in_ok-typing.ensures c.program-2.ensures
-    c.in_ok-typing-2.ensures.is (c.as_slice.ensures ∙ c.in_ok-woven.ensures.old) c.in_ok-certificate.ensures in
+    let is = certificate_is given program c.program-2.result.now c.in_ok-typing.typing c.as_slice.result.now c.in_ok-certificate.certificate c.in_ok-typing.ensures c.program-2.ensures
+    (c.as_slice.ensures ∙ c.in_ok-woven.ensures.old) c.in_ok-certificate.ensures.is in
     let accepted = subst (λ (p : Program). IsAccepted p given.policy (certificate_for given p)) (sym same) c.requires.expected.accepted in
-    subst (λ (x : Certificate). IsAccepted program given.policy x) (sym is.1) accepted
+    subst (λ (x : Certificate). IsAccepted program given.policy x) (sym is) accepted
 
 pub returns-clause-steps : goal.returns-clause-steps
 returns-clause-steps c =
@@ -74,11 +71,11 @@ returns-clause-steps c =
     let program = c.in_ok-program.program in
     let same = made_by given c.args.made c.new-plan.result program c.new-plan.ensures.is (c.in_ok-program.ensures ∙ c.in_ok-woven.ensures.is) in
     let links : woven_links c.args.made.files given.client.listing c.args.words.now.main.now ≡ Ok program = c.requires.expected.links ∙ ap (λ (p : Program). Ok p) (sym same) in
-    let is = certificate_is given program c.program-2.result.now c.in_ok-typing.typing c.in_ok-typing-2.typing c.as_slice.result.now c.in_ok-certificate.certificate c.in_ok-typing.ensures c.program-2.ensures
-    c.in_ok-typing-2.ensures.is (c.as_slice.ensures ∙ c.in_ok-woven.ensures.old) c.in_ok-certificate.ensures in
+    let is = certificate_is given program c.program-2.result.now c.in_ok-typing.typing c.as_slice.result.now c.in_ok-certificate.certificate c.in_ok-typing.ensures c.program-2.ensures
+    (c.as_slice.ensures ∙ c.in_ok-woven.ensures.old) c.in_ok-certificate.ensures.is in
     remakes c.args.words.now.main.now c.args.words.now.folder.now given c.args.made program links
-    (subst (λ (x : Certificate). IsAccepted program given.policy x) is.1 c.judged.ensures.accepted) c.judged.result
-    (subst (λ (x : Certificate). Accepts c.args.words.now.folder.now given.policy program x c.judged.result) is.1 c.judged.ensures.accepts)
+    (subst (λ (x : Certificate). IsAccepted program given.policy x) is c.judged.ensures.accepted) c.judged.result
+    (subst (λ (x : Certificate). Accepts c.args.words.now.folder.now given.policy program x c.judged.result) is c.judged.ensures.accepts)
 
 pub returns-clause-rewoven : goal.returns-clause-rewoven
 returns-clause-rewoven c =
@@ -87,15 +84,15 @@ returns-clause-rewoven c =
     let program = c.in_ok-program.program in
     let same = made_by given c.args.made c.new-plan.result program c.new-plan.ensures.is (c.in_ok-program.ensures ∙ c.in_ok-woven.ensures.is) in
     let links : woven_links c.args.made.files given.client.listing c.args.words.now.main.now ≡ Ok program = expected.links ∙ ap (λ (p : Program). Ok p) (sym same) in
-    let is = certificate_is given program c.program-2.result.now c.in_ok-typing.typing c.in_ok-typing-2.typing c.as_slice.result.now c.in_ok-certificate.certificate c.in_ok-typing.ensures c.program-2.ensures
-    c.in_ok-typing-2.ensures.is (c.as_slice.ensures ∙ c.in_ok-woven.ensures.old) c.in_ok-certificate.ensures in
+    let is = certificate_is given program c.program-2.result.now c.in_ok-typing.typing c.as_slice.result.now c.in_ok-certificate.certificate c.in_ok-typing.ensures c.program-2.ensures
+    (c.as_slice.ensures ∙ c.in_ok-woven.ensures.old) c.in_ok-certificate.ensures.is in
     let back = subst (λ (p : Program). unlinked p ≡ c.args.made.files) (sym same) expected.back in
     let sound = subst IsSound (sym same) expected.sound in
     let spells = subst (λ (p : Program). FitsTyping (certificate_for given p).typing → is_written (certificate_for given p) ≡ true → CanSpell (length given.policy.vars) (certificate_for given p)) (sym same) expected.spells in
     known_rewoven (inline_named c.args.words.now) given c.args.made program links back sound
-    (subst (λ (x : Certificate). IsAccepted program given.policy x) is.1 c.judged.ensures.accepted)
-    (subst (λ (m : Mode). Secure m program given.policy) (ap (λ (x : Certificate). x.mode) is.1) c.judged.ensures.secure)
-    (spells (subst FitsTyping is.0 c.in_ok-typing-2.ensures.fits)) c.judged.result
-    (subst (λ (x : Certificate). IfOk c.judged.result (λ (ready : Ready). verdict program given.policy x ≡ Ok ready.accepted)) is.1 c.judged.ensures.verdict)
-    (subst (λ (x : Certificate). IfOk c.judged.result (λ (ready : Ready). is_written x ≡ true)) is.1 c.judged.ensures.written)
-    (subst (λ (x : Certificate). IfOk c.judged.result (λ (ready : Ready). ready.outputs ≡ outputs_of c.args.words.now.folder.now program x)) is.1 c.judged.ensures.outputs)
+    (subst (λ (x : Certificate). IsAccepted program given.policy x) is c.judged.ensures.accepted)
+    (subst (λ (m : Mode). Secure m program given.policy) (ap (λ (x : Certificate). x.mode) is) c.judged.ensures.secure)
+    (spells (subst (λ (x : Certificate). FitsTyping x.typing) is c.in_ok-certificate.ensures.fits)) c.judged.result
+    (subst (λ (x : Certificate). IfOk c.judged.result (λ (ready : Ready). verdict program given.policy x ≡ Ok ready.accepted)) is c.judged.ensures.verdict)
+    (subst (λ (x : Certificate). IfOk c.judged.result (λ (ready : Ready). is_written x ≡ true)) is c.judged.ensures.written)
+    (subst (λ (x : Certificate). IfOk c.judged.result (λ (ready : Ready). ready.outputs ≡ outputs_of c.args.words.now.folder.now program x)) is c.judged.ensures.outputs)
