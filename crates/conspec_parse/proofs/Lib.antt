@@ -16,7 +16,9 @@ mod Found
 mod FoundGuards
 mod FoundMethods
 mod FoundPolicy
+mod FromPhase
 mod Got
+mod InBrackets
 mod Loose
 mod Made
 mod Repeating

@@ -7,9 +7,11 @@ use Rattle.conspec_tree.specs.declared.types.Kind.{Kind}
 use Rattle.conspec_tree.specs.declared.types.Phase.{Phase}
 use Rattle.conspec_tree.specs.declared.types.Phase.TheVariants.{Before, After, Exceptional}
 use Rattle.conspec_tree.specs.declared.types.Var.{Var}
+use Rattle.conspec_tree.specs.declared.types.Atom.{Atom}
 use Rattle.conspec_tree.specs.declared.types.Guard.{Guard}
 use Rattle.conspec_tree.specs.declared.types.TreeClause.{TreeClause}
 use Rattle.conspec_parse.specs.declared.signature.Param.{Param}
+use Rattle.conspec_parse.specs.declared.type_name.TypeName.{TypeName}
 use Rattle.conspec_parse.specs.declared.fault.PolicyFault.TheVariants.{Syntax, Kind as WrongKind, Twice, Limit}
 use Rattle.conspec_parse.specs.Forms.{Parsed, behind, name_at, is_short, each}
 use Rattle.conspec_tokens.specs.Front.{front_at, is_next, is_name}
@@ -27,6 +29,13 @@ use Rattle.conspec_parse.specs.Updates.{block_at}
 
 abbrev pub begins_guard : List Token → Bool
 begins_guard tokens = is_next (codes "true") tokens || is_name tokens
+
+-- a guard more with these branches, from its arrow on
+unfoldable pub guard_of : List Var → ℤ → List Guard → List (List Atom) → List Token → Parsed (List Guard)
+guard_of vars maxint guards conjs tokens = do
+  arrow ← behind (codes "->") tokens
+  updates ← block_at vars maxint (longest conjs) arrow
+  Ok (guards ++ (record { conjs = conjs; updates = updates.0 }) ∷ [], updates.1)
 
 -- a guard more
 unfoldable pub guard_at : Scope → ℤ → List Guard → List Token → Parsed (List Guard)
@@ -102,6 +111,22 @@ clause_of method phase params kind guards = record {
   result = kind;
   guards = guards;
 }
+
+-- another clause of this method, from its guards on
+unfoldable pub clause_of_method : Scope → ℤ → ℕ → Phase → List Param → Option Kind → List TreeClause → List Token → Parsed (List TreeClause)
+clause_of_method scope maxint method phase params kind clauses tokens = do
+  performs ← behind (codes "PERFORM") tokens
+  guards ← body_at scope maxint performs
+  Ok (clauses ++ clause_of method phase params kind guards.0 ∷ [], guards.1)
+
+-- another clause of this phase and type, from its result's name or its method on
+unfoldable pub clause_of_type : List ListedMethod → List Var → ℤ → Phase → TypeName → List TreeClause → List Token → Parsed (List TreeClause)
+clause_of_type methods vars maxint phase type clauses tokens = do
+  result ← result_name_at vars phase type.kind tokens
+  method ← method_at methods vars clauses phase type.desc result.1
+  performs ← behind (codes "PERFORM") method.1
+  guards ← body_at (scope_of vars phase method.0.1 result.0 type.kind) maxint performs
+  Ok (clauses ++ clause_of method.0.0 phase method.0.1 type.kind guards.0 ∷ [], guards.1)
 
 -- another of at most 64 clauses
 unfoldable pub clause_at : List ListedMethod → List Var → ℤ → List TreeClause → List Token → Parsed (List TreeClause)

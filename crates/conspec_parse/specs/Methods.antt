@@ -71,6 +71,14 @@ some_parameters judged vars tokens = do
 abbrev pub parameters_at : Bool → List Var → List Token → Parsed (List Param)
 parameters_at judged vars tokens = if is_next (codes ")") tokens then Ok ([], tokens) else some_parameters judged vars tokens
 
+-- the parameters between brackets
+unfoldable pub bracketed : Bool → List Var → List Token → Parsed (List Param)
+bracketed judged vars tokens = do
+  opened ← behind (codes "(") tokens
+  params ← parameters_at judged vars opened
+  closed ← behind (codes ")") params.1
+  Ok (params.0, closed)
+
 -- ---- the class and the name
 
 abbrev pub init : List ℕ

@@ -1,12 +1,13 @@
 //! Clauses: the events of a method, and what is asked and done there.
 
-ghost use Rattle.std.specs.Prelude.{◌≡◌, ◌≤◌, ◌<◌, ◌^◌, [], length, map, IfOk};
+ghost use Rattle.std.specs.Prelude.{◌≡◌, ◌≤◌, ◌<◌, ◌^◌, ◌+◌, [], ◌∷◌, length, map, IfOk};
 ghost use Rattle.mon_base.specs.Answer.{AnswersAs};
 ghost use Rattle.conspec_parse.specs.Forms.{each};
 ghost use Rattle.conspec_parse.specs.Scope.{HasFewNames};
 ghost use Rattle.conspec_tree.specs.Guards.{branches};
 ghost use Rattle.conspec_parse.specs.Clauses.{
   begins_guard,
+  guard_of,
   guard_at,
   last_guard,
   with_else,
@@ -17,6 +18,8 @@ ghost use Rattle.conspec_parse.specs.Clauses.{
   given_result_at,
   result_name_at,
   asked_params,
+  clause_of_method,
+  clause_of_type,
   clause_at,
 };
 
@@ -26,7 +29,7 @@ use crate::guard::conjs_at;
 use crate::method::method_at;
 use crate::scope::Names;
 use crate::signature::Param;
-use crate::type_name::type_at;
+use crate::type_name::{TypeName, type_at};
 use crate::update::block_at;
 use api_listing::ListedMethod;
 use conspec_tokens::{Token, front_at, is_name, is_next, rest_of};
@@ -43,66 +46,96 @@ fn begins_guard(tokens: &[Token]) -> bool
     is_next("true", tokens) || is_name(tokens)
 }
 
-/// The guards so far, and behind them the one that stands first.
-#[tactic(auto, using(crate::proofs::Branches::branches_more), unfolding(crate::specs::Clauses::guard_at))]
+/// Puts the guard with these branches, whose arrow has to stand first, onto the guards so far, and gives the tokens
+/// behind it.
+#[tactic(auto, using(crate::proofs::Branches::branches_more), unfolding(crate::specs::Clauses::guard_of))]
+fn guard_of<'a>(
+    alloc: Global,
+    vars: &[Var],
+    maxint: i32,
+    conjs: List<List<Atom>>,
+    guards: &mut List<Guard>,
+    tokens: &'a [Token],
+) -> Result<&'a [Token], PolicyFault>
+    requires few { length vars.now ≤ 16 }
+    ensures exact { AnswersAs PolicyFault.Memory (λ rest. (guards.new, rest.now)) result
+        (guard_of vars.now maxint guards.old conjs tokens.now) }
+    ensures branches { IfOk result (λ _. branches guards.new ≡ branches guards.old + length conjs) }
+{
+    let block = behind("->", tokens)?;
+    let most = longest(conjs.as_slice());
+    let mut updates = List::new(alloc);
+    let rest = block_at(vars, maxint, most, &mut updates, block)?;
+    guards.push(Guard { conjs, updates })?;
+    Ok(rest)
+}
+
+/// Puts onto the guards so far the one that stands first, and gives the tokens behind it.
+#[tactic(auto, unfolding(crate::specs::Clauses::guard_at, crate::specs::Clauses::guard_of))]
 fn guard_at<'a>(
     alloc: Global,
     names: &Names<'_>,
     maxint: i32,
-    guards: List<Guard>,
+    guards: &mut List<Guard>,
     tokens: &'a [Token],
-) -> Result<(List<Guard>, &'a [Token]), PolicyFault>
+) -> Result<&'a [Token], PolicyFault>
     requires few { HasFewNames names.now }
-    requires within { branches guards ≤ 64 }
-    ensures exact { AnswersAs PolicyFault.Memory (λ r. (r.0, r.1.now)) result (guard_at names.now maxint guards tokens.now) }
-    ensures within { IfOk result (λ r. branches r.0 ≤ 64) }
+    requires within { branches guards.old ≤ 64 }
+    ensures exact { AnswersAs PolicyFault.Memory (λ rest. (guards.new, rest.now)) result
+        (guard_at names.now maxint guards.old tokens.now) }
+    ensures within { IfOk result (λ _. branches guards.new ≤ 64) }
 {
     let before = branches(guards.as_slice());
-    let (conjs, arrow) = conjs_at(alloc, names, before, tokens)?;
-    let block = behind("->", arrow)?;
-    let most = longest(conjs.as_slice());
-    let (updates, rest) = block_at(alloc, names.vars, maxint, most, block)?;
-    let mut guards = guards;
-    guards.push(Guard { conjs, updates })?;
-    Ok((guards, rest))
+    let mut conjs = List::new(alloc);
+    let arrow = conjs_at(alloc, names, before, &mut conjs, tokens)?;
+    guard_of(alloc, names.vars, maxint, conjs, guards, arrow)
 }
 
 fn guards_at<'a>(
     alloc: Global,
     names: &Names<'_>,
     maxint: i32,
+    guards: &mut List<Guard>,
     tokens: &'a [Token],
-) -> Result<(List<Guard>, &'a [Token]), PolicyFault>
-    requires { HasFewNames names.now }
-    ensures exact { AnswersAs PolicyFault.Memory (λ r. (r.0, r.1.now)) result
-        (each begins_guard (guard_at names.now maxint) [] tokens.now) }
-    ensures within { IfOk result (λ r. branches r.0 ≤ 64) }
+) -> Result<&'a [Token], PolicyFault>
+    requires few { HasFewNames names.now }
+    requires within { branches guards.old ≤ 64 }
+    ensures exact { AnswersAs PolicyFault.Memory (λ rest. (guards.new, rest.now)) result
+        (each begins_guard (guard_at names.now maxint) guards.old tokens.now) }
+    ensures within { IfOk result (λ _. branches guards.new ≤ 64) }
 {
-    let mut guards = List::new(alloc);
     let mut left = tokens;
     for _ in 0..tokens.len() {
         if !begins_guard(left) {
-            return Ok((guards, left));
+            return Ok(left);
         }
-        let (more, rest) = guard_at(alloc, names, maxint, guards, left)?;
-        guards = more;
-        left = rest;
+        left = guard_at(alloc, names, maxint, guards, left)?;
     }
-    Ok((guards, left))
+    Ok(left)
 }
 
-/// The guard that always holds, as the last.
+/// The branches of the guard that always holds: one with no atoms.
+fn always(alloc: Global) -> Result<List<List<Atom>>, NoMemory>
+    ensures { IfOk result (λ conjs. conjs ≡ [] ∷ []) }
+{
+    let mut conjs = List::new(alloc);
+    conjs.push(List::new(alloc))?;
+    Ok(conjs)
+}
+
+/// Puts the guard that always holds, as the last, onto the guards, and gives the tokens behind it.
 #[tactic(auto, unfolding(crate::specs::Clauses::last_guard))]
 fn last_guard<'a>(
     alloc: Global,
     names: &Names<'_>,
     maxint: i32,
-    guards: List<Guard>,
+    guards: &mut List<Guard>,
     tokens: &'a [Token],
-) -> Result<(List<Guard>, &'a [Token]), PolicyFault>
+) -> Result<&'a [Token], PolicyFault>
     requires few { HasFewNames names.now }
-    requires within { branches guards ≤ 64 }
-    ensures { AnswersAs PolicyFault.Memory (λ r. (r.0, r.1.now)) result (last_guard names.now maxint guards tokens.now) }
+    requires within { branches guards.old ≤ 64 }
+    ensures { AnswersAs PolicyFault.Memory (λ rest. (guards.new, rest.now)) result
+        (last_guard names.now maxint guards.old tokens.now) }
 {
     if branches(guards.as_slice()) >= 64 {
         return Err(PolicyFault::Limit {
@@ -110,45 +143,47 @@ fn last_guard<'a>(
         });
     }
     let block = behind("->", rest_of(tokens))?;
-    let (updates, rest) = block_at(alloc, names.vars, maxint, 0, block)?;
-    let mut conjs = List::new(alloc);
-    conjs.push(List::new(alloc))?;
-    let mut guards = guards;
+    let mut updates = List::new(alloc);
+    let rest = block_at(names.vars, maxint, 0, &mut updates, block)?;
+    let conjs = always(alloc)?;
     guards.push(Guard { conjs, updates })?;
-    Ok((guards, rest))
+    Ok(rest)
 }
 
 fn with_else<'a>(
     alloc: Global,
     names: &Names<'_>,
     maxint: i32,
-    guards: List<Guard>,
+    guards: &mut List<Guard>,
     tokens: &'a [Token],
-) -> Result<(List<Guard>, &'a [Token]), PolicyFault>
+) -> Result<&'a [Token], PolicyFault>
     requires few { HasFewNames names.now }
-    requires within { branches guards ≤ 64 }
-    ensures { AnswersAs PolicyFault.Memory (λ r. (r.0, r.1.now)) result (with_else names.now maxint guards tokens.now) }
+    requires within { branches guards.old ≤ 64 }
+    ensures { AnswersAs PolicyFault.Memory (λ rest. (guards.new, rest.now)) result
+        (with_else names.now maxint guards.old tokens.now) }
 {
     if is_next("ELSE", tokens) {
         last_guard(alloc, names, maxint, guards, tokens)
     } else {
-        Ok((guards, tokens))
+        Ok(tokens)
     }
 }
 
-/// The guards of a clause, and the tokens behind them.
+/// Puts the guards of a clause onto an empty list, and gives the tokens behind them.
 #[tactic(auto, unfolding(crate::specs::Clauses::body_at))]
 fn body_at<'a>(
     alloc: Global,
     names: &Names<'_>,
     maxint: i32,
+    guards: &mut List<Guard>,
     tokens: &'a [Token],
-) -> Result<(List<Guard>, &'a [Token]), PolicyFault>
-    requires { HasFewNames names.now }
-    ensures { AnswersAs PolicyFault.Memory (λ r. (r.0, r.1.now)) result (body_at names.now maxint tokens.now) }
+) -> Result<&'a [Token], PolicyFault>
+    requires few { HasFewNames names.now }
+    requires none { guards.old ≡ [] }
+    ensures { AnswersAs PolicyFault.Memory (λ rest. (guards.new, rest.now)) result (body_at names.now maxint tokens.now) }
 {
-    let (guards, rest) = guards_at(alloc, names, maxint, tokens)?;
-    with_else(alloc, names, maxint, guards, rest)
+    let left = guards_at(alloc, names, maxint, guards, tokens)?;
+    with_else(alloc, names, maxint, guards, left)
 }
 
 fn next_phase(tokens: &[Token]) -> Option<Phase>
@@ -248,19 +283,91 @@ fn kinds_of(alloc: Global, params: &[Param]) -> Result<List<Kind>, NoMemory>
     Ok(kinds)
 }
 
-/// The clauses so far, and behind them the one that stands first.
+/// Puts the clause of this method, whose guards have to stand first, onto the clauses so far, and gives the tokens
+/// behind it.
+#[tactic(auto, unfolding(crate::specs::Clauses::clause_of_method))]
+fn clause_of_method<'a>(
+    alloc: Global,
+    names: &Names<'_>,
+    maxint: i32,
+    head: (u32, Phase, Option<Kind>),
+    params: &[Param],
+    clauses: &mut List<TreeClause>,
+    tokens: &'a [Token],
+) -> Result<&'a [Token], PolicyFault>
+    requires { HasFewNames names.now }
+    ensures { AnswersAs PolicyFault.Memory (λ rest. (clauses.new, rest.now)) result
+        (clause_of_method names.now maxint head.0 head.1 params.now head.2 clauses.old tokens.now) }
+{
+    let (method, phase, result) = head;
+    let body = behind("PERFORM", tokens)?;
+    let mut guards = List::new(alloc);
+    let rest = body_at(alloc, names, maxint, &mut guards, body)?;
+    let args = kinds_of(alloc, params)?;
+    clauses.push(TreeClause {
+        method,
+        phase,
+        args,
+        result,
+        guards,
+    })?;
+    Ok(rest)
+}
+
+/// Puts the clause of this phase and type, whose result's name or method has to stand first, onto the clauses so far,
+/// and gives the tokens behind it.
+#[tactic(auto, unfolding(crate::specs::Clauses::clause_of_type, crate::specs::Clauses::clause_of_method))]
+fn clause_of_type<'a>(
+    alloc: Global,
+    methods: &[ListedMethod],
+    vars: &[Var],
+    maxint: i32,
+    phase: Phase,
+    returned: &TypeName,
+    clauses: &mut List<TreeClause>,
+    tokens: &'a [Token],
+) -> Result<&'a [Token], PolicyFault>
+    requires listed { length methods.now < 2 ^ 32 }
+    requires few { length vars.now ≤ 16 }
+    ensures { AnswersAs PolicyFault.Memory (λ rest. (clauses.new, rest.now)) result
+        (clause_of_type methods.now vars.now maxint phase returned.now clauses.old tokens.now) }
+{
+    let (name, left) = result_name_at(alloc, vars, phase, returned.kind, tokens)?;
+    let desc = returned.desc.as_slice();
+    let (found, left) = method_at(alloc, methods, vars, clauses.as_slice(), phase, desc, left)?;
+    let (method, params) = found;
+    let names = Names {
+        vars,
+        args: asked_params(phase, params.as_slice()),
+        returned: &name,
+        kind: kind_or_object(returned.kind),
+    };
+    let head = (method, phase, returned.kind);
+    clause_of_method(
+        alloc,
+        &names,
+        maxint,
+        head,
+        params.as_slice(),
+        clauses,
+        left,
+    )
+}
+
+/// Puts onto the clauses so far the one that stands first, and gives the tokens behind it.
 #[tactic(auto, unfolding(crate::specs::Clauses::clause_at))]
 fn clause_at<'a>(
     alloc: Global,
     methods: &[ListedMethod],
     vars: &[Var],
     maxint: i32,
-    clauses: List<TreeClause>,
+    clauses: &mut List<TreeClause>,
     tokens: &'a [Token],
-) -> Result<(List<TreeClause>, &'a [Token]), PolicyFault>
+) -> Result<&'a [Token], PolicyFault>
     requires listed { length methods.now < 2 ^ 32 }
     requires few { length vars.now ≤ 16 }
-    ensures { AnswersAs PolicyFault.Memory (λ r. (r.0, r.1.now)) result (clause_at methods.now vars.now maxint clauses tokens.now) }
+    ensures { AnswersAs PolicyFault.Memory (λ rest. (clauses.new, rest.now)) result
+        (clause_at methods.now vars.now maxint clauses.old tokens.now) }
 {
     if clauses.len() >= 64 {
         return Err(PolicyFault::Limit {
@@ -273,52 +380,31 @@ fn clause_at<'a>(
         });
     };
     let (returned, left) = type_at(alloc, true, rest_of(tokens))?;
-    let (name, left) = result_name_at(alloc, vars, phase, returned.kind, left)?;
-    let desc = returned.desc.as_slice();
-    let (found, left) = method_at(alloc, methods, vars, clauses.as_slice(), phase, desc, left)?;
-    let (method, params) = found;
-    let body = behind("PERFORM", left)?;
-    let names = Names {
-        vars,
-        args: asked_params(phase, params.as_slice()),
-        returned: &name,
-        kind: kind_or_object(returned.kind),
-    };
-    let (guards, rest) = body_at(alloc, &names, maxint, body)?;
-    let args = kinds_of(alloc, params.as_slice())?;
-    let mut clauses = clauses;
-    clauses.push(TreeClause {
-        method,
-        phase,
-        args,
-        result: returned.kind,
-        guards,
-    })?;
-    Ok((clauses, rest))
+    clause_of_type(
+        alloc, methods, vars, maxint, phase, &returned, clauses, left,
+    )
 }
 
-/// The clauses, at most 64, and the tokens behind them.
+/// Puts the clauses, at most 64, onto those so far, and gives the tokens behind them.
 pub fn clauses_at<'a>(
     alloc: Global,
     methods: &[ListedMethod],
     vars: &[Var],
     maxint: i32,
+    clauses: &mut List<TreeClause>,
     tokens: &'a [Token],
-) -> Result<(List<TreeClause>, &'a [Token]), PolicyFault>
+) -> Result<&'a [Token], PolicyFault>
     requires listed { length methods.now < 2 ^ 32 }
     requires few { length vars.now ≤ 16 }
-    ensures { AnswersAs PolicyFault.Memory (λ r. (r.0, r.1.now)) result
-        (each begins_clause (clause_at methods.now vars.now maxint) [] tokens.now) }
+    ensures { AnswersAs PolicyFault.Memory (λ rest. (clauses.new, rest.now)) result
+        (each begins_clause (clause_at methods.now vars.now maxint) clauses.old tokens.now) }
 {
-    let mut clauses = List::new(alloc);
     let mut left = tokens;
     for _ in 0..tokens.len() {
         if !begins_clause(left) {
-            return Ok((clauses, left));
+            return Ok(left);
         }
-        let (more, rest) = clause_at(alloc, methods, vars, maxint, clauses, left)?;
-        clauses = more;
-        left = rest;
+        left = clause_at(alloc, methods, vars, maxint, clauses, left)?;
     }
-    Ok((clauses, left))
+    Ok(left)
 }

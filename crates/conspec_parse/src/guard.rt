@@ -1,6 +1,6 @@
 //! Guards: atoms over the variables, the arguments and the result.
 
-ghost use Rattle.std.specs.Prelude.{◌≡◌, ◌+◌, ◌≤◌, length, codes, IfOk, IsTrue};
+ghost use Rattle.std.specs.Prelude.{◌≡◌, ◌+◌, ◌≤◌, [], length, codes, IfOk, IsTrue};
 ghost use Rattle.mon_base.specs.Answer.{AnswersAs};
 ghost use Rattle.conspec_tokens.specs.Front.{is_next};
 ghost use Rattle.conspec_parse.specs.Forms.{taken, each};
@@ -161,161 +161,157 @@ fn atom_at<'a>(
     Ok((Atom { base, rel, value }, rest))
 }
 
-/// The atoms of a branch, at most 16, and behind them the one that stands behind `&&`.
+/// Puts onto the atoms of a branch, at most 16, the one that stands behind `&&`, and gives the tokens behind it.
 #[tactic(auto, unfolding(crate::specs::Guards::next_atom))]
 fn next_atom<'a>(
     names: &Names<'_>,
-    atoms: List<Atom>,
+    atoms: &mut List<Atom>,
     tokens: &'a [Token],
-) -> Result<(List<Atom>, &'a [Token]), PolicyFault>
+) -> Result<&'a [Token], PolicyFault>
     requires { HasFewNames names.now }
-    ensures { AnswersAs PolicyFault.Memory (λ r. (r.0, r.1.now)) result (next_atom names.now atoms tokens.now) }
+    ensures { AnswersAs PolicyFault.Memory (λ rest. (atoms.new, rest.now)) result (next_atom names.now atoms.old tokens.now) }
 {
     let room = atoms.len() < 16;
     let left = behind("&&", tokens)?;
     let (atom, rest) = atom_at(names, room, left)?;
-    let mut atoms = atoms;
     atoms.push(atom)?;
-    Ok((atoms, rest))
+    Ok(rest)
 }
 
 fn atoms_from<'a>(
     names: &Names<'_>,
-    first: List<Atom>,
+    atoms: &mut List<Atom>,
     tokens: &'a [Token],
-) -> Result<(List<Atom>, &'a [Token]), PolicyFault>
+) -> Result<&'a [Token], PolicyFault>
     requires { HasFewNames names.now }
-    ensures { AnswersAs PolicyFault.Memory (λ r. (r.0, r.1.now)) result
-        (each (is_next (codes "&&")) (next_atom names.now) first tokens.now) }
+    ensures { AnswersAs PolicyFault.Memory (λ rest. (atoms.new, rest.now)) result
+        (each (is_next (codes "&&")) (next_atom names.now) atoms.old tokens.now) }
 {
-    let mut atoms = first;
     let mut left = tokens;
     for _ in 0..tokens.len() {
         if !is_next("&&", left) {
-            return Ok((atoms, left));
+            return Ok(left);
         }
-        let (more, rest) = next_atom(names, atoms, left)?;
-        atoms = more;
-        left = rest;
+        left = next_atom(names, atoms, left)?;
     }
-    Ok((atoms, left))
+    Ok(left)
 }
 
+/// The tokens behind `true`, a branch with no atoms.
 #[tactic(auto, unfolding(crate::specs::Guards::no_atoms))]
-fn no_atoms(
-    alloc: Global,
-    room: bool,
-    tokens: &[Token],
-) -> Result<(List<Atom>, &[Token]), PolicyFault>
-    ensures exact { AnswersAs PolicyFault.Memory (λ r. (r.0, r.1.now)) result (no_atoms room tokens.now) }
-    ensures room { IfOk result (λ r. IsTrue room) }
+fn no_atoms(room: bool, tokens: &[Token]) -> Result<&[Token], PolicyFault>
+    ensures exact { AnswersAs PolicyFault.Memory (λ rest. ([], rest.now)) result (no_atoms room tokens.now) }
+    ensures room { IfOk result (λ _. IsTrue room) }
 {
     if !room {
         return Err(PolicyFault::Limit {
             at: front_at(tokens),
         });
     }
-    let none = List::new(alloc);
-    Ok((none, rest_of(tokens)))
+    Ok(rest_of(tokens))
 }
 
 #[tactic(auto, unfolding(crate::specs::Guards::atoms_at))]
 fn atoms_at<'a>(
-    alloc: Global,
     names: &Names<'_>,
     room: bool,
+    atoms: &mut List<Atom>,
     tokens: &'a [Token],
-) -> Result<(List<Atom>, &'a [Token]), PolicyFault>
-    requires { HasFewNames names.now }
-    ensures exact { AnswersAs PolicyFault.Memory (λ r. (r.0, r.1.now)) result (atoms_at names.now room tokens.now) }
-    ensures room { IfOk result (λ r. IsTrue room) }
+) -> Result<&'a [Token], PolicyFault>
+    requires few { HasFewNames names.now }
+    requires none { atoms.old ≡ [] }
+    ensures exact { AnswersAs PolicyFault.Memory (λ rest. (atoms.new, rest.now)) result (atoms_at names.now room tokens.now) }
+    ensures room { IfOk result (λ _. IsTrue room) }
 {
     let (atom, rest) = atom_at(names, room, tokens)?;
-    let mut first = List::new(alloc);
-    first.push(atom)?;
-    atoms_from(names, first, rest)
+    atoms.push(atom)?;
+    atoms_from(names, atoms, rest)
 }
 
+/// Puts the atoms of the branch that has to stand first onto an empty list, and gives the tokens behind it.
 fn conj_at<'a>(
-    alloc: Global,
     names: &Names<'_>,
     room: bool,
+    atoms: &mut List<Atom>,
     tokens: &'a [Token],
-) -> Result<(List<Atom>, &'a [Token]), PolicyFault>
-    requires { HasFewNames names.now }
-    ensures exact { AnswersAs PolicyFault.Memory (λ r. (r.0, r.1.now)) result (conj_at names.now room tokens.now) }
-    ensures room { IfOk result (λ r. IsTrue room) }
+) -> Result<&'a [Token], PolicyFault>
+    requires few { HasFewNames names.now }
+    requires none { atoms.old ≡ [] }
+    ensures exact { AnswersAs PolicyFault.Memory (λ rest. (atoms.new, rest.now)) result (conj_at names.now room tokens.now) }
+    ensures room { IfOk result (λ _. IsTrue room) }
 {
     if is_next("true", tokens) {
-        no_atoms(alloc, room, tokens)
+        no_atoms(room, tokens)
     } else {
-        atoms_at(alloc, names, room, tokens)
+        atoms_at(names, room, atoms, tokens)
     }
 }
 
-/// The branches of a guard, and behind them the one that stands behind `||`. So many stand before the guard.
+/// Puts onto the branches of a guard the one that stands behind `||`, and gives the tokens behind it. So many stand
+/// before the guard.
 #[tactic(auto, unfolding(crate::specs::Guards::next_conj))]
 fn next_conj<'a>(
     alloc: Global,
     names: &Names<'_>,
     before: usize,
-    conjs: List<List<Atom>>,
+    conjs: &mut List<List<Atom>>,
     tokens: &'a [Token],
-) -> Result<(List<List<Atom>>, &'a [Token]), PolicyFault>
+) -> Result<&'a [Token], PolicyFault>
     requires few { HasFewNames names.now }
-    requires within { before + length conjs ≤ 64 }
-    ensures exact { AnswersAs PolicyFault.Memory (λ r. (r.0, r.1.now)) result (next_conj names.now before conjs tokens.now) }
-    ensures within { IfOk result (λ r. before + length r.0 ≤ 64) }
+    requires within { before + length conjs.old ≤ 64 }
+    ensures exact { AnswersAs PolicyFault.Memory (λ rest. (conjs.new, rest.now)) result
+        (next_conj names.now before conjs.old tokens.now) }
+    ensures within { IfOk result (λ _. before + length conjs.new ≤ 64) }
 {
     let room = before + conjs.len() < 64;
     let left = behind("||", tokens)?;
-    let (conj, rest) = conj_at(alloc, names, room, left)?;
-    let mut conjs = conjs;
+    let mut conj = List::new(alloc);
+    let rest = conj_at(names, room, &mut conj, left)?;
     conjs.push(conj)?;
-    Ok((conjs, rest))
+    Ok(rest)
 }
 
 fn conjs_from<'a>(
     alloc: Global,
     names: &Names<'_>,
     before: usize,
-    first: List<List<Atom>>,
+    conjs: &mut List<List<Atom>>,
     tokens: &'a [Token],
-) -> Result<(List<List<Atom>>, &'a [Token]), PolicyFault>
+) -> Result<&'a [Token], PolicyFault>
     requires few { HasFewNames names.now }
-    requires within { before + length first ≤ 64 }
-    ensures exact { AnswersAs PolicyFault.Memory (λ r. (r.0, r.1.now)) result
-        (each (is_next (codes "||")) (next_conj names.now before) first tokens.now) }
-    ensures within { IfOk result (λ r. before + length r.0 ≤ 64) }
+    requires within { before + length conjs.old ≤ 64 }
+    ensures exact { AnswersAs PolicyFault.Memory (λ rest. (conjs.new, rest.now)) result
+        (each (is_next (codes "||")) (next_conj names.now before) conjs.old tokens.now) }
+    ensures within { IfOk result (λ _. before + length conjs.new ≤ 64) }
 {
-    let mut conjs = first;
     let mut left = tokens;
     for _ in 0..tokens.len() {
         if !is_next("||", left) {
-            return Ok((conjs, left));
+            return Ok(left);
         }
-        let (more, rest) = next_conj(alloc, names, before, conjs, left)?;
-        conjs = more;
-        left = rest;
+        left = next_conj(alloc, names, before, conjs, left)?;
     }
-    Ok((conjs, left))
+    Ok(left)
 }
 
-/// The branches of the guard that has to stand first, and the tokens behind them. So many branches stand before it.
+/// Puts the branches of the guard that has to stand first onto an empty list, and gives the tokens behind them. So
+/// many branches stand before it.
 #[tactic(auto, unfolding(crate::specs::Guards::conjs_at))]
 pub fn conjs_at<'a>(
     alloc: Global,
     names: &Names<'_>,
     before: usize,
+    conjs: &mut List<List<Atom>>,
     tokens: &'a [Token],
-) -> Result<(List<List<Atom>>, &'a [Token]), PolicyFault>
+) -> Result<&'a [Token], PolicyFault>
     requires few { HasFewNames names.now }
     requires within { before ≤ 64 }
-    ensures exact { AnswersAs PolicyFault.Memory (λ r. (r.0, r.1.now)) result (conjs_at names.now before tokens.now) }
-    ensures within { IfOk result (λ r. before + length r.0 ≤ 64) }
+    requires none { conjs.old ≡ [] }
+    ensures exact { AnswersAs PolicyFault.Memory (λ rest. (conjs.new, rest.now)) result (conjs_at names.now before tokens.now) }
+    ensures within { IfOk result (λ _. before + length conjs.new ≤ 64) }
 {
-    let (conj, rest) = conj_at(alloc, names, before < 64, tokens)?;
-    let mut first = List::new(alloc);
-    first.push(conj)?;
-    conjs_from(alloc, names, before, first, rest)
+    let mut conj = List::new(alloc);
+    let rest = conj_at(names, before < 64, &mut conj, tokens)?;
+    conjs.push(conj)?;
+    conjs_from(alloc, names, before, conjs, rest)
 }

@@ -1,6 +1,6 @@
 //! The head of a policy and its state variables.
 
-ghost use Rattle.std.specs.Prelude.{◌≡◌, ◌≤◌, length, IfOk};
+ghost use Rattle.std.specs.Prelude.{◌≡◌, ◌≤◌, [], length, IfOk};
 ghost use Rattle.mon_base.specs.Answer.{AnswersAs};
 ghost use Rattle.conspec_parse.specs.Head.{
   header_at,
@@ -82,16 +82,16 @@ fn begins_variable(tokens: &[Token]) -> bool
     is_next("int", tokens) || is_next("bool", tokens)
 }
 
-/// The variables and, behind them, the one that stands first.
+/// Puts onto the variables the one that stands first, and gives the tokens behind it.
 #[tactic(auto, unfolding(crate::specs::Head::variable_at))]
 fn variable_at<'a>(
     alloc: Global,
     maxint: i32,
-    vars: List<Var>,
+    vars: &mut List<Var>,
     tokens: &'a [Token],
-) -> Result<(List<Var>, &'a [Token]), PolicyFault>
-    ensures exact { AnswersAs PolicyFault.Memory (λ r. (r.0, r.1.now)) result (variable_at maxint vars tokens.now) }
-    ensures few { IfOk result (λ r. length r.0 ≤ 16) }
+) -> Result<&'a [Token], PolicyFault>
+    ensures exact { AnswersAs PolicyFault.Memory (λ rest. (vars.new, rest.now)) result (variable_at maxint vars.old tokens.now) }
+    ensures few { IfOk result (λ _. length vars.new ≤ 16) }
 {
     if vars.len() >= 16 {
         return Err(PolicyFault::Limit {
@@ -115,33 +115,31 @@ fn variable_at<'a>(
     let (first, end) = first_at(maxint, is_bool, value)?;
     let rest = behind(";", end)?;
     let name = Bytes::from_slice(alloc, name)?;
-    let mut vars = vars;
     vars.push(Var {
         name,
         is_bool,
         first,
     })?;
-    Ok((vars, rest))
+    Ok(rest)
 }
 
-/// The state variables, at most 16, and the tokens behind them.
-pub fn variables_at(
+/// Puts the state variables, at most 16, onto an empty list, and gives the tokens behind them.
+pub fn variables_at<'a>(
     alloc: Global,
     maxint: i32,
-    tokens: &[Token],
-) -> Result<(List<Var>, &[Token]), PolicyFault>
-    ensures exact { AnswersAs PolicyFault.Memory (λ r. (r.0, r.1.now)) result (variables_at maxint tokens.now) }
-    ensures few { IfOk result (λ r. length r.0 ≤ 16) }
+    vars: &mut List<Var>,
+    tokens: &'a [Token],
+) -> Result<&'a [Token], PolicyFault>
+    requires { vars.old ≡ [] }
+    ensures exact { AnswersAs PolicyFault.Memory (λ rest. (vars.new, rest.now)) result (variables_at maxint tokens.now) }
+    ensures few { IfOk result (λ _. length vars.new ≤ 16) }
 {
-    let mut vars = List::new(alloc);
     let mut left = tokens;
     for _ in 0..tokens.len() {
         if !begins_variable(left) {
-            return Ok((vars, left));
+            return Ok(left);
         }
-        let (more, rest) = variable_at(alloc, maxint, vars, left)?;
-        vars = more;
-        left = rest;
+        left = variable_at(alloc, maxint, vars, left)?;
     }
-    Ok((vars, left))
+    Ok(left)
 }

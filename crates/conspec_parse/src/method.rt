@@ -1,8 +1,8 @@
 //! Which listed method a clause is for.
 
-ghost use Rattle.std.specs.Prelude.{◌≡◌, ◌<◌, ◌≤◌, ◌^◌, ◌++◌, length, IfOk, OnOk};
+ghost use Rattle.std.specs.Prelude.{◌≡◌, ◌<◌, ◌≤◌, ◌^◌, ◌++◌, length, Ok, IfOk, OnOk};
 ghost use Rattle.mon_base.specs.Answer.{Answers, AnswersAs};
-ghost use Rattle.conspec_parse.specs.Methods.{desc_of, index_at, method_at};
+ghost use Rattle.conspec_parse.specs.Methods.{desc_of, index_at, listed_method, method_at};
 ghost use Rattle.std.specs.List.{flat_map};
 
 use crate::fault::PolicyFault;
@@ -70,6 +70,47 @@ fn index_at(
     }
 }
 
+/// The index of the listed method that this signature, which stands at a token, names with the result.
+fn found_method(
+    alloc: Global,
+    methods: &[ListedMethod],
+    clauses: &[TreeClause],
+    phase: Phase,
+    returned: &[u8],
+    at: u64,
+    signature: &Signature,
+) -> Result<u32, PolicyFault>
+    requires { length methods.now < 2 ^ 32 }
+    ensures exact { Answers PolicyFault.Memory result
+        (index_at methods.now clauses.now phase at signature.now (desc_of signature.now.params returned.now)) }
+    ensures few { IfOk result (λ m. length signature.now.params ≤ 255) }
+{
+    let desc = desc_of(alloc, signature.params.as_slice(), returned)?;
+    index_at(methods, clauses, phase, at, signature, &desc)
+}
+
+/// The listed method with this signature, which stands first, by its index, and the tokens behind it.
+fn listed_method<'a>(
+    alloc: Global,
+    methods: &[ListedMethod],
+    vars: &[Var],
+    clauses: &[TreeClause],
+    phase: Phase,
+    returned: &[u8],
+    loose: &Signature,
+    tokens: &'a [Token],
+) -> Result<(u32, &'a [Token]), PolicyFault>
+    requires { length methods.now < 2 ^ 32 }
+    ensures exact { AnswersAs PolicyFault.Memory (λ r. ((r.0, loose.now.params), r.1.now)) result
+        (listed_method methods.now vars.now clauses.now phase returned.now tokens.now (Ok (loose.now, tokens.now))) }
+    ensures few { IfOk result (λ r. length loose.now.params ≤ 255) }
+{
+    let at = front_at(tokens);
+    let method = found_method(alloc, methods, clauses, phase, returned, at, loose)?;
+    let (_, rest) = signature_at(alloc, true, vars, tokens)?;
+    Ok((method, rest))
+}
+
 /// The method that has to stand first, by its index among the listed, its parameters, and the tokens behind it.
 pub fn method_at<'a>(
     alloc: Global,
@@ -87,9 +128,9 @@ pub fn method_at<'a>(
 {
     match signature_at(alloc, false, vars, tokens) {
         Ok((loose, _)) => {
-            let desc = desc_of(alloc, loose.params.as_slice(), returned)?;
-            let method = index_at(methods, clauses, phase, front_at(tokens), &loose, &desc)?;
-            let (_, rest) = signature_at(alloc, true, vars, tokens)?;
+            let (method, rest) = listed_method(
+                alloc, methods, vars, clauses, phase, returned, &loose, tokens,
+            )?;
             Ok(((method, loose.params), rest))
         }
         Err(PolicyFault::Memory) => Err(PolicyFault::Memory),

@@ -43,8 +43,10 @@ fn policy_at(
     ensures { Answers PolicyFault.Memory result (policy_at methods.now tokens.now) }
 {
     let (maxint, left) = header_at(tokens)?;
-    let (vars, left) = variables_at(alloc, maxint, left)?;
-    let (clauses, left) = clauses_at(alloc, methods, vars.as_slice(), maxint, left)?;
+    let mut vars = List::new(alloc);
+    let left = variables_at(alloc, maxint, &mut vars, left)?;
+    let mut clauses = List::new(alloc);
+    let left = clauses_at(alloc, methods, vars.as_slice(), maxint, &mut clauses, left)?;
     if !is_end(left) {
         return Err(PolicyFault::Syntax { at: front_at(left) });
     }

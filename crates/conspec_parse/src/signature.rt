@@ -1,6 +1,6 @@
 //! The method of a clause as it is written: its class and name, and its parameters.
 
-ghost use Rattle.std.specs.Prelude.{◌≡◌, codes, IfOk};
+ghost use Rattle.std.specs.Prelude.{◌≡◌, [], codes, IfOk};
 ghost use Rattle.mon_base.specs.Answer.{AnswersAs};
 ghost use Rattle.conspec_tokens.specs.Front.{is_next};
 ghost use Rattle.conspec_parse.specs.Forms.{each};
@@ -14,6 +14,7 @@ ghost use Rattle.conspec_parse.specs.Methods.{
   next_parameter,
   some_parameters,
   parameters_at,
+  bracketed,
   part_at,
   class_under,
   next_step,
@@ -129,27 +130,27 @@ fn parameter_name_at<'a>(
     Ok((Some(name), rest))
 }
 
-/// The parameters and, behind them, the one that stands first.
+/// Puts onto the parameters the one that stands first, and gives the tokens behind it.
 #[tactic(auto, unfolding(crate::specs::Methods::parameter_at))]
 fn parameter_at<'a>(
     alloc: Global,
     judged: bool,
     vars: &[Var],
-    params: List<Param>,
+    params: &mut List<Param>,
     tokens: &'a [Token],
-) -> Result<(List<Param>, &'a [Token]), PolicyFault>
-    ensures { AnswersAs PolicyFault.Memory (λ r. (r.0, r.1.now)) result (parameter_at judged vars.now params tokens.now) }
+) -> Result<&'a [Token], PolicyFault>
+    ensures { AnswersAs PolicyFault.Memory (λ rest. (params.new, rest.now)) result
+        (parameter_at judged vars.now params.old tokens.now) }
 {
     let (named, left) = type_at(alloc, judged, tokens)?;
     let (name, rest) = parameter_name_at(alloc, judged, vars, params.as_slice(), left)?;
     let kind = kind_or_object(named.kind);
-    let mut params = params;
     params.push(Param {
         name,
         desc: named.desc,
         kind,
     })?;
-    Ok((params, rest))
+    Ok(rest)
 }
 
 #[tactic(auto, unfolding(crate::specs::Methods::next_parameter))]
@@ -157,10 +158,11 @@ fn next_parameter<'a>(
     alloc: Global,
     judged: bool,
     vars: &[Var],
-    params: List<Param>,
+    params: &mut List<Param>,
     tokens: &'a [Token],
-) -> Result<(List<Param>, &'a [Token]), PolicyFault>
-    ensures { AnswersAs PolicyFault.Memory (λ r. (r.0, r.1.now)) result (next_parameter judged vars.now params tokens.now) }
+) -> Result<&'a [Token], PolicyFault>
+    ensures { AnswersAs PolicyFault.Memory (λ rest. (params.new, rest.now)) result
+        (next_parameter judged vars.now params.old tokens.now) }
 {
     let left = behind(",", tokens)?;
     parameter_at(alloc, judged, vars, params, left)
@@ -170,23 +172,20 @@ fn parameters_from<'a>(
     alloc: Global,
     judged: bool,
     vars: &[Var],
-    first: List<Param>,
+    params: &mut List<Param>,
     tokens: &'a [Token],
-) -> Result<(List<Param>, &'a [Token]), PolicyFault>
-    ensures { AnswersAs PolicyFault.Memory (λ r. (r.0, r.1.now)) result
-        (each (is_next (codes ",")) (next_parameter judged vars.now) first tokens.now) }
+) -> Result<&'a [Token], PolicyFault>
+    ensures { AnswersAs PolicyFault.Memory (λ rest. (params.new, rest.now)) result
+        (each (is_next (codes ",")) (next_parameter judged vars.now) params.old tokens.now) }
 {
-    let mut params = first;
     let mut left = tokens;
     for _ in 0..tokens.len() {
         if !is_next(",", left) {
-            return Ok((params, left));
+            return Ok(left);
         }
-        let (more, rest) = next_parameter(alloc, judged, vars, params, left)?;
-        params = more;
-        left = rest;
+        left = next_parameter(alloc, judged, vars, params, left)?;
     }
-    Ok((params, left))
+    Ok(left)
 }
 
 #[tactic(auto, unfolding(crate::specs::Methods::some_parameters))]
@@ -194,27 +193,49 @@ fn some_parameters<'a>(
     alloc: Global,
     judged: bool,
     vars: &[Var],
+    params: &mut List<Param>,
     tokens: &'a [Token],
-) -> Result<(List<Param>, &'a [Token]), PolicyFault>
-    ensures { AnswersAs PolicyFault.Memory (λ r. (r.0, r.1.now)) result (some_parameters judged vars.now tokens.now) }
+) -> Result<&'a [Token], PolicyFault>
+    requires { params.old ≡ [] }
+    ensures { AnswersAs PolicyFault.Memory (λ rest. (params.new, rest.now)) result (some_parameters judged vars.now tokens.now) }
 {
-    let (first, rest) = parameter_at(alloc, judged, vars, List::new(alloc), tokens)?;
-    parameters_from(alloc, judged, vars, first, rest)
+    let rest = parameter_at(alloc, judged, vars, params, tokens)?;
+    parameters_from(alloc, judged, vars, params, rest)
 }
 
 fn parameters_at<'a>(
     alloc: Global,
     judged: bool,
     vars: &[Var],
+    params: &mut List<Param>,
     tokens: &'a [Token],
-) -> Result<(List<Param>, &'a [Token]), PolicyFault>
-    ensures { AnswersAs PolicyFault.Memory (λ r. (r.0, r.1.now)) result (parameters_at judged vars.now tokens.now) }
+) -> Result<&'a [Token], PolicyFault>
+    requires { params.old ≡ [] }
+    ensures { AnswersAs PolicyFault.Memory (λ rest. (params.new, rest.now)) result (parameters_at judged vars.now tokens.now) }
 {
     if is_next(")", tokens) {
-        Ok((List::new(alloc), tokens))
+        Ok(tokens)
     } else {
-        some_parameters(alloc, judged, vars, tokens)
+        some_parameters(alloc, judged, vars, params, tokens)
     }
+}
+
+/// Puts the parameters between brackets, which have to stand first, onto an empty list, and gives the tokens behind
+/// them.
+#[tactic(auto, unfolding(crate::specs::Methods::bracketed))]
+fn bracketed<'a>(
+    alloc: Global,
+    judged: bool,
+    vars: &[Var],
+    params: &mut List<Param>,
+    tokens: &'a [Token],
+) -> Result<&'a [Token], PolicyFault>
+    requires { params.old ≡ [] }
+    ensures { AnswersAs PolicyFault.Memory (λ rest. (params.new, rest.now)) result (bracketed judged vars.now tokens.now) }
+{
+    let opened = behind("(", tokens)?;
+    let closed = parameters_at(alloc, judged, vars, params, opened)?;
+    behind(")", closed)
 }
 
 /// The name of a class's part or of a method, and the tokens behind it.
@@ -313,7 +334,7 @@ fn path_at(alloc: Global, judged: bool, tokens: &[Token]) -> Result<(Path, &[Tok
 
 /// The method that has to stand first, with its parameters, and the tokens behind them. Where names are judged they
 /// are not too long, and a parameter's name is no other's.
-#[tactic(auto, unfolding(crate::specs::Methods::signature_at))]
+#[tactic(auto, unfolding(crate::specs::Methods::signature_at, crate::specs::Methods::bracketed))]
 pub fn signature_at<'a>(
     alloc: Global,
     judged: bool,
@@ -323,8 +344,7 @@ pub fn signature_at<'a>(
     ensures { AnswersAs PolicyFault.Memory (λ r. (r.0, r.1.now)) result (signature_at judged vars.now tokens.now) }
 {
     let (path, opened) = path_at(alloc, judged, tokens)?;
-    let left = behind("(", opened)?;
-    let (params, closed) = parameters_at(alloc, judged, vars, left)?;
-    let rest = behind(")", closed)?;
+    let mut params = List::new(alloc);
+    let rest = bracketed(alloc, judged, vars, &mut params, opened)?;
     Ok((Signature { path, params }, rest))
 }

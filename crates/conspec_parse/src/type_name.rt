@@ -14,6 +14,7 @@ ghost use Rattle.conspec_parse.specs.Types.{
   array_of,
   type_at,
 };
+ghost use Rattle.api_listing.specs.Descriptor.{class_spelled};
 ghost use Rattle.conspec_tokens.specs.Front.{is_next};
 ghost use Rattle.conspec_parse.specs.Forms.{each};
 
@@ -74,21 +75,20 @@ fn plain_type(alloc: Global, tokens: &[Token]) -> Result<Option<TypeName>, NoMem
     }
 }
 
-/// The names of a class so far, and behind them the one behind the dot.
+/// Puts onto the names of a class so far the one behind the dot, and gives the tokens behind it.
 #[tactic(auto, unfolding(crate::specs::Types::next_part))]
 fn next_part<'a>(
     judged: bool,
-    class: Bytes,
+    class: &mut Bytes,
     tokens: &'a [Token],
-) -> Result<(Bytes, &'a [Token]), PolicyFault>
-    ensures { AnswersAs PolicyFault.Memory (λ r. (r.0, r.1.now)) result (next_part judged class tokens.now) }
+) -> Result<&'a [Token], PolicyFault>
+    ensures { AnswersAs PolicyFault.Memory (λ rest. (class.new, rest.now)) result (next_part judged class.old tokens.now) }
 {
     let named = behind(".", tokens)?;
     let (name, rest) = judged_name(judged, named)?;
-    let mut class = class;
     class.push(b'/')?;
     class.extend(name)?;
-    Ok((class, rest))
+    Ok(rest)
 }
 
 #[tactic(auto, unfolding(crate::specs::Types::class_at))]
@@ -96,28 +96,37 @@ fn class_at(alloc: Global, judged: bool, tokens: &[Token]) -> Result<(Bytes, &[T
     ensures { AnswersAs PolicyFault.Memory (λ r. (r.0, r.1.now)) result (class_at judged tokens.now) }
 {
     let (first, rest) = judged_name(judged, tokens)?;
-    let first = Bytes::from_slice(alloc, first)?;
-    class_from(judged, first, rest)
+    let mut class = Bytes::from_slice(alloc, first)?;
+    let rest = class_from(judged, &mut class, rest)?;
+    Ok((class, rest))
 }
 
 fn class_from<'a>(
     judged: bool,
-    first: Bytes,
+    class: &mut Bytes,
     tokens: &'a [Token],
-) -> Result<(Bytes, &'a [Token]), PolicyFault>
-    ensures { AnswersAs PolicyFault.Memory (λ r. (r.0, r.1.now)) result (each (is_next (codes ".")) (next_part judged) first tokens.now) }
+) -> Result<&'a [Token], PolicyFault>
+    ensures { AnswersAs PolicyFault.Memory (λ rest. (class.new, rest.now)) result
+        (each (is_next (codes ".")) (next_part judged) class.old tokens.now) }
 {
-    let mut class = first;
     let mut left = tokens;
     for _ in 0..tokens.len() {
         if !is_next(".", left) {
-            return Ok((class, left));
+            return Ok(left);
         }
-        let (longer, rest) = next_part(judged, class, left)?;
-        class = longer;
-        left = rest;
+        left = next_part(judged, class, left)?;
     }
-    Ok((class, left))
+    Ok(left)
+}
+
+/// The descriptor of a class.
+fn class_desc(alloc: Global, class: &[u8]) -> Result<Bytes, NoMemory>
+    ensures { IfOk result (λ desc. desc ≡ class_spelled class.now) }
+{
+    let mut desc = Bytes::from_slice(alloc, b"L")?;
+    desc.extend(class)?;
+    desc.push(b';')?;
+    Ok(desc)
 }
 
 #[tactic(auto, unfolding(crate::specs::Types::class_type_at))]
@@ -129,10 +138,7 @@ fn class_type_at(
     ensures { AnswersAs PolicyFault.Memory (λ r. (r.0, r.1.now)) result (class_type_at judged tokens.now) }
 {
     let (class, rest) = class_at(alloc, judged, tokens)?;
-    let mut desc = Bytes::new(alloc);
-    desc.push(b'L')?;
-    desc.extend(class.as_slice())?;
-    desc.push(b';')?;
+    let desc = class_desc(alloc, class.as_slice())?;
     Ok((
         TypeName {
             desc,
@@ -155,38 +161,32 @@ fn element_at(
     }
 }
 
-/// The dimensions so far, and behind them the one that stands first.
+/// Puts onto the dimensions so far the one that stands first, and gives the tokens behind it.
 #[tactic(auto, unfolding(crate::specs::Types::dimension_at))]
-fn dimension_at<'a>(
-    brackets: Bytes,
-    tokens: &'a [Token],
-) -> Result<(Bytes, &'a [Token]), PolicyFault>
-    ensures { AnswersAs PolicyFault.Memory (λ r. (r.0, r.1.now)) result (dimension_at brackets tokens.now) }
+fn dimension_at<'a>(brackets: &mut Bytes, tokens: &'a [Token]) -> Result<&'a [Token], PolicyFault>
+    ensures { AnswersAs PolicyFault.Memory (λ rest. (brackets.new, rest.now)) result (dimension_at brackets.old tokens.now) }
 {
     let opened = behind("[", tokens)?;
     let rest = behind("]", opened)?;
-    let mut brackets = brackets;
     brackets.push(b'[')?;
-    Ok((brackets, rest))
+    Ok(rest)
 }
 
 fn dimensions_from<'a>(
-    brackets: Bytes,
+    brackets: &mut Bytes,
     tokens: &'a [Token],
-) -> Result<(Bytes, &'a [Token]), PolicyFault>
-    ensures { AnswersAs PolicyFault.Memory (λ r. (r.0, r.1.now)) result (each (is_next (codes "[")) dimension_at brackets tokens.now) }
+) -> Result<&'a [Token], PolicyFault>
+    ensures { AnswersAs PolicyFault.Memory (λ rest. (brackets.new, rest.now)) result
+        (each (is_next (codes "[")) dimension_at brackets.old tokens.now) }
 {
-    let mut brackets = brackets;
     let mut left = tokens;
     for _ in 0..tokens.len() {
         if !is_next("[", left) {
-            return Ok((brackets, left));
+            return Ok(left);
         }
-        let (more, rest) = dimension_at(brackets, left)?;
-        brackets = more;
-        left = rest;
+        left = dimension_at(brackets, left)?;
     }
-    Ok((brackets, left))
+    Ok(left)
 }
 
 fn array_of(brackets: Bytes, element: TypeName) -> Result<TypeName, NoMemory>
@@ -213,7 +213,8 @@ pub fn type_at(
     ensures { AnswersAs PolicyFault.Memory (λ r. (r.0, r.1.now)) result (type_at judged tokens.now) }
 {
     let (element, left) = element_at(alloc, judged, tokens)?;
-    let (brackets, rest) = dimensions_from(Bytes::new(alloc), left)?;
+    let mut brackets = Bytes::new(alloc);
+    let rest = dimensions_from(&mut brackets, left)?;
     let named = array_of(brackets, element)?;
     Ok((named, rest))
 }

@@ -20,7 +20,6 @@ use crate::guard::constant_at;
 use conspec_tokens::{Token, front_at, is_name, is_next, rest_of};
 use conspec_tree::{Update, Var, all_range_atoms, is_updated, variable_named};
 use mon_base::List;
-use std::alloc::Global;
 
 #[tactic(auto, unfolding(crate::specs::Updates::set_at))]
 fn set_at(
@@ -129,18 +128,19 @@ fn right_at<'a>(
     }
 }
 
-/// The updates so far, and behind them the one that has to stand first. The longest branch has so many atoms of its
-/// own.
+/// Puts onto the updates the one that has to stand first, and gives the tokens behind it. The longest branch has so
+/// many atoms of its own.
 #[tactic(auto, unfolding(crate::specs::Updates::update_at))]
 fn update_at<'a>(
     vars: &[Var],
     maxint: i32,
     atoms: usize,
-    updates: List<Update>,
+    updates: &mut List<Update>,
     tokens: &'a [Token],
-) -> Result<(List<Update>, &'a [Token]), PolicyFault>
+) -> Result<&'a [Token], PolicyFault>
     requires { length vars.now ≤ 16 }
-    ensures { AnswersAs PolicyFault.Memory (λ r. (r.0, r.1.now)) result (update_at vars.now maxint atoms updates tokens.now) }
+    ensures { AnswersAs PolicyFault.Memory (λ rest. (updates.new, rest.now)) result
+        (update_at vars.now maxint atoms updates.old tokens.now) }
 {
     let (name, equals) = name_at(tokens)?;
     let Some(var) = variable_named(vars, name) else {
@@ -157,49 +157,47 @@ fn update_at<'a>(
     let room = atoms.saturating_add(all_range_atoms(updates.as_slice())) < 16;
     let (update, end) = right_at(maxint, room, name, var, right)?;
     let rest = behind(";", end)?;
-    let mut updates = updates;
     updates.push(update)?;
-    Ok((updates, rest))
+    Ok(rest)
 }
 
-fn updates_at<'a>(
-    alloc: Global,
+/// Puts the updates that stand first onto those so far, and gives the tokens behind them.
+fn updates_from<'a>(
     vars: &[Var],
     maxint: i32,
     atoms: usize,
+    updates: &mut List<Update>,
     tokens: &'a [Token],
-) -> Result<(List<Update>, &'a [Token]), PolicyFault>
+) -> Result<&'a [Token], PolicyFault>
     requires { length vars.now ≤ 16 }
-    ensures { AnswersAs PolicyFault.Memory (λ r. (r.0, r.1.now)) result (each is_name (update_at vars.now maxint atoms) [] tokens.now) }
+    ensures { AnswersAs PolicyFault.Memory (λ rest. (updates.new, rest.now)) result
+        (each is_name (update_at vars.now maxint atoms) updates.old tokens.now) }
 {
-    let mut updates = List::new(alloc);
     let mut left = tokens;
     for _ in 0..tokens.len() {
         if !is_name(left) {
-            return Ok((updates, left));
+            return Ok(left);
         }
-        let (more, rest) = update_at(vars, maxint, atoms, updates, left)?;
-        updates = more;
-        left = rest;
+        left = update_at(vars, maxint, atoms, updates, left)?;
     }
-    Ok((updates, left))
+    Ok(left)
 }
 
-/// The updates between braces, which have to stand first, and the tokens behind them. The longest branch of their
-/// guard has so many atoms of its own.
+/// Puts the updates between braces, which have to stand first, onto an empty list, and gives the tokens behind them.
+/// The longest branch of their guard has so many atoms of its own.
 #[tactic(auto, unfolding(crate::specs::Updates::block_at))]
 pub fn block_at<'a>(
-    alloc: Global,
     vars: &[Var],
     maxint: i32,
     atoms: usize,
+    updates: &mut List<Update>,
     tokens: &'a [Token],
-) -> Result<(List<Update>, &'a [Token]), PolicyFault>
-    requires { length vars.now ≤ 16 }
-    ensures { AnswersAs PolicyFault.Memory (λ r. (r.0, r.1.now)) result (block_at vars.now maxint atoms tokens.now) }
+) -> Result<&'a [Token], PolicyFault>
+    requires few { length vars.now ≤ 16 }
+    requires none { updates.old ≡ [] }
+    ensures { AnswersAs PolicyFault.Memory (λ rest. (updates.new, rest.now)) result (block_at vars.now maxint atoms tokens.now) }
 {
     let opened = behind("{", tokens)?;
-    let (updates, end) = updates_at(alloc, vars, maxint, atoms, opened)?;
-    let rest = behind("}", end)?;
-    Ok((updates, rest))
+    let end = updates_from(vars, maxint, atoms, updates, opened)?;
+    behind("}", end)
 }

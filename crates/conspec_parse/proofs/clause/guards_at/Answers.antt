@@ -1,4 +1,4 @@
-use Rattle.std.proofs.Common.{◌≡◌, sym, subst, ◌∙◌, ◌-◌, length, [], w32, to_z, of_z}
+use Rattle.std.proofs.Common.{◌≡◌, sym, subst, ◌∙◌, ◌-◌, length, w32, to_z, of_z}
 use Rattle.std.proofs.lemmas.Result.{err_from_is_err_and}
 use Rattle.std.proofs.lemmas.Int.{to_z-of_z}
 use Rattle.conspec_parse.specs.Forms.{each, repeated}
@@ -11,20 +11,20 @@ use Rattle.conspec_parse.proofs.clause.guards_at.Goals as goal
 pub returns-then-not-begins_guard-clause-exact : goal.returns-then-not-begins_guard-clause-exact
 returns-then-not-begins_guard-clause-exact c =
     let same : to_z w32 (of_z w32 c.args.maxint) ≡ c.args.maxint = to_z-of_z w32 c.args.maxint c.ranges.maxint in
-    let so_far = subst (λ m. repeated begins_guard (guard_at c.args.names.now m) ((length c.args.tokens.now) - c.loop.counter) c.loop.guards c.loop.left.now ≡ each begins_guard (guard_at c.args.names.now m) [] c.args.tokens.now) same c.loop.invariant.so_far in
+    let so_far = subst (λ m. repeated begins_guard (guard_at c.args.names.now m) ((length c.args.tokens.now) - c.loop.counter) c.loop.guards c.loop.left.now ≡ each begins_guard (guard_at c.args.names.now m) c.args.guards.now c.args.tokens.now) same c.loop.invariant.so_far in
     stops begins_guard (guard_at c.args.names.now c.args.maxint) (length c.args.tokens.now) c.loop.counter c.loop.guards c.loop.left.now _ c.loop-test.true (sym c.begins_guard.ensures ∙ c.if-not-begins_guard.true) so_far
 
-pub returns-in_err-more-clause-exact : goal.returns-in_err-more-clause-exact
-returns-in_err-more-clause-exact c =
+pub returns-in_err-left-clause-exact : goal.returns-in_err-left-clause-exact
+returns-in_err-left-clause-exact c =
     let same : to_z w32 (of_z w32 c.args.maxint) ≡ c.args.maxint = to_z-of_z w32 c.args.maxint c.ranges.maxint in
     let p = err_from_is_err_and c.from_residual.result c.from_residual.ensures.1 in
-    rw (p.1, p.2) (subst (λ m. Fails faults.Memory c.in_err-more.field-0.0 (each begins_guard (guard_at c.args.names.now m) [] c.args.tokens.now)) same (fails begins_guard (guard_at c.args.names.now (to_z w32 (of_z w32 c.args.maxint))) (length c.args.tokens.now) c.loop.counter c.loop.guards c.loop.left.now _ c.in_err-more.field-0.0 c.loop-test.true (sym c.begins_guard.ensures ∙ c.if-not-begins_guard.false) c.in_err-more.ensures.exact c.loop.invariant.so_far))
+    rw (p.1, p.2) (subst (λ m. Fails faults.Memory c.in_err-left.field-0.0 (each begins_guard (guard_at c.args.names.now m) c.args.guards.now c.args.tokens.now)) same (fails begins_guard (guard_at c.args.names.now (to_z w32 (of_z w32 c.args.maxint))) (length c.args.tokens.now) c.loop.counter c.loop.guards c.loop.left.now _ c.in_err-left.field-0.0 c.loop-test.true (sym c.begins_guard.ensures ∙ c.if-not-begins_guard.false) c.in_err-left.ensures.exact c.loop.invariant.so_far))
 
 pub loop-preserved : goal.loop-preserved
-loop-preserved c = record { so_far = again begins_guard (guard_at c.args.names.now (to_z w32 (of_z w32 c.args.maxint))) (length c.args.tokens.now) c.loop.counter c.loop.guards c.in_ok-more.more c.loop.left.now c.in_ok-more.rest.now _ c.loop-test.true (sym c.begins_guard.ensures ∙ c.if-not-begins_guard.false) c.in_ok-more.ensures.exact c.loop.invariant.so_far; few = c.in_ok-more.ensures.within }
+loop-preserved c = record { so_far = again begins_guard (guard_at c.args.names.now (to_z w32 (of_z w32 c.args.maxint))) (length c.args.tokens.now) c.loop.counter c.loop.guards c.guard_at.new.guards c.loop.left.now c.in_ok-left.left.now _ c.loop-test.true (sym c.begins_guard.ensures ∙ c.if-not-begins_guard.false) c.in_ok-left.ensures.exact c.loop.invariant.so_far; few = c.in_ok-left.ensures.within }
 
 pub returns-clause-exact : goal.returns-clause-exact
 returns-clause-exact c =
     let same : to_z w32 (of_z w32 c.args.maxint) ≡ c.args.maxint = to_z-of_z w32 c.args.maxint c.ranges.maxint in
-    let so_far = subst (λ m. repeated begins_guard (guard_at c.args.names.now m) ((length c.args.tokens.now) - c.loop.counter) c.loop.guards c.loop.left.now ≡ each begins_guard (guard_at c.args.names.now m) [] c.args.tokens.now) same c.loop.invariant.so_far in
+    let so_far = subst (λ m. repeated begins_guard (guard_at c.args.names.now m) ((length c.args.tokens.now) - c.loop.counter) c.loop.guards c.loop.left.now ≡ each begins_guard (guard_at c.args.names.now m) c.args.guards.now c.args.tokens.now) same c.loop.invariant.so_far in
     all_read begins_guard (guard_at c.args.names.now c.args.maxint) (length c.args.tokens.now) c.loop.counter c.loop.guards c.loop.left.now _ c.loop-test.false so_far

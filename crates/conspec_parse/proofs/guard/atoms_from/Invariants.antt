@@ -6,4 +6,4 @@ use Rattle.conspec_parse.specs.Guards.{next_atom}
 use Rattle.conspec_parse.proofs.guard.atoms_from.Given as goal
 
 abbrev pub invariant-loop : goal.invariant-loop
-invariant-loop l = repeated (is_next (codes "&&")) (next_atom l.names) (length l.tokens - l.counter) l.atoms l.left ≡ each (is_next (codes "&&")) (next_atom l.names) l.fn.first l.tokens
+invariant-loop l = repeated (is_next (codes "&&")) (next_atom l.names) (length l.tokens - l.counter) l.atoms l.left ≡ each (is_next (codes "&&")) (next_atom l.names) l.initial.atoms l.tokens

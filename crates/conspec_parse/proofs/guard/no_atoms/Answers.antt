@@ -5,7 +5,7 @@ use Rattle.conspec_parse.proofs.guard.no_atoms.Goals as goal
 pub returns : goal.returns
 unfolding no_atoms
 returns c = record {
-  exact = rw (c.if-not-room.false, c.new-none.ensures, c.rest_of.ensures) refl;
+  exact = rw (c.if-not-room.false, c.rest_of.ensures) refl;
   room = c.if-not-room.false;
 }
 

@@ -6,4 +6,4 @@ use Rattle.conspec_parse.specs.Types.{dimension_at}
 use Rattle.conspec_parse.proofs.type_name.dimensions_from.Given as goal
 
 abbrev pub invariant-loop : goal.invariant-loop
-invariant-loop l = repeated (is_next (codes "[")) dimension_at (length l.tokens - l.counter) l.brackets l.left ≡ each (is_next (codes "[")) dimension_at l.fn.brackets l.tokens
+invariant-loop l = repeated (is_next (codes "[")) dimension_at (length l.tokens - l.counter) l.brackets l.left ≡ each (is_next (codes "[")) dimension_at l.initial.brackets l.tokens
