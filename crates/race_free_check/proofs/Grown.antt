@@ -47,6 +47,10 @@ branch_more h f xs items i x before found now ys same below at e g is =
     ∙ append_assoc before (filter_map h (flat_map f (take i xs))) (filter_map h (f (get_or xs i x)))
     ∙ ap (λ (zs : List _). before ++ zs) (sym (ap (filter_map h) (joined_more f xs i x inside) ∙ filter_map-append h (flat_map f (take i xs)) (f (get_or xs i x))))
 
+pub copied_more : (ns : List ℤ) (i : ℕ) (found now : List ℤ) (n : ℤ) → i < length ns → found ≡ take i ns → now ≡ found ++ n ∷ [] → n ≡ get_or ns i (pos 0) → now ≡ take (i + 1) ns
+copied_more ns i found now n below e g is =
+    g ∙ ap (λ (zs : List ℤ). zs ++ n ∷ []) e ∙ ap (λ (m : ℤ). take i ns ++ m ∷ []) is ∙ sym (take_more ns i (pos 0) below)
+
 map_pushed : (f : ℤ → ℤ) (ns : List ℤ) (n : ℤ) → map f (ns ++ n ∷ []) ≡ map f ns ++ f n ∷ []
 map_pushed f [] n = refl
 map_pushed f (m ∷ ns) n = ap (λ (zs : List ℤ). f m ∷ zs) (map_pushed f ns n)

@@ -151,7 +151,8 @@ fn points_between(
 
 /// The least number of the type.
 fn least_of(kind: Kind) -> i64
-    ensures { result ≡ least_of kind }
+    ensures is { result ≡ least_of kind }
+    ensures fits { FitsSigned w32 result }
 {
     match kind {
         Kind::Int => -2_147_483_648,
@@ -165,7 +166,8 @@ fn least_of(kind: Kind) -> i64
 
 /// The greatest number of the type.
 fn greatest_of(kind: Kind) -> i64
-    ensures { result ≡ greatest_of kind }
+    ensures is { result ≡ greatest_of kind }
+    ensures fits { FitsSigned w32 result }
 {
     match kind {
         Kind::Int => 2_147_483_647,

@@ -104,12 +104,21 @@ pub fn broken_in(
     ensures { IfOk result (λ found. found ≡ broken_in policy.now trial.now) }
 {
     let search = search_of(alloc, policy, trial)?;
-    let mut point = point_of(alloc, trial)?;
-    if breaks_somewhere(alloc, &search, &mut point) {
-        Ok(Some(point))
-    } else {
-        Ok(None)
+    found_by(alloc, &search)
+}
+
+/// The first point of the search that breaks the condition.
+fn found_by(alloc: Global, search: &Search) -> Result<Option<Point>, NoMemory>
+    requires { IsPolicy search.now.policy }
+    ensures { IfOk result (λ found. found ≡ broken_among search.now.policy
+        (states_of search.now.policy (clauses_of search.now.trial))
+        (events_of search.now.trial.first.1) (seconds_of search.now.trial.second)) }
+{
+    let mut point = point_of(alloc, &search.trial)?;
+    if breaks_somewhere(alloc, search, &mut point) {
+        return Ok(Some(point));
     }
+    Ok(None)
 }
 
 fn search_of<'a>(

@@ -79,11 +79,23 @@ pub fn trials<'a>(alloc: Global, policy: &'a Policy) -> Result<Vec<TrialRef<'a>>
     let calls = clauses_where(alloc, policy, true)?;
     let ends = clauses_where(alloc, policy, false)?;
     let mut trials = Vec::new(alloc);
-    add_alone(&mut trials, 0, ends.as_slice())?;
-    add_pairs(&mut trials, 1, calls.as_slice(), calls.as_slice())?;
-    add_pairs(&mut trials, 2, ends.as_slice(), ends.as_slice())?;
-    add_pairs(&mut trials, 3, calls.as_slice(), ends.as_slice())?;
+    add_trials(&mut trials, calls.as_slice(), ends.as_slice())?;
     Ok(trials)
+}
+
+/// Adds what is tried of the clauses for calls and of those for ends of calls, in the order of the conditions.
+fn add_trials<'a>(
+    trials: &mut Vec<TrialRef<'a>>,
+    calls: &[PlacedClause<'a>],
+    ends: &[PlacedClause<'a>],
+) -> Result<(), NoMemory>
+    ensures { OnOk result (trials.new.items ≡ (((trials.old.items ++ map (alone 0) ends.now)
+        ++ pairs 1 calls.now calls.now) ++ pairs 2 ends.now ends.now) ++ pairs 3 calls.now ends.now) }
+{
+    add_alone(trials, 0, ends)?;
+    add_pairs(trials, 1, calls, calls)?;
+    add_pairs(trials, 2, ends, ends)?;
+    add_pairs(trials, 3, calls, ends)
 }
 
 /// The clauses for calls, or those for ends of calls.

@@ -28,3 +28,8 @@ loop-by-preserved c = record {
 pub returns-clause-is : goal.returns-clause-is
 returns-clause-is c =
     c.loop-by.invariant.is ∙ ap (λ (ns : List ℤ). (pos 0 ∷ c.args.addends.now) ++ flat_map (λ a. map (λ b. a +ℤ b) c.args.addends.now) ns) (take_all c.loop-by.by-index c.args.addends.now c.loop-by-test.false)
+
+pub add_shifted-requires-clause-by : goal.add_shifted-requires-clause-by
+add_shifted-requires-clause-by c =
+    let small = small_at (2 ^ 31) c.args.addends.now c.loop-by.by-index (pos 0) c.requires c.loop-by-test.true in
+    record { low = omega (arith, ints); high = omega (arith, ints) }
