@@ -2,11 +2,10 @@
 
 use crate::bytes_of;
 use cert_format::{
-    CertForm, Certificate, Mode, Name, Note, Phase8, Term, Typing, VType, decode, encode,
+    CertForm, Certificate, FrameType, Mode, Name, Note, Phase8, Term, Typing, VType, decode, encode,
 };
-use mon_base::{Bytes, List};
+use mon_base::List;
 use std::alloc::{AllocError, Global};
-use std::process::Abort;
 use std::test::*;
 
 /// A program of two classes, the first with one method of one instruction, before which the one local is an array of
@@ -45,6 +44,36 @@ const STARTS: [usize; 97] = [
     146, 147, 148, 149, 150, 154, 155, 157, 159,
 ];
 
+/// Changes, a byte each, and where the fault is then.
+static CHANGES: [(usize, u8, u64); 18] = [
+    (0, 0x44, 0),
+    (5, 2, 4),
+    (6, 2, 6),
+    (27, 2, 27),
+    (28, 1, 28),
+    (32, 6, 32),
+    (38, 1, 34),
+    (46, 2, 42),
+    (46, 0, 160),
+    (51, 2, 47),
+    (61, 0, 61),
+    (52, 6, 52),
+    (55, 3, 55),
+    (78, 6, 78),
+    (104, 2, 104),
+    (106, 2, 106),
+    (119, 2, 119),
+    (120, 2, 120),
+];
+
+/// Where any byte may stand.
+static FREE: [usize; 7] = [54, 75, 76, 84, 105, 118, 132];
+
+/// The fault of the bytes, for a policy of so many variables.
+fn fault_in(alloc: Global, bytes: &[u8], vars: u32) -> Option<CertForm> {
+    decode(alloc, bytes, vars).err()
+}
+
 /// Where the fault of the bytes is with one of them changed.
 fn fault_of(
     alloc: Global,
@@ -56,22 +85,32 @@ fn fault_of(
     if at < changed.len() {
         changed[at] = byte;
     }
-    Ok(decode(alloc, &changed, 2).err())
+    Ok(fault_in(alloc, &changed, 2))
+}
+
+/// Whether the certificate is written as the bytes.
+fn is_written_as(alloc: Global, certificate: &Certificate, bytes: &[u8]) -> bool {
+    match encode(alloc, certificate) {
+        Ok(again) => again.as_slice() == bytes,
+        Err(_) => false,
+    }
+}
+
+/// Whether the bytes are a certificate that is written as it was.
+fn goes_both_ways(alloc: Global, bytes: &[u8]) -> bool {
+    match decode(alloc, bytes, 2) {
+        Ok(certificate) => is_written_as(alloc, &certificate, bytes),
+        Err(_) => false,
+    }
 }
 
 #[test]
 fn known_certificates_both_ways(rt: HostRuntime) -> Result<(), Fail> {
     let alloc = rt.alloc();
     let all: [&[&str]; 2] = [&FIRST, &WIDE];
-    for lines in all {
+    for lines in &all {
         let bytes = bytes_of(alloc, lines)?;
-        let certificate = decode(alloc, &bytes, 2)
-            .ok()
-            .ok_or("the bytes are a certificate")?;
-        let again = encode(alloc, &certificate)
-            .ok()
-            .ok_or("the certificate is short")?;
-        assert_eq!(rt; again.as_slice(), bytes.as_slice());
+        assert!(rt; goes_both_ways(alloc, &bytes));
     }
     Ok(())
 }
@@ -88,24 +127,41 @@ fn certificate_of(alloc: Global, lines: &[&str]) -> Result<Certificate, Fail> {
 #[test]
 fn first_certificate(rt: HostRuntime) -> Result<(), Fail> {
     let certificate = certificate_of(rt.alloc(), &FIRST)?;
-    assert_eq!(rt; certificate.mode, Mode::Release);
-    assert_eq!(rt; certificate.notes.len(), 2);
-    has_one_local(&rt, rt.alloc(), &certificate.typing)
+    assert!(rt; certificate.mode == Mode::Release);
+    assert!(rt; certificate.notes.len() == 2);
+    let local = VType::Ref(Name::from_slice(rt.alloc(), b"[Ljava/lang/String;".as_slice())?);
+    assert!(rt; has_one_local(&certificate.typing, &local));
+    Ok(())
 }
 
-/// Each frame has an array of strings in its first local.
-fn has_one_local(rt: &impl Abort, alloc: Global, typing: &Typing) -> Result<(), Fail> {
-    let name = VType::Ref(Name::from_slice(alloc, b"[Ljava/lang/String;")?);
-    assert_eq!(rt; typing.frames.len(), 2);
-    let class = typing.frames.as_slice().first().ok_or("a class")?;
+/// Whether there are two classes, and each frame of the first has this in its first local.
+fn has_one_local(typing: &Typing, local: &VType) -> bool {
+    let Some(class) = typing.frames.as_slice().first() else {
+        return false;
+    };
     for method in class.as_slice() {
-        for frame in method.as_slice() {
-            let frame = frame.as_ref().ok_or("it is reached")?;
-            assert!(rt; frame.locals.as_slice().first() == Some(&name));
-            assert!(rt; frame.stack.is_empty());
+        if !begin_with(method.as_slice(), local) {
+            return false;
         }
     }
-    Ok(())
+    typing.frames.len() == 2
+}
+
+/// Whether each frame is there, with this in its first local and no stack.
+fn begin_with(frames: &[Option<FrameType>], local: &VType) -> bool {
+    for frame in frames {
+        if !begins_with(frame, local) {
+            return false;
+        }
+    }
+    true
+}
+
+fn begins_with(frame: &Option<FrameType>, local: &VType) -> bool {
+    match frame {
+        Some(frame) => frame.locals.as_slice().first() == Some(local) && frame.stack.is_empty(),
+        None => false,
+    }
 }
 
 /// Whether these are terms and map of one of the two notes Held.
@@ -143,35 +199,57 @@ fn is_known(note: &Note) -> bool {
 #[test]
 fn notes_of_each_kind(rt: HostRuntime) -> Result<(), Fail> {
     let certificate = certificate_of(rt.alloc(), &WIDE)?;
-    assert_eq!(rt; certificate.mode, Mode::Hold);
-    are_known(&rt, certificate.notes.as_slice())
+    assert!(rt; certificate.mode == Mode::Hold);
+    assert!(rt; begin_with_known_ones(certificate.notes.as_slice()));
+    Ok(())
 }
 
-fn are_known(rt: &impl Abort, notes: &[List<List<Note>>]) -> Result<(), Fail> {
-    let class = notes.first().ok_or("a class")?;
-    let method = class.as_slice().first().ok_or("a method")?;
-    assert_eq!(rt; method.len(), 8);
-    for note in method.as_slice() {
-        assert!(rt; is_known(note));
+/// Whether the first method of the first class has eight notes, which are those that were spelled.
+fn begin_with_known_ones(notes: &[List<List<Note>>]) -> bool {
+    let Some(class) = notes.first() else {
+        return false;
+    };
+    match class.as_slice().first() {
+        Some(method) => method.len() == 8 && are_known(method.as_slice()),
+        None => false,
     }
-    Ok(())
+}
+
+/// Whether each note is one of those that were spelled.
+fn are_known(notes: &[Note]) -> bool {
+    for note in notes {
+        if !is_known(note) {
+            return false;
+        }
+    }
+    true
+}
+
+/// The fault of the first of the bytes, so many.
+fn fault_up_to(alloc: Global, bytes: &[u8], len: usize) -> Option<CertForm> {
+    fault_in(alloc, &bytes[..len.min(bytes.len())], 2)
 }
 
 #[test]
 fn every_cut(rt: HostRuntime) -> Result<(), Fail> {
     let alloc = rt.alloc();
-    let mut bytes = bytes_of(alloc, &WIDE)?;
+    let bytes = bytes_of(alloc, &WIDE)?;
     let mut start = 0;
     for len in 0..160 {
         if STARTS.contains(&len) {
             start = len as u64;
         }
-        let fault = decode(alloc, &bytes[..len.min(bytes.len())], 2).err();
-        assert_eq!(rt; fault, Some(CertForm::Form { at: start }), "at {len}");
+        let fault = fault_up_to(alloc, &bytes, len);
+        assert!(rt; fault == Some(CertForm::Form { at: start }), "at {len}");
     }
+    Ok(())
+}
+
+#[test]
+fn a_byte_behind_the_end(rt: HostRuntime) -> Result<(), Fail> {
+    let mut bytes = bytes_of(rt.alloc(), &WIDE)?;
     bytes.push(0)?;
-    let fault = decode(alloc, &bytes, 2).err();
-    assert_eq!(rt; fault, Some(CertForm::Form { at: 160 }));
+    assert!(rt; fault_in(rt.alloc(), &bytes, 2) == Some(CertForm::Form { at: 160 }));
     Ok(())
 }
 
@@ -179,48 +257,36 @@ fn every_cut(rt: HostRuntime) -> Result<(), Fail> {
 fn changes(rt: HostRuntime) -> Result<(), Fail> {
     let alloc = rt.alloc();
     let bytes = bytes_of(alloc, &WIDE)?;
-    let table = [
-        (0, 0x44, 0),
-        (5, 2, 4),
-        (6, 2, 6),
-        (27, 2, 27),
-        (28, 1, 28),
-        (32, 6, 32),
-        (38, 1, 34),
-        (46, 2, 42),
-        (46, 0, 160),
-        (51, 2, 47),
-        (61, 0, 61),
-        (52, 6, 52),
-        (55, 3, 55),
-        (78, 6, 78),
-        (104, 2, 104),
-        (106, 2, 106),
-        (119, 2, 119),
-        (120, 2, 120),
-    ];
-    for (at, byte, want) in table {
-        let fault = fault_of(alloc, &bytes, at, byte)?;
-        assert_eq!(rt; fault, Some(CertForm::Form { at: want }), "at {at}");
+    for (at, byte, want) in &CHANGES {
+        let fault = fault_of(alloc, &bytes, *at, *byte)?;
+        assert!(rt; fault == Some(CertForm::Form { at: *want }), "at {at}");
     }
-    for at in [54, 75, 76, 84, 105, 118, 132] {
-        assert_eq!(rt; fault_of(alloc, &bytes, at, 200)?, None, "at {at}");
+    Ok(())
+}
+
+#[test]
+fn changes_of_what_is_free(rt: HostRuntime) -> Result<(), Fail> {
+    let alloc = rt.alloc();
+    let bytes = bytes_of(alloc, &WIDE)?;
+    for at in &FREE {
+        assert!(rt; fault_of(alloc, &bytes, *at, 200)?.is_none(), "at {at}");
     }
-    let fault = decode(alloc, &bytes, 1).err();
-    assert_eq!(rt; fault, Some(CertForm::Form { at: 92 }));
+    assert!(rt; fault_in(alloc, &bytes, 1) == Some(CertForm::Form { at: 92 }));
+    Ok(())
+}
+
+#[test]
+fn a_name_that_stands_twice(rt: HostRuntime) -> Result<(), Fail> {
+    let twice = bytes_of(rt.alloc(), &["4353504300010100000002000161000161"])?;
+    assert!(rt; fault_in(rt.alloc(), &twice, 0) == Some(CertForm::Form { at: 16 }));
     Ok(())
 }
 
 #[test]
 fn names_and_counts(rt: HostRuntime) -> Result<(), Fail> {
-    let alloc = rt.alloc();
-    let twice = bytes_of(alloc, &["4353504300010100000002000161000161"])?;
-    let fault = decode(alloc, &twice, 0).err();
-    assert_eq!(rt; fault, Some(CertForm::Form { at: 16 }));
-    let many = bytes_of(alloc, &["43535043000101ffffffff"])?;
-    let fault = decode(alloc, &many, 0).err();
-    assert_eq!(rt; fault, Some(CertForm::Form { at: 11 }));
-    let least = bytes_of(alloc, &["43535043000101000000000000"])?;
-    assert_eq!(rt; decode(alloc, &least, u32::MAX).err(), None);
+    let many = bytes_of(rt.alloc(), &["43535043000101ffffffff"])?;
+    assert!(rt; fault_in(rt.alloc(), &many, 0) == Some(CertForm::Form { at: 11 }));
+    let least = bytes_of(rt.alloc(), &["43535043000101000000000000"])?;
+    assert!(rt; fault_in(rt.alloc(), &least, u32::MAX).is_none());
     Ok(())
 }

@@ -8,7 +8,6 @@ use class_codec::{
     reference_at,
 };
 use std::alloc::{AllocError, Global};
-use std::process::Abort;
 use std::test::*;
 
 /// A class `a/E` with an empty `main`.
@@ -42,6 +41,68 @@ const WIDE: [&str; 8] = [
     "002100020002000100020001000000010003000000000000",
 ];
 
+/// Changes of the small file, a byte each, and what is wrong then.
+static CHANGES: [(usize, u8, ClassFault); 13] = [
+    (0, 0xcb, ClassFault::Magic),
+    (7, 50, ClassFault::Version { major: 50 }),
+    (10, 2, ClassFault::Tag { at: 10, tag: 2 }),
+    (13, 0, ClassFault::Index { at: 13 }),
+    (15, 0xf0, ClassFault::Index { at: 15 }),
+    (101, 4, ClassFault::Index { at: 100 }),
+    (113, 0, ClassFault::Index { at: 110 }),
+    (111, 1, ClassFault::Index { at: 110 }),
+    (105, 12, ClassFault::Short { at: 117 }),
+    (105, 14, ClassFault::Tail { at: 119 }),
+    (105, 255, ClassFault::Tail { at: 119 }),
+    (116, 1, ClassFault::Short { at: 119 }),
+    (9, 0, ClassFault::Index { at: 12 }),
+];
+
+/// Changes of the wide class that make an index wrong, a byte each, and where it stands.
+static INDICES: [(usize, u8, u64); 18] = [
+    (18, 2, 17),
+    (18, 7, 17),
+    (18, 15, 17),
+    (53, 2, 52),
+    (56, 2, 55),
+    (58, 2, 57),
+    (61, 1, 60),
+    (63, 2, 62),
+    (66, 1, 65),
+    (68, 2, 67),
+    (71, 1, 70),
+    (73, 2, 72),
+    (77, 1, 76),
+    (79, 0, 78),
+    (83, 1, 82),
+    (89, 2, 88),
+    (91, 2, 90),
+    (9, 9, 42),
+];
+
+/// Each fault, and how it is printed.
+static PRINTED: [(ClassFault, &str); 8] = [
+    (ClassFault::Magic, "no class file"),
+    (
+        ClassFault::Version { major: 50 },
+        "class file of version 50",
+    ),
+    (ClassFault::Short { at: 119 }, "cut short at 119"),
+    (ClassFault::Tail { at: 121 }, "left over from 121"),
+    (ClassFault::Tag { at: 10, tag: 2 }, "tag 2 at 10"),
+    (ClassFault::Index { at: 82 }, "wrong index at 82"),
+    (
+        ClassFault::TooLong { len: 1_048_577 },
+        "1048577 bytes are too long",
+    ),
+    (ClassFault::Memory, "out of memory"),
+];
+
+/// The fault of the bytes.
+fn fault_in(alloc: Global, bytes: &[u8]) -> Option<ClassFault> {
+    decode(alloc, bytes).err()
+}
+
 /// The fault of the bytes with one of them changed.
 fn fault_of(
     alloc: Global,
@@ -53,7 +114,31 @@ fn fault_of(
     if at < changed.len() {
         changed[at] = byte;
     }
-    Ok(decode(alloc, &changed).err())
+    Ok(fault_in(alloc, &changed))
+}
+
+/// Whether the file is written as the bytes.
+fn is_written_as(alloc: Global, file: &ClassFile, bytes: &[u8]) -> bool {
+    match encode(alloc, file) {
+        Ok(again) => again.as_slice() == bytes,
+        Err(_) => false,
+    }
+}
+
+/// Whether a copy of the file is like it.
+fn is_copied(alloc: Global, file: &ClassFile) -> bool {
+    match file.copy(alloc) {
+        Ok(copy) => copy == *file,
+        Err(_) => false,
+    }
+}
+
+/// Whether the bytes are a class file that is written as it was, and is copied.
+fn goes_both_ways(alloc: Global, bytes: &[u8]) -> bool {
+    match decode(alloc, bytes) {
+        Ok(file) => is_written_as(alloc, &file, bytes) && is_copied(alloc, &file),
+        Err(_) => false,
+    }
 }
 
 #[test]
@@ -67,15 +152,9 @@ fn known_files_both_ways(rt: HostRuntime) -> Result<(), Fail> {
         &compiled::WORDS,
         &compiled::INNER,
     ];
-    for lines in all {
+    for lines in &all {
         let bytes = bytes_of(alloc, lines)?;
-        let file = decode(alloc, &bytes)
-            .ok()
-            .ok_or("the bytes are a class file")?;
-        let again = encode(alloc, &file).ok().ok_or("memory is left")?;
-        assert_eq!(rt; again.as_slice(), bytes.as_slice());
-        let copy = file.copy(alloc).ok().ok_or("memory is left")?;
-        assert!(rt; copy == file);
+        assert!(rt; goes_both_ways(alloc, &bytes));
     }
     Ok(())
 }
@@ -92,87 +171,125 @@ fn file_of(alloc: Global, lines: &[&str]) -> Result<ClassFile, Fail> {
 #[test]
 fn small_file(rt: HostRuntime) -> Result<(), Fail> {
     let file = file_of(rt.alloc(), &SMALL)?;
-    assert_eq!(rt;
-        (file.minor, file.flags, file.this_class, file.super_class),
-        (0, 0x21, 2, 4)
-    );
-    assert_eq!(rt; file.methods.len(), 1);
-    is_named(&rt, file.pool.as_slice(), file.this_class)?;
-    for method in file.methods.as_slice() {
-        is_main(&rt, method);
+    assert!(rt; file.minor == 0 && file.flags == 0x21);
+    assert!(rt; file.this_class == 2 && file.super_class == 4);
+    assert!(rt; file.methods.len() == 1);
+    assert!(rt; is_named(file.pool.as_slice(), file.this_class));
+    assert!(rt; are_main(file.methods.as_slice()));
+    Ok(())
+}
+
+/// Whether this is the class in the pool of the small file.
+fn is_named(pool: &[Const], class: u16) -> bool {
+    match class_name_at(pool, class) {
+        Some(name) => pool.len() == 8 && name.as_slice() == b"a/E".as_slice(),
+        None => false,
     }
-    Ok(())
 }
 
-/// The pool of the small file, in which this is the class.
-fn is_named(rt: &impl Abort, pool: &[Const], class: u16) -> Result<(), Fail> {
-    assert_eq!(rt; pool.len(), 8);
-    let name = class_name_at(pool, class).ok_or("the class has a name")?;
-    assert_eq!(rt; name.as_slice(), b"a/E".as_slice());
-    Ok(())
-}
-
-fn is_main(rt: &impl Abort, method: &Member) {
-    assert_eq!(rt; (method.flags, method.name, method.desc), (9, 5, 6));
-    for attribute in method.attrs.as_slice() {
-        match attribute {
-            Attr::Code(code) => {
-                assert_eq!(rt; (code.name, code.max_stack, code.max_locals), (7, 0, 1));
-                assert_eq!(rt; code.code.as_slice(), b"\xb1".as_slice());
-            }
-            Attr::Other(_) => assert!(rt; false, "the attribute is Code"),
+/// Whether each method is the one of the small file.
+fn are_main(methods: &[Member]) -> bool {
+    for method in methods {
+        if !is_main(method) {
+            return false;
         }
+    }
+    true
+}
+
+/// Whether the method is the one of the small file.
+fn is_main(method: &Member) -> bool {
+    for attribute in method.attrs.as_slice() {
+        if !is_code(attribute) {
+            return false;
+        }
+    }
+    method.flags == 9 && method.name == 5 && method.desc == 6
+}
+
+/// Whether the attribute is the code of the small file.
+fn is_code(attribute: &Attr) -> bool {
+    match attribute {
+        Attr::Code(code) => {
+            code.name == 7
+                && code.max_stack == 0
+                && code.max_locals == 1
+                && code.code.as_slice() == b"\xb1".as_slice()
+        }
+        Attr::Other(_) => false,
     }
 }
 
 #[test]
 fn constants_of_each_kind(rt: HostRuntime) -> Result<(), Fail> {
     let file = file_of(rt.alloc(), &WIDE)?;
-    are_of_each_kind(&rt, file.pool.as_slice());
-    refers_to_a_field(&rt, file.pool.as_slice())
+    assert!(rt; file.pool.len() == 15);
+    assert!(rt; are_of_each_kind(file.pool.as_slice()));
+    assert!(rt; refers_to_a_field(file.pool.as_slice()));
+    assert!(rt; reference_at(file.pool.as_slice(), 11).is_none());
+    Ok(())
 }
 
-fn are_of_each_kind(rt: &impl Abort, pool: &[Const]) {
-    assert_eq!(rt; pool.len(), 15);
+/// Whether each constant is the one of its place in the wide class.
+fn are_of_each_kind(pool: &[Const]) -> bool {
     for (place, constant) in pool.iter().enumerate() {
-        let is_second = place == 0 || place == 7 || place == 9;
-        assert_eq!(rt; matches!(constant, Const::Second), is_second);
-        match constant {
-            Const::Integer(n) => assert_eq!(rt; *n, -1),
-            Const::Float(bits) => assert_eq!(rt; *bits, 0x3fc0_0000),
-            Const::Long(n) => assert_eq!(rt; *n, i64::MIN),
-            Const::Double(bits) => assert_eq!(rt; *bits, 0x4009_1eb8_51eb_851f),
-            _ => {}
+        if !is_of_its_kind(place, constant) {
+            return false;
         }
+    }
+    true
+}
+
+/// Whether this may be the constant of the place in the wide class.
+fn is_of_its_kind(place: usize, constant: &Const) -> bool {
+    let is_second = place == 0 || place == 7 || place == 9;
+    match constant {
+        Const::Second => is_second,
+        Const::Integer(n) => !is_second && *n == -1,
+        Const::Float(bits) => !is_second && *bits == 0x3fc0_0000,
+        Const::Long(n) => !is_second && *n == i64::MIN,
+        Const::Double(bits) => !is_second && *bits == 0x4009_1eb8_51eb_851f,
+        _ => !is_second,
     }
 }
 
-fn refers_to_a_field(rt: &impl Abort, pool: &[Const]) -> Result<(), Fail> {
-    let field = reference_at(pool, 12).ok_or("the constant is a field")?;
-    assert_eq!(rt; field.class.as_slice(), b"a/E".as_slice());
-    assert_eq!(rt; field.name.as_slice(), b"a/E".as_slice());
-    assert_eq!(rt; field.desc.as_slice(), b"I".as_slice());
-    assert!(rt; reference_at(pool, 11).is_none());
-    Ok(())
+/// Whether the constant 12 is the field of the wide class.
+fn refers_to_a_field(pool: &[Const]) -> bool {
+    match reference_at(pool, 12) {
+        Some(field) => {
+            field.class.as_slice() == b"a/E".as_slice()
+                && field.name.as_slice() == b"a/E".as_slice()
+                && field.desc.as_slice() == b"I".as_slice()
+        }
+        None => false,
+    }
+}
+
+/// The fault of the first of the bytes, so many.
+fn fault_up_to(alloc: Global, bytes: &[u8], len: usize) -> Option<ClassFault> {
+    fault_in(alloc, &bytes[..len.min(bytes.len())])
 }
 
 #[test]
 fn every_cut(rt: HostRuntime) -> Result<(), Fail> {
     let alloc = rt.alloc();
-    let mut bytes = bytes_of(alloc, &SMALL)?;
+    let bytes = bytes_of(alloc, &SMALL)?;
     let mut start = 0;
     for len in 0..121 {
         if STARTS.contains(&len) {
             start = len as u64;
         }
-        let fault = decode(alloc, &bytes[..len.min(bytes.len())]).err();
-        assert_eq!(rt; fault, Some(ClassFault::Short { at: start }), "at {len}");
+        let fault = fault_up_to(alloc, &bytes, len);
+        assert!(rt; fault == Some(ClassFault::Short { at: start }), "at {len}");
     }
+    Ok(())
+}
+
+#[test]
+fn a_byte_behind_a_small_file(rt: HostRuntime) -> Result<(), Fail> {
+    let mut bytes = bytes_of(rt.alloc(), &SMALL)?;
     bytes.push(0)?;
-    assert_eq!(rt;
-        decode(alloc, &bytes).err(),
-        Some(ClassFault::Tail { at: 121 })
-    );
+    assert!(rt; fault_in(rt.alloc(), &bytes) == Some(ClassFault::Tail { at: 121 }));
     Ok(())
 }
 
@@ -180,32 +297,18 @@ fn every_cut(rt: HostRuntime) -> Result<(), Fail> {
 fn changes_of_a_small_file(rt: HostRuntime) -> Result<(), Fail> {
     let alloc = rt.alloc();
     let bytes = bytes_of(alloc, &SMALL)?;
-    let table = [
-        (0, 0xcb, ClassFault::Magic),
-        (7, 50, ClassFault::Version { major: 50 }),
-        (10, 2, ClassFault::Tag { at: 10, tag: 2 }),
-        (13, 0, ClassFault::Index { at: 13 }),
-        (15, 0xf0, ClassFault::Index { at: 15 }),
-        (101, 4, ClassFault::Index { at: 100 }),
-        (113, 0, ClassFault::Index { at: 110 }),
-        (111, 1, ClassFault::Index { at: 110 }),
-        (105, 12, ClassFault::Short { at: 117 }),
-        (105, 14, ClassFault::Tail { at: 119 }),
-        (105, 255, ClassFault::Tail { at: 119 }),
-        (116, 1, ClassFault::Short { at: 119 }),
-        (9, 0, ClassFault::Index { at: 12 }),
-    ];
-    for (at, byte, want) in table {
-        assert_eq!(rt; fault_of(alloc, &bytes, at, byte)?, Some(want), "at {at}");
+    for (at, byte, want) in &CHANGES {
+        let fault = fault_of(alloc, &bytes, *at, *byte)?;
+        assert!(rt; fault == Some(*want), "at {at}");
     }
-    let mut cut = Vec::from_slice(alloc, &bytes[..119.min(bytes.len())])?;
-    if cut.len() == 119 {
-        cut[105] = 14;
-    }
-    assert_eq!(rt;
-        decode(alloc, &cut).err(),
-        Some(ClassFault::Short { at: 119 })
-    );
+    Ok(())
+}
+
+#[test]
+fn a_change_of_a_cut_file(rt: HostRuntime) -> Result<(), Fail> {
+    let bytes = bytes_of(rt.alloc(), &SMALL)?;
+    let fault = fault_of(rt.alloc(), &bytes[..119.min(bytes.len())], 105, 14)?;
+    assert!(rt; fault == Some(ClassFault::Short { at: 119 }));
     Ok(())
 }
 
@@ -213,68 +316,27 @@ fn changes_of_a_small_file(rt: HostRuntime) -> Result<(), Fail> {
 fn wrong_indices(rt: HostRuntime) -> Result<(), Fail> {
     let alloc = rt.alloc();
     let bytes = bytes_of(alloc, &WIDE)?;
-    let table = [
-        (18, 2, 17),
-        (18, 7, 17),
-        (18, 15, 17),
-        (53, 2, 52),
-        (56, 2, 55),
-        (58, 2, 57),
-        (61, 1, 60),
-        (63, 2, 62),
-        (66, 1, 65),
-        (68, 2, 67),
-        (71, 1, 70),
-        (73, 2, 72),
-        (77, 1, 76),
-        (79, 0, 78),
-        (83, 1, 82),
-        (89, 2, 88),
-        (91, 2, 90),
-        (9, 9, 42),
-    ];
-    for (at, byte, want) in table {
-        let fault = fault_of(alloc, &bytes, at, byte)?;
-        assert_eq!(rt; fault, Some(ClassFault::Index { at: want }), "at {at}");
+    for (at, byte, want) in &INDICES {
+        let fault = fault_of(alloc, &bytes, *at, *byte)?;
+        assert!(rt; fault == Some(ClassFault::Index { at: *want }), "at {at}");
     }
     Ok(())
 }
 
 #[test]
 fn long_files(rt: HostRuntime) -> Result<(), Fail> {
-    let alloc = rt.alloc();
-    let mut bytes = vec![in alloc; 0u8; MAX_LEN]?;
-    assert_eq!(rt; decode(alloc, &bytes).err(), Some(ClassFault::Magic));
+    let mut bytes = vec![in rt.alloc(); 0u8; MAX_LEN]?;
+    assert!(rt; fault_in(rt.alloc(), &bytes) == Some(ClassFault::Magic));
     bytes.push(0)?;
-    assert_eq!(rt;
-        decode(alloc, &bytes).err(),
-        Some(ClassFault::TooLong { len: 1_048_577 })
-    );
+    assert!(rt; fault_in(rt.alloc(), &bytes) == Some(ClassFault::TooLong { len: 1_048_577 }));
     Ok(())
 }
 
 #[test]
 fn printed_faults(rt: HostRuntime) -> Result<(), Fail> {
-    let alloc = rt.alloc();
-    let table = [
-        (ClassFault::Magic, "no class file"),
-        (
-            ClassFault::Version { major: 50 },
-            "class file of version 50",
-        ),
-        (ClassFault::Short { at: 119 }, "cut short at 119"),
-        (ClassFault::Tail { at: 121 }, "left over from 121"),
-        (ClassFault::Tag { at: 10, tag: 2 }, "tag 2 at 10"),
-        (ClassFault::Index { at: 82 }, "wrong index at 82"),
-        (
-            ClassFault::TooLong { len: 1_048_577 },
-            "1048577 bytes are too long",
-        ),
-        (ClassFault::Memory, "out of memory"),
-    ];
-    for (fault, text) in table {
-        let printed = format!(in alloc; "{fault}")?;
-        assert_eq!(rt; printed.as_str(), text);
+    for (fault, text) in &PRINTED {
+        let printed = format!(in rt.alloc(); "{fault}")?;
+        assert!(rt; printed.as_str() == *text, "{text}");
     }
     Ok(())
 }

@@ -260,6 +260,14 @@ fn again(alloc: Global, bytes: &[u8]) -> Option<Bytes> {
     }
 }
 
+/// Whether the bytes are a code, and its instructions are written as they were.
+fn goes_both_ways(alloc: Global, bytes: &[u8]) -> bool {
+    match again(alloc, bytes) {
+        Some(written) => written.as_slice() == bytes,
+        None => false,
+    }
+}
+
 /// Where the instructions begin.
 fn starts_in(alloc: Global, bytes: &[u8]) -> Option<List<u32>> {
     if bytes.len() > 65_535 {
@@ -357,22 +365,26 @@ fn known_codes_both_ways(rt: HostRuntime) -> Result<(), Fail> {
     let alloc = rt.alloc();
     for line in &CODES {
         let bytes = bytes_of(alloc, &[*line])?;
-        let written = again(alloc, &bytes).ok_or("the bytes are a code")?;
-        assert_eq!(rt; written.as_slice(), bytes.as_slice());
+        assert!(rt; goes_both_ways(alloc, &bytes), "{line}");
     }
     Ok(())
+}
+
+/// Whether the instructions of the bytes begin at 112 places, from 0 to 245.
+fn begin_up_to_245(alloc: Global, bytes: &[u8]) -> bool {
+    let Some(starts) = starts_in(alloc, bytes) else {
+        return false;
+    };
+    let starts = starts.as_slice();
+    starts.len() == 112 && starts.first() == Some(&0) && starts.last() == Some(&245)
 }
 
 #[test]
 fn every_instruction(rt: HostRuntime) -> Result<(), Fail> {
     let alloc = rt.alloc();
     let bytes = bytes_of(alloc, &EVERY)?;
-    let written = again(alloc, &bytes).ok_or("the bytes are a code")?;
-    assert_eq!(rt; written.as_slice(), bytes.as_slice());
-    let starts = starts_in(alloc, &bytes).ok_or("the bytes are a code")?;
-    let starts = starts.as_slice();
-    assert_eq!(rt; starts.len(), 112);
-    assert!(rt; starts.first() == Some(&0) && starts.last() == Some(&245));
+    assert!(rt; goes_both_ways(alloc, &bytes));
+    assert!(rt; begin_up_to_245(alloc, &bytes));
     Ok(())
 }
 
@@ -381,7 +393,7 @@ fn the_first_fault(rt: HostRuntime) -> Result<(), Fail> {
     let alloc = rt.alloc();
     for (line, fault) in &REFUSED {
         let bytes = bytes_of(alloc, &[*line])?;
-        assert_eq!(rt; fault_of(alloc, &bytes), Some(*fault), "{line}");
+        assert!(rt; fault_of(alloc, &bytes) == Some(*fault), "{line}");
     }
     Ok(())
 }
@@ -403,6 +415,14 @@ fn many_wides(rt: HostRuntime) -> Result<(), Fail> {
     Ok(())
 }
 
+/// Whether the last instructions of the bytes begin at these places.
+fn end_with(alloc: Global, bytes: &[u8], places: &[u32]) -> bool {
+    match starts_in(alloc, bytes) {
+        Some(starts) => starts.as_slice().ends_with(places),
+        None => false,
+    }
+}
+
 #[test]
 fn a_block_before_a_switch(rt: HostRuntime) -> Result<(), Fail> {
     let alloc = rt.alloc();
@@ -410,22 +430,22 @@ fn a_block_before_a_switch(rt: HostRuntime) -> Result<(), Fail> {
         alloc,
         &[BLOCK, "b8000d1aaa00000000120000000000000000", "00000012b1"],
     )?;
-    let written = again(alloc, &bytes).ok_or("the bytes are a code")?;
-    assert_eq!(rt; written.as_slice(), bytes.as_slice());
-    let starts = starts_in(alloc, &bytes).ok_or("the bytes are a code")?;
-    assert!(rt; starts.as_slice().ends_with(&[42, 45, 46, 64, 65]));
+    assert!(rt; goes_both_ways(alloc, &bytes));
+    assert!(rt; end_with(alloc, &bytes, &[42, 45, 46, 64, 65]));
+    Ok(())
+}
+
+#[test]
+fn a_jump_without_a_block(rt: HostRuntime) -> Result<(), Fail> {
+    let code = long_code(rt.alloc(), &["1a997fd5b8000d"])?;
+    assert!(rt; goes_both_ways(rt.alloc(), &code));
     Ok(())
 }
 
 #[test]
 fn a_block_under_a_jump(rt: HostRuntime) -> Result<(), Fail> {
-    let alloc = rt.alloc();
-    let before = long_code(alloc, &["1a997fd5b8000d"])?;
-    let written = again(alloc, &before).ok_or("the bytes are a code")?;
-    assert!(rt; written.as_slice() == before.as_slice());
-    let after = long_code(alloc, &["1a997fff", BLOCK, "b8000d"])?;
-    let written = again(alloc, &after).ok_or("the bytes are a code")?;
-    assert!(rt; written.as_slice() == after.as_slice());
+    let code = long_code(rt.alloc(), &["1a997fff", BLOCK, "b8000d"])?;
+    assert!(rt; goes_both_ways(rt.alloc(), &code));
     Ok(())
 }
 
@@ -476,7 +496,7 @@ fn the_farthest_jump_back(rt: HostRuntime) -> Result<(), Fail> {
 #[test]
 fn names(rt: HostRuntime) -> Result<(), Fail> {
     for (op, name) in &NAMES {
-        assert_eq!(rt; name_of(*op), name.as_bytes());
+        assert!(rt; name_of(*op) == name.as_bytes(), "{name}");
     }
     Ok(())
 }
@@ -488,6 +508,6 @@ fn constants_are_the_opcodes_of_their_names(rt: HostRuntime) -> Result<(), Fail>
         words.extend_from_slice(name_of(*op))?;
         words.push(b' ')?;
     }
-    assert_eq!(rt; words.as_slice(), WORDS.as_bytes());
+    assert!(rt; words.as_slice() == WORDS.as_bytes());
     Ok(())
 }

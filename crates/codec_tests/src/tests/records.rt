@@ -4,9 +4,12 @@
 mod lines;
 mod writing;
 
-use event_record::{Record, RecordFault, read_record};
+ghost use Rattle.std.specs.Prelude.{◌<◌, ◌^◌, length, IfOk};
+
+use api_listing::Listing;
+use event_record::{Record, read_record};
 use listing_text::read;
-use mon_base::Bytes;
+use mon_base::{Bytes, NoMemory};
 use std::alloc::Global;
 use std::test::Fail;
 
@@ -15,20 +18,34 @@ const LISTING: &[u8] =
     static api/Net send ()V\nstatic api/Net read ()I\nmethod api/Net push (I)V\n\
     method api/Net find (ILjava/lang/String;)[Ljava/lang/String;\n";
 
+/// The listing that the records are over.
+pub fn listing(alloc: Global) -> Result<Listing, Fail>
+    ensures { IfOk result (λ listing. length listing.methods < 2 ^ 32) }
+{
+    match read(alloc, LISTING) {
+        Ok(listing) => Ok(listing),
+        Err(_) => Err("the listing".into()),
+    }
+}
+
 /// What is read of the text.
-pub fn record_of(alloc: Global, text: &[u8]) -> Result<Result<Record, RecordFault>, Fail> {
-    let Ok(listing) = read(alloc, LISTING) else {
-        return Err("the listing".into());
-    };
-    Ok(read_record(alloc, text, &listing))
+pub fn record_of(alloc: Global, text: &[u8]) -> Result<Record, Fail> {
+    let listing = listing(alloc)?;
+    match read_record(alloc, text, &listing) {
+        Ok(record) => Ok(record),
+        Err(_) => Err("the text is a record".into()),
+    }
+}
+
+/// The line before the end line.
+fn with_end(alloc: Global, line: &str) -> Result<Bytes, NoMemory> {
+    let mut text = Bytes::from_slice(alloc, line.as_bytes())?;
+    text.extend(b"\nend running 0\n")?;
+    Ok(text)
 }
 
 /// The record of one line before the end line.
 pub fn record_with(alloc: Global, line: &str) -> Result<Record, Fail> {
-    let mut text = Bytes::from_slice(alloc, line.as_bytes())?;
-    text.extend(b"\nend running 0\n")?;
-    match record_of(alloc, text.as_slice())? {
-        Ok(record) => Ok(record),
-        Err(_) => Err(line.into()),
-    }
+    let text = with_end(alloc, line)?;
+    record_of(alloc, text.as_slice())
 }

@@ -1,8 +1,7 @@
 //! A part of the Java library: output, texts, files and sockets.
 
-use super::{listing_of, meant};
+use super::{finds, listing_of};
 use api_listing::{Listing, is_known_class};
-use std::alloc::Global;
 use std::process::Abort;
 use std::test::Fail;
 
@@ -39,49 +38,43 @@ static java/net/InetAddress getByName (Ljava/lang/String;)Ljava/net/InetAddress;
 method java/net/Socket <init> (Ljava/lang/String;I)V\n\
 method java/net/Socket getInputStream ()Ljava/io/InputStream;\n";
 
+/// Calls over it, and the method that each means.
+static CALLS: [(&str, &str, &str, Option<u32>); 7] = [
+    ("java/io/PrintStream", "println", "()V", Some(2)),
+    ("java/io/PrintStream", "close", "()V", Some(1)),
+    (
+        "java/lang/StringBuilder",
+        "toString",
+        "()Ljava/lang/String;",
+        Some(7),
+    ),
+    (
+        "java/net/Socket",
+        "toString",
+        "()Ljava/lang/String;",
+        Some(9),
+    ),
+    (
+        "java/io/IOException",
+        "getMessage",
+        "()Ljava/lang/String;",
+        Some(10),
+    ),
+    ("java/net/Socket", "close", "()V", None),
+    ("java/lang/CharSequence", "length", "()I", None),
+];
+
 #[test]
 fn library(rt: HostRuntime) -> Result<(), Fail> {
     let java = listing_of(rt.alloc(), LIBRARY)?;
     has_its_lines(&rt, &java);
-    finds(&rt, rt.alloc(), &java)
+    finds(&rt, rt.alloc(), &java, &CALLS)
 }
 
 fn has_its_lines(rt: &impl Abort, java: &Listing) {
-    assert_eq!(rt; java.classes.len(), 29);
-    assert_eq!(rt; java.methods.len(), 15);
-    assert_eq!(rt; java.fields.len(), 2);
+    assert!(rt; java.classes.len() == 29);
+    assert!(rt; java.methods.len() == 15);
+    assert!(rt; java.fields.len() == 2);
     assert!(rt; is_known_class(java, b"java/net/Socket".as_slice()));
     assert!(rt; !is_known_class(java, b"java/net/ServerSocket".as_slice()));
-}
-
-fn finds(rt: &impl Abort, alloc: Global, java: &Listing) -> Result<(), Fail> {
-    let rows = [
-        ("java/io/PrintStream", "println", "()V", Some(2)),
-        ("java/io/PrintStream", "close", "()V", Some(1)),
-        (
-            "java/lang/StringBuilder",
-            "toString",
-            "()Ljava/lang/String;",
-            Some(7),
-        ),
-        (
-            "java/net/Socket",
-            "toString",
-            "()Ljava/lang/String;",
-            Some(9),
-        ),
-        (
-            "java/io/IOException",
-            "getMessage",
-            "()Ljava/lang/String;",
-            Some(10),
-        ),
-        ("java/net/Socket", "close", "()V", None),
-        ("java/lang/CharSequence", "length", "()I", None),
-    ];
-    for (class, name, desc, index) in rows.iter() {
-        let meant = meant(alloc, java, class, name, desc)?;
-        assert_eq!(rt; meant, *index, "{class} {name} {desc}");
-    }
-    Ok(())
 }

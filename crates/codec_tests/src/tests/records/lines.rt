@@ -3,9 +3,8 @@
 use super::{record_of, record_with};
 use api_listing::{ApiAnswer, ApiValue, Event};
 use guest_model::{Choice, Step};
-use mon_base::{Bytes, List, NoMemory};
+use mon_base::{Bytes, NoMemory};
 use std::alloc::Global;
-use std::process::Abort;
 use std::test::Fail;
 
 /// The bytes, owned.
@@ -13,120 +12,135 @@ pub fn bytes(alloc: Global, text: &[u8]) -> Result<Bytes, NoMemory> {
     Bytes::from_slice(alloc, text)
 }
 
-/// Each kind of answer, with its line.
-pub fn answers(alloc: Global) -> Result<List<(&'static str, ApiAnswer)>, NoMemory> {
-    let mut table = List::new(alloc);
-    table.push(("answer 7 nothing", ApiAnswer::Nothing))?;
-    table.push(("answer 7 int -2147483648", ApiAnswer::Int(-2147483648)))?;
-    table.push(("answer 7 null", ApiAnswer::Null))?;
-    table.push(("answer 7 text -", ApiAnswer::Text(bytes(alloc, b"")?)))?;
-    table.push((
-        "answer 7 text 00af7f",
-        ApiAnswer::Text(bytes(alloc, b"\x00\xaf\x7f")?),
-    ))?;
-    table.push((
-        "answer 7 fresh api/Net",
-        ApiAnswer::Fresh(bytes(alloc, b"api/Net")?),
-    ))?;
-    table.push((
-        "answer 7 fresh java/lang/Object",
-        ApiAnswer::Fresh(bytes(alloc, b"java/lang/Object")?),
-    ))?;
-    table.push(("answer 7 arg 4294967295", ApiAnswer::Arg(4294967295)))?;
-    table.push(("answer 7 receiver", ApiAnswer::Receiver))?;
-    table.push((
-        "answer 7 throws api/Broken",
-        ApiAnswer::Throws(bytes(alloc, b"api/Broken")?),
-    ))?;
-    Ok(table)
+/// The line of each kind of answer.
+pub static ANSWERS: [&str; 10] = [
+    "answer 7 nothing",
+    "answer 7 int -2147483648",
+    "answer 7 null",
+    "answer 7 text -",
+    "answer 7 text 00af7f",
+    "answer 7 fresh api/Net",
+    "answer 7 fresh java/lang/Object",
+    "answer 7 arg 4294967295",
+    "answer 7 receiver",
+    "answer 7 throws api/Broken",
+];
+
+fn text_answer(alloc: Global, text: &[u8]) -> Result<ApiAnswer, NoMemory> {
+    Ok(ApiAnswer::Text(bytes(alloc, text)?))
+}
+
+fn fresh_answer(alloc: Global, class: &[u8]) -> Result<ApiAnswer, NoMemory> {
+    Ok(ApiAnswer::Fresh(bytes(alloc, class)?))
+}
+
+/// The answer of the line in this place.
+pub fn answer(alloc: Global, place: usize) -> Result<ApiAnswer, NoMemory> {
+    match place {
+        0 => Ok(ApiAnswer::Nothing),
+        1 => Ok(ApiAnswer::Int(-2147483648)),
+        2 => Ok(ApiAnswer::Null),
+        3 => text_answer(alloc, b""),
+        4 => text_answer(alloc, b"\x00\xaf\x7f"),
+        5 => fresh_answer(alloc, b"api/Net"),
+        6 => fresh_answer(alloc, b"java/lang/Object"),
+        7 => Ok(ApiAnswer::Arg(4294967295)),
+        8 => Ok(ApiAnswer::Receiver),
+        _ => Ok(ApiAnswer::Throws(bytes(alloc, b"api/Broken")?)),
+    }
+}
+
+/// Whether the line is read as a step with this answer, and no event.
+fn is_read_as(alloc: Global, line: &str, answer: &ApiAnswer) -> Result<bool, Fail> {
+    let record = record_with(alloc, line)?;
+    Ok(record.events.is_empty() && is_answer(record.steps.as_slice(), answer))
 }
 
 #[test]
 fn answers_are_steps(rt: HostRuntime) -> Result<(), Fail> {
-    let table = answers(rt.alloc())?;
-    for (line, answer) in table.as_slice() {
-        let record = record_with(rt.alloc(), line)?;
-        assert!(&rt; record.events.is_empty());
-        is_answer(&rt, record.steps.as_slice(), answer)?;
+    for (place, line) in ANSWERS.iter().enumerate() {
+        let answer = answer(rt.alloc(), place)?;
+        assert!(&rt; is_read_as(rt.alloc(), line, &answer)?, "{line}");
     }
     Ok(())
 }
 
-/// The one step is this answer of the thread 7.
-fn is_answer(rt: &impl Abort, steps: &[Step], answer: &ApiAnswer) -> Result<(), Fail> {
+/// Whether the one step is this answer of the thread 7.
+fn is_answer(steps: &[Step], answer: &ApiAnswer) -> bool {
     let [step] = steps else {
-        return Err("one step".into());
+        return false;
     };
-    assert_eq!(rt; step.thread, 7);
     match &step.choice {
-        Choice::Answer(read) => assert!(rt; read == answer),
-        Choice::Plain => return Err("an answer".into()),
+        Choice::Answer(read) => step.thread == 7 && read == answer,
+        Choice::Plain => false,
     }
-    Ok(())
 }
 
-fn values(alloc: Global) -> Result<List<(&'static str, ApiValue)>, NoMemory> {
-    let mut table = List::new(alloc);
-    table.push((
-        "return 0 api/Net read ()I 2147483647",
-        ApiValue::Int(2147483647),
-    ))?;
-    table.push(("return 0 api/Net read ()I -1", ApiValue::Int(-1)))?;
-    table.push(("return 0 api/Net read ()I null", ApiValue::Null))?;
-    table.push((
-        "return 0 api/Net read ()I text:-",
-        ApiValue::Text(bytes(alloc, b"")?),
-    ))?;
-    table.push((
-        "return 0 api/Net read ()I text:0a40",
-        ApiValue::Text(bytes(alloc, b"\n@")?),
-    ))?;
-    table.push((
-        "return 0 api/Net read ()I obj:[La/B;@12",
-        ApiValue::Obj {
-            class: bytes(alloc, b"[La/B;")?,
-            at: 12,
-        },
-    ))?;
-    table.push((
-        "return 0 api/Net read ()I obj:a@7@0",
-        ApiValue::Obj {
-            class: bytes(alloc, b"a@7")?,
-            at: 0,
-        },
-    ))?;
-    table.push((
-        "return 0 api/Net read ()I class:a/B",
-        ApiValue::Class(bytes(alloc, b"a/B")?),
-    ))?;
-    Ok(table)
+/// The line of each form of value.
+static VALUES: [&str; 8] = [
+    "return 0 api/Net read ()I 2147483647",
+    "return 0 api/Net read ()I -1",
+    "return 0 api/Net read ()I null",
+    "return 0 api/Net read ()I text:-",
+    "return 0 api/Net read ()I text:0a40",
+    "return 0 api/Net read ()I obj:[La/B;@12",
+    "return 0 api/Net read ()I obj:a@7@0",
+    "return 0 api/Net read ()I class:a/B",
+];
+
+fn text_value(alloc: Global, text: &[u8]) -> Result<ApiValue, NoMemory> {
+    Ok(ApiValue::Text(bytes(alloc, text)?))
+}
+
+fn object(alloc: Global, class: &[u8], at: u32) -> Result<ApiValue, NoMemory> {
+    Ok(ApiValue::Obj {
+        class: bytes(alloc, class)?,
+        at,
+    })
+}
+
+/// The value of the line in this place.
+fn value(alloc: Global, place: usize) -> Result<ApiValue, NoMemory> {
+    match place {
+        0 => Ok(ApiValue::Int(2147483647)),
+        1 => Ok(ApiValue::Int(-1)),
+        2 => Ok(ApiValue::Null),
+        3 => text_value(alloc, b""),
+        4 => text_value(alloc, b"\n@"),
+        5 => object(alloc, b"[La/B;", 12),
+        6 => object(alloc, b"a@7", 0),
+        _ => Ok(ApiValue::Class(bytes(alloc, b"a/B")?)),
+    }
+}
+
+/// Whether the line is read as the return of this value.
+fn gives(alloc: Global, line: &str, value: &ApiValue) -> Result<bool, Fail> {
+    let record = record_with(alloc, line)?;
+    Ok(is_return(record.events.as_slice(), value))
 }
 
 #[test]
 fn values_of_each_form(rt: HostRuntime) -> Result<(), Fail> {
-    let table = values(rt.alloc())?;
-    for (line, value) in table.as_slice() {
-        let record = record_with(rt.alloc(), line)?;
-        is_return(&rt, record.events.as_slice(), value)?;
+    for (place, line) in VALUES.iter().enumerate() {
+        let value = value(rt.alloc(), place)?;
+        assert!(&rt; gives(rt.alloc(), line, &value)?, "{line}");
     }
     Ok(())
 }
 
-/// The one event is the return of this value from the second method.
-fn is_return(rt: &impl Abort, events: &[Event], value: &ApiValue) -> Result<(), Fail> {
-    let [
+/// Whether the one event is the return of this value from the second method.
+fn is_return(events: &[Event], value: &ApiValue) -> bool {
+    let [event] = events else {
+        return false;
+    };
+    match event {
         Event::Return {
             thread,
             method,
             value: Some(read),
-        },
-    ] = events
-    else {
-        return Err("a return with a value".into());
-    };
-    assert_eq!(rt; (*thread, *method), (0, 1));
-    assert!(rt; read == value);
-    Ok(())
+        } => *thread == 0 && *method == 1 && read == value,
+        _ => false,
+    }
 }
 
 #[test]
@@ -136,58 +150,65 @@ fn a_whole_run(rt: HostRuntime) -> Result<(), Fail> {
         answer 0 null\nreturn 0 api/Net find (ILjava/lang/String;)[Ljava/lang/String; null\n\
         go 1 1\ncall 1 api/Net send ()V\nreturn 1 api/Net send ()V\nexcept 4294967295 api/Net push (I)V\n\
         end stopped -77 9223372036854775807\n";
-    let Ok(record) = record_of(rt.alloc(), text)? else {
-        return Err("the record".into());
-    };
-    are_the_steps(&rt, record.steps.as_slice())?;
-    are_the_events(&rt, record.events.as_slice())
+    let record = record_of(rt.alloc(), text)?;
+    assert!(&rt; are_the_steps(record.steps.as_slice()));
+    assert!(&rt; are_the_events(record.events.as_slice()));
+    Ok(())
 }
 
-fn are_the_steps(rt: &impl Abort, steps: &[Step]) -> Result<(), Fail> {
+/// A step of the thread 0 with no answer.
+fn goes_on_first(step: &Step) -> bool {
+    step.thread == 0 && matches!(step.choice, Choice::Plain)
+}
+
+/// Whether the steps are those of the run.
+fn are_the_steps(steps: &[Step]) -> bool {
     let [first, second, third, fourth] = steps else {
-        return Err("four steps".into());
+        return false;
     };
-    let all_plain = matches!(first.choice, Choice::Plain) && matches!(second.choice, Choice::Plain);
-    assert!(rt; all_plain);
-    assert_eq!(rt; (first.thread, second.thread), (0, 0));
-    assert!(rt; matches!(third.choice, Choice::Answer(ApiAnswer::Null)));
-    assert!(rt; fourth.thread == 1 && matches!(fourth.choice, Choice::Plain));
-    Ok(())
+    goes_on_first(first)
+        && goes_on_first(second)
+        && matches!(third.choice, Choice::Answer(ApiAnswer::Null))
+        && fourth.thread == 1
+        && matches!(fourth.choice, Choice::Plain)
 }
 
-fn are_the_events(rt: &impl Abort, events: &[Event]) -> Result<(), Fail> {
+/// Whether the events are those of the run.
+fn are_the_events(events: &[Event]) -> bool {
     let [call, back, _, _, thrown] = events else {
-        return Err("five events".into());
+        return false;
     };
-    let Event::Call { method, args, .. } = call else {
-        return Err("a call".into());
-    };
-    assert_eq!(rt; (*method, args.len()), (3, 3));
-    let is_null_again = matches!(
-        back,
+    is_the_call(call) && is_null(back) && is_thrown(thrown)
+}
+
+fn is_the_call(event: &Event) -> bool {
+    match event {
+        Event::Call { method, args, .. } => *method == 3 && args.len() == 3,
+        _ => false,
+    }
+}
+
+fn is_null(event: &Event) -> bool {
+    match event {
         Event::Return {
-            thread: 0,
-            method: 3,
+            thread,
+            method,
             value: Some(ApiValue::Null),
-        }
-    );
-    assert!(rt; is_null_again);
-    let is_thrown = matches!(
-        thrown,
-        Event::Except {
-            thread: 4294967295,
-            method: 2,
-        }
-    );
-    assert!(rt; is_thrown);
-    Ok(())
+        } => *thread == 0 && *method == 3,
+        _ => false,
+    }
+}
+
+fn is_thrown(event: &Event) -> bool {
+    match event {
+        Event::Except { thread, method } => *thread == 4294967295 && *method == 2,
+        _ => false,
+    }
 }
 
 #[test]
 fn a_million_steps(rt: HostRuntime) -> Result<(), Fail> {
-    let Ok(record) = record_of(rt.alloc(), b"go 0 999999\nanswer 1 nothing\nend budget 3\n")? else {
-        return Err("the record".into());
-    };
-    assert_eq!(&rt; record.steps.len(), 1000000);
+    let record = record_of(rt.alloc(), b"go 0 999999\nanswer 1 nothing\nend budget 3\n")?;
+    assert!(&rt; record.steps.len() == 1000000);
     Ok(())
 }
