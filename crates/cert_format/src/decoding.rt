@@ -1,10 +1,10 @@
 //! Reading certificates.
 
-ghost use Rattle.std.specs.Prelude.{◌≡◌, Ok, Err, IfOk};
+ghost use Rattle.std.specs.Prelude.{◌≡◌, [], Ok, Err, IfOk};
 ghost use Rattle.cert_format.specs.declared.certificate.Certificate.{Certificate};
 ghost use Rattle.cert_format.specs.Fits as fits;
 ghost use Rattle.cert_format.specs.Fits.{SpellsCertificate};
-ghost use Rattle.mon_base.specs.Answer.{Reads, Answers};
+ghost use Rattle.mon_base.specs.Answer.{Reads, ReadsAs, Answers};
 ghost use Rattle.cert_format.specs.Reading.{Uses, reference_at, type_of_kind, told_type, types_at, locals_at};
 ghost use Rattle.cert_format.specs.Reading.{frame_at, not_reached_at, reached_at, instruction_at, several_at, as_lists};
 ghost use Rattle.cert_format.specs.Reading.{told_method, told_class, classes_at, head_at, body_at, certificate_at, certificate_of};
@@ -180,6 +180,29 @@ fn instruction(
     }
 }
 
+/// Reads the frames and the notes of that many instructions onto the lists, which have none.
+fn fill(
+    frames: &mut List<Option<FrameType>>,
+    notes: &mut List<Note>,
+    alloc: Global,
+    table: &Table,
+    count: u32,
+    used: &mut usize,
+    from: &mut Cursor,
+) -> Result<(), CertForm>
+    requires frames { frames.old ≡ [] }
+    requires notes { notes.old ≡ [] }
+    ensures { ReadsAs CertForm.Memory (λ _. ((frames.new, notes.new), used.new)) result
+        (as_lists (several_at (instruction_at table.now.vars table.now.names.now) count used.old from.old)) from.new }
+{
+    for _ in 0..count {
+        let (frame, note) = instruction(alloc, table, used, from)?;
+        push_frame(frames, frame)?;
+        notes.push(note)?;
+    }
+    Ok(())
+}
+
 /// The frames and the notes of that many instructions.
 fn instructions(
     alloc: Global,
@@ -194,11 +217,7 @@ fn instructions(
     let room = room_for(count);
     let mut frames = List::with_room(alloc, room)?;
     let mut notes = List::with_room(alloc, room)?;
-    for _ in 0..count {
-        let (frame, note) = instruction(alloc, table, used, from)?;
-        push_frame(&mut frames, frame)?;
-        notes.push(note)?;
-    }
+    fill(&mut frames, &mut notes, alloc, table, count, used, from)?;
     Ok((frames, notes))
 }
 

@@ -1,6 +1,6 @@
 //! Writing certificates.
 
-ghost use Rattle.std.specs.Prelude.{◌≡◌, ◌≤◌, ◌<◌, ◌++◌, ℕ, List as Items, length, OnOk, IfOk, IfErr};
+ghost use Rattle.std.specs.Prelude.{◌≡◌, ◌≤◌, ◌<◌, ◌++◌, ℕ, List as Items, [], length, OnOk, IfOk, IfErr};
 ghost use Rattle.std.specs.List.{flat_map, zip};
 ghost use Rattle.cert_format.specs.declared.certificate.Certificate.{Certificate};
 ghost use Rattle.cert_format.specs.Names.{with_names, type_names, frame_names, method_names, class_names};
@@ -209,18 +209,33 @@ fn put_head(out: &mut Bytes, mode: Mode) -> Result<(), NoMemory>
     }
 }
 
+/// Appends the certificate, with its table of names.
+fn put_certificate(out: &mut Bytes, index: &Index, cert: &Certificate) -> Result<(), NoMemory>
+    requires { index.now ≡ with_names [] (flat_map class_names cert.now.typing.frames) }
+    ensures { OnOk result (out.new ≡ out.old ++ spell_certificate cert.now) }
+{
+    let frames = cert.typing.frames.as_slice();
+    put_head(out, cert.mode)?;
+    index.put_names(out)?;
+    put_u2(out, frames.len())?;
+    put_all(out, index, frames, cert.notes.as_slice())
+}
+
+/// Appends the certificate.
+fn put_with_names(alloc: Global, out: &mut Bytes, cert: &Certificate) -> Result<(), NoMemory>
+    ensures { OnOk result (out.new ≡ out.old ++ spell_certificate cert.now) }
+{
+    let mut index = Index::new(alloc)?;
+    add_all(cert.typing.frames.as_slice(), &mut index)?;
+    put_certificate(out, &index, cert)
+}
+
 /// The bytes of the certificate, of whatever length.
 fn written(alloc: Global, cert: &Certificate) -> Result<Bytes, NoMemory>
     ensures { IfOk result (λ bytes. bytes ≡ spell_certificate cert.now) }
 {
-    let frames = cert.typing.frames.as_slice();
-    let mut index = Index::new(alloc)?;
-    add_all(frames, &mut index)?;
     let mut out = Bytes::new(alloc);
-    put_head(&mut out, cert.mode)?;
-    index.put_names(&mut out)?;
-    put_u2(&mut out, frames.len())?;
-    put_all(&mut out, &index, frames, cert.notes.as_slice())?;
+    put_with_names(alloc, &mut out, cert)?;
     Ok(out)
 }
 

@@ -1,6 +1,7 @@
 //! Items that use names of the table, one after another.
 
-ghost use Rattle.std.specs.Prelude.{◌≤◌};
+ghost use Rattle.std.specs.Prelude.{◌≡◌, ◌≤◌, []};
+ghost use Rattle.mon_base.specs.Answer.{ReadsAs};
 ghost use Rattle.cert_format.specs.Reading.{Uses, several_at, short_list_at};
 
 use crate::fault::CertForm;
@@ -61,6 +62,26 @@ pub fn room_for(count: u32) -> usize
     (count as usize).min(MOST_ROOM)
 }
 
+/// Reads that many items onto the list, which has none.
+fn fill<T: Item>(
+    items: &mut List<T>,
+    alloc: Global,
+    table: &Table,
+    count: u32,
+    used: &mut usize,
+    from: &mut Cursor,
+) -> Result<(), CertForm>
+    requires { items.old ≡ [] }
+    ensures { ReadsAs CertForm.Memory (λ _. (items.new, used.new)) result
+        (several_at (T.item_at table.now.vars table.now.names.now) count used.old from.old) from.new }
+{
+    for _ in 0..count {
+        let item = T::read(alloc, table, used, from)?;
+        items.push(item)?;
+    }
+    Ok(())
+}
+
 /// That many items. Memory is taken for some before they are read, so for more than there are only where reading fails.
 fn several<T: Item>(
     alloc: Global,
@@ -72,9 +93,6 @@ fn several<T: Item>(
     ensures { Uses result (several_at (T.item_at table.now.vars table.now.names.now) count used.old from.old) used.new from.new }
 {
     let mut items = List::with_room(alloc, room_for(count))?;
-    for _ in 0..count {
-        let item = T::read(alloc, table, used, from)?;
-        items.push(item)?;
-    }
+    fill(&mut items, alloc, table, count, used, from)?;
     Ok(items)
 }

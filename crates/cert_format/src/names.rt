@@ -22,16 +22,31 @@ pub fn read_names(alloc: Global, from: &mut Cursor) -> Result<List<Name>, CertFo
     several_names(alloc, count, from)
 }
 
+/// Reads that many names onto the list. Those that were seen are the ones that stand in it.
+fn fill<'a>(
+    names: &mut List<Name>,
+    seen: &mut BTreeSet<&'a [u8]>,
+    alloc: Global,
+    count: u32,
+    from: &mut Cursor<'a>,
+) -> Result<(), CertForm>
+    requires { HasNames names.old seen.old }
+    ensures { ReadsAs CertForm.Memory (λ _. names.new) result (more_names_at count names.old from.old) from.new }
+{
+    for _ in 0..count {
+        let name = next_name(seen, from)?;
+        names.push(Name::from_slice(alloc, name)?)?;
+    }
+    Ok(())
+}
+
 /// That many names.
 fn several_names(alloc: Global, count: u32, from: &mut Cursor) -> Result<List<Name>, CertForm>
     ensures { Reads CertForm.Memory result (more_names_at count [] from.old) from.new }
 {
     let mut seen = BTreeSet::new(alloc);
     let mut names = List::new(alloc);
-    for _ in 0..count {
-        let name = next_name(&mut seen, from)?;
-        names.push(Name::from_slice(alloc, name)?)?;
-    }
+    fill(&mut names, &mut seen, alloc, count, from)?;
     Ok(names)
 }
 

@@ -6,7 +6,7 @@ ghost use Rattle.mon_base.specs.Widths.{u1};
 ghost use Rattle.cert_format.specs.Spelling.{spell_term, spell_terms, spell_phase, spell_site, spell_note};
 
 use crate::note::{Note, Phase8, Site, Term};
-use crate::writing::{put_flag, put_i4, put_u1, put_u2};
+use crate::writing::{flag, put_i4, put_u1, put_u2};
 use mon_base::{Bytes, NoMemory};
 
 /// Appends a term.
@@ -95,9 +95,7 @@ pub fn put_note(out: &mut Bytes, note: &Note) -> Result<(), NoMemory>
             top,
         } => {
             put_site(out, 3, site)?;
-            put_flag(out, *locked)?;
-            out.push(*loaded)?;
-            put_flag(out, *top)
+            out.extend(&[flag(*locked), *loaded, flag(*top)])
         }
         Note::Owed {
             site,
@@ -106,9 +104,7 @@ pub fn put_note(out: &mut Bytes, note: &Note) -> Result<(), NoMemory>
             top,
         } => {
             put_site(out, 4, site)?;
-            out.push(*stage)?;
-            put_flag(out, *kept)?;
-            put_flag(out, *top)
+            out.extend(&[*stage, flag(*kept), flag(*top)])
         }
         Note::Stop { site, place } => {
             put_site(out, 5, site)?;

@@ -41,9 +41,9 @@ pub fn put_i4(out: &mut Bytes, n: i32) -> Result<(), NoMemory>
     put_u4(out, n.cast_unsigned() as usize)
 }
 
-/// Appends a flag.
-pub fn put_flag(out: &mut Bytes, is: bool) -> Result<(), NoMemory>
-    ensures { OnOk result (out.new ≡ out.old ++ flag is) }
+/// The byte of a flag.
+pub fn flag(is: bool) -> u8
+    ensures { flag is ≡ u1 result }
 {
-    out.push(if is { 1 } else { 0 })
+    if is { 1 } else { 0 }
 }

@@ -1,7 +1,7 @@
 use Rattle.std.proofs.Common.{◌≡◌, ◌-◌, []}
 use Rattle.cert_format.specs.Reading.{instruction_at, several_at}
 use Rattle.cert_format.proofs.Loops.{with_fronts}
-use Rattle.cert_format.proofs.decoding.instructions.Given as goal
+use Rattle.cert_format.proofs.decoding.fill.Given as goal
 
 abbrev pub invariant-loop : goal.invariant-loop
 invariant-loop l =

@@ -2,11 +2,11 @@ use Rattle.std.proofs.Common.{[]}
 use Rattle.std.proofs.lemmas.Result.{err_from_is_err_and}
 use Rattle.cert_format.specs.Reading.{instruction_at, several_at}
 use Rattle.cert_format.proofs.Loops.{with_fronts, both_go_on, both_end, both_done}
-use Rattle.cert_format.proofs.decoding.instructions.Goals as goal
+use Rattle.cert_format.proofs.decoding.fill.Goals as goal
 
 pub returns-in_err-frame : goal.returns-in_err-frame
 returns-in_err-frame c =
-    let p = err_from_is_err_and c.from_residual-in_err-frame.result c.from_residual-in_err-frame.ensures.1 in
+    let p = err_from_is_err_and c.from_residual.result c.from_residual.ensures.1 in
     let item = instruction_at c.args.table.now.vars c.args.table.now.names.now in
     let total = with_fronts [] [] (several_at item c.args.count c.args.used.now c.args.from.now) in
     rw (p.1, p.2) (both_end item c.in_err-frame.field-0.0 c.loop.frames c.loop.notes c.args.count c.loop.counter c.loop.used c.loop.from total

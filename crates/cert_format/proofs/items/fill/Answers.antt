@@ -1,11 +1,11 @@
 use Rattle.std.proofs.lemmas.Result.{err_from_is_err_and}
 use Rattle.cert_format.specs.Reading.{several_at}
 use Rattle.cert_format.proofs.Loops.{goes_on, ends, is_done}
-use Rattle.cert_format.proofs.items.several.Goals as goal
+use Rattle.cert_format.proofs.items.fill.Goals as goal
 
 pub returns-in_err-item : goal.returns-in_err-item
 returns-in_err-item g c =
-    let p = err_from_is_err_and c.from_residual-in_err-item.result c.from_residual-in_err-item.ensures.1 in
+    let p = err_from_is_err_and c.from_residual.result c.from_residual.ensures.1 in
     let item = g.T.Item.item_at c.args.table.now.vars c.args.table.now.names.now in
     let total = several_at item c.args.count c.args.used.now c.args.from.now in
     rw (p.1, p.2) (ends item c.in_err-item.field-0.0 c.loop.items c.args.count c.loop.counter c.loop.used c.loop.from total
