@@ -4,7 +4,7 @@ use crate::{
     DirStore, MemSink, MemStore, OutSink, Output, ReadFault, Sink, SinkFault, Store, StoreFault,
     WriteFault, names_differ, read_file, write_all,
 };
-use mon_base::{Bytes, List};
+use mon_base::{Bytes, List, NoMemory};
 use std::alloc::Global;
 use std::process::Abort;
 use std::test::Fail;
@@ -12,15 +12,29 @@ use std::test::Fail;
 /// Each file's bytes behind its name.
 const FILES: [(&[u8], &[u8]); 2] = [(b"a", b"abc"), (b"long/name", b"0123456789")];
 
+fn push_file(
+    list: &mut List<(Bytes, Bytes)>,
+    alloc: Global,
+    name: &[u8],
+    bytes: &[u8],
+) -> Result<(), NoMemory> {
+    let name = Bytes::from_slice(alloc, name)?;
+    let bytes = Bytes::from_slice(alloc, bytes)?;
+    list.push((name, bytes))
+}
+
 fn files_of(alloc: Global, files: &[(&[u8], &[u8])]) -> Result<List<(Bytes, Bytes)>, Fail> {
     let mut list = List::new(alloc);
     for (name, bytes) in files {
-        list.push((
-            Bytes::from_slice(alloc, name)?,
-            Bytes::from_slice(alloc, bytes)?,
-        ))?;
+        push_file(&mut list, alloc, name, bytes)?;
     }
     Ok(list)
+}
+
+/// Whether these are the files of the store.
+fn has_files(alloc: Global, store: &MemStore, files: &[(&[u8], &[u8])]) -> Result<bool, Fail> {
+    let files = files_of(alloc, files)?;
+    Ok(*store.files() == files)
 }
 
 fn numbers(alloc: Global, fail: &[u64]) -> Result<List<u64>, Fail> {
@@ -37,19 +51,28 @@ const ANSWERS: [Result<u64, StoreFault>; 6] = [
     Err(StoreFault::Absent),
 ];
 
+fn answers_of(
+    store: &mut MemStore,
+    a: &Bytes,
+    b: &Bytes,
+    none: &Bytes,
+) -> [Result<u64, StoreFault>; 6] {
+    let mut buffer = [0u8; 8];
+    [
+        store.size(a),
+        store.read(a, 1, &mut buffer).map(|n| n as u64),
+        store.write(a, b"in its place").map(|_| 0),
+        store.write(b, b"a new").map(|_| 0),
+        store.size(b),
+        store.size(none),
+    ]
+}
+
 fn run(alloc: Global, store: &mut MemStore) -> Result<[Result<u64, StoreFault>; 6], Fail> {
     let a = Bytes::from_slice(alloc, b"a")?;
     let b = Bytes::from_slice(alloc, b"b")?;
     let none = Bytes::from_slice(alloc, b"none")?;
-    let mut buffer = [0u8; 8];
-    Ok([
-        store.size(&a),
-        store.read(&a, 1, &mut buffer).map(|n| n as u64),
-        store.write(&a, b"in its place").map(|_| 0),
-        store.write(&b, b"a new").map(|_| 0),
-        store.size(&b),
-        store.size(&none),
-    ])
+    Ok(answers_of(store, &a, &b, &none))
 }
 
 /// A store of these files that fails at the calls of these numbers.
@@ -64,19 +87,21 @@ fn store_of(alloc: Global, files: &[(&[u8], &[u8])], fail: &[u64]) -> Result<Mem
 
 #[test]
 fn a_store_fails_at_each_call_in_turn(rt: HostRuntime) -> Result<(), Fail> {
-    let alloc = rt.alloc();
     for failing in 0..7u64 {
-        let mut store = store_of(alloc, &FILES, &[failing])?;
-        let answers = run(alloc, &mut store)?;
-        are_the_answers(&rt, &answers, failing);
-        let wanted = files_after(alloc, failing)?;
-        assert!(rt; *store.files() == wanted, "files where {failing} fails");
+        assert!(rt; fails_at(rt.alloc(), failing)?, "where {failing} fails");
     }
     Ok(())
 }
 
-/// Each call answers as where none fails, but the one of this number, and the size of a file that was not written.
-fn are_the_answers(rt: &impl Abort, answers: &[Result<u64, StoreFault>; 6], failing: u64) {
+/// Whether the script gives its answers and leaves its files, the call of this number failing.
+fn fails_at(alloc: Global, failing: u64) -> Result<bool, Fail> {
+    let mut store = store_of(alloc, &FILES, &[failing])?;
+    let answers = run(alloc, &mut store)?;
+    Ok(are_the_answers(&answers, failing) && has_its_files(alloc, &store, failing)?)
+}
+
+/// Whether each call answers as where none fails, but the one of this number, and the size of a file that was not written.
+fn are_the_answers(answers: &[Result<u64, StoreFault>; 6], failing: u64) -> bool {
     for (number, answer) in answers.iter().enumerate() {
         let wanted = if number as u64 == failing {
             Err(StoreFault::Failed)
@@ -85,42 +110,56 @@ fn are_the_answers(rt: &impl Abort, answers: &[Result<u64, StoreFault>; 6], fail
         } else {
             ANSWERS[number]
         };
-        assert_eq!(rt; *answer, wanted, "call {number} where {failing} fails");
+        if *answer != wanted {
+            return false;
+        }
     }
+    true
 }
 
-/// The files that stand then.
-fn files_after(alloc: Global, failing: u64) -> Result<List<(Bytes, Bytes)>, Fail> {
+/// Whether the files of the store are those that stand then.
+fn has_its_files(alloc: Global, store: &MemStore, failing: u64) -> Result<bool, Fail> {
     let written: &[u8] = if failing == 2 {
         b"abc"
     } else {
         b"in its place"
     };
-    let wanted: [(&[u8], &[u8]); 3] = [(b"a", written), FILES[1], (b"b", b"a new")];
+    let files: [(&[u8], &[u8]); 3] = [(b"a", written), FILES[1], (b"b", b"a new")];
     let count = if failing == 3 { 2 } else { 3 };
-    files_of(alloc, &wanted[..count])
+    has_files(alloc, store, &files[..count])
 }
+
+/// A name, a limit, the calls that fail, and how many bytes are read.
+static READS: [(&[u8], u64, &[u64], Result<usize, ReadFault>); 8] = [
+    (b"a", 3, &[], Ok(3)),
+    (b"a", 2, &[], Err(ReadFault::TooLong { len: 3 })),
+    (b"none", 9, &[], Err(ReadFault::Absent)),
+    (b"long", 9000, &[], Ok(9000)),
+    (b"long", 8999, &[], Err(ReadFault::TooLong { len: 9000 })),
+    (b"long", 9000, &[0], Err(ReadFault::Failed)),
+    (b"long", 9000, &[2], Err(ReadFault::Failed)),
+    (b"long", 9000, &[5], Ok(9000)),
+];
 
 #[test]
 fn a_file_is_read_up_to_its_limit(rt: HostRuntime) -> Result<(), Fail> {
-    let alloc = rt.alloc();
-    let long = [7u8; 9000];
-    let table: [(&[u8], u64, &[u64], Result<usize, ReadFault>); 8] = [
-        (b"a", 3, &[], Ok(3)),
-        (b"a", 2, &[], Err(ReadFault::TooLong { len: 3 })),
-        (b"none", 9, &[], Err(ReadFault::Absent)),
-        (b"long", 9000, &[], Ok(9000)),
-        (b"long", 8999, &[], Err(ReadFault::TooLong { len: 9000 })),
-        (b"long", 9000, &[0], Err(ReadFault::Failed)),
-        (b"long", 9000, &[2], Err(ReadFault::Failed)),
-        (b"long", 9000, &[5], Ok(9000)),
-    ];
-    for (name, limit, fail, wanted) in table {
-        let mut store = store_of(alloc, &[(b"a", b"abc"), (b"long", &long)], fail)?;
-        let answer = len_of(alloc, &mut store, name, limit)?;
-        assert_eq!(rt; answer, wanted, "{name:?} with the limit {limit}");
+    for (name, limit, fail, wanted) in &READS {
+        let answer = len_under(rt.alloc(), name, *limit, fail)?;
+        assert!(rt; answer == *wanted, "{name:?} with the limit {limit}");
     }
     Ok(())
+}
+
+/// How many bytes are read of one of two files, in a store that fails at these calls.
+fn len_under(
+    alloc: Global,
+    name: &[u8],
+    limit: u64,
+    fail: &[u64],
+) -> Result<Result<usize, ReadFault>, Fail> {
+    let long = [7u8; 9000];
+    let mut store = store_of(alloc, &[(b"a", b"abc"), (b"long", &long)], fail)?;
+    len_of(alloc, &mut store, name, limit)
 }
 
 /// How many bytes are read of the file under the limit.
@@ -142,13 +181,17 @@ const WRITTEN: [(&[u8], &[u8]); 3] = [(b"a", b"one"), (b"b", b"two"), (b"c", b"t
 
 const BEFORE: [(&[u8], &[u8]); 2] = [(b"b", b"old"), (b"z", b"kept")];
 
+fn output(alloc: Global, name: &[u8], bytes: &[u8]) -> Result<Output, NoMemory> {
+    Ok(Output {
+        name: Bytes::from_slice(alloc, name)?,
+        bytes: Bytes::from_slice(alloc, bytes)?,
+    })
+}
+
 fn outputs_of(alloc: Global, files: &[(&[u8], &[u8])]) -> Result<List<Output>, Fail> {
     let mut list = List::new(alloc);
     for (name, bytes) in files {
-        list.push(Output {
-            name: Bytes::from_slice(alloc, name)?,
-            bytes: Bytes::from_slice(alloc, bytes)?,
-        })?;
+        list.push(output(alloc, name, bytes)?)?;
     }
     Ok(list)
 }
@@ -168,60 +211,106 @@ fn files_are_written_up_to_the_one_that_fails(rt: HostRuntime) -> Result<(), Fai
         ],
     ];
     let outputs = outputs_of(alloc, &WRITTEN)?;
-    for (failing, wanted) in stand.iter().enumerate() {
-        let mut store = store_of(alloc, &BEFORE, &[failing as u64])?;
-        let answer = write_all(alloc, &mut store, outputs.as_slice());
-        names_the_output(&rt, answer, outputs.as_slice().get(failing));
-        let wanted = files_of(alloc, wanted)?;
-        assert!(rt; *store.files() == wanted, "files where {failing} fails");
+    for (failing, files) in stand.iter().enumerate() {
+        let is_so = stand_so(alloc, outputs.as_slice(), failing, files)?;
+        assert!(rt; is_so, "files where {failing} fails");
     }
     Ok(())
 }
 
-/// The answer names this output, or is that all are written.
-fn names_the_output(rt: &impl Abort, answer: Result<(), WriteFault>, output: Option<&Output>) {
-    match (&answer, output) {
-        (Err(WriteFault::Failed(name)), Some(output)) => assert!(rt; *name == output.name),
-        (answer, output) => assert!(rt; answer.is_ok() && output.is_none()),
+/// Whether writing fails at the output of this number, if there is one, and leaves these files.
+fn stand_so(
+    alloc: Global,
+    outputs: &[Output],
+    failing: usize,
+    files: &[(&[u8], &[u8])],
+) -> Result<bool, Fail> {
+    let mut store = store_of(alloc, &BEFORE, &[failing as u64])?;
+    let names = names_the_output(alloc, &mut store, outputs, failing);
+    Ok(names && has_files(alloc, &store, files)?)
+}
+
+/// Whether writing names the output of this number, or tells that all are written where there is none.
+fn names_the_output(
+    alloc: Global,
+    store: &mut MemStore,
+    outputs: &[Output],
+    failing: usize,
+) -> bool {
+    match write_all(alloc, store, outputs) {
+        Ok(()) => failing >= outputs.len(),
+        Err(WriteFault::Failed(name)) => {
+            failing < outputs.len() && name == outputs[failing].name
+        }
+        Err(WriteFault::Memory) => false,
     }
 }
 
 #[test]
 fn a_sink_takes_what_it_does_not_fail_at(rt: HostRuntime) -> Result<(), Fail> {
-    let alloc = rt.alloc();
-    let mut sink = MemSink::new(numbers(alloc, &[1])?);
-    assert_eq!(rt; sink.put(b"one "), Ok(()));
-    assert_eq!(rt; sink.put(b"two "), Err(SinkFault::Failed));
-    assert_eq!(rt; sink.put(b"three"), Ok(()));
-    assert_eq!(rt; sink.text().as_slice(), b"one three".as_slice());
+    let mut sink = MemSink::new(numbers(rt.alloc(), &[1])?);
+    assert!(rt; sink.put(b"one ").is_ok());
+    assert!(rt; sink.put(b"two ") == Err(SinkFault::Failed));
+    assert!(rt; sink.put(b"three").is_ok());
+    assert!(rt; sink.text().as_slice() == b"one three".as_slice());
     Ok(())
 }
 
 #[test]
 fn real_files_are_written_and_read_back(rt: HostRuntime) -> Result<(), Fail> {
-    let alloc = rt.alloc();
     let mut store = DirStore::new(&rt);
+    is_written_anew(&rt, rt.alloc(), &mut store)?;
+    others_fail(&rt, rt.alloc(), &mut store)
+}
+
+/// A file is written twice, and read under two limits.
+fn is_written_anew(rt: &impl Abort, alloc: Global, store: &mut impl Store) -> Result<(), Fail> {
     let name = Bytes::from_slice(alloc, b"out/deep/er/file")?;
-    let folder = Bytes::from_slice(alloc, b"out/deep")?;
-    let none = Bytes::from_slice(alloc, b"out/none")?;
-    let no_text = Bytes::from_slice(alloc, &[0xff])?;
-    assert_eq!(rt; store.write(&name, &[5u8; 5000]), Ok(()));
-    assert_eq!(rt; store.write(&name, b"written anew"), Ok(()));
-    assert_eq!(rt; store.size(&name), Ok(12));
-    let bytes = read_file(alloc, &mut store, &name, 12).map_err(|_| "a fault")?;
-    assert_eq!(rt; bytes.as_slice(), b"written anew".as_slice());
-    assert_eq!(rt;
-        read_file(alloc, &mut store, &name, 11).err(),
-        Some(ReadFault::TooLong { len: 12 })
-    );
-    assert_eq!(rt; store.size(&none), Err(StoreFault::Absent));
-    assert_eq!(rt; store.write(&folder, b"no file"), Err(StoreFault::Failed));
-    assert_eq!(rt; store.size(&no_text), Err(StoreFault::Failed));
+    assert!(rt; store.write(&name, &[5u8; 5000]).is_ok());
+    assert!(rt; store.write(&name, b"written anew").is_ok());
+    assert!(rt; store.size(&name) == Ok(12));
+    assert!(rt; holds(alloc, store, &name, b"written anew"));
+    let fault = read_file(alloc, store, &name, 11).err();
+    assert!(rt; fault == Some(ReadFault::TooLong { len: 12 }));
     Ok(())
+}
+
+/// Whether the file, read under its length, holds these bytes.
+fn holds(alloc: Global, store: &mut impl Store, name: &Bytes, bytes: &[u8]) -> bool {
+    match read_file(alloc, store, name, bytes.len() as u64) {
+        Ok(read) => read.as_slice() == bytes,
+        Err(_) => false,
+    }
+}
+
+/// There is no file of one name, a folder of another, and the last is no text.
+fn others_fail(rt: &impl Abort, alloc: Global, store: &mut impl Store) -> Result<(), Fail> {
+    assert!(rt; size_of(alloc, store, b"out/none")? == Err(StoreFault::Absent));
+    assert!(rt; put(alloc, store, b"out/deep")? == Err(StoreFault::Failed));
+    assert!(rt; size_of(alloc, store, &[0xff])? == Err(StoreFault::Failed));
+    Ok(())
+}
+
+fn size_of(
+    alloc: Global,
+    store: &mut impl Store,
+    name: &[u8],
+) -> Result<Result<u64, StoreFault>, NoMemory> {
+    let name = Bytes::from_slice(alloc, name)?;
+    Ok(store.size(&name))
+}
+
+fn put(
+    alloc: Global,
+    store: &mut impl Store,
+    name: &[u8],
+) -> Result<Result<(), StoreFault>, NoMemory> {
+    let name = Bytes::from_slice(alloc, name)?;
+    Ok(store.write(&name, b"no file"))
 }
 
 #[test]
 fn standard_output_takes_a_text(rt: HostRuntime) {
     let mut sink = OutSink::new(&rt);
-    assert_eq!(rt; sink.put(b"a line\n"), Ok(()));
+    assert!(rt; sink.put(b"a line\n").is_ok());
 }
