@@ -168,16 +168,23 @@ fn put_code(alloc: Global, out: &mut Bytes, code: &Code) -> Result<(), NoMemory>
     put_named(out, code.name, inner.as_slice())
 }
 
+/// Appends what stands in a Code attribute.
+fn put_contents(alloc: Global, out: &mut Bytes, code: &Code) -> Result<(), NoMemory>
+    ensures { OnOk result (out.new ≡ out.old ++ contents code.now) }
+{
+    put_u2(out, code.max_stack as usize)?;
+    put_u2(out, code.max_locals as usize)?;
+    put_block(out, code.code.as_slice())?;
+    put_counted(alloc, out, code.table.as_slice())?;
+    put_counted(alloc, out, code.attrs.as_slice())
+}
+
 /// What stands in a Code attribute, whose length stands before it.
 fn contents_of(alloc: Global, code: &Code) -> Result<Bytes, NoMemory>
     ensures { IfOk result (λ bytes. bytes ≡ contents code.now) }
 {
     let mut out = Bytes::new(alloc);
-    put_u2(&mut out, code.max_stack as usize)?;
-    put_u2(&mut out, code.max_locals as usize)?;
-    put_block(&mut out, code.code.as_slice())?;
-    put_counted(alloc, &mut out, code.table.as_slice())?;
-    put_counted(alloc, &mut out, code.attrs.as_slice())?;
+    put_contents(alloc, &mut out, code)?;
     Ok(out)
 }
 
@@ -224,6 +231,17 @@ fn put_body(alloc: Global, out: &mut Bytes, file: &ClassFile) -> Result<(), NoMe
     put_counted(alloc, out, file.attrs.as_slice())
 }
 
+/// Appends the class file.
+fn put_file(alloc: Global, out: &mut Bytes, file: &ClassFile) -> Result<(), NoMemory>
+    ensures { OnOk result (out.new ≡ out.old ++ spelling file.now) }
+{
+    put_u4(out, 0xCAFE_BABE)?;
+    put_u2(out, file.minor as usize)?;
+    put_u2(out, 49)?;
+    put_counted(alloc, out, file.pool.as_slice())?;
+    put_body(alloc, out, file)
+}
+
 /// The bytes of a class file, from its tree.
 ///
 /// Where a list or a byte string of the tree is longer than its count can tell, the count's lowest bytes are written.
@@ -235,11 +253,7 @@ pub fn encode(alloc: Global, file: &ClassFile) -> Result<Bytes, NoMemory>
     ensures spells { CanSpell file.now → IfOk result (λ bytes. SpellsClass bytes file.now) }
 {
     let mut out = Bytes::new(alloc);
-    put_u4(&mut out, 0xCAFE_BABE)?;
-    put_u2(&mut out, file.minor as usize)?;
-    put_u2(&mut out, 49)?;
-    put_counted(alloc, &mut out, file.pool.as_slice())?;
-    put_body(alloc, &mut out, file)?;
+    put_file(alloc, &mut out, file)?;
     Ok(out)
 }
 

@@ -1,6 +1,6 @@
 //! Items that are counted: two bytes of count, and the items.
 
-ghost use Rattle.std.specs.Prelude.{◌≡◌};
+ghost use Rattle.std.specs.Prelude.{◌≡◌, []};
 ghost use Rattle.mon_base.specs.Reading.{counted};
 ghost use Rattle.mon_base.specs.Answer.{Reads, ReadsAs};
 ghost use Rattle.class_codec.specs.Reading.{counted_at};
@@ -47,6 +47,25 @@ pub fn counted<T: Item>(
     Ok(List::from_vec(items))
 }
 
+/// Reads that many items onto the list, which has none.
+fn fill<T: Item>(
+    items: &mut Vec<T>,
+    alloc: Global,
+    pool: &[Const],
+    of_method: bool,
+    count: u16,
+    from: &mut Cursor,
+) -> Result<(), ClassFault>
+    requires { items.old.items ≡ [] }
+    ensures { ReadsAs ClassFault.Memory (λ _. items.new.items) result (counted (T.item_at pool.now of_method) count from.old) from.new }
+{
+    for _ in 0..count {
+        let item = T::read(alloc, pool, of_method, from)?;
+        items.push(item)?;
+    }
+    Ok(())
+}
+
 /// That many items.
 fn several<T: Item>(
     alloc: Global,
@@ -58,9 +77,6 @@ fn several<T: Item>(
     ensures { ReadsAs ClassFault.Memory (λ v. v.items) result (counted (T.item_at pool.now of_method) count from.old) from.new }
 {
     let mut items = Vec::new(alloc);
-    for _ in 0..count {
-        let item = T::read(alloc, pool, of_method, from)?;
-        items.push(item)?;
-    }
+    fill(&mut items, alloc, pool, of_method, count, from)?;
     Ok(items)
 }

@@ -2,7 +2,7 @@ use Rattle.std.proofs.lemmas.Result.{err_from_is_err_and}
 use Rattle.mon_base.specs.Reading.{counted}
 use Rattle.mon_base.proofs.Loop.{goes_on, ends, is_done}
 use Rattle.class_codec.specs.declared.fault.ClassFault.TheVariants.{Memory}
-use Rattle.class_codec.proofs.items.several.Goals as goal
+use Rattle.class_codec.proofs.items.fill.Goals as goal
 
 pub returns-in_err-item : goal.returns-in_err-item
 returns-in_err-item g c =
