@@ -35,8 +35,8 @@ impl Classes {
     pub fn new(alloc: Global, list: List<ListedClass>) -> Result<Classes, NoMemory>
         ensures { IfOk result (λ classes. classes ≡ list) }
     {
-        let places = class_places(alloc, list.as_slice())?;
         let interfaces = count_interfaces(list.as_slice())?;
+        let places = class_places(alloc, list.as_slice())?;
         Ok(Classes {
             list,
             places,

@@ -13,9 +13,10 @@ ghost use Rattle.bytecode_model.specs.Members.{target_in, members_of, member_dec
 ghost use Rattle.bytecode_model.specs.Members.{listed_from, listed_fields_from, row_declared, rows_from};
 ghost use Rattle.bytecode_model.specs.Members.{methods_declared, fields_declared};
 
+use crate::members::id_of;
 use crate::places::add_name;
 use api_listing::{ListedMethod, Listing, METHODS};
-use bytecode_model::{Found, MemberKind, Target, class_at, copy_text, is_static};
+use bytecode_model::{Found, MemberKind, Target, class_at, is_static, text_at};
 use class_codec::{ClassFile, Const, Member};
 use mon_base::{Bytes, MethodId, NoMemory};
 use std::alloc::Global;
@@ -33,10 +34,26 @@ pub fn methods_of(
     ensures { IfOk result (AreFirst (methods_declared files.now listing.now)) }
 {
     let mut found = BTreeMap::new(alloc);
-    add_files(alloc, &mut found, MemberKind::Method, files)?;
-    add_listed(alloc, &mut found, listing.methods.as_slice())?;
-    add_rows(alloc, &mut found, METHODS.as_slice())?;
+    add_methods(alloc, &mut found, files, listing)?;
     Ok(found)
+}
+
+/// Adds the methods of the files, the listed and the built-in ones.
+fn add_methods(
+    alloc: Global,
+    found: &mut BTreeMap<MethodId, Found>,
+    files: &[ClassFile],
+    listing: &Listing,
+) -> Result<(), NoMemory>
+    requires count { length files.now ≤ 1001 }
+    requires fits { AllByRecursion CanSpell files.now }
+    requires listed { length listing.now.methods ≤ 20000 }
+    ensures { OnOk result (Notes (methods_declared files.now listing.now) found.old found.new) }
+{
+    add_files(alloc, found, MemberKind::Method, files)?;
+    add_listed(alloc, found, listing.methods.as_slice())?;
+    add_rows(alloc, found, METHODS.as_slice())?;
+    Ok(())
 }
 
 /// The same of fields.
@@ -51,9 +68,25 @@ pub fn fields_of(
     ensures { IfOk result (AreFirst (fields_declared files.now listing.now)) }
 {
     let mut found = BTreeMap::new(alloc);
-    add_files(alloc, &mut found, MemberKind::Field, files)?;
-    add_listed_fields(alloc, &mut found, listing.fields.as_slice())?;
+    add_fields(alloc, &mut found, files, listing)?;
     Ok(found)
+}
+
+/// Adds the fields of the files and the listed ones.
+fn add_fields(
+    alloc: Global,
+    found: &mut BTreeMap<MethodId, Found>,
+    files: &[ClassFile],
+    listing: &Listing,
+) -> Result<(), NoMemory>
+    requires count { length files.now ≤ 1001 }
+    requires fits { AllByRecursion CanSpell files.now }
+    requires listed { length listing.now.fields ≤ 20000 }
+    ensures { OnOk result (Notes (fields_declared files.now listing.now) found.old found.new) }
+{
+    add_files(alloc, found, MemberKind::Field, files)?;
+    add_listed_fields(alloc, found, listing.fields.as_slice())?;
+    Ok(())
 }
 
 /// Adds a declaration, if its name is new.
@@ -65,9 +98,10 @@ fn add_first(
 ) -> Result<(), NoMemory>
     ensures { OnOk result (Notes ((id, first) ∷ []) found.old found.new) }
 {
-    if !found.contains_key(&id) {
-        found.insert(id, first)?;
+    if found.contains_key(&id) {
+        return Ok(());
     }
+    found.insert(id, first)?;
     Ok(())
 }
 
@@ -151,11 +185,8 @@ fn add_member(
 ) -> Result<(), NoMemory>
     ensures { OnOk result (Notes (member_declared kind name.now pool.now class index member.now ∷ []) found.old found.new) }
 {
-    let id = MethodId {
-        class: Bytes::from_slice(alloc, name)?,
-        name: copy_text(alloc, pool, member.name)?,
-        desc: copy_text(alloc, pool, member.desc)?,
-    };
+    let desc = text_at(pool, member.desc);
+    let id = id_of(alloc, name, text_at(pool, member.name), desc)?;
     let first = Found {
         target: target_in(kind, class, index),
         is_static: is_static(member.flags),
@@ -174,11 +205,12 @@ fn add_listed(
     let mut index: u32 = 0;
     let mut left = methods;
     while let [method, rest @ ..] = left {
+        let id = method.id.copy(alloc)?;
         let first = Found {
             target: Target::ApiMethod(index),
             is_static: method.is_static,
         };
-        add_first(alloc, found, method.id.copy(alloc)?, first)?;
+        add_first(alloc, found, id, first)?;
         index += 1;
         left = rest;
     }
@@ -196,11 +228,12 @@ fn add_listed_fields(
     let mut index: u32 = 0;
     let mut left = fields;
     while let [id, rest @ ..] = left {
+        let id = id.copy(alloc)?;
         let first = Found {
             target: Target::ApiField(index),
             is_static: true,
         };
-        add_first(alloc, found, id.copy(alloc)?, first)?;
+        add_first(alloc, found, id, first)?;
         index += 1;
         left = rest;
     }
@@ -233,11 +266,7 @@ fn add_row(
 ) -> Result<(), NoMemory>
     ensures { OnOk result (Notes (row_declared index (row.now.0.now, row.now.1.now, row.now.2.now, row.now.3) ∷ []) found.old found.new) }
 {
-    let id = MethodId {
-        class: Bytes::from_slice(alloc, row.0.as_bytes())?,
-        name: Bytes::from_slice(alloc, row.1.as_bytes())?,
-        desc: Bytes::from_slice(alloc, row.2.as_bytes())?,
-    };
+    let id = id_of(alloc, row.0.as_bytes(), row.1.as_bytes(), row.2.as_bytes())?;
     let first = Found {
         target: Target::Builtin(index),
         is_static: row.3,

@@ -1,6 +1,6 @@
 //! What class files say of their classes.
 
-ghost use Rattle.std.specs.Prelude.{◌≡◌, ◌++◌, IfOk};
+ghost use Rattle.std.specs.Prelude.{◌≡◌, ◌++◌, IfOk, OnOk};
 ghost use Rattle.bytecode_model.specs.Heads.{heads_of};
 
 use api_listing::ListedClass;
@@ -14,10 +14,22 @@ pub fn heads_of(alloc: Global, files: &[ClassFile]) -> Result<List<ListedClass>,
     ensures { IfOk result (λ heads. heads ≡ heads_of files.now) }
 {
     let mut heads = List::new(alloc);
+    add_heads(alloc, &mut heads, files)?;
+    Ok(heads)
+}
+
+/// Adds what each class file says of its class.
+fn add_heads(
+    alloc: Global,
+    heads: &mut List<ListedClass>,
+    files: &[ClassFile],
+) -> Result<(), NoMemory>
+    ensures { OnOk result (heads.new ≡ heads.old ++ heads_of files.now) }
+{
     for file in files {
         heads.push(head_of(alloc, file)?)?;
     }
-    Ok(heads)
+    Ok(())
 }
 
 /// The classes, and then the others.
@@ -29,8 +41,20 @@ pub fn copy_both(
     ensures { IfOk result (λ all. all ≡ classes.now ++ others.now) }
 {
     let mut all = copy_classes(alloc, classes)?;
-    for class in others {
-        all.push(class.copy(alloc)?)?;
-    }
+    add_classes(alloc, &mut all, others)?;
     Ok(all)
+}
+
+/// Adds the others behind the classes.
+fn add_classes(
+    alloc: Global,
+    classes: &mut List<ListedClass>,
+    others: &[ListedClass],
+) -> Result<(), NoMemory>
+    ensures { OnOk result (classes.new ≡ classes.old ++ others.now) }
+{
+    for class in others {
+        classes.push(class.copy(alloc)?)?;
+    }
+    Ok(())
 }

@@ -1,16 +1,20 @@
 //! What files and a listing declare, in maps that are made once.
 
-ghost use Rattle.std.specs.Prelude.{◌≡◌, ◌≤◌, ◌&&◌, ◌++◌, ◌∷◌, [], not, length, IfOk, OnOk};
+ghost use Rattle.std.specs.Prelude.{◌≡◌, ◌≤◌, ◌&&◌, ◌++◌, ◌∷◌, [], ℕ, List, not, length, IfOk, OnOk};
 ghost use Rattle.std.specs.List.{AllByRecursion, filter};
+ghost use Rattle.mon_base.specs.declared.method.MethodId.{MethodId};
 ghost use Rattle.class_codec.specs.Fits.{CanSpell};
-ghost use Rattle.api_listing.specs.Listing.{IsFew};
+ghost use Rattle.api_listing.specs.Listing.{has_method, IsFew};
+ghost use Rattle.api_listing.specs.Seen.{has_id, has_name};
 ghost use Rattle.bytecode_model.specs.Heads.{heads_of, all_classes};
 ghost use Rattle.bytecode_model.specs.SearchOrder.{search_order};
-ghost use Rattle.bytecode_model.specs.Members.{method_of, field_of};
+ghost use Rattle.bytecode_model.specs.Members.{field_of, fields_declared, method_of, methods_declared};
 ghost use Rattle.bytecode_model.specs.Conditions.{is_of_library, is_run};
 ghost use Rattle.api_listing.specs.BuiltIn.{is_built_in};
 ghost use Rattle.bytecode_model.specs.Operands.{known_in, literals_of, place_of};
-ghost use Rattle.class_index.specs.Library.{OverridesAs};
+ghost use Rattle.class_index.specs.Index.{found_in, AreFirst};
+ghost use Rattle.class_index.specs.Library.{is_owner, AreShared, OverridesAs};
+ghost use Rattle.class_index.specs.Nearest.{AreVersions};
 
 use crate::classes::Classes;
 use crate::declared::{fields_of, listed_methods, methods_of, owners_of};
@@ -19,7 +23,7 @@ use crate::library::{Shared, owners_above, shared_of};
 use crate::literals::Literals;
 use crate::members::member_of;
 use crate::nearest::{Nearest, nearest_of};
-use api_listing::{ListedClass, Listing, is_built_in};
+use api_listing::{ListedClass, ListedMethod, Listing, is_built_in};
 use bytecode_model::{Found, MemberKind, is_text};
 use class_codec::ClassFile;
 use mon_base::{Bytes, List, MethodId, NoMemory};
@@ -34,14 +38,26 @@ pub struct Index<'a> {
     files: &'a [ClassFile],
     listing: &'a Listing,
     classes: Classes,
+    members: Members,
+    library: Library,
+    literals: Literals,
+}
+
+/// What is declared, and which class declares it nearest.
+#[derive(Drop)]
+struct Members {
     methods: BTreeMap<MethodId, Found>,
     fields: BTreeMap<MethodId, Found>,
     near_methods: Nearest,
     near_fields: Nearest,
-    library: BTreeSet<MethodId>,
+}
+
+/// What the library has.
+#[derive(Drop)]
+struct Library {
+    methods: BTreeSet<MethodId>,
     owners: BTreeSet<Bytes>,
     shared: Shared,
-    literals: Literals,
 }
 
 impl<'a> Model for Index<'a> {
@@ -51,8 +67,8 @@ impl<'a> Model for Index<'a> {
 
     ghost view = { λ i. record { files = i.files.now; listing = i.listing.now } };
 
-    ghost invariant = { λ i. IsIndex i.files.now i.listing.now i.classes i.methods i.fields
-        i.near_methods i.near_fields i.library i.owners i.shared i.literals };
+    ghost invariant = { λ i. IsIndex i.files.now i.listing.now i.classes i.members.methods i.members.fields
+        i.members.near_methods i.members.near_fields i.library.methods i.library.owners i.library.shared i.literals };
 }
 
 impl<'a> Index<'a> {
@@ -71,25 +87,15 @@ impl<'a> Index<'a> {
     {
         let all = copy_both(alloc, listing.classes.as_slice(), heads)?;
         let classes = Classes::new(alloc, all)?;
-        let methods = methods_of(alloc, files, listing)?;
-        let fields = fields_of(alloc, files, listing)?;
-        let near_methods = nearest_of(alloc, &classes, &methods, MemberKind::Method, files)?;
-        let near_fields = nearest_of(alloc, &classes, &fields, MemberKind::Field, files)?;
-        let library = listed_methods(alloc, listing.methods.as_slice())?;
-        let owners = owners_of(alloc, listing.methods.as_slice())?;
-        let shared = shared_of(alloc, &classes, &owners, heads)?;
+        let members = members_of(alloc, &classes, files, listing)?;
+        let library = library_of(alloc, &classes, heads, listing.methods.as_slice())?;
         let literals = Literals::new(alloc, files)?;
         Ok(Index {
             files,
             listing,
             classes,
-            methods,
-            fields,
-            near_methods,
-            near_fields,
+            members,
             library,
-            owners,
-            shared,
             literals,
         })
     }
@@ -106,7 +112,13 @@ impl<'a> Index<'a> {
         ensures { IfOk result (λ above.
             OverridesAs self.now.listing above (search_order (all_classes self.now.listing self.now.files) name.now)) }
     {
-        let above = owners_above(alloc, &self.classes, &self.owners, &self.shared, name)?;
+        let above = owners_above(
+            alloc,
+            &self.classes,
+            &self.library.owners,
+            &self.library.shared,
+            name,
+        )?;
         Ok(above)
     }
 
@@ -114,7 +126,14 @@ impl<'a> Index<'a> {
     pub fn method_of(&self, alloc: Global, id: &MethodId) -> Result<Option<Found>, NoMemory>
         ensures { IfOk result (λ found. found ≡ method_of self.now.files self.now.listing id.now) }
     {
-        let found = member_of(alloc, &self.classes, &self.methods, &self.near_methods, id)?;
+        let members = &self.members;
+        let found = member_of(
+            alloc,
+            &self.classes,
+            &members.methods,
+            &members.near_methods,
+            id,
+        )?;
         Ok(found)
     }
 
@@ -122,7 +141,14 @@ impl<'a> Index<'a> {
     pub fn field_of(&self, alloc: Global, id: &MethodId) -> Result<Option<Found>, NoMemory>
         ensures { IfOk result (λ found. found ≡ field_of self.now.files self.now.listing id.now) }
     {
-        let found = member_of(alloc, &self.classes, &self.fields, &self.near_fields, id)?;
+        let members = &self.members;
+        let found = member_of(
+            alloc,
+            &self.classes,
+            &members.fields,
+            &members.near_fields,
+            id,
+        )?;
         Ok(found)
     }
 
@@ -130,7 +156,7 @@ impl<'a> Index<'a> {
     pub fn is_of_library(&self, id: &MethodId) -> bool
         ensures { result ≡ is_of_library self.now.listing id.now }
     {
-        self.library.contains(id) || is_built_in_but_run(id)
+        self.library.methods.contains(id) || is_built_in_but_run(id)
     }
 
     /// The place of a text among the literals. No memory holds more texts than a number of 32 bits counts.
@@ -148,9 +174,66 @@ impl<'a> Index<'a> {
     pub fn into_literals(self) -> List<Bytes>
         ensures { result ≡ literals_of self.entry.files }
     {
-        let Index { literals, .. } = self;
+        let Index {
+            files,
+            listing,
+            classes,
+            members,
+            library,
+            literals,
+        } = self;
         literals.into_list()
     }
+}
+
+/// What the files and the listing declare.
+fn members_of(
+    alloc: Global,
+    classes: &Classes,
+    files: &[ClassFile],
+    listing: &Listing,
+) -> Result<Members, NoMemory>
+    requires count { length files.now ≤ 1001 }
+    requires fits { AllByRecursion CanSpell files.now }
+    requires listed { IsFew listing.now }
+    ensures methods { IfOk result (λ members. AreFirst (methods_declared files.now listing.now) members.methods) }
+    ensures fields { IfOk result (λ members. AreFirst (fields_declared files.now listing.now) members.fields) }
+    ensures near_methods { IfOk result (λ members.
+        AreVersions (found_in members.methods) members.near_methods.numbers classes.now members.near_methods.versions) }
+    ensures near_fields { IfOk result (λ members.
+        AreVersions (found_in members.fields) members.near_fields.numbers classes.now members.near_fields.versions) }
+{
+    let methods = methods_of(alloc, files, listing)?;
+    let fields = fields_of(alloc, files, listing)?;
+    let near_methods = nearest_of(alloc, classes, &methods, MemberKind::Method, files)?;
+    let near_fields = nearest_of(alloc, classes, &fields, MemberKind::Field, files)?;
+    Ok(Members {
+        methods,
+        fields,
+        near_methods,
+        near_fields,
+    })
+}
+
+/// What the listing gives the library, and which classes above given ones may have of it.
+fn library_of(
+    alloc: Global,
+    classes: &Classes,
+    given: &[ListedClass],
+    listed: &[ListedMethod],
+) -> Result<Library, NoMemory>
+    ensures methods { IfOk result (λ library. (q : MethodId) → has_id library.methods q ≡ has_method listed.now q) }
+    ensures owners { IfOk result (λ library. (q : List ℕ) → has_name library.owners q ≡ is_owner listed.now q) }
+    ensures shared { IfOk result (λ library. AreShared library.owners classes.now library.shared) }
+{
+    let methods = listed_methods(alloc, listed)?;
+    let owners = owners_of(alloc, listed)?;
+    let shared = shared_of(alloc, classes, &owners, given)?;
+    Ok(Library {
+        methods,
+        owners,
+        shared,
+    })
 }
 
 fn is_built_in_but_run(id: &MethodId) -> bool

@@ -40,15 +40,31 @@ pub fn shared_of(
 ) -> Result<Shared, NoMemory>
     ensures { IfOk result (AreShared owners.now classes.now) }
 {
+    let quiet = quiet_of(alloc, classes, owners, given)?;
     let mut shared = Shared {
         places: BTreeMap::new(alloc),
         lists: List::new(alloc),
-        quiet: quiet_of(alloc, classes, owners, given)?,
+        quiet,
     };
-    for class in given {
-        add_class(alloc, classes, owners, &mut shared, &class.name)?;
-    }
+    add_given(alloc, classes, owners, &mut shared, given)?;
     Ok(shared)
+}
+
+/// Adds which list is that of each of the given classes.
+fn add_given(
+    alloc: Global,
+    classes: &Classes,
+    owners: &BTreeSet<Bytes>,
+    shared: &mut Shared,
+    given: &[ListedClass],
+) -> Result<(), NoMemory>
+    requires { AreShared owners.now classes.now shared.old }
+    ensures { OnOk result (AreShared owners.now classes.now shared.new) }
+{
+    for class in given {
+        add_class(alloc, classes, owners, shared, &class.name)?;
+    }
+    Ok(())
 }
 
 /// Adds which list is that of the class, and of those up to the first that is known or is no mere step.
@@ -149,9 +165,22 @@ fn above_of(
         place: shared.lists.len(),
         height: order.len(),
     };
-    let names = owners_among(alloc, owners, order.as_slice())?;
-    shared.lists.push(names)?;
+    add_list(alloc, owners, &mut shared.lists, order.as_slice())?;
     Ok(Some(above))
+}
+
+/// Adds the list of those of the classes that may have methods of the library.
+fn add_list(
+    alloc: Global,
+    owners: &BTreeSet<Bytes>,
+    lists: &mut List<List<Bytes>>,
+    order: &[Bytes],
+) -> Result<(), NoMemory>
+    ensures { OnOk result (lists.new ≡ lists.old ++ filter (may_own owners.now) order.now ∷ []) }
+{
+    let names = owners_among(alloc, owners, order)?;
+    lists.push(names)?;
+    Ok(())
 }
 
 /// Notes that list for the class, and for those so many steps up.

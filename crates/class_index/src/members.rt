@@ -44,9 +44,7 @@ fn first_found(
 {
     let mut left = order;
     while let [class, rest @ ..] = left {
-        let id = in_class(alloc, id, class)?;
-        if let Some(found) = declared.get(&id) {
-            let found = found.copy(alloc)?;
+        if let Some(found) = found_at(alloc, declared, id, class)? {
             return Ok(Some(found));
         }
         left = rest;
@@ -54,13 +52,36 @@ fn first_found(
     Ok(None)
 }
 
+/// What the class declares under the same name and descriptor.
+pub fn found_at(
+    alloc: Global,
+    declared: &BTreeMap<MethodId, Found>,
+    id: &MethodId,
+    class: &Bytes,
+) -> Result<Option<Found>, NoMemory>
+    ensures { IfOk result (λ found. found ≡ found_in declared.now (in_class id.now class.now)) }
+{
+    let id = in_class(alloc, id, class)?;
+    match declared.get(&id) {
+        Some(found) => Ok(Some(found.copy(alloc)?)),
+        None => Ok(None),
+    }
+}
+
 /// The same name and descriptor in another class.
 pub fn in_class(alloc: Global, id: &MethodId, class: &Bytes) -> Result<MethodId, NoMemory>
     ensures { IfOk result (λ other. other ≡ in_class id.now class.now) }
 {
-    Ok(MethodId {
-        class: class.copy(alloc)?,
-        name: id.name.copy(alloc)?,
-        desc: id.desc.copy(alloc)?,
-    })
+    let desc = id.desc.as_slice();
+    id_of(alloc, class.as_slice(), id.name.as_slice(), desc)
+}
+
+/// The member of this class, name and descriptor.
+pub fn id_of(alloc: Global, class: &[u8], name: &[u8], desc: &[u8]) -> Result<MethodId, NoMemory>
+    ensures { IfOk result (λ id. id ≡ record { class = class.now; name = name.now; desc = desc.now }) }
+{
+    let class = Bytes::from_slice(alloc, class)?;
+    let name = Bytes::from_slice(alloc, name)?;
+    let desc = Bytes::from_slice(alloc, desc)?;
+    Ok(MethodId { class, name, desc })
 }

@@ -13,7 +13,7 @@ ghost use Rattle.class_index.specs.Nearest.{member_number, AreNumbers, AreOwn, A
 
 use crate::arrays::{Halves, depth_of, item_at, put_each};
 use crate::classes::Classes;
-use crate::members::in_class;
+use crate::members::found_at;
 use crate::numbers::{ByClass, Numbers, by_class, member_number, numbers_of, own_of, reference};
 use crate::places::add_name;
 use api_listing::ListedClass;
@@ -49,7 +49,7 @@ pub struct Nearest {
 #[derive(Drop)]
 struct Numbered<'a> {
     found: &'a BTreeMap<MethodId, Found>,
-    numbers: Numbers,
+    numbers: &'a Numbers,
     own: ByClass,
 }
 
@@ -64,28 +64,31 @@ pub fn nearest_of(
     ensures { IfOk result (λ nearest. AreVersions (found_in declared.now) nearest.numbers classes.now nearest.versions) }
 {
     let numbers = numbers_of(alloc, kind, files)?;
-    let own = by_class(alloc, &numbers, declared)?;
-    let mut versions = no_versions(alloc, &numbers)?;
+    let versions = versions_of(alloc, classes, declared, &numbers, kind, files)?;
+    Ok(Nearest { numbers, versions })
+}
+
+/// The arrays of what has these numbers.
+fn versions_of(
+    alloc: Global,
+    classes: &Classes,
+    declared: &BTreeMap<MethodId, Found>,
+    numbers: &Numbers,
+    kind: MemberKind,
+    files: &[ClassFile],
+) -> Result<Versions, NoMemory>
+    requires { AreNumbers numbers.now }
+    ensures { IfOk result (AreVersions (found_in declared.now) numbers.now classes.now) }
+{
+    let own = by_class(alloc, numbers, declared)?;
     let numbered = Numbered {
         found: declared,
         numbers,
         own,
     };
-    let mut seen = BTreeSet::new(alloc);
-    for file in files {
-        let pool = file.pool.as_slice();
-        add_references(
-            alloc,
-            classes,
-            &numbered,
-            &mut versions,
-            &mut seen,
-            kind,
-            pool,
-        )?;
-    }
-    let Numbered { numbers, .. } = numbered;
-    Ok(Nearest { numbers, versions })
+    let mut versions = no_versions(alloc, numbers)?;
+    add_files(alloc, classes, &numbered, &mut versions, kind, files)?;
+    Ok(versions)
 }
 
 /// No array but that of zeros, with room for all numbers.
@@ -103,6 +106,27 @@ fn no_versions(alloc: Global, numbers: &Numbers) -> Result<Versions, NoMemory>
     })
 }
 
+/// Adds the arrays of the classes that the files refer to.
+fn add_files(
+    alloc: Global,
+    classes: &Classes,
+    numbered: &Numbered,
+    versions: &mut Versions,
+    kind: MemberKind,
+    files: &[ClassFile],
+) -> Result<(), NoMemory>
+    requires own { AreOwn numbered.now.own numbered.now.numbers.now numbered.now.found.now.entries }
+    requires versions { AreVersions (found_in numbered.now.found.now) numbered.now.numbers.now classes.now versions.old }
+    ensures { OnOk result (AreVersions (found_in numbered.now.found.now) numbered.now.numbers.now classes.now versions.new) }
+{
+    let mut seen = BTreeSet::new(alloc);
+    for file in files {
+        let pool = file.pool.as_slice();
+        add_references(alloc, classes, numbered, versions, &mut seen, kind, pool)?;
+    }
+    Ok(())
+}
+
 /// Adds the arrays of the classes that the constants refer to.
 fn add_references(
     alloc: Global,
@@ -113,9 +137,9 @@ fn add_references(
     kind: MemberKind,
     pool: &[Const],
 ) -> Result<(), NoMemory>
-    requires own { AreOwn numbered.now.own numbered.now.numbers numbered.now.found.now.entries }
-    requires versions { AreVersions (found_in numbered.now.found.now) numbered.now.numbers classes.now versions.old }
-    ensures { OnOk result (AreVersions (found_in numbered.now.found.now) numbered.now.numbers classes.now versions.new) }
+    requires own { AreOwn numbered.now.own numbered.now.numbers.now numbered.now.found.now.entries }
+    requires versions { AreVersions (found_in numbered.now.found.now) numbered.now.numbers.now classes.now versions.old }
+    ensures { OnOk result (AreVersions (found_in numbered.now.found.now) numbered.now.numbers.now classes.now versions.new) }
 {
     for constant in pool {
         if let Some((class, _)) = reference(kind, constant) {
@@ -158,9 +182,9 @@ fn add_classes(
     versions: &mut Versions,
     names: List<Bytes>,
 ) -> Result<(), NoMemory>
-    requires own { AreOwn numbered.now.own numbered.now.numbers numbered.now.found.now.entries }
-    requires versions { AreVersions (found_in numbered.now.found.now) numbered.now.numbers classes.now versions.old }
-    ensures { OnOk result (AreVersions (found_in numbered.now.found.now) numbered.now.numbers classes.now versions.new) }
+    requires own { AreOwn numbered.now.own numbered.now.numbers.now numbered.now.found.now.entries }
+    requires versions { AreVersions (found_in numbered.now.found.now) numbered.now.numbers.now classes.now versions.old }
+    ensures { OnOk result (AreVersions (found_in numbered.now.found.now) numbered.now.numbers.now classes.now versions.new) }
 {
     let mut names = names;
     for _ in 0..names.len() {
@@ -179,9 +203,9 @@ fn add_class(
     versions: &mut Versions,
     name: &Bytes,
 ) -> Result<(), NoMemory>
-    requires own { AreOwn numbered.now.own numbered.now.numbers numbered.now.found.now.entries }
-    requires versions { AreVersions (found_in numbered.now.found.now) numbered.now.numbers classes.now versions.old }
-    ensures { OnOk result (AreVersions (found_in numbered.now.found.now) numbered.now.numbers classes.now versions.new) }
+    requires own { AreOwn numbered.now.own numbered.now.numbers.now numbered.now.found.now.entries }
+    requires versions { AreVersions (found_in numbered.now.found.now) numbered.now.numbers.now classes.now versions.old }
+    ensures { OnOk result (AreVersions (found_in numbered.now.found.now) numbered.now.numbers.now classes.now versions.new) }
 {
     let Some((place, class)) = classes.placed(name) else {
         return Ok(());
@@ -230,11 +254,7 @@ pub fn found_above(
     let Some(class) = declaring(classes, &nearest.versions, &id.class, number) else {
         return Ok(None);
     };
-    let id = in_class(alloc, id, &class.name)?;
-    match declared.get(&id) {
-        Some(found) => Ok(Some(found.copy(alloc)?)),
-        None => Ok(None),
-    }
+    found_at(alloc, declared, id, &class.name)
 }
 
 /// The class or the nearest superclass that declares what has this number, where its array tells it.

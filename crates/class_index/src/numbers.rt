@@ -7,7 +7,7 @@ ghost use Rattle.api_listing.specs.Seen.{id_cmp};
 ghost use Rattle.class_index.specs.Arrays.{has_number};
 ghost use Rattle.class_index.specs.Nearest.{field_reference, member_number, method_reference, own_of, reference, AreNumbers, AreOwn};
 
-use crate::members::in_class;
+use crate::members::id_of;
 use bytecode_model::{Found, MemberKind};
 use class_codec::{ClassFile, Const, name_and_type_at};
 use mon_base::{Bytes, List, MethodId, NoMemory};
@@ -86,16 +86,20 @@ fn add_number(
     requires { AreNumbers numbers.old }
     ensures { OnOk result (AreNumbers numbers.new) }
 {
-    let key = MethodId {
-        class: Bytes::new(alloc),
-        name: name.copy(alloc)?,
-        desc: desc.copy(alloc)?,
-    };
-    let number = numbers.len();
-    if !numbers.contains_key(&key) {
-        numbers.insert(key, number)?;
+    let key = key_of(alloc, name, desc)?;
+    if numbers.contains_key(&key) {
+        return Ok(());
     }
+    let number = numbers.len();
+    numbers.insert(key, number)?;
     Ok(())
+}
+
+/// The name and the descriptor without a class.
+fn key_of(alloc: Global, name: &Bytes, desc: &Bytes) -> Result<MethodId, NoMemory>
+    ensures { IfOk result (λ key. key ≡ record { class = []; name = name.now; desc = desc.now }) }
+{
+    id_of(alloc, b"".as_slice(), name.as_slice(), desc.as_slice())
 }
 
 /// The number of the member's name and descriptor.
@@ -106,7 +110,7 @@ pub fn member_number(
 ) -> Result<Option<usize>, NoMemory>
     ensures { IfOk result (λ number. number ≡ member_number numbers.now id.now) }
 {
-    let key = in_class(alloc, id, &Bytes::new(alloc))?;
+    let key = key_of(alloc, &id.name, &id.desc)?;
     match numbers.get(&key) {
         Some(number) => Ok(Some(*number)),
         None => Ok(None),

@@ -5,7 +5,7 @@ ghost use Rattle.std.specs.Prelude.{◌≡◌, ◌+◌, ◌++◌, [], ℕ, List,
 ghost use Rattle.std.specs.Option.{option_map_or};
 ghost use Rattle.api_listing.specs.Nearest.{upwards, names_of, interfaces_of};
 ghost use Rattle.api_listing.specs.Seen.{has_name};
-ghost use Rattle.bytecode_model.specs.SearchOrder.{superclasses, search_order, interfaces_from, interfaces_above, with_name, with_above};
+ghost use Rattle.bytecode_model.specs.SearchOrder.{superclasses, search_order, interfaces_from, interfaces_above, reached, with_name, with_above};
 ghost use Rattle.class_index.specs.Index.{NamesSeen};
 
 use crate::classes::{Classes, add};
@@ -22,9 +22,21 @@ pub fn search_order(alloc: Global, classes: &Classes, name: &Bytes) -> Result<Li
     let mut order = List::new(alloc);
     let mut interfaces = List::new(alloc);
     climb(alloc, classes, name, &mut order, &mut interfaces)?;
-    let above = interfaces_from(alloc, classes, interfaces.as_slice())?;
-    add_names(alloc, &mut order, above.as_slice())?;
+    add_interfaces(alloc, classes, &mut order, interfaces.as_slice())?;
     Ok(order)
+}
+
+/// Adds the interfaces and those above them behind the names.
+fn add_interfaces(
+    alloc: Global,
+    classes: &Classes,
+    names: &mut List<Bytes>,
+    interfaces: &[Bytes],
+) -> Result<(), NoMemory>
+    ensures { OnOk result (names.new ≡ names.old ++ interfaces_from classes.now interfaces.now) }
+{
+    let above = interfaces_from(alloc, classes, interfaces)?;
+    add_names(alloc, names, above.as_slice())
 }
 
 /// Adds the names of the class and its superclasses, and the interfaces of these.
@@ -72,14 +84,32 @@ fn interfaces_from(
     let mut found = List::new(alloc);
     let mut seen = BTreeSet::new(alloc);
     let mut waiting = VecDeque::new(alloc);
-    add_waiting(alloc, &mut waiting, names)?;
+    let waiting = &mut waiting;
+    reach(alloc, classes, most, names, &mut found, &mut seen, waiting)?;
+    Ok(found)
+}
+
+/// Takes up so many of the names behind those that wait, and of those that come to wait behind them.
+fn reach(
+    alloc: Global,
+    classes: &Classes,
+    most: u64,
+    names: &[Bytes],
+    found: &mut List<Bytes>,
+    seen: &mut BTreeSet<Bytes>,
+    waiting: &mut VecDeque<Bytes>,
+) -> Result<(), NoMemory>
+    requires { NamesSeen seen.old found.old }
+    ensures { OnOk result (found.new ≡ reached most classes.now found.old (waiting.old.items ++ names.now)) }
+{
+    add_waiting(alloc, waiting, names)?;
     for _ in 0..most {
         let Some(name) = waiting.pop_front() else {
-            return Ok(found);
+            return Ok(());
         };
-        visit(alloc, classes, &mut found, &mut seen, &mut waiting, name)?;
+        visit(alloc, classes, found, seen, waiting, name)?;
     }
-    Ok(found)
+    Ok(())
 }
 
 /// Takes up a name that has waited: if it is new, its interfaces wait behind the others.

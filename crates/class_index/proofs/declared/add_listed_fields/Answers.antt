@@ -12,7 +12,7 @@ loop-left-preserved c =
     let first : Found = record { target = target.ApiField c.loop-left.index; is_static = true } in
     let now : Declared = (c.id-item.result, first) in
     record {
-      found = λ q. goes_on _ (now ∷ []) _ _ _ _ q (ap (listed_fields_from c.loop-left.index) split) (rw (← c.in_ok-copy.ensures) (c.in_ok-add_first.ensures q)) (c.loop-left.invariant.found q);
+      found = λ q. goes_on _ (now ∷ []) _ _ _ _ q (ap (listed_fields_from c.loop-left.index) split) (rw (← c.in_ok-id.ensures) (c.in_ok-add_first.ensures q)) (c.loop-left.invariant.found q);
       count = omega (arith, rest_length c.loop-left.left.now _ _ split);
     }
 

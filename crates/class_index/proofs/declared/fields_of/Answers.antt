@@ -1,11 +1,5 @@
-use Rattle.std.proofs.Common.{◌∙◌, ◌++◌, ap}
-use Rattle.bytecode_model.specs.Members.{first_of, given_from, listed_fields_from}
-use Rattle.bytecode_model.specs.declared.members.MemberKind.TheVariants as kinds
-use Rattle.class_index.proofs.Declaring.{both, from_empty}
+use Rattle.class_index.proofs.Declaring.{from_empty}
 use Rattle.class_index.proofs.declared.fields_of.Goals as goal
 
 pub returns : goal.returns
-returns c =
-    let given = given_from kinds.Field 0 c.args.files.now in
-    λ q. from_empty c.new-found.result q _ _ c.new-found.ensures.empty (both given (listed_fields_from 0 c.as_slice.result.now) _ _ _ q (c.in_ok-add_files.ensures q) (c.in_ok-add_listed_fields.ensures q))
-    ∙ ap (λ fields. first_of (given ++ listed_fields_from 0 fields) q) c.as_slice.ensures
+returns c = λ q. from_empty c.new-found.result q _ _ c.new-found.ensures.empty (c.in_ok-add_fields.ensures q)

@@ -1,4 +1,4 @@
-use Rattle.std.proofs.Common.{◌∙◌, ◌<◌, [], ◌∷◌, length, sym, ap, subst, arith}
+use Rattle.std.proofs.Common.{◌<◌, [], ◌∷◌, length, sym, ap, subst, arith}
 use Rattle.std.specs.List.{filter}
 use Rattle.class_index.specs.Library.{may_own, IsShared}
 use Rattle.class_index.proofs.Sharing.{shared_here, shared_kept}
@@ -11,8 +11,8 @@ returns-clause-shared c =
     let lists = c.args.shared.now.lists in
     record {
       known = λ name above found.
-          subst (λ l. IsShared owners classes l name above) (sym c.in_ok-push.ensures.ok)
-          (shared_kept owners classes lists (c.in_ok-names.names ∷ []) name above (c.requires.known name above found));
+          subst (λ l. IsShared owners classes l name above) (sym c.in_ok-add_list.ensures)
+          (shared_kept owners classes lists (filter (may_own owners) c.as_slice-2.result.now ∷ []) name above (c.requires.known name above found));
       quiet = c.requires.quiet;
     }
 
@@ -23,6 +23,6 @@ returns-clause-is c =
     let name = c.args.name.now in
     let order = c.in_ok-order.order in
     let few : length order < length classes = omega (arith, c.if-len.false, c.len.ensures, c.len-2.ensures) in
-    subst (λ l. IsShared owners classes l name (record { place = c.len-3.result; height = c.len-4.result })) (sym c.in_ok-push.ensures.ok)
-    (shared_here owners classes c.args.shared.now.lists name order c.in_ok-names.names (record { place = c.len-3.result; height = c.len-4.result }) c.in_ok-order.ensures few
-    (c.in_ok-names.ensures ∙ ap (filter (may_own owners)) c.as_slice-2.ensures) c.len-3.ensures c.len-4.ensures)
+    subst (λ l. IsShared owners classes l name (record { place = c.len-3.result; height = c.len-4.result })) (sym c.in_ok-add_list.ensures)
+    (shared_here owners classes c.args.shared.now.lists name order (filter (may_own owners) c.as_slice-2.result.now) (record { place = c.len-3.result; height = c.len-4.result }) c.in_ok-order.ensures few
+    (ap (filter (may_own owners)) c.as_slice-2.ensures) c.len-3.ensures c.len-4.ensures)

@@ -10,7 +10,7 @@ use Rattle.class_index.proofs.nearest.add_class.Goals as goal
 pub returns : goal.returns
 returns c =
     let look = found_in c.args.numbered.now.found.now in
-    let numbers = c.args.numbered.now.numbers in
+    let numbers = c.args.numbered.now.numbers.now in
     let classes = c.args.classes.now in
     let old = c.args.versions.now in
     let name = c.args.name.now in

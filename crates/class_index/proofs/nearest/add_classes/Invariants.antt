@@ -3,4 +3,4 @@ use Rattle.class_index.specs.Nearest.{AreVersions}
 use Rattle.class_index.proofs.nearest.add_classes.Given as goal
 
 abbrev pub invariant-loop : goal.invariant-loop
-invariant-loop l = AreVersions (found_in l.numbered.found.now) l.numbered.numbers l.classes l.versions
+invariant-loop l = AreVersions (found_in l.numbered.found.now) l.numbered.numbers.now l.classes l.versions

@@ -13,6 +13,6 @@ returns c id =
     let above = c.in_ok-above.above in
     let names = search_order given.classes name in
     ap (λ (g : Given). overrides_in g.listing id above) (sym c.self.view_is) ∙ ap (overrides_in given.listing.now id) c.in_ok-above.ensures
-    ∙ owners_suffice given.owners given.listing.now names c.self.invariant.owned id
+    ∙ owners_suffice given.library.owners given.listing.now names c.self.invariant.owned id
     ∙ ap (λ cs. overrides_in given.listing.now id (search_order cs name)) c.self.invariant.all
     ∙ ap (λ (g : Given). overrides_in g.listing id (search_order (all_classes g.listing g.files) name)) c.self.view_is

@@ -9,6 +9,6 @@ pub returns : goal.returns
 returns c =
     let given = c.self.inside in
     let look = first_of (methods_declared given.files.now given.listing.now) in
-    c.in_ok-found.ensures ∙ first_found_same (found_in given.methods) look c.args.id.now _ c.self.invariant.methods_found
+    c.in_ok-found.ensures ∙ first_found_same (found_in given.members.methods) look c.args.id.now _ c.self.invariant.methods_found
     ∙ ap (λ cs. first_found look c.args.id.now (search_order cs c.args.id.now.class)) c.self.invariant.all
     ∙ ap (λ (g : Given). method_of g.files g.listing c.args.id.now) c.self.view_is
