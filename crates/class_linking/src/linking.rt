@@ -1,15 +1,16 @@
 //! Class files, a listing and a main class become one program.
 
-ghost use Rattle.std.specs.Prelude.{◌≡◌, ◌≤◌, ℕ, List, length, IfOk};
+ghost use Rattle.std.specs.Prelude.{◌≡◌, ◌≤◌, ℕ, List, length, Ok, Some, ◌++◌, IfErr, IfOk, OnOk};
 ghost use Rattle.std.specs.List.{AllByRecursion};
 ghost use Rattle.class_codec.specs.Fits.{CanSpell};
 ghost use Rattle.api_listing.specs.Listing.{IsFew, SpellsListing};
-ghost use Rattle.mon_base.specs.Answer.{Answers};
+ghost use Rattle.mon_base.specs.Answer.{Answers, Fails};
 ghost use Rattle.bytecode_model.specs.Heads.{heads_of, is_member, main_name, main_desc};
 ghost use Rattle.bytecode_model.specs.Named.{AreRightOperands};
 ghost use Rattle.bytecode_model.specs.Order.{IsInOrder};
 ghost use Rattle.bytecode_model.specs.Sound.{IsSoundMethod, IsSound};
 ghost use Rattle.bytecode_model.specs.Standing.{IsLinkedOf};
+ghost use Rattle.class_linking.specs.ClassConditions.{classes_linked};
 ghost use Rattle.class_linking.specs.Linking.{if_static, static_main, main_of, each_linked, class_with, classes_with};
 ghost use Rattle.class_linking.specs.Linking.{members_of, assembled, linked};
 ghost use Rattle.bytecode_model.specs.Files.{max_files, unlinked};
@@ -98,35 +99,73 @@ fn assembled_program(
     ensures back { IfOk result (λ program. unlinked program ≡ files) }
     ensures sound { IfOk result IsSound }
 {
-    let heads = Heads::new(alloc, heads_of(alloc, files.as_slice())?)?;
-    classes_linked(
-        alloc,
-        side,
-        &heads,
-        listing.classes.as_slice(),
-        files.as_slice(),
-    )?;
-    let (methods, literals) = members(alloc, files.as_slice(), heads.as_slice(), &listing)?;
-    let Some((main_class, main_method)) = main_of(files.as_slice(), main.as_slice()) else {
-        return Err(LinkFault::NoMain);
-    };
+    let (members, begin) = parts(alloc, files.as_slice(), &listing, main.as_slice(), side)?;
+    let (methods, literals) = members;
     let classes = classes_with(alloc, files, methods)?;
     Ok(Program {
         classes,
         listing,
         literals,
-        main_class,
-        main_method,
+        main_class: begin.0,
+        main_method: begin.1,
     })
 }
 
 /// The methods of each class, and the literals.
+type Members = (List<List<Method>>, List<Bytes>);
+
+/// What a program has beside its files and its listing: the members, and the class and the method that it begins with.
+fn parts(
+    alloc: Global,
+    files: &[ClassFile],
+    listing: &Listing,
+    main: &[u8],
+    side: Side,
+) -> Result<(Members, (u32, u32)), LinkFault>
+    requires few { length files.now ≤ 1001 }
+    requires fits { AllByRecursion CanSpell files.now }
+    requires listed { IsFew listing.now }
+    ensures classes { IfOk result (λ parts. classes_linked side (heads_of files.now) listing.now.classes files.now ≡ Ok tt) }
+    ensures members { IfOk result (λ parts. members_of files.now listing.now ≡ Ok parts.0) }
+    ensures main { IfOk result (λ parts. main_of files.now main.now ≡ Some parts.1) }
+    ensures sound { IfOk result (λ parts. AllByRecursion (AllByRecursion IsSoundMethod) parts.0.0) }
+    ensures fails { IfErr result (λ fault. Fails LinkFault.Memory fault (assembled files.now listing.now main.now side)) }
+{
+    let members = members_checked(alloc, files, listing, side)?;
+    match main_of(files, main) {
+        Some(begin) => Ok((members, begin)),
+        None => Err(LinkFault::NoMain),
+    }
+}
+
+/// The members, where each class meets its conditions.
+fn members_checked(
+    alloc: Global,
+    files: &[ClassFile],
+    listing: &Listing,
+    side: Side,
+) -> Result<Members, LinkFault>
+    requires few { length files.now ≤ 1001 }
+    requires fits { AllByRecursion CanSpell files.now }
+    requires listed { IsFew listing.now }
+    ensures classes { IfOk result (λ members. classes_linked side (heads_of files.now) listing.now.classes files.now ≡ Ok tt) }
+    ensures members { IfOk result (λ members. members_of files.now listing.now ≡ Ok members) }
+    ensures sound { IfOk result (λ members. AllByRecursion (AllByRecursion IsSoundMethod) members.0) }
+    ensures fails { IfErr result (λ fault. (main : List ℕ) → Fails LinkFault.Memory fault (assembled files.now listing.now main side)) }
+{
+    let heads = Heads::new(alloc, heads_of(alloc, files)?)?;
+    classes_linked(alloc, side, &heads, listing.classes.as_slice(), files)?;
+    let members = members(alloc, files, heads.as_slice(), listing)?;
+    Ok(members)
+}
+
+/// The members of files whose classes meet their conditions.
 fn members(
     alloc: Global,
     files: &[ClassFile],
     heads: &[ListedClass],
     listing: &Listing,
-) -> Result<(List<List<Method>>, List<Bytes>), LinkFault>
+) -> Result<Members, LinkFault>
     requires count { length files.now ≤ 1001 }
     requires fits { AllByRecursion CanSpell files.now }
     requires heads { heads.now ≡ heads_of files.now }
@@ -172,17 +211,32 @@ fn classes_with(
     let mut classes = Vec::with_capacity(alloc, count)?;
     let mut files = VecDeque::from_vec(files.into_vec());
     let mut methods = VecDeque::from_vec(methods.into_vec());
+    add_classes(alloc, count, &mut classes, &mut files, &mut methods)?;
+    Ok(List::from_vec(classes))
+}
+
+/// Adds the classes of so many files, each with its methods.
+fn add_classes(
+    alloc: Global,
+    count: usize,
+    classes: &mut Vec<LinkedClass>,
+    files: &mut VecDeque<ClassFile>,
+    methods: &mut VecDeque<List<Method>>,
+) -> Result<(), NoMemory>
+    requires { count ≡ length files.old.items }
+    ensures { OnOk result (classes.new.items ≡ classes.old.items ++ classes_with files.old.items methods.old.items) }
+{
     for _ in 0..count {
         let Some(file) = files.pop_front() else {
-            return Ok(List::from_vec(classes));
+            return Ok(());
         };
         let Some(first) = methods.pop_front() else {
-            return Ok(List::from_vec(classes));
+            return Ok(());
         };
         let class = class_with(alloc, file, first)?;
         classes.push(class)?;
     }
-    Ok(List::from_vec(classes))
+    Ok(())
 }
 
 fn class_with(

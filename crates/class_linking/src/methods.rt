@@ -5,12 +5,13 @@ ghost use Rattle.std.specs.List.{AllByRecursion};
 ghost use Rattle.class_codec.specs.Fits.{CanSpell, FitsMember};
 ghost use Rattle.insn_codec.specs.Fits as insns;
 ghost use Rattle.insn_codec.specs.Reading.{code_of};
-ghost use Rattle.insn_codec.specs.Spelling.{len_from};
+ghost use Rattle.insn_codec.specs.Spelling.{len_from, starts_of};
 ghost use Rattle.mon_base.specs.Answer.{Answers, TellsFault};
 ghost use Rattle.bytecode_model.specs.Heads.{all_classes, head_of};
 ghost use Rattle.bytecode_model.specs.SearchOrder.{search_order};
 ghost use Rattle.class_index.specs.Library.{OverridesAs};
 ghost use Rattle.bytecode_model.specs.Sound.{IsSoundMethod};
+ghost use Rattle.class_linking.specs.Handlers.{handlers_linked};
 ghost use Rattle.class_linking.specs.Known.{AreRemembered};
 ghost use Rattle.class_linking.specs.Linking.{bare, with_code, code_told, read_of, code_linked, method_linked, methods_linked};
 
@@ -20,7 +21,7 @@ use crate::known::Known;
 use crate::method_conditions::{is_allowed, overrides};
 use crate::operands::operands_linked;
 use bytecode_model::{Handlers, Method, Target, code_of, copy_class, copy_text};
-use class_codec::{ClassFile, Code, Member};
+use class_codec::{ClassFile, Code, Const, Member, TableEntry};
 use class_index::Index;
 use insn_codec::{CodeFault, Insn, read_code};
 use mon_base::{Bytes, List, NoMemory};
@@ -39,20 +40,30 @@ pub fn methods_linked(
     let class = copy_class(alloc, file.pool.as_slice(), file.this_class)?;
     let order = index.library_above(alloc, &class)?;
     let mut known = Known::new(alloc, file.pool.len())?;
+    each_linked(alloc, index, order.as_slice(), file, &class, &mut known)
+}
+
+/// The same, where the name of the class is given, and what may be overridden.
+fn each_linked(
+    alloc: Global,
+    index: &Index,
+    order: &[Bytes],
+    file: &ClassFile,
+    class: &Bytes,
+    known: &mut Known,
+) -> Result<List<Method>, LinkFault>
+    requires fits { CanSpell file.now }
+    requires name { class.now ≡ (head_of file.now).name }
+    requires known { AreRemembered index.now.files index.now.listing file.now.pool known.old }
+    requires order { OverridesAs index.now.listing order.now (search_order (all_classes index.now.listing index.now.files) class.now) }
+    ensures answers { Answers LinkFault.Memory result (methods_linked index.now.files index.now.listing file.now) }
+    ensures sound { IfOk result (AllByRecursion IsSoundMethod) }
+{
     let mut methods = Vec::with_capacity(alloc, file.methods.len())?;
     let mut number: u32 = 0;
     let mut left = file.methods.as_slice();
     while let [member, rest @ ..] = left {
-        let method = method_linked(
-            alloc,
-            index,
-            order.as_slice(),
-            file,
-            &class,
-            &mut known,
-            number,
-            member,
-        )?;
+        let method = method_linked(alloc, index, order, file, class, known, number, member)?;
         methods.push(method)?;
         number += 1;
         left = rest;
@@ -138,13 +149,32 @@ fn code_linked(
     let pool = file.pool.as_slice();
     let insns = read_insns(alloc, class, method, code.code.as_slice())?;
     let refs = operands_linked(alloc, index, class, pool, known, method, insns.as_slice())?;
-    let starts = Starts::new(alloc, insns.as_slice())?;
-    let end = insns.len() as u32;
     let table = code.table.as_slice();
-    let list = handlers_linked(alloc, index, class, pool, method, end, &starts, table)?;
-    let handlers = Handlers::new(alloc, list)?;
+    let handlers = table_linked(alloc, index, class, pool, method, insns.as_slice(), table)?;
     let made = with_code(alloc, file, member, code, insns, refs, handlers)?;
     Ok(made)
+}
+
+/// The exception table of a method with these instructions.
+fn table_linked(
+    alloc: Global,
+    index: &Index,
+    class: &Bytes,
+    pool: &[Const],
+    method: u32,
+    insns: &[Insn],
+    entries: &[TableEntry],
+) -> Result<Handlers, LinkFault>
+    requires short { len_from 0 insns.now ≤ 65535 }
+    requires count { length insns.now ≤ 65535 }
+    ensures { Answers LinkFault.Memory result
+        (handlers_linked index.now.files index.now.listing class.now pool.now method (length insns.now) (starts_of insns.now) entries.now) }
+{
+    let starts = Starts::new(alloc, insns)?;
+    let end = insns.len() as u32;
+    let list = handlers_linked(alloc, index, class, pool, method, end, &starts, entries)?;
+    let handlers = Handlers::new(alloc, list)?;
+    Ok(handlers)
 }
 
 fn with_code(

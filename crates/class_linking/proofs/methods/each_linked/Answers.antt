@@ -5,7 +5,7 @@ use Rattle.class_linking.proofs.Loop.{goes_on, ends, is_done}
 use Rattle.class_codec.specs.Fits.{FitsMember}
 use Rattle.class_linking.specs.Linking.{method_linked}
 use Rattle.bytecode_model.specs.Sound.{IsSoundMethod}
-use Rattle.class_linking.proofs.methods.methods_linked.Goals as goal
+use Rattle.class_linking.proofs.methods.each_linked.Goals as goal
 
 pub loop-left-preserved : goal.loop-left-preserved
 loop-left-preserved c =

@@ -6,7 +6,7 @@ use Rattle.class_linking.specs.Known.{AreRemembered}
 use Rattle.class_linking.specs.Linking.{method_linked}
 use Rattle.bytecode_model.specs.Sound.{IsSoundMethod}
 use Rattle.class_linking.proofs.Loop.{with_front}
-use Rattle.class_linking.proofs.methods.methods_linked.Given as goal
+use Rattle.class_linking.proofs.methods.each_linked.Given as goal
 
 abbrev pub invariant-loop-left : goal.invariant-loop-left
 invariant-loop-left l = record {
