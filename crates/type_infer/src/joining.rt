@@ -73,25 +73,44 @@ fn settled(
     ensures stack { IfOk result (λ made. IfSome made (λ told. (j : ℕ)
         → type_at told.stack j ≡ operand_settled place.now (shape_of place.now.insn) (type_at stack j))) }
 {
-    match shape_of(place.insn) {
+    let shape = shape_of(place.insn);
+    let locals = locals_settled(place, shape, locals);
+    let stack = operands_settled(place, shape, stack);
+    Told::new(alloc, place.method, locals, stack)
+}
+
+/// The locals of such a frame, before an instruction of this shape.
+fn locals_settled(place: &PlaceRef, shape: Shape, locals: List<VType>) -> List<VType>
+    ensures count { length result ≡ length locals }
+    ensures types { (j : ℕ) → type_at result j ≡ local_settled place.now shape (type_at locals j) }
+{
+    match shape {
         Shape::Heap(Heap::Return(None)) => {
             if is_maker(place.method) {
-                Told::new(
-                    alloc,
-                    place.method,
-                    without(&VType::UninitThis, locals),
-                    without(&VType::UninitThis, stack),
-                )
+                without(&VType::UninitThis, locals)
             } else {
-                Told::new(alloc, place.method, locals, stack)
+                locals
             }
         }
-        Shape::Heap(Heap::New) => {
-            let stack = without(&VType::Uninit(place.at), stack);
-            let told = Told::new(alloc, place.method, locals, stack)?;
-            Ok(told)
+        _ => locals,
+    }
+}
+
+/// The operands of such a frame.
+fn operands_settled(place: &PlaceRef, shape: Shape, stack: List<VType>) -> List<VType>
+    ensures count { length result ≡ length stack }
+    ensures types { (j : ℕ) → type_at result j ≡ operand_settled place.now shape (type_at stack j) }
+{
+    match shape {
+        Shape::Heap(Heap::New) => without(&VType::Uninit(place.at), stack),
+        Shape::Heap(Heap::Return(None)) => {
+            if is_maker(place.method) {
+                without(&VType::UninitThis, stack)
+            } else {
+                stack
+            }
         }
-        _ => Told::new(alloc, place.method, locals, stack),
+        _ => stack,
     }
 }
 
@@ -150,13 +169,14 @@ fn merged(
     alloc: Global,
     place: &PlaceRef,
     old: &FrameType,
-    locals: List<VType>,
-    stack: List<VType>,
+    locals: &[VType],
+    stack: &[VType],
 ) -> Result<Option<Told>, NoMemory>
     ensures kept { IfOk result (λ told. IsInOrder place.now.program → IsKept place.now.program (Some old.now) told) }
     ensures raised { IfOk result (λ told. IsInOrder place.now.program
-        → length locals ≤ place.now.method.max_locals → length stack ≤ place.now.method.max_stack → IsOfHeight (Some old.now) (length stack)
-        → IsRaisedBy place.now (Some old.now) (record { locals = type_at locals; operands = stack }) told) }
+        → length locals.now ≤ place.now.method.max_locals → length stack.now ≤ place.now.method.max_stack
+        → IsOfHeight (Some old.now) (length stack.now)
+        → IsRaisedBy place.now (Some old.now) (record { locals = type_at locals.now; operands = stack.now }) told) }
 {
     assignable_is_an_order();
     merge_is_the_least();
@@ -165,8 +185,8 @@ fn merged(
         return Ok(None);
     }
     let program = place.program;
-    let locals = types_joined(alloc, program, old.locals.as_slice(), locals.as_slice())?;
-    let stack = types_joined(alloc, program, old.stack.as_slice(), stack.as_slice())?;
+    let locals = types_joined(alloc, program, old.locals.as_slice(), locals)?;
+    let stack = types_joined(alloc, program, old.stack.as_slice(), stack)?;
     let told = settled(alloc, place, locals, stack)?;
     Ok(unless_below(program, old, told))
 }
@@ -193,6 +213,6 @@ pub fn joined(
             let told = settled(alloc, place, locals, stack)?;
             Ok(told)
         }
-        Some(old) => merged(alloc, place, old, locals, stack),
+        Some(old) => merged(alloc, place, old, locals.as_slice(), stack.as_slice()),
     }
 }

@@ -2,7 +2,7 @@
 
 ghost use Rattle.std.specs.Prelude.{◌≡◌, ℕ, length, IfOk};
 ghost use Rattle.bytecode_model.specs.Rules.{Frames};
-ghost use Rattle.type_infer.specs.Fits.{FitFrames};
+ghost use Rattle.type_infer.specs.Fits.{FitFrames, FitsTold};
 ghost use Rattle.type_infer.specs.Solving.{Holds, IsMetBy, IsSolved};
 
 use crate::body::Body;
@@ -40,12 +40,20 @@ fn into_list(alloc: Global, told: Vec<Option<Told>>) -> Result<List<Option<Frame
 {
     let mut frames = List::new(alloc);
     for one in told {
-        match one {
-            None => frames.push(None)?,
-            Some(told) => frames.push(Some(told.into_frame()))?,
-        }
+        frames.push(into_frame(one))?;
     }
     Ok(frames)
+}
+
+/// The frame, if there is one.
+fn into_frame(told: Option<Told>) -> Option<FrameType>
+    ensures same { result ≡ told }
+    ensures fits { FitsTold result }
+{
+    match told {
+        None => None,
+        Some(told) => Some(told.into_frame()),
+    }
 }
 
 /// The least frames that meet the rules at the first `limit` instructions, or frames that do not meet them, where none

@@ -51,18 +51,36 @@ fn next_marked(marks: &[bool], from: u32, limit: u32) -> Option<u32>
     None
 }
 
+/// No frame, n times.
+fn no_frames(alloc: Global, n: usize) -> Result<Vec<Option<Told>>, NoMemory>
+    ensures { IfOk result (λ frames. frames.items ≡ replicate n None) }
+{
+    let mut frames = Vec::with_capacity(alloc, n)?;
+    for _ in 0..n {
+        frames.push(None)?;
+    }
+    Ok(frames)
+}
+
+/// No mark, n times.
+fn no_marks(alloc: Global, n: usize) -> Result<Vec<bool>, NoMemory>
+    ensures { IfOk result (λ marks. marks.items ≡ replicate n false) }
+{
+    let mut marks = Vec::with_capacity(alloc, n)?;
+    for _ in 0..n {
+        marks.push(false)?;
+    }
+    Ok(marks)
+}
+
 impl Work {
     /// A method of n instructions, none of which is reached.
     pub fn new(alloc: Global, n: usize) -> Result<Work, NoMemory>
         ensures frames { IfOk result (λ work. work.frames ≡ replicate n None) }
         ensures marks { IfOk result (λ work. work.marks ≡ replicate n false) }
     {
-        let mut frames = Vec::with_capacity(alloc, n)?;
-        let mut marks = Vec::with_capacity(alloc, n)?;
-        for _ in 0..n {
-            frames.push(None)?;
-            marks.push(false)?;
-        }
+        let frames = no_frames(alloc, n)?;
+        let marks = no_marks(alloc, n)?;
         Ok(Work {
             frames,
             marks,

@@ -1,22 +1,31 @@
-use Rattle.std.proofs.Common.{◌≡◌, ◌∙◌, ℕ, sym, ap}
+use Rattle.std.proofs.Common.{◌≡◌, ◌∙◌, ℕ, Option, length, ap}
+use Rattle.std.specs.Prelude.{IfSome}
 use Rattle.cert_format.specs.declared.typing.FrameType.{FrameType}
-use Rattle.cert_format.specs.declared.typing.VType.TheVariants as types
-use Rattle.insn_codec.specs.declared.shape.Heap.TheVariants as heap
-use Rattle.insn_codec.specs.declared.shape.Shape.TheVariants as shapes
 use Rattle.insn_codec.specs.Shapes.{shape_of}
 use Rattle.bytecode_model.specs.Makes.{type_at}
 use Rattle.bytecode_model.specs.Place.{Place}
-use Rattle.type_infer.specs.Solving.{unless}
-use Rattle.type_infer.proofs.Lists.{if_some}
+use Rattle.type_infer.specs.Solving.{local_settled, operand_settled}
+use Rattle.type_infer.proofs.Lists.{if_ok, if_some}
 use Rattle.type_infer.proofs.joining.settled.Goals as goal
 
-pub returns-in_ok-told-in-Heap-New-clause-stack : goal.returns-in_ok-told-in-Heap-New-clause-stack
-returns-in_ok-told-in-Heap-New-clause-stack c =
+pub returns-clause-locals : goal.returns-clause-locals
+returns-clause-locals c =
     let place = c.args.place.now in
-    let shape : shape_of place.insn ≡ shapes.Heap heap.New =
-    sym (ap (λ (p : Place). shape_of p.insn) c.place.view_is) ∙ sym c.shape_of.ensures ∙ c.in-Heap-New.is ∙ ap shapes.Heap c.in-Heap-New.field-0-is in
-    let at : c.place.inside.at ≡ place.at = ap (λ (p : Place). p.at) c.place.view_is in
-    rw shape
-    (if_some c.in_ok-told-in-Heap-New.told (λ (told : FrameType). told.stack ≡ c.without-stack.result)
-    (λ (told : FrameType). (j : ℕ) → type_at told.stack j ≡ unless (types.Uninit place.at) (type_at c.args.stack j))
-    (λ told e j. ap (λ l. type_at l j) e ∙ c.without-stack.ensures.types j ∙ ap (λ (n : ℕ). unless (types.Uninit n) (type_at c.args.stack j)) at) c.in_ok-told-in-Heap-New.ensures.stack)
+    let shape = c.shape_of-shape.ensures ∙ ap (λ (p : Place). shape_of p.insn) c.place.view_is in
+    if_ok c.new.result (λ (made : Option FrameType). IfSome made (λ (told : FrameType). (j : ℕ) → type_at told.locals j ≡ type_at c.locals_settled-locals.result j))
+    (λ (made : Option FrameType). IfSome made (λ (told : FrameType). (j : ℕ) → type_at told.locals j ≡ local_settled place (shape_of place.insn) (type_at c.args.locals j)))
+    (λ made. if_some made _ _ (λ told e j. e j ∙ c.locals_settled-locals.ensures.types j ∙ ap (λ s. local_settled place s (type_at c.args.locals j)) shape)) c.new.ensures.locals
+
+pub returns-clause-height : goal.returns-clause-height
+returns-clause-height c =
+    if_ok c.new.result (λ (made : Option FrameType). IfSome made (λ (told : FrameType). told.stack ≡ c.operands_settled-stack.result))
+    (λ (made : Option FrameType). IfSome made (λ (told : FrameType). length told.stack ≡ length c.args.stack))
+    (λ made. if_some made _ _ (λ told e. ap length e ∙ c.operands_settled-stack.ensures.count)) c.new.ensures.stack
+
+pub returns-clause-stack : goal.returns-clause-stack
+returns-clause-stack c =
+    let place = c.args.place.now in
+    let shape = c.shape_of-shape.ensures ∙ ap (λ (p : Place). shape_of p.insn) c.place.view_is in
+    if_ok c.new.result (λ (made : Option FrameType). IfSome made (λ (told : FrameType). told.stack ≡ c.operands_settled-stack.result))
+    (λ (made : Option FrameType). IfSome made (λ (told : FrameType). (j : ℕ) → type_at told.stack j ≡ operand_settled place (shape_of place.insn) (type_at c.args.stack j)))
+    (λ made. if_some made _ _ (λ told e j. ap (λ l. type_at l j) e ∙ c.operands_settled-stack.ensures.types j ∙ ap (λ s. operand_settled place s (type_at c.args.stack j)) shape)) c.new.ensures.stack

@@ -1,4 +1,6 @@
-use Rattle.std.proofs.Common.{◌≡◌, ◌∙◌, ◌∷◌, [], Option, Some, None, subst, sym, ap}
+use Rattle.std.proofs.Common.{◌≡◌, ◌∙◌, ◌∷◌, [], Option, Some, None, subst, sym, ap, length, ℕ, ◌<◌}
+use Rattle.std.specs.Prelude.{slice_get}
+use Rattle.std.proofs.lemmas.Option.{slice_get_within}
 use Rattle.std.specs.Option.{option_copied}
 use Rattle.cert_format.specs.declared.typing.FrameType.{FrameType}
 use Rattle.bytecode_model.specs.Order.{IsInOrder}
@@ -8,6 +10,8 @@ use Rattle.type_infer.specs.Sending.{SendsTo}
 use Rattle.type_infer.specs.Solving.{State, IsKept, left_by, place_of}
 use Rattle.type_infer.proofs.Delivering.{left_sends, sends_nothing, successor_there, unreached}
 use Rattle.type_infer.proofs.Kept.{among_first}
+use Rattle.type_infer.proofs.Flowing.{insn_there, place_is}
+use Rattle.type_infer.proofs.Stepping.{put_count}
 use Rattle.type_infer.proofs.sending.send.Goals as goal
 
 pub returns-in_default-clause-sends : goal.returns-in_default-clause-sends
@@ -42,3 +46,37 @@ returns-clause-sends c ready =
     subst (λ (s : State). SendsTo scope place (c.args.to ∷ []) work s) (sym c.put.ensures)
     (left_sends scope (c.laws_hold.ensures scope.program ready.order) place work c.requires.place low is c.requires.frames c.requires.marks c.in-Some.there told c.args.to placed kept
     (rw c.frame-2.ensures at c.in_ok-new.ensures.raised))
+
+pub returns-clause-each : goal.returns-clause-each
+returns-clause-each c =
+    let count = put_count c.args.work.now c.args.to c.in_ok-new.new in
+    record {
+      frames = ap (λ (s : State). length s.frames) c.put.ensures ∙ count.0 ∙ c.requires.frames;
+      marks = ap (λ (s : State). length s.marks) c.put.ensures ∙ count.1 ∙ c.requires.marks;
+    }
+
+pub sent-requires-clause-program : goal.sent-requires-clause-program
+sent-requires-clause-program c =
+    let scope = c.args.body.now in
+    let there : place_of scope c.args.to ≡ Some c.in-Some.there = sym c.place.ensures ∙ c.in-Some.is in
+    (place_is scope c.args.to c.in-Some.there there).0 ∙ sym (place_is scope c.args.place.now.at c.args.place.now c.requires.place).0
+
+pub sent-requires-clause-method : goal.sent-requires-clause-method
+sent-requires-clause-method c =
+    let scope = c.args.body.now in
+    let there : place_of scope c.args.to ≡ Some c.in-Some.there = sym c.place.ensures ∙ c.in-Some.is in
+    (place_is scope c.args.to c.in-Some.there there).1 ∙ sym (place_is scope c.args.place.now.at c.args.place.now c.requires.place).1
+
+pub put-requires-clause-frames : goal.put-requires-clause-frames
+put-requires-clause-frames c =
+    let scope = c.args.body.now in
+    let there : place_of scope c.args.to ≡ Some c.in-Some.there = sym c.place.ensures ∙ c.in-Some.is in
+    let h = insn_there _ (slice_get scope.method.insns c.args.to) c.in-Some.there there in
+    subst (λ (n : ℕ). c.args.to < n) (sym c.requires.frames) (slice_get_within scope.method.insns c.args.to h.0 h.1)
+
+pub put-requires-clause-marks : goal.put-requires-clause-marks
+put-requires-clause-marks c =
+    let scope = c.args.body.now in
+    let there : place_of scope c.args.to ≡ Some c.in-Some.there = sym c.place.ensures ∙ c.in-Some.is in
+    let h = insn_there _ (slice_get scope.method.insns c.args.to) c.in-Some.there there in
+    subst (λ (n : ℕ). c.args.to < n) (sym c.requires.marks) (slice_get_within scope.method.insns c.args.to h.0 h.1)

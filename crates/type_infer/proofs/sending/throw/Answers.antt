@@ -1,4 +1,6 @@
-use Rattle.std.proofs.Common.{◌≡◌, ◌∙◌, ℕ, true, false, Option, Some, None, subst, sym, ap}
+use Rattle.std.proofs.Common.{◌≡◌, ◌∙◌, ℕ, true, false, Option, Some, None, subst, sym, ap, length, ◌<◌}
+use Rattle.std.specs.Prelude.{slice_get}
+use Rattle.std.proofs.lemmas.Option.{slice_get_within}
 use Rattle.std.specs.Option.{option_copied}
 use Rattle.std.proofs.lemmas.Bool.{false≢true}
 use Rattle.cert_format.specs.declared.typing.FrameType.{FrameType}
@@ -8,6 +10,8 @@ use Rattle.bytecode_model.specs.Rules.{covers, frame_of}
 use Rattle.type_infer.specs.Sending.{ThrowsTo}
 use Rattle.type_infer.specs.Solving.{State, IsKept, place_of, thrown_to}
 use Rattle.type_infer.proofs.Delivering.{handler_there, sends_nothing, thrown_sends, unreached}
+use Rattle.type_infer.proofs.Flowing.{insn_there, place_is}
+use Rattle.type_infer.proofs.Stepping.{put_count}
 use Rattle.type_infer.proofs.sending.throw.Goals as goal
 
 pub returns-then-not-covers-clause-sends : goal.returns-then-not-covers-clause-sends
@@ -52,3 +56,37 @@ returns-clause-sends c ready =
     subst (λ (s : State). ThrowsTo scope place handler work s) (sym c.put.ensures)
     (thrown_sends scope (c.laws_hold.ensures scope.program ready.order) place work c.requires.place low is c.requires.frames c.requires.marks c.in-Some.there told handler placed kept
     (rw c.frame-2.ensures at c.in_ok-new.ensures.raised) covered)
+
+pub returns-clause-each : goal.returns-clause-each
+returns-clause-each c =
+    let count = put_count c.args.work.now c.args.handler.now.at c.in_ok-new.new in
+    record {
+      frames = ap (λ (s : State). length s.frames) c.put.ensures ∙ count.0 ∙ c.requires.frames;
+      marks = ap (λ (s : State). length s.marks) c.put.ensures ∙ count.1 ∙ c.requires.marks;
+    }
+
+pub thrown-requires-clause-program : goal.thrown-requires-clause-program
+thrown-requires-clause-program c =
+    let scope = c.args.body.now in
+    let there : place_of scope c.args.handler.now.at ≡ Some c.in-Some.there = sym c.place-2.ensures ∙ c.in-Some.is in
+    (place_is scope c.args.handler.now.at c.in-Some.there there).0 ∙ sym (place_is scope c.args.place.now.at c.args.place.now c.requires.place).0
+
+pub thrown-requires-clause-method : goal.thrown-requires-clause-method
+thrown-requires-clause-method c =
+    let scope = c.args.body.now in
+    let there : place_of scope c.args.handler.now.at ≡ Some c.in-Some.there = sym c.place-2.ensures ∙ c.in-Some.is in
+    (place_is scope c.args.handler.now.at c.in-Some.there there).1 ∙ sym (place_is scope c.args.place.now.at c.args.place.now c.requires.place).1
+
+pub put-requires-clause-frames : goal.put-requires-clause-frames
+put-requires-clause-frames c =
+    let scope = c.args.body.now in
+    let there : place_of scope c.args.handler.now.at ≡ Some c.in-Some.there = sym c.place-2.ensures ∙ c.in-Some.is in
+    let h = insn_there _ (slice_get scope.method.insns c.args.handler.now.at) c.in-Some.there there in
+    subst (λ (n : ℕ). c.args.handler.now.at < n) (sym c.requires.frames) (slice_get_within scope.method.insns c.args.handler.now.at h.0 h.1)
+
+pub put-requires-clause-marks : goal.put-requires-clause-marks
+put-requires-clause-marks c =
+    let scope = c.args.body.now in
+    let there : place_of scope c.args.handler.now.at ≡ Some c.in-Some.there = sym c.place-2.ensures ∙ c.in-Some.is in
+    let h = insn_there _ (slice_get scope.method.insns c.args.handler.now.at) c.in-Some.there there in
+    subst (λ (n : ℕ). c.args.handler.now.at < n) (sym c.requires.marks) (slice_get_within scope.method.insns c.args.handler.now.at h.0 h.1)

@@ -1,12 +1,15 @@
-use Rattle.std.proofs.Common.{◌≡◌, ◌∙◌, ℕ, ◌≤◌, false, [], List, length, replicate, None, Some, subst, sym, ap, arith}
+use Rattle.std.proofs.lemmas.List.{length-replicate}
+use Rattle.std.proofs.Common.{◌≡◌, ◌∙◌, ℕ, ◌≤◌, false, [], List, length, replicate, None, Some, subst, sym, ap, arith, ◌<◌}
+use Rattle.std.specs.Prelude.{slice_get}
+use Rattle.std.proofs.lemmas.Option.{slice_get_within}
 use Rattle.cert_format.specs.declared.typing.VType.{VType}
 use Rattle.bytecode_model.specs.Makes.{type_at}
 use Rattle.bytecode_model.specs.Rules.{entry_locals}
 use Rattle.bytecode_model.specs.Order.{IsInOrder}
 use Rattle.type_infer.specs.Solving.{Scope, State, Holds, IsRaisedBy, begun, place_of, put}
-use Rattle.type_infer.proofs.Flowing.{place_is}
+use Rattle.type_infer.proofs.Flowing.{insn_there, place_is}
 use Rattle.type_infer.proofs.Solutions.{begun_holds, entered, nothing, nothing_holds}
-use Rattle.type_infer.proofs.Stepping.{state_is}
+use Rattle.type_infer.proofs.Stepping.{put_count, state_is}
 use Rattle.type_infer.proofs.solving.begun.Goals as goal
 
 pub returns-in_default-clause-holds : goal.returns-in_default-clause-holds
@@ -42,3 +45,39 @@ returns-clause-holds c limit above met =
     subst (λ (s : List VType). IsRaisedBy place None (record { locals = type_at c.in_ok-locals.locals; operands = s }) first) stack raised in
     let entering : IsRaisedBy place None (begun place) first = subst (λ (l : List VType). IsRaisedBy place None (record { locals = type_at l; operands = [] }) first) locals on_stack in
     subst (Holds scope limit above) (sym (c.put.ensures ∙ ap (λ (s : State). put s 0 first) is)) (begun_holds scope laws limit above place first there entry entering)
+
+pub returns-clause-frames : goal.returns-clause-frames
+returns-clause-frames c =
+    ap (λ (s : State). length s.frames) c.put.ensures ∙ (put_count c.in_ok-work.work 0 c.in_ok-first.first).0
+    ∙ ap length c.in_ok-work.ensures.frames ∙ length-replicate c.len.result None ∙ c.len.ensures ∙ ap (λ (s : Scope). length s.method.insns) c.body.view_is
+
+pub returns-clause-marks : goal.returns-clause-marks
+returns-clause-marks c =
+    ap (λ (s : State). length s.marks) c.put.ensures ∙ (put_count c.in_ok-work.work 0 c.in_ok-first.first).1
+    ∙ ap length c.in_ok-work.ensures.marks ∙ length-replicate c.len.result false ∙ c.len.ensures ∙ ap (λ (s : Scope). length s.method.insns) c.body.view_is
+
+pub put-requires-clause-frames : goal.put-requires-clause-frames
+put-requires-clause-frames c =
+    let scope = c.args.body.now in
+    let there : place_of scope 0 ≡ Some c.in-Some.place = sym c.place.ensures ∙ c.in-Some.is in
+    let h = insn_there _ (slice_get scope.method.insns 0) c.in-Some.place there in
+    let count : length c.in_ok-work.work.frames ≡ length scope.method.insns =
+    ap length c.in_ok-work.ensures.frames ∙ length-replicate c.len.result None ∙ c.len.ensures ∙ ap (λ (s : Scope). length s.method.insns) c.body.view_is in
+    subst (λ (n : ℕ). 0 < n) (sym count) (slice_get_within scope.method.insns 0 h.0 h.1)
+
+pub returns-in_default-clause-frames : goal.returns-in_default-clause-frames
+returns-in_default-clause-frames c =
+    ap length c.in_ok-work.ensures.frames ∙ length-replicate c.len.result None ∙ c.len.ensures ∙ ap (λ (s : Scope). length s.method.insns) c.body.view_is
+
+pub put-requires-clause-marks : goal.put-requires-clause-marks
+put-requires-clause-marks c =
+    let scope = c.args.body.now in
+    let there : place_of scope 0 ≡ Some c.in-Some.place = sym c.place.ensures ∙ c.in-Some.is in
+    let h = insn_there _ (slice_get scope.method.insns 0) c.in-Some.place there in
+    let count : length c.in_ok-work.work.marks ≡ length scope.method.insns =
+    ap length c.in_ok-work.ensures.marks ∙ length-replicate c.len.result false ∙ c.len.ensures ∙ ap (λ (s : Scope). length s.method.insns) c.body.view_is in
+    subst (λ (n : ℕ). 0 < n) (sym count) (slice_get_within scope.method.insns 0 h.0 h.1)
+
+pub returns-in_default-clause-marks : goal.returns-in_default-clause-marks
+returns-in_default-clause-marks c =
+    ap length c.in_ok-work.ensures.marks ∙ length-replicate c.len.result false ∙ c.len.ensures ∙ ap (λ (s : Scope). length s.method.insns) c.body.view_is
