@@ -6,12 +6,11 @@ ghost use Rattle.std.specs.BTreeMap.{get};
 ghost use Rattle.std.specs.Ordering.{is_eq, nat_cmp};
 ghost use Rattle.std.specs.List.{AllByRecursion, list_any};
 ghost use Rattle.bytecode_model.specs.Sound.{IsSoundMethod};
-ghost use Rattle.mon_base.specs.Answer.{Answers};
+ghost use Rattle.mon_base.specs.Answer.{AnswersAs};
 ghost use Rattle.offset_patch.specs.Fits.{IsSite};
 ghost use Rattle.class_weaving.specs.Known.{AreMade};
 ghost use Rattle.class_weaving.specs.Woven.{is_woven, sites_of, most_locals, locals_of, clients_from, blocks_put, code_woven};
 
-use crate::woven::WovenCode;
 use bytecode_model::{Method, Origin, Target};
 use class_codec::{Code, copy_list};
 use insn_codec::Insn;
@@ -20,31 +19,28 @@ use offset_patch::{Block, Entries, Planner, SpliceFault, origins_of, room, splic
 use std::alloc::Global;
 use std::collections::BTreeMap;
 
-/// The code of a method with its blocks, and the constants that these need.
+/// The code of a method with its blocks, and where its instructions come from. The constants that the blocks need are added.
 pub fn code_woven<P: Planner>(
     alloc: Global,
     planner: &P,
     class: &Bytes,
     number: u32,
-    entries: Entries,
+    entries: &mut Entries,
     method: &Method,
     code: &Code,
-) -> Result<WovenCode, SpliceFault>
+) -> Result<(Code, List<Origin>), SpliceFault>
     requires method { IsSoundMethod method.now }
-    requires pool { length entries < 2 ^ 16 }
-    ensures is { Answers SpliceFault.Memory result (code_woven (P.plan planner.now) class.now number entries method.now code.now) }
-    ensures pool { IfOk result (λ w. length w.entries < 2 ^ 16) }
+    requires pool { length entries.old < 2 ^ 16 }
+    ensures is { AnswersAs SpliceFault.Memory (λ made. record { code = made.0; entries = entries.new; origins = made.1 }) result
+        (code_woven (P.plan planner.now) class.now number entries.old method.now code.now) }
+    ensures pool { OnOk result (length entries.new < 2 ^ 16) }
 {
     if is_woven(planner, method) {
         return blocks_put(alloc, planner, class, number, entries, method, code);
     }
     let code = copy_code(alloc, code)?;
     let origins = clients(alloc, method.insns.as_slice())?;
-    Ok(WovenCode {
-        code,
-        entries,
-        origins,
-    })
+    Ok((code, origins))
 }
 
 /// Whether one of the instructions has a block.
@@ -63,35 +59,23 @@ fn blocks_put<P: Planner>(
     planner: &P,
     class: &Bytes,
     number: u32,
-    entries: Entries,
+    entries: &mut Entries,
     method: &Method,
     code: &Code,
-) -> Result<WovenCode, SpliceFault>
+) -> Result<(Code, List<Origin>), SpliceFault>
     requires { IsSoundMethod method.now }
-    ensures is { Answers SpliceFault.Memory result (blocks_put (P.plan planner.now) class.now number entries method.now code.now
+    ensures is { AnswersAs SpliceFault.Memory (λ made. record { code = made.0; entries = entries.new; origins = made.1 }) result
+        (blocks_put (P.plan planner.now) class.now number entries.old method.now code.now
         (sites_of (P.plan planner.now) code.now.max_locals method.now)) }
-    ensures pool { IfOk result (λ w. length w.entries < 2 ^ 16) }
+    ensures pool { OnOk result (length entries.new < 2 ^ 16) }
 {
     let locals = most_locals(planner, method.refs.as_slice())?;
     room(alloc, class, number, code, locals)?;
     let sites = sites_of(alloc, planner, code.max_locals, method.refs.as_slice())?;
-    let mut entries = entries;
-    let code = splice(
-        alloc,
-        class,
-        number,
-        &mut entries,
-        method,
-        code,
-        locals,
-        sites.as_slice(),
-    )?;
-    let origins = origins_of(alloc, sites.as_slice())?;
-    Ok(WovenCode {
-        code,
-        entries,
-        origins,
-    })
+    let sites = sites.as_slice();
+    let code = splice(alloc, class, number, entries, method, code, locals, sites)?;
+    let origins = origins_of(alloc, sites)?;
+    Ok((code, origins))
 }
 
 /// The greatest number of locals that a block uses. No memory holds more than a number of 32 bits counts.

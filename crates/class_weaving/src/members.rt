@@ -1,129 +1,125 @@
 //! The methods of a class.
 
-ghost use Rattle.std.specs.Prelude.{◌≡◌, ◌<◌, ◌^◌, ◌+◌, IfOk, length, map, option_copied};
+ghost use Rattle.std.specs.Prelude.{◌≡◌, ◌<◌, ◌^◌, ◌+◌, ◌++◌, IfOk, Ok, OnOk, Some, length, map, option_copied};
 ghost use Rattle.std.specs.List.{AllByRecursion};
 ghost use Rattle.bytecode_model.specs.Sound.{IsSoundMethod};
-ghost use Rattle.mon_base.specs.Answer.{Answers};
+ghost use Rattle.mon_base.specs.Answer.{AnswersAs};
 ghost use Rattle.class_weaving.specs.Woven.{first_code, attr_with, member_with, bare_put};
 ghost use Rattle.class_weaving.specs.Woven.{code_put, body_woven, member_woven, members_woven, none_made};
 
 use crate::code::{code_woven, copy_code};
-use crate::woven::{Members, WovenCode};
+use crate::woven::Members;
 use bytecode_model::{LinkedClass, Method, Origin};
 use class_codec::{Attr, Code, Copied, Member};
 use mon_base::{Bytes, List, NoMemory};
-use offset_patch::{Entries, Planner, SpliceFault};
+use offset_patch::{Planner, SpliceFault};
 use std::alloc::Global;
 
-/// The members of a class, with its blocks.
+/// Appends the members of a class, with its blocks.
 pub fn members_woven<P: Planner>(
     alloc: Global,
     planner: &P,
     class: &LinkedClass,
-    made: Members,
+    made: &mut Members,
     members: &[Member],
-) -> Result<Members, SpliceFault>
+) -> Result<(), SpliceFault>
     requires methods { AllByRecursion IsSoundMethod class.now.methods }
-    requires count { made.number + length members.now < 2 ^ 17 }
-    requires pool { length made.entries < 2 ^ 16 }
-    ensures is { Answers SpliceFault.Memory result (members_woven (P.plan planner.now) class.now made members.now) }
-    ensures pool { IfOk result (λ next. length next.entries < 2 ^ 16) }
+    requires count { made.old.number + length members.now < 2 ^ 17 }
+    requires pool { length made.old.entries < 2 ^ 16 }
+    ensures is { AnswersAs SpliceFault.Memory (λ done. made.new) result
+        (members_woven (P.plan planner.now) class.now made.old members.now) }
+    ensures pool { OnOk result (length made.new.entries < 2 ^ 16) }
 {
-    let mut made = made;
     let mut left = members;
     while let [member, rest @ ..] = left {
-        made = member_woven(alloc, planner, class, made, member)?;
+        member_woven(alloc, planner, class, made, member)?;
         left = rest;
     }
-    Ok(made)
+    Ok(())
 }
 
 fn member_woven<P: Planner>(
     alloc: Global,
     planner: &P,
     class: &LinkedClass,
-    made: Members,
+    made: &mut Members,
     member: &Member,
-) -> Result<Members, SpliceFault>
+) -> Result<(), SpliceFault>
     requires methods { AllByRecursion IsSoundMethod class.now.methods }
-    requires count { made.number < 2 ^ 17 }
-    requires pool { length made.entries < 2 ^ 16 }
-    ensures is { Answers SpliceFault.Memory result (member_woven (P.plan planner.now) class.now made member.now) }
-    ensures count { IfOk result (λ next. next.number ≡ made.number + 1) }
-    ensures pool { IfOk result (λ next. length next.entries < 2 ^ 16) }
+    requires count { made.old.number < 2 ^ 17 }
+    requires pool { length made.old.entries < 2 ^ 16 }
+    ensures is { AnswersAs SpliceFault.Memory (λ done. made.new) result
+        (member_woven (P.plan planner.now) class.now made.old member.now) }
+    ensures count { OnOk result (made.new.number ≡ made.old.number + 1) }
+    ensures pool { OnOk result (length made.new.entries < 2 ^ 16) }
 {
     let Some(method) = class.methods.as_slice().get(made.number as usize) else {
-        let made = bare_put(alloc, made, member)?;
-        return Ok(made);
+        return bare_put(alloc, made, member);
     };
     let Some(code) = first_code(member.attrs.as_slice()) else {
-        let made = bare_put(alloc, made, member)?;
-        return Ok(made);
+        return bare_put(alloc, made, member);
     };
     body_woven(alloc, planner, &class.name, made, member, method, code)
 }
 
-fn bare_put(alloc: Global, made: Members, member: &Member) -> Result<Members, NoMemory>
-    requires { made.number < 2 ^ 17 }
-    ensures { IfOk result (λ next. next ≡ bare_put made member.now) }
+fn bare_put(alloc: Global, made: &mut Members, member: &Member) -> Result<(), SpliceFault>
+    requires { made.old.number < 2 ^ 17 }
+    ensures { AnswersAs SpliceFault.Memory (λ done. made.new) result (Ok (bare_put made.old member.now)) }
 {
-    let Members {
-        number,
-        entries,
-        items,
-        origins,
-    } = made;
-    let mut items = items;
     let copy = member.copy(alloc)?;
-    items.push(copy)?;
-    Ok(Members {
-        number: number + 1,
-        entries,
-        items,
-        origins,
-    })
+    made.items.push(copy)?;
+    made.number += 1;
+    Ok(())
 }
 
 fn body_woven<P: Planner>(
     alloc: Global,
     planner: &P,
     class: &Bytes,
-    made: Members,
+    made: &mut Members,
     member: &Member,
     method: &Method,
     code: &Code,
-) -> Result<Members, SpliceFault>
+) -> Result<(), SpliceFault>
     requires method { IsSoundMethod method.now }
-    requires count { made.number < 2 ^ 17 }
-    requires pool { length made.entries < 2 ^ 16 }
-    ensures is { Answers SpliceFault.Memory result
-        (body_woven (P.plan planner.now) class.now made member.now (Some method.now) (Some code.now)) }
-    ensures count { IfOk result (λ next. next.number ≡ made.number + 1) }
-    ensures pool { IfOk result (λ next. length next.entries < 2 ^ 16) }
+    requires count { made.old.number < 2 ^ 17 }
+    requires pool { length made.old.entries < 2 ^ 16 }
+    ensures is { AnswersAs SpliceFault.Memory (λ done. made.new) result
+        (body_woven (P.plan planner.now) class.now made.old member.now (Some method.now) (Some code.now)) }
+    ensures count { OnOk result (made.new.number ≡ made.old.number + 1) }
+    ensures pool { OnOk result (length made.new.entries < 2 ^ 16) }
 {
-    let Members {
+    let number = made.number;
+    let (code, origins) = code_woven(
+        alloc,
+        planner,
+        class,
         number,
-        entries,
-        items,
-        origins,
-    } = made;
-    let woven = code_woven(alloc, planner, class, number, entries, method, code)?;
-    let WovenCode {
+        &mut made.entries,
+        method,
         code,
-        entries,
-        origins: of_code,
-    } = woven;
-    let mut items = items;
-    let mut origins = origins;
-    let woven = member_with(alloc, member, code)?;
-    items.push(woven)?;
-    origins.push(of_code)?;
-    Ok(Members {
-        number: number + 1,
-        entries,
-        items,
-        origins,
-    })
+    )?;
+    code_put(alloc, made, member, code, origins)?;
+    Ok(())
+}
+
+/// Appends a member with this code, and where its instructions come from.
+fn code_put(
+    alloc: Global,
+    made: &mut Members,
+    member: &Member,
+    code: Code,
+    origins: List<Origin>,
+) -> Result<(), NoMemory>
+    requires { made.old.number < 2 ^ 17 }
+    ensures { OnOk result (made.new ≡ code_put made.old member.now
+        (record { code = code; entries = made.old.entries; origins = origins })) }
+{
+    let member = member_with(alloc, member, &code)?;
+    made.items.push(member)?;
+    made.origins.push(origins)?;
+    made.number += 1;
+    Ok(())
 }
 
 /// The first code among attributes.
@@ -141,20 +137,33 @@ fn first_code(attrs: &[Attr]) -> Option<&Code>
 }
 
 /// The member with another code.
-fn member_with(alloc: Global, member: &Member, code: Code) -> Result<Member, NoMemory>
-    ensures { IfOk result (λ other. other ≡ member_with member.now code) }
+fn member_with(alloc: Global, member: &Member, code: &Code) -> Result<Member, NoMemory>
+    ensures { IfOk result (λ other. other ≡ member_with member.now code.now) }
 {
     let mut attrs = List::with_room(alloc, member.attrs.len())?;
-    for attr in member.attrs.as_slice() {
-        let one = attr_with(alloc, &code, attr)?;
-        attrs.push(one)?;
-    }
+    put_attrs(alloc, &mut attrs, code, member.attrs.as_slice())?;
     Ok(Member {
         flags: member.flags,
         name: member.name,
         desc: member.desc,
         attrs,
     })
+}
+
+/// Appends the attributes, each code of them being this one.
+fn put_attrs(
+    alloc: Global,
+    attrs: &mut List<Attr>,
+    code: &Code,
+    olds: &[Attr],
+) -> Result<(), NoMemory>
+    ensures { OnOk result (attrs.new ≡ attrs.old ++ map (attr_with code.now) olds.now) }
+{
+    for attr in olds {
+        let one = attr_with(alloc, code, attr)?;
+        attrs.push(one)?;
+    }
+    Ok(())
 }
 
 fn attr_with(alloc: Global, code: &Code, attr: &Attr) -> Result<Attr, NoMemory>

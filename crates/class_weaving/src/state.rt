@@ -1,6 +1,6 @@
 //! The class file of `conspec/State`.
 
-ghost use Rattle.std.specs.Prelude.{◌≡◌, ◌+◌, ◌*◌, ◌++◌, ◌<◌, ◌≤◌, IfOk, OnOk, length};
+ghost use Rattle.std.specs.Prelude.{◌≡◌, ◌∷◌, [], ◌+◌, ◌*◌, ◌++◌, ◌<◌, ◌≤◌, IfOk, OnOk, length};
 ghost use Rattle.byteorder.specs.Endian.{big_bytes};
 ghost use Rattle.class_codec.specs.declared.tree.Const.TheVariants.{Utf8};
 ghost use Rattle.class_weaving.specs.State.{head, values_from, variable_text};
@@ -40,21 +40,21 @@ fn head(alloc: Global) -> Result<List<Const>, NoMemory>
 {
     let mut pool = List::new(alloc);
     pool.push(Const::Second)?;
-    pool.push(text(alloc, "conspec/State")?)?;
+    put_text(alloc, &mut pool, "conspec/State")?;
     pool.push(Const::Class(1))?;
-    pool.push(text(alloc, "java/lang/Object")?)?;
+    put_text(alloc, &mut pool, "java/lang/Object")?;
     pool.push(Const::Class(3))?;
-    pool.push(text(alloc, "ConstantValue")?)?;
-    pool.push(text(alloc, "I")?)?;
-    pool.push(text(alloc, "Z")?)?;
+    put_text(alloc, &mut pool, "ConstantValue")?;
+    put_text(alloc, &mut pool, "I")?;
+    put_text(alloc, &mut pool, "Z")?;
     Ok(pool)
 }
 
-fn text(alloc: Global, text: &str) -> Result<Const, NoMemory>
-    ensures { IfOk result (λ constant. constant ≡ Utf8 text.now) }
+fn put_text(alloc: Global, pool: &mut List<Const>, text: &str) -> Result<(), NoMemory>
+    ensures { OnOk result (pool.new ≡ pool.old ++ Utf8 text.now ∷ []) }
 {
     let text = Bytes::from_slice(alloc, text.as_bytes())?;
-    Ok(Const::Utf8(text))
+    pool.push(Const::Utf8(text))
 }
 
 /// Appends the name and the first value of each variable.

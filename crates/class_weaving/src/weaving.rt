@@ -1,12 +1,12 @@
 //! A program becomes class files with blocks.
 
-ghost use Rattle.std.specs.Prelude.{◌≡◌, ◌≢◌, ◌<◌, ◌≤◌, ◌^◌, FitsSigned, IfErr, IfOk, IsOk, None, Some, length, map};
+ghost use Rattle.std.specs.Prelude.{◌≡◌, ◌≢◌, ◌<◌, ◌≤◌, ◌^◌, FitsSigned, IfErr, IfOk, IsOk, None, OnOk, Some, length, map};
 ghost use Rattle.std.specs.Int.{w32};
 ghost use Rattle.std.specs.List.{AllByRecursion};
 ghost use Rattle.class_codec.specs.Fits.{CanSpell};
 ghost use Rattle.conspec_tree.specs.declared.types.Var.{Var};
 ghost use Rattle.bytecode_model.specs.Sound.{IsSound, IsSoundClass};
-ghost use Rattle.mon_base.specs.Answer.{Answers};
+ghost use Rattle.mon_base.specs.Answer.{Answers, AnswersAs};
 ghost use Rattle.offset_patch.specs.Plan.{IsGood};
 ghost use Rattle.offset_patch.specs.Sizes.{first_unfit};
 ghost use Rattle.offset_patch.specs.declared.fault.SpliceFault.TheVariants.{Memory};
@@ -17,7 +17,7 @@ use crate::members::members_woven;
 use crate::state::state_file;
 use crate::woven::{Members, Woven};
 use bytecode_model::{LinkedClass, Program};
-use class_codec::{ClassFile, Member, copy_list};
+use class_codec::{Attr, ClassFile, Member, copy_list};
 use conspec_tree::Var;
 use mon_base::{List, NoMemory};
 use offset_patch::{Entries, Planner, SpliceFault};
@@ -56,86 +56,96 @@ fn all_woven<P: Planner>(
     ensures { Answers SpliceFault.Memory result (woven program.now (P.plan planner.now) vars.now) }
 {
     let count = program.classes.len() + 1;
-    let none = Woven {
+    let mut woven = Woven {
         files: List::with_room(alloc, count)?,
         origins: List::with_room(alloc, count)?,
     };
-    let woven = classes_woven(alloc, planner, none, program.classes.as_slice())?;
-    let woven = state_put(alloc, vars, woven)?;
+    classes_woven(alloc, planner, &mut woven, program.classes.as_slice())?;
+    state_put(alloc, vars, &mut woven)?;
     Ok(woven)
 }
 
-fn state_put(alloc: Global, vars: &[Var], woven: Woven) -> Result<Woven, NoMemory>
+fn state_put(alloc: Global, vars: &[Var], woven: &mut Woven) -> Result<(), NoMemory>
     requires { length vars.now ≤ 16 }
-    ensures { IfOk result (λ other. other ≡ state_put vars.now woven) }
+    ensures { OnOk result (woven.new ≡ state_put vars.now woven.old) }
 {
-    let Woven { files, origins } = woven;
-    let mut files = files;
-    let mut origins = origins;
-    files.push(state_file(alloc, vars)?)?;
-    origins.push(List::new(alloc))?;
-    Ok(Woven { files, origins })
+    woven.files.push(state_file(alloc, vars)?)?;
+    woven.origins.push(List::new(alloc))
 }
 
+/// Appends the classes one after another, as long as each fits.
 fn classes_woven<P: Planner>(
     alloc: Global,
     planner: &P,
-    woven: Woven,
+    woven: &mut Woven,
     classes: &[LinkedClass],
-) -> Result<Woven, SpliceFault>
+) -> Result<(), SpliceFault>
     requires { AllByRecursion IsSoundClass classes.now }
-    ensures { Answers SpliceFault.Memory result (classes_woven (P.plan planner.now) woven classes.now) }
+    ensures { AnswersAs SpliceFault.Memory (λ done. woven.new) result (classes_woven (P.plan planner.now) woven.old classes.now) }
 {
-    let mut woven = woven;
     let mut left = classes;
     while let [class, rest @ ..] = left {
-        woven = class_woven(alloc, planner, woven, class)?;
+        class_woven(alloc, planner, woven, class)?;
         left = rest;
     }
-    Ok(woven)
+    Ok(())
 }
 
 fn class_woven<P: Planner>(
     alloc: Global,
     planner: &P,
-    woven: Woven,
+    woven: &mut Woven,
     class: &LinkedClass,
-) -> Result<Woven, SpliceFault>
+) -> Result<(), SpliceFault>
     requires { IsSoundClass class.now }
-    ensures { Answers SpliceFault.Memory result (class_woven (P.plan planner.now) woven class.now) }
+    ensures { AnswersAs SpliceFault.Memory (λ done. woven.new) result (class_woven (P.plan planner.now) woven.old class.now) }
 {
-    let none = Members {
-        number: 0,
-        entries: Entries::new(copy_list(alloc, &class.file.pool)?),
-        items: List::with_room(alloc, class.file.methods.len())?,
-        origins: List::with_room(alloc, class.methods.len())?,
-    };
-    let made = members_woven(alloc, planner, class, none, class.file.methods.as_slice())?;
-    let woven = file_put(alloc, woven, class, made)?;
-    Ok(woven)
+    let mut made = none_made(alloc, class)?;
+    members_woven(
+        alloc,
+        planner,
+        class,
+        &mut made,
+        class.file.methods.as_slice(),
+    )?;
+    file_put(alloc, woven, class, made)?;
+    Ok(())
 }
 
+/// Nothing is made yet of the class.
+fn none_made(alloc: Global, class: &LinkedClass) -> Result<Members, NoMemory>
+    ensures { IfOk result (λ made. made ≡ none_made class.now.file.pool) }
+{
+    let items = List::with_room(alloc, class.file.methods.len())?;
+    let origins = List::with_room(alloc, class.methods.len())?;
+    let pool = copy_list(alloc, &class.file.pool)?;
+    Ok(Members {
+        number: 0,
+        entries: Entries::new(pool),
+        items,
+        origins,
+    })
+}
+
+/// Appends the file of a class whose members are made.
 fn file_put(
     alloc: Global,
-    woven: Woven,
+    woven: &mut Woven,
     class: &LinkedClass,
     made: Members,
-) -> Result<Woven, NoMemory>
+) -> Result<(), NoMemory>
     requires { length made.entries < 2 ^ 16 }
-    ensures { IfOk result (λ other. other ≡ file_put woven class.now made) }
+    ensures { OnOk result (woven.new ≡ file_put woven.old class.now made) }
 {
-    let Woven { files, origins } = woven;
-    let mut files = files;
-    let mut origins = origins;
     let Members {
-        number,
         entries,
         items,
-        origins: of_class,
+        origins,
+        ..
     } = made;
-    files.push(file_with(alloc, &class.file, entries, items)?)?;
-    origins.push(of_class)?;
-    Ok(Woven { files, origins })
+    let file = file_with(alloc, &class.file, entries, items)?;
+    woven.files.push(file)?;
+    woven.origins.push(origins)
 }
 
 /// The file with these methods and constants; all else is as it was.
@@ -148,15 +158,30 @@ fn file_with(
     requires { length entries < 2 ^ 16 }
     ensures { IfOk result (λ other. other ≡ file_with file.now entries methods) }
 {
+    let (interfaces, fields, attrs) = lists_kept(alloc, file)?;
+    let pool = entries.into_list(alloc)?;
     Ok(ClassFile {
         minor: file.minor,
-        pool: entries.into_list(alloc)?,
+        pool,
         flags: file.flags,
         this_class: file.this_class,
         super_class: file.super_class,
-        interfaces: copy_list(alloc, &file.interfaces)?,
-        fields: copy_list(alloc, &file.fields)?,
+        interfaces,
+        fields,
         methods,
-        attrs: copy_list(alloc, &file.attrs)?,
+        attrs,
     })
+}
+
+/// The interfaces, the fields and the attributes of the file, which stay.
+fn lists_kept(
+    alloc: Global,
+    file: &ClassFile,
+) -> Result<(List<u16>, List<Member>, List<Attr>), NoMemory>
+    ensures { IfOk result (λ kept. kept ≡ (file.now.interfaces, file.now.fields, file.now.attrs)) }
+{
+    let interfaces = copy_list(alloc, &file.interfaces)?;
+    let fields = copy_list(alloc, &file.fields)?;
+    let attrs = copy_list(alloc, &file.attrs)?;
+    Ok((interfaces, fields, attrs))
 }
