@@ -75,6 +75,15 @@ fn fronts_of(alloc: Global, items: &PolicyItems, refs: &[Target]) -> Result<List
     ensures { IfOk result (λ made. made ≡ fronts_of (map ((plan_of items.now.policy items.now.mode).block 0) refs.now)) }
 {
     let mut fronts = List::with_room(alloc, refs.len().saturating_add(1))?;
+    put_fronts(&mut fronts, items, refs)?;
+    Ok(fronts)
+}
+
+/// Appends the fronts of the parts, and where the last one ends.
+fn put_fronts(fronts: &mut List<u32>, items: &PolicyItems, refs: &[Target]) -> Result<(), NoMemory>
+    ensures { OnOk result (fronts.new ≡ fronts.old
+        ++ fronts_of (map ((plan_of items.now.policy items.now.mode).block 0) refs.now)) }
+{
     let mut at: u32 = 0;
     let mut left = refs;
     while let [target, rest @ ..] = left {
@@ -82,8 +91,7 @@ fn fronts_of(alloc: Global, items: &PolicyItems, refs: &[Target]) -> Result<List
         at = sum(at, part_size(items, target)?)?;
         left = rest;
     }
-    fronts.push(at)?;
-    Ok(fronts)
+    fronts.push(at)
 }
 
 /// No code has more instructions than a number of 32 bits counts.
@@ -321,24 +329,39 @@ fn parts_framed(
     ensures { IfOk result (λ made. made ≡ parts_framed client.now 0 insns.now refs.now frames.now) }
 {
     let mut out = List::with_room(alloc, client.fronts.end())?;
+    put_parts(alloc, &mut out, client, insns, refs, frames)?;
+    Ok(out)
+}
+
+/// Appends the frames of these instructions, from the index 0 on.
+fn put_parts(
+    alloc: Global,
+    out: &mut Frames,
+    client: &Client,
+    insns: &[Insn],
+    refs: &[Target],
+    frames: &[Option<FrameType>],
+) -> Result<(), NoMemory>
+    ensures { OnOk result (out.new ≡ out.old ++ parts_framed client.now 0 insns.now refs.now frames.now) }
+{
     let mut at: u32 = 0;
     let mut insns = insns;
     let mut refs = refs;
     let mut frames = frames;
     while let [insn, later @ ..] = insns {
         let [target, others @ ..] = refs else {
-            return Ok(out);
+            return Ok(());
         };
         let [frame, rest @ ..] = frames else {
-            return Ok(out);
+            return Ok(());
         };
-        put_insn(alloc, &mut out, client, at, insn, target, frame)?;
+        put_insn(alloc, out, client, at, insn, target, frame)?;
         at = sum(at, 1)?;
         insns = later;
         refs = others;
         frames = rest;
     }
-    Ok(out)
+    Ok(())
 }
 
 /// The frames of the method with its blocks, where these are its own.

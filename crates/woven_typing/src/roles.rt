@@ -225,6 +225,29 @@ fn locals_caught(alloc: Global, base: u16, locals: &[VType]) -> Result<List<VTyp
     Ok(made)
 }
 
+/// What a handler finds on the stack, in a list that takes so many more without being moved.
+fn stack_caught(alloc: Global, names: &Names, more: usize) -> Result<List<VType>, NoMemory>
+    ensures { IfOk result (λ made. made ≡ Ref throwable ∷ []) }
+{
+    let mut stack = List::with_room(alloc, more.saturating_add(1))?;
+    stack.push(names.thrown()?)?;
+    Ok(stack)
+}
+
+/// The frame of these locals, and of a copy of these operands, which takes so many more without being moved.
+fn framed(
+    alloc: Global,
+    locals: List<VType>,
+    operands: &[VType],
+    more: usize,
+) -> Result<FrameType, NoMemory>
+    ensures { IfOk result (λ made. made ≡ record { locals = locals; stack = operands.now }) }
+{
+    let locals = SharedList::new(alloc, locals)?;
+    let stack = copied_types(alloc, operands, more)?;
+    Ok(FrameType { locals, stack })
+}
+
 // ---- a call
 
 /// What the types of a block are told of: the clauses of the method that is called, the types before the call and behind
@@ -277,9 +300,7 @@ impl<'a> CallTypes<'a> {
     {
         let (below, _) = split_top(self.before.stack.as_slice(), taken);
         let saved = self.saved_locals(alloc, left)?;
-        let locals = SharedList::new(alloc, saved)?;
-        let stack = copied_types(alloc, below, more)?;
-        Ok(FrameType { locals, stack })
+        framed(alloc, saved, below, more)
     }
 
     /// Where the result is kept, and is on the stack no more.
@@ -290,9 +311,7 @@ impl<'a> CallTypes<'a> {
         let (below, top) = split_top(self.after.stack.as_slice(), count);
         let mut locals = locals_padded(alloc, self.base, self.after.locals.as_slice(), count)?;
         put_types(&mut locals, top)?;
-        let locals = SharedList::new(alloc, locals)?;
-        let stack = copied_types(alloc, below, more)?;
-        Ok(FrameType { locals, stack })
+        framed(alloc, locals, below, more)
     }
 
     /// Where the call gave its result, or its block is left.
@@ -303,20 +322,16 @@ impl<'a> CallTypes<'a> {
         }) }
     {
         let locals = locals_padded(alloc, self.base, self.after.locals.as_slice(), 0)?;
-        let locals = SharedList::new(alloc, locals)?;
-        let stack = copied_types(alloc, self.after.stack.as_slice(), 0)?;
-        Ok(FrameType { locals, stack })
+        framed(alloc, locals, self.after.stack.as_slice(), 0)
     }
 
     /// Where the call threw.
     fn thrown(&self, alloc: Global, more: usize) -> Result<FrameType, NoMemory>
         ensures { IfOk result (λ made. made ≡ phase_frame self.now.clauses self.now.around Exceptional) }
     {
-        let mut stack = List::with_room(alloc, more.saturating_add(1))?;
-        let one = self.names.thrown()?;
-        stack.push(one)?;
         let locals = locals_caught(alloc, self.base, self.before.locals.as_slice())?;
         let locals = SharedList::new(alloc, locals)?;
+        let stack = stack_caught(alloc, self.names, more)?;
         Ok(FrameType { locals, stack })
     }
 
@@ -355,9 +370,7 @@ impl<'a> CallTypes<'a> {
         }) }
     {
         let saved = self.saved_locals(alloc, 0)?;
-        let locals = SharedList::new(alloc, saved)?;
-        let stack = copied_types(alloc, self.before.stack.as_slice(), 0)?;
-        Ok(FrameType { locals, stack })
+        framed(alloc, saved, self.before.stack.as_slice(), 0)
     }
 
     /// Where so many of the arguments are kept, or stand on the stack again.
@@ -376,27 +389,27 @@ impl<'a> CallTypes<'a> {
         ensures { IfOk result (λ made. made ≡ frame_at self.now.clauses self.now.around role) }
     {
         let frame = match role {
-            Role::Save { left } => self.among(alloc, left, left)?,
-            Role::Lock { phase, pushed } => self.with_pushed(alloc, phase, class_pushed(pushed))?,
+            Role::Save { left } => self.among(alloc, left, left),
+            Role::Lock { phase, pushed } => self.with_pushed(alloc, phase, class_pushed(pushed)),
             Role::Ask { phase, pushed, .. } => {
-                self.with_pushed(alloc, phase, Pushed::Numbers(pushed))?
+                self.with_pushed(alloc, phase, Pushed::Numbers(pushed))
             }
             Role::Update { phase, done, .. } => {
-                self.with_pushed(alloc, phase, update_pushed(done))?
+                self.with_pushed(alloc, phase, update_pushed(done))
             }
-            Role::Taken { phase, .. } => self.phase_frame(alloc, phase, 0)?,
-            Role::Stop { phase, done } => self.with_pushed(alloc, phase, stop_pushed(done))?,
+            Role::Taken { phase, .. } => self.phase_frame(alloc, phase, 0),
+            Role::Stop { phase, done } => self.with_pushed(alloc, phase, stop_pushed(done)),
             Role::Unlock { phase, pushed, .. } => {
-                self.with_pushed(alloc, phase, class_pushed(pushed))?
+                self.with_pushed(alloc, phase, class_pushed(pushed))
             }
-            Role::Load { loaded, .. } => self.among(alloc, 0, loaded)?,
-            Role::Call { .. } => self.at_call(alloc)?,
-            Role::Keep { .. } => self.given(alloc)?,
-            Role::Give => self.behind_call(alloc, 0)?,
-            Role::Leave => self.given(alloc)?,
-            Role::Rethrow => self.thrown(alloc, 0)?,
+            Role::Load { loaded, .. } => self.among(alloc, 0, loaded),
+            Role::Call { .. } => self.at_call(alloc),
+            Role::Keep { .. } => self.given(alloc),
+            Role::Give => self.behind_call(alloc, 0),
+            Role::Leave => self.given(alloc),
+            Role::Rethrow => self.thrown(alloc, 0),
             Role::Unreached => return Ok(None),
         };
-        Ok(Some(frame))
+        Ok(Some(frame?))
     }
 }

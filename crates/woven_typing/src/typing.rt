@@ -1,6 +1,6 @@
 //! The typing of a woven program.
 
-ghost use Rattle.std.specs.Prelude.{◌≡◌, IfOk};
+ghost use Rattle.std.specs.Prelude.{◌≡◌, ◌++◌, IfOk, OnOk};
 ghost use Rattle.conspec_automaton.specs.Sound.{IsPolicy};
 ghost use Rattle.bytecode_model.specs.Typed.{list_at};
 ghost use Rattle.woven_typing.specs.Framing.{
@@ -51,6 +51,24 @@ fn methods_framed(
         own class.now methods.now told.now) }
 {
     let mut made = List::with_room(alloc, told.len())?;
+    put_methods(alloc, &mut made, weaving, own, class, methods, told)?;
+    Ok(made)
+}
+
+/// Appends those of the methods with code.
+fn put_methods(
+    alloc: Global,
+    made: &mut List<Frames>,
+    weaving: &Weaving,
+    own: u32,
+    class: &LinkedClass,
+    methods: &[Method],
+    told: &[Frames],
+) -> Result<(), NoMemory>
+    ensures { OnOk result (made.new ≡ made.old
+        ++ methods_framed weaving.now.program.now weaving.now.items.now.policy weaving.now.items.now.mode
+        own class.now methods.now told.now) }
+{
     let mut methods = methods;
     let mut told = told;
     while let [method, later @ ..] = methods {
@@ -61,7 +79,7 @@ fn methods_framed(
         }
         methods = later;
     }
-    Ok(made)
+    Ok(())
 }
 
 /// Those of the classes, of which the first has the index 0.
@@ -76,6 +94,22 @@ fn classes_framed(
         0 classes.now told.now) }
 {
     let mut made = List::with_room(alloc, classes.len().saturating_add(1))?;
+    put_classes(alloc, &mut made, weaving, classes, told)?;
+    Ok(made)
+}
+
+/// Appends those of the classes, of which the first has the index 0, and behind them that of `conspec/State`.
+fn put_classes(
+    alloc: Global,
+    made: &mut List<List<Frames>>,
+    weaving: &Weaving,
+    classes: &[LinkedClass],
+    told: &[List<Frames>],
+) -> Result<(), NoMemory>
+    ensures { OnOk result (made.new ≡ made.old
+        ++ classes_framed weaving.now.program.now weaving.now.items.now.policy weaving.now.items.now.mode
+        0 classes.now told.now) }
+{
     let mut own: u32 = 0;
     let mut classes = classes;
     let mut told = told;
@@ -90,8 +124,7 @@ fn classes_framed(
         classes = later;
         told = behind_first(told);
     }
-    made.push(List::new(alloc))?;
-    Ok(made)
+    made.push(List::new(alloc))
 }
 
 /// The typing of what is woven of the program, where this is the program's own.

@@ -1,12 +1,12 @@
 -- The frames so far, and behind them those of what is left.
 use Rattle.std.proofs.Common.{◌≡◌, ◌++◌, length}
 use Rattle.woven_typing.specs.Framing.{methods_framed}
-use Rattle.woven_typing.proofs.typing.methods_framed.Given as goal
+use Rattle.woven_typing.proofs.typing.put_methods.Given as goal
 
 abbrev pub invariant-loop-methods : goal.invariant-loop-methods
 invariant-loop-methods l =
     l.made ++ methods_framed l.weaving.program.now l.weaving.items.now.policy l.weaving.items.now.mode l.own l.class l.methods l.told
-    ≡ methods_framed l.weaving.program.now l.weaving.items.now.policy l.weaving.items.now.mode l.own l.class l.fn.methods l.fn.told
+    ≡ l.fn.made ++ methods_framed l.weaving.program.now l.weaving.items.now.policy l.weaving.items.now.mode l.own l.class l.fn.methods l.fn.told
 
 abbrev pub decreases-loop-methods : goal.decreases-loop-methods
 decreases-loop-methods l = length l.methods

@@ -1,12 +1,12 @@
 -- The frames so far, and behind them those of what is left.
 use Rattle.std.proofs.Common.{◌≡◌, ◌++◌, length}
 use Rattle.woven_typing.specs.Framing.{classes_framed}
-use Rattle.woven_typing.proofs.typing.classes_framed.Given as goal
+use Rattle.woven_typing.proofs.typing.put_classes.Given as goal
 
 abbrev pub invariant-loop-classes : goal.invariant-loop-classes
 invariant-loop-classes l =
     l.made ++ classes_framed l.weaving.program.now l.weaving.items.now.policy l.weaving.items.now.mode l.own l.classes l.told
-    ≡ classes_framed l.weaving.program.now l.weaving.items.now.policy l.weaving.items.now.mode 0 l.fn.classes l.fn.told
+    ≡ l.fn.made ++ classes_framed l.weaving.program.now l.weaving.items.now.policy l.weaving.items.now.mode 0 l.fn.classes l.fn.told
 
 abbrev pub decreases-loop-classes : goal.decreases-loop-classes
 decreases-loop-classes l = length l.classes
