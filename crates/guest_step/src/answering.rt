@@ -129,32 +129,30 @@ fn take(
         (answered_well guest.now (world_of machine.old) call.now.number thread.old call.now.method call.now.receiver
         call.now.args.now answer.now) }
 {
-    let value = match answer {
+    match answer {
         ApiAnswer::Text(text) => {
             let object = Object::Text(text.copy(alloc)?);
-            return finish_with(alloc, guest, machine, thread, call, object);
+            finish_with(alloc, guest, machine, thread, call, object)
         }
         ApiAnswer::Fresh(class) => {
             let object = bare_object(alloc, class)?;
-            return finish_with(alloc, guest, machine, thread, call, object);
+            finish_with(alloc, guest, machine, thread, call, object)
         }
         ApiAnswer::Throws(class) => {
-            let class = class.as_slice();
-            return throw_in_call(alloc, guest, machine, thread, call, class);
+            throw_in_call(alloc, guest, machine, thread, call, class.as_slice())
         }
-        ApiAnswer::Nothing => None,
-        ApiAnswer::Int(n) => Some(Value::Int(*n)),
-        ApiAnswer::Null => Some(Value::Null),
+        ApiAnswer::Nothing => finish(alloc, guest, machine, thread, call, None),
+        ApiAnswer::Int(n) => { finish(alloc, guest, machine, thread, call, Some(Value::Int(*n))) }
+        ApiAnswer::Null => finish(alloc, guest, machine, thread, call, Some(Value::Null)),
         ApiAnswer::Arg(i) => match call.args.get(*i as usize) {
-            Some(value) => Some(*value),
-            None => return Err(StepFault::NotEnabled),
+            Some(value) => finish(alloc, guest, machine, thread, call, Some(*value)),
+            None => Err(StepFault::NotEnabled),
         },
         ApiAnswer::Receiver => match call.receiver {
-            Some(value) => Some(value),
-            None => return Err(StepFault::NotEnabled),
+            Some(value) => finish(alloc, guest, machine, thread, call, Some(value)),
+            None => Err(StepFault::NotEnabled),
         },
-    };
-    finish(alloc, guest, machine, thread, call, value)
+    }
 }
 
 /// An object that was just made of a class without fields.

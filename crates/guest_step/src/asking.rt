@@ -1,7 +1,10 @@
 //! What is asked of a machine before a step is made. (docs/MACHINE.md)
 
-ghost use Rattle.std.specs.Prelude.{◌≡◌};
+ghost use Rattle.std.specs.Option.{option_map_or};
+ghost use Rattle.std.specs.Prelude.{false, slice_get, ◌≡◌};
+ghost use Rattle.guest_heap.specs.declared.thread.Thread.{Thread};
 ghost use Rattle.guest_step.specs.Asking.{EnabledAreSteps, FittingAreSteps, doing_takes, is_enabled, takes_answer};
+ghost use Rattle.guest_step.specs.Ending.{can_step};
 
 use crate::answering::is_on_null;
 use crate::ending::can_step;
@@ -16,11 +19,16 @@ use mon_base::List;
 pub fn enabled(guest: &Guest, machine: &Machine, thread: u32) -> bool
     ensures { result ≡ is_enabled guest.now machine.now thread }
 {
-    if machine.stopped.is_some() {
-        return false;
-    }
-    match machine.threads.as_slice().get(thread as usize) {
-        Some(acting) => can_step(guest, machine, thread as usize, acting),
+    !machine.stopped.is_some() && can_act(guest, machine, thread as usize)
+}
+
+/// Whether there is a thread with this number that can make a step while the program goes on.
+fn can_act(guest: &Guest, machine: &Machine, number: usize) -> bool
+    ensures { result ≡ option_map_or (λ (t : Thread). can_step guest.now machine.now number t.frames t.doing)
+        (slice_get machine.now.threads number) false }
+{
+    match machine.threads.as_slice().get(number) {
+        Some(acting) => can_step(guest, machine, number, acting),
         None => false,
     }
 }

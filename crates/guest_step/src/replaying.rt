@@ -2,9 +2,9 @@
 
 ghost use Rattle.std.specs.Prelude.{◌≡◌};
 ghost use Rattle.guest_step.specs.Ending.{EndsWhereNoneIsEnabled};
-ghost use Rattle.guest_step.specs.Replaying.{ReplaysAreRuns, after_step, replayed};
+ghost use Rattle.guest_step.specs.Replaying.{ReplaysAreRuns, after_step, replayed, replayed_from};
 ghost use Rattle.guest_step.specs.declared.replaying.ReplayFault.TheVariants as faults;
-ghost use Rattle.mon_base.specs.Answer.{Answers};
+ghost use Rattle.mon_base.specs.Answer.{Answers, AnswersAs};
 
 use crate::starting::start;
 use crate::stepping::step;
@@ -49,36 +49,45 @@ pub fn replay(alloc: Global, guest: &Guest, steps: &[Step]) -> Result<Replayed, 
         events: List::new(alloc),
         machine: start(alloc, guest)?,
     };
-    let mut index = 0u64;
-    let mut left = steps;
-    while let [next, rest @ ..] = left {
-        run = after(alloc, guest, index, run, next)?;
-        index += 1;
-        left = rest;
-    }
+    make_all(alloc, guest, &mut run, steps)?;
     Ok(run)
 }
 
-/// A run after one more step, which has this index.
-fn after(
+/// Makes these steps in the run, of which the first has the index 0.
+fn make_all(
+    alloc: Global,
+    guest: &Guest,
+    run: &mut Replayed,
+    steps: &[Step],
+) -> Result<(), ReplayFault>
+    ensures { AnswersAs ReplayFault.Memory (λ done. run.new) result (replayed_from guest.now 0 run.old steps.now) }
+{
+    let mut index = 0u64;
+    let mut left = steps;
+    while let [next, rest @ ..] = left {
+        make_next(alloc, guest, index, run, next)?;
+        index += 1;
+        left = rest;
+    }
+    Ok(())
+}
+
+/// Makes one more step in the run, which has this index.
+fn make_next(
     alloc: Global,
     guest: &Guest,
     index: u64,
-    run: Replayed,
+    run: &mut Replayed,
     next: &Step,
-) -> Result<Replayed, ReplayFault>
-    ensures { Answers ReplayFault.Memory result (after_step guest.now index run next.now) }
+) -> Result<(), ReplayFault>
+    ensures { AnswersAs ReplayFault.Memory (λ done. run.new) result (after_step guest.now index run.old next.now) }
 {
-    let Replayed {
-        mut events,
-        mut machine,
-    } = run;
-    match step(alloc, guest, &mut machine, next) {
+    match step(alloc, guest, &mut run.machine, next) {
         Ok(Some(event)) => {
-            events.push(event)?;
-            Ok(Replayed { events, machine })
+            run.events.push(event)?;
+            Ok(())
         }
-        Ok(None) => Ok(Replayed { events, machine }),
+        Ok(None) => Ok(()),
         Err(StepFault::NotEnabled) => Err(ReplayFault::NotEnabled { index }),
         Err(StepFault::Memory) => Err(ReplayFault::Memory),
     }

@@ -20,15 +20,26 @@ use std::alloc::Global;
 pub fn start(alloc: Global, guest: &Guest) -> Result<Machine, NoMemory>
     ensures { IfOk result (λ machine. machine ≡ start_of guest.now) }
 {
-    let mut threads = List::new(alloc);
-    threads.push(first_thread(alloc, guest)?)?;
+    let threads = first_threads(alloc, guest)?;
+    let heap = first_heap(alloc, guest)?;
+    let statics = statics_of(alloc, guest.program())?;
     Ok(Machine {
-        heap: first_heap(alloc, guest)?,
-        statics: statics_of(alloc, guest.program())?,
+        heap,
+        statics,
         monitors: List::new(alloc),
         threads,
         stopped: None,
     })
+}
+
+/// The one thread.
+fn first_threads(alloc: Global, guest: &Guest) -> Result<List<Thread>, NoMemory>
+    ensures { IfOk result (λ threads. threads ≡ rests guest.now
+        (initialisers guest.now ++ (guest.now.main_class, guest.now.main_method) ∷ []) ∷ []) }
+{
+    let mut threads = List::new(alloc);
+    threads.push(first_thread(alloc, guest)?)?;
+    Ok(threads)
 }
 
 /// The thread that runs the initialisers, and then main.
