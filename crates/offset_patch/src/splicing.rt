@@ -91,31 +91,51 @@ fn code_put(
     ensures pool { OnOk result (entries.new ≡ entries.old) }
 {
     let fronts = fronts_of(alloc, sites)?;
-    let insns = parts(
-        alloc,
-        entries,
-        fronts.as_slice(),
-        method.insns.as_slice(),
-        sites,
+    let fronts = fronts.as_slice();
+    let insns = parts(alloc, entries, fronts, method.insns.as_slice(), sites)?;
+    let insns = insns.as_slice();
+    let bytes = written(alloc, class, number, insns)?;
+    let made = code_with(
+        alloc, entries, method, code, locals, sites, fronts, insns, bytes,
     )?;
-    let bytes = written(alloc, class, number, insns.as_slice())?;
-    let starts = starts(alloc, insns.as_slice())?;
+    Ok(made)
+}
+
+/// The code with these instructions and bytes, where the parts begin at these fronts.
+fn code_with(
+    alloc: Global,
+    entries: &Entries,
+    method: &Method,
+    code: &Code,
+    locals: u16,
+    sites: &[Option<Block>],
+    fronts: &[u32],
+    insns: &[Insn],
+    bytes: Bytes,
+) -> Result<Code, NoMemory>
+    requires few { length method.now.insns < 2 ^ 16 }
+    requires own { len_from 0 method.now.insns < 2 ^ 32 }
+    requires sites { AllByRecursion IsSite sites.now }
+    requires parts { count_of sites.now < 2 ^ 16 }
+    requires room { code.now.max_stack + 3 < 2 ^ 16 }
+    requires slots { code.now.max_locals + locals < 2 ^ 16 }
+    requires fronts { fronts.now ≡ fronts_of sites.now }
+    requires short { len_from 0 insns.now < 2 ^ 16 }
+    ensures { IfOk result (λ made. made ≡ code_with entries.now method.now code.now locals sites.now insns.now bytes) }
+{
+    let starts = starts(alloc, insns)?;
+    let starts = starts.as_slice();
+    let handlers = method.handlers.as_slice();
     let table = table_spliced(
         alloc,
-        starts.as_slice(),
-        fronts.as_slice(),
+        starts,
+        fronts,
         sites,
-        method.handlers.as_slice(),
+        handlers,
         code.table.as_slice(),
     )?;
-    let attrs = attrs_spliced(
-        alloc,
-        entries,
-        method.insns.as_slice(),
-        fronts.as_slice(),
-        starts.as_slice(),
-        code.attrs.as_slice(),
-    )?;
+    let owns = method.insns.as_slice();
+    let attrs = attrs_spliced(alloc, entries, owns, fronts, starts, code.attrs.as_slice())?;
     Ok(Code {
         name: code.name,
         max_stack: code.max_stack + OPERANDS,
