@@ -4,14 +4,19 @@ ghost use Rattle.std.specs.Prelude.{◌≡◌, ◌<◌, ◌≤◌, ◌^◌, ℕ,
 ghost use Rattle.std.specs.Prelude.{List, [], ◌++◌, length, slice_index, replicate};
 ghost use Rattle.std.specs.List.{flat_map, AllByRecursion};
 ghost use Rattle.mon_base.specs.Widths.{u1, u2, u4};
-ghost use Rattle.insn_codec.specs.Spelling.{i1, i2, i4, offset, padding, case, cases, bytes_of, bytes_from};
+ghost use Rattle.insn_codec.specs.Spelling.{i2, i4, offset, padding, case, cases, bytes_of, bytes_from};
 ghost use Rattle.insn_codec.specs.Spelling.{range, keyed, len_from, size, starts_of, spelling};
 ghost use Rattle.insn_codec.specs.Fits.{FitsSlot, FitsBy, FitsTable, FitsLookup, IsInsn, SpellsCode};
-ghost use Rattle.insn_codec.specs.declared.insn.Insn.TheVariants.{Local, Inc};
+ghost use Rattle.insn_codec.specs.declared.insn.Insn.TheVariants.{Local, Inc, Table, Lookup};
 ghost use Rattle.mon_base.specs.Answer.{Answers};
 ghost use Rattle.insn_codec.specs.Writing.{near, far, all_far, reach, reach_from, written, Puts};
 ghost use Rattle.insn_codec.specs.declared.fault.CodeOverflow.TheVariants.{Length};
-ghost use Rattle.insn_codec.specs.declared.opcodes.TheConstants.{INVOKEINTERFACE};
+ghost use Rattle.insn_codec.specs.declared.opcodes.TheConstants.{
+  IINC,
+  INVOKEINTERFACE,
+  WIDE,
+  GOTO_W,
+};
 
 use crate::fault::CodeOverflow;
 use crate::insn::Insn;
@@ -39,13 +44,6 @@ fn put_u4(out: &mut Bytes, n: u32) -> Result<(), NoMemory>
     let mut bytes = [0u8; 4];
     BigEndian::write_u32(&mut bytes, n);
     out.extend(&bytes)
-}
-
-/// Appends the byte of a number with a sign.
-fn put_i1(out: &mut Bytes, n: i8) -> Result<(), NoMemory>
-    ensures { OnOk result (out.new ≡ out.old ++ i1 n) }
-{
-    out.push(n.cast_unsigned())
 }
 
 /// Appends the two bytes of a number with a sign.
@@ -209,60 +207,136 @@ fn put_keyed(
     put_cases(out, starts, at, keys, targets)
 }
 
-/// Appends a load or store of a local variable.
-fn put_local(out: &mut Bytes, op: u8, slot: u16, wide: bool) -> Result<(), NoMemory>
-    requires { FitsSlot wide slot }
-    ensures { OnOk result (out.new ≡ out.old ++ bytes_of [] 0 (Local op slot wide)) }
-{
-    if wide {
-        out.push(WIDE)?;
-        out.push(op)?;
-        return put_u2(out, slot);
-    }
-    out.push(op)?;
-    out.push(slot as u8)
-}
-
-/// Appends an `iinc`.
-fn put_inc(out: &mut Bytes, slot: u16, by: i16, wide: bool) -> Result<(), NoMemory>
-    requires slot { FitsSlot wide slot }
-    requires by { FitsBy wide by }
-    ensures { OnOk result (out.new ≡ out.old ++ bytes_of [] 0 (Inc slot by wide)) }
-{
-    if wide {
-        out.push(WIDE)?;
-        out.push(IINC)?;
-        put_u2(out, slot)?;
-        return put_i2(out, by);
-    }
-    out.push(IINC)?;
-    out.push(slot as u8)?;
-    put_i1(out, by as i8)
-}
-
-/// Appends an opcode and two bytes.
-fn put_pool(out: &mut Bytes, op: u8, index: u16) -> Result<(), NoMemory>
-    ensures { OnOk result (out.new ≡ out.old ++ (u1 op ++ u2 index)) }
+/// Appends an opcode alone.
+fn put_op(out: &mut Bytes, op: u8) -> Result<(), CodeOverflow>
+    ensures { Puts result (Ok tt) (u1 op) out.old out.new }
 {
     out.push(op)?;
-    put_u2(out, index)
-}
-
-/// Appends an `invokeinterface`.
-fn put_iface(out: &mut Bytes, index: u16, count: u8) -> Result<(), NoMemory>
-    ensures { OnOk result (out.new ≡ out.old ++ (u1 INVOKEINTERFACE ++ (u2 index ++ (u1 count ++ u1 0)))) }
-{
-    put_pool(out, INVOKEINTERFACE, index)?;
-    out.push(count)?;
-    out.push(0)
+    Ok(())
 }
 
 /// Appends two bytes.
-fn put_pair(out: &mut Bytes, op: u8, operand: u8) -> Result<(), NoMemory>
-    ensures { OnOk result (out.new ≡ out.old ++ (u1 op ++ u1 operand)) }
+fn put_pair(out: &mut Bytes, op: u8, operand: u8) -> Result<(), CodeOverflow>
+    ensures { Puts result (Ok tt) (u1 op ++ u1 operand) out.old out.new }
+{
+    out.extend(&[op, operand])?;
+    Ok(())
+}
+
+/// Appends an opcode and two bytes.
+fn put_pool(out: &mut Bytes, op: u8, index: u16) -> Result<(), CodeOverflow>
+    ensures { Puts result (Ok tt) (u1 op ++ u2 index) out.old out.new }
 {
     out.push(op)?;
-    out.push(operand)
+    put_u2(out, index)?;
+    Ok(())
+}
+
+/// Appends an `invokeinterface`.
+fn put_iface(out: &mut Bytes, index: u16, count: u8) -> Result<(), CodeOverflow>
+    ensures { Puts result (Ok tt) (u1 INVOKEINTERFACE ++ (u2 index ++ (u1 count ++ u1 0))) out.old out.new }
+{
+    put_pool(out, INVOKEINTERFACE, index)?;
+    out.extend(&[count, 0])?;
+    Ok(())
+}
+
+/// Appends a load or store of a local variable, after `wide`.
+fn put_wide_local(out: &mut Bytes, op: u8, slot: u16) -> Result<(), CodeOverflow>
+    ensures { Puts result (Ok tt) (u1 WIDE ++ (u1 op ++ u2 slot)) out.old out.new }
+{
+    out.extend(&[WIDE, op])?;
+    put_u2(out, slot)?;
+    Ok(())
+}
+
+/// Appends a load or store of a local variable.
+fn put_local(out: &mut Bytes, op: u8, slot: u16, wide: bool) -> Result<(), CodeOverflow>
+    requires { FitsSlot wide slot }
+    ensures { Puts result (Ok tt) (bytes_of [] 0 (Local op slot wide)) out.old out.new }
+{
+    if wide {
+        put_wide_local(out, op, slot)
+    } else {
+        put_pair(out, op, slot as u8)
+    }
+}
+
+/// Appends an `iinc` after `wide`.
+fn put_wide_inc(out: &mut Bytes, slot: u16, by: i16) -> Result<(), CodeOverflow>
+    ensures { Puts result (Ok tt) (u1 WIDE ++ (u1 IINC ++ (u2 slot ++ i2 by))) out.old out.new }
+{
+    out.extend(&[WIDE, IINC])?;
+    put_u2(out, slot)?;
+    put_i2(out, by)?;
+    Ok(())
+}
+
+/// Appends an `iinc`.
+fn put_inc(out: &mut Bytes, slot: u16, by: i16, wide: bool) -> Result<(), CodeOverflow>
+    requires slot { FitsSlot wide slot }
+    requires by { FitsBy wide by }
+    ensures { Puts result (Ok tt) (bytes_of [] 0 (Inc slot by wide)) out.old out.new }
+{
+    if wide {
+        return put_wide_inc(out, slot, by);
+    }
+    out.extend(&[IINC, slot as u8, (by as i8).cast_unsigned()])?;
+    Ok(())
+}
+
+/// Appends a jump with an offset of two bytes.
+fn put_branch(out: &mut Bytes, starts: &[u32], at: u64, op: u8, to: u32) -> Result<(), CodeOverflow>
+    requires { at < 2 ^ 32 }
+    ensures { Puts result (near starts.now at to) (u1 op ++ i2 (offset starts.now at to)) out.old out.new }
+{
+    out.push(op)?;
+    put_near(out, starts, at, to)
+}
+
+/// Appends a `goto_w`.
+fn put_goto_w(out: &mut Bytes, starts: &[u32], at: u64, to: u32) -> Result<(), CodeOverflow>
+    requires { at < 2 ^ 32 }
+    ensures { Puts result (far starts.now at to) (u1 GOTO_W ++ i4 (offset starts.now at to)) out.old out.new }
+{
+    out.push(GOTO_W)?;
+    put_far(out, starts, at, to)
+}
+
+/// Appends a `tableswitch`.
+fn put_table(
+    out: &mut Bytes,
+    starts: &[u32],
+    at: u64,
+    other: u32,
+    low: i32,
+    targets: &[u32],
+) -> Result<(), CodeOverflow>
+    requires place { at < 2 ^ 32 }
+    requires table { FitsTable low targets.now }
+    ensures { Puts result (reach starts.now at (Table other low targets.now)) (bytes_of starts.now at (Table other low targets.now))
+        out.old out.new }
+{
+    put_switch(out, starts, TABLESWITCH, at, other)?;
+    put_range(out, starts, at, low, targets)
+}
+
+/// Appends a `lookupswitch`.
+fn put_lookup(
+    out: &mut Bytes,
+    starts: &[u32],
+    at: u64,
+    other: u32,
+    keys: &[i32],
+    targets: &[u32],
+) -> Result<(), CodeOverflow>
+    requires place { at < 2 ^ 32 }
+    requires lookup { FitsLookup keys.now targets.now }
+    ensures { Puts result (reach starts.now at (Lookup other keys.now targets.now)) (bytes_of starts.now at (Lookup other keys.now targets.now))
+        out.old out.new }
+{
+    put_switch(out, starts, LOOKUPSWITCH, at, other)?;
+    put_keyed(out, starts, at, keys, targets)
 }
 
 /// Appends an instruction that stands at `at`.
@@ -272,39 +346,27 @@ fn put_insn(out: &mut Bytes, starts: &[u32], at: u64, insn: &Insn) -> Result<(),
     ensures { Puts result (reach starts.now at insn.now) (bytes_of starts.now at insn.now) out.old out.new }
 {
     match insn {
-        Insn::Plain(op) => Ok(out.push(*op)?),
-        Insn::Byte(n) => Ok(put_pair(out, BIPUSH, n.cast_unsigned())?),
-        Insn::Short(n) => Ok(put_pool(out, SIPUSH, n.cast_unsigned())?),
-        Insn::Ldc(index) => Ok(put_pair(out, LDC, *index)?),
-        Insn::Pool { op, index } => Ok(put_pool(out, *op, *index)?),
-        Insn::Iface { index, count } => Ok(put_iface(out, *index, *count)?),
-        Insn::Local { op, slot, wide } => Ok(put_local(out, *op, *slot, *wide)?),
-        Insn::Inc { slot, by, wide } => Ok(put_inc(out, *slot, *by, *wide)?),
-        Insn::Branch { op, to } => {
-            out.push(*op)?;
-            put_near(out, starts, at, *to)
-        }
-        Insn::GotoW { to } => {
-            out.push(GOTO_W)?;
-            put_far(out, starts, at, *to)
-        }
-        Insn::NewArray(kind) => Ok(put_pair(out, NEWARRAY, *kind)?),
+        Insn::Plain(op) => put_op(out, *op),
+        Insn::Byte(n) => put_pair(out, BIPUSH, n.cast_unsigned()),
+        Insn::Short(n) => put_pool(out, SIPUSH, n.cast_unsigned()),
+        Insn::Ldc(index) => put_pair(out, LDC, *index),
+        Insn::Pool { op, index } => put_pool(out, *op, *index),
+        Insn::Iface { index, count } => put_iface(out, *index, *count),
+        Insn::Local { op, slot, wide } => put_local(out, *op, *slot, *wide),
+        Insn::Inc { slot, by, wide } => put_inc(out, *slot, *by, *wide),
+        Insn::Branch { op, to } => put_branch(out, starts, at, *op, *to),
+        Insn::GotoW { to } => put_goto_w(out, starts, at, *to),
+        Insn::NewArray(kind) => put_pair(out, NEWARRAY, *kind),
         Insn::Table {
             other,
             low,
             targets,
-        } => {
-            put_switch(out, starts, TABLESWITCH, at, *other)?;
-            put_range(out, starts, at, *low, targets.as_slice())
-        }
+        } => put_table(out, starts, at, *other, *low, targets.as_slice()),
         Insn::Lookup {
             other,
             keys,
             targets,
-        } => {
-            put_switch(out, starts, LOOKUPSWITCH, at, *other)?;
-            put_keyed(out, starts, at, keys.as_slice(), targets.as_slice())
-        }
+        } => put_lookup(out, starts, at, *other, keys.as_slice(), targets.as_slice()),
     }
 }
 

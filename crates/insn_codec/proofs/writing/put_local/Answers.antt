@@ -5,5 +5,5 @@ use Rattle.insn_codec.proofs.writing.put_local.Goals as goal
 pub returns-then-wide : goal.returns-then-wide
 returns-then-wide c = grind (arith, common_steps)
 
-pub returns : goal.returns
-returns c = grind (arith, common_steps)
+pub returns-else-wide : goal.returns-else-wide
+returns-else-wide c = grind (arith, common_steps)
