@@ -17,7 +17,9 @@ use Rattle.class_codec.specs.Pool.{is_of, is_one_of, names}
 use Rattle.class_codec.specs.Fits.{IsTextByte, FitsConst, is_second, takes_two, HasSeconds, IsNamed, FitsPool}
 use Rattle.offset_patch.specs.declared.block.PoolWant.{PoolWant}
 use Rattle.offset_patch.specs.declared.block.PoolWant.TheVariants as wants
-use Rattle.offset_patch.specs.Entries.{same, Placed, placed, place_of, entry, text, class, name_and_type, field, method, state_name, variable_name, variable_type, wanted, with_wants}
+use Rattle.bytecode_model.specs.declared.members.MemberKind.{MemberKind}
+use Rattle.bytecode_model.specs.declared.members.MemberKind.TheVariants as members
+use Rattle.offset_patch.specs.Entries.{same, Placed, placed, place_of, entry, text, class, name_and_type, member, state_name, variable_name, variable_type, wanted, with_wants}
 use Rattle.offset_patch.specs.Fits.{IsWant}
 use Rattle.offset_patch.proofs.Lists.{all_append}
 use Rattle.offset_patch.proofs.PoolFits.{names_on, named_on, each_on}
@@ -180,8 +182,8 @@ module _ (first second : Kind) (make : ℕ → ℕ → Const) (steady : (i j : �
       let few2 = within second two.0 two.1 told2 in
       entry_fits two.0 last fits2 (good two.0 one.1 two.1 (omega arith) (omega arith) told1 told2) short
 
-member_finds : (name desc : List ℕ) → IsText name → IsText desc → Finds kinds.NameAndType (name_and_type name desc)
-member_finds name desc t u = record {
+named_finds : (name desc : List ℕ) → IsText name → IsText desc → Finds kinds.NameAndType (name_and_type name desc)
+named_finds name desc t u = record {
   steady = steady_name_and_type name desc;
   named = λ pool.
       let two = text desc (text name pool).0 in
@@ -190,15 +192,13 @@ member_finds name desc t u = record {
       (λ pool i j few few2 told told2. record { fits = (few, few2); one = refl; narrow = refl; named = (told, told2) }) (text name) (text desc) (text_finds name t) (text_finds desc u);
 }
 
-field_fits : (owner name desc : List ℕ) → IsText owner → IsText name → IsText desc → KeepsFit (field owner name desc)
-field_fits owner name desc s t u =
+member_fits : (kind : MemberKind) (owner name desc : List ℕ) → IsText owner → IsText name → IsText desc → KeepsFit (member kind owner name desc)
+member_fits members.Field owner name desc s t u =
     pair_fits kinds.Class kinds.NameAndType constants.Field steady_field_at
-    (λ pool i j few few2 told told2. record { fits = (few, few2); one = refl; narrow = refl; named = (told, told2) }) (class owner) (name_and_type name desc) (class_finds owner s) (member_finds name desc t u)
-
-method_fits : (owner name desc : List ℕ) → IsText owner → IsText name → IsText desc → KeepsFit (method owner name desc)
-method_fits owner name desc s t u =
+    (λ pool i j few few2 told told2. record { fits = (few, few2); one = refl; narrow = refl; named = (told, told2) }) (class owner) (name_and_type name desc) (class_finds owner s) (named_finds name desc t u)
+member_fits members.Method owner name desc s t u =
     pair_fits kinds.Class kinds.NameAndType constants.Method steady_method_at
-    (λ pool i j few few2 told told2. record { fits = (few, few2); one = refl; narrow = refl; named = (told, told2) }) (class owner) (name_and_type name desc) (class_finds owner s) (member_finds name desc t u)
+    (λ pool i j few few2 told told2. record { fits = (few, few2); one = refl; narrow = refl; named = (told, told2) }) (class owner) (name_and_type name desc) (class_finds owner s) (named_finds name desc t u)
 
 -- ---- what blocks name
 
@@ -238,9 +238,9 @@ state_text = known state_name (omega arith) refl
 
 wanted_fits : (want : PoolWant) → IsWant want → KeepsFit (wanted want)
 wanted_fits wants.StateClass w = (class_finds state_name state_text).fits
-wanted_fits (wants.StateField var is_bool) w = field_fits state_name (variable_name var) (variable_type is_bool) state_text (variable_text var w) (type_text is_bool)
+wanted_fits (wants.StateField var is_bool) w = member_fits members.Field state_name (variable_name var) (variable_type is_bool) state_text (variable_text var w) (type_text is_bool)
 wanted_fits wants.Exit w =
-    method_fits (codes "java/lang/System") (codes "exit") (codes "(I)V") (known (codes "java/lang/System") (omega arith) refl) (known (codes "exit") (omega arith) refl)
+    member_fits members.Method (codes "java/lang/System") (codes "exit") (codes "(I)V") (known (codes "java/lang/System") (omega arith) refl) (known (codes "exit") (omega arith) refl)
     (known (codes "(I)V") (omega arith) refl)
 wanted_fits (wants.Integer n) w = λ pool p short. entry_fits pool (constants.Integer n) p (record { fits = w; one = refl; narrow = refl; named = tt }) short
 

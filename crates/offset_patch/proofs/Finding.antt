@@ -17,7 +17,7 @@ use Rattle.offset_patch.specs.declared.constants.Added.{Added}
 use Rattle.offset_patch.specs.declared.constants.Added.TheVariants.{Text, Class, NameAndType, Field, Method, Integer}
 use Rattle.offset_patch.specs.declared.growth.Growth.{Growth}
 use Rattle.offset_patch.specs.Added.{const_of, added_of, with_added, NamesBelow}
-use Rattle.offset_patch.specs.Entries.{same, placed, place_of}
+use Rattle.offset_patch.specs.Entries.{same, place_of}
 use Rattle.offset_patch.specs.Growth.{added_cmp, found_at, IsGrowth}
 use Rattle.offset_patch.proofs.EntryFits.{place_found}
 use Rattle.offset_patch.proofs.PoolFits.{each_on}

@@ -1,7 +1,5 @@
 -- What was named stays where it was found as the pool grows.
-use Rattle.std.proofs.Common.{◌≡◌, ℕ, Bool, true, false, cond, List, ◌++◌, Option, Some, None, refl, sym, ap, ap₂, subst, ◌∙◌, ◌&&◌}
-use Rattle.std.specs.Prelude.{◌==◌}
-use Rattle.std.specs.declared.cmp.Ordering.{Ordering}
+use Rattle.std.proofs.Common.{◌≡◌, ℕ, Bool, true, false, cond, List, Option, Some, refl, sym, ap, ap₂, subst, ◌∙◌, ◌&&◌}
 use Rattle.std.specs.Ordering.{is_eq, nat_cmp, bool_cmp}
 use Rattle.std.specs.Cmp.{unsigned_tied, unsigned_Decides}
 use Rattle.std.specs.BTreeMap.{BTreeMap}
@@ -15,7 +13,7 @@ use Rattle.offset_patch.specs.Entries.{Placed, wanted}
 use Rattle.offset_patch.specs.Growth.{with_growth}
 use Rattle.offset_patch.specs.Known.{want_cmp, known_at, known_place, AreNoted}
 use Rattle.offset_patch.proofs.Finding.{then_is}
-use Rattle.offset_patch.proofs.Steady.{IsSteady, steady_wanted}
+use Rattle.offset_patch.proofs.Steady.{steady_wanted}
 
 -- ---- the order of the map
 

@@ -6,6 +6,8 @@ use Rattle.std.specs.Ordering.{int_eq}
 use Rattle.std.specs.List.{position_from}
 use Rattle.class_codec.specs.declared.tree.Const.{Const}
 use Rattle.class_codec.specs.declared.tree.Const.TheVariants as constants
+use Rattle.bytecode_model.specs.declared.members.MemberKind.{MemberKind}
+use Rattle.bytecode_model.specs.declared.members.MemberKind.TheVariants as members
 use Rattle.offset_patch.specs.declared.block.PoolWant.{PoolWant}
 use Rattle.offset_patch.specs.declared.block.PoolWant.TheVariants as wants
 
@@ -50,17 +52,16 @@ name_and_type_of name desc = entry (constants.NameAndType name.1 (text desc name
 abbrev pub name_and_type : List ℕ → List ℕ → List Const → Placed
 name_and_type name desc pool = name_and_type_of (text name pool) desc
 
-abbrev pub field_entry : Placed → List ℕ → List ℕ → Placed
-field_entry owner name desc = entry (constants.Field owner.1 (name_and_type name desc owner.0).1) (name_and_type name desc owner.0).0
+-- the constant of a member, whose class and whose name with its descriptor stand at these places
+abbrev pub member_constant : MemberKind → ℕ → ℕ → Const
+member_constant members.Field owner member = constants.Field owner member
+member_constant members.Method owner member = constants.Method owner member
 
-abbrev pub field : List ℕ → List ℕ → List ℕ → List Const → Placed
-field owner name desc pool = field_entry (class owner pool) name desc
+abbrev pub member_entry : MemberKind → Placed → List ℕ → List ℕ → Placed
+member_entry kind owner name desc = entry (member_constant kind owner.1 (name_and_type name desc owner.0).1) (name_and_type name desc owner.0).0
 
-abbrev pub method_entry : Placed → List ℕ → List ℕ → Placed
-method_entry owner name desc = entry (constants.Method owner.1 (name_and_type name desc owner.0).1) (name_and_type name desc owner.0).0
-
-abbrev pub method : List ℕ → List ℕ → List ℕ → List Const → Placed
-method owner name desc pool = method_entry (class owner pool) name desc
+abbrev pub member : MemberKind → List ℕ → List ℕ → List ℕ → List Const → Placed
+member kind owner name desc pool = member_entry kind (class owner pool) name desc
 
 -- the class whose monitor is the lock
 abbrev pub state_name : List ℕ
@@ -78,8 +79,8 @@ variable_type false = codes "I"
 -- an entry that a block names
 abbrev pub wanted : PoolWant → List Const → Placed
 wanted wants.StateClass pool = class state_name pool
-wanted (wants.StateField var is_bool) pool = field state_name (variable_name var) (variable_type is_bool) pool
-wanted wants.Exit pool = method (codes "java/lang/System") (codes "exit") (codes "(I)V") pool
+wanted (wants.StateField var is_bool) pool = member members.Field state_name (variable_name var) (variable_type is_bool) pool
+wanted wants.Exit pool = member members.Method (codes "java/lang/System") (codes "exit") (codes "(I)V") pool
 wanted (wants.Integer n) pool = entry (constants.Integer n) pool
 
 -- the pool with the entries that are wanted, in the order of use

@@ -1,12 +1,13 @@
 //! The entries that blocks name, each behind those that it names itself.
 
 ghost use Rattle.std.specs.Prelude.{◌≡◌, ◌+◌, ◌<◌, ◌≤◌, IfOk, OnOk, length};
-ghost use Rattle.offset_patch.specs.Entries.{text, class, name_and_type, field, method, variable_name, variable_type, wanted};
+ghost use Rattle.offset_patch.specs.Entries.{text, class, name_and_type, member, variable_name, variable_type, wanted};
 ghost use Rattle.offset_patch.specs.Growth.{Finds, IsGrowth};
 
 use crate::block::PoolWant;
 use crate::constants::Added;
 use crate::growth::{Growth, entry};
+use bytecode_model::MemberKind;
 use class_codec::Const;
 use mon_base::{Bytes, NoMemory, push_count};
 use std::alloc::Global;
@@ -41,16 +42,25 @@ pub fn wanted(
         PoolWant::StateClass => class(alloc, pool, growth, STATE),
         PoolWant::StateField { var, is_bool } => {
             let name = variable_name(alloc, var)?;
-            field(
+            member(
                 alloc,
                 pool,
                 growth,
+                MemberKind::Field,
                 STATE,
                 name.as_slice(),
                 variable_type(is_bool),
             )
         }
-        PoolWant::Exit => method(alloc, pool, growth, SYSTEM, EXIT, EXIT_TYPE),
+        PoolWant::Exit => member(
+            alloc,
+            pool,
+            growth,
+            MemberKind::Method,
+            SYSTEM,
+            EXIT,
+            EXIT_TYPE,
+        ),
         PoolWant::Integer(n) => entry(alloc, pool, growth, Added::Integer(n)),
     }
 }
@@ -71,38 +81,25 @@ fn variable_type(is_bool: bool) -> &'static [u8]
     if is_bool { BOOL } else { INT }
 }
 
-fn field(
+fn member(
     alloc: Global,
     pool: &[Const],
     growth: &mut Growth,
+    kind: MemberKind,
     owner: &[u8],
     name: &[u8],
     desc: &[u8],
 ) -> Result<u64, NoMemory>
     requires good { IsGrowth pool.now growth.old }
-    ensures is { IfOk result (Finds (field owner.now name.now desc.now) pool.now growth.old growth.new) }
+    ensures is { IfOk result (Finds (member kind owner.now name.now desc.now) pool.now growth.old growth.new) }
     ensures good { OnOk result (IsGrowth pool.now growth.new) }
 {
     let owner = class(alloc, pool, growth, owner)?;
     let member = name_and_type(alloc, pool, growth, name, desc)?;
-    entry(alloc, pool, growth, Added::Field(owner, member))
-}
-
-fn method(
-    alloc: Global,
-    pool: &[Const],
-    growth: &mut Growth,
-    owner: &[u8],
-    name: &[u8],
-    desc: &[u8],
-) -> Result<u64, NoMemory>
-    requires good { IsGrowth pool.now growth.old }
-    ensures is { IfOk result (Finds (method owner.now name.now desc.now) pool.now growth.old growth.new) }
-    ensures good { OnOk result (IsGrowth pool.now growth.new) }
-{
-    let owner = class(alloc, pool, growth, owner)?;
-    let member = name_and_type(alloc, pool, growth, name, desc)?;
-    entry(alloc, pool, growth, Added::Method(owner, member))
+    match kind {
+        MemberKind::Field => entry(alloc, pool, growth, Added::Field(owner, member)),
+        MemberKind::Method => entry(alloc, pool, growth, Added::Method(owner, member)),
+    }
 }
 
 fn name_and_type(

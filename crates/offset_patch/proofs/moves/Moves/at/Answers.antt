@@ -1,4 +1,4 @@
-use Rattle.std.proofs.Common.{ℕ, Some, sym, ap, ◌∙◌}
+use Rattle.std.proofs.Common.{Some, sym, ap, ◌∙◌}
 use Rattle.std.specs.Prelude.{slice_index}
 use Rattle.offset_patch.specs.Lines.{Positions, moved_in}
 use Rattle.offset_patch.proofs.Lining.{move_found, move_none}
