@@ -86,6 +86,14 @@ wide_at at left p = do
   room ← need (nat_lt 0 left) (Index at)
   u8_at p
 
+-- the constant of two indices that has this tag: a field, a method, a method of an interface, or a name and its type
+abbrev pub of_pair : ℕ → ℕ → ℕ → Const
+of_pair tag first second =
+    if tag == 9 then constants.Field first second
+    else if tag == 10 then constants.Method first second
+    else if tag == 11 then constants.IMethod first second
+    else constants.NameAndType first second
+
 -- what follows the tag of a constant that begins at `at`, with `left` places after it
 unfoldable pub payload_at : ℕ → ℕ → ℕ → Place → Read Const
 payload_at at left tag p =

@@ -118,7 +118,7 @@ fn named(
     ensures { Reads ClassFault.Memory result (named_at is_code pool.now name from.old) from.new }
 {
     if is_code {
-        return Ok(Attr::Code(code(alloc, pool, name, from)?));
+        return code(alloc, pool, name, from).map(Attr::Code);
     }
     let bytes = block(alloc, from)?;
     Ok(Attr::Other(Other { name, bytes }))

@@ -6,7 +6,7 @@ ghost use Rattle.class_codec.specs.Spelling.{constant};
 ghost use Rattle.class_codec.specs.Fits.{takes_two};
 ghost use Rattle.mon_base.specs.Answer.{Reads, ReadsAs, Answers};
 ghost use Rattle.class_codec.specs.Reading.{is_no_text_byte, text_checked, text_at, pair_at};
-ghost use Rattle.class_codec.specs.Reading.{wide_at, payload_at, constant_at, place_at, places_at, pool_at};
+ghost use Rattle.class_codec.specs.Reading.{wide_at, of_pair, payload_at, constant_at, place_at, places_at, pool_at};
 
 use crate::fault::ClassFault;
 use crate::indices::check_all;
@@ -72,6 +72,18 @@ fn wide(at: u64, left: u16, from: &mut Cursor) -> Result<u64, ClassFault>
     u8(from)
 }
 
+/// The constant of two indices that has the tag.
+fn of_pair(tag: u8, first: u16, second: u16) -> Const
+    ensures { result ≡ of_pair tag first second }
+{
+    match tag {
+        9 => Const::Field(first, second),
+        10 => Const::Method(first, second),
+        11 => Const::IMethod(first, second),
+        _ => Const::NameAndType(first, second),
+    }
+}
+
 /// What follows the tag of a constant.
 #[tactic(auto, unfolding(crate::specs::Reading::payload_at))]
 fn payload(
@@ -85,28 +97,16 @@ fn payload(
     ensures moves { IfOk result (λ c. from.new.at + 1 ≡ from.old.at + length (constant c)) }
 {
     match tag {
-        1 => Ok(Const::Utf8(text(alloc, from)?)),
+        1 => text(alloc, from).map(Const::Utf8),
         3 => Ok(Const::Integer(u4(from)?.cast_signed())),
-        4 => Ok(Const::Float(u4(from)?)),
+        4 => u4(from).map(Const::Float),
         5 => Ok(Const::Long(wide(at, left, from)?.cast_signed())),
-        6 => Ok(Const::Double(wide(at, left, from)?)),
-        7 => Ok(Const::Class(u2(from)?)),
-        8 => Ok(Const::Str(u2(from)?)),
-        9 => {
-            let (class, name) = pair(from)?;
-            Ok(Const::Field(class, name))
-        }
-        10 => {
-            let (class, name) = pair(from)?;
-            Ok(Const::Method(class, name))
-        }
-        11 => {
-            let (class, name) = pair(from)?;
-            Ok(Const::IMethod(class, name))
-        }
-        12 => {
-            let (name, desc) = pair(from)?;
-            Ok(Const::NameAndType(name, desc))
+        6 => wide(at, left, from).map(Const::Double),
+        7 => u2(from).map(Const::Class),
+        8 => u2(from).map(Const::Str),
+        9..=12 => {
+            let (first, second) = pair(from)?;
+            Ok(of_pair(tag, first, second))
         }
         _ => Err(ClassFault::Tag { at, tag }),
     }
