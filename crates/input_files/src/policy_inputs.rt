@@ -1,12 +1,17 @@
 //! The files of a policy and of a run, read in their order.
 
 ghost use Rattle.std.specs.Prelude.{◌≡◌, ◌≤◌, IfOk};
-ghost use Rattle.input_files.specs.Forms.{since};
+ghost use Rattle.input_files.specs.Forms.{Gives, ReadsForm, Then, since};
+ghost use Rattle.input_files.specs.Kinds.{policy_form, record_form};
+ghost use Rattle.input_files.specs.declared.policy_inputs.PolicyInputs.{PolicyInputs};
+ghost use Rattle.api_listing.specs.Listing.{IsFew};
+ghost use Rattle.conspec_tree.specs.Tree.{IsPolicyTree};
 ghost use Rattle.input_files.specs.PolicyInputs.{IsOfListing, ReadsPolicy};
 ghost use Rattle.command_words.specs.Words.{policy_named};
 
 use crate::files::Stop;
 use crate::named::{listing_of, policy_of, record_of};
+use api_listing::Listing;
 use command_words::PolicyWords;
 use conspec_tree::PolicyTree;
 use event_record::Record;
@@ -18,6 +23,29 @@ use std::alloc::Global;
 pub struct PolicyInputs {
     pub policy: PolicyTree,
     pub recorded: Record,
+}
+
+/// Reads the policy, and then the record, over the listing.
+fn read_over<S: Store>(
+    alloc: Global,
+    store: &mut S,
+    words: &PolicyWords,
+    listing: &Listing,
+) -> Result<PolicyInputs, Stop>
+    requires { IsFew listing.now }
+    ensures read { Then {B = PolicyInputs}
+        (ReadsForm (S.files store.old) (since (S.faults store.old) (S.faults store.new) (S.last store.new))
+        (policy_named words.now).policy (policy_form listing.now)) (λ policy.
+        Then (ReadsForm (S.files store.old) (since (S.faults store.old) (S.faults store.new) (S.last store.new))
+        (policy_named words.now).recorded (record_form listing.now)) (λ recorded.
+        Gives (record { policy = policy; recorded = recorded }))) result }
+    ensures sound { IfOk result (λ inputs. IsPolicyTree listing.now inputs.policy) }
+    ensures files { S.files store.new ≡ S.files store.old }
+    ensures faults { S.faults store.old ≤ S.faults store.new }
+{
+    let policy = policy_of(alloc, store, words.policy, listing)?;
+    let recorded = record_of(alloc, store, words.recorded, listing)?;
+    Ok(PolicyInputs { policy, recorded })
 }
 
 /// Reads the files of a policy and of a run in their order: listing, policy, record.
@@ -33,7 +61,5 @@ pub fn read_policy<S: Store>(
     ensures faults { S.faults store.old ≤ S.faults store.new }
 {
     let listing = listing_of(alloc, store, words.listing)?;
-    let policy = policy_of(alloc, store, words.policy, &listing)?;
-    let recorded = record_of(alloc, store, words.recorded, &listing)?;
-    Ok(PolicyInputs { policy, recorded })
+    read_over(alloc, store, words, &listing)
 }
