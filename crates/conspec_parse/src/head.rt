@@ -1,7 +1,11 @@
 //! The head of a policy and its state variables.
 
-ghost use Rattle.std.specs.Prelude.{◌≡◌, ◌≤◌, [], length, IfOk};
+ghost use Rattle.std.specs.Prelude.{◌≡◌, ◌≤◌, ◌<◌, [], ◌∷◌, ◌++◌, codes, length, List as Items, Ok, IfOk};
 ghost use Rattle.mon_base.specs.Answer.{AnswersAs};
+ghost use Rattle.mon_base.specs.Reading.{◌>>=◌ as ◌then◌};
+ghost use Rattle.conspec_tokens.specs.declared.token.Token.{Token};
+ghost use Rattle.conspec_tree.specs.declared.types.Var.{Var};
+ghost use Rattle.conspec_parse.specs.Forms.{behind};
 ghost use Rattle.conspec_parse.specs.Head.{
   header_at,
   truth_at,
@@ -82,6 +86,35 @@ fn begins_variable(tokens: &[Token]) -> bool
     is_next("int", tokens) || is_next("bool", tokens)
 }
 
+/// Puts the variable of this name and kind, whose first value has to stand behind `=`, onto the variables, and gives
+/// the tokens behind it.
+fn variable_of<'a>(
+    alloc: Global,
+    maxint: i32,
+    name: &[u8],
+    is_bool: bool,
+    vars: &mut List<Var>,
+    tokens: &'a [Token],
+) -> Result<&'a [Token], PolicyFault>
+    requires { length vars.old < 16 }
+    ensures exact { AnswersAs {Y = Items Var × Items Token} PolicyFault.Memory (λ rest. (vars.new, rest.now)) result
+        (behind (codes "=") tokens.now then λ equals. first_at maxint is_bool equals
+        then λ first. behind (codes ";") first.1
+        then λ ended. Ok (vars.old ++ (record { name = name.now; is_bool = is_bool; first = first.0 }) ∷ [], ended)) }
+    ensures few { IfOk result (λ _. length vars.new ≤ 16) }
+{
+    let value = behind("=", tokens)?;
+    let (first, end) = first_at(maxint, is_bool, value)?;
+    let rest = behind(";", end)?;
+    let name = Bytes::from_slice(alloc, name)?;
+    vars.push(Var {
+        name,
+        is_bool,
+        first,
+    })?;
+    Ok(rest)
+}
+
 /// Puts onto the variables the one that stands first, and gives the tokens behind it.
 #[tactic(auto, unfolding(crate::specs::Head::variable_at))]
 fn variable_at<'a>(
@@ -111,16 +144,7 @@ fn variable_at<'a>(
         });
     }
     let is_bool = is_next("bool", tokens);
-    let value = behind("=", equals)?;
-    let (first, end) = first_at(maxint, is_bool, value)?;
-    let rest = behind(";", end)?;
-    let name = Bytes::from_slice(alloc, name)?;
-    vars.push(Var {
-        name,
-        is_bool,
-        first,
-    })?;
-    Ok(rest)
+    variable_of(alloc, maxint, name, is_bool, vars, equals)
 }
 
 /// Puts the state variables, at most 16, onto an empty list, and gives the tokens behind them.

@@ -1,9 +1,11 @@
 //! The method of a clause as it is written: its class and name, and its parameters.
 
-ghost use Rattle.std.specs.Prelude.{◌≡◌, [], codes, IfOk};
+ghost use Rattle.std.specs.Prelude.{◌≡◌, [], codes, not, IfOk};
 ghost use Rattle.mon_base.specs.Answer.{AnswersAs};
-ghost use Rattle.conspec_tokens.specs.Front.{is_next};
-ghost use Rattle.conspec_parse.specs.Forms.{each};
+ghost use Rattle.mon_base.specs.Reading.{◌>>=◌ as ◌then◌, need};
+ghost use Rattle.conspec_tokens.specs.Front.{front_at, is_next};
+ghost use Rattle.conspec_parse.specs.declared.fault.PolicyFault.TheVariants.{Syntax};
+ghost use Rattle.conspec_parse.specs.Forms.{behind, each};
 ghost use Rattle.conspec_parse.specs.Methods.{
   is_named,
   is_parameter,
@@ -264,6 +266,26 @@ fn class_under(parts: Parts) -> Result<Bytes, NoMemory>
     Ok(class)
 }
 
+/// The part behind the dot that has to stand first, and the tokens behind it. Nothing stands below the last part.
+fn part_below(
+    alloc: Global,
+    judged: bool,
+    is_last: bool,
+    tokens: &[Token],
+) -> Result<(Bytes, &[Token]), PolicyFault>
+    ensures { AnswersAs PolicyFault.Memory (λ r. (r.0, r.1.now)) result
+        (need (not is_last) (Syntax (front_at tokens.now))
+        then λ below. behind (codes ".") tokens.now then λ dot. part_at judged dot) }
+{
+    if is_last {
+        return Err(PolicyFault::Syntax {
+            at: front_at(tokens),
+        });
+    }
+    let part = behind(".", tokens)?;
+    part_at(alloc, judged, part)
+}
+
 /// The parts so far, and below them the one behind the dot. Nothing stands below a constructor.
 #[tactic(auto, unfolding(crate::specs::Methods::next_step))]
 fn next_step<'a>(
@@ -274,14 +296,8 @@ fn next_step<'a>(
 ) -> Result<(Parts, &'a [Token]), PolicyFault>
     ensures { AnswersAs PolicyFault.Memory (λ r. (r.0, r.1.now)) result (next_step judged parts tokens.now) }
 {
-    if parts.is_last {
-        return Err(PolicyFault::Syntax {
-            at: front_at(tokens),
-        });
-    }
-    let part = behind(".", tokens)?;
-    let is_last = is_next("<init>", part);
-    let (name, rest) = part_at(alloc, judged, part)?;
+    let (name, rest) = part_below(alloc, judged, parts.is_last, tokens)?;
+    let is_last = is_next("<init>", rest_of(tokens));
     let class = class_under(parts)?;
     Ok((
         Parts {
