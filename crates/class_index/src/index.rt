@@ -87,9 +87,9 @@ impl<'a> Index<'a> {
     {
         let all = copy_both(alloc, listing.classes.as_slice(), heads)?;
         let classes = Classes::new(alloc, all)?;
-        let members = members_of(alloc, &classes, files, listing)?;
-        let library = library_of(alloc, &classes, heads, listing.methods.as_slice())?;
         let literals = Literals::new(alloc, files)?;
+        let library = library_of(alloc, &classes, heads, listing.methods.as_slice())?;
+        let members = members_of(alloc, &classes, files, listing)?;
         Ok(Index {
             files,
             listing,

@@ -9,7 +9,7 @@ ghost use Rattle.class_index.specs.Library.{may_own, owners_up, AreQuiet, AreSha
 
 use crate::classes::Classes;
 use crate::quiet::{are_among, may_own, quiet_of};
-use crate::search::{add_names, search_order};
+use crate::search::{add_copy, add_names, search_order};
 use api_listing::ListedClass;
 use bytecode_model::{ByName, note, noted};
 use mon_base::{Bytes, List, NoMemory};
@@ -273,7 +273,7 @@ fn add_owner(
     ensures { OnOk result (some.new ≡ some.old ++ filter (may_own owners.now) (name.now ∷ [])) }
 {
     if may_own(owners, name) {
-        some.push(name.copy(alloc)?)?;
+        add_copy(alloc, some, name)?;
     }
     Ok(())
 }

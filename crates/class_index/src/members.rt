@@ -1,6 +1,6 @@
 //! Members that classes have.
 
-ghost use Rattle.std.specs.Prelude.{◌≡◌, IfOk};
+ghost use Rattle.std.specs.Prelude.{◌≡◌, IfOk, option_copied};
 ghost use Rattle.class_index.specs.Index.{found_in};
 ghost use Rattle.class_index.specs.Nearest.{AreVersions};
 ghost use Rattle.bytecode_model.specs.Members.{first_found, in_class};
@@ -62,7 +62,14 @@ pub fn found_at(
     ensures { IfOk result (λ found. found ≡ found_in declared.now (in_class id.now class.now)) }
 {
     let id = in_class(alloc, id, class)?;
-    match declared.get(&id) {
+    copy_of(alloc, declared.get(&id))
+}
+
+/// A copy of what is there.
+fn copy_of(alloc: Global, found: Option<&Found>) -> Result<Option<Found>, NoMemory>
+    ensures { IfOk result (λ copy. copy ≡ option_copied found.entry) }
+{
+    match found {
         Some(found) => Ok(Some(found.copy(alloc)?)),
         None => Ok(None),
     }

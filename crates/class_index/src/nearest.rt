@@ -16,6 +16,7 @@ use crate::classes::Classes;
 use crate::members::found_at;
 use crate::numbers::{ByClass, Numbers, by_class, member_number, numbers_of, own_of, reference};
 use crate::places::add_name;
+use crate::search::add_copy;
 use api_listing::ListedClass;
 use bytecode_model::{ByName, Found, MemberKind, copy_class, note, noted};
 use class_codec::{ClassFile, Const};
@@ -143,12 +144,29 @@ fn add_references(
 {
     for constant in pool {
         if let Some((class, _)) = reference(kind, constant) {
-            let name = copy_class(alloc, pool, class)?;
-            let names = names_above(alloc, classes, seen, &name)?;
-            add_classes(alloc, classes, numbered, versions, names)?;
+            add_upwards(alloc, classes, numbered, versions, seen, pool, class)?;
         }
     }
     Ok(())
+}
+
+/// Adds the arrays of the class that the index names, and of those above it.
+fn add_upwards(
+    alloc: Global,
+    classes: &Classes,
+    numbered: &Numbered,
+    versions: &mut Versions,
+    seen: &mut BTreeSet<Bytes>,
+    pool: &[Const],
+    class: u16,
+) -> Result<(), NoMemory>
+    requires own { AreOwn numbered.now.own numbered.now.numbers.now numbered.now.found.now.entries }
+    requires versions { AreVersions (found_in numbered.now.found.now) numbered.now.numbers.now classes.now versions.old }
+    ensures { OnOk result (AreVersions (found_in numbered.now.found.now) numbered.now.numbers.now classes.now versions.new) }
+{
+    let name = copy_class(alloc, pool, class)?;
+    let names = names_above(alloc, classes, seen, &name)?;
+    add_classes(alloc, classes, numbered, versions, names)
 }
 
 /// The names of the class and of those above it, up to the first that was seen before.
@@ -168,7 +186,7 @@ fn names_above(
             return Ok(names);
         };
         add_name(alloc, seen, at)?;
-        names.push(at.copy(alloc)?)?;
+        add_copy(alloc, &mut names, at)?;
         at = &class.parent;
     }
     Ok(names)

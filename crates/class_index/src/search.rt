@@ -1,7 +1,7 @@
 //! The classes in which a field or a method is looked for, the nearest first. (The Java Virtual Machine Specification,
 //! section 5.4.3.)
 
-ghost use Rattle.std.specs.Prelude.{◌≡◌, ◌+◌, ◌++◌, [], ℕ, List, length, IfOk, OnOk};
+ghost use Rattle.std.specs.Prelude.{◌≡◌, ◌+◌, ◌++◌, ◌∷◌, [], ℕ, List, length, IfOk, OnOk};
 ghost use Rattle.std.specs.Option.{option_map_or};
 ghost use Rattle.api_listing.specs.Nearest.{upwards, names_of, interfaces_of};
 ghost use Rattle.api_listing.specs.Seen.{has_name};
@@ -55,7 +55,7 @@ fn climb(
         let Some(class) = classes.named(at) else {
             return Ok(());
         };
-        names.push(class.name.copy(alloc)?)?;
+        add_copy(alloc, names, &class.name)?;
         add_names(alloc, interfaces, class.interfaces.as_slice())?;
         at = &class.parent;
     }
@@ -67,8 +67,16 @@ pub fn add_names(alloc: Global, names: &mut List<Bytes>, others: &[Bytes]) -> Re
     ensures { OnOk result (names.new ≡ names.old ++ others.now) }
 {
     for name in others {
-        names.push(name.copy(alloc)?)?;
+        add_copy(alloc, names, name)?;
     }
+    Ok(())
+}
+
+/// Adds a copy of the name behind the names.
+pub fn add_copy(alloc: Global, names: &mut List<Bytes>, name: &Bytes) -> Result<(), NoMemory>
+    ensures { OnOk result (names.new ≡ names.old ++ name.now ∷ []) }
+{
+    names.push(name.copy(alloc)?)?;
     Ok(())
 }
 
@@ -82,11 +90,24 @@ fn interfaces_from(
 {
     let most = add(classes.interfaces(), names.len())?;
     let mut found = List::new(alloc);
+    reach_all(alloc, classes, most, names, &mut found)?;
+    Ok(found)
+}
+
+/// Takes up so many of the names and of those that come to wait behind them, where none was found before.
+fn reach_all(
+    alloc: Global,
+    classes: &Classes,
+    most: u64,
+    names: &[Bytes],
+    found: &mut List<Bytes>,
+) -> Result<(), NoMemory>
+    requires { found.old ≡ [] }
+    ensures { OnOk result (found.new ≡ reached most classes.now [] names.now) }
+{
     let mut seen = BTreeSet::new(alloc);
     let mut waiting = VecDeque::new(alloc);
-    let waiting = &mut waiting;
-    reach(alloc, classes, most, names, &mut found, &mut seen, waiting)?;
-    Ok(found)
+    reach(alloc, classes, most, names, found, &mut seen, &mut waiting)
 }
 
 /// Takes up so many of the names behind those that wait, and of those that come to wait behind them.
