@@ -174,9 +174,9 @@ fn members(
     ensures sound { IfOk result (λ members. AllByRecursion (AllByRecursion IsSoundMethod) members.0) }
 {
     let index = Index::new(alloc, files, heads, listing)?;
-    let methods = each_linked(alloc, &index, files)?;
+    let methods = each_linked(alloc, &index, files);
     let literals = index.into_literals();
-    Ok((methods, literals))
+    Ok((methods?, literals))
 }
 
 /// What each of some of the files links to.
