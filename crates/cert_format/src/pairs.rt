@@ -25,7 +25,8 @@ fn push_all<F: Drop, N: Drop>(
     seconds: &mut List<N>,
     pairs: List<(F, N)>,
 ) -> Result<(), NoMemory>
-    ensures { OnOk result ((firsts.new ≡ firsts.old ++ map (λ pair. pair.0) pairs) × (seconds.new ≡ seconds.old ++ map (λ pair. pair.1) pairs)) }
+    ensures { OnOk result ((firsts.new ≡ firsts.old ++ map (λ pair. pair.0) pairs)
+        × (seconds.new ≡ seconds.old ++ map (λ pair. pair.1) pairs)) }
 {
     for pair in pairs.into_vec() {
         push_both(firsts, seconds, pair)?;

@@ -5,7 +5,8 @@ ghost use Rattle.std.specs.Prelude.{◌≡◌, ◌+◌, ◌++◌, ◌∷◌, [],
 ghost use Rattle.std.specs.Option.{option_map_or};
 ghost use Rattle.api_listing.specs.Nearest.{upwards, names_of, interfaces_of};
 ghost use Rattle.api_listing.specs.Seen.{has_name};
-ghost use Rattle.bytecode_model.specs.SearchOrder.{superclasses, search_order, interfaces_from, interfaces_above, reached, with_name, with_above};
+ghost use Rattle.bytecode_model.specs.SearchOrder.{superclasses, search_order, interfaces_from, interfaces_above};
+ghost use Rattle.bytecode_model.specs.SearchOrder.{reached, with_name, with_above};
 ghost use Rattle.class_index.specs.Index.{NamesSeen};
 
 use crate::classes::{Classes, add};

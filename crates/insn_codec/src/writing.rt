@@ -332,7 +332,8 @@ fn put_lookup(
 ) -> Result<(), CodeOverflow>
     requires place { at < 2 ^ 32 }
     requires lookup { FitsLookup keys.now targets.now }
-    ensures { Puts result (reach starts.now at (Lookup other keys.now targets.now)) (bytes_of starts.now at (Lookup other keys.now targets.now))
+    ensures { Puts result (reach starts.now at (Lookup other keys.now targets.now))
+        (bytes_of starts.now at (Lookup other keys.now targets.now))
         out.old out.new }
 {
     put_switch(out, starts, LOOKUPSWITCH, at, other)?;
