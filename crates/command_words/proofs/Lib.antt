@@ -1,2 +1,1 @@
 pub mod NamedOnce
-mod NoneThere

@@ -1,10 +1,10 @@
 //! The words of the command `inline`.
 
-ghost use Rattle.std.specs.Prelude.{◌≡◌, IfNone, IfSome};
+ghost use Rattle.std.specs.Prelude.{◌≡◌, ◌∷◌, ℕ, List, IfNone, IfSome};
 ghost use Rattle.command_words.specs.InlineWords.{IsInline, NamedInline, inline_named, weaving_word};
 ghost use Rattle.command_words.specs.declared.inline_words.Weaving.{Weaving as AWeaving};
 
-use crate::words::first_of;
+use crate::words::{behind, first_of, two_of};
 use mon_base::Bytes;
 
 /// How the blocks that are woven are to use the lock.
@@ -36,14 +36,11 @@ pub fn inline_words(words: &[Bytes]) -> Option<InlineWords<'_>>
     ensures found { IfSome result (λ c. IsInline words.now (inline_named c)) }
     ensures none { IfNone result ((named : NamedInline) → IsInline words.now named → ⊥) }
 {
-    let (command, words) = first_of(words)?;
-    let (policy, words) = first_of(words)?;
-    let (listing, words) = first_of(words)?;
-    let (main, words) = first_of(words)?;
-    let (folder, words) = first_of(words)?;
-    let (mode, classes) = first_of(words)?;
-    let weaving = weaving_of(mode.as_slice())?;
-    if command.as_slice() != b"inline".as_slice() || classes.is_empty() {
+    let words = behind(b"inline".as_slice(), words)?;
+    let (policy, listing, words) = two_of(words)?;
+    let (main, folder, words) = two_of(words)?;
+    let (weaving, classes) = woven_as(words)?;
+    if classes.is_empty() {
         return None;
     }
     Some(InlineWords {
@@ -54,6 +51,16 @@ pub fn inline_words(words: &[Bytes]) -> Option<InlineWords<'_>>
         weaving,
         classes,
     })
+}
+
+/// What the first word says of the blocks, and the others.
+fn woven_as(words: &[Bytes]) -> Option<(Weaving, &[Bytes])>
+    ensures found { IfSome result (λ parts. words.now ≡ weaving_word parts.0 ∷ parts.1.now) }
+    ensures none { IfNone result ((weaving : AWeaving) (others : List (List ℕ)) → words.now ≡ weaving_word weaving ∷ others → ⊥) }
+{
+    let (word, others) = first_of(words)?;
+    let weaving = weaving_of(word.as_slice())?;
+    Some((weaving, others))
 }
 
 /// What a word says of the blocks.

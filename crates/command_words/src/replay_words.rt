@@ -3,7 +3,7 @@
 ghost use Rattle.std.specs.Prelude.{◌≡◌, IfNone, IfSome};
 ghost use Rattle.command_words.specs.ReplayWords.{IsReplay, NamedReplay, replay_named};
 
-use crate::words::first_of;
+use crate::words::{behind, first_of, two_of};
 use mon_base::Bytes;
 
 /// The words of the command `replay`: names of files, but for `main`.
@@ -22,11 +22,10 @@ pub fn replay_words(words: &[Bytes]) -> Option<ReplayWords<'_>>
     ensures found { IfSome result (λ c. IsReplay words.now (replay_named c)) }
     ensures none { IfNone result ((named : NamedReplay) → IsReplay words.now named → ⊥) }
 {
-    let (command, words) = first_of(words)?;
-    let (listing, words) = first_of(words)?;
-    let (main, words) = first_of(words)?;
+    let words = behind(b"replay".as_slice(), words)?;
+    let (listing, main, words) = two_of(words)?;
     let (recorded, classes) = first_of(words)?;
-    if command.as_slice() != b"replay".as_slice() || classes.is_empty() {
+    if classes.is_empty() {
         return None;
     }
     Some(ReplayWords {

@@ -1,6 +1,6 @@
 //! The words of the command line.
 
-ghost use Rattle.std.specs.Prelude.{◌≡◌, ◌≢◌, ◌↔◌, ◌∷◌, [], ◌++◌, IfSome, IfNone, IsTrue};
+ghost use Rattle.std.specs.Prelude.{◌≡◌, ◌≢◌, ◌↔◌, ℕ, List, ◌∷◌, [], ◌++◌, IfSome, IfNone, IsTrue};
 ghost use Rattle.std.specs.List.{AllByRecursion};
 ghost use Rattle.command_words.specs.Words.{
   IsCheck,
@@ -102,12 +102,10 @@ fn check_words(words: &[Bytes]) -> Option<CheckWords<'_>>
     ensures found { IfSome result (λ c. IsCheck words.now (check_named c)) }
     ensures none { IfNone result ((named : NamedCheck) → IsCheck words.now named → ⊥) }
 {
-    let (command, words) = first_of(words)?;
-    let (policy, words) = first_of(words)?;
-    let (listing, words) = first_of(words)?;
-    let (certificate, words) = first_of(words)?;
-    let (main, classes) = first_of(words)?;
-    if command.as_slice() != b"check".as_slice() || classes.is_empty() {
+    let words = behind(b"check".as_slice(), words)?;
+    let (policy, listing, words) = two_of(words)?;
+    let (certificate, main, classes) = two_of(words)?;
+    if classes.is_empty() {
         return None;
     }
     Some(CheckWords {
@@ -123,9 +121,9 @@ fn show_words(words: &[Bytes]) -> Option<ShowWords<'_>>
     ensures found { IfSome result (λ c. IsShow words.now (show_named c)) }
     ensures none { IfNone result ((named : NamedShow) → IsShow words.now named → ⊥) }
 {
-    let (command, words) = first_of(words)?;
+    let words = behind(b"show".as_slice(), words)?;
     let (listing, classes) = first_of(words)?;
-    if command.as_slice() != b"show".as_slice() || classes.is_empty() {
+    if classes.is_empty() {
         return None;
     }
     Some(ShowWords { listing, classes })
@@ -135,13 +133,9 @@ fn policy_words(words: &[Bytes]) -> Option<PolicyWords<'_>>
     ensures found { IfSome result (λ c. IsPolicyCommand words.now (policy_named c)) }
     ensures none { IfNone result ((named : NamedPolicy) → IsPolicyCommand words.now named → ⊥) }
 {
-    let (command, words) = first_of(words)?;
-    let (policy, words) = first_of(words)?;
-    let (listing, words) = first_of(words)?;
-    let (recorded, words) = first_of(words)?;
-    if command.as_slice() != b"policy".as_slice() || !words.is_empty() {
-        return None;
-    }
+    let words = behind(b"policy".as_slice(), words)?;
+    let (policy, listing, words) = two_of(words)?;
+    let recorded = last_of(words)?;
     Some(PolicyWords {
         policy,
         listing,
@@ -153,12 +147,9 @@ fn race_words(words: &[Bytes]) -> Option<RaceWords<'_>>
     ensures found { IfSome result (λ c. IsRace words.now (race_named c)) }
     ensures none { IfNone result ((named : NamedRace) → IsRace words.now named → ⊥) }
 {
-    let (command, words) = first_of(words)?;
+    let words = behind(b"race".as_slice(), words)?;
     let (policy, words) = first_of(words)?;
-    let (listing, words) = first_of(words)?;
-    if command.as_slice() != b"race".as_slice() || !words.is_empty() {
-        return None;
-    }
+    let listing = last_of(words)?;
     Some(RaceWords { policy, listing })
 }
 
@@ -176,6 +167,19 @@ fn are_full(words: &[Bytes]) -> bool
     true
 }
 
+/// The words behind the one that names the command.
+pub fn behind<'a>(command: &[u8], words: &'a [Bytes]) -> Option<&'a [Bytes]>
+    ensures found { IfSome result (λ others. words.now ≡ command.now ∷ others.now) }
+    ensures none { IfNone result ((others : List (List ℕ)) → words.now ≡ command.now ∷ others → ⊥) }
+{
+    let (first, others) = first_of(words)?;
+    if first.as_slice() == command {
+        Some(others)
+    } else {
+        None
+    }
+}
+
 /// The first word and the others.
 pub fn first_of(words: &[Bytes]) -> Option<(&Bytes, &[Bytes])>
     ensures found { IfSome result (λ parts. words.now ≡ parts.0.now ∷ parts.1.now) }
@@ -184,5 +188,26 @@ pub fn first_of(words: &[Bytes]) -> Option<(&Bytes, &[Bytes])>
     match words {
         [] => None,
         [first, others @ ..] => Some((first, others)),
+    }
+}
+
+/// The first two words and the others.
+pub fn two_of(words: &[Bytes]) -> Option<(&Bytes, &Bytes, &[Bytes])>
+    ensures found { IfSome result (λ parts. words.now ≡ parts.0.now ∷ parts.1.now ∷ parts.2.now) }
+    ensures none { IfNone result ((first second : List ℕ) (others : List (List ℕ)) → words.now ≡ first ∷ second ∷ others → ⊥) }
+{
+    let (first, others) = first_of(words)?;
+    let (second, others) = first_of(others)?;
+    Some((first, second, others))
+}
+
+/// The only word.
+fn last_of(words: &[Bytes]) -> Option<&Bytes>
+    ensures found { IfSome result (λ word. words.now ≡ word.now ∷ []) }
+    ensures none { IfNone result ((word : List ℕ) → words.now ≡ word ∷ [] → ⊥) }
+{
+    match words {
+        [word] => Some(word),
+        _ => None,
     }
 }
