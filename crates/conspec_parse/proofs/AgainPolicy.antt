@@ -33,7 +33,7 @@ use Rattle.conspec_tree.specs.Clauses.{phase_number, has_clause}
 use Rattle.conspec_parse.specs.Scope.{Scope}
 use Rattle.conspec_tree.specs.Updates.{all_range_atoms}
 use Rattle.conspec_tree.specs.Guards.{branches, longest_from, longest}
-use Rattle.conspec_parse.specs.Clauses.{begins_guard, guard_at, last_guard, with_else, body_at, next_phase, begins_clause, is_assigned, given_result_at, result_name_at, scope_of, clause_of, clause_at}
+use Rattle.conspec_parse.specs.Clauses.{begins_guard, guard_of, guard_at, last_guard, with_else, body_at, next_phase, begins_clause, is_assigned, given_result_at, result_name_at, scope_of, clause_of, clause_of_method, clause_of_type, clause_at}
 use Rattle.conspec_tree.specs.Clauses.{is_after}
 use Rattle.conspec_parse.specs.Policy.{policy_at, reading}
 use Rattle.conspec_tree.specs.Tree.{Differ}
@@ -88,7 +88,7 @@ guard_long w = by w.first where
   by (atom ∷ first) = omega arith
 
 guard_parts : (scope : Scope) (maxint : ℤ) → Parts begins_guard (guard_at scope maxint) guard_spelled Always (Grows (IsNextGuard scope maxint))
-unfolding guard_at
+unfolding guard_at guard_of
 guard_parts scope maxint = record {
   begins = guard_begins;
   leads = λ g words. tt;
@@ -139,7 +139,7 @@ else_stops (Some updates) words last = body_stops (else_spelled (Some updates) +
 last_guard_again : (scope : Scope) (maxint : ℤ) (guards : List Guard) (written : List WrittenUpdate) (g : Guard) (tokens : List Token) (words : List Lexeme)
     → g.conjs ≡ [] ∷ [] → IsBlock scope.vars maxint written g → branches guards < 64 → lexemes tokens ≡ else_spelled (Some written) ++ words
     → Got (last_guard scope maxint guards tokens) (guards ++ g ∷ []) words
-unfolding last_guard
+unfolding last_guard guard_of
 last_guard_again scope maxint guards written g tokens words empty block few e =
     let short : AllByRecursion (λ (c : List Atom). length c + all_range_atoms g.updates ≤ 16) ([] ∷ []) = subst (λ (cs : List (List Atom)). AllByRecursion (λ (c : List Atom). length c + all_range_atoms g.updates ≤ 16) cs) empty block.short in
     holds (nat_lt (branches guards) 64) (Limit (front_at tokens)) _ (lt-ltb _ _ few) (
@@ -264,7 +264,7 @@ five a b c d e l = simp append_assoc
 
 clause_again : (methods : List ListedMethod) (vars : List Var) (maxint : ℤ) (clauses : List TreeClause) (w : WrittenClause) (c : TreeClause) (tokens : List Token) (words : List Lexeme)
     → IsNextClause methods vars maxint clauses w c → lexemes tokens ≡ clause_spelled w ++ words → EndsBody words → Got (clause_at methods vars maxint clauses tokens) (clauses ++ c ∷ []) words
-unfolding clause_at
+unfolding clause_at clause_of_type clause_of_method
 clause_again methods vars maxint clauses w c tokens words next e last =
     let is = next.is in
     let body = body_spelled w.guards w.otherwise in

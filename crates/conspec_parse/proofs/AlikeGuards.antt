@@ -23,7 +23,7 @@ use Rattle.conspec_tree.specs.Kinds.{is_equality}
 use Rattle.conspec_tree.specs.Updates.{is_updated, all_range_atoms}
 use Rattle.conspec_parse.specs.Updates.{set_at, next_sign, signed, sum_at, right_at, update_at, block_at}
 use Rattle.conspec_tree.specs.Guards.{branches, longest}
-use Rattle.conspec_parse.specs.Clauses.{begins_guard, guard_at, last_guard, body_at}
+use Rattle.conspec_parse.specs.Clauses.{begins_guard, guard_of, guard_at, last_guard, body_at}
 use Rattle.conspec_parse.proofs.Alike.{Pair, Here, Alike, is_word, goes_on, next, next_goes_on, reached, ended, told, onward, loosened, lessened, joined, then, then_some, tested, given, either, either_then, after, taking, naming, numbered, numbering, each_alike, syntax, unknown, of_kind, of_range, twice, limit}
 
 -- ---- constants
@@ -206,7 +206,7 @@ block_alike vars maxint atoms here =
 
 guard_alike : {p : Pair} {c : ℕ} {t u : List Token} (scope : Scope) (maxint : ℤ) (guards : List Guard) → Here p c t u
     → Alike p false c (c + 1) (guard_at scope maxint guards t) (guard_at scope maxint guards u)
-unfolding guard_at
+unfolding guard_at guard_of
 guard_alike scope maxint guards here =
     then_some _ _ (conjs_alike scope (branches guards) here) λ conjs d x y enough more.
     loosened (after (codes "->") _ _ tt more λ arrow.
@@ -215,7 +215,7 @@ guard_alike scope maxint guards here =
 
 last_guard_alike : {p : Pair} {c : ℕ} {t u : List Token} (scope : Scope) (maxint : ℤ) (guards : List Guard) → Here p c t u → goes_on t ≡ true
     → Alike p false c c (last_guard scope maxint guards t) (last_guard scope maxint guards u)
-unfolding last_guard
+unfolding last_guard guard_of
 last_guard_alike scope maxint guards here goes =
     tested (nat_lt (branches guards) 64) _ _ _ _ (told Limit limit here (omega arith) tt) λ few.
     loosened (onward (omega arith) tt (after (codes "->") _ _ tt (next here goes) λ arrow.

@@ -19,7 +19,7 @@ use Rattle.conspec_parse.specs.Head.{begins_variable, first_at, variable_at, var
 use Rattle.conspec_tree.specs.Variables.{is_variable}
 use Rattle.conspec_parse.specs.Types.{judged_name, type_at}
 use Rattle.conspec_parse.specs.Methods.{method_at}
-use Rattle.conspec_parse.specs.Clauses.{is_assigned, given_result_at, some_result_at, result_name_at, next_phase, begins_clause, scope_of, clause_of, clause_at, body_at}
+use Rattle.conspec_parse.specs.Clauses.{is_assigned, given_result_at, some_result_at, result_name_at, next_phase, begins_clause, scope_of, clause_of, clause_of_method, clause_of_type, clause_at, body_at}
 use Rattle.conspec_tree.specs.Clauses.{is_after}
 use Rattle.conspec_parse.specs.Deciding.{opened_by, is_open_from}
 use Rattle.conspec_parse.proofs.Alike.{Pair, Here, Alike, NoClose, is_word, goes_on, within, none, both_quiet, next, next_goes_on, name_goes_on, name_quiet, seen_same, ended, told, onward, loosened, lessened, unsaid, joined, then, then_open, tested, peeked, after, named, knowing, each_alike, of_kind, syntax, twice, limit}
@@ -264,7 +264,7 @@ behind_phase_alike {p = p} {c = c} {t = t} methods vars maxint clauses (Some pha
 
 clause_alike : {p : Pair} {c : ℕ} {t u : List Token} (methods : List ListedMethod) (vars : List Var) (maxint : ℤ) (clauses : List TreeClause) → Here p c t u
     → Alike p false c (c + 1) (clause_at methods vars maxint clauses t) (clause_at methods vars maxint clauses u)
-unfolding clause_at
+unfolding clause_at clause_of_type clause_of_method
 clause_alike {t = t} {u = u} methods vars maxint clauses here =
     tested (nat_lt (length clauses) 64) _ _ _ _ (told faults.Limit limit here (omega arith) tt) λ few.
     peeked next_phase (behind_phase methods vars maxint clauses t) (behind_phase methods vars maxint clauses u) (λ x t u. refl) here

@@ -21,7 +21,7 @@ use Rattle.conspec_tree.specs.Kinds.{is_equality}
 use Rattle.conspec_tree.specs.Updates.{is_updated, all_range_atoms}
 use Rattle.conspec_parse.specs.Updates.{set_at, next_sign, signed, sum_at, right_at, update_at, block_at}
 use Rattle.conspec_tree.specs.Guards.{branches, longest}
-use Rattle.conspec_parse.specs.Clauses.{begins_guard, guard_at, last_guard, body_at}
+use Rattle.conspec_parse.specs.Clauses.{begins_guard, guard_of, guard_at, last_guard, body_at}
 use Rattle.conspec_parse.specs.Written.{Constant, WrittenAtom, Right, WrittenUpdate, WrittenGuard, rel_spelled, constant_spelled, atom_spelled, conj_spelled, sign_spelled, right_spelled, update_spelled, block_spelled, guard_spelled}
 use Rattle.conspec_parse.specs.Written.Constant.{Truth, Natural, Minus}
 use Rattle.conspec_parse.specs.Written.Right.{Value, Sum}
@@ -240,7 +240,7 @@ regroup_three Next a b c d next =
 
 guard_leads : {s : Source} (Next : List Lexeme → Type 0) (tail : List Lexeme) {t : List Token} (scope : Scope) (maxint : ℤ) (guards : List Guard) → At s t Next
     → ((g : WrittenGuard) → Next (guard_spelled g ++ tail)) → Leads s (guard_at scope maxint guards t) (λ r. Reached s Next guard_spelled r.1)
-unfolding guard_at
+unfolding guard_at guard_of
 guard_leads Next tail scope maxint guards at goes =
     let all : (w : Conjs) (us : List WrittenUpdate) → Next (conjs_spelled w ++ (block_spelled us ++ tail)) =
     λ w us. regroup_three Next (conj_spelled w.0) (flat_map or_conj w.1) (block_spelled us) tail (goes (record { first = w.0; others = w.1; updates = us })) in
@@ -257,7 +257,7 @@ else_of us = Quoted (codes "ELSE") ∷ block_spelled us
 
 last_guard_leads : {s : Source} (Next : List Lexeme → Type 0) (tail : List Lexeme) {t : List Token} (scope : Scope) (maxint : ℤ) (guards : List Guard) → At s t Next
     → ((us : List WrittenUpdate) → Next (else_of us ++ tail)) → is_next (codes "ELSE") t ≡ true → Leads s (last_guard scope maxint guards t) (λ r. Reached s Next else_of r.1)
-unfolding last_guard
+unfolding last_guard guard_of
 last_guard_leads Next tail {t = t} scope maxint guards at goes is =
     tested (nat_lt (branches guards) 64) (faults.Limit (front_at t)) _ refl (
     then _ (after (codes "->") (block_spelled [] ++ tail) (moved (Quoted (codes "ELSE") ∷ []) at (next_goes_on (codes "ELSE") t is) (next_is (codes "ELSE") t is)) (goes [])) λ arrow more.

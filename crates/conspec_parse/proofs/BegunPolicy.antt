@@ -26,7 +26,7 @@ use Rattle.conspec_parse.specs.Head.{header_at, truth_at, count_at, first_at, be
 use Rattle.conspec_tree.specs.Variables.{is_variable}
 use Rattle.conspec_parse.specs.Methods.{is_free, given_name_at, parameter_name_at, parameter_at, next_parameter, some_parameters, parameters_at, init, part_at, class_under, next_step, path_at, signature_at, desc_of, index_at, listed_method, method_at}
 use Rattle.conspec_tree.specs.Clauses.{has_clause}
-use Rattle.conspec_parse.specs.Clauses.{next_phase, begins_clause, is_assigned, given_result_at, result_name_at, scope_of, clause_of, clause_at}
+use Rattle.conspec_parse.specs.Clauses.{next_phase, begins_clause, is_assigned, given_result_at, result_name_at, scope_of, clause_of, clause_of_method, clause_of_type, clause_at}
 use Rattle.conspec_tree.specs.Clauses.{is_after}
 use Rattle.conspec_parse.specs.Policy.{policy_at}
 use Rattle.conspec_parse.specs.Written.{WrittenType, WrittenParam, MethodName, WrittenClause, WrittenVar, name_spelled, type_spelled, param_spelled, params_spelled, method_spelled, path_spelled, signature_spelled, phase_spelled, result_spelled, clause_spelled, first_spelled, variable_word, variable_spelled, header_spelled, policy_spelled}
@@ -326,7 +326,7 @@ record IsClauseAt (s : Source) (Next : List Lexeme → Type 0) (t : List Token) 
 
 clause_leads : {s : Source} (Next : List Lexeme → Type 0) (tail : List Lexeme) {t : List Token} (methods : List ListedMethod) (vars : List Var) (maxint : ℤ) (clauses : List TreeClause) → At s t Next
     → ((c : WrittenClause) → IsInGrammar c → Next (clause_spelled c ++ tail)) → Leads s (clause_at methods vars maxint clauses t) (λ r. IsClauseAt s Next r.1)
-unfolding clause_at
+unfolding clause_at clause_of_type clause_of_method
 clause_leads {s = s} Next tail {t = t} methods vars maxint clauses at goes =
     let all : (phase : Phase) (type : WrittenType) (result : Option (List ℕ)) (class : List (List ℕ)) (m : MethodName) (params : List WrittenParam) (body : WrittenBody)
     → class ≢ [] → (result ≢ None → phase ≡ After) → Next (clause_parts phase type result class m params body tail) =

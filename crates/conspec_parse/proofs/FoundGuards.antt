@@ -26,7 +26,7 @@ use Rattle.conspec_tree.specs.Kinds.{is_equality}
 use Rattle.conspec_tree.specs.Updates.{target, is_updated, all_range_atoms}
 use Rattle.conspec_parse.specs.Updates.{set_at, next_sign, signed, sum_at, right_at, update_at, block_at}
 use Rattle.conspec_tree.specs.Guards.{branches, longest}
-use Rattle.conspec_parse.specs.Clauses.{begins_guard, guard_at, last_guard, body_at}
+use Rattle.conspec_parse.specs.Clauses.{begins_guard, guard_of, guard_at, last_guard, body_at}
 use Rattle.conspec_parse.specs.Written.{Constant, WrittenAtom, Right, WrittenUpdate, WrittenGuard, led, rel_spelled, constant_spelled, atom_spelled, conj_spelled, sign_spelled, right_spelled, update_spelled, block_spelled, guard_spelled, else_spelled, body_spelled}
 use Rattle.conspec_parse.specs.Written.Constant.{Truth, Natural, Minus}
 use Rattle.conspec_parse.specs.Written.Right.{Value, Sum}
@@ -290,7 +290,7 @@ block_found vars maxint atoms tokens =
 guard_found : (scope : Scope) (maxint : ℤ) (start : List Token) (guards : List Guard) (tokens : List Token)
     → Found (λ ws. flat_map guard_spelled ws) (EachIs (IsGuard scope maxint)) start (guards, tokens)
     → Makes (guard_at scope maxint guards tokens) (Found (λ ws. flat_map guard_spelled ws) (EachIs (IsGuard scope maxint)) start)
-unfolding guard_at
+unfolding guard_at guard_of
 guard_found scope maxint start guards tokens before =
     then _ (together (conjs_found scope (branches guards) tokens) (conjs_sound scope (all_asked scope) (asks_all scope) (branches guards) tokens)) λ conjs one.
     then _ (behind_found (codes "->") conjs.1) λ arrow two.
@@ -318,7 +318,7 @@ pub record IsLast (scope : Scope) (maxint : ℤ) (guards : List Guard) (tokens :
 
 last_guard_found : (scope : Scope) (maxint : ℤ) (guards : List Guard) (tokens : List Token) → is_next (codes "ELSE") tokens ≡ true
     → Makes (last_guard scope maxint guards tokens) (IsLast scope maxint guards tokens)
-unfolding last_guard
+unfolding last_guard guard_of
 last_guard_found scope maxint guards tokens is =
     tested (nat_lt (branches guards) 64) (Limit (front_at tokens)) _ λ few.
     then _ (behind_found (codes "->") (drop 1 tokens)) λ arrow two.

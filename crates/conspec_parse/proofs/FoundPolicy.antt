@@ -33,7 +33,7 @@ use Rattle.conspec_tokens.specs.Front.{front_at, is_next, ends, is_end}
 use Rattle.conspec_parse.specs.Forms.{is_short}
 use Rattle.conspec_tree.specs.Variables.{is_variable}
 use Rattle.conspec_parse.specs.Head.{header_at, truth_at, count_at, first_at, begins_variable, variable_at}
-use Rattle.conspec_parse.specs.Clauses.{next_phase, begins_clause, is_assigned, given_result_at, result_name_at, scope_of, clause_of, clause_at}
+use Rattle.conspec_parse.specs.Clauses.{next_phase, begins_clause, is_assigned, given_result_at, result_name_at, scope_of, clause_of, clause_of_method, clause_of_type, clause_at}
 use Rattle.conspec_tree.specs.Clauses.{is_after}
 use Rattle.conspec_parse.specs.Policy.{policy_at, reading}
 use Rattle.conspec_parse.specs.Written.{WrittenType, WrittenClause, WrittenVar, Written, phase_spelled, result_spelled, clause_spelled, first_spelled, variable_word, variable_spelled, header_spelled, policy_spelled}
@@ -128,7 +128,7 @@ clauses_spelled ws = flat_map clause_spelled ws
 clause_found : (methods : List ListedMethod) (vars : List Var) (maxint : ℤ) (start : List Token) (clauses : List TreeClause) (tokens : List Token)
     → Found clauses_spelled (EachIs (IsClause methods vars maxint)) start (clauses, tokens)
     → Makes (clause_at methods vars maxint clauses tokens) (Found clauses_spelled (EachIs (IsClause methods vars maxint)) start)
-unfolding clause_at
+unfolding clause_at clause_of_type clause_of_method
 clause_found methods vars maxint start clauses tokens before =
     tested (nat_lt (length clauses) 64) (Limit (front_at tokens)) _ λ few.
     then _ (given (next_phase tokens) (Syntax (front_at tokens))) λ phase one.

@@ -12,5 +12,5 @@ use Rattle.conspec_parse.specs.Types.{type_at}
 pub clause_is : (methods : List ListedMethod) (vars : List Var) (maxint : ℤ) (clauses : List TreeClause) (tokens left : List Token) (phase : Phase) (type : TypeName)
     → nat_lt (length clauses) 64 ≡ true → next_phase tokens ≡ Some phase → type_at true (drop 1 tokens) ≡ Ok (type, left)
     → clause_at methods vars maxint clauses tokens ≡ clause_of_type methods vars maxint phase type clauses left
-unfolding clause_at clause_of_type
+unfolding clause_at
 clause_is methods vars maxint clauses tokens left phase type few begun read = rw (few, begun, read) refl

@@ -31,7 +31,7 @@ use Rattle.conspec_tree.specs.Kinds.{kind_or_object}
 use Rattle.conspec_tree.specs.Clauses.{phase_number, has_clause}
 use Rattle.conspec_parse.specs.Methods.{desc_of, index_at, listed_method, method_at, signature_at}
 use Rattle.conspec_tree.specs.Guards.{branches, longest_from, longest}
-use Rattle.conspec_parse.specs.Clauses.{begins_guard, guard_at, last_guard, body_at, next_phase, begins_clause, is_assigned, given_result_at, result_name_at, scope_of, clause_of, clause_at}
+use Rattle.conspec_parse.specs.Clauses.{begins_guard, guard_of, guard_at, last_guard, body_at, next_phase, begins_clause, is_assigned, given_result_at, result_name_at, scope_of, clause_of, clause_of_method, clause_of_type, clause_at}
 use Rattle.conspec_tree.specs.Clauses.{is_after}
 use Rattle.conspec_tokens.specs.Tokens.{tokens_of}
 use Rattle.conspec_parse.specs.Policy.{policy_at, reading}
@@ -81,7 +81,7 @@ guard_is scope askable maxint before atoms g conjs updates short = record {
 
 guard_sound : (scope : Scope) (askable : Askable) (maxint : ℤ) (guards : List Guard) (tokens : List Token) → Asks scope askable → AreGuards scope maxint askable guards
     → Makes (guard_at scope maxint guards tokens) (λ r. AreGuards scope maxint askable r.0)
-unfolding guard_at
+unfolding guard_at guard_of
 guard_sound scope askable maxint guards tokens asks are =
     then _ (conjs_sound scope askable asks (branches guards) tokens) λ conjs cs.
     then _ (any (behind (codes "->") conjs.1)) λ arrow a.
@@ -95,7 +95,7 @@ guard_sound scope askable maxint guards tokens asks are =
 
 last_guard_sound : (scope : Scope) (askable : Askable) (maxint : ℤ) (guards : List Guard) (tokens : List Token) → AreGuards scope maxint askable guards
     → Makes (last_guard scope maxint guards tokens) (λ r. AreGuards scope maxint askable r.0)
-unfolding last_guard
+unfolding last_guard guard_of
 last_guard_sound scope askable maxint guards tokens are =
     tested (nat_lt (branches guards) 64) (Limit (front_at tokens)) _ λ few.
     then _ (any (behind (codes "->") (drop 1 tokens))) λ arrow a.
@@ -227,7 +227,7 @@ clause_is methods vars maxint clauses phase method params result kind guards few
 
 clause_sound : (methods : List ListedMethod) (vars : List Var) (maxint : ℤ) (clauses : List TreeClause) (tokens : List Token) → AreClauses methods vars maxint clauses
     → Makes (clause_at methods vars maxint clauses tokens) (λ r. AreClauses methods vars maxint r.0)
-unfolding clause_at
+unfolding clause_at clause_of_type clause_of_method
 clause_sound methods vars maxint clauses tokens are =
     tested (nat_lt (length clauses) 64) (Limit (front_at tokens)) _ λ few.
     then _ (any (ok_or (next_phase tokens) (Syntax (front_at tokens)))) λ phase a.

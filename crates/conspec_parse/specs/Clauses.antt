@@ -41,17 +41,13 @@ guard_of vars maxint guards conjs tokens = do
 unfoldable pub guard_at : Scope → ℤ → List Guard → List Token → Parsed (List Guard)
 guard_at scope maxint guards tokens = do
   conjs ← conjs_at scope (branches guards) tokens
-  arrow ← behind (codes "->") conjs.1
-  updates ← block_at scope.vars maxint (longest conjs.0) arrow
-  Ok (guards ++ (record { conjs = conjs.0; updates = updates.0 }) ∷ [], updates.1)
+  guard_of scope.vars maxint guards conjs.0 conjs.1
 
 -- the guard that always holds, as the last
 unfoldable pub last_guard : Scope → ℤ → List Guard → List Token → Parsed (List Guard)
 last_guard scope maxint guards tokens = do
   few ← need (nat_lt (branches guards) 64) (Limit (front_at tokens))
-  arrow ← behind (codes "->") (drop 1 tokens)
-  updates ← block_at scope.vars maxint 0 arrow
-  Ok (guards ++ (record { conjs = [] ∷ []; updates = updates.0 }) ∷ [], updates.1)
+  guard_of scope.vars maxint guards ([] ∷ []) (drop 1 tokens)
 
 abbrev pub with_else : Scope → ℤ → List Guard → List Token → Parsed (List Guard)
 with_else scope maxint guards tokens = if is_next (codes "ELSE") tokens then last_guard scope maxint guards tokens else Ok (guards, tokens)
@@ -124,9 +120,7 @@ unfoldable pub clause_of_type : List ListedMethod → List Var → ℤ → Phase
 clause_of_type methods vars maxint phase type clauses tokens = do
   result ← result_name_at vars phase type.kind tokens
   method ← method_at methods vars clauses phase type.desc result.1
-  performs ← behind (codes "PERFORM") method.1
-  guards ← body_at (scope_of vars phase method.0.1 result.0 type.kind) maxint performs
-  Ok (clauses ++ clause_of method.0.0 phase method.0.1 type.kind guards.0 ∷ [], guards.1)
+  clause_of_method (scope_of vars phase method.0.1 result.0 type.kind) maxint method.0.0 phase method.0.1 type.kind clauses method.1
 
 -- another of at most 64 clauses
 unfoldable pub clause_at : List ListedMethod → List Var → ℤ → List TreeClause → List Token → Parsed (List TreeClause)
@@ -134,8 +128,4 @@ clause_at methods vars maxint clauses tokens = do
   few ← need (nat_lt (length clauses) 64) (Limit (front_at tokens))
   phase ← ok_or (next_phase tokens) (Syntax (front_at tokens))
   type ← type_at true (drop 1 tokens)
-  result ← result_name_at vars phase type.0.kind type.1
-  method ← method_at methods vars clauses phase type.0.desc result.1
-  performs ← behind (codes "PERFORM") method.1
-  guards ← body_at (scope_of vars phase method.0.1 result.0 type.0.kind) maxint performs
-  Ok (clauses ++ clause_of method.0.0 phase method.0.1 type.0.kind guards.0 ∷ [], guards.1)
+  clause_of_type methods vars maxint phase type.0 clauses type.1

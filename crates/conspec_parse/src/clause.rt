@@ -71,7 +71,7 @@ fn guard_of<'a>(
 }
 
 /// Puts onto the guards so far the one that stands first, and gives the tokens behind it.
-#[tactic(auto, unfolding(crate::specs::Clauses::guard_at, crate::specs::Clauses::guard_of))]
+#[tactic(auto, unfolding(crate::specs::Clauses::guard_at))]
 fn guard_at<'a>(
     alloc: Global,
     names: &Names<'_>,
@@ -142,12 +142,8 @@ fn last_guard<'a>(
             at: front_at(tokens),
         });
     }
-    let block = behind("->", rest_of(tokens))?;
-    let mut updates = List::new(alloc);
-    let rest = block_at(names.vars, maxint, 0, &mut updates, block)?;
     let conjs = always(alloc)?;
-    guards.push(Guard { conjs, updates })?;
-    Ok(rest)
+    guard_of(alloc, names.vars, maxint, conjs, guards, rest_of(tokens))
 }
 
 fn with_else<'a>(
@@ -316,7 +312,7 @@ fn clause_of_method<'a>(
 
 /// Puts the clause of this phase and type, whose result's name or method has to stand first, onto the clauses so far,
 /// and gives the tokens behind it.
-#[tactic(auto, unfolding(crate::specs::Clauses::clause_of_type, crate::specs::Clauses::clause_of_method))]
+#[tactic(auto, unfolding(crate::specs::Clauses::clause_of_type))]
 fn clause_of_type<'a>(
     alloc: Global,
     methods: &[ListedMethod],
