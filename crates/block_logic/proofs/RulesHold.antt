@@ -18,7 +18,7 @@ use Rattle.bytecode_model.specs.declared.program.Program.{Program}
 use Rattle.bytecode_model.specs.declared.program.Target.{Target}
 use Rattle.bytecode_model.specs.declared.program.Target.TheVariants as target
 use Rattle.bytecode_model.specs.Classes.{is_below}
-use Rattle.bytecode_model.specs.Place.{Place}
+use Rattle.bytecode_model.specs.InsnPlace.{InsnPlace}
 use Rattle.bytecode_model.specs.Rules.{Caught, Depth, Entry, Frames, Local, Made, Operand, Successor, catches_well as catches_frame, class_caught, covers, frame_of, is_handled, row_failing, rule_failing}
 use Rattle.bytecode_model.specs.SearchOrder.{Name}
 use Rattle.bytecode_model.specs.Sound.{IsSoundClass, IsSoundMethod}
@@ -77,7 +77,7 @@ all_rules : (entry : Bool) (rule : Option ℕ) → (if entry then Some 1 else ru
 all_rules true rule e = absurd cc
 all_rules false rule e = e
 
-caught_well : (frames : Frames) (place : Place) (frame : FrameType) → row_failing frames place (Some frame) ≡ None → Caught frames place frame ≡ true
+caught_well : (frames : Frames) (place : InsnPlace) (frame : FrameType) → row_failing frames place (Some frame) ≡ None → Caught frames place frame ≡ true
 caught_well frames place frame e =
     handled_from (Depth place frame) (Operand place frame) (Local place frame) (Made place frame) (Successor frames place frame) (Caught frames place frame)
     (all_rules ((place.at == 0) && not (Entry place frame)) (rule_failing frames place frame) e)
@@ -245,7 +245,7 @@ module _ (program : Program) (policy : Policy) (certificate : Certificate) (o : 
     abbrev frames : Frames
     frames = frames_in n.i.c.methods (frames_told certificate.typing frame.class) frame.method
 
-    abbrev place : Place
+    abbrev place : InsnPlace
     place = place_at program frame.class n.i.c n.i.m frame.at next.0
 
     row_typed : (f : FrameType) → frame_of frames frame.at ≡ Some f → Caught frames place f ≡ true

@@ -10,7 +10,7 @@ use Rattle.bytecode_model.specs.declared.program.Method.{Method}
 use Rattle.bytecode_model.specs.declared.program.Program.{Program}
 use Rattle.bytecode_model.specs.declared.program.Target.{Target}
 use Rattle.bytecode_model.specs.Rules.{frame_of}
-use Rattle.bytecode_model.specs.Shape.{has_code}
+use Rattle.bytecode_model.specs.Layout.{has_code}
 use Rattle.bytecode_model.specs.Typed.{frames_in, frames_told, reached}
 use Rattle.cert_format.specs.declared.certificate.Certificate.{Certificate}
 use Rattle.cert_format.specs.declared.note.Note.{Note}

@@ -8,7 +8,7 @@ use Rattle.cert_format.specs.declared.certificate.Certificate.{Certificate}
 use Rattle.cert_format.specs.declared.note.Note.{Note}
 use Rattle.cert_format.specs.declared.typing.FrameType.{FrameType}
 use Rattle.bytecode_model.specs.Rules.{frame_of}
-use Rattle.bytecode_model.specs.Shape.{coded, IsShaped}
+use Rattle.bytecode_model.specs.Layout.{coded, IsLaidOut}
 use Rattle.bytecode_model.specs.Typed.{IsTyped, frames_in, frames_told, list_at}
 use Rattle.conspec_automaton.specs.declared.policy.Policy.{Policy}
 use Rattle.block_logic.specs.Notes.{note_fault}
@@ -48,8 +48,8 @@ note_fault_at program policy certificate class method at =
 -- ---- acceptance
 
 pub record IsAccepted (program : Program) (policy : Policy) (certificate : Certificate) : Type 0 where
-  pub frames : IsShaped program certificate.typing.frames
-  pub notes : IsShaped program certificate.notes
+  pub frames : IsLaidOut program certificate.typing.frames
+  pub notes : IsLaidOut program certificate.notes
   pub typed : IsTyped program certificate.typing
   pub state : state_fault program.classes policy ≡ None
   pub noted : (class method at : ℕ) → note_fault_at program policy certificate class method at ≡ None

@@ -8,7 +8,7 @@ ghost use Rattle.block_logic.specs.Operands.{pushes_state, reads_static, stops, 
 use bytecode_model::Target;
 use conspec_automaton::{Policy, has_clauses};
 use guest_model::{Builtin, builtin_at};
-use insn_codec::{Heap, Kind, Relation, Shape, Two};
+use insn_codec::{Heap, Relation, Shape, Two, ValueKind};
 
 /// The name of the class that holds the policy's variables, and whose monitor is the lock.
 pub const STATE: &[u8] = b"conspec/State";
@@ -108,7 +108,7 @@ pub fn loaded_number(shape: Shape) -> Option<u16>
 {
     match shape {
         Shape::Load {
-            kind: Kind::Int,
+            kind: ValueKind::Int,
             slot,
         } => Some(slot),
         _ => None,

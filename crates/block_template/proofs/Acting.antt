@@ -8,7 +8,7 @@ use Rattle.insn_codec.specs.declared.shape.Shape.{Shape}
 use Rattle.insn_codec.specs.Shapes.{shape_of}
 use Rattle.bytecode_model.specs.Assigning.{assignable}
 use Rattle.bytecode_model.specs.Makes.{type_at, yields, yields_of, changed, changed_by, stores, local_after, stack_after, topmost, below}
-use Rattle.bytecode_model.specs.Place.{Place}
+use Rattle.bytecode_model.specs.InsnPlace.{InsnPlace}
 use Rattle.bytecode_model.specs.Rules.{stack_fits, locals_fit, taken, Depth, Operand, Local, Made, made_well, uses_local, goes_well}
 use Rattle.bytecode_model.specs.Wants.{Want, takes, takes_of, all_met, returns_well}
 use Rattle.block_template.specs.Frames.{frame}
@@ -25,7 +25,7 @@ met_length (w ∷ ws) [] e = absurd cc
 met_length (w ∷ ws) (t ∷ ts) e = ap suc (met_length ws ts (and_parts (w t) (all_met ws ts) e).1)
 
 -- It takes these operands and pushes those; then the locals are as told.
-pub record Acts (place : Place) (locals ts us : List VType) (then : ℕ → VType) : Type 0 where
+pub record Acts (place : InsnPlace) (locals ts us : List VType) (then : ℕ → VType) : Type 0 where
   pub shape : Shape
   pub is : shape_of place.insn ≡ shape
   pub met : all_met (takes_of place shape) ts ≡ true
@@ -37,13 +37,13 @@ pub record Acts (place : Place) (locals ts us : List VType) (then : ℕ → VTyp
   pub local : (j : ℕ) → cond (stores shape j) (type_at ts 0) (type_at locals j) ≡ then j
 
 -- The rules that ask nothing of other instructions.
-pub record MeetsAlone (place : Place) (f : FrameType) : Type 0 where
+pub record MeetsAlone (place : InsnPlace) (f : FrameType) : Type 0 where
   pub depth : Depth place f ≡ true
   pub operand : Operand place f ≡ true
   pub local : Local place f ≡ true
   pub made : Made place f ≡ true
 
-module _ (place : Place) (locals ts us : List VType) (then : ℕ → VType) (acts : Acts place locals ts us then) (s : List VType) where
+module _ (place : InsnPlace) (locals ts us : List VType) (then : ℕ → VType) (acts : Acts place locals ts us then) (s : List VType) where
   count : length (takes place) ≡ length ts
   count = ap (λ (shape : Shape). length (takes_of place shape)) acts.is ∙ met_length (takes_of place acts.shape) ts acts.met
 

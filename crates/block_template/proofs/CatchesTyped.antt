@@ -48,7 +48,7 @@ use Rattle.bytecode_model.specs.declared.program.Handler.{Handler}
 use Rattle.bytecode_model.specs.declared.program.Program.{Program}
 use Rattle.bytecode_model.specs.Assigning.{assignable}
 use Rattle.bytecode_model.specs.Makes.{below, changed, local_after, stack_after, stores, topmost, type_at, yields_of}
-use Rattle.bytecode_model.specs.Place.{Place}
+use Rattle.bytecode_model.specs.InsnPlace.{InsnPlace}
 use Rattle.bytecode_model.specs.Rules.{
   Depth,
   Local,
@@ -195,7 +195,7 @@ padded_same [] (suc k) (suc j) = padded_same [] k j
 padded_same (t ∷ xs) k zero = refl
 padded_same (t ∷ xs) k (suc j) = padded_same xs k j
 
-module _ (mode : Mode) (clauses : Clauses) (around : Around) (locked : Bool) (fits : FitsAround clauses around) (place : Place)
+module _ (mode : Mode) (clauses : Clauses) (around : Around) (locked : Bool) (fits : FitsAround clauses around) (place : InsnPlace)
     (call : IsCallOf around place) (room : HasRoom clauses around place.method) where
   abbrev locals : List VType
   locals = saved_locals clauses around 0

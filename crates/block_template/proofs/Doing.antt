@@ -28,8 +28,8 @@ use Rattle.cert_format.specs.declared.typing.VType.{VType}
 use Rattle.cert_format.specs.declared.typing.VType.TheVariants as types
 use Rattle.insn_codec.specs.declared.shape.Heap.TheVariants as heap
 use Rattle.insn_codec.specs.declared.shape.How.TheVariants as hows
-use Rattle.insn_codec.specs.declared.shape.Kind.{Kind as Operand}
-use Rattle.insn_codec.specs.declared.shape.Kind.TheVariants as operands
+use Rattle.insn_codec.specs.declared.shape.ValueKind.{ValueKind as Operand}
+use Rattle.insn_codec.specs.declared.shape.ValueKind.TheVariants as operands
 use Rattle.insn_codec.specs.declared.shape.Relation.{Relation}
 use Rattle.insn_codec.specs.declared.shape.Relation.TheVariants as compared
 use Rattle.insn_codec.specs.declared.shape.Shape.{Shape}
@@ -60,7 +60,7 @@ use Rattle.bytecode_model.specs.Heads.{maker}
 use Rattle.bytecode_model.specs.Assigning.{assignable}
 use Rattle.bytecode_model.specs.Described.{arguments, result_type, type_described, types_at}
 use Rattle.bytecode_model.specs.Makes.{type_at, call_yields, constant_type, when_made}
-use Rattle.bytecode_model.specs.Place.{Place, calls_maker, desc_referred}
+use Rattle.bytecode_model.specs.InsnPlace.{InsnPlace, calls_maker, desc_referred}
 use Rattle.bytecode_model.specs.Wants.{Want, all_met, of_kind, to_described}
 use Rattle.conspec_tree.specs.declared.types.Kind.{Kind}
 use Rattle.conspec_tree.specs.declared.types.Kind.TheVariants as kinds
@@ -89,7 +89,7 @@ istore_shape = four (λ slot. plain_shape (ISTORE_0 + slot) ≡ shapes.Store ope
 pub astore_shape : (slot : ℕ) → slot < 4 → plain_shape (ASTORE_0 + slot) ≡ shapes.Store operands.Reference slot
 astore_shape = four (λ slot. plain_shape (ASTORE_0 + slot) ≡ shapes.Store operands.Reference slot) refl refl refl refl
 
-module _ (place : Place) where
+module _ (place : InsnPlace) where
   shape_by : (b : Bool) (slot short op : ℕ) (shape : Shape) → nat_lt slot 4 ≡ b → (slot < 4 → plain_shape (short + slot) ≡ shape)
       → local_shape op slot ≡ shape
       → Stands (cond b (Plain (short + slot)) (Local op slot (nat_le 256 slot))) place → shape_of place.insn ≡ shape

@@ -43,7 +43,7 @@ use Rattle.cert_format.specs.declared.certificate.Mode.TheVariants.{Hold, Releas
 use Rattle.cert_format.specs.declared.typing.FrameType.{FrameType}
 use Rattle.cert_format.specs.declared.typing.VType.{VType}
 use Rattle.cert_format.specs.declared.typing.VType.TheVariants as types
-use Rattle.insn_codec.specs.declared.shape.Kind.TheVariants as operands
+use Rattle.insn_codec.specs.declared.shape.ValueKind.TheVariants as operands
 use Rattle.bytecode_model.specs.Makes.{below, topmost, type_at}
 use Rattle.bytecode_model.specs.Wants.{all_met, of_kind}
 use Rattle.conspec_tree.specs.declared.types.Atom.{Atom}

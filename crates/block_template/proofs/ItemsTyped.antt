@@ -10,7 +10,7 @@ use Rattle.block_template.proofs.Policies.{clause_is}
 use Rattle.std.proofs.Common.{◌≡◌, ℕ, ◌+◌, true, List, Option, Some, None, is_some, refl, sym, subst, length, ◌≤◌, [], arith}
 use Rattle.std.specs.Prelude.{IfSome, option_and_then}
 use Rattle.cert_format.specs.declared.typing.FrameType.{FrameType}
-use Rattle.bytecode_model.specs.Place.{Place}
+use Rattle.bytecode_model.specs.InsnPlace.{InsnPlace}
 use Rattle.bytecode_model.specs.Rules.{goes_well}
 use Rattle.block_template.specs.declared.item.Item.{Item}
 use Rattle.block_template.specs.declared.item.Role.{Role}
@@ -43,7 +43,7 @@ module _ (clauses : Clauses) (around : Around) where
   told_of roles.Unreached reached = absurd (reached refl)
 
   -- What takes what an instruction leaves, where it has types, has them where it is reached.
-  goes_to : (place : Place) (types : FrameType) (role there : Role) → there ≡ role → IsReached there
+  goes_to : (place : InsnPlace) (types : FrameType) (role there : Role) → there ≡ role → IsReached there
       → IfSome (frame_at clauses around role) (λ to. goes_well place types to ≡ true) → GoesTo clauses around place types there
   goes_to place types role there is reached takes =
       by (frame_at clauses around there) refl (told_of there reached)
@@ -54,7 +54,7 @@ module _ (clauses : Clauses) (around : Around) where
       by None e some takes = absurd cc
       by (Some to) e some takes = (to, e, takes)
 
-  lands_at : (place : Place) (types : FrameType) (role : Role) (there : ℕ → Role) (o : Option ℕ) → IfSome o (λ index. there index ≡ role)
+  lands_at : (place : InsnPlace) (types : FrameType) (role : Role) (there : ℕ → Role) (o : Option ℕ) → IfSome o (λ index. there index ≡ role)
       → IfSome o (λ index. IsReached (there index))
       → (is_some o ≡ true → IfSome (frame_at clauses around role) (λ to. goes_well place types to ≡ true))
       → IfSome o (λ index. GoesTo clauses around place types (there index))

@@ -49,7 +49,7 @@ use Rattle.insn_codec.specs.declared.opcodes.TheConstants.{ACONST_NULL, IADD, GO
 use Rattle.bytecode_model.specs.declared.program.Method.{Method}
 use Rattle.bytecode_model.specs.declared.program.Program.{Program}
 use Rattle.bytecode_model.specs.Makes.{below, topmost, type_at}
-use Rattle.bytecode_model.specs.Place.{Place}
+use Rattle.bytecode_model.specs.InsnPlace.{InsnPlace}
 use Rattle.bytecode_model.specs.Rules.{locals_fit, when_thrown}
 use Rattle.bytecode_model.proofs.Lists.{all_get, some_is}
 use Rattle.conspec_tree.specs.declared.types.Atom.{Atom}
@@ -147,7 +147,7 @@ module _ (mode : Mode) (bools : List Bool) (vars : List Var) (maxint : ℤ) (cla
   pf phase = phase_frame clauses around phase
 
   abbrev Typed : Role → BlockInsn → Type 0
-  Typed role insn = (place : Place) → Stands insn place → HasRoom clauses around place.method → IsTyped mode clauses around role insn place
+  Typed role insn = (place : InsnPlace) → Stands insn place → HasRoom clauses around place.method → IsTyped mode clauses around role insn place
 
   -- The types of the role take these operands and locals.
   abbrev Takes : Program → List VType → (ℕ → VType) → Role → Type 0
@@ -163,7 +163,7 @@ module _ (mode : Mode) (bools : List Bool) (vars : List Var) (maxint : ℤ) (cla
       nothing : (j : ℕ) → 0 + j ≡ j
       nothing j = omega arith
 
-  step : (role : Role) (insn : BlockInsn) (place : Place) (locals s ts us : List VType) (then : ℕ → VType)
+  step : (role : Role) (insn : BlockInsn) (place : InsnPlace) (locals s ts us : List VType) (then : ℕ → VType)
       → frame_at clauses around role ≡ Some (frame locals (s ++ ts)) → Acts place locals ts us then
       → length (s ++ us) ≤ place.method.max_stack → length locals ≤ place.method.max_locals
       → (may_pass insn ≡ true → Takes place.program (s ++ us) then (next mode clauses role))
@@ -296,7 +296,7 @@ module _ (mode : Mode) (bools : List Bool) (vars : List Var) (maxint : ℤ) (cla
   enters : (phase : Phase) (role : Role) → at.Enters clauses around fits phase role → Arrives phase [] role
   enters phase role e = arrives phase [] role (e ∙ sym (at.nothing_pushed clauses around fits (pf phase)))
 
-  in_phase : (phase : Phase) (role : Role) (insn : BlockInsn) (place : Place) (low ts us : List VType)
+  in_phase : (phase : Phase) (role : Role) (insn : BlockInsn) (place : InsnPlace) (low ts us : List VType)
       → frame_at clauses around role ≡ Some (with_pushed (pf phase) (low ++ ts))
       → Acts place (pf phase).locals ts us (type_at (pf phase).locals) → HasRoom clauses around place.method → length (low ++ us) ≤ 2
       → (may_pass insn ≡ true → Arrives phase (low ++ us) (next mode clauses role))
@@ -510,7 +510,7 @@ module _ (mode : Mode) (bools : List Bool) (vars : List Var) (maxint : ℤ) (cla
   number_of (Some kind) n = (kind, refl, n)
 
   -- The base of an atom is pushed, while the locals are those of the phase.
-  base_pushed : (phase : Phase) (asks : Base) → Asks phase asks → (place : Place) → Stands (push_base bools base asks) place
+  base_pushed : (phase : Phase) (asks : Base) → Asks phase asks → (place : InsnPlace) → Stands (push_base bools base asks) place
       → HasRoom clauses around place.method
       → Acts place (pf phase).locals [] (types.Int ∷ []) (type_at (pf phase).locals)
   base_pushed phase (bases.Var var) known place stands room = does.reads place (pf phase).locals bools var stands

@@ -27,8 +27,8 @@ use Rattle.cert_format.specs.declared.typing.VType.{VType}
 use Rattle.insn_codec.specs.declared.shape.Heap.TheVariants as heap
 use Rattle.insn_codec.specs.declared.shape.How.{How}
 use Rattle.insn_codec.specs.declared.insn.Insn.{Insn}
-use Rattle.insn_codec.specs.declared.shape.Kind.{Kind as Operand}
-use Rattle.insn_codec.specs.declared.shape.Kind.TheVariants as operands
+use Rattle.insn_codec.specs.declared.shape.ValueKind.{ValueKind as Operand}
+use Rattle.insn_codec.specs.declared.shape.ValueKind.TheVariants as operands
 use Rattle.insn_codec.specs.declared.shape.Shape.TheVariants as shapes
 use Rattle.insn_codec.specs.Shapes.{shape_of}
 use Rattle.bytecode_model.specs.declared.program.Handler.{Handler}
@@ -36,7 +36,7 @@ use Rattle.bytecode_model.specs.declared.program.Method.{Method}
 use Rattle.bytecode_model.specs.declared.program.Program.{Program}
 use Rattle.bytecode_model.specs.declared.program.Target.TheVariants as target
 use Rattle.bytecode_model.specs.Makes.{local_after, stack_after, topmost, type_at}
-use Rattle.bytecode_model.specs.Place.{Place, desc_referred, name_referred}
+use Rattle.bytecode_model.specs.InsnPlace.{InsnPlace, desc_referred, name_referred}
 use Rattle.bytecode_model.specs.Rules.{
   Depth,
   Operand as TakesOperands,
@@ -116,14 +116,14 @@ pub record HasRoom (clauses : Clauses) (around : Around) (method : Method) : Typ
   pub result : around.base + kept (result_in clauses) ≤ method.max_locals
 
 -- The operand names what is wanted.
-abbrev pub Names : Place → PoolWant → Type 0
+abbrev pub Names : InsnPlace → PoolWant → Type 0
 Names place StateClass = (name : List ℕ) × (place.ref ≡ target.ClassName name)
 Names place (StateField var is_bool) = desc_referred place ≡ variable_type is_bool
 Names place Exit = (name_referred place ≡ codes "exit") × (desc_referred place ≡ codes "(I)V")
 Names place (Integer n) = place.ref ≡ target.Number n
 
 -- An instruction of a block stands at the place.
-pub record Stands (insn : BlockInsn) (place : Place) : Type 0 where
+pub record Stands (insn : BlockInsn) (place : InsnPlace) : Type 0 where
   pub pool : List Const
   pub fronts : List ℕ
   pub begin : ℕ
@@ -134,7 +134,7 @@ pub record Stands (insn : BlockInsn) (place : Place) : Type 0 where
 -- ---- the law
 
 -- With these types the instruction meets the rules of its place, and what comes behind it takes what it leaves, as does what it jumps to.
-pub record IsTyped (mode : Mode) (clauses : Clauses) (around : Around) (role : Role) (insn : BlockInsn) (place : Place) : Type 0 where
+pub record IsTyped (mode : Mode) (clauses : Clauses) (around : Around) (role : Role) (insn : BlockInsn) (place : InsnPlace) : Type 0 where
   pub types : FrameType
   pub told : frame_at clauses around role ≡ Some types
   pub depth : Depth place types ≡ true
@@ -151,7 +151,7 @@ BlocksAreTyped =
     (mode : Mode) (bools : List Bool) (vars : List Var) (maxint : ℤ) (clauses : Clauses) (around : Around) (end to : ℕ)
     → AreForPhases clauses → AreClausesIn vars maxint clauses → FitsAround clauses around
     → (role : Role) (insn : BlockInsn) → insn_of bools around.base clauses end to role ≡ Some insn → is_call insn ≡ false
-    → (place : Place) → Stands insn place → HasRoom clauses around place.method → IsTyped mode clauses around role insn place
+    → (place : InsnPlace) → Stands insn place → HasRoom clauses around place.method → IsTyped mode clauses around role insn place
 
 -- ---- what the client catches
 
@@ -187,7 +187,7 @@ CatchesAreTyped =
 -- ---- the call
 
 -- The call itself, of which the types behind are those that it leaves.
-pub record IsCallOf (around : Around) (place : Place) : Type 0 where
+pub record IsCallOf (around : Around) (place : InsnPlace) : Type 0 where
   pub how : How
   pub call : shape_of place.insn ≡ shapes.Heap (heap.Call how)
   pub stack : around.after.stack ≡ stack_after place around.before.locals (length (takes place)) around.before.stack
@@ -195,7 +195,7 @@ pub record IsCallOf (around : Around) (place : Place) : Type 0 where
 
 -- It meets the rules in its block as it did before; what comes where it returns takes what it leaves, and what comes where it throws
 -- takes what is caught of it.
-pub record CallIsTyped (mode : Mode) (clauses : Clauses) (around : Around) (locked : Bool) (place : Place) : Type 0 where
+pub record CallIsTyped (mode : Mode) (clauses : Clauses) (around : Around) (locked : Bool) (place : InsnPlace) : Type 0 where
   pub types : FrameType
   pub told : frame_at clauses around (roles.Call locked) ≡ Some types
   pub depth : Depth place around.before ≡ true → Depth place types ≡ true
@@ -209,17 +209,17 @@ pub record CallIsTyped (mode : Mode) (clauses : Clauses) (around : Around) (lock
 abbrev pub CallsAreTyped : Type 0
 CallsAreTyped =
     (mode : Mode) (clauses : Clauses) (around : Around) (locked : Bool) → FitsAround clauses around
-    → (place : Place) → IsCallOf around place → HasRoom clauses around place.method → CallIsTyped mode clauses around locked place
+    → (place : InsnPlace) → IsCallOf around place → HasRoom clauses around place.method → CallIsTyped mode clauses around locked place
 
 -- ---- a block
 
 -- The instruction with these types goes to a role that has types, and these take what it leaves.
-abbrev pub GoesTo : Clauses → Around → Place → FrameType → Role → Type 0
+abbrev pub GoesTo : Clauses → Around → InsnPlace → FrameType → Role → Type 0
 GoesTo clauses around place types role =
     (to : FrameType) × (frame_at clauses around role ≡ Some to) × (goes_well place types to ≡ true)
 
 -- The item at an index, where `there` tells the role at each index.
-pub record ItemIsTyped (clauses : Clauses) (around : Around) (there : ℕ → Role) (at : ℕ) (i : Item) (place : Place) : Type 0 where
+pub record ItemIsTyped (clauses : Clauses) (around : Around) (there : ℕ → Role) (at : ℕ) (i : Item) (place : InsnPlace) : Type 0 where
   pub types : FrameType
   pub told : frame_at clauses around i.role ≡ Some types
   pub depth : Depth place types ≡ true
@@ -235,7 +235,7 @@ ItemsAreTyped =
     (mode : Mode) (bools : List Bool) (vars : List Var) (maxint : ℤ) (clauses : Clauses) (around : Around)
     → AreForPhases clauses → AreClausesIn vars maxint clauses → FitsAround clauses around
     → (at : ℕ) (i : Item) → slice_get (items mode bools around.base clauses) at ≡ Some i → IsReached i.role → is_call i.insn ≡ false
-    → (place : Place) → Stands i.insn place → HasRoom clauses around place.method
+    → (place : InsnPlace) → Stands i.insn place → HasRoom clauses around place.method
     → ItemIsTyped clauses around (role_at (items mode bools around.base clauses)) at i place
 
 -- ---- the clauses of a policy

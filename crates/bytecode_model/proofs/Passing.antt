@@ -2,10 +2,10 @@
 use Rattle.std.proofs.Common.{◌≡◌, ℕ, Bool, true, false, cond, Option, Some, None, refl, ◌∙◌}
 use Rattle.std.specs.Prelude.{◌&&◌, ◌==◌, not}
 use Rattle.cert_format.specs.declared.typing.FrameType.{FrameType}
-use Rattle.bytecode_model.specs.Place.{Place}
+use Rattle.bytecode_model.specs.InsnPlace.{InsnPlace}
 use Rattle.bytecode_model.specs.Rules.{Frames, Entry, Depth, Operand, Local, Made, Successor, Caught, rule_failing, row_failing}
 
-pub record Passes (frames : Frames) (place : Place) (frame : FrameType) : Type 0 where
+pub record Passes (frames : Frames) (place : InsnPlace) (frame : FrameType) : Type 0 where
   pub entry : (place.at == 0) ≡ true → Entry place frame ≡ true
   pub depth : Depth place frame ≡ true
   pub operand : Operand place frame ≡ true
@@ -23,7 +23,7 @@ entered true true rest e = (λ z. refl, e)
 entered true false rest e = absurd cc
 entered false entry rest e = (λ z. absurd cc, e)
 
-module _ (frames : Frames) (place : Place) (frame : FrameType) where
+module _ (frames : Frames) (place : InsnPlace) (frame : FrameType) where
   pub passes : row_failing frames place (Some frame) ≡ None → Passes frames place frame
   passes e =
       let entry = entered (place.at == 0) (Entry place frame) _ e in

@@ -14,12 +14,12 @@ pub mod Files
 pub mod ByName
 pub mod Places
 pub mod Sound
-pub mod Place
+pub mod InsnPlace
 pub mod Makes
 pub mod Wants
 pub mod Rules
 pub mod Spans
-pub mod Shape
+pub mod Layout
 pub mod Typed
 pub mod Named
 pub mod Targets

@@ -19,7 +19,7 @@ use Rattle.bytecode_model.specs.declared.program.Target.{Target}
 use Rattle.bytecode_model.specs.declared.program.Target.TheVariants as target
 use Rattle.bytecode_model.specs.Arrays.{array_of}
 use Rattle.bytecode_model.specs.Described.{type_described, result_type}
-use Rattle.bytecode_model.specs.Place.{Place, class_referred, desc_referred, class_of, calls_maker}
+use Rattle.bytecode_model.specs.InsnPlace.{InsnPlace, class_referred, desc_referred, class_of, calls_maker}
 
 -- the type in a place, where one that is absent is Top
 abbrev pub type_at : List VType → ℕ → VType
@@ -65,7 +65,7 @@ abbrev pub call_yields : Option VType → List VType
 call_yields None = []
 call_yields (Some t) = t ∷ []
 
-abbrev pub heap_yields : Place → List VType → Heap → List VType
+abbrev pub heap_yields : InsnPlace → List VType → Heap → List VType
 heap_yields place taken heap.Constant = constant_type place.ref ∷ []
 heap_yields place taken (heap.ReadItem item) = read_type item taken ∷ []
 heap_yields place taken (heap.Divide remainder) = types.Int ∷ []
@@ -80,7 +80,7 @@ heap_yields place taken heap.Cast = types.Ref (class_of place.ref) ∷ []
 heap_yields place taken heap.IsInstance = types.Int ∷ []
 heap_yields place taken other = []
 
-abbrev pub yields_of : Place → List VType → List VType → Shape → List VType
+abbrev pub yields_of : InsnPlace → List VType → List VType → Shape → List VType
 yields_of place locals taken (shapes.Push n) = types.Int ∷ []
 yields_of place locals taken shapes.PushNull = types.Null ∷ []
 yields_of place locals taken (shapes.Load kind slot) = type_at locals slot ∷ []
@@ -91,7 +91,7 @@ yields_of place locals taken (shapes.Heap what) = heap_yields place taken what
 yields_of place locals taken other = []
 
 -- what is pushed, by the locals and by what is taken
-abbrev pub yields : Place → List VType → List VType → List VType
+abbrev pub yields : InsnPlace → List VType → List VType → List VType
 yields place locals taken = yields_of place locals taken (shape_of place.insn)
 
 -- ---- objects that are made
@@ -110,7 +110,7 @@ abbrev pub new_at : Method → ℕ → List ℕ
 new_at method i = new_in (slice_get method.insns i) (slice_get method.refs i)
 
 -- the class of the object that a call of a constructor makes of this receiver, if it may
-abbrev pub class_made : Place → VType → Option (List ℕ)
+abbrev pub class_made : InsnPlace → VType → Option (List ℕ)
 class_made place (types.Uninit i) = if bytes_eq (class_referred place) (new_at place.method i) then Some (class_referred place) else None
 class_made place types.UninitThis =
     if bytes_eq (class_referred place) place.class.name || bytes_eq (class_referred place) place.class.parent then Some place.class.name else None
@@ -123,23 +123,23 @@ is_same_object (types.Uninit i) (types.Uninit j) = i == j
 is_same_object t u = false
 
 -- the type, where the receiver is made
-abbrev pub when_made : Place → VType → VType → VType
+abbrev pub when_made : InsnPlace → VType → VType → VType
 when_made place receiver t = if is_same_object receiver t then option_map_or (λ (class : List ℕ). types.Ref class) (class_made place receiver) t else t
 
 -- What `new` made before is forgotten.
 abbrev pub when_new : ℕ → VType → VType
 when_new at t = if is_same_object (types.Uninit at) t then types.Top else t
 
-abbrev pub when_called : Place → List VType → VType → VType
+abbrev pub when_called : InsnPlace → List VType → VType → VType
 when_called place taken t = if calls_maker place then when_made place (type_at taken 0) t else t
 
 -- what becomes of the type of a local or an operand that stays
-abbrev pub changed_by : Place → List VType → Shape → VType → VType
+abbrev pub changed_by : InsnPlace → List VType → Shape → VType → VType
 changed_by place taken (shapes.Heap heap.New) t = when_new place.at t
 changed_by place taken (shapes.Heap (heap.Call how)) t = when_called place taken t
 changed_by place taken other t = t
 
-abbrev pub changed : Place → List VType → VType → VType
+abbrev pub changed : InsnPlace → List VType → VType → VType
 changed place taken t = changed_by place taken (shape_of place.insn) t
 
 -- ---- afterwards
@@ -150,7 +150,7 @@ stores (shapes.Store kind slot) j = j == slot
 stores other j = false
 
 -- the type of a local afterwards
-abbrev pub local_after : Place → List VType → List VType → ℕ → VType
+abbrev pub local_after : InsnPlace → List VType → List VType → ℕ → VType
 local_after place locals taken j = if stores (shape_of place.insn) j then type_at taken 0 else changed place taken (type_at locals j)
 
 -- the n topmost operands, and those below them
@@ -161,5 +161,5 @@ abbrev pub below : ℕ → List VType → List VType
 below n stack = take (length stack - n) stack
 
 -- the operands afterwards, where n are taken
-abbrev pub stack_after : Place → List VType → ℕ → List VType → List VType
+abbrev pub stack_after : InsnPlace → List VType → ℕ → List VType → List VType
 stack_after place locals n stack = map (changed place (topmost n stack)) (below n stack) ++ yields place locals (topmost n stack)

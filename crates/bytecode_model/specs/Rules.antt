@@ -9,7 +9,7 @@ use Rattle.cert_format.specs.declared.typing.VType.{VType}
 use Rattle.cert_format.specs.declared.typing.VType.TheVariants as types
 use Rattle.insn_codec.specs.declared.shape.Heap.TheVariants as heap
 use Rattle.insn_codec.specs.declared.shape.How.{How}
-use Rattle.insn_codec.specs.declared.shape.Kind.TheVariants as kinds
+use Rattle.insn_codec.specs.declared.shape.ValueKind.TheVariants as kinds
 use Rattle.insn_codec.specs.declared.shape.Shape.{Shape}
 use Rattle.insn_codec.specs.declared.shape.Shape.TheVariants as shapes
 use Rattle.insn_codec.specs.Control.{successors}
@@ -22,7 +22,7 @@ use Rattle.bytecode_model.specs.Assigning.{assignable}
 use Rattle.bytecode_model.specs.Classes.{is_below}
 use Rattle.bytecode_model.specs.Described.{arguments, type_described}
 use Rattle.bytecode_model.specs.Makes.{type_at, class_made, is_same_object, local_after, topmost, stack_after}
-use Rattle.bytecode_model.specs.Place.{Place, has_receiver, calls_maker, is_maker}
+use Rattle.bytecode_model.specs.InsnPlace.{InsnPlace, has_receiver, calls_maker, is_maker}
 use Rattle.bytecode_model.specs.Wants.{takes, all_met, returns_well, of_kind}
 
 -- the frame of each instruction of a method, or nothing where it is not reached
@@ -50,17 +50,17 @@ stack_fits program (t ∷ from) (u ∷ to) = assignable program t u && stack_fit
 -- ---- 1: entry
 
 -- what an instance method finds in local 0
-abbrev pub this_type : Place → VType
+abbrev pub this_type : InsnPlace → VType
 this_type place = if is_maker place.method then types.UninitThis else types.Ref place.class.name
 
 abbrev pub arguments_typed : Method → List VType
 arguments_typed method = map type_described (arguments method.desc)
 
-abbrev pub entry_locals : Place → List VType
+abbrev pub entry_locals : InsnPlace → List VType
 entry_locals place = if is_static place.method.flags then arguments_typed place.method else this_type place ∷ arguments_typed place.method
 
 -- The arguments have their locals, and the first frame takes them; the stack is empty.
-abbrev pub Entry : Place → FrameType → Bool
+abbrev pub Entry : InsnPlace → FrameType → Bool
 Entry place frame =
     nat_le (length (entry_locals place)) place.method.max_locals
     && (locals_fit place.program (type_at (entry_locals place)) 0 frame.locals && (length frame.stack == 0))
@@ -68,7 +68,7 @@ Entry place frame =
 -- ---- 2: depth
 
 -- The operands are there, and the stack afterwards is at most the method's.
-abbrev pub Depth : Place → FrameType → Bool
+abbrev pub Depth : InsnPlace → FrameType → Bool
 Depth place frame =
     nat_le (length (takes place)) (length frame.stack)
     && nat_le (length (stack_after place frame.locals (length (takes place)) frame.stack)) place.method.max_stack
@@ -76,11 +76,11 @@ Depth place frame =
 -- ---- 3: operands
 
 -- the operands that the instruction takes
-abbrev pub taken : Place → FrameType → List VType
+abbrev pub taken : InsnPlace → FrameType → List VType
 taken place frame = topmost (length (takes place)) frame.stack
 
 -- Each operand is what is wanted.
-abbrev pub Operand : Place → FrameType → Bool
+abbrev pub Operand : InsnPlace → FrameType → Bool
 Operand place frame = all_met (takes place) (taken place frame) && returns_well place (shape_of place.insn)
 
 -- ---- 4: locals
@@ -92,7 +92,7 @@ uses_local method locals (shapes.Store kind slot) = nat_lt slot method.max_local
 uses_local method locals (shapes.Increment slot by) = nat_lt slot method.max_locals && of_kind kinds.Int (type_at locals slot)
 uses_local method locals other = true
 
-abbrev pub Local : Place → FrameType → Bool
+abbrev pub Local : InsnPlace → FrameType → Bool
 Local place frame = nat_le (length frame.locals) place.method.max_locals && uses_local place.method frame.locals (shape_of place.insn)
 
 -- ---- 5: objects that are not made yet
@@ -101,32 +101,32 @@ abbrev pub has_object : VType → List VType → Bool
 has_object object list = list_any (is_same_object object) list
 
 -- A call of a constructor has a receiver that it may make.
-abbrev pub makes_receiver : Place → How → FrameType → Bool
+abbrev pub makes_receiver : InsnPlace → How → FrameType → Bool
 makes_receiver place how frame = not (calls_maker place) || (has_receiver how && is_some (class_made place (type_at (taken place frame) 0)))
 
 -- A constructor is left, by the opcode `return`, once its object is made.
-abbrev pub leaves_made : Place → FrameType → Bool
+abbrev pub leaves_made : InsnPlace → FrameType → Bool
 leaves_made place frame = not (is_maker place.method) || not (has_object types.UninitThis frame.locals || has_object types.UninitThis frame.stack)
 
-abbrev pub made_well : Place → FrameType → Shape → Bool
+abbrev pub made_well : InsnPlace → FrameType → Shape → Bool
 made_well place frame (shapes.Heap (heap.Call how)) = makes_receiver place how frame
 made_well place frame (shapes.Heap heap.New) = not (has_object (types.Uninit place.at) frame.stack)
 made_well place frame (shapes.Heap (heap.Return None)) = leaves_made place frame
 made_well place frame other = true
 
-abbrev pub Made : Place → FrameType → Bool
+abbrev pub Made : InsnPlace → FrameType → Bool
 Made place frame = made_well place frame (shape_of place.insn)
 
 -- ---- 6: successors
 
 -- The frame afterwards is assignable to this one.
-abbrev pub goes_well : Place → FrameType → FrameType → Bool
+abbrev pub goes_well : InsnPlace → FrameType → FrameType → Bool
 goes_well place frame to =
     stack_fits place.program (stack_after place frame.locals (length (takes place)) frame.stack) to.stack
     && locals_fit place.program (local_after place frame.locals (taken place frame)) 0 to.locals
 
 -- Each successor has a frame that takes what is left.
-abbrev pub Successor : Frames → Place → FrameType → Bool
+abbrev pub Successor : Frames → InsnPlace → FrameType → Bool
 Successor frames place frame = list_all (λ to. option_map_or (goes_well place frame) (frame_of frames to) false) (successors place.at place.insn)
 
 -- ---- 7: handlers
@@ -158,26 +158,26 @@ is_alone class [] = false
 is_alone class (t ∷ []) = is_reference_to class t
 is_alone class (t ∷ u ∷ stack) = false
 
-abbrev pub catches_well : Place → FrameType → Handler → FrameType → Bool
+abbrev pub catches_well : InsnPlace → FrameType → Handler → FrameType → Bool
 catches_well place frame handler to =
     is_alone (class_caught handler) to.stack && locals_fit place.program (local_caught frame.locals) 0 to.locals
 
 -- A handler that covers the instruction has room, a class that is Throwable or below it, and a frame that takes what is
 -- caught and the locals.
-abbrev pub is_handled : Frames → Place → FrameType → Handler → Bool
+abbrev pub is_handled : Frames → InsnPlace → FrameType → Handler → Bool
 is_handled frames place frame handler =
     not (covers place.at handler)
     || (nat_le 1 place.method.max_stack
     && (is_below place.program (class_caught handler) throwable
     && option_map_or (catches_well place frame handler) (frame_of frames handler.at) false))
 
-abbrev pub Caught : Frames → Place → FrameType → Bool
+abbrev pub Caught : Frames → InsnPlace → FrameType → Bool
 Caught frames place frame = list_all (is_handled frames place frame) place.method.handlers
 
 -- ---- the first rule that fails
 
 -- the rules from 2 on, of an instruction that is reached
-abbrev pub rule_failing : Frames → Place → FrameType → Option ℕ
+abbrev pub rule_failing : Frames → InsnPlace → FrameType → Option ℕ
 rule_failing frames place frame =
     if not (Depth place frame) then Some 2
     else if not (Operand place frame) then Some 3
@@ -188,6 +188,6 @@ rule_failing frames place frame =
     else None
 
 -- all the rules: an instruction that is not reached is asked for a frame where the method begins
-abbrev pub row_failing : Frames → Place → Option FrameType → Option ℕ
+abbrev pub row_failing : Frames → InsnPlace → Option FrameType → Option ℕ
 row_failing frames place None = if place.at == 0 then Some 1 else None
 row_failing frames place (Some frame) = if (place.at == 0) && not (Entry place frame) then Some 1 else rule_failing frames place frame

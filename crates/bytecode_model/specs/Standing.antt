@@ -22,7 +22,7 @@ use Rattle.bytecode_model.specs.Heads.{class_at, head_of, heads_of, name_of, des
 use Rattle.bytecode_model.specs.Files.{unlinked}
 use Rattle.bytecode_model.specs.Operands.{literals_of}
 use Rattle.bytecode_model.specs.SearchOrder.{Name, search_order}
-use Rattle.bytecode_model.specs.Shape.{has_code}
+use Rattle.bytecode_model.specs.Layout.{has_code}
 use Rattle.bytecode_model.specs.Targets.{is_type, AreNamed}
 
 -- ---- the code of a method

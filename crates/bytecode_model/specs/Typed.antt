@@ -7,9 +7,9 @@ use Rattle.bytecode_model.specs.declared.program.LinkedClass.{LinkedClass}
 use Rattle.bytecode_model.specs.declared.program.Method.{Method}
 use Rattle.bytecode_model.specs.declared.program.Program.{Program}
 use Rattle.bytecode_model.specs.declared.program.Target.{Target}
-use Rattle.bytecode_model.specs.Place.{Place, target_or_none}
+use Rattle.bytecode_model.specs.InsnPlace.{InsnPlace, target_or_none}
 use Rattle.bytecode_model.specs.Rules.{Frames, frame_of, row_failing}
-use Rattle.bytecode_model.specs.Shape.{has_code, coded}
+use Rattle.bytecode_model.specs.Layout.{has_code, coded}
 
 -- ---- the row of one instruction
 
@@ -17,7 +17,7 @@ use Rattle.bytecode_model.specs.Shape.{has_code, coded}
 abbrev pub ref_of : Method → ℕ → Target
 ref_of method at = target_or_none (slice_get method.refs at)
 
-abbrev pub place_at : Program → ℕ → LinkedClass → Method → ℕ → Insn → Place
+abbrev pub place_at : Program → ℕ → LinkedClass → Method → ℕ → Insn → InsnPlace
 place_at program own class method at insn = record {
   program = program;
   own = own;

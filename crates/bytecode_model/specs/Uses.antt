@@ -12,7 +12,7 @@ use Rattle.insn_codec.specs.Shapes.{shape_of}
 use Rattle.bytecode_model.specs.declared.operand.Use.{Use}
 use Rattle.bytecode_model.specs.declared.operand.Use.TheVariants as uses
 use Rattle.bytecode_model.specs.Operands.{use_of}
-use Rattle.bytecode_model.specs.Place.{has_receiver}
+use Rattle.bytecode_model.specs.InsnPlace.{has_receiver}
 
 -- whether a call refers to a method of an interface
 abbrev pub calls_interface : How → Bool

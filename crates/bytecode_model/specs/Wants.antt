@@ -11,8 +11,8 @@ use Rattle.insn_codec.specs.declared.shape.How.{How}
 use Rattle.insn_codec.specs.declared.shape.How.TheVariants as hows
 use Rattle.insn_codec.specs.declared.shape.Item.{Item}
 use Rattle.insn_codec.specs.declared.shape.Item.TheVariants as items
-use Rattle.insn_codec.specs.declared.shape.Kind.{Kind}
-use Rattle.insn_codec.specs.declared.shape.Kind.TheVariants as kinds
+use Rattle.insn_codec.specs.declared.shape.ValueKind.{ValueKind}
+use Rattle.insn_codec.specs.declared.shape.ValueKind.TheVariants as kinds
 use Rattle.insn_codec.specs.declared.shape.Shape.{Shape}
 use Rattle.insn_codec.specs.declared.shape.Shape.TheVariants as shapes
 use Rattle.insn_codec.specs.Forms.{depth_of}
@@ -21,7 +21,7 @@ use Rattle.bytecode_model.specs.declared.program.Program.{Program}
 use Rattle.bytecode_model.specs.Arrays.{is_array}
 use Rattle.bytecode_model.specs.Assigning.{assignable}
 use Rattle.bytecode_model.specs.Described.{arguments, type_described, result_type}
-use Rattle.bytecode_model.specs.Place.{Place, class_referred, desc_referred, has_receiver, calls_maker, is_own_field}
+use Rattle.bytecode_model.specs.InsnPlace.{InsnPlace, class_referred, desc_referred, has_receiver, calls_maker, is_own_field}
 
 -- what is wanted of an operand or a local
 abbrev pub Want : Type 0
@@ -58,7 +58,7 @@ abbrev pub is_this : Want
 is_this types.UninitThis = true
 is_this other = false
 
-abbrev pub of_kind : Kind → Want
+abbrev pub of_kind : ValueKind → Want
 of_kind kinds.Int t = is_number t
 of_kind kinds.Reference t = is_reference t
 
@@ -85,35 +85,35 @@ to_item program other t = is_number t
 -- ---- fields, calls and returns
 
 -- the object whose field is written: one's own field may be written before the object is made
-abbrev pub to_written : Place → Want
+abbrev pub to_written : InsnPlace → Want
 to_written place t = (is_own_field place.own place.ref && is_this t) || to_class place.program (class_referred place) t
 
 -- A call by invokespecial begins at the class of the code or above it, of which its receiver has to be.
-abbrev pub to_own : Place → How → Want
+abbrev pub to_own : InsnPlace → How → Want
 to_own place hows.Virtual t = true
 to_own place hows.Special t = to_class place.program place.class.name t
 to_own place hows.Static t = true
 to_own place hows.Interface t = true
 
 -- the receiver of a call; that of a constructor is asked for apart
-abbrev pub to_receiver : Place → How → Want
+abbrev pub to_receiver : InsnPlace → How → Want
 to_receiver place how t = calls_maker place || (to_class place.program (class_referred place) t && to_own place how t)
 
 abbrev pub to_described : Program → List ℕ → Want
 to_described program desc t = to_type program (type_described desc) t
 
-abbrev pub to_arguments : Place → List Want
+abbrev pub to_arguments : InsnPlace → List Want
 to_arguments place = map (to_described place.program) (arguments (desc_referred place))
 
-abbrev pub call_takes : Place → How → List Want
+abbrev pub call_takes : InsnPlace → How → List Want
 call_takes place how = if has_receiver how then to_receiver place how ∷ to_arguments place else to_arguments place
 
-abbrev pub to_result : Place → Want
+abbrev pub to_result : InsnPlace → Want
 to_result place t = option_map_or (λ (r : VType). to_type place.program r t) (result_type place.method.desc) false
 
 -- ---- what is taken
 
-abbrev pub heap_takes : Place → Heap → List Want
+abbrev pub heap_takes : InsnPlace → Heap → List Want
 heap_takes place heap.Constant = []
 heap_takes place (heap.ReadItem item) = to_array place.program item ∷ is_number ∷ []
 heap_takes place (heap.WriteItem item) = to_array place.program item ∷ is_number ∷ to_item place.program item ∷ []
@@ -135,7 +135,7 @@ heap_takes place heap.Exit = is_made ∷ []
 heap_takes place (heap.Return None) = []
 heap_takes place (heap.Return (Some kind)) = to_result place ∷ []
 
-abbrev pub takes_of : Place → Shape → List Want
+abbrev pub takes_of : InsnPlace → Shape → List Want
 takes_of place shapes.Nothing = []
 takes_of place (shapes.Push n) = []
 takes_of place shapes.PushNull = []
@@ -154,7 +154,7 @@ takes_of place shapes.Switch = is_number ∷ []
 takes_of place (shapes.Heap what) = heap_takes place what
 
 -- what is wanted of each operand that the instruction takes
-abbrev pub takes : Place → List Want
+abbrev pub takes : InsnPlace → List Want
 takes place = takes_of place (shape_of place.insn)
 
 -- The lists are as long as each other, and each type is what is wanted in its place.
@@ -166,13 +166,13 @@ all_met (want ∷ wants) (t ∷ types) = want t && all_met wants types
 
 -- ---- returns
 
-abbrev pub is_result_of : Option Kind → Option VType → Bool
+abbrev pub is_result_of : Option ValueKind → Option VType → Bool
 is_result_of None None = true
 is_result_of (Some kinds.Int) (Some types.Int) = true
 is_result_of (Some kinds.Reference) (Some (types.Ref name)) = true
 is_result_of kind result = false
 
 -- A return is that of a method with such a result.
-abbrev pub returns_well : Place → Shape → Bool
+abbrev pub returns_well : InsnPlace → Shape → Bool
 returns_well place (shapes.Heap (heap.Return kind)) = is_result_of kind (result_type place.method.desc)
 returns_well place other = true

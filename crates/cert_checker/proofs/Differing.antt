@@ -4,7 +4,7 @@ use Rattle.std.specs.Prelude.{◌&&◌, ◌==◌}
 use Rattle.std.proofs.lemmas.Bool.{and_parts, eqb-true, eq-eqb}
 use Rattle.bytecode_model.specs.declared.program.LinkedClass.{LinkedClass}
 use Rattle.bytecode_model.specs.declared.program.Method.{Method}
-use Rattle.bytecode_model.specs.Shape.{coded, shape_of}
+use Rattle.bytecode_model.specs.Layout.{coded, layout_of}
 use Rattle.cert_checker.specs.Acceptance.{differ, methods_differ, classes_differ}
 use Rattle.cert_checker.specs.Places.{placed}
 use Rattle.cert_checker.proofs.Options.{or_else_none, placed_none}
@@ -32,7 +32,7 @@ abbrev lengths : LinkedClass → List ℕ
 lengths c = map (λ (m : Method). length m.insns) (coded c.methods)
 
 pub same_classes : {A B : Type 0} (at : ℕ) (classes : List LinkedClass) (frames : List (List (List A))) (notes : List (List (List B))) → classes_differ at classes frames notes ≡ None
-    → (shape_of frames ≡ map lengths classes) × (shape_of notes ≡ map lengths classes)
+    → (layout_of frames ≡ map lengths classes) × (layout_of notes ≡ map lengths classes)
 same_classes at [] [] [] e = (refl, refl)
 same_classes at [] [] (n ∷ notes) e = absurd cc
 same_classes at [] (f ∷ frames) notes e = absurd cc
@@ -52,7 +52,7 @@ counts_same at xs ys zs e f = rw (e, f) (same at xs) where
 
 -- one shape of all three does not differ
 pub none_differ : {A B : Type 0} (at : ℕ) (classes : List LinkedClass) (frames : List (List (List A))) (notes : List (List (List B)))
-    → shape_of frames ≡ map lengths classes → shape_of notes ≡ map lengths classes → classes_differ at classes frames notes ≡ None
+    → layout_of frames ≡ map lengths classes → layout_of notes ≡ map lengths classes → classes_differ at classes frames notes ≡ None
 none_differ at [] [] [] e f = refl
 none_differ at [] [] (n ∷ notes) e f = absurd cc
 none_differ at [] (x ∷ frames) notes e f = absurd cc
@@ -61,7 +61,7 @@ none_differ at (c ∷ classes) (x ∷ frames) [] e f = absurd cc
 none_differ at (c ∷ classes) (x ∷ frames) (n ∷ notes) e f =
     let first_frames : map length x ≡ lengths c = cc in
     let first_notes : map length n ≡ lengths c = cc in
-    let other_frames : shape_of frames ≡ map lengths classes = cc in
-    let other_notes : shape_of notes ≡ map lengths classes = cc in
+    let other_frames : layout_of frames ≡ map lengths classes = cc in
+    let other_notes : layout_of notes ≡ map lengths classes = cc in
     let none : methods_differ c.methods x n ≡ None = counts_same 0 (lengths c) (map length x) (map length n) first_frames first_notes in
     rw none (none_differ (at + 1) classes frames notes other_frames other_notes)

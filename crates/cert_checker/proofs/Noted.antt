@@ -11,7 +11,7 @@ use Rattle.cert_format.specs.declared.note.Note.{Note}
 use Rattle.cert_format.specs.declared.typing.FrameType.{FrameType}
 use Rattle.insn_codec.specs.declared.insn.Insn.{Insn}
 use Rattle.bytecode_model.specs.Rules.{frame_of}
-use Rattle.bytecode_model.specs.Shape.{has_code, coded}
+use Rattle.bytecode_model.specs.Layout.{has_code, coded}
 use Rattle.bytecode_model.specs.Typed.{frames_in, frames_told, list_at}
 use Rattle.conspec_automaton.specs.declared.policy.Policy.{Policy}
 use Rattle.block_logic.specs.Accepted.{notes_in, notes_told, reached_fault, fault_in_class, note_fault_at, rules_of}

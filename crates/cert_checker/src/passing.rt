@@ -93,33 +93,27 @@ pub fn next_pass(
     ensures { result ≡ next_pass (passes rules.now test) told.now (option_map row_lent (option_copied row.entry)) here.now }
 {
     match row {
-        Some(RowRef::Leads(asked)) => leads_pass(rules, test, told, asked, here),
-        Some(RowRef::Open) => leads_pass(rules, test, told, &AskedRef::Open, here),
+        Some(RowRef::Leads(asked)) => go_on_pass(rules, test, told, asked, asked, here),
+        Some(RowRef::Open) => {
+            go_on_pass(rules, test, told, &AskedRef::Open, &AskedRef::Open, here)
+        }
         Some(RowRef::Tests { check, jumps }) => tests_pass(rules, test, told, *check, *jumps, here),
         Some(RowRef::Calls { past, .. }) => {
             let past = due_asked(*past);
             go_on_pass(rules, test, told, &past, &AskedRef::Nothing, here)
         }
-        None => leads_pass(rules, test, told, &AskedRef::Nothing, here),
+        None => go_on_pass(
+            rules,
+            test,
+            told,
+            &AskedRef::Nothing,
+            &AskedRef::Nothing,
+            here,
+        ),
     }
 }
 
-/// The same, where the same is asked of each of them.
-fn leads_pass(
-    rules: &Rules<'_>,
-    test: Test,
-    told: &[Note],
-    asked: &AskedRef<'_>,
-    here: &Here<'_>,
-) -> bool
-    ensures { result ≡ go_on_pass (passes rules.now test) told.now (asked_lent asked.now) (asked_lent asked.now) here.now }
-{
-    let next = here.at as usize + 1;
-    (!goes_on(here.insn.opcode()) || note_passes(rules, test, told, asked, next))
-        && jumps_pass(rules, test, told, asked, here.insn)
-}
-
-/// The same behind a test of the next atom, which holds where it jumps, or else where it does not.
+/// Whether they pass behind a test of the next atom, which holds where it jumps, or else where it does not.
 fn tests_pass(
     rules: &Rules<'_>,
     test: Test,

@@ -13,7 +13,7 @@ use Rattle.bytecode_model.specs.declared.program.Target.{Target}
 use Rattle.bytecode_model.specs.declared.program.Target.TheVariants as target
 use Rattle.bytecode_model.specs.Named.{AreRightOperands, IsRightOperand}
 use Rattle.bytecode_model.specs.Rules.{frame_of}
-use Rattle.bytecode_model.specs.Shape.{IsShaped, coded, has_code}
+use Rattle.bytecode_model.specs.Layout.{IsLaidOut, coded, has_code}
 use Rattle.bytecode_model.specs.Sound.{IsSound, IsSoundClass, IsSoundMethod}
 use Rattle.bytecode_model.specs.Typed.{IsTyped, frames_in, frames_told, list_at, reached}
 use Rattle.bytecode_model.proofs.Lists.{all_get}
@@ -97,7 +97,7 @@ last_sound (x ∷ news) state all = last_sound news state all.1
 
 module _ (old new : Program) (policy : Policy) (mode : Mode) (typing : Typing) (read : IsPolicy policy)
     (listed : AllByRecursion (FitsListing old.listing) policy.clauses) (sound : IsSound old) (sound_new : IsSound new) (right : AreRightOperands old)
-    (free : IsFreeOfState old) (is : IsWoven old (plan_of policy mode) policy.vars new) (typed : IsTyped new typing) (shaped : IsShaped new typing.frames)
+    (free : IsFreeOfState old) (is : IsWoven old (plan_of policy mode) policy.vars new) (typed : IsTyped new typing) (shaped : IsLaidOut new typing.frames)
     (stopped : IsStopped old policy mode new typing) where
   abbrev plan : Plan
   plan = plan_of policy mode
@@ -130,7 +130,7 @@ module _ (old new : Program) (policy : Policy) (mode : Mode) (typing : Typing) (
   frames_shaped : map (map length) typing.frames ≡ map class_sizes (is.own ++ is.state ∷ [])
   frames_shaped = shaped ∙ ap (map class_sizes) is.are
 
-  notes_shaped : IsShaped new certificate.notes
+  notes_shaped : IsLaidOut new certificate.notes
   notes_shaped =
       classes_shaped policy mode policy.vars state old.classes is.own is.state is.last is.classes sound.classes typing.frames frames_shaped
       ∙ ap (map class_sizes) (sym is.are)

@@ -9,7 +9,7 @@ use Rattle.class_codec.specs.declared.tree.Const.{Const}
 use Rattle.insn_codec.specs.declared.insn.Insn.{Insn}
 use Rattle.insn_codec.specs.declared.opcodes.TheConstants.{ILOAD, ILOAD_0, GETSTATIC, GOTO, IADD, PUTSTATIC}
 use Rattle.insn_codec.specs.declared.shape.Heap.TheVariants as heap
-use Rattle.insn_codec.specs.declared.shape.Kind.TheVariants as operands
+use Rattle.insn_codec.specs.declared.shape.ValueKind.TheVariants as operands
 use Rattle.insn_codec.specs.declared.shape.Shape.{Shape}
 use Rattle.insn_codec.specs.declared.shape.Shape.TheVariants as shapes
 use Rattle.insn_codec.specs.Shapes.{shape_of}

@@ -6,8 +6,8 @@ use Rattle.std.specs.Option.{option_map_or}
 use Rattle.std.proofs.lemmas.Bool.Decides.{nat_tests}
 use Rattle.insn_codec.specs.declared.shape.Heap.TheVariants as heap
 use Rattle.insn_codec.specs.declared.shape.How.{How}
-use Rattle.insn_codec.specs.declared.shape.Kind.{Kind as Operand}
-use Rattle.insn_codec.specs.declared.shape.Kind.TheVariants as operands
+use Rattle.insn_codec.specs.declared.shape.ValueKind.{ValueKind as Operand}
+use Rattle.insn_codec.specs.declared.shape.ValueKind.TheVariants as operands
 use Rattle.insn_codec.specs.declared.shape.Shape.{Shape}
 use Rattle.insn_codec.specs.declared.shape.Shape.TheVariants as shapes
 use Rattle.insn_codec.specs.declared.shape.Two.TheVariants as two

@@ -7,7 +7,7 @@ use Rattle.class_codec.specs.declared.tree.Const.{Const}
 use Rattle.bytecode_model.specs.declared.program.LinkedClass.{LinkedClass}
 use Rattle.bytecode_model.specs.declared.program.Method.{Method}
 use Rattle.bytecode_model.specs.declared.program.Target.{Target}
-use Rattle.bytecode_model.specs.Shape.{coded, has_code}
+use Rattle.bytecode_model.specs.Layout.{coded, has_code}
 use Rattle.bytecode_model.specs.Sound.{IsSoundClass, IsSoundMethod}
 use Rattle.bytecode_model.specs.Typed.{list_at}
 use Rattle.cert_format.specs.declared.certificate.Mode.{Mode}

@@ -6,7 +6,7 @@ use Rattle.bytecode_model.specs.declared.program.Method.{Method}
 use Rattle.bytecode_model.specs.declared.program.Program.{Program}
 use Rattle.bytecode_model.specs.declared.program.Target.TheVariants as target
 use Rattle.bytecode_model.specs.Named.{AreRightOperands}
-use Rattle.bytecode_model.specs.Shape.{IsShaped}
+use Rattle.bytecode_model.specs.Layout.{IsLaidOut}
 use Rattle.bytecode_model.specs.Sound.{IsSound}
 use Rattle.bytecode_model.specs.Typed.{IsTyped, reached}
 use Rattle.cert_format.specs.declared.certificate.Mode.{Mode}
@@ -41,6 +41,6 @@ WovenIsAccepted =
     (old new : Program) (policy : Policy) (mode : Mode) (typing : Typing)
     → IsPolicy policy → AllByRecursion (FitsListing old.listing) policy.clauses
     → IsSound old → IsSound new → AreRightOperands old → IsFreeOfState old
-    → IsWoven old (plan_of policy mode) policy.vars new → IsTyped new typing → IsShaped new typing.frames
+    → IsWoven old (plan_of policy mode) policy.vars new → IsTyped new typing → IsLaidOut new typing.frames
     → IsStopped old policy mode new typing
     → IsAccepted new policy (certificate_of old.classes policy mode typing)

@@ -7,7 +7,7 @@ use Rattle.mon_base.specs.Reading.{need}
 use Rattle.mon_base.proofs.Reading.{IsTail, IsReader, need_holds, holds_need, then, said, spelled_where}
 use Rattle.mon_base.proofs.Readers.{checked, wrapped, enclosed}
 use Rattle.class_codec.specs.declared.fault.ClassFault.TheVariants.{Short, Index, Tail}
-use Rattle.class_codec.specs.declared.pool.Kind.TheVariants as kinds
+use Rattle.class_codec.specs.declared.pool.ConstKind.TheVariants as kinds
 use Rattle.class_codec.specs.declared.tree.Const.{Const}
 use Rattle.class_codec.specs.declared.tree.TableEntry.{TableEntry}
 use Rattle.class_codec.specs.declared.tree.Other.{Other}

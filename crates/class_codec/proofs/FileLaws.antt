@@ -9,7 +9,7 @@ use Rattle.mon_base.proofs.Reading.{need_ok, ok_is, IsTail, IsReader, then, then
 use Rattle.mon_base.proofs.Readers.{wrapped}
 use Rattle.class_codec.specs.declared.fault.ClassFault.{ClassFault}
 use Rattle.class_codec.specs.declared.fault.ClassFault.TheVariants.{Magic, Version, Tail, TooLong, Memory}
-use Rattle.class_codec.specs.declared.pool.Kind.TheVariants as kinds
+use Rattle.class_codec.specs.declared.pool.ConstKind.TheVariants as kinds
 use Rattle.class_codec.specs.declared.tree.Const.{Const}
 use Rattle.class_codec.specs.declared.tree.ClassFile.{ClassFile}
 use Rattle.class_codec.specs.Pool.{names}

@@ -4,7 +4,7 @@ use Rattle.mon_base.specs.Reading.{Place, need}
 use Rattle.mon_base.proofs.Reading.{IsTail, IsReader, need_holds, holds_need, then, said, last, items, number_is, bytes_is, text_is, one, two, four, eight}
 use Rattle.mon_base.proofs.Readers.{checked}
 use Rattle.class_codec.specs.declared.fault.ClassFault.TheVariants.{Short, Index}
-use Rattle.class_codec.specs.declared.pool.Kind.{Kind}
+use Rattle.class_codec.specs.declared.pool.ConstKind.{ConstKind}
 use Rattle.class_codec.specs.declared.tree.Const.{Const}
 use Rattle.class_codec.specs.Pool.{names}
 use Rattle.class_codec.specs.Spelling as spelling
@@ -40,7 +40,7 @@ pub block_is : IsReader block_at spelling.block FitsBlock
 unfolding block_at u4_at taken_at
 block_is = text_is four (λ p. Short p.at) (λ p. Short p.at)
 
-pub index_is : (kind : Kind) (pool : List Const) → IsReader (index_at kind pool) u2 (IsIndex kind pool)
+pub index_is : (kind : ConstKind) (pool : List Const) → IsReader (index_at kind pool) u2 (IsIndex kind pool)
 unfolding index_at
 index_is kind pool = said (checked (λ index. names kind pool index ≡ true) (λ p index. need (names kind pool index) (Index p.at)) u2_is
     (λ p index e. need_holds (names kind pool index) (Index p.at) e)
@@ -50,7 +50,7 @@ index_is kind pool = said (checked (λ index. names kind pool index ≡ true) (�
 
 -- items that two bytes count
 pub counted_is : {X : Type 0} {item : Place → Read X} {spell : X → List ℕ} {Fits : X → Type 0} → IsReader item spell Fits
-    → IsReader (counted_at item) (spelling.counted spell) (FitCounted Fits)
+    → IsReader (counted_at item) (spelling.with_count spell) (FitCounted Fits)
 unfolding counted_at
 counted_is is = said (then {known = λ _. Unit {0}} _ u2_is length (λ a k. tt) (λ n k. last (items is n)))
     (λ a f k. (record { count = f.0; each = f.1 }, tt))

@@ -12,8 +12,8 @@ use Rattle.mon_base.proofs.Reading.{bind_ok, ok_is, need_holds, holds_need, afte
 use Rattle.mon_base.proofs.Readers.{checked, wrapped, pair_is, signed_fits, unsigned_fits}
 use Rattle.class_codec.specs.declared.fault.ClassFault.{ClassFault}
 use Rattle.class_codec.specs.declared.fault.ClassFault.TheVariants.{Index, Tag}
-use Rattle.class_codec.specs.declared.pool.Kind.{Kind}
-use Rattle.class_codec.specs.declared.pool.Kind.TheVariants as kinds
+use Rattle.class_codec.specs.declared.pool.ConstKind.{ConstKind}
+use Rattle.class_codec.specs.declared.pool.ConstKind.TheVariants as kinds
 use Rattle.class_codec.specs.declared.tree.Const.{Const}
 use Rattle.class_codec.specs.declared.tree.Const.TheVariants.{Utf8, Integer, Float, Long, Double, Class, Str, Field, Method, IMethod, NameAndType, Second}
 use Rattle.class_codec.specs.Pool.{names}
@@ -405,22 +405,22 @@ places_is second n = record {
 
 -- ---- indices
 
-index_named : (pool : List Const) (kind : Kind) (index at : ℕ) → index_checked pool kind index at ≡ Ok tt → names kind pool index ≡ true
+index_named : (pool : List Const) (kind : ConstKind) (index at : ℕ) → index_checked pool kind index at ≡ Ok tt → names kind pool index ≡ true
 unfolding index_checked
 index_named pool kind index at e = need_holds (names kind pool index) (Index at) e
 
-named_index : (pool : List Const) (kind : Kind) (index at : ℕ) → names kind pool index ≡ true → index_checked pool kind index at ≡ Ok tt
+named_index : (pool : List Const) (kind : ConstKind) (index at : ℕ) → names kind pool index ≡ true → index_checked pool kind index at ≡ Ok tt
 unfolding index_checked
 named_index pool kind index at h = holds_need (names kind pool index) (Index at) h
 
-pair_named : (pool : List Const) (kind : Kind) (m : ℕ) (other : Kind) (n at : ℕ) → pair_checked pool kind m other n at ≡ Ok tt
+pair_named : (pool : List Const) (kind : ConstKind) (m : ℕ) (other : ConstKind) (n at : ℕ) → pair_checked pool kind m other n at ≡ Ok tt
     → (names kind pool m ≡ true) × (names other pool n ≡ true)
 unfolding pair_checked
 pair_named pool kind m other n at e =
     let b = bind_ok (index_checked pool kind m (at + 1)) (λ _. index_checked pool other n (at + 3)) tt e in
     (index_named pool kind m (at + 1) b.1, index_named pool other n (at + 3) b.2)
 
-named_pair : (pool : List Const) (kind : Kind) (m : ℕ) (other : Kind) (n at : ℕ)
+named_pair : (pool : List Const) (kind : ConstKind) (m : ℕ) (other : ConstKind) (n at : ℕ)
     → (names kind pool m ≡ true) × (names other pool n ≡ true) → pair_checked pool kind m other n at ≡ Ok tt
 unfolding pair_checked
 named_pair pool kind m other n at h = rw (named_index pool kind m (at + 1) h.0) (named_index pool other n (at + 3) h.1)
@@ -464,7 +464,7 @@ pub record IsPool (pool : List Const) : Type 0 where
   pub due : Due true pool
   pub named : AllByRecursion (IsNamed pool) pool
 
-pub pool_is : IsReader pool_at (spelling.counted spelling.constant) IsPool
+pub pool_is : IsReader pool_at (spelling.with_count spelling.constant) IsPool
 unfolding pool_at
 pool_is = said (then {Fits = λ cs. (Due true cs × AllByRecursion FitsConst cs) × AllByRecursion (IsNamed cs) cs} {known = λ _. Unit {0}} _ u2_is length (λ a k. tt)
     (λ n k. checked (λ cs. AllByRecursion (IsNamed cs) cs) (λ p cs. all_checked cs cs p.at) (last (places_is true n))

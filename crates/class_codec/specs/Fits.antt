@@ -3,8 +3,8 @@ use Rattle.std.specs.Prelude.{◌≡◌, ℕ, ◌<◌, ◌≤◌, ◌==◌, ◌|
 use Rattle.std.specs.List.{AllByRecursion}
 use Rattle.std.specs.Int.{w32, w64}
 use Rattle.mon_base.specs.Widths.{IsU2, IsU4, IsU8}
-use Rattle.class_codec.specs.declared.pool.Kind.TheVariants as kinds
-use Rattle.class_codec.specs.declared.pool.Kind.{Kind}
+use Rattle.class_codec.specs.declared.pool.ConstKind.TheVariants as kinds
+use Rattle.class_codec.specs.declared.pool.ConstKind.{ConstKind}
 use Rattle.class_codec.specs.declared.tree.Const.{Const}
 use Rattle.class_codec.specs.declared.tree.Const.TheVariants.{Utf8, Integer, Float, Long, Double, Class, Str, Field, Method, IMethod, NameAndType, Second}
 use Rattle.class_codec.specs.declared.tree.TableEntry.{TableEntry}
@@ -80,7 +80,7 @@ pub record FitsPool (pool : List Const) : Type 0 where
 -- ---- what stands after it
 
 -- an index that names a constant of the kind
-pub record IsIndex (kind : Kind) (pool : List Const) (index : ℕ) : Type 0 where
+pub record IsIndex (kind : ConstKind) (pool : List Const) (index : ℕ) : Type 0 where
   pub fits : IsU2 index
   pub named : names kind pool index ≡ true
 

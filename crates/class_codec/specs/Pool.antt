@@ -5,21 +5,21 @@ use Rattle.mon_base.specs.declared.method.MethodId.{MethodId}
 use Rattle.class_codec.specs.declared.tree.Const.{Const}
 use Rattle.class_codec.specs.declared.tree.Const.TheVariants as constants
 use Rattle.class_codec.specs.declared.pool.Reference.{Reference}
-use Rattle.class_codec.specs.declared.pool.Kind.{Kind}
-use Rattle.class_codec.specs.declared.pool.Kind.TheVariants as kinds
+use Rattle.class_codec.specs.declared.pool.ConstKind.{ConstKind}
+use Rattle.class_codec.specs.declared.pool.ConstKind.TheVariants as kinds
 
-abbrev pub is_of : Kind → Const → Bool
+abbrev pub is_of : ConstKind → Const → Bool
 is_of kinds.Utf8 (constants.Utf8 text) = true
 is_of kinds.Class (constants.Class name) = true
 is_of kinds.NameAndType (constants.NameAndType name desc) = true
 is_of kind constant = false
 
-abbrev pub is_one_of : Kind → Option Const → Bool
+abbrev pub is_one_of : ConstKind → Option Const → Bool
 is_one_of kind None = false
 is_one_of kind (Some constant) = is_of kind constant
 
 -- the index names a constant of the kind
-unfoldable pub names : Kind → List Const → ℕ → Bool
+unfoldable pub names : ConstKind → List Const → ℕ → Bool
 names kind pool index = is_one_of kind (slice_get pool index)
 
 abbrev pub text_of : Option Const → Option (List ℕ)

@@ -5,8 +5,8 @@ use Rattle.std.specs.Int.{w32, w64, cast_signed}
 use Rattle.mon_base.specs.Reading.{Place, part, bytes_at, number_at, ◌>>=◌, need, counted, whole}
 use Rattle.class_codec.specs.declared.fault.ClassFault.{ClassFault}
 use Rattle.class_codec.specs.declared.fault.ClassFault.TheVariants.{Magic, Version, Short, Tail, Tag, Index, TooLong}
-use Rattle.class_codec.specs.declared.pool.Kind.{Kind}
-use Rattle.class_codec.specs.declared.pool.Kind.TheVariants as kinds
+use Rattle.class_codec.specs.declared.pool.ConstKind.{ConstKind}
+use Rattle.class_codec.specs.declared.pool.ConstKind.TheVariants as kinds
 use Rattle.class_codec.specs.declared.tree.Const.{Const}
 use Rattle.class_codec.specs.declared.tree.Const.TheVariants as constants
 use Rattle.class_codec.specs.declared.tree.TableEntry.{TableEntry}
@@ -46,7 +46,7 @@ block_at p = do
   len ← u4_at p
   taken_at len.0 len.1
 
-unfoldable pub index_at : Kind → List Const → Place → Read ℕ
+unfoldable pub index_at : ConstKind → List Const → Place → Read ℕ
 index_at kind pool p = do
   index ← u2_at p
   named ← need (names kind pool index.0) (Index p.at)
@@ -127,10 +127,10 @@ places_at second (suc left) p = do
   others ← places_at (takes_two first.0) left first.1
   Ok (first.0 ∷ others.0, others.1)
 
-unfoldable pub index_checked : List Const → Kind → ℕ → ℕ → Result (Unit {0}) ClassFault
+unfoldable pub index_checked : List Const → ConstKind → ℕ → ℕ → Result (Unit {0}) ClassFault
 index_checked pool kind index at = need (names kind pool index) (Index at)
 
-unfoldable pub pair_checked : List Const → Kind → ℕ → Kind → ℕ → ℕ → Result (Unit {0}) ClassFault
+unfoldable pub pair_checked : List Const → ConstKind → ℕ → ConstKind → ℕ → ℕ → Result (Unit {0}) ClassFault
 pair_checked pool kind first other second at = do
   checked ← index_checked pool kind first (at + 1)
   index_checked pool other second (at + 3)

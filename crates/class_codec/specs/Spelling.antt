@@ -14,8 +14,8 @@ use Rattle.class_codec.specs.declared.tree.Member.{Member}
 use Rattle.class_codec.specs.declared.tree.ClassFile.{ClassFile}
 
 -- two bytes of count, and the items
-abbrev pub counted : {X : Type 0} → (X → List ℕ) → List X → List ℕ
-counted item items = u2 (length items) ++ flat_map item items
+abbrev pub with_count : {X : Type 0} → (X → List ℕ) → List X → List ℕ
+with_count item items = u2 (length items) ++ flat_map item items
 
 -- four bytes of length, and the bytes
 abbrev pub block : List ℕ → List ℕ
@@ -44,19 +44,19 @@ other o = u2 o.name ++ block o.bytes
 
 -- what stands in a Code attribute
 abbrev pub contents : Code → List ℕ
-contents c = u2 c.max_stack ++ u2 c.max_locals ++ (block c.code ++ (counted table_entry c.table ++ counted other c.attrs))
+contents c = u2 c.max_stack ++ u2 c.max_locals ++ (block c.code ++ (with_count table_entry c.table ++ with_count other c.attrs))
 
 abbrev pub attribute : Attr → List ℕ
 attribute (attributes.Code c) = u2 c.name ++ block (contents c)
 attribute (attributes.Other o) = other o
 
 abbrev pub member : Member → List ℕ
-member m = u2 m.flags ++ u2 m.name ++ u2 m.desc ++ counted attribute m.attrs
+member m = u2 m.flags ++ u2 m.name ++ u2 m.desc ++ with_count attribute m.attrs
 
 -- what stands after the constant pool
 abbrev pub body : ClassFile → List ℕ
 body f = u2 f.flags ++ u2 f.this_class ++ u2 f.super_class
-    ++ (counted u2 f.interfaces ++ (counted member f.fields ++ (counted member f.methods ++ counted attribute f.attrs)))
+    ++ (with_count u2 f.interfaces ++ (with_count member f.fields ++ (with_count member f.methods ++ with_count attribute f.attrs)))
 
 abbrev pub spelling : ClassFile → List ℕ
-spelling f = u4 0xCAFEBABE ++ u2 f.minor ++ u2 49 ++ (counted constant f.pool ++ body f)
+spelling f = u4 0xCAFEBABE ++ u2 f.minor ++ u2 49 ++ (with_count constant f.pool ++ body f)

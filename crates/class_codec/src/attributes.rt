@@ -4,12 +4,12 @@ ghost use Rattle.std.specs.Prelude.{◌≡◌};
 ghost use Rattle.mon_base.specs.Answer.{Reads, ReadsAs};
 ghost use Rattle.class_codec.specs.Reading.{index_at, other_at, caught_at, table_entry_at};
 ghost use Rattle.class_codec.specs.Reading.{instructions_at, contents_at, code_at, named_at, attribute_at, member_at};
-ghost use Rattle.class_codec.specs.declared.pool.Kind.TheVariants as kinds;
+ghost use Rattle.class_codec.specs.declared.pool.ConstKind.TheVariants as kinds;
 
 use crate::fault::ClassFault;
 use crate::items::{Item, counted};
 use crate::place::{block, index, taken, u2, u4};
-use crate::pool::{Kind, names, names_code};
+use crate::pool::{ConstKind, names, names_code};
 use crate::tree::{Attr, Code, Const, Member, Other, TableEntry};
 use mon_base::{Bytes, Cursor, List};
 use std::alloc::Global;
@@ -24,7 +24,7 @@ impl Item for u16 {
         _of_method: bool,
         from: &mut Cursor,
     ) -> Result<u16, ClassFault> {
-        index(Kind::Class, pool, from)
+        index(ConstKind::Class, pool, from)
     }
 }
 
@@ -61,7 +61,7 @@ impl Item for Other {
         _of_method: bool,
         from: &mut Cursor,
     ) -> Result<Other, ClassFault> {
-        let name = index(Kind::Utf8, pool, from)?;
+        let name = index(ConstKind::Utf8, pool, from)?;
         let bytes = block(alloc, from)?;
         Ok(Other { name, bytes })
     }
@@ -77,7 +77,7 @@ impl Item for Attr {
         of_method: bool,
         from: &mut Cursor,
     ) -> Result<Attr, ClassFault> {
-        let name = index(Kind::Utf8, pool, from)?;
+        let name = index(ConstKind::Utf8, pool, from)?;
         let is_code = of_method && names_code(pool, name);
         named(alloc, is_code, pool, name, from)
     }
@@ -94,8 +94,8 @@ impl Item for Member {
         from: &mut Cursor,
     ) -> Result<Member, ClassFault> {
         let flags = u2(from)?;
-        let name = index(Kind::Utf8, pool, from)?;
-        let desc = index(Kind::Utf8, pool, from)?;
+        let name = index(ConstKind::Utf8, pool, from)?;
+        let desc = index(ConstKind::Utf8, pool, from)?;
         let attrs = counted(alloc, pool, of_method, from)?;
         Ok(Member {
             flags,
@@ -180,7 +180,7 @@ fn caught(pool: &[Const], from: &mut Cursor) -> Result<u16, ClassFault>
 {
     let at = from.position();
     let class = u2(from)?;
-    if class != 0 && !names(Kind::Class, pool, class) {
+    if class != 0 && !names(ConstKind::Class, pool, class) {
         return Err(ClassFault::Index { at });
     }
     Ok(class)

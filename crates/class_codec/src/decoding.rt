@@ -10,7 +10,7 @@ use crate::constants::pool;
 use crate::fault::ClassFault;
 use crate::items::counted;
 use crate::place::{index, u2, u4};
-use crate::pool::Kind;
+use crate::pool::ConstKind;
 use crate::tree::{ClassFile, Const};
 use mon_base::{Cursor, List};
 use std::alloc::Global;
@@ -47,8 +47,8 @@ fn body(
 {
     let places = pool.as_slice();
     let flags = u2(from)?;
-    let this_class = index(Kind::Class, places, from)?;
-    let super_class = index(Kind::Class, places, from)?;
+    let this_class = index(ConstKind::Class, places, from)?;
+    let super_class = index(ConstKind::Class, places, from)?;
     let interfaces = counted(alloc, places, false, from)?;
     let fields = counted(alloc, places, false, from)?;
     let methods = counted(alloc, places, true, from)?;

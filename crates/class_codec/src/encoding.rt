@@ -3,7 +3,7 @@
 ghost use Rattle.std.specs.Prelude.{◌≡◌, ℕ, List, ◌++◌, ◌∷◌, [], length, OnOk, IfOk};
 ghost use Rattle.std.specs.List.{flat_map};
 ghost use Rattle.mon_base.specs.Widths.{u1, u2, u4, u8};
-ghost use Rattle.class_codec.specs.Spelling.{block, counted, constant, table_entry, other};
+ghost use Rattle.class_codec.specs.Spelling.{block, with_count, constant, table_entry, other};
 ghost use Rattle.class_codec.specs.Spelling.{contents, attribute, member, body, spelling};
 ghost use Rattle.class_codec.specs.Fits.{CanSpell, SpellsClass};
 ghost use Rattle.class_codec.specs.declared.tree.ClassFile.{ClassFile};
@@ -62,7 +62,7 @@ trait Spelled {
 
 /// Appends two bytes of count, and the items.
 fn put_counted<T: Spelled>(alloc: Global, out: &mut Bytes, items: &[T]) -> Result<(), NoMemory>
-    ensures { OnOk result (out.new ≡ out.old ++ counted T.spelled items.now) }
+    ensures { OnOk result (out.new ≡ out.old ++ with_count T.spelled items.now) }
 {
     put_u2(out, items.len())?;
     for item in items {

@@ -7,7 +7,7 @@ ghost use Rattle.mon_base.specs.Answer.{Answers};
 ghost use Rattle.class_codec.specs.Reading.{index_checked, pair_checked, constant_checked, all_checked};
 
 use crate::fault::ClassFault;
-use crate::pool::{Kind, names};
+use crate::pool::{ConstKind, names};
 use crate::tree::Const;
 
 /// Whether all indices of the pool, which stands from `start` to `end`, name what they should.
@@ -28,7 +28,7 @@ pub fn check_all(pool: &[Const], start: u64, end: u64) -> Result<(), ClassFault>
 
 /// Whether the index at a place of the file names a constant of the kind.
 #[tactic(auto, unfolding(crate::specs::Reading::index_checked))]
-fn check_index(pool: &[Const], kind: Kind, index: u16, at: u64) -> Result<(), ClassFault>
+fn check_index(pool: &[Const], kind: ConstKind, index: u16, at: u64) -> Result<(), ClassFault>
     ensures { Answers ClassFault.Memory result (index_checked pool.now kind index at) }
 {
     if !names(kind, pool, index) {
@@ -41,9 +41,9 @@ fn check_index(pool: &[Const], kind: Kind, index: u16, at: u64) -> Result<(), Cl
 #[tactic(auto, unfolding(crate::specs::Reading::pair_checked))]
 fn check_pair(
     pool: &[Const],
-    kind: Kind,
+    kind: ConstKind,
     first: u16,
-    other: Kind,
+    other: ConstKind,
     second: u16,
     at: u64,
 ) -> Result<(), ClassFault>
@@ -60,16 +60,23 @@ fn check_constant(pool: &[Const], item: &Const, at: u64) -> Result<(), ClassFaul
     ensures { Answers ClassFault.Memory result (constant_checked pool.now item.now at) }
 {
     match item {
-        Const::Class(name) => check_index(pool, Kind::Utf8, *name, at + 1),
-        Const::Str(text) => check_index(pool, Kind::Utf8, *text, at + 1),
+        Const::Class(name) => check_index(pool, ConstKind::Utf8, *name, at + 1),
+        Const::Str(text) => check_index(pool, ConstKind::Utf8, *text, at + 1),
         Const::Field(class, name) | Const::Method(class, name) | Const::IMethod(class, name) => {
-            check_pair(pool, Kind::Class, *class, Kind::NameAndType, *name, at)
+            check_pair(
+                pool,
+                ConstKind::Class,
+                *class,
+                ConstKind::NameAndType,
+                *name,
+                at,
+            )
         }
         Const::NameAndType(name, desc) => check_pair(
             pool,
-            Kind::Utf8,
+            ConstKind::Utf8,
             *name,
-            Kind::Utf8,
+            ConstKind::Utf8,
             *desc,
             at,
         ),

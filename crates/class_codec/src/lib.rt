@@ -21,7 +21,7 @@ pub use decoding::{MAX_LEN, decode};
 pub use encoding::{encode, one_tree};
 pub use fault::ClassFault;
 pub use pool::{
-    Kind, Reference, class_name_at, is_of, name_and_type_at, names, names_code, reference_at,
+    ConstKind, Reference, class_name_at, is_of, name_and_type_at, names, names_code, reference_at,
     utf8_at,
 };
 pub use tree::{Attr, ClassFile, Code, Const, Member, Other, TableEntry};

@@ -5,7 +5,7 @@ ghost use Rattle.mon_base.specs.Answer.{Reads, ReadsAs};
 ghost use Rattle.class_codec.specs.Reading.{u1_at, u2_at, u4_at, u8_at, taken_at, block_at, index_at};
 
 use crate::fault::ClassFault;
-use crate::pool::{Kind, names};
+use crate::pool::{ConstKind, names};
 use crate::tree::Const;
 use mon_base::{Bytes, Cursor};
 use std::alloc::Global;
@@ -73,7 +73,7 @@ pub fn block(alloc: Global, from: &mut Cursor) -> Result<Bytes, ClassFault>
 
 /// An index that names a constant of the kind.
 #[tactic(auto, unfolding(crate::specs::Reading::index_at))]
-pub fn index(kind: Kind, pool: &[Const], from: &mut Cursor) -> Result<u16, ClassFault>
+pub fn index(kind: ConstKind, pool: &[Const], from: &mut Cursor) -> Result<u16, ClassFault>
     ensures { Reads ClassFault.Memory result (index_at kind pool.now from.old) from.new }
 {
     let at = from.position();

@@ -8,26 +8,26 @@ use mon_base::Bytes;
 
 /// What an index may have to name.
 #[derive(Clone, Copy)]
-pub enum Kind {
+pub enum ConstKind {
     Utf8,
     Class,
     NameAndType,
 }
 
 /// Whether the constant is of the kind.
-pub fn is_of(kind: Kind, constant: &Const) -> bool
+pub fn is_of(kind: ConstKind, constant: &Const) -> bool
     ensures { result ≡ is_of kind constant.now }
 {
     match kind {
-        Kind::Utf8 => matches!(constant, Const::Utf8(_)),
-        Kind::Class => matches!(constant, Const::Class(_)),
-        Kind::NameAndType => matches!(constant, Const::NameAndType(_, _)),
+        ConstKind::Utf8 => matches!(constant, Const::Utf8(_)),
+        ConstKind::Class => matches!(constant, Const::Class(_)),
+        ConstKind::NameAndType => matches!(constant, Const::NameAndType(_, _)),
     }
 }
 
 /// Whether the index names a constant of the kind.
 #[tactic(auto, unfolding(crate::specs::Pool::names))]
-pub fn names(kind: Kind, pool: &[Const], index: u16) -> bool
+pub fn names(kind: ConstKind, pool: &[Const], index: u16) -> bool
     ensures { result ≡ names kind pool.now index }
 {
     match pool.get(index as usize) {

@@ -12,6 +12,8 @@ use Rattle.api_listing.specs.Nearest.{interfaces_of}
 use Rattle.api_listing.specs.Seen.{id_cmp, has_id, has_name}
 use Rattle.api_listing.specs.Listing.{has_method}
 use Rattle.bytecode_model.specs.declared.members.Found.{Found}
+use Rattle.bytecode_model.specs.declared.members.MemberKind.{MemberKind}
+use Rattle.bytecode_model.specs.declared.members.MemberKind.TheVariants as kinds
 use Rattle.class_index.specs.declared.library.Shared.{Shared}
 use Rattle.class_index.specs.declared.nearest.Nearest.{Nearest}
 use Rattle.bytecode_model.specs.Heads.{all_classes}
@@ -26,6 +28,11 @@ use Rattle.bytecode_model.specs.Places.{ClassesPlaced}
 
 abbrev pub found_in : BTreeMap MethodId Found → MethodId → Option Found
 found_in found id = get id_cmp found id
+
+-- the methods that are declared, or the fields
+abbrev pub declared_of : MemberKind → List ClassFile → Listing → List Declared
+declared_of kinds.Method files listing = methods_declared files listing
+declared_of kinds.Field files listing = fields_declared files listing
 
 -- The map has what the first declaration of each class, name and descriptor has.
 abbrev pub AreFirst : List Declared → BTreeMap MethodId Found → Type 0

@@ -6,8 +6,8 @@ ghost use Rattle.mon_base.specs.declared.method.MethodId.{MethodId};
 ghost use Rattle.class_codec.specs.Fits.{CanSpell};
 ghost use Rattle.api_listing.specs.BuiltIn.{is_method};
 ghost use Rattle.api_listing.specs.Seen.{has_id, has_name};
-ghost use Rattle.api_listing.specs.Listing.{has_method};
-ghost use Rattle.class_index.specs.Index.{AreFirst, Notes};
+ghost use Rattle.api_listing.specs.Listing.{has_method, IsFew};
+ghost use Rattle.class_index.specs.Index.{AreFirst, Notes, declared_of};
 ghost use Rattle.class_index.specs.Library.{is_owner};
 ghost use Rattle.bytecode_model.specs.Members.{target_in, members_of, member_declared, file_members, given_from};
 ghost use Rattle.bytecode_model.specs.Members.{listed_from, listed_fields_from, row_declared, rows_from};
@@ -22,20 +22,40 @@ use mon_base::{Bytes, MethodId, NoMemory};
 use std::alloc::Global;
 use std::collections::{BTreeMap, BTreeSet};
 
-/// What the methods of the files, the listed and the built-in ones are found by: the first of each name counts.
-pub fn methods_of(
+/// What the methods, or the fields, that are declared are found by: the first of each name counts.
+pub fn first_declared(
     alloc: Global,
+    kind: MemberKind,
     files: &[ClassFile],
     listing: &Listing,
 ) -> Result<BTreeMap<MethodId, Found>, NoMemory>
     requires count { length files.now ≤ 1001 }
     requires fits { AllByRecursion CanSpell files.now }
-    requires listed { length listing.now.methods ≤ 20000 }
-    ensures { IfOk result (AreFirst (methods_declared files.now listing.now)) }
+    requires listed { IsFew listing.now }
+    ensures { IfOk result (AreFirst (declared_of kind files.now listing.now)) }
 {
     let mut found = BTreeMap::new(alloc);
-    add_methods(alloc, &mut found, files, listing)?;
+    add_declared(alloc, &mut found, kind, files, listing)?;
     Ok(found)
+}
+
+/// Adds the methods, or the fields.
+fn add_declared(
+    alloc: Global,
+    found: &mut BTreeMap<MethodId, Found>,
+    kind: MemberKind,
+    files: &[ClassFile],
+    listing: &Listing,
+) -> Result<(), NoMemory>
+    requires count { length files.now ≤ 1001 }
+    requires fits { AllByRecursion CanSpell files.now }
+    requires listed { IsFew listing.now }
+    ensures { OnOk result (Notes (declared_of kind files.now listing.now) found.old found.new) }
+{
+    match kind {
+        MemberKind::Method => add_methods(alloc, found, files, listing),
+        MemberKind::Field => add_fields(alloc, found, files, listing),
+    }
 }
 
 /// Adds the methods of the files, the listed and the built-in ones.
@@ -54,22 +74,6 @@ fn add_methods(
     add_listed(alloc, found, listing.methods.as_slice())?;
     add_rows(alloc, found, METHODS.as_slice())?;
     Ok(())
-}
-
-/// The same of fields.
-pub fn fields_of(
-    alloc: Global,
-    files: &[ClassFile],
-    listing: &Listing,
-) -> Result<BTreeMap<MethodId, Found>, NoMemory>
-    requires count { length files.now ≤ 1001 }
-    requires fits { AllByRecursion CanSpell files.now }
-    requires listed { length listing.now.fields ≤ 20000 }
-    ensures { IfOk result (AreFirst (fields_declared files.now listing.now)) }
-{
-    let mut found = BTreeMap::new(alloc);
-    add_fields(alloc, &mut found, files, listing)?;
-    Ok(found)
 }
 
 /// Adds the fields of the files and the listed ones.

@@ -12,12 +12,12 @@ ghost use Rattle.bytecode_model.specs.Members.{field_of, fields_declared, method
 ghost use Rattle.bytecode_model.specs.Conditions.{is_of_library, is_run};
 ghost use Rattle.api_listing.specs.BuiltIn.{is_built_in};
 ghost use Rattle.bytecode_model.specs.Operands.{known_in, literals_of, place_of};
-ghost use Rattle.class_index.specs.Index.{found_in, AreFirst};
+ghost use Rattle.class_index.specs.Index.{found_in, AreFirst, declared_of};
 ghost use Rattle.class_index.specs.Library.{is_owner, AreShared, OverridesAs};
 ghost use Rattle.class_index.specs.Nearest.{AreVersions};
 
 use crate::classes::Classes;
-use crate::declared::{fields_of, listed_methods, methods_of, owners_of};
+use crate::declared::{first_declared, listed_methods, owners_of};
 use crate::heads::copy_both;
 use crate::library::{Shared, owners_above, shared_of};
 use crate::literals::Literals;
@@ -203,16 +203,33 @@ fn members_of(
     ensures near_fields { IfOk result (λ members.
         AreVersions (found_in members.fields) members.near_fields.numbers classes.now members.near_fields.versions) }
 {
-    let methods = methods_of(alloc, files, listing)?;
-    let fields = fields_of(alloc, files, listing)?;
-    let near_methods = nearest_of(alloc, classes, &methods, MemberKind::Method, files)?;
-    let near_fields = nearest_of(alloc, classes, &fields, MemberKind::Field, files)?;
+    let (methods, near_methods) = known_of(alloc, classes, MemberKind::Method, files, listing)?;
+    let (fields, near_fields) = known_of(alloc, classes, MemberKind::Field, files, listing)?;
     Ok(Members {
         methods,
         fields,
         near_methods,
         near_fields,
     })
+}
+
+/// What the methods, or the fields, that are declared are found by, and which class declares each nearest.
+fn known_of(
+    alloc: Global,
+    classes: &Classes,
+    kind: MemberKind,
+    files: &[ClassFile],
+    listing: &Listing,
+) -> Result<(BTreeMap<MethodId, Found>, Nearest), NoMemory>
+    requires count { length files.now ≤ 1001 }
+    requires fits { AllByRecursion CanSpell files.now }
+    requires listed { IsFew listing.now }
+    ensures first { IfOk result (λ known. AreFirst (declared_of kind files.now listing.now) known.0) }
+    ensures near { IfOk result (λ known. AreVersions (found_in known.0) known.1.numbers classes.now known.1.versions) }
+{
+    let found = first_declared(alloc, kind, files, listing)?;
+    let near = nearest_of(alloc, classes, &found, kind, files)?;
+    Ok((found, near))
 }
 
 /// What the listing gives the library, and which classes above given ones may have of it.

@@ -1,12 +1,12 @@
 -- What constants of a kind are.
 use Rattle.std.proofs.Common.{◌≡◌, ℕ, true, List, Option, Some, None, refl}
-use Rattle.class_codec.specs.declared.pool.Kind.{Kind}
-use Rattle.class_codec.specs.declared.pool.Kind.TheVariants as kinds
+use Rattle.class_codec.specs.declared.pool.ConstKind.{ConstKind}
+use Rattle.class_codec.specs.declared.pool.ConstKind.TheVariants as kinds
 use Rattle.class_codec.specs.declared.tree.Const.{Const}
 use Rattle.class_codec.specs.declared.tree.Const.TheVariants as constants
 use Rattle.class_codec.specs.Pool.{is_of, is_one_of, text_of}
 
-pub named_one : (kind : Kind) (o : Option Const) → is_one_of kind o ≡ true → (c : Const) × ((o ≡ Some c) × (is_of kind c ≡ true))
+pub named_one : (kind : ConstKind) (o : Option Const) → is_one_of kind o ≡ true → (c : Const) × ((o ≡ Some c) × (is_of kind c ≡ true))
 named_one kind None e = absurd cc
 named_one kind (Some c) e = (c, (refl, e))
 

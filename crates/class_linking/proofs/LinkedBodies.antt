@@ -34,7 +34,7 @@ use Rattle.bytecode_model.specs.Heads.{class_at, head_of, all_classes, name_of, 
 use Rattle.class_linking.specs.Linking.{bare, with_code, code_linked, body_linked, method_linked}
 use Rattle.class_linking.specs.Operands.{class_linked, array_linked, told_at}
 use Rattle.bytecode_model.specs.Operands.{element_is_known, known_in}
-use Rattle.bytecode_model.specs.Shape.{has_code}
+use Rattle.bytecode_model.specs.Layout.{has_code}
 use Rattle.bytecode_model.specs.Standing.{IsOfEntry, IsOfCode, IsOfMember, IsAllowed}
 use Rattle.bytecode_model.specs.Targets.{is_type, item_is_known}
 use Rattle.class_linking.proofs.Beginning.{and_left, and_right, first_code, code_some}

@@ -5,7 +5,7 @@ use Rattle.std.specs.List.{AllByRecursion}
 use Rattle.std.proofs.lemmas.Option.{slice_get_within}
 use Rattle.mon_base.specs.Answer.{Answers}
 use Rattle.mon_base.proofs.Reading.{ok_is}
-use Rattle.class_codec.specs.declared.pool.Kind.TheVariants as kinds
+use Rattle.class_codec.specs.declared.pool.ConstKind.TheVariants as kinds
 use Rattle.class_codec.specs.declared.tree.ClassFile.{ClassFile}
 use Rattle.class_codec.specs.declared.tree.Code.{Code}
 use Rattle.class_codec.specs.declared.tree.Const.{Const}

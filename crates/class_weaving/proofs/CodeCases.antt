@@ -10,8 +10,7 @@ use Rattle.offset_patch.specs.declared.block.Block.{Block}
 use Rattle.offset_patch.specs.declared.fault.SpliceFault.{SpliceFault}
 use Rattle.offset_patch.specs.Plan.{Plan}
 use Rattle.offset_patch.specs.Splicing.{grown, origins_of, room, code_spliced}
-use Rattle.class_weaving.specs.declared.woven.WovenCode.{WovenCode}
-use Rattle.class_weaving.specs.Woven.{is_woven, sites_of, locals_of, clients_from, blocks_put, code_woven}
+use Rattle.class_weaving.specs.Woven.{WovenCode, is_woven, sites_of, locals_of, clients_from, blocks_put, code_woven}
 
 abbrev pub with_blocks : Plan → List Const → Method → Code → Code → WovenCode
 with_blocks plan pool method code new = record {

@@ -29,10 +29,9 @@ use Rattle.offset_patch.specs.declared.fault.Size.TheVariants as sizes
 use Rattle.offset_patch.specs.Sizes.{is_unfit, first_unfit, method_sizes}
 use Rattle.offset_patch.specs.Splicing.{grown, origins_of, operands_needed, room, code_spliced}
 use Rattle.offset_patch.proofs.Sizing.{method_law}
-use Rattle.class_weaving.specs.declared.woven.WovenCode.{WovenCode}
 use Rattle.class_weaving.specs.declared.woven.Members.{Members}
 use Rattle.class_weaving.specs.declared.woven.Woven.{Woven}
-use Rattle.class_weaving.specs.Woven.{folded, is_woven, sites_of, locals_of, clients_from, blocks_put, code_woven, first_code, bare_put, code_put, body_woven, member_woven, members_woven, none_made, file_put, class_woven, classes_woven, state_put, woven}
+use Rattle.class_weaving.specs.Woven.{WovenCode, folded, is_woven, sites_of, locals_of, clients_from, blocks_put, code_woven, first_code, bare_put, code_put, body_woven, member_woven, members_woven, none_made, file_put, class_woven, classes_woven, state_put, woven}
 use Rattle.class_weaving.specs.Sizes.{code_sizes, body_sizes, pool_after, members_sizes, classes_sizes, program_sizes, SizesDecide}
 
 -- ---- one thing after another

@@ -11,7 +11,7 @@ use Rattle.class_codec.specs.declared.tree.ClassFile.{ClassFile}
 use Rattle.class_codec.specs.declared.tree.Code.{Code}
 use Rattle.class_codec.specs.declared.tree.Const.{Const}
 use Rattle.class_codec.specs.declared.tree.Member.{Member}
-use Rattle.class_codec.specs.declared.pool.Kind.TheVariants as kinds
+use Rattle.class_codec.specs.declared.pool.ConstKind.TheVariants as kinds
 use Rattle.class_codec.specs.Fits.{FitsPool, FitsCode, FitsAttr, FitsMember, FitCounted, IsIndex, CanSpell, is_read_as_code}
 use Rattle.bytecode_model.specs.declared.program.LinkedClass.{LinkedClass}
 use Rattle.bytecode_model.specs.declared.program.Method.{Method}
@@ -32,12 +32,11 @@ use Rattle.offset_patch.proofs.CodeFits.{room_is, code_fits, code_named, pool_sh
 use Rattle.class_weaving.specs.State.{state_file}
 use Rattle.class_weaving.proofs.Sites.{refs_fit, refs_some}
 use Rattle.class_weaving.proofs.StateFits.{state_fits}
-use Rattle.class_weaving.specs.declared.woven.WovenCode.{WovenCode}
 use Rattle.class_weaving.specs.declared.woven.Members.{Members}
 use Rattle.class_weaving.specs.declared.woven.Woven.{Woven}
 use Rattle.class_weaving.proofs.CodeCases.{with_blocks, IsPut, code_cases}
 use Rattle.class_weaving.proofs.FirstCode.{first_fits}
-use Rattle.class_weaving.specs.Woven.{folded, is_woven, sites_of, locals_of, code_woven, first_code, attr_with, member_with, bare_put, code_put, body_woven, member_woven, members_woven, none_made, file_with, file_put, class_woven, classes_woven, state_put, woven}
+use Rattle.class_weaving.specs.Woven.{WovenCode, folded, is_woven, sites_of, locals_of, code_woven, first_code, attr_with, member_with, bare_put, code_put, body_woven, member_woven, members_woven, none_made, file_with, file_put, class_woven, classes_woven, state_put, woven}
 
 -- ---- the code of a method
 

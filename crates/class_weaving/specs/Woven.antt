@@ -22,7 +22,6 @@ use Rattle.offset_patch.specs.Splicing.{grown, origins_of, room, code_spliced}
 use Rattle.offset_patch.specs.Plan.{Plan}
 use Rattle.conspec_tree.specs.declared.types.Var.{Var}
 use Rattle.class_weaving.specs.State.{state_file}
-use Rattle.class_weaving.specs.declared.woven.WovenCode.{WovenCode}
 use Rattle.class_weaving.specs.declared.woven.Members.{Members}
 use Rattle.class_weaving.specs.declared.woven.Woven.{Woven}
 
@@ -53,6 +52,12 @@ locals_of plan method = most_locals plan method.refs
 abbrev pub clients_from : ℕ → List Insn → List Origin
 clients_from at [] = []
 clients_from at (insn ∷ insns) = Client at ∷ clients_from (at + 1) insns
+
+-- the code of a method, the constants of its class, and where its instructions come from
+pub record WovenCode : Type 0 where
+  pub code : Code
+  pub entries : List Const
+  pub origins : List Origin
 
 abbrev pub blocks_put : Plan → List ℕ → ℕ → List Const → Method → Code → List (Option Block) → Spliced WovenCode
 blocks_put plan class number pool method code sites = do

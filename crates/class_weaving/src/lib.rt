@@ -15,4 +15,4 @@ pub use code::{is_woven, most_locals, sites_of};
 pub use laws::sizes_decide;
 pub use state::state_file;
 pub use weaving::weave;
-pub use woven::{Members, Woven, WovenCode};
+pub use woven::{Members, Woven};

@@ -1,17 +1,9 @@
 //! What weaving makes, from the code of a method up to the class files.
 
 use bytecode_model::Origin;
-use class_codec::{ClassFile, Code, Member};
+use class_codec::{ClassFile, Member};
 use mon_base::List;
 use offset_patch::Entries;
-
-/// The code of a method, the constants of its class, and where its instructions come from.
-#[derive(Drop)]
-pub struct WovenCode {
-    pub code: Code,
-    pub entries: Entries,
-    pub origins: List<Origin>,
-}
 
 /// The members of a class that are made, with the constants that they need, and where the instructions of each code come
 /// from.

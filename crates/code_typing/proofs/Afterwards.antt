@@ -12,7 +12,7 @@ use Rattle.insn_codec.specs.Shapes.{shape_of}
 use Rattle.code_typing.specs.declared.change.Change.{Change}
 use Rattle.code_typing.specs.Changing.{change_told, local_told}
 use Rattle.bytecode_model.specs.Makes.{type_at, is_same_object, when_made, when_called, changed_by, changed, stores, local_after}
-use Rattle.bytecode_model.specs.Place.{Place, calls_maker}
+use Rattle.bytecode_model.specs.InsnPlace.{InsnPlace, calls_maker}
 
 pub before_pushed : (xs : List VType) (t : VType) (k : ℕ) → k < length xs → type_at (xs ++ t ∷ []) k ≡ type_at xs k
 before_pushed [] t k less = absurd (omega arith)
@@ -38,27 +38,27 @@ no_object (types.Ref name) = refl
 no_object types.UninitThis = refl
 no_object (types.Uninit i) = refl
 
-top_called : (place : Place) (taken : List VType) → when_called place taken types.Top ≡ types.Top
+top_called : (place : InsnPlace) (taken : List VType) → when_called place taken types.Top ≡ types.Top
 top_called place taken =
     let made : when_made place (type_at taken 0) types.Top ≡ types.Top = rw (no_object (type_at taken 0)) refl in
     ap (λ (t : VType). cond (calls_maker place) t types.Top) made ∙ either_same (calls_maker place) types.Top
 
-top_changed : (place : Place) (taken : List VType) (shape : Shape) → changed_by place taken shape types.Top ≡ types.Top
+top_changed : (place : InsnPlace) (taken : List VType) (shape : Shape) → changed_by place taken shape types.Top ≡ types.Top
 top_changed place taken (shapes.Heap heap.New) = refl
 top_changed place taken (shapes.Heap (heap.Call how)) = top_called place taken
 top_changed place taken other = refl
 
 -- a local behind all that there are
-pub behind_all : (place : Place) (locals taken : List VType) (j : ℕ) → length locals ≤ j → stores (shape_of place.insn) j ≡ false → local_after place locals taken j ≡ types.Top
+pub behind_all : (place : InsnPlace) (locals taken : List VType) (j : ℕ) → length locals ≤ j → stores (shape_of place.insn) j ≡ false → local_after place locals taken j ≡ types.Top
 behind_all place locals taken j less e =
     rw e (ap (changed place taken) (absent locals j less) ∙ top_changed place taken (shape_of place.insn))
 
-pub local_same : (place : Place) (change : Change) (locals taken : List VType) (j : ℕ) → ((t : VType) → change_told change t ≡ changed place taken t)
+pub local_same : (place : InsnPlace) (change : Change) (locals taken : List VType) (j : ℕ) → ((t : VType) → change_told change t ≡ changed place taken t)
     → local_told (shape_of place.insn) change locals taken j ≡ local_after place locals taken j
 local_same place change locals taken j told = ap (λ (t : VType). cond (stores (shape_of place.insn) j) (type_at taken 0) t) (told (type_at locals j))
 
 -- each local, where those below a place are told and there are none behind it
-pub each_local : (place : Place) (locals taken found : List VType) (n : ℕ) → length found ≡ n → length locals ≤ n → ((j : ℕ) → n ≤ j → stores (shape_of place.insn) j ≡ false)
+pub each_local : (place : InsnPlace) (locals taken found : List VType) (n : ℕ) → length found ≡ n → length locals ≤ n → ((j : ℕ) → n ≤ j → stores (shape_of place.insn) j ≡ false)
     → ((k : ℕ) → k < n → type_at found k ≡ local_after place locals taken k) → (j : ℕ) → type_at found j ≡ local_after place locals taken j
 each_local place locals taken found n e less stored told j =
     elim (cases_lt j n) [

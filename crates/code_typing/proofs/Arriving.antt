@@ -5,7 +5,7 @@ use Rattle.std.specs.Option.{option_map_or}
 use Rattle.cert_format.specs.declared.typing.FrameType.{FrameType}
 use Rattle.cert_format.specs.declared.typing.VType.{VType}
 use Rattle.bytecode_model.specs.Makes.{below, changed}
-use Rattle.bytecode_model.specs.Place.{Place}
+use Rattle.bytecode_model.specs.InsnPlace.{InsnPlace}
 use Rattle.bytecode_model.specs.Rules.{Frames, frame_of, goes_well, taken}
 use Rattle.bytecode_model.specs.Wants.{takes}
 use Rattle.code_typing.specs.declared.change.Change.{Change}
@@ -19,7 +19,7 @@ unchanged [] = refl
 unchanged (t ∷ types) = ap (λ (l : List VType). t ∷ l) (unchanged types)
 
 -- what is left of the frame, by the operands that the instruction takes
-pub left_goes : (place : Place) (frame : FrameType) (change : Change) (locals kept top : List VType) → locals ≡ frame.locals
+pub left_goes : (place : InsnPlace) (frame : FrameType) (change : Change) (locals kept top : List VType) → locals ≡ frame.locals
     → kept ≡ below (length (takes place)) frame.stack → top ≡ taken place frame → ((t : VType) → change_told change t ≡ changed place top t)
     → (to : FrameType) → frame_takes place change locals kept top to ≡ goes_well place frame to
 left_goes place frame change locals kept top same rest taken_same told to =

@@ -6,7 +6,7 @@ use Rattle.bytecode_model.specs.declared.program.LinkedClass.{LinkedClass}
 use Rattle.bytecode_model.specs.declared.program.Method.{Method}
 use Rattle.bytecode_model.specs.declared.program.Program.{Program}
 use Rattle.bytecode_model.specs.Rules.{Frames}
-use Rattle.bytecode_model.specs.Shape.{has_code, coded}
+use Rattle.bytecode_model.specs.Layout.{has_code, coded}
 use Rattle.code_typing.specs.First.{first_row, method_fault, methods_fault, classes_fault, typing_fault}
 use Rattle.bytecode_model.specs.Typed.{IsTyped, row_in, row_of_method, list_at, frames_in, frames_told}
 use Rattle.std.proofs.lemmas.Bool.{cases_Bool, cases_lt, ltb-false}

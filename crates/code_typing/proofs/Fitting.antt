@@ -13,7 +13,7 @@ use Rattle.cert_format.specs.declared.typing.FrameType.{FrameType}
 use Rattle.insn_codec.specs.Shapes.{shape_of}
 use Rattle.code_typing.specs.declared.change.Change.{Change}
 use Rattle.code_typing.specs.Changing.{change_told, local_told, frame_takes}
-use Rattle.bytecode_model.specs.Place.{Place}
+use Rattle.bytecode_model.specs.InsnPlace.{InsnPlace}
 
 and_assoc : (a b c : Bool) → (a && (b && c)) ≡ ((a && b) && c)
 and_assoc true b c = refl
@@ -69,7 +69,7 @@ too_short program f (t ∷ below) pushed [] less = refl
 too_short program f (t ∷ below) pushed (u ∷ to) less = and_false (assignable program (f t) u) _ (too_short program f below pushed to (omega (arith, less)))
 
 -- the frame afterwards, by what is told of the change
-pub goes_told : (place : Place) (frame to : FrameType) (change : Change) → ((t : VType) → change_told change t ≡ changed place (taken place frame) t)
+pub goes_told : (place : InsnPlace) (frame to : FrameType) (change : Change) → ((t : VType) → change_told change t ≡ changed place (taken place frame) t)
     → frame_takes place change frame.locals (below (length (takes place)) frame.stack) (taken place frame) to ≡ goes_well place frame to
 goes_told place frame to change told =
     let n = length (takes place) in

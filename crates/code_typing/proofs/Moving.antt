@@ -10,8 +10,8 @@ use Rattle.cert_format.specs.declared.typing.VType.{VType}
 use Rattle.cert_format.specs.declared.typing.VType.TheVariants as types
 use Rattle.insn_codec.specs.declared.forms.StackForm.{StackForm}
 use Rattle.insn_codec.specs.declared.forms.StackForm.TheVariants.{Pop, Pop2, Dup, DupX1, DupX2, Dup2, Dup2X1, Dup2X2, Swap}
-use Rattle.insn_codec.specs.declared.shape.Kind.{Kind}
-use Rattle.insn_codec.specs.declared.shape.Kind.TheVariants as kinds
+use Rattle.insn_codec.specs.declared.shape.ValueKind.{ValueKind}
+use Rattle.insn_codec.specs.declared.shape.ValueKind.TheVariants as kinds
 use Rattle.insn_codec.specs.declared.shape.Shape.{Shape}
 use Rattle.insn_codec.specs.declared.shape.Shape.TheVariants as shapes
 use Rattle.insn_codec.specs.Effect.{effect}
@@ -21,7 +21,7 @@ use Rattle.insn_codec.specs.Table.{is_heap}
 use Rattle.bytecode_model.specs.declared.program.Method.{Method}
 use Rattle.bytecode_model.specs.Makes.{type_at, stores, changed_by, yields_of, below}
 use Rattle.code_typing.specs.Moving.{types_moved, padded, IsEffectTyped}
-use Rattle.bytecode_model.specs.Place.{Place}
+use Rattle.bytecode_model.specs.InsnPlace.{InsnPlace}
 use Rattle.bytecode_model.specs.Rules.{taken, uses_local}
 use Rattle.bytecode_model.specs.Wants.{Want, takes, takes_of, all_met, of_kind, is_number, is_made, is_reference, returns_well}
 use Rattle.code_typing.proofs.Fitting.{map_same, any_decides}
@@ -107,7 +107,7 @@ made_is_reference (types.Uninit at) e = absurd cc
 
 -- ---- shapes
 
-module _ (place : Place) (n : ℕ) (locals b : List VType) where
+module _ (place : InsnPlace) (n : ℕ) (locals b : List VType) where
   abbrev old : List VType
   old = padded n (type_at locals)
 
@@ -134,10 +134,10 @@ module _ (place : Place) (n : ℕ) (locals b : List VType) where
   in_range : (slot : ℕ) → slot < n → nat_lt slot (length old) ≡ true
   in_range slot less = lt-ltb slot (length old) (omega (arith, padded_length n (type_at locals), less))
 
-  load : (kind : Kind) (slot : ℕ) → slot < n → of_kind kind (type_at locals slot) ≡ true → Goal (shapes.Load kind slot) []
+  load : (kind : ValueKind) (slot : ℕ) → slot < n → of_kind kind (type_at locals slot) ≡ true → Goal (shapes.Load kind slot) []
   load kind slot less fits = rw (slot_there n (type_at locals) slot less, fits) (out (shapes.Load kind slot) [] (λ x. refl))
 
-  store : (kind : Kind) (slot : ℕ) (x : VType) → slot < n → of_kind kind x ≡ true → Goal (shapes.Store kind slot) (x ∷ [])
+  store : (kind : ValueKind) (slot : ℕ) (x : VType) → slot < n → of_kind kind x ≡ true → Goal (shapes.Store kind slot) (x ∷ [])
   store kind slot x less fits =
       let set = set_there n (type_at locals) slot x less in
       rw (fits, in_range slot less) (ap (λ (l : List VType). Some (l, reverse b)) set ∙ out (shapes.Store kind slot) (x ∷ []) (λ y. refl))

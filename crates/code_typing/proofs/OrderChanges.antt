@@ -14,7 +14,7 @@ use Rattle.bytecode_model.specs.declared.program.Program.{Program}
 use Rattle.bytecode_model.specs.Assigning.{assignable}
 use Rattle.type_lattice.proofs.Orders.{itself}
 use Rattle.bytecode_model.specs.Makes.{type_at, class_made, is_same_object, when_made, when_called, changed_by}
-use Rattle.bytecode_model.specs.Place.{Place, has_receiver, calls_maker}
+use Rattle.bytecode_model.specs.InsnPlace.{InsnPlace, has_receiver, calls_maker}
 use Rattle.bytecode_model.specs.Rules.{taken, makes_receiver, made_well}
 use Rattle.code_typing.proofs.OrderWants.{below_this, below_new}
 
@@ -62,7 +62,7 @@ module _ (program : Program) where
   made_from r t u (Some c) h = replaced r (types.Ref c) t u h
 
 -- A receiver that a constructor may make is above itself alone.
-same_receiver : (place : Place) (r s : VType) → assignable place.program r s ≡ true → is_some (class_made place s) ≡ true → r ≡ s
+same_receiver : (place : InsnPlace) (r s : VType) → assignable place.program r s ≡ true → is_some (class_made place s) ≡ true → r ≡ s
 same_receiver place r types.UninitThis e f = below_this place.program r e
 same_receiver place r (types.Uninit i) e f = below_new place.program r i e
 same_receiver place r s e f = absurd cc
@@ -73,7 +73,7 @@ either_made : (maker receives some : Bool) → (not maker || (receives && some))
 either_made true receives some e f = (and_parts receives some e).1
 either_made false receives some e f = absurd cc
 
-module _ (place : Place) (low high : FrameType) (under : assignable place.program (type_at (taken place low) 0) (type_at (taken place high) 0) ≡ true) where
+module _ (place : InsnPlace) (low high : FrameType) (under : assignable place.program (type_at (taken place low) 0) (type_at (taken place high) 0) ≡ true) where
   receivers : (how : How) → makes_receiver place how high ≡ true → calls_maker place ≡ true → type_at (taken place low) 0 ≡ type_at (taken place high) 0
   receivers how e is = same_receiver place _ _ under (either_made (calls_maker place) (has_receiver how) _ e is)
 

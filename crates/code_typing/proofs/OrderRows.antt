@@ -5,7 +5,7 @@ use Rattle.std.proofs.lemmas.Bool.{and_parts, le-leb}
 use Rattle.cert_format.specs.declared.typing.FrameType.{FrameType}
 use Rattle.cert_format.specs.declared.typing.VType.{VType}
 use Rattle.insn_codec.specs.declared.shape.Heap.TheVariants as heap
-use Rattle.insn_codec.specs.declared.shape.Kind.TheVariants as kinds
+use Rattle.insn_codec.specs.declared.shape.ValueKind.TheVariants as kinds
 use Rattle.insn_codec.specs.declared.shape.Shape.{Shape}
 use Rattle.insn_codec.specs.declared.shape.Shape.TheVariants as shapes
 use Rattle.insn_codec.specs.Shapes.{shape_of}
@@ -15,7 +15,7 @@ use Rattle.bytecode_model.specs.Order.{IsInOrder}
 use Rattle.type_lattice.proofs.Orders.{itself, type_over}
 use Rattle.bytecode_model.specs.Makes.{type_at, changed, yields, stores, local_after, below, stack_after}
 use Rattle.code_typing.specs.Order.{StackBelow, LocalsBelow, IsFrameBelow, IsAloneMet, IsLeftBelow, IsAloneKept, IsLeftKept, GoesKept, FrameIsBelowItself, FramesAreInOrder, is_settled, is_settled_at}
-use Rattle.bytecode_model.specs.Place.{Place}
+use Rattle.bytecode_model.specs.InsnPlace.{InsnPlace}
 use Rattle.bytecode_model.specs.Rules.{stack_fits, taken, uses_local, made_well, Depth, Operand, Local, goes_well}
 use Rattle.bytecode_model.specs.Wants.{takes, all_met, returns_well}
 use Rattle.code_typing.proofs.OrderLists.{both, stack_itself, same_height, at_below, topmost_below, rest_below, join_below, map_below, stack_over, locals_over}
@@ -27,7 +27,7 @@ either_below : (program : Program) (b : Bool) (t u v w : VType) → assignable p
 either_below program true t u v w e f = e
 either_below program false t u v w e f = f
 
-module _ (place : Place) (order : IsInOrder place.program) (low high : FrameType) (under : IsFrameBelow place.program low high) (met : IsAloneMet place high) where
+module _ (place : InsnPlace) (order : IsInOrder place.program) (low high : FrameType) (under : IsFrameBelow place.program low high) (met : IsAloneMet place high) where
   taken_below : StackBelow place.program (taken place low) (taken place high)
   taken_below = topmost_below place.program (length (takes place)) low.stack high.stack under.stack
 

@@ -10,8 +10,8 @@ use Rattle.insn_codec.specs.declared.shape.Heap.{Heap}
 use Rattle.insn_codec.specs.declared.shape.Heap.TheVariants as heap
 use Rattle.insn_codec.specs.declared.shape.Item.{Item}
 use Rattle.insn_codec.specs.declared.shape.Item.TheVariants as items
-use Rattle.insn_codec.specs.declared.shape.Kind.{Kind}
-use Rattle.insn_codec.specs.declared.shape.Kind.TheVariants as kinds
+use Rattle.insn_codec.specs.declared.shape.ValueKind.{ValueKind}
+use Rattle.insn_codec.specs.declared.shape.ValueKind.TheVariants as kinds
 use Rattle.insn_codec.specs.declared.shape.Shape.{Shape}
 use Rattle.insn_codec.specs.declared.shape.Shape.TheVariants as shapes
 use Rattle.insn_codec.specs.Forms.{depth_of}
@@ -25,7 +25,7 @@ use Rattle.type_lattice.proofs.Orders.{type_over, seen, array_equal, array_first
 use Rattle.bytecode_model.proofs.Upwards.{either_of, or_first, or_second}
 use Rattle.bytecode_model.specs.Described.{arguments, result_type}
 use Rattle.code_typing.specs.Order.{StackBelow}
-use Rattle.bytecode_model.specs.Place.{Place, class_referred, desc_referred, has_receiver, calls_maker, is_own_field}
+use Rattle.bytecode_model.specs.InsnPlace.{InsnPlace, class_referred, desc_referred, has_receiver, calls_maker, is_own_field}
 use Rattle.bytecode_model.specs.Wants.{Want, anything, is_number, is_reference, is_made, is_array_type, is_this, of_kind, to_type, to_class, to_array, to_item, to_written, to_own, to_receiver, to_described, to_arguments, to_result, call_takes, heap_takes, takes_of, all_met}
 use Rattle.code_typing.proofs.OrderLists.{both}
 
@@ -82,7 +82,7 @@ module _ (program : Program) where
   reference_closed t (types.Uninit i) e f = ap is_reference (below_new t i e)
   reference_closed t u e f = absurd cc
 
-  pub kind_closed : (kind : Kind) → IsClosed program (of_kind kind)
+  pub kind_closed : (kind : ValueKind) → IsClosed program (of_kind kind)
   kind_closed kinds.Int t u e f = number_closed t u e f
   kind_closed kinds.Reference t u e f = reference_closed t u e f
 
@@ -142,7 +142,7 @@ module _ (program : Program) (order : IsInOrder program) where
   item_closed items.Char t u e f = number_closed program t u e f
   item_closed items.Short t u e f = number_closed program t u e f
 
-module _ (place : Place) (order : IsInOrder place.program) where
+module _ (place : InsnPlace) (order : IsInOrder place.program) where
   abbrev AllClosed : List Want → Type 0
   AllClosed wants = AllByRecursion (IsClosed place.program) wants
 

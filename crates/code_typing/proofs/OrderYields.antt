@@ -21,7 +21,7 @@ use Rattle.bytecode_model.proofs.Upwards.{either_of, both_of, or_first, or_secon
 use Rattle.bytecode_model.specs.Described.{type_described}
 use Rattle.bytecode_model.specs.Makes.{type_at, moved_from, form_yields, item_type, read_type, heap_yields, yields_of}
 use Rattle.code_typing.specs.Order.{StackBelow, LocalsBelow}
-use Rattle.bytecode_model.specs.Place.{Place}
+use Rattle.bytecode_model.specs.InsnPlace.{InsnPlace}
 use Rattle.bytecode_model.specs.Wants.{Want, to_array, is_number, takes_of, all_met}
 use Rattle.code_typing.proofs.Choices.{some_is}
 use Rattle.code_typing.proofs.OrderLists.{both, stack_itself, at_below, places_below}
@@ -156,7 +156,7 @@ first_met : (want : Want) (wants : List Want) (list : List VType) → all_met (w
 first_met want wants [] e = absurd cc
 first_met want wants (t ∷ list) e = (and_parts _ _ e).0
 
-module _ (place : Place) (order : IsInOrder place.program) (low high : List VType) (under : StackBelow place.program low high) where
+module _ (place : InsnPlace) (order : IsInOrder place.program) (low high : List VType) (under : StackBelow place.program low high) where
   moved_below : (form : StackForm) → StackBelow place.program (form_yields form low) (form_yields form high)
   moved_below form =
       places_below place.program (moved_from (depth_of form) low) (moved_from (depth_of form) high)

@@ -8,7 +8,7 @@ use Rattle.std.proofs.lemmas.List.Sums.{AllPass-from_list_all}
 use Rattle.cert_format.specs.declared.typing.FrameType.{FrameType}
 use Rattle.insn_codec.specs.Control.{successors}
 use Rattle.bytecode_model.specs.declared.program.Handler.{Handler}
-use Rattle.bytecode_model.specs.Place.{Place}
+use Rattle.bytecode_model.specs.InsnPlace.{InsnPlace}
 use Rattle.bytecode_model.specs.Rules.{Frames, frame_of, covers, is_handled, goes_well, catches_well, Successor, Caught, Depth, Operand, Local, Made, rule_failing, row_failing}
 use Rattle.code_typing.proofs.Choices.{passed, is_there}
 
@@ -16,7 +16,7 @@ use Rattle.code_typing.proofs.Choices.{passed, is_there}
 contained : {A : Type 0} (p : A → Bool) (xs : List A) (x : A) → list_all p xs ≡ true → Contains xs x → p x ≡ true
 contained p xs x h c = All-contains (λ y. p y ≡ true) xs x (AllPass-from_list_all p xs h) c
 
-module _ (frames : Frames) (place : Place) (frame : FrameType) where
+module _ (frames : Frames) (place : InsnPlace) (frame : FrameType) where
   pub record Passes : Type 0 where
     pub successor : Successor frames place frame ≡ true
     pub caught : Caught frames place frame ≡ true

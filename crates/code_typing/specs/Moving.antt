@@ -8,7 +8,7 @@ use Rattle.insn_codec.specs.Effect.{Domain, effect}
 use Rattle.insn_codec.specs.Shapes.{shape_of}
 use Rattle.insn_codec.specs.Table.{is_heap}
 use Rattle.bytecode_model.specs.Makes.{type_at, local_after, stack_after}
-use Rattle.bytecode_model.specs.Place.{Place}
+use Rattle.bytecode_model.specs.InsnPlace.{InsnPlace}
 use Rattle.bytecode_model.specs.Rules.{taken, Depth, Operand, Local}
 use Rattle.bytecode_model.specs.Wants.{takes, of_kind, is_made}
 
@@ -30,6 +30,6 @@ padded n locals = map locals (range_with_len 0 n)
 -- afterwards. Its operands have the top first.
 abbrev pub IsEffectTyped : Type 0
 IsEffectTyped =
-    (place : Place) (frame : FrameType) → is_heap (shape_of place.insn) ≡ false → IsTrue (Depth place frame) → IsTrue (Operand place frame) → IsTrue (Local place frame)
+    (place : InsnPlace) (frame : FrameType) → is_heap (shape_of place.insn) ≡ false → IsTrue (Depth place frame) → IsTrue (Operand place frame) → IsTrue (Local place frame)
     → effect types_moved (shape_of place.insn) (padded place.method.max_locals (type_at frame.locals)) (reverse frame.stack)
     ≡ Some (padded place.method.max_locals (local_after place frame.locals (taken place frame)), reverse (stack_after place frame.locals (length (takes place)) frame.stack))

@@ -11,7 +11,7 @@ use Rattle.bytecode_model.specs.declared.program.Program.{Program}
 use Rattle.bytecode_model.specs.Assigning.{assignable}
 use Rattle.bytecode_model.specs.Order.{IsInOrder}
 use Rattle.bytecode_model.specs.Makes.{type_at, local_after, stack_after}
-use Rattle.bytecode_model.specs.Place.{Place}
+use Rattle.bytecode_model.specs.InsnPlace.{InsnPlace}
 use Rattle.bytecode_model.specs.Rules.{stack_fits, taken, Depth, Operand, Local, Made, has_object, leaves_made, goes_well, local_caught}
 use Rattle.bytecode_model.specs.Wants.{takes}
 
@@ -32,48 +32,48 @@ pub record IsFrameBelow (program : Program) (from to : FrameType) : Type 0 where
 
 -- ---- the rules that ask nothing of other instructions
 
-pub record IsAloneMet (place : Place) (frame : FrameType) : Type 0 where
+pub record IsAloneMet (place : InsnPlace) (frame : FrameType) : Type 0 where
   pub depth : IsTrue (Depth place frame)
   pub operand : IsTrue (Operand place frame)
   pub local : IsTrue (Local place frame)
   pub made : IsTrue (Made place frame)
 
 -- Where a rule forbids an object that is not made yet, the frame has none.
-abbrev pub is_settled_at : Place → FrameType → Shape → Bool
+abbrev pub is_settled_at : InsnPlace → FrameType → Shape → Bool
 is_settled_at place frame (shapes.Heap heap.New) = not (has_object (types.Uninit place.at) frame.stack)
 is_settled_at place frame (shapes.Heap (heap.Return None)) = leaves_made place frame
 is_settled_at place frame other = true
 
-abbrev pub is_settled : Place → FrameType → Bool
+abbrev pub is_settled : InsnPlace → FrameType → Bool
 is_settled place frame = is_settled_at place frame (shape_of place.insn)
 
 -- What meets these rules is met by each frame below it that has no such object and so many locals.
 abbrev pub IsAloneKept : Type 0
 IsAloneKept =
-    (place : Place) → IsInOrder place.program → (low high : FrameType) → IsFrameBelow place.program low high → IsAloneMet place high
+    (place : InsnPlace) → IsInOrder place.program → (low high : FrameType) → IsFrameBelow place.program low high → IsAloneMet place high
     → IsTrue (is_settled place low) → length low.locals ≤ place.method.max_locals → IsAloneMet place low
 
 -- ---- what is left
 
 -- What the instruction leaves of the lower frame may stand in the place of what it leaves of the higher one.
-pub record IsLeftBelow (place : Place) (low high : FrameType) : Type 0 where
+pub record IsLeftBelow (place : InsnPlace) (low high : FrameType) : Type 0 where
   pub stack : StackBelow place.program (stack_after place low.locals (length (takes place)) low.stack) (stack_after place high.locals (length (takes place)) high.stack)
   pub locals : LocalsBelow place.program (local_after place low.locals (taken place low)) (local_after place high.locals (taken place high))
 
 abbrev pub IsLeftKept : Type 0
 IsLeftKept =
-    (place : Place) → IsInOrder place.program → (low high : FrameType) → IsFrameBelow place.program low high → IsAloneMet place high → IsLeftBelow place low high
+    (place : InsnPlace) → IsInOrder place.program → (low high : FrameType) → IsFrameBelow place.program low high → IsAloneMet place high → IsLeftBelow place low high
 
 -- Where the higher frame goes well, the lower one does.
 abbrev pub GoesKept : Type 0
 GoesKept =
-    (place : Place) → IsInOrder place.program → (low high to : FrameType) → IsFrameBelow place.program low high → IsAloneMet place high
+    (place : InsnPlace) → IsInOrder place.program → (low high to : FrameType) → IsFrameBelow place.program low high → IsAloneMet place high
     → goes_well place high to ≡ true → goes_well place low to ≡ true
 
 -- What is thrown of the lower frame is below what is thrown of the higher one.
 abbrev pub IsThrownKept : Type 0
 IsThrownKept =
-    (place : Place) → IsInOrder place.program → (low high : FrameType) → IsFrameBelow place.program low high
+    (place : InsnPlace) → IsInOrder place.program → (low high : FrameType) → IsFrameBelow place.program low high
     → LocalsBelow place.program (local_caught low.locals) (local_caught high.locals)
 
 -- ---- the order

@@ -22,7 +22,7 @@ ghost use Rattle.bytecode_model.specs.Wants.{
   is_result_of,
 };
 ghost use Rattle.bytecode_model.specs.Described.{result_type};
-ghost use Rattle.bytecode_model.specs.Place.{class_referred, desc_referred};
+ghost use Rattle.bytecode_model.specs.InsnPlace.{class_referred, desc_referred};
 ghost use Rattle.insn_codec.specs.declared.shape.Heap.TheVariants as heap;
 ghost use Rattle.bytecode_model.specs.Lending.{type_lent};
 
@@ -34,7 +34,7 @@ use frame_types::{
     arguments_text, arity, calls_maker, class_referred, desc_referred, has_receiver, is_this,
     next_type, result_text, result_type,
 };
-use insn_codec::{Heap, How, Item, Kind, Shape, depth_of};
+use insn_codec::{Heap, How, Item, Shape, ValueKind, depth_of};
 use type_lattice::Indexed;
 
 // ---- how many
@@ -271,7 +271,7 @@ fn operands_met(place: &PlaceRef, shape: Shape, types: &[VType]) -> bool
     }
 }
 
-fn is_result_of(kind: Option<Kind>, result_type: Option<TypeRef>) -> bool
+fn is_result_of(kind: Option<ValueKind>, result_type: Option<TypeRef>) -> bool
     ensures { result ≡ is_result_of kind (option_map type_lent result_type.entry) }
 {
     let Some(kind) = kind else {
@@ -281,8 +281,8 @@ fn is_result_of(kind: Option<Kind>, result_type: Option<TypeRef>) -> bool
         return false;
     };
     match kind {
-        Kind::Int => matches!(t, TypeRef::Int),
-        Kind::Reference => {
+        ValueKind::Int => matches!(t, TypeRef::Int),
+        ValueKind::Reference => {
             matches!(
                 t,
                 TypeRef::Ref(_) | TypeRef::Shared(_) | TypeRef::ArrayOf(_)

@@ -2,7 +2,7 @@
 
 ghost use Rattle.std.specs.Prelude.{◌≡◌, IsTrue, option_copied, option_map, slice_get, true};
 ghost use Rattle.insn_codec.specs.Shapes.{shape_of};
-ghost use Rattle.bytecode_model.specs.Place.{is_own_field};
+ghost use Rattle.bytecode_model.specs.InsnPlace.{is_own_field};
 ghost use Rattle.bytecode_model.specs.Typed.{place_at};
 ghost use Rattle.code_typing.specs.Catching.{all_take_thrown};
 
@@ -32,9 +32,9 @@ impl<'a> Model for PlaceRef<'a> {
     ghost use Rattle.std.specs.Prelude.{◌≡◌, IsTrue, true};
     ghost use Rattle.code_typing.specs.Catching.{all_take_thrown};
     ghost use Rattle.insn_codec.specs.Shapes.{shape_of};
-    ghost use Rattle.bytecode_model.specs.Place.{Place, target_or_none};
+    ghost use Rattle.bytecode_model.specs.InsnPlace.{InsnPlace, target_or_none};
 
-    ghost Value = { Place };
+    ghost Value = { InsnPlace };
 
     ghost view = { λ p. record {
       program = p.program.now;

@@ -7,7 +7,7 @@ ghost use Rattle.bytecode_model.specs.Sound.{IsSound, IsSoundClass, IsSoundMetho
 ghost use Rattle.bytecode_model.specs.Rules.{Frames};
 ghost use Rattle.code_typing.specs.First.{first_row, method_fault, methods_fault, classes_fault, typing_fault};
 ghost use Rattle.bytecode_model.specs.Typed.{IsTyped, row_in, row_fault, frames_in, frames_told};
-ghost use Rattle.bytecode_model.specs.Shape.{coded};
+ghost use Rattle.bytecode_model.specs.Layout.{coded};
 ghost use Rattle.code_typing.specs.Catching.{all_take_thrown};
 
 use crate::fault::TypeFault;

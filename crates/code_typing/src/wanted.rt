@@ -7,14 +7,14 @@ ghost use Rattle.code_typing.specs.Wanted.{want_of};
 use bytecode_model::lend;
 use cert_format::VType;
 use frame_types::{is_array_type, is_made, is_number, of_kind, without_last};
-use insn_codec::{Item, Kind};
+use insn_codec::{Item, ValueKind};
 use type_lattice::{Indexed, fits_class};
 
 /// What is wanted of an operand.
 #[derive(Clone, Copy)]
 pub enum Wanted<'a> {
     Number,
-    Kind(Kind),
+    Kind(ValueKind),
     /// An object that is made, or null.
     Made,
     Array,

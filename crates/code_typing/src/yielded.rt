@@ -6,7 +6,7 @@ ghost use Rattle.bytecode_model.specs.Makes.{moved_from, call_yields, heap_yield
 ghost use Rattle.bytecode_model.specs.Rules.{stack_fits};
 ghost use Rattle.cert_format.specs.declared.typing.VType.{VType};
 ghost use Rattle.bytecode_model.specs.Described.{result_type};
-ghost use Rattle.bytecode_model.specs.Place.{desc_referred};
+ghost use Rattle.bytecode_model.specs.InsnPlace.{desc_referred};
 
 use crate::place::PlaceRef;
 use bytecode_model::TypeRef;

@@ -6,7 +6,7 @@ ghost use Rattle.bytecode_model.specs.Wants.{is_number, is_reference, is_made, i
 
 use bytecode_model::is_array;
 use cert_format::VType;
-use insn_codec::Kind;
+use insn_codec::ValueKind;
 
 /// Whether it is a number.
 pub fn is_number(t: &VType) -> bool
@@ -56,11 +56,11 @@ pub fn is_this(t: &VType) -> bool
 }
 
 /// Whether it is of the kind, as a load or a store tells it.
-pub fn of_kind(kind: Kind, t: &VType) -> bool
+pub fn of_kind(kind: ValueKind, t: &VType) -> bool
     ensures { result ≡ of_kind kind t.now }
 {
     match kind {
-        Kind::Int => is_number(t),
-        Kind::Reference => is_reference(t),
+        ValueKind::Int => is_number(t),
+        ValueKind::Reference => is_reference(t),
     }
 }

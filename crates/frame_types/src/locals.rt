@@ -10,10 +10,10 @@ ghost use Rattle.bytecode_model.specs.Wants.{of_kind};
 use crate::kinds::of_kind;
 use bytecode_model::Method;
 use cert_format::VType;
-use insn_codec::{Kind, Shape};
+use insn_codec::{Shape, ValueKind};
 
 /// Whether the local in the place is of the kind.
-fn holds_kind(kind: Kind, locals: &[VType], slot: u16) -> bool
+fn holds_kind(kind: ValueKind, locals: &[VType], slot: u16) -> bool
     ensures { result ≡ of_kind kind (type_at locals.now slot) }
 {
     let Some(t) = locals.get(usize::from(slot)) else {
@@ -30,7 +30,7 @@ pub fn uses_local(method: &Method, locals: &[VType], shape: Shape) -> bool
         Shape::Load { kind, slot } => slot < method.max_locals && holds_kind(kind, locals, slot),
         Shape::Store { slot, .. } => slot < method.max_locals,
         Shape::Increment { slot, .. } => {
-            slot < method.max_locals && holds_kind(Kind::Int, locals, slot)
+            slot < method.max_locals && holds_kind(ValueKind::Int, locals, slot)
         }
         _ => true,
     }

@@ -1,7 +1,7 @@
 //! What a method and a call tell of the object that they are called on.
 
 ghost use Rattle.std.specs.Prelude.{◌≡◌};
-ghost use Rattle.bytecode_model.specs.Place.{has_receiver, is_maker};
+ghost use Rattle.bytecode_model.specs.InsnPlace.{has_receiver, is_maker};
 
 use bytecode_model::Method;
 use insn_codec::How;

@@ -1,7 +1,7 @@
 //! An instruction in its place, and what its operand names. (The Java Virtual Machine Specification, section 4.4.2.)
 
 ghost use Rattle.std.specs.Prelude.{◌≡◌};
-ghost use Rattle.bytecode_model.specs.Place.{calls_maker, class_referred, desc_referred, name_referred};
+ghost use Rattle.bytecode_model.specs.InsnPlace.{calls_maker, class_referred, desc_referred, name_referred};
 
 use bytecode_model::{LinkedClass, Method, Program, Target, index_of};
 use class_codec::reference_at;
@@ -23,9 +23,9 @@ pub struct InsnRef<'a> {
 
 impl<'a> Model for InsnRef<'a> {
     ghost use Rattle.std.specs.Prelude.{option_copied};
-    ghost use Rattle.bytecode_model.specs.Place.{Place, target_or_none};
+    ghost use Rattle.bytecode_model.specs.InsnPlace.{InsnPlace, target_or_none};
 
-    ghost Value = { Place };
+    ghost Value = { InsnPlace };
 
     ghost view = { λ p. record {
       program = p.program.now;

@@ -4,7 +4,7 @@ ghost use Rattle.std.specs.Prelude.{◌≡◌, option_copied};
 ghost use Rattle.cert_format.specs.declared.typing.VType.TheVariants.{Ref};
 ghost use Rattle.bytecode_model.specs.Lending.{type_lent};
 ghost use Rattle.bytecode_model.specs.Makes.{array_named, constant_type, item_type, read_type};
-ghost use Rattle.bytecode_model.specs.Place.{class_of, target_or_none};
+ghost use Rattle.bytecode_model.specs.InsnPlace.{class_of, target_or_none};
 
 use crate::described::type_described;
 use bytecode_model::{Target, TypeRef};

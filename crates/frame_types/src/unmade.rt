@@ -5,7 +5,7 @@ ghost use Rattle.std.specs.Prelude.{◌≡◌, option_copied};
 ghost use Rattle.cert_format.specs.declared.typing.VType.TheVariants.{UninitThis, Uninit};
 ghost use Rattle.insn_codec.specs.Shapes.{shape_of};
 ghost use Rattle.bytecode_model.specs.Makes.{is_same_object, made_by, new_at};
-ghost use Rattle.bytecode_model.specs.Place.{target_or_none};
+ghost use Rattle.bytecode_model.specs.InsnPlace.{target_or_none};
 ghost use Rattle.bytecode_model.specs.Rules.{has_object};
 
 use crate::kinds::is_this;

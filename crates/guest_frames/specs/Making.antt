@@ -1,6 +1,6 @@
 -- Numbers that are made of operands, and of a local. (docs/MACHINE.md)
 use Rattle.std.specs.Prelude.{ℕ, ℤ, List, ◌∷◌, drop, Option, option_and_then, option_map}
-use Rattle.insn_codec.specs.declared.shape.Kind.TheVariants as kinds
+use Rattle.insn_codec.specs.declared.shape.ValueKind.TheVariants as kinds
 use Rattle.insn_codec.specs.declared.shape.One.{One}
 use Rattle.insn_codec.specs.declared.shape.Two.{Two}
 use Rattle.insn_codec.specs.declared.shape.Two.TheVariants as twos

@@ -3,8 +3,8 @@ use Rattle.std.specs.Prelude.{ℕ, ℤ, pos, ◌^◌, ◌/◌, ◌%◌, ◌==◌
 use Rattle.std.specs.Int.{w8, w16, w32, cast_signed, cast_unsigned, int_wrapping_add, int_wrapping_sub, int_wrapping_mul, int_wrapping_neg, int_bit_and, int_bit_or, int_bit_xor, int_shl, int_shr}
 use Rattle.guest_heap.specs.declared.value.Value.{Value}
 use Rattle.guest_heap.specs.declared.value.Value.TheVariants as values
-use Rattle.insn_codec.specs.declared.shape.Kind.{Kind}
-use Rattle.insn_codec.specs.declared.shape.Kind.TheVariants as kinds
+use Rattle.insn_codec.specs.declared.shape.ValueKind.{ValueKind}
+use Rattle.insn_codec.specs.declared.shape.ValueKind.TheVariants as kinds
 use Rattle.insn_codec.specs.declared.shape.One.{One}
 use Rattle.insn_codec.specs.declared.shape.One.TheVariants as one
 use Rattle.insn_codec.specs.declared.shape.Two.{Two}
@@ -57,7 +57,7 @@ made_of_one one.ToByte x = cast_signed w8 (cast_unsigned w32 x % 2 ^ 8)
 made_of_one one.ToChar x = pos (cast_unsigned w32 x % 2 ^ 16)
 made_of_one one.ToShort x = cast_signed w16 (cast_unsigned w32 x % 2 ^ 16)
 
-abbrev pub fits : Kind → Value → Bool
+abbrev pub fits : ValueKind → Value → Bool
 fits kinds.Int v = is_number v
 fits kinds.Reference v = is_reference v
 

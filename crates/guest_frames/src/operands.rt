@@ -15,7 +15,7 @@ ghost use Rattle.guest_frames.specs.Room.{held_by, left_on, with_items};
 
 use crate::numbers::{made_of_one, made_of_two};
 use guest_heap::{Stack, Value};
-use insn_codec::{Kind, One, Shape, StackForm, Two, depth_of};
+use insn_codec::{One, Shape, StackForm, Two, ValueKind, depth_of};
 use mon_base::List;
 
 /// Does to locals and operands what the shape says, where what it takes is there and there is room; and whether it did.
@@ -34,16 +34,16 @@ pub fn effect(shape: Shape, locals: &mut List<Value>, stack: &mut Stack) -> bool
         Shape::Two(op) => two(op, stack),
         Shape::One(op) => one(op, stack),
         Shape::Increment { slot, by } => increment(slot, by, locals),
-        Shape::Test { .. } | Shape::Switch => without_one(Kind::Int, stack),
-        Shape::Compare { .. } => without_two(Kind::Int, stack),
-        Shape::CompareReferences { .. } => without_two(Kind::Reference, stack),
-        Shape::TestNull { .. } => without_one(Kind::Reference, stack),
+        Shape::Test { .. } | Shape::Switch => without_one(ValueKind::Int, stack),
+        Shape::Compare { .. } => without_two(ValueKind::Int, stack),
+        Shape::CompareReferences { .. } => without_two(ValueKind::Reference, stack),
+        Shape::TestNull { .. } => without_one(ValueKind::Reference, stack),
         Shape::Heap(_) => false,
     }
 }
 
 /// Whether the value is a number, or else a reference or null.
-pub fn fits(kind: Kind, value: Value) -> bool
+pub fn fits(kind: ValueKind, value: Value) -> bool
     ensures { result ≡ fits kind value }
 {
     let is_number = match value {
@@ -51,13 +51,13 @@ pub fn fits(kind: Kind, value: Value) -> bool
         Value::Null | Value::Ref(_) | Value::Class(_) | Value::Lit(_) => false,
     };
     match kind {
-        Kind::Int => is_number,
-        Kind::Reference => !is_number,
+        ValueKind::Int => is_number,
+        ValueKind::Reference => !is_number,
     }
 }
 
 /// The operand at this depth, where it is of the kind.
-fn operand(kind: Kind, depth: u8, stack: &Stack) -> Option<Value>
+fn operand(kind: ValueKind, depth: u8, stack: &Stack) -> Option<Value>
     ensures { result ≡ operand values_moved kind depth stack.now.items }
 {
     let value = stack.get(depth)?;
@@ -68,7 +68,7 @@ fn operand(kind: Kind, depth: u8, stack: &Stack) -> Option<Value>
 }
 
 /// The local, where it is one, and of the kind.
-fn local(kind: Kind, slot: u16, locals: &List<Value>) -> Option<Value>
+fn local(kind: ValueKind, slot: u16, locals: &List<Value>) -> Option<Value>
     ensures { result ≡ local values_moved kind slot locals.now }
 {
     let found = locals.as_slice().get(slot as usize)?;
@@ -91,7 +91,7 @@ fn push(stack: &mut Stack, value: Value) -> bool
 }
 
 /// Puts the local on top.
-fn load(kind: Kind, slot: u16, locals: &List<Value>, stack: &mut Stack) -> bool
+fn load(kind: ValueKind, slot: u16, locals: &List<Value>, stack: &mut Stack) -> bool
     ensures { Became result stack.old stack.new
         (left_on stack.old (option_map (λ (v : Value). v ∷ stack.old.items) (local values_moved kind slot locals.now))) }
 {
@@ -102,7 +102,7 @@ fn load(kind: Kind, slot: u16, locals: &List<Value>, stack: &mut Stack) -> bool
 }
 
 /// Puts the top operand into the local.
-fn store(kind: Kind, slot: u16, locals: &mut List<Value>, stack: &mut Stack) -> bool
+fn store(kind: ValueKind, slot: u16, locals: &mut List<Value>, stack: &mut Stack) -> bool
     ensures { Became result (locals.old, stack.old) (locals.new, stack.new)
         (held_by stack.old (effect values_moved (shapes.Store kind slot) locals.old stack.old.items)) }
 {
@@ -121,7 +121,7 @@ fn store(kind: Kind, slot: u16, locals: &mut List<Value>, stack: &mut Stack) -> 
 fn increment(slot: u16, by: i16, locals: &mut List<Value>) -> bool
     ensures { Became result locals.old locals.new (incremented slot by locals.old) }
 {
-    let Some(Value::Int(n)) = local(Kind::Int, slot, locals) else {
+    let Some(Value::Int(n)) = local(ValueKind::Int, slot, locals) else {
         return false;
     };
     *locals.item_mut(slot as usize) = Value::Int(made_of_two(Two::Add, n, by as i32));
@@ -132,10 +132,10 @@ fn increment(slot: u16, by: i16, locals: &mut List<Value>) -> bool
 fn two(op: Two, stack: &mut Stack) -> bool
     ensures { Became result stack.old stack.new (left_on stack.old (made_of_tops op stack.old.items)) }
 {
-    let Some(Value::Int(y)) = operand(Kind::Int, 0, stack) else {
+    let Some(Value::Int(y)) = operand(ValueKind::Int, 0, stack) else {
         return false;
     };
-    let Some(Value::Int(x)) = operand(Kind::Int, 1, stack) else {
+    let Some(Value::Int(x)) = operand(ValueKind::Int, 1, stack) else {
         return false;
     };
     stack.drop_top(2);
@@ -147,7 +147,7 @@ fn two(op: Two, stack: &mut Stack) -> bool
 fn one(op: One, stack: &mut Stack) -> bool
     ensures { Became result stack.old stack.new (left_on stack.old (made_of_top op stack.old.items)) }
 {
-    let Some(Value::Int(x)) = operand(Kind::Int, 0, stack) else {
+    let Some(Value::Int(x)) = operand(ValueKind::Int, 0, stack) else {
         return false;
     };
     stack.drop_top(1);
@@ -156,7 +156,7 @@ fn one(op: One, stack: &mut Stack) -> bool
 }
 
 /// Drops the top operand, where it is of the kind.
-fn without_one(kind: Kind, stack: &mut Stack) -> bool
+fn without_one(kind: ValueKind, stack: &mut Stack) -> bool
     ensures { Became result stack.old stack.new (left_on stack.old (without_one values_moved kind stack.old.items)) }
 {
     let is_there = operand(kind, 0, stack).is_some();
@@ -167,7 +167,7 @@ fn without_one(kind: Kind, stack: &mut Stack) -> bool
 }
 
 /// Drops the two topmost operands, where they are of the kind.
-fn without_two(kind: Kind, stack: &mut Stack) -> bool
+fn without_two(kind: ValueKind, stack: &mut Stack) -> bool
     ensures { Became result stack.old stack.new (left_on stack.old (without_two values_moved kind stack.old.items)) }
 {
     let are_there = operand(kind, 0, stack).is_some() && operand(kind, 1, stack).is_some();

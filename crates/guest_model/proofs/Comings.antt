@@ -8,8 +8,8 @@ use Rattle.class_codec.specs.declared.tree.Member.{Member}
 use Rattle.insn_codec.specs.declared.shape.Heap.{Heap}
 use Rattle.insn_codec.specs.declared.shape.Heap.TheVariants as heap
 use Rattle.insn_codec.specs.declared.shape.Item.{Item}
-use Rattle.insn_codec.specs.declared.shape.Kind.{Kind}
-use Rattle.insn_codec.specs.declared.shape.Kind.TheVariants as kinds
+use Rattle.insn_codec.specs.declared.shape.ValueKind.{ValueKind}
+use Rattle.insn_codec.specs.declared.shape.ValueKind.TheVariants as kinds
 use Rattle.bytecode_model.specs.declared.program.LinkedClass.{LinkedClass}
 use Rattle.bytecode_model.specs.declared.program.Program.{Program}
 use Rattle.bytecode_model.specs.declared.program.Target.{Target}
@@ -158,7 +158,7 @@ module _ (OfValue : Value → Type 0) (OfObject : Object → Type 0) (OfWorld : 
   number_there : (items : List Value) (i : ℕ) → Each items → IfThere OfNumber (number_operand items i)
   number_there items i all = if_then OfNumber number_in (slice_get items i) (λ v e. of_number v (all_get OfValue items i v all e))
 
-  operand_there : (kind : Kind) (items : List Value) (i : ℕ) → Each items → IfThere OfValue (operand_of kind items i)
+  operand_there : (kind : ValueKind) (items : List Value) (i : ℕ) → Each items → IfThere OfValue (operand_of kind items i)
   operand_there kind items i all =
       if_then OfValue _ (slice_get items i)
       (λ v e. if_either OfValue (fits kind v) _ _ (if_some OfValue v (all_get OfValue items i v all e)) (if_none OfValue))

@@ -4,8 +4,8 @@ use Rattle.std.specs.Prelude.{slice_get, slice_set, option_map, nat_lt, nat_le}
 use Rattle.std.specs.List.{AllByRecursion, filter_map, cons_option}
 use Rattle.std.proofs.lemmas.Option.{cond_some}
 use Rattle.insn_codec.specs.declared.forms.StackForm.{StackForm}
-use Rattle.insn_codec.specs.declared.shape.Kind.{Kind}
-use Rattle.insn_codec.specs.declared.shape.Kind.TheVariants as kinds
+use Rattle.insn_codec.specs.declared.shape.ValueKind.{ValueKind}
+use Rattle.insn_codec.specs.declared.shape.ValueKind.TheVariants as kinds
 use Rattle.insn_codec.specs.declared.shape.One.{One}
 use Rattle.insn_codec.specs.declared.shape.Shape.{Shape}
 use Rattle.insn_codec.specs.declared.shape.Shape.TheVariants as shapes
@@ -52,7 +52,7 @@ module _ {V : Type 0} (d : Domain V) (P : V → Type 0) where
   some_moved : (x y : Moved V) → ◌≡◌ {A = Option (Moved V)} (Some x) (Some y) → x ≡ y
   some_moved x y h = cc
 
-  of_operand : (kind : Kind) (i : ℕ) (values : List V) (v : V) → Each values → operand d kind i values ≡ Some v → P v
+  of_operand : (kind : ValueKind) (i : ℕ) (values : List V) (v : V) → Each values → operand d kind i values ≡ Some v → P v
   of_operand kind i values v all e =
       let a = and_then_of (of_kind d kind) (slice_get values i) v e in
       let c = cond_some (d.fits kind a.0) a.0 v a.2 in
@@ -81,11 +81,11 @@ module _ {V : Type 0} (d : Domain V) (P : V → Type 0) where
       (all_append P (filter_map (slice_get stack) (order_of form)) (drop (depth_of form) stack) (picked_kept stack (order_of form) all)
       (all_drop P (depth_of form) stack all))
 
-  one_left : (kind : Kind) (stack left : List V) → Each stack → without_one d kind stack ≡ Some left → Each left
+  one_left : (kind : ValueKind) (stack left : List V) → Each stack → without_one d kind stack ≡ Some left → Each left
   one_left kind stack left all e =
       let m = map_of (λ (v : V). drop 1 stack) (operand d kind 0 stack) left e in subst Each m.2 (all_drop P 1 stack all)
 
-  two_left : (kind : Kind) (stack left : List V) → Each stack → without_two d kind stack ≡ Some left → Each left
+  two_left : (kind : ValueKind) (stack left : List V) → Each stack → without_two d kind stack ≡ Some left → Each left
   two_left kind stack left all e =
       let a = and_then_of (λ (v : V). option_map (λ (w : V). drop 2 stack) (operand d kind 1 stack)) (operand d kind 0 stack) left e in
       let m = map_of (λ (w : V). drop 2 stack) (operand d kind 1 stack) left a.2 in

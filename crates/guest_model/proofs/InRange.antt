@@ -7,7 +7,7 @@ use Rattle.api_listing.specs.declared.events.Event.{Event}
 use Rattle.insn_codec.specs.declared.insn.Insn.{Insn}
 use Rattle.insn_codec.specs.declared.shape.Heap.{Heap}
 use Rattle.insn_codec.specs.declared.shape.Heap.TheVariants as heap
-use Rattle.insn_codec.specs.declared.shape.Kind.{Kind}
+use Rattle.insn_codec.specs.declared.shape.ValueKind.{ValueKind}
 use Rattle.insn_codec.specs.Control.{next_of}
 use Rattle.insn_codec.specs.Effect.{Moved, effect}
 use Rattle.insn_codec.specs.Shapes.{shape_of}
@@ -108,7 +108,7 @@ NamesWords program =
 abbrev ResultWords : Option Value → Type 0
 ResultWords result = AreWords (option_to_list result)
 
-result_words : (kind : Option Kind) (items : List Value) → AreWords items → IfThere ResultWords (result_of kind items)
+result_words : (kind : Option ValueKind) (items : List Value) → AreWords items → IfThere ResultWords (result_of kind items)
 result_words None items all = if_some ResultWords None tt
 result_words (Some kind) items all =
     if_then ResultWords _ (slice_get items 0)
@@ -161,7 +161,7 @@ module _ (program : Program) (insns : HasInsns program) (names : NamesWords prog
         (if_mapped IsGood _ (class_of_value world.heap v)
         (λ class e. throws_good program world a.number a.thread (a.frame ∷ a.below) v class None words word (frame, below) tt))
 
-    returns_good : (world : World) (kind : Option Kind) → WorldWords world → GoodIf program (returns program world a kind)
+    returns_good : (world : World) (kind : Option ValueKind) → WorldWords world → GoodIf program (returns program world a kind)
     returns_good world kind words =
         if_then IsGood _ (result_of kind a.frame.stack.items)
         (λ result e. returned_good program _ a.thread a.below result None (held_words world _ words) below

@@ -8,7 +8,7 @@ use Rattle.api_listing.specs.declared.events.Event.TheVariants as events
 use Rattle.insn_codec.specs.declared.insn.Insn.{Insn}
 use Rattle.insn_codec.specs.declared.shape.Heap.{Heap}
 use Rattle.insn_codec.specs.declared.shape.Heap.TheVariants as heap
-use Rattle.insn_codec.specs.declared.shape.Kind.{Kind}
+use Rattle.insn_codec.specs.declared.shape.ValueKind.{ValueKind}
 use Rattle.insn_codec.specs.declared.shape.Shape.{Shape}
 use Rattle.insn_codec.specs.declared.shape.Shape.TheVariants as shapes
 use Rattle.insn_codec.specs.Control.{next_of}
@@ -98,7 +98,7 @@ module _ (program : Program) (reached : Places) (sound : HasInsns program) (clos
         (if_mapped IsGood _ (class_of_value world.heap v)
         (λ class e. throws_good program reached closed world a.number a.thread (a.frame ∷ a.below) v class None stands tt))
 
-    returns_good : (world : World) (kind : Option Kind) → GoodIf (returns program world a kind)
+    returns_good : (world : World) (kind : Option ValueKind) → GoodIf (returns program world a kind)
     returns_good world kind =
         if_then IsGood _ (result_of kind a.frame.stack.items)
         (λ result e. returned_good program reached sound closed _ a.thread a.below result None stands.stand.1 stands.wait tt)

@@ -29,8 +29,8 @@ use Rattle.std.proofs.lemmas.Bool.{lt-ltb}
 use Rattle.api_listing.specs.declared.types.ListedClass.{ListedClass}
 use Rattle.insn_codec.specs.declared.shape.Heap.TheVariants as heap
 use Rattle.insn_codec.specs.declared.shape.Item.{Item}
-use Rattle.insn_codec.specs.declared.shape.Kind.{Kind}
-use Rattle.insn_codec.specs.declared.shape.Kind.TheVariants as kinds
+use Rattle.insn_codec.specs.declared.shape.ValueKind.{ValueKind}
+use Rattle.insn_codec.specs.declared.shape.ValueKind.TheVariants as kinds
 use Rattle.bytecode_model.specs.declared.program.LinkedClass.{LinkedClass}
 use Rattle.bytecode_model.specs.declared.program.Program.{Program}
 use Rattle.bytecode_model.specs.declared.program.Target.{Target}
@@ -147,7 +147,7 @@ items_some item heap (values.Class index) f h each = absurd h
 items_some item heap (values.Lit index) f h each = absurd h
 
 -- the topmost operand, where it is of the kind
-operand_some : (kind : Kind) (v : Value) (below : List Value) → IsOf kind v → IsSome (operand_of kind (v ∷ below) 0)
+operand_some : (kind : ValueKind) (v : Value) (below : List Value) → IsOf kind v → IsSome (operand_of kind (v ∷ below) 0)
 operand_some kind v below h = if_true (fits kind v) (Some v) h refl
 
 reference_is : (v : Value) → IsReference v → IsOf kinds.Reference v

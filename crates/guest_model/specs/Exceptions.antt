@@ -12,7 +12,7 @@ use Rattle.guest_model.specs.declared.thrown.Thrown.TheVariants as thrown
 abbrev pub name_of : Thrown → Name
 name_of thrown.NullPointer = null_pointer
 name_of thrown.Division = bad_division
-name_of thrown.Place = bad_place
+name_of thrown.Bounds = bad_place
 name_of thrown.Item = bad_item
 name_of thrown.Size = bad_size
 name_of thrown.Cast = bad_cast

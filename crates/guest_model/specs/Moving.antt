@@ -31,8 +31,8 @@ use Rattle.insn_codec.specs.declared.shape.Heap.TheVariants as heap
 use Rattle.insn_codec.specs.declared.shape.How.{How}
 use Rattle.insn_codec.specs.declared.shape.How.TheVariants as hows
 use Rattle.insn_codec.specs.declared.shape.Item.{Item}
-use Rattle.insn_codec.specs.declared.shape.Kind.{Kind}
-use Rattle.insn_codec.specs.declared.shape.Kind.TheVariants as kinds
+use Rattle.insn_codec.specs.declared.shape.ValueKind.{ValueKind}
+use Rattle.insn_codec.specs.declared.shape.ValueKind.TheVariants as kinds
 use Rattle.insn_codec.specs.Shapes.{shape_of}
 use Rattle.bytecode_model.specs.declared.program.LinkedClass.{LinkedClass}
 use Rattle.bytecode_model.specs.declared.program.Program.{Program}
@@ -100,7 +100,7 @@ HasItems item (objects.Array desc items) = IsTrue (has_items item desc)
 HasItems item (objects.Text text) = ⊥
 
 -- The value is a number, or else a reference or null.
-abbrev pub IsOf : Kind → Value → Type 0
+abbrev pub IsOf : ValueKind → Value → Type 0
 IsOf kind v = IsTrue (fits kind v)
 
 -- The value is null, or of an object that is there.
@@ -332,13 +332,13 @@ abbrev pub HasRoom : ℕ → List Frame → Type 0
 HasRoom results [] = Unit {0}
 HasRoom results (caller ∷ below) = results + length caller.stack.items ≤ caller.stack.size
 
-abbrev pub CanReturn : Option Kind → List Value → List Frame → Type 0
+abbrev pub CanReturn : Option ValueKind → List Value → List Frame → Type 0
 CanReturn None items below = HasRoom 0 below
 CanReturn (Some kinds.Int) items below = HasOne IsNumber items × HasRoom 1 below
 CanReturn (Some kinds.Reference) items below = HasOne IsReference items × HasRoom 1 below
 
 abbrev pub ReturningSteps : Type 0
-ReturningSteps = (program : Program) (machine : Machine) (a : Acting) (kind : Option Kind) (ref : Target)
+ReturningSteps = (program : Program) (machine : Machine) (a : Acting) (kind : Option ValueKind) (ref : Target)
     → CanReturn kind a.frame.stack.items a.below
     → IsSome (heap_stepped program machine a (heap.Return kind) ref)
 

@@ -1,6 +1,6 @@
 -- What a step is made of: threads that go on, what instructions do to their frame, name, return and throw. (docs/MACHINE.md)
 use Rattle.std.specs.Prelude.{ℕ, ℤ, codes, if◌then◌else◌, List, [], ◌∷◌, length, Option, Some, None, option_map, option_and_then, slice_get}
-use Rattle.insn_codec.specs.declared.shape.Kind.{Kind}
+use Rattle.insn_codec.specs.declared.shape.ValueKind.{ValueKind}
 use Rattle.bytecode_model.specs.declared.program.Program.{Program}
 use Rattle.bytecode_model.specs.declared.program.Target.{Target}
 use Rattle.bytecode_model.specs.declared.program.Target.TheVariants as target
@@ -49,7 +49,7 @@ constant_value program (target.Field class field) = None
 constant_value program (target.ApiField index) = None
 
 -- the result of a return, where it is of the kind that the instruction returns
-abbrev pub result_of : Option Kind → List Value → Option (Option Value)
+abbrev pub result_of : Option ValueKind → List Value → Option (Option Value)
 result_of None items = Some None
 result_of (Some kind) items = option_and_then (λ v. if fits kind v then Some (Some v) else None) (slice_get items 0)
 

@@ -6,7 +6,7 @@ use Rattle.api_listing.specs.declared.events.Event.TheVariants as events
 use Rattle.insn_codec.specs.declared.insn.Insn.{Insn}
 use Rattle.insn_codec.specs.declared.shape.Heap.{Heap}
 use Rattle.insn_codec.specs.declared.shape.Heap.TheVariants as heap
-use Rattle.insn_codec.specs.declared.shape.Kind.{Kind}
+use Rattle.insn_codec.specs.declared.shape.ValueKind.{ValueKind}
 use Rattle.insn_codec.specs.declared.shape.Shape.{Shape}
 use Rattle.insn_codec.specs.declared.shape.Shape.TheVariants as shapes
 use Rattle.insn_codec.specs.Shapes.{shape_of}
@@ -83,7 +83,7 @@ leaves program world a on = if is_null on then Some (acts_throwing program world
 
 -- ---- returns
 
-abbrev pub returns : Program → World → Acting → Option Kind → Option Change
+abbrev pub returns : Program → World → Acting → Option ValueKind → Option Change
 returns program world a kind =
     option_and_then (λ result. returned program (with_monitors world (all_given_up world.monitors a.number (option_to_list a.frame.lock))) a.thread a.below result None)
     (result_of kind a.frame.stack.items)

@@ -7,8 +7,8 @@ use Rattle.insn_codec.specs.declared.shape.Heap.{Heap}
 use Rattle.insn_codec.specs.declared.shape.Heap.TheVariants as heap
 use Rattle.insn_codec.specs.declared.shape.Item.{Item}
 use Rattle.insn_codec.specs.declared.shape.Item.TheVariants as items
-use Rattle.insn_codec.specs.declared.shape.Kind.{Kind}
-use Rattle.insn_codec.specs.declared.shape.Kind.TheVariants as kinds
+use Rattle.insn_codec.specs.declared.shape.ValueKind.{ValueKind}
+use Rattle.insn_codec.specs.declared.shape.ValueKind.TheVariants as kinds
 use Rattle.insn_codec.specs.declared.shape.One.TheVariants as one
 use Rattle.bytecode_model.specs.declared.program.LinkedClass.{LinkedClass}
 use Rattle.bytecode_model.specs.declared.program.Program.{Program}
@@ -105,7 +105,7 @@ abbrev pub on_items : Item → List Object → Value → (ArrayAt → Worked) �
 on_items item heap array f = on_array heap array (λ (a : ArrayAt). if has_items item a.desc then f a else None)
 
 -- what such an item is: a reference, or a number
-abbrev pub item_kind : Item → Kind
+abbrev pub item_kind : Item → ValueKind
 item_kind items.Int = kinds.Int
 item_kind items.Reference = kinds.Reference
 item_kind items.Byte = kinds.Int
@@ -158,7 +158,7 @@ item_written program world array place value items =
     else Some (Err bad_item)
 
 -- the operand at this depth, where it is of the kind
-abbrev pub operand_of : Kind → List Value → ℕ → Option Value
+abbrev pub operand_of : ValueKind → List Value → ℕ → Option Value
 operand_of kind operands i = option_and_then (λ (v : Value). if fits kind v then Some v else None) (slice_get operands i)
 
 abbrev pub writes_item : Item → Program → World → List Value → Worked

@@ -11,7 +11,7 @@ pub enum Thrown {
     /// A number is divided by 0.
     Division,
     /// An array has no such place.
-    Place,
+    Bounds,
     /// An array may not hold such an object.
     Item,
     /// An array is to have less than no items.
@@ -32,7 +32,7 @@ impl Thrown {
         match self {
             Thrown::NullPointer => b"java/lang/NullPointerException",
             Thrown::Division => b"java/lang/ArithmeticException",
-            Thrown::Place => b"java/lang/ArrayIndexOutOfBoundsException",
+            Thrown::Bounds => b"java/lang/ArrayIndexOutOfBoundsException",
             Thrown::Item => b"java/lang/ArrayStoreException",
             Thrown::Size => b"java/lang/NegativeArraySizeException",
             Thrown::Cast => b"java/lang/ClassCastException",

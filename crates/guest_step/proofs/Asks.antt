@@ -19,7 +19,7 @@ use Rattle.guest_model.specs.Calls.{types_of}
 use Rattle.guest_model.specs.Changes.{Change, World}
 use Rattle.guest_model.specs.Enabled.{IsEnabled, MayStep}
 use Rattle.guest_model.specs.Stepping.{is_on_null}
-use Rattle.guest_tables.specs.declared.library.Gives.{Gives}
+use Rattle.guest_tables.specs.declared.library.ListedResult.{ListedResult}
 use Rattle.guest_step.specs.Fitting.{method_takes}
 use Rattle.guest_tables.specs.Library.{gives}
 use Rattle.guest_step.specs.Asking.{EnabledAreSteps, FittingAreSteps, doing_takes, is_enabled, takes_answer}
@@ -57,7 +57,7 @@ module _ (program : Program) (machine : Machine) (number : ℕ) where
 -- the test of the definition, over the method rather than over what it gives
 over : (program : Program) (heap : List Object) (receiver : Option Value) (arguments : List Value) (answer : ApiAnswer) (o : Option ListedMethod)
     → option_map_or (λ (listed : ListedMethod). answer_fits program heap (types_of listed.id.desc).result receiver arguments answer) o false
-    ≡ option_map_or (λ (result : Gives). answer_fits program heap result.of receiver arguments answer) (option_map (λ (listed : ListedMethod). gives listed.id.desc) o) false
+    ≡ option_map_or (λ (result : ListedResult). answer_fits program heap result.of receiver arguments answer) (option_map (λ (listed : ListedMethod). gives listed.id.desc) o) false
 over program heap receiver arguments answer None = refl
 over program heap receiver arguments answer (Some listed) = refl
 

@@ -3,11 +3,11 @@ use Rattle.std.proofs.Common.{◌≡◌, Option, Some, None, refl}
 use Rattle.std.specs.Option.{option_map}
 use Rattle.api_listing.specs.declared.types.ListedMethod.{ListedMethod}
 use Rattle.guest_model.specs.Answering.{result_class}
-use Rattle.guest_tables.specs.declared.library.Gives.{Gives}
+use Rattle.guest_tables.specs.declared.library.ListedResult.{ListedResult}
 use Rattle.guest_tables.specs.Library.{gives}
 
 -- what is given of a listed method has the class of its type
-pub class_of_type : (o : Option ListedMethod) (g : Gives) → Some g ≡ option_map (λ (m : ListedMethod). gives m.id.desc) o → g.class ≡ result_class g.of
+pub class_of_type : (o : Option ListedMethod) (g : ListedResult) → Some g ≡ option_map (λ (m : ListedMethod). gives m.id.desc) o → g.class ≡ result_class g.of
 class_of_type None g e = absurd cc
 class_of_type (Some m) g e =
     let same : g ≡ gives m.id.desc = cc in

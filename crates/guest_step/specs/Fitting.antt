@@ -10,7 +10,7 @@ use Rattle.bytecode_model.specs.SearchOrder.{Name}
 use Rattle.guest_heap.specs.declared.object.Object.{Object}
 use Rattle.guest_heap.specs.declared.value.Value.{Value}
 use Rattle.guest_model.specs.Answering.{answer_fits, is_listed_class, is_no_object, is_of, takes_text}
-use Rattle.guest_tables.specs.declared.library.Gives.{Gives}
+use Rattle.guest_tables.specs.declared.library.ListedResult.{ListedResult}
 use Rattle.guest_tables.specs.Library.{gives}
 
 -- what an answer gives that is no number fits a result of this class
@@ -28,5 +28,5 @@ object_fits program heap name receiver arguments (answers.Throws class) = true
 -- the answer fits a call of the listed method with this index; none fits where there is no such method
 abbrev pub method_takes : Program → List Object → ℕ → Option Value → List Value → ApiAnswer → Bool
 method_takes program heap method receiver arguments answer =
-    option_map_or (λ (result : Gives). answer_fits program heap result.of receiver arguments answer)
+    option_map_or (λ (result : ListedResult). answer_fits program heap result.of receiver arguments answer)
     (option_map (λ (listed : ListedMethod). gives listed.id.desc) (slice_get program.listing.methods method)) false

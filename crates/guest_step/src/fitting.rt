@@ -9,7 +9,7 @@ ghost use Rattle.guest_step.specs.Fitting.{method_takes, object_fits};
 use api_listing::{ApiAnswer, Element, FieldType};
 use guest_frames::is_null;
 use guest_heap::{Object, Value};
-use guest_tables::{Gives, Guest, is_instance};
+use guest_tables::{Guest, ListedResult, is_instance};
 use mon_base::{Bytes, List};
 
 /// Whether the answer fits a call of the listed method with this index, of this receiver and these arguments.
@@ -33,7 +33,7 @@ pub fn fits_call(
 fn result_takes(
     guest: &Guest,
     heap: &List<Object>,
-    gives: &Gives,
+    gives: &ListedResult,
     receiver: Option<Value>,
     args: &[Value],
     answer: &ApiAnswer,

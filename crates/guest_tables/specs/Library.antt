@@ -7,11 +7,11 @@ use Rattle.api_listing.specs.BuiltIn.{built_in_classes}
 use Rattle.api_listing.specs.Listing.{is_known}
 use Rattle.guest_model.specs.Answering.{result_class}
 use Rattle.guest_model.specs.Calls.{arity, types_of}
-use Rattle.guest_tables.specs.declared.library.Gives.{Gives}
+use Rattle.guest_tables.specs.declared.library.ListedResult.{ListedResult}
 use Rattle.guest_tables.specs.declared.library.Library.{Library}
 
 -- the result of a method of the descriptor
-abbrev pub gives : List ℕ → Gives
+abbrev pub gives : List ℕ → ListedResult
 gives desc = record { of = (types_of desc).result; class = result_class (types_of desc).result }
 
 -- whether an answer may make an object of the listed class

@@ -19,7 +19,7 @@ ghost use Rattle.guest_tables.specs.Library.{gives};
 use crate::fields::count_before;
 use crate::given::{class_given, class_index, given_index, listed_place};
 use crate::items::{copy_at, item_at};
-use crate::library::{Gives, truth_at};
+use crate::library::{ListedResult, truth_at};
 use crate::methods::method_in;
 use crate::searched::is_searched;
 use crate::tables::{Tables, tables_of};
@@ -172,7 +172,7 @@ impl Guest {
     }
 
     /// What the listed method with this index gives.
-    pub fn gives(&self, method: u32) -> Option<&Gives>
+    pub fn gives(&self, method: u32) -> Option<&ListedResult>
         ensures { option_copied result ≡ option_map (λ (m : ListedMethod). gives m.id.desc) (slice_get self.now.listing.methods method) }
     {
         item_at(&self.tables.library.gives, method)

@@ -21,5 +21,5 @@ pub use finding::{client_run, is_run, method_run};
 pub use guest::Guest;
 pub use kinds::{is_instance, is_thread};
 pub use layout::new_of;
-pub use library::Gives;
+pub use library::ListedResult;
 pub use seen::{characters, string_of, value_shown, values_shown};

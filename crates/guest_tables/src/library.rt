@@ -18,7 +18,7 @@ use std::alloc::Global;
 
 /// The result of a listed method: its type, if there is one, and the class or the array, where it is no number.
 #[derive(Drop)]
-pub struct Gives {
+pub struct ListedResult {
     pub of: Option<FieldType>,
     pub class: Option<Bytes>,
 }
@@ -28,7 +28,7 @@ pub struct Gives {
 #[derive(Drop)]
 pub struct Library {
     pub arities: List<u8>,
-    pub gives: List<Gives>,
+    pub gives: List<ListedResult>,
     pub fresh: List<bool>,
 }
 
@@ -44,7 +44,7 @@ pub fn library_of(alloc: Global, listing: &Listing) -> Result<Library, NoMemory>
 }
 
 /// What each of the methods gives.
-fn results_of(alloc: Global, methods: &[ListedMethod]) -> Result<List<Gives>, NoMemory>
+fn results_of(alloc: Global, methods: &[ListedMethod]) -> Result<List<ListedResult>, NoMemory>
     ensures { IfOk result (λ results. results ≡ map (λ (m : ListedMethod). gives m.id.desc) methods.now) }
 {
     let mut results = List::new(alloc);
@@ -55,12 +55,12 @@ fn results_of(alloc: Global, methods: &[ListedMethod]) -> Result<List<Gives>, No
 }
 
 /// What a method of the descriptor gives.
-fn result_of(alloc: Global, desc: &[u8]) -> Result<Gives, NoMemory>
+fn result_of(alloc: Global, desc: &[u8]) -> Result<ListedResult, NoMemory>
     ensures { IfOk result (λ it. it ≡ gives desc.now) }
 {
     let of = result_type(alloc, desc)?;
     let class = result_class(alloc, &of)?;
-    Ok(Gives { of, class })
+    Ok(ListedResult { of, class })
 }
 
 /// The type of the result of a method of this descriptor.

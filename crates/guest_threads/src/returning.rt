@@ -16,12 +16,12 @@ use api_listing::Event;
 use guest_frames::fits;
 use guest_heap::{Doing, Stack, Thread, Value};
 use guest_model::Machine;
-use insn_codec::Kind;
+use insn_codec::ValueKind;
 use std::alloc::Global;
 use type_lattice::Indexed;
 
 /// The result of a return, where it is of the kind that the instruction returns.
-fn result_of(kind: Option<Kind>, stack: &Stack) -> Option<Option<Value>>
+fn result_of(kind: Option<ValueKind>, stack: &Stack) -> Option<Option<Value>>
     ensures { result ≡ result_of kind stack.now.items }
 {
     let Some(kind) = kind else {
@@ -81,7 +81,7 @@ pub fn return_from(
     machine: &mut Machine,
     number: u32,
     thread: &mut Thread,
-    kind: Option<Kind>,
+    kind: Option<ValueKind>,
 ) -> Result<Option<Event>, StepFault>
     requires { IsReady program.now }
     ensures { ActsIn result machine.old machine.new thread.old thread.new

@@ -26,7 +26,7 @@ use bytecode_model::is_text;
 use guest_frames::made_of_one;
 use guest_heap::{Object, Stack, Value};
 use guest_model::{Thrown, is_of_references};
-use insn_codec::{Item, Kind, One};
+use insn_codec::{Item, One, ValueKind};
 use mon_base::{List, NoMemory};
 
 /// Where a reference leads that is to be an array.
@@ -135,7 +135,7 @@ fn item_read(item: Item, heap: &List<Object>, stack: &Stack) -> Option<Comes>
         Led::Nowhere => None,
         Led::Null => Some(Comes::Throws(Thrown::NullPointer)),
         Led::Array { items, .. } => match place_among(items.len(), index) {
-            None => Some(Comes::Throws(Thrown::Place)),
+            None => Some(Comes::Throws(Thrown::Bounds)),
             Some(place) => Some(Comes::Value(items[place as usize])),
         },
     }
@@ -172,12 +172,12 @@ fn length_of(heap: &List<Object>, stack: &Stack) -> Result<Option<Comes>, NoMemo
 }
 
 /// What such an item is: a reference, or a number.
-pub fn item_kind(item: Item) -> Kind
+pub fn item_kind(item: Item) -> ValueKind
     ensures { result ≡ item_kind item }
 {
     match item {
-        Item::Reference => Kind::Reference,
-        Item::Int | Item::Byte | Item::Char | Item::Short => Kind::Int,
+        Item::Reference => ValueKind::Reference,
+        Item::Int | Item::Byte | Item::Char | Item::Short => ValueKind::Int,
     }
 }
 

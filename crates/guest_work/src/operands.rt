@@ -10,7 +10,7 @@ ghost use Rattle.guest_work.specs.Works.{Works, at, comes};
 use crate::outcome::{Comes, Outcome};
 use guest_frames::fits;
 use guest_heap::{Stack, Value};
-use insn_codec::Kind;
+use insn_codec::ValueKind;
 
 /// Takes so many operands, and puts on top what comes of them, where there is room.
 pub fn replace(stack: &mut Stack, taken: usize, came: Option<Comes>) -> Option<Outcome>
@@ -43,7 +43,7 @@ pub fn number_operand(stack: &Stack, depth: u8) -> Option<i32>
 }
 
 /// The operand at this depth, where it is of the kind.
-pub fn operand_of(kind: Kind, stack: &Stack, depth: u8) -> Option<Value>
+pub fn operand_of(kind: ValueKind, stack: &Stack, depth: u8) -> Option<Value>
     ensures operand { result ≡ operand_of kind stack.now.items depth }
     ensures few { length stack.now.items ≤ stack.now.size }
 {

@@ -9,7 +9,7 @@ use Rattle.bytecode_model.specs.declared.program.Method.{Method}
 use Rattle.bytecode_model.specs.declared.program.Program.{Program}
 use Rattle.bytecode_model.specs.Conditions.{code_in, codes_of}
 use Rattle.bytecode_model.specs.Heads.{is_abstract}
-use Rattle.bytecode_model.specs.Shape.{has_code}
+use Rattle.bytecode_model.specs.Layout.{has_code}
 use Rattle.bytecode_model.specs.Sound.{IsSound, IsSoundClass}
 use Rattle.bytecode_model.specs.Standing.{AreStanding, IsStanding}
 use Rattle.bytecode_model.proofs.Lists.{all_get}

@@ -11,7 +11,7 @@ use Rattle.bytecode_model.specs.declared.program.Program.{Program}
 use Rattle.bytecode_model.specs.declared.program.Side.TheVariants.{Inlined, Original}
 use Rattle.bytecode_model.specs.declared.program.Target.TheVariants as target
 use Rattle.bytecode_model.specs.Named.{AreRightOperands}
-use Rattle.bytecode_model.specs.Shape.{IsShaped}
+use Rattle.bytecode_model.specs.Layout.{IsLaidOut}
 use Rattle.bytecode_model.specs.Sound.{IsSound, IsSoundClass, IsSoundMethod}
 use Rattle.bytecode_model.specs.Standing.{IsLinkedOf}
 use Rattle.bytecode_model.specs.Typed.{IsTyped}
@@ -60,7 +60,7 @@ there (x ∷ list) (suc at) lt = there list at (omega (arith, lt))
 
 -- ---- what is never reached
 
-module _ (old new : Program) (policy : Policy) (mode : Mode) (typing : Typing) (reaches : BlocksAreReachedSo) (given : IsGiven old new policy mode) (shaped : IsShaped old typing.frames)
+module _ (old new : Program) (policy : Policy) (mode : Mode) (typing : Typing) (reaches : BlocksAreReachedSo) (given : IsGiven old new policy mode) (shaped : IsLaidOut old typing.frames)
     (still : IsTypedStill new (typing_of old policy mode typing)) where
   pub stopped : IsStopped old policy mode new (told new (typing_of old policy mode typing))
   stopped own index i callee k class method item class_there method_there ref_there has item_there role =
@@ -80,7 +80,7 @@ module _ (links : WovenLinks) (good : PlansAreGood) (free : OriginalIsFree) (ord
     (inputs : InlineInputs) (known : InlineSound inputs) (main : List ℕ) (given : Given) (made : Woven)
     (client_links : linked inputs.classes.files inputs.listing main Original ≡ Ok given.client) (sound : IsSound given.client) (of : IsLinkedOf Original inputs.listing main given.client)
     (is : given.policy ≡ built inputs.policy) (sound_for : IsSoundFor given.client.listing given.policy) (weaves : woven given.client (plan_of given.policy given.mode) given.policy.vars ≡ Ok made)
-    (typed : IsTyped given.client given.typing) (shaped : IsShaped given.client given.typing.frames)
+    (typed : IsTyped given.client given.typing) (shaped : IsLaidOut given.client given.typing.frames)
     (fits : AllByRecursion CanSpell made.files) (few : length made.files ≤ 1001) where
   new : (p : Program) × ((woven_links made.files inputs.listing main ≡ Ok p) × IsWoven given.client (plan_of given.policy given.mode) given.policy.vars p)
   new = remade links good inputs known main given made client_links sound is sound_for.read weaves

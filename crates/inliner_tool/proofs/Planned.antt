@@ -1,5 +1,5 @@
 -- The steps of a plan, of a program that links, is typed, and is woven in this mode.
-use Rattle.std.proofs.Common.{◌≡◌, length, Ok, Err, sym, subst}
+use Rattle.std.proofs.Common.{◌≡◌, length, Ok, Err, inl, inr, sym, subst}
 use Rattle.std.specs.List.{AllByRecursion}
 use Rattle.api_listing.specs.declared.types.Listing.{Listing}
 use Rattle.block_logic.specs.Obeying.{FitsListing}
@@ -22,7 +22,7 @@ use Rattle.inliner_tool.specs.declared.inline.Given.{Given}
 use Rattle.inliner_tool.specs.declared.inline.Ready.{Ready}
 use Rattle.inliner_tool.specs.Policy.{IsSoundFor}
 use Rattle.inliner_tool.specs.Programs.{Equals, Step, Types, UnlessMemory}
-use Rattle.inliner_tool.specs.Weaving.{Chosen, Fits, Plans, Remakes, Typed, mode_for, original, weave_step}
+use Rattle.inliner_tool.specs.Weaving.{Chosen, Fits, Gathers, Plans, Remakes, Typed, mode_for, original, weave_step}
 use Rattle.inliner_tool.proofs.Listed.{fits_listing}
 use Rattle.inliner_tool.proofs.Planning.{first_fails, later}
 
@@ -34,28 +34,44 @@ sound_for kinds results inputs known policy is sound listing same =
     subst (λ (p : Policy). AllByRecursion (FitsListing inputs.listing) p.clauses) (sym is) (fits_listing kinds results inputs.listing inputs.policy known.listed known.policy) in
     subst (λ (l : Listing). IsSoundFor l policy) (sym same) (record { read = sound.0; named = sound.1; fits = fits })
 
-abbrev pub given_for : Program → Typing → Policy → Mode → Given
-given_for client typing policy mode = record { client = client; typing = typing; policy = policy; mode = mode }
+module _ (named : NamedInline) (inputs : InlineInputs) (client : Program) (links : Equals (original inputs.listing inputs.classes named.main) (Ok client)) where
+  -- nothing is to be woven
+  pub given_fails : (e : Refusal) → UnlessMemory (Gathers named.weaving inputs.policy client) (Err e) → UnlessMemory (Plans named inputs) (Err e)
+  given_fails e (inr memory) = inr memory
+  given_fails e (inl told) = later (Equals (original inputs.listing inputs.classes named.main)) (Typed named inputs.policy) client links (Err e) (inl (by told))
+    where
+      by : Gathers named.weaving inputs.policy client (Err e) → Typed named inputs.policy client (Err e)
+      by (inl untyped) = inl untyped
+      by (inr (typing, typed, inl unbuilt)) = inr (typing, typed, inl unbuilt)
+      by (inr (typing, typed, inr (mode, chosen, same))) = absurd cc
 
-module _ (named : NamedInline) (inputs : InlineInputs) (client : Program) (typing : Typing) (policy : Policy) (mode : Mode) (links : Equals (original inputs.listing inputs.classes named.main) (Ok client))
-    (typed : IsTyped client typing) (chosen : Equals (mode_for named.weaving inputs.policy) (Ok mode)) (is : policy ≡ built inputs.policy) where
-  -- what the step of the sizes answers
-  fits_so : (result : Step Ready) → UnlessMemory (Fits named.main named.folder (given_for client typing (built inputs.policy) mode)) result → UnlessMemory (Plans named inputs) result
-  fits_so result told =
-      later (Equals (original inputs.listing inputs.classes named.main)) (Typed named inputs.policy) client links result
-      (later (Types client) (Chosen named inputs.policy client) typing typed result
-      (later (Equals (mode_for named.weaving inputs.policy)) (λ m. Fits named.main named.folder (given_for client typing (built inputs.policy) m)) mode chosen result told))
+  module _ (given : Given) (gathers : Gathers named.weaving inputs.policy client (Ok given)) where
+    -- what the step of the sizes answers
+    fits_so : (result : Step Ready) → UnlessMemory (Fits named.main named.folder given) result → UnlessMemory (Plans named inputs) result
+    fits_so result told = by gathers
+      where
+        by : Gathers named.weaving inputs.policy client (Ok given) → UnlessMemory (Plans named inputs) result
+        by (typing, typed, mode, chosen, same) =
+            let is : given ≡ record { client = client; typing = typing; policy = built inputs.policy; mode = mode } = ok_is Refusal given _ same in
+            later (Equals (original inputs.listing inputs.classes named.main)) (Typed named inputs.policy) client links result
+            (later (Types client) (Chosen named inputs.policy client) typing typed result
+            (later (Equals (mode_for named.weaving inputs.policy)) (λ m. Fits named.main named.folder (record { client = client; typing = typing; policy = built inputs.policy; mode = m })) mode chosen result
+            (subst (λ (g : Given). UnlessMemory (Fits named.main named.folder g) result) is told)))
 
-  pub plan_fails : (e : Refusal) → UnlessMemory (Equals (weave_step (woven client (plan_of policy mode) policy.vars))) (Err e) → UnlessMemory (Plans named inputs) (Err e)
-  plan_fails e told =
-      let given = given_for client typing (built inputs.policy) mode in
-      let here = subst (λ (p : Policy). UnlessMemory (Equals (weave_step (woven client (plan_of p mode) p.vars))) (Err e)) is told in
-      fits_so (Err e) (first_fails (Equals (weave_step (woven client (plan_of (built inputs.policy) mode) (built inputs.policy).vars))) (Remakes named.main named.folder given) e here)
+    pub plan_fails : (e : Refusal) → UnlessMemory (Equals (weave_step (woven given.client (plan_of given.policy given.mode) given.policy.vars))) (Err e) → UnlessMemory (Plans named inputs) (Err e)
+    plan_fails e told =
+        fits_so (Err e) (first_fails (Equals (weave_step (woven given.client (plan_of given.policy given.mode) given.policy.vars))) (Remakes named.main named.folder given) e told)
 
-  pub plan_goes : (made : Woven) → Equals (weave_step (woven client (plan_of policy mode) policy.vars)) (Ok made) → (result : Step Ready)
-      → UnlessMemory (Remakes named.main named.folder (given_for client typing policy mode) made) result → UnlessMemory (Plans named inputs) result
-  plan_goes made weaves result told =
-      let given = given_for client typing (built inputs.policy) mode in
-      let here = subst (λ (p : Policy). Equals (weave_step (woven client (plan_of p mode) p.vars)) (Ok made)) is weaves in
-      let remakes = subst (λ (p : Policy). UnlessMemory (Remakes named.main named.folder (given_for client typing p mode) made) result) is told in
-      fits_so result (later (Equals (weave_step (woven client (plan_of (built inputs.policy) mode) (built inputs.policy).vars))) (Remakes named.main named.folder given) made here result remakes)
+    pub plan_goes : (made : Woven) → Equals (weave_step (woven given.client (plan_of given.policy given.mode) given.policy.vars)) (Ok made) → (result : Step Ready)
+        → UnlessMemory (Remakes named.main named.folder given made) result → UnlessMemory (Plans named inputs) result
+    plan_goes made weaves result told =
+        fits_so result (later (Equals (weave_step (woven given.client (plan_of given.policy given.mode) given.policy.vars))) (Remakes named.main named.folder given) made weaves result told)
+
+    -- the types that were found, and the mode that was chosen
+    pub typed_so : IsTyped client given.typing × (mode_for named.weaving inputs.policy ≡ Ok given.mode)
+    typed_so = by gathers
+      where
+        by : Gathers named.weaving inputs.policy client (Ok given) → IsTyped client given.typing × (mode_for named.weaving inputs.policy ≡ Ok given.mode)
+        by (typing, typed, mode, chosen, same) =
+            let is : given ≡ record { client = client; typing = typing; policy = built inputs.policy; mode = mode } = ok_is Refusal given _ same in
+            (subst (λ (g : Given). IsTyped client g.typing) (sym is) typed, subst (λ (g : Given). mode_for named.weaving inputs.policy ≡ Ok g.mode) (sym is) (sym chosen))

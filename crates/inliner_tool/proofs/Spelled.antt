@@ -7,7 +7,7 @@ use Rattle.bytecode_model.specs.declared.program.LinkedClass.{LinkedClass}
 use Rattle.bytecode_model.specs.declared.program.Method.{Method}
 use Rattle.bytecode_model.specs.declared.program.Program.{Program}
 use Rattle.bytecode_model.specs.Rules.{Frames}
-use Rattle.bytecode_model.specs.Shape.{IsShaped, coded, has_code}
+use Rattle.bytecode_model.specs.Layout.{IsLaidOut, coded, has_code}
 use Rattle.bytecode_model.specs.Sound.{IsSound, IsSoundClass, IsSoundMethod}
 use Rattle.bytecode_model.specs.Standing.{AreStanding}
 use Rattle.bytecode_model.specs.Typed.{list_at}
@@ -147,7 +147,7 @@ all_by P [] each = tt
 all_by P (x ∷ list) each = (each zero x refl, all_by P list (λ i y e. each (suc i) y e))
 
 module _ (old new : Program) (policy : Policy) (mode : Mode) (typing : Typing) (is : IsPolicy policy) (numbers : HasNumbers policy) (sound : IsSound old) (standing : AreStanding old) (new_sound : IsSound new)
-    (frames_shaped : IsShaped new typing.frames) (notes_shaped : IsShaped new (certificate_of old.classes policy mode typing).notes) (fits : FitsTyping typing)
+    (frames_shaped : IsLaidOut new typing.frames) (notes_shaped : IsLaidOut new (certificate_of old.classes policy mode typing).notes) (fits : FitsTyping typing)
     (written : is_written (certificate_of old.classes policy mode typing) ≡ true) where
   small : AllByRecursion (λ (c : LinkedClass). AllByRecursion (Small (length policy.vars) policy mode (λ method few. parts_fit policy is numbers mode method.max_locals few method.refs)) c.methods) old.classes
   small = all_by _ old.classes (λ own class class_there. all_by _ class.methods (λ index method method_there code. few_locals old sound standing own index class method class_there method_there code))

@@ -1,17 +1,30 @@
 -- What is expected of files that were woven. (docs/COMMANDS.md)
-use Rattle.std.specs.Prelude.{◌≡◌, ℕ, true, List, length, Ok}
+use Rattle.std.specs.Prelude.{◌≡◌, ℕ, ◌≤◌, true, List, length, Ok}
+use Rattle.std.specs.List.{AllByRecursion}
 use Rattle.bytecode_model.specs.declared.program.Program.{Program}
+use Rattle.bytecode_model.specs.declared.program.Side.TheVariants.{Original}
 use Rattle.bytecode_model.specs.Files.{unlinked}
+use Rattle.bytecode_model.specs.Layout.{IsLaidOut}
 use Rattle.bytecode_model.specs.Order.{IsInOrder}
 use Rattle.bytecode_model.specs.Sound.{IsSound}
+use Rattle.bytecode_model.specs.Standing.{IsLinkedOf}
+use Rattle.bytecode_model.specs.Typed.{IsTyped}
 use Rattle.block_logic.specs.Accepted.{IsAccepted}
 use Rattle.block_template.specs.Blocks.{plan_of}
 use Rattle.cert_format.specs.Fits.{CanSpell}
+use Rattle.class_codec.specs.Fits as classes
+use Rattle.class_linking.specs.Linking.{linked}
 use Rattle.class_weaving.specs.declared.woven.Woven.{Woven}
+use Rattle.class_weaving.specs.Outcome.{IsWoven}
+use Rattle.class_weaving.specs.Woven.{woven}
+use Rattle.conspec_automaton.specs.Building.{built}
+use Rattle.input_files.specs.declared.inline_inputs.InlineInputs.{InlineInputs}
+use Rattle.input_files.specs.InlineInputs.{InlineSound}
 use Rattle.output_files.specs.Outputs.{is_written}
 use Rattle.told_typing.specs.Told.{FitsTyping}
 use Rattle.woven_linking.specs.Program.{HaveRoom, program_with}
 use Rattle.inliner_tool.specs.declared.inline.Given.{Given}
+use Rattle.inliner_tool.specs.Policy.{IsSoundFor}
 use Rattle.inliner_tool.specs.Programs.{woven_links}
 use Rattle.inliner_tool.specs.Weaving.{certificate_for}
 
@@ -31,3 +44,24 @@ pub record IsExpected (main : List ℕ) (given : Given) (made : Woven) : Type 0 
   pub accepted : IsAccepted (woven_program given made) given.policy (certificate_for given (woven_program given made))
   pub spells : FitsTyping (certificate_for given (woven_program given made)).typing → is_written (certificate_for given (woven_program given made)) ≡ true
       → CanSpell (length given.policy.vars) (certificate_for given (woven_program given made))
+
+-- Sound inputs link to the program, and have the policy; this is woven of them.
+pub record IsMadeOf (inputs : InlineInputs) (main : List ℕ) (given : Given) (made : Woven) : Type 0 where
+  pub known : InlineSound inputs
+  pub links : linked inputs.classes.files inputs.listing main Original ≡ Ok given.client
+  pub sound : IsSound given.client
+  pub stands : IsLinkedOf Original inputs.listing main given.client
+  pub policy : given.policy ≡ built inputs.policy
+  pub kept : IsSoundFor given.client.listing given.policy
+  pub weaves : woven given.client (plan_of given.policy given.mode) given.policy.vars ≡ Ok made
+
+-- What is woven links to the program with its blocks.
+abbrev pub WovenHasBlocks : Type 0
+WovenHasBlocks = (inputs : InlineInputs) (main : List ℕ) (given : Given) (made : Woven) → IsMadeOf inputs main given made
+    → (new : Program) × ((woven_links made.files inputs.listing main ≡ Ok new) × IsWoven given.client (plan_of given.policy given.mode) given.policy.vars new)
+
+-- What is woven of a typed program is as is expected, where its files can be spelled and are not too many.
+abbrev pub WovenIsExpected : Type 0
+WovenIsExpected = (inputs : InlineInputs) (main : List ℕ) (given : Given) (made : Woven) → IsMadeOf inputs main given made
+    → IsTyped given.client given.typing → IsLaidOut given.client given.typing.frames → AllByRecursion classes.CanSpell made.files → length made.files ≤ 1001
+    → IsExpected main given made

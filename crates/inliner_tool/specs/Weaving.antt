@@ -5,9 +5,11 @@ use Rattle.api_listing.specs.declared.types.Listing.{Listing}
 use Rattle.bytecode_model.specs.declared.program.Program.{Program}
 use Rattle.bytecode_model.specs.declared.program.Side.TheVariants.{Original}
 use Rattle.bytecode_model.specs.Files.{unlinked}
+use Rattle.bytecode_model.specs.Layout.{IsLaidOut}
 use Rattle.bytecode_model.specs.Sound.{IsSound}
 use Rattle.bytecode_model.specs.Typed.{IsTyped}
 use Rattle.block_logic.specs.Accepted.{IsAccepted}
+use Rattle.block_logic.specs.Meaning.{Promised}
 use Rattle.block_template.specs.Blocks.{plan_of}
 use Rattle.cert_checker.specs.declared.checking.Accepted.{Accepted}
 use Rattle.cert_checker.specs.Acceptance.{verdict}
@@ -32,7 +34,7 @@ use Rattle.conspec_automaton.specs.Denying.{denies_only}
 use Rattle.conspec_tree.specs.declared.types.PolicyTree.{PolicyTree}
 use Rattle.input_files.specs.declared.inline_inputs.InlineInputs.{InlineInputs}
 use Rattle.input_files.specs.declared.named.ReadClasses.{ReadClasses as Classes}
-use Rattle.input_files.specs.Forms.{Gives, Then}
+use Rattle.input_files.specs.Forms.{Yields, Then}
 use Rattle.offset_patch.specs.declared.fault.SpliceFault.{SpliceFault}
 use Rattle.offset_patch.specs.declared.fault.SpliceFault.TheVariants as splices
 use Rattle.output_files.specs.Outputs.{is_written, outputs_of}
@@ -59,6 +61,19 @@ abbrev pub mode_for : Weaving → PolicyTree → Step Mode
 mode_for weavings.Hold policy = Ok modes.Hold
 mode_for weavings.Release policy = releasing policy
 mode_for weavings.Auto policy = releasing policy
+
+-- What is to be woven: the program, which is typed, and the policy in its mode.
+abbrev pub Gathers : Weaving → PolicyTree → Program → Step Given → Type 0
+Gathers weaving policy client =
+    Then (Types client) (λ typing. Then (Equals (mode_for weaving policy)) (λ mode.
+    Equals (Ok (record { client = client; typing = typing; policy = built policy; mode = mode }))))
+
+-- It is this program, with types of its layout, and this policy, in a mode in which that is promised.
+pub record IsGathered (tree : PolicyTree) (program : Program) (given : Given) : Type 0 where
+  pub client : given.client ≡ program
+  pub laid_out : IsLaidOut program given.typing.frames
+  pub policy : given.policy ≡ built tree
+  pub promised : Promised given.mode given.policy
 
 abbrev pub splice_refusal : SpliceFault → Refusal
 splice_refusal (splices.Overflow class method what value) = refusals.Overflow class method what value
@@ -90,7 +105,7 @@ pub record IsRemade (main : List ℕ) (given : Given) (made : Woven) (program : 
 
 -- what is made of outputs
 abbrev pub Told : Program → Accepted → List Output → Step Ready → Type 0
-Told program accepted outputs = Gives (record { outputs = outputs; accepted = accepted; classes = length program.classes })
+Told program accepted outputs = Yields (record { outputs = outputs; accepted = accepted; classes = length program.classes })
 
 -- The woven program is such a one, always; its outputs fit, or the certificate is too long.
 pub record Remakes (main folder : List ℕ) (given : Given) (made : Woven) (result : Step Ready) : Type 0 where

@@ -2,10 +2,12 @@
 //! writes.
 ghost use Rattle.std.specs.Prelude.{◌≡◌, ◌≤◌, IfOk, Ok, length, true};
 ghost use Rattle.std.specs.List.{AllByRecursion};
+ghost use Rattle.api_listing.specs.declared.types.Listing.{Listing};
 ghost use Rattle.api_listing.specs.Listing.{IsFew};
 ghost use Rattle.block_logic.specs.Accepted.{IsAccepted};
 ghost use Rattle.block_logic.specs.Meaning.{Promised};
 ghost use Rattle.block_template.specs.Blocks.{plan_of};
+ghost use Rattle.bytecode_model.specs.Order.{IsInOrder};
 ghost use Rattle.bytecode_model.specs.Sound.{IsSound};
 ghost use Rattle.cert_checker.specs.Acceptance.{verdict};
 ghost use Rattle.cert_checker.specs.Secure.{Secure};
@@ -14,17 +16,20 @@ ghost use Rattle.class_codec.specs.Fits.{CanSpell};
 ghost use Rattle.class_weaving.specs.Woven.{woven};
 ghost use Rattle.command_words.specs.InlineWords.{inline_named};
 ghost use Rattle.conspec_automaton.specs.Building.{built};
-ghost use Rattle.conspec_automaton.specs.Sound.{IsPolicy};
+ghost use Rattle.conspec_automaton.specs.Sound.{IsPolicy, NamesMethods};
+ghost use Rattle.conspec_tree.specs.Tree.{IsPolicyTree};
 ghost use Rattle.input_files.specs.InlineInputs.{InlineSound};
 ghost use Rattle.input_files.specs.Named.{IsListed};
 ghost use Rattle.mon_base.specs.Answer.{Answers};
 ghost use Rattle.output_files.specs.Outputs.{is_written, outputs_of};
 ghost use Rattle.told_typing.specs.Told.{FitsTyping, told};
-ghost use Rattle.inliner_tool.specs.Expected.{IsExpected};
+ghost use Rattle.inliner_tool.specs.Expected.{IsExpected, WovenHasBlocks, WovenIsExpected};
 ghost use Rattle.inliner_tool.specs.Policy.{IsSoundFor};
 ghost use Rattle.inliner_tool.specs.Programs.{Equals, UnlessMemory};
 ghost use Rattle.inliner_tool.specs.Weaving.{
   Accepts,
+  Gathers,
+  IsGathered,
   IsPlanned,
   IsRewoven,
   Plans,
@@ -35,7 +40,7 @@ ghost use Rattle.inliner_tool.specs.Weaving.{
   splice_refusal,
   weave_step,
 };
-ghost use Rattle.input_files.specs.Forms.{since};
+ghost use Rattle.input_files.specs.Forms.{Then, since};
 ghost use Rattle.inliner_tool.specs.Inline.{Begins, IsInlined, Outputs};
 ghost use Rattle.inliner_tool.specs.Answers.{EndsWell};
 ghost use Rattle.inliner_tool.specs.InlineDecision.{InlineDecides};
@@ -139,10 +144,18 @@ pub fn plan(alloc: Global, inputs: InlineInputs, words: &InlineWords) -> Result<
         classes,
     } = inputs;
     let client = program_of(alloc, listing, classes, words.main, Side::Original)?;
-    let typing = types_of(alloc, &client)?;
-    let mode = mode_for(words.weaving, &policy)?;
-    let policy = build(alloc, &policy)?;
-    let made = woven(alloc, client.program(), &policy, mode)?;
+    let given = given_of(alloc, words.weaving, &policy, client)?;
+    let made = woven(alloc, &given.client, &given.policy, given.mode)?;
+    kinds_are_told();
+    woven_is_expected();
+    rewoven(alloc, words, given, made)
+}
+
+/// What is woven of inputs links to their program with its blocks, and is as is expected.
+fn woven_is_expected()
+    ensures blocks { WovenHasBlocks }
+    ensures expected { WovenIsExpected }
+{
     plans_are_good();
     woven_files_link();
     woven_program_is_linked();
@@ -156,13 +169,42 @@ pub fn plan(alloc: Global, inputs: InlineInputs, words: &InlineWords) -> Result<
     items_are_reached();
     told_is_typed();
     woven_is_accepted();
-    let given = Given {
+}
+
+/// What is to be woven: the program with its types, and the policy in its mode.
+fn given_of(
+    alloc: Global,
+    weaving: Weaving,
+    tree: &PolicyTree,
+    client: Indexed,
+) -> Result<Given, Refusal>
+    requires sound { IsSound client }
+    requires order { IsInOrder client }
+    ensures gathers { UnlessMemory (Gathers weaving tree.now client) result }
+    ensures gathered { IfOk result (IsGathered tree.now client) }
+    ensures sound { IfOk result (λ given. (listing : Listing) → IsPolicyTree listing tree.now
+        → IsPolicy given.policy × NamesMethods (length listing.methods) given.policy) }
+{
+    let typing = types_of(alloc, &client)?;
+    let (policy, mode) = chosen(alloc, weaving, tree)?;
+    Ok(Given {
         client: client.into_program(),
         typing,
         policy,
         mode,
-    };
-    rewoven(alloc, words, given, made)
+    })
+}
+
+/// The policy, and the mode in which it is woven, where that is built.
+fn chosen(alloc: Global, weaving: Weaving, tree: &PolicyTree) -> Result<(Policy, Mode), Refusal>
+    ensures mode { UnlessMemory (Then (Equals (mode_for weaving tree.now)) (λ mode. Equals (Ok (built tree.now, mode)))) result }
+    ensures promised { IfOk result (λ r. Promised r.1 r.0) }
+    ensures sound { IfOk result (λ r. (listing : Listing) → IsPolicyTree listing tree.now
+        → IsPolicy r.0 × NamesMethods (length listing.methods) r.0) }
+{
+    let mode = mode_for(weaving, tree)?;
+    let policy = build(alloc, tree)?;
+    Ok((policy, mode))
 }
 
 /// The mode in which a policy is woven, where that is built.

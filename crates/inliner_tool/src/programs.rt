@@ -5,7 +5,7 @@ ghost use Rattle.std.specs.List.{AllByRecursion};
 ghost use Rattle.api_listing.specs.Listing.{IsFew};
 ghost use Rattle.bytecode_model.specs.Files.{max_files, unlinked};
 ghost use Rattle.bytecode_model.specs.Order.{IsInOrder};
-ghost use Rattle.bytecode_model.specs.Shape.{IsShaped};
+ghost use Rattle.bytecode_model.specs.Layout.{IsLaidOut};
 ghost use Rattle.bytecode_model.specs.Sound.{IsSound};
 ghost use Rattle.bytecode_model.specs.Standing.{IsLinkedOf};
 ghost use Rattle.class_codec.specs.Fits.{CanSpell};
@@ -90,7 +90,7 @@ pub fn types_of(alloc: Global, program: &Indexed) -> Result<Typing, Refusal>
     requires sound { IsSound program.now }
     requires order { IsInOrder program.now }
     ensures is { UnlessMemory (Types program.now) result }
-    ensures shaped { IfOk result (λ typing. IsShaped program.now typing.frames) }
+    ensures shaped { IfOk result (λ typing. IsLaidOut program.now typing.frames) }
     ensures least { IfOk result (λ typing. IsLeast program.now typing) }
 {
     let fault = match infer(alloc, program) {

@@ -6,7 +6,7 @@ use Rattle.cert_format.specs.declared.certificate.Certificate.{Certificate}
 use Rattle.conspec_tree.specs.declared.types.PolicyTree.{PolicyTree}
 use Rattle.input_files.specs.declared.files.Stop.{Stop}
 use Rattle.input_files.specs.declared.named.ReadClasses.{ReadClasses as Classes}
-use Rattle.input_files.specs.Forms.{IsRead, ReadsForm, Then, Gives}
+use Rattle.input_files.specs.Forms.{IsRead, ReadsForm, Then, Yields}
 use Rattle.input_files.specs.InlineInputs.{ReadsInline}
 use Rattle.command_words.specs.InlineWords.{NamedInline}
 use Rattle.command_words.specs.ReplayWords.{NamedReplay}
@@ -44,7 +44,7 @@ module _ (files : Files) (named : NamedCheck) (first begun now : ℕ) (last : Li
 module _ (files : Files) (named : NamedPolicy) (first begun now : ℕ) (last : List ℕ) (le : first ≤ begun) (listing : Listing) (listed : IsRead files named.listing listing_form (Ok listing)) where
   pub run_stops_over : (stop : Stop)
       → Then {B = PolicyInputs} (ReadsForm files (counted begun now last) named.policy (policy_form listing))
-      (λ policy. Then (ReadsForm files (counted begun now last) named.recorded (record_form listing)) (λ recorded. Gives (record { policy = policy; recorded = recorded }))) (Err stop)
+      (λ policy. Then (ReadsForm files (counted begun now last) named.recorded (record_form listing)) (λ recorded. Yields (record { policy = policy; recorded = recorded }))) (Err stop)
       → ReadsPolicy files (counted first now last) named (Err stop)
   run_stops_over stop read =
       inr (
@@ -57,7 +57,7 @@ module _ (files : Files) (named : NamedPolicy) (first begun now : ℕ) (last : L
 
   pub run_read_over : (result : Result PolicyInputs Stop)
       → Then {B = PolicyInputs} (ReadsForm files (counted begun now last) named.policy (policy_form listing))
-      (λ policy. Then (ReadsForm files (counted begun now last) named.recorded (record_form listing)) (λ recorded. Gives (record { policy = policy; recorded = recorded }))) result
+      (λ policy. Then (ReadsForm files (counted begun now last) named.recorded (record_form listing)) (λ recorded. Yields (record { policy = policy; recorded = recorded }))) result
       → ReadsPolicy files (counted first now last) named result
   run_read_over (Ok inputs) read = (listing, listed, read)
   run_read_over (Err stop) read = run_stops_over stop read
@@ -66,7 +66,7 @@ pub recorded_stops : (files : Files) (named : NamedPolicy) (first begun now : �
     → (policy : PolicyTree) → IsRead files named.policy (policy_form listing) (Ok policy) → (stop : Stop)
     → ReadsForm files (counted begun now last) named.recorded (record_form listing) (Err stop)
     → Then {B = PolicyInputs} (ReadsForm files (counted first now last) named.policy (policy_form listing))
-    (λ policy. Then (ReadsForm files (counted first now last) named.recorded (record_form listing)) (λ recorded. Gives (record { policy = policy; recorded = recorded }))) (Err stop)
+    (λ policy. Then (ReadsForm files (counted first now last) named.recorded (record_form listing)) (λ recorded. Yields (record { policy = policy; recorded = recorded }))) (Err stop)
 recorded_stops files named first begun now last le listing policy has stop form =
     inr (policy, has, inl (stops_since files (record_form listing) named.recorded first begun now last stop le form))
 

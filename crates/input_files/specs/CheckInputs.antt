@@ -5,7 +5,7 @@ use Rattle.mon_store.specs.Store.{Files}
 use Rattle.api_listing.specs.Listing.{IsFew}
 use Rattle.class_codec.specs.Fits.{CanSpell}
 use Rattle.input_files.specs.declared.files.Stop.{Stop}
-use Rattle.input_files.specs.Forms.{Count, ReadsForm, Then, Gives}
+use Rattle.input_files.specs.Forms.{Count, ReadsForm, Then, Yields}
 use Rattle.input_files.specs.Kinds.{certificate_form, listing_form, policy_form}
 use Rattle.input_files.specs.Named.{IsListed, IsPolicyOf, ReadsClasses}
 use Rattle.input_files.specs.declared.check_inputs.CheckInputs.{CheckInputs}
@@ -18,7 +18,7 @@ ReadsCheck files count named =
     Then (ReadsForm files count named.policy (policy_form listing)) (λ policy.
     Then (ReadsForm files count named.certificate (certificate_form (length policy.vars))) (λ certificate.
     Then (ReadsClasses files count named.classes) (λ classes.
-    Gives (record { listing = listing; policy = policy; certificate = certificate; classes = classes })))))
+    Yields (record { listing = listing; policy = policy; certificate = certificate; classes = classes })))))
 
 -- What is known of inputs that were read.
 pub record AreSound (inputs : CheckInputs) : Type 0 where

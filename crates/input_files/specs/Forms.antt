@@ -73,6 +73,6 @@ Then {A = A} First Second (Ok b) = (a : A) × First (Ok a) × Second a (Ok b)
 Then {A = A} First Second (Err stop) = First (Err stop) ⊎ ((a : A) × First (Ok a) × Second a (Err stop))
 
 -- This is given, and nothing is read.
-abbrev pub Gives : {A E : Type 0} → A → Result A E → Type 0
-Gives a (Ok b) = b ≡ a
-Gives a (Err stop) = ⊥
+abbrev pub Yields : {A E : Type 0} → A → Result A E → Type 0
+Yields a (Ok b) = b ≡ a
+Yields a (Err stop) = ⊥

@@ -6,7 +6,7 @@ use Rattle.api_listing.specs.Listing.{IsFew}
 use Rattle.class_codec.specs.Fits.{CanSpell}
 use Rattle.input_files.specs.declared.files.Stop.{Stop}
 use Rattle.input_files.specs.declared.inline_inputs.InlineInputs.{InlineInputs}
-use Rattle.input_files.specs.Forms.{Count, ReadsForm, Then, Gives}
+use Rattle.input_files.specs.Forms.{Count, ReadsForm, Then, Yields}
 use Rattle.command_words.specs.InlineWords.{NamedInline}
 use Rattle.input_files.specs.Named.{IsListed, IsPolicyOf, ReadsClasses}
 use Rattle.input_files.specs.Kinds.{listing_form, policy_form}
@@ -17,7 +17,7 @@ ReadsInline files count named =
     Then (ReadsForm files count named.listing listing_form) (λ listing.
     Then (ReadsForm files count named.policy (policy_form listing)) (λ policy.
     Then (ReadsClasses files count named.classes) (λ classes.
-    Gives (record { listing = listing; policy = policy; classes = classes }))))
+    Yields (record { listing = listing; policy = policy; classes = classes }))))
 
 -- What is known of inputs that were read.
 pub record InlineSound (inputs : InlineInputs) : Type 0 where

@@ -5,7 +5,7 @@ use Rattle.api_listing.specs.declared.types.Listing.{Listing}
 use Rattle.conspec_tree.specs.declared.types.PolicyTree.{PolicyTree}
 use Rattle.conspec_tree.specs.Tree.{IsPolicyTree}
 use Rattle.input_files.specs.declared.files.Stop.{Stop}
-use Rattle.input_files.specs.Forms.{Count, ReadsForm, Then, Gives}
+use Rattle.input_files.specs.Forms.{Count, ReadsForm, Then, Yields}
 use Rattle.input_files.specs.Kinds.{listing_form, policy_form, record_form}
 use Rattle.input_files.specs.declared.policy_inputs.PolicyInputs.{PolicyInputs}
 use Rattle.command_words.specs.Words.{NamedPolicy}
@@ -16,7 +16,7 @@ ReadsPolicy files count named =
     Then (ReadsForm files count named.listing listing_form) (λ listing.
     Then (ReadsForm files count named.policy (policy_form listing)) (λ policy.
     Then (ReadsForm files count named.recorded (record_form listing)) (λ recorded.
-    Gives (record { policy = policy; recorded = recorded }))))
+    Yields (record { policy = policy; recorded = recorded }))))
 
 -- The policy was read over some listing.
 pub record IsOfListing (policy : PolicyTree) : Type 0 where

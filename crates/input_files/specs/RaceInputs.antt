@@ -3,7 +3,7 @@ use Rattle.std.specs.Prelude.{Result}
 use Rattle.mon_store.specs.Store.{Files}
 use Rattle.input_files.specs.declared.files.Stop.{Stop}
 use Rattle.input_files.specs.declared.race_inputs.RaceInputs.{RaceInputs}
-use Rattle.input_files.specs.Forms.{Count, ReadsForm, Then, Gives}
+use Rattle.input_files.specs.Forms.{Count, ReadsForm, Then, Yields}
 use Rattle.input_files.specs.Kinds.{listing_form, policy_form}
 use Rattle.command_words.specs.Words.{NamedRace}
 
@@ -12,4 +12,4 @@ abbrev pub ReadsRace : Files → Count → NamedRace → Result RaceInputs Stop 
 ReadsRace files count named =
     Then (ReadsForm files count named.listing listing_form) (λ listing.
     Then (ReadsForm files count named.policy (policy_form listing)) (λ policy.
-    Gives (record { listing = listing; policy = policy })))
+    Yields (record { listing = listing; policy = policy })))

@@ -7,7 +7,7 @@ use Rattle.class_codec.specs.Fits.{CanSpell}
 use Rattle.command_words.specs.ReplayWords.{NamedReplay}
 use Rattle.input_files.specs.declared.files.Stop.{Stop}
 use Rattle.input_files.specs.declared.replay_inputs.ReplayInputs.{ReplayInputs}
-use Rattle.input_files.specs.Forms.{Count, ReadsForm, Then, Gives}
+use Rattle.input_files.specs.Forms.{Count, ReadsForm, Then, Yields}
 use Rattle.input_files.specs.Kinds.{listing_form, record_form}
 use Rattle.input_files.specs.Named.{IsListed, ReadsClasses}
 
@@ -17,7 +17,7 @@ ReadsReplay files count named =
     Then (ReadsForm files count named.listing listing_form) (λ listing.
     Then (ReadsForm files count named.recorded (record_form listing)) (λ recorded.
     Then (ReadsClasses files count named.classes) (λ classes.
-    Gives (record { listing = listing; recorded = recorded; classes = classes }))))
+    Yields (record { listing = listing; recorded = recorded; classes = classes }))))
 
 -- What is known of inputs that were read.
 pub record ReplaySound (inputs : ReplayInputs) : Type 0 where

@@ -2,7 +2,7 @@
 use Rattle.std.specs.Prelude.{Result}
 use Rattle.mon_store.specs.Store.{Files}
 use Rattle.input_files.specs.declared.files.Stop.{Stop}
-use Rattle.input_files.specs.Forms.{Count, ReadsForm, Then, Gives}
+use Rattle.input_files.specs.Forms.{Count, ReadsForm, Then, Yields}
 use Rattle.input_files.specs.Kinds.{listing_form}
 use Rattle.input_files.specs.Named.{ReadsClasses}
 use Rattle.input_files.specs.declared.show_inputs.ShowInputs.{ShowInputs}
@@ -13,4 +13,4 @@ abbrev pub ReadsShow : Files → Count → NamedShow → Result ShowInputs Stop 
 ReadsShow files count named =
     Then (ReadsForm files count named.listing listing_form) (λ listing.
     Then (ReadsClasses files count named.classes) (λ classes.
-    Gives (record { listing = listing; classes = classes })))
+    Yields (record { listing = listing; classes = classes })))

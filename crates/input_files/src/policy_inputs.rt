@@ -1,7 +1,7 @@
 //! The files of a policy and of a run, read in their order.
 
 ghost use Rattle.std.specs.Prelude.{◌≡◌, ◌≤◌, IfOk};
-ghost use Rattle.input_files.specs.Forms.{Gives, ReadsForm, Then, since};
+ghost use Rattle.input_files.specs.Forms.{Yields, ReadsForm, Then, since};
 ghost use Rattle.input_files.specs.Kinds.{policy_form, record_form};
 ghost use Rattle.input_files.specs.declared.policy_inputs.PolicyInputs.{PolicyInputs};
 ghost use Rattle.api_listing.specs.Listing.{IsFew};
@@ -38,7 +38,7 @@ fn read_over<S: Store>(
         (policy_named words.now).policy (policy_form listing.now)) (λ policy.
         Then (ReadsForm (S.files store.old) (since (S.faults store.old) (S.faults store.new) (S.last store.new))
         (policy_named words.now).recorded (record_form listing.now)) (λ recorded.
-        Gives (record { policy = policy; recorded = recorded }))) result }
+        Yields (record { policy = policy; recorded = recorded }))) result }
     ensures sound { IfOk result (λ inputs. IsPolicyTree listing.now inputs.policy) }
     ensures files { S.files store.new ≡ S.files store.old }
     ensures faults { S.faults store.old ≤ S.faults store.new }

@@ -4,8 +4,8 @@ use Rattle.std.specs.Prelude.{IsTrue, slice_get, slice_set, option_map, option_a
 use Rattle.std.specs.List.{filter_map}
 use Rattle.std.proofs.lemmas.Option.{cond_some}
 use Rattle.insn_codec.specs.declared.forms.StackForm.{StackForm}
-use Rattle.insn_codec.specs.declared.shape.Kind.{Kind}
-use Rattle.insn_codec.specs.declared.shape.Kind.TheVariants as kinds
+use Rattle.insn_codec.specs.declared.shape.ValueKind.{ValueKind}
+use Rattle.insn_codec.specs.declared.shape.ValueKind.TheVariants as kinds
 use Rattle.insn_codec.specs.declared.shape.Shape.{Shape}
 use Rattle.insn_codec.specs.declared.shape.Shape.TheVariants as shapes
 use Rattle.insn_codec.specs.declared.shape.Two.TheVariants as two
@@ -16,13 +16,13 @@ use Rattle.insn_codec.proofs.Pairs.{and_then_of, map_of, length_paired, get_pair
 
 module _ {V T : Type 0} (d : Domain V) (e : Domain T) (of : V → T → Bool) (respects : Respects d e of) where
   -- a value of a type that is of the kind, at the place where the type stands
-  pub record At (values : Option V) (kind : Kind) (t : T) : Type 0 where
+  pub record At (values : Option V) (kind : ValueKind) (t : T) : Type 0 where
     pub value : V
     pub there : values ≡ Some value
     pub is : IsTrue (of value t)
     pub fits : IsTrue (e.fits kind t)
 
-  kind_follows : (kind : Kind) (vs : List V) (ts : List T) (i : ℕ) (t : T) → Paired of vs ts → option_and_then (of_kind e kind) (slice_get ts i) ≡ Some t
+  kind_follows : (kind : ValueKind) (vs : List V) (ts : List T) (i : ℕ) (t : T) → Paired of vs ts → option_and_then (of_kind e kind) (slice_get ts i) ≡ Some t
       → At (option_and_then (of_kind d kind) (slice_get vs i)) kind t
   kind_follows kind vs ts i t p h =
       let a = and_then_of (of_kind e kind) (slice_get ts i) t h in
@@ -66,13 +66,13 @@ module _ {V T : Type 0} (d : Domain V) (e : Domain T) (of : V → T → Bool) (r
   abbrev pub Left : (values : Option (List V)) (after : List T) → Type 0
   Left values after = (left : List V) × (values ≡ Some left) × Paired of left after
 
-  one_follows : (kind : Kind) (vs : List V) (ts after : List T) → Paired of vs ts → without_one e kind ts ≡ Some after → Left (without_one d kind vs) after
+  one_follows : (kind : ValueKind) (vs : List V) (ts after : List T) → Paired of vs ts → without_one e kind ts ≡ Some after → Left (without_one d kind vs) after
   one_follows kind vs ts after p h =
       let m = map_of (λ (v : T). drop 1 ts) (operand e kind 0 ts) after h in
       let g = kind_follows kind vs ts 0 m.0 p m.1 in
       (drop 1 vs, rw g.there refl, subst (λ (a : List T). Paired of (drop 1 vs) a) m.2 (drop_paired of 1 vs ts p))
 
-  two_follow : (kind : Kind) (vs : List V) (ts after : List T) → Paired of vs ts → without_two e kind ts ≡ Some after → Left (without_two d kind vs) after
+  two_follow : (kind : ValueKind) (vs : List V) (ts after : List T) → Paired of vs ts → without_two e kind ts ≡ Some after → Left (without_two d kind vs) after
   two_follow kind vs ts after p h =
       let a = and_then_of (λ (v : T). option_map (λ (w : T). drop 2 ts) (operand e kind 1 ts)) (operand e kind 0 ts) after h in
       let m = map_of (λ (w : T). drop 2 ts) (operand e kind 1 ts) after a.2 in

@@ -3,8 +3,8 @@
 use Rattle.std.specs.Prelude.{ℕ, ℤ, Bool, nat_le, nat_lt, if◌then◌else◌, List, ◌∷◌, ◌++◌, length, drop, Option, Some, None, option_map, option_and_then, slice_get, slice_set}
 use Rattle.std.specs.List.{filter_map}
 use Rattle.insn_codec.specs.declared.forms.StackForm.{StackForm}
-use Rattle.insn_codec.specs.declared.shape.Kind.{Kind}
-use Rattle.insn_codec.specs.declared.shape.Kind.TheVariants as kinds
+use Rattle.insn_codec.specs.declared.shape.ValueKind.{ValueKind}
+use Rattle.insn_codec.specs.declared.shape.ValueKind.TheVariants as kinds
 use Rattle.insn_codec.specs.declared.shape.One.{One}
 use Rattle.insn_codec.specs.declared.shape.Two.{Two}
 use Rattle.insn_codec.specs.declared.shape.Two.TheVariants as two
@@ -14,7 +14,7 @@ use Rattle.insn_codec.specs.Forms.{depth_of, order_of}
 
 -- what is moved: values, or types of values
 pub record Domain (V : Type 0) : Type 0 where
-  pub fits : Kind → V → Bool
+  pub fits : ValueKind → V → Bool
   pub made : V → Bool
   pub int : ℤ → V
   pub null : V
@@ -26,14 +26,14 @@ abbrev pub Moved : Type 0 → Type 0
 Moved V = List V × List V
 
 -- the value, where it is of the kind
-abbrev pub of_kind : {V : Type 0} → Domain V → Kind → V → Option V
+abbrev pub of_kind : {V : Type 0} → Domain V → ValueKind → V → Option V
 of_kind d kind v = if d.fits kind v then Some v else None
 
 -- the operand at this depth, where it is of the kind
-abbrev pub operand : {V : Type 0} → Domain V → Kind → ℕ → List V → Option V
+abbrev pub operand : {V : Type 0} → Domain V → ValueKind → ℕ → List V → Option V
 operand d kind i stack = option_and_then (of_kind d kind) (slice_get stack i)
 
-abbrev pub local : {V : Type 0} → Domain V → Kind → ℕ → List V → Option V
+abbrev pub local : {V : Type 0} → Domain V → ValueKind → ℕ → List V → Option V
 local d kind slot locals = option_and_then (of_kind d kind) (slice_get locals slot)
 
 -- the locals with this one set, where it is one of them
@@ -46,11 +46,11 @@ moved_by form stack =
     if nat_le (depth_of form) (length stack) then Some (filter_map (slice_get stack) (order_of form) ++ drop (depth_of form) stack) else None
 
 -- the operands without the topmost, which is of the kind
-abbrev pub without_one : {V : Type 0} → Domain V → Kind → List V → Option (List V)
+abbrev pub without_one : {V : Type 0} → Domain V → ValueKind → List V → Option (List V)
 without_one d kind stack = option_map (λ v. drop 1 stack) (operand d kind 0 stack)
 
 -- the operands without the two topmost, which are of the kind
-abbrev pub without_two : {V : Type 0} → Domain V → Kind → List V → Option (List V)
+abbrev pub without_two : {V : Type 0} → Domain V → ValueKind → List V → Option (List V)
 without_two d kind stack = option_and_then (λ v. option_map (λ w. drop 2 stack) (operand d kind 1 stack)) (operand d kind 0 stack)
 
 -- A reference that is compared is of an object that is made.

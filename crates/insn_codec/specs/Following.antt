@@ -1,8 +1,8 @@
 -- One domain follows another: what works on the types works on the values, and leaves values of the types.
 -- (The Java Virtual Machine Specification, section 6.5)
 use Rattle.std.specs.Prelude.{◌≡◌, ℤ, Bool, IsTrue, List, [], ◌∷◌, Some}
-use Rattle.insn_codec.specs.declared.shape.Kind.{Kind}
-use Rattle.insn_codec.specs.declared.shape.Kind.TheVariants as kinds
+use Rattle.insn_codec.specs.declared.shape.ValueKind.{ValueKind}
+use Rattle.insn_codec.specs.declared.shape.ValueKind.TheVariants as kinds
 use Rattle.insn_codec.specs.declared.shape.One.{One}
 use Rattle.insn_codec.specs.declared.shape.Shape.{Shape}
 use Rattle.insn_codec.specs.declared.shape.Two.{Two}
@@ -17,7 +17,7 @@ Paired of (v ∷ values) (t ∷ types) = IsTrue (of v t) × Paired of values typ
 
 -- A value fits where its type does, and what is made of values is of the type that is made of theirs.
 pub record Respects {V T : Type 0} (values : Domain V) (types : Domain T) (of : V → T → Bool) : Type 0 where
-  pub kind : (k : Kind) (v : V) (t : T) → IsTrue (of v t) → IsTrue (types.fits k t) → IsTrue (values.fits k v)
+  pub kind : (k : ValueKind) (v : V) (t : T) → IsTrue (of v t) → IsTrue (types.fits k t) → IsTrue (values.fits k v)
   pub whole : (v : V) (t : T) → IsTrue (of v t) → IsTrue (types.made t) → IsTrue (values.made v)
   pub number : (n : ℤ) → IsTrue (of (values.int n) (types.int n))
   pub none : IsTrue (of values.null types.null)

@@ -6,7 +6,7 @@ use Rattle.insn_codec.specs.declared.forms.StackForm.TheVariants as forms
 use Rattle.insn_codec.specs.declared.shape.Heap.TheVariants as heap
 use Rattle.insn_codec.specs.declared.shape.How.TheVariants as hows
 use Rattle.insn_codec.specs.declared.shape.Item.TheVariants as items
-use Rattle.insn_codec.specs.declared.shape.Kind.TheVariants as kinds
+use Rattle.insn_codec.specs.declared.shape.ValueKind.TheVariants as kinds
 use Rattle.insn_codec.specs.declared.shape.One.TheVariants as one
 use Rattle.insn_codec.specs.declared.shape.Relation.TheVariants as relations
 use Rattle.insn_codec.specs.declared.shape.Two.TheVariants as two

@@ -31,7 +31,7 @@ pub use layout::{size, starts};
 pub use name::name_of;
 pub use opcode::{Operands, goes_on, is_frame_only, operands_of};
 pub use reading::read_code;
-pub use shape::{Heap, How, Item, Kind, One, Relation, Shape, Two, shape_of};
+pub use shape::{Heap, How, Item, One, Relation, Shape, Two, ValueKind, shape_of};
 pub use shape_laws::{
     control_goes_to_successor, effect_follows, operands_move, shapes_are_the_tables,
 };

@@ -10,7 +10,7 @@ use crate::opcodes::*;
 
 /// What a local or an operand holds.
 #[derive(Clone, Copy)]
-pub enum Kind {
+pub enum ValueKind {
     Int,
     /// A reference, also to an object that is not made yet.
     Reference,
@@ -101,7 +101,7 @@ pub enum Heap {
     Enter,
     Exit,
     /// Leaves the frame, with a result where there is one.
-    Return(Option<Kind>),
+    Return(Option<ValueKind>),
 }
 
 /// What an instruction does, with numbers alone. `to` is the index of the instruction that is jumped to.
@@ -110,8 +110,8 @@ pub enum Shape {
     Nothing,
     Push(i32),
     PushNull,
-    Load { kind: Kind, slot: u16 },
-    Store { kind: Kind, slot: u16 },
+    Load { kind: ValueKind, slot: u16 },
+    Store { kind: ValueKind, slot: u16 },
     Move(StackForm),
     /// Makes one number of the two topmost.
     Two(Two),
@@ -183,11 +183,11 @@ fn pushing_shape(op: u8) -> Shape
         ACONST_NULL => Shape::PushNull,
         ICONST_M1..=ICONST_5 => Shape::Push(i32::from(op) - i32::from(ICONST_0)),
         ILOAD_0..=ILOAD_3 => Shape::Load {
-            kind: Kind::Int,
+            kind: ValueKind::Int,
             slot: u16::from(op - ILOAD_0),
         },
         ALOAD_0..=ALOAD_3 => Shape::Load {
-            kind: Kind::Reference,
+            kind: ValueKind::Reference,
             slot: u16::from(op - ALOAD_0),
         },
         _ => Shape::Nothing,
@@ -205,11 +205,11 @@ fn storing_shape(op: u8) -> Shape
         CALOAD => Shape::Heap(Heap::ReadItem(Item::Char)),
         SALOAD => Shape::Heap(Heap::ReadItem(Item::Short)),
         ISTORE_0..=ISTORE_3 => Shape::Store {
-            kind: Kind::Int,
+            kind: ValueKind::Int,
             slot: u16::from(op - ISTORE_0),
         },
         ASTORE_0..=ASTORE_3 => Shape::Store {
-            kind: Kind::Reference,
+            kind: ValueKind::Reference,
             slot: u16::from(op - ASTORE_0),
         },
         IASTORE => Shape::Heap(Heap::WriteItem(Item::Int)),
@@ -268,8 +268,8 @@ fn leaving_shape(op: u8) -> Shape
     ensures { result ≡ leaving_shape op }
 {
     match op {
-        IRETURN => Shape::Heap(Heap::Return(Some(Kind::Int))),
-        ARETURN => Shape::Heap(Heap::Return(Some(Kind::Reference))),
+        IRETURN => Shape::Heap(Heap::Return(Some(ValueKind::Int))),
+        ARETURN => Shape::Heap(Heap::Return(Some(ValueKind::Reference))),
         RETURN => Shape::Heap(Heap::Return(None)),
         ARRAYLENGTH => Shape::Heap(Heap::Length),
         ATHROW => Shape::Heap(Heap::Throw),
@@ -306,19 +306,19 @@ fn local_shape(op: u8, slot: u16) -> Shape
 {
     match op {
         ILOAD => Shape::Load {
-            kind: Kind::Int,
+            kind: ValueKind::Int,
             slot,
         },
         ALOAD => Shape::Load {
-            kind: Kind::Reference,
+            kind: ValueKind::Reference,
             slot,
         },
         ISTORE => Shape::Store {
-            kind: Kind::Int,
+            kind: ValueKind::Int,
             slot,
         },
         ASTORE => Shape::Store {
-            kind: Kind::Reference,
+            kind: ValueKind::Reference,
             slot,
         },
         _ => Shape::Nothing,

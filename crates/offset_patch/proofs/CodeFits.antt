@@ -14,7 +14,7 @@ use Rattle.class_codec.specs.declared.tree.TableEntry.{TableEntry}
 use Rattle.class_codec.specs.declared.tree.Other.{Other}
 use Rattle.mon_base.specs.Widths.{u2, u4}
 use Rattle.class_codec.specs.Spelling as spell
-use Rattle.class_codec.specs.declared.pool.Kind.TheVariants as kinds
+use Rattle.class_codec.specs.declared.pool.ConstKind.TheVariants as kinds
 use Rattle.class_codec.specs.Fits.{IsIndex, FitsTableEntry, FitsOther, FitsCode}
 use Rattle.bytecode_model.specs.Heads.{text_at}
 use Rattle.insn_codec.specs.declared.fault.CodeOverflow.{CodeOverflow}
@@ -232,8 +232,8 @@ contents_len : (c : Code) → length c.code ≤ 65535 → length c.table < 2 ^ 1
 contents_len c short few lines =
     let head = u2 c.max_stack ++ u2 c.max_locals in
     let code = spell.block c.code in
-    let table = spell.counted spell.table_entry c.table in
-    let attrs = spell.counted spell.other c.attrs in
+    let table = spell.with_count spell.table_entry c.table in
+    let attrs = spell.with_count spell.other c.attrs in
     omega (
       arith,
       lines,

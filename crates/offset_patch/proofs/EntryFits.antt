@@ -9,8 +9,8 @@ use Rattle.std.specs.Fmt.{decimal}
 use Rattle.std.specs.Int.Digits.{digits_of}
 use Rattle.std.specs.Str.{IsAscii}
 use Rattle.std.proofs.lemmas.Option.{slice_get_within}
-use Rattle.class_codec.specs.declared.pool.Kind.{Kind}
-use Rattle.class_codec.specs.declared.pool.Kind.TheVariants as kinds
+use Rattle.class_codec.specs.declared.pool.ConstKind.{ConstKind}
+use Rattle.class_codec.specs.declared.pool.ConstKind.TheVariants as kinds
 use Rattle.class_codec.specs.declared.tree.Const.{Const}
 use Rattle.class_codec.specs.declared.tree.Const.TheVariants as constants
 use Rattle.class_codec.specs.Pool.{is_of, is_one_of, names}
@@ -103,11 +103,11 @@ entry_is c pool = by (place_of c pool) refl
         let at : i ≡ found.0 = omega (arith, found.2.0) in
         ap (λ (k : ℕ). slice_get pool k) at ∙ found.2.1 ∙ ap Some (same_is c found.1 found.2.2)
 
-entry_named : (kind : Kind) (c : Const) → is_of kind c ≡ true → (pool : List Const) → names kind (entry c pool).0 (entry c pool).1 ≡ true
+entry_named : (kind : ConstKind) (c : Const) → is_of kind c ≡ true → (pool : List Const) → names kind (entry c pool).0 (entry c pool).1 ≡ true
 unfolding names
 entry_named kind c own pool = ap (is_one_of kind) (entry_is c pool) ∙ own
 
-within : (kind : Kind) (pool : List Const) (i : ℕ) → names kind pool i ≡ true → i < length pool
+within : (kind : ConstKind) (pool : List Const) (i : ℕ) → names kind pool i ≡ true → i < length pool
 unfolding names
 within kind pool i e = by (slice_get pool i) refl e
   where
@@ -126,7 +126,7 @@ longer f steady pool =
     let more = steady.grows pool in
     omega (arith, ap length more.1, length-append pool more.0)
 
-kept : (kind : Kind) (f : List Const → Placed) → IsSteady f → (pool : List Const) (i : ℕ) → names kind pool i ≡ true → names kind (f pool).0 i ≡ true
+kept : (kind : ConstKind) (f : List Const → Placed) → IsSteady f → (pool : List Const) (i : ℕ) → names kind pool i ≡ true → names kind (f pool).0 i ≡ true
 kept kind f steady pool i e =
     let more = steady.grows pool in
     subst (λ (p : List Const). names kind p i ≡ true) (sym more.1) (names_on kind pool more.0 i e)
@@ -136,7 +136,7 @@ abbrev KeepsFit : (List Const → Placed) → Type 0
 KeepsFit f = (pool : List Const) → FitsPool pool → length (f pool).0 ≤ 65535 → FitsPool (f pool).0
 
 -- A step that finds an entry of this kind.
-record Finds (kind : Kind) (f : List Const → Placed) : Type 0 where
+record Finds (kind : ConstKind) (f : List Const → Placed) : Type 0 where
   steady : IsSteady f
   named : (pool : List Const) → names kind (f pool).0 (f pool).1 ≡ true
   fits : KeepsFit f
@@ -165,7 +165,7 @@ class_finds name t = record {
         entry_fits one.0 (constants.Class one.1) first (record { fits = omega arith; one = refl; narrow = refl; named = told }) short
 
 -- an entry that names what two steps find, one behind the other
-module _ (first second : Kind) (make : ℕ → ℕ → Const) (steady : (i j : ℕ) → IsSteady (entry (make i j)))
+module _ (first second : ConstKind) (make : ℕ → ℕ → Const) (steady : (i j : ℕ) → IsSteady (entry (make i j)))
     (good : (pool : List Const) (i j : ℕ) → i < 2 ^ 16 → j < 2 ^ 16 → names first pool i ≡ true → names second pool j ≡ true → IsGood pool (make i j)) where
   pair_fits : (f g : List Const → Placed) → Finds first f → Finds second g → KeepsFit (pair make f g)
   pair_fits f g h k pool p short =

@@ -2,8 +2,8 @@
 use Rattle.std.proofs.Common.{◌≡◌, ℕ, zero, suc, Bool, true, false, List, [], ◌∷◌, ◌++◌, Option, Some, None, refl, sym, ap, ◌∙◌}
 use Rattle.std.specs.Prelude.{slice_get, ◌||◌, ◌==◌}
 use Rattle.std.specs.List.{AllByRecursion}
-use Rattle.class_codec.specs.declared.pool.Kind.{Kind}
-use Rattle.class_codec.specs.declared.pool.Kind.TheVariants as kinds
+use Rattle.class_codec.specs.declared.pool.ConstKind.{ConstKind}
+use Rattle.class_codec.specs.declared.pool.ConstKind.TheVariants as kinds
 use Rattle.class_codec.specs.declared.tree.Const.{Const}
 use Rattle.class_codec.specs.declared.tree.Const.TheVariants as constants
 use Rattle.class_codec.specs.declared.tree.TableEntry.{TableEntry}
@@ -22,12 +22,12 @@ get_on [] ys i x e = absurd cc
 get_on (y ∷ xs) ys zero x e = e
 get_on (y ∷ xs) ys (suc i) x e = get_on xs ys i x e
 
-one_of : (kind : Kind) (o : Option Const) → is_one_of kind o ≡ true → (c : Const) × ((o ≡ Some c) × (is_of kind c ≡ true))
+one_of : (kind : ConstKind) (o : Option Const) → is_one_of kind o ≡ true → (c : Const) × ((o ≡ Some c) × (is_of kind c ≡ true))
 one_of kind None e = absurd cc
 one_of kind (Some c) e = (c, (refl, e))
 
 -- an index names what it named
-pub names_on : (kind : Kind) (pool more : List Const) (i : ℕ) → names kind pool i ≡ true → names kind (pool ++ more) i ≡ true
+pub names_on : (kind : ConstKind) (pool more : List Const) (i : ℕ) → names kind pool i ≡ true → names kind (pool ++ more) i ≡ true
 unfolding names
 names_on kind pool more i e =
     let one = one_of kind (slice_get pool i) e in
@@ -39,7 +39,7 @@ utf8_on pool more i e =
     let one = one_of kinds.Utf8 (slice_get pool i) e in
     ap text_of (get_on pool more i one.0 one.1.0) ∙ sym (ap text_of one.1.0)
 
-pub index_on : (kind : Kind) (pool more : List Const) (i : ℕ) → IsIndex kind pool i → IsIndex kind (pool ++ more) i
+pub index_on : (kind : ConstKind) (pool more : List Const) (i : ℕ) → IsIndex kind pool i → IsIndex kind (pool ++ more) i
 index_on kind pool more i x = record { fits = x.fits; named = names_on kind pool more i x.named }
 
 pub each_on : {X : Type 0} (P Q : X → Type 0) → ((x : X) → P x → Q x) → (xs : List X) → AllByRecursion P xs → AllByRecursion Q xs

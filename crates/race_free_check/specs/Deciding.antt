@@ -40,13 +40,13 @@ abbrev pub small_or_told : Policy → Trial → Result (Unit {0}) RaceFault
 small_or_told policy trial = need (is_small policy trial) (too_many policy trial)
 
 -- the first trial that has too many points
-abbrev pub counted : Policy → List Trial → Result (Unit {0}) RaceFault
-counted policy [] = Ok tt
-counted policy (trial ∷ others) = small_or_told policy trial >>= λ small. counted policy others
+abbrev pub all_small : Policy → List Trial → Result (Unit {0}) RaceFault
+all_small policy [] = Ok tt
+all_small policy (trial ∷ others) = small_or_told policy trial >>= λ small. all_small policy others
 
 -- Too many points of any trial are told before anything is tried.
 abbrev pub decided : Policy → Result RaceVerdict RaceFault
-decided policy = counted policy (trials policy) >>= λ small. Ok (judged policy (trials policy))
+decided policy = all_small policy (trials policy) >>= λ small. Ok (judged policy (trials policy))
 
 -- The clauses of the trial are those of the policy, at their places.
 pub record AreClausesOf (policy : Policy) (trial : Trial) : Type 0 where

@@ -6,7 +6,7 @@ ghost use Rattle.mon_base.specs.Answer.{Answers};
 ghost use Rattle.conspec_automaton.specs.Racing.{IsRaceFree};
 ghost use Rattle.conspec_automaton.specs.Sound.{IsPolicy};
 ghost use Rattle.conspec_automaton.specs.Trying.{is_small, point_count};
-ghost use Rattle.race_free_check.specs.Deciding.{AreClausesOf, broken_in, counted, decided, judged, second_place, small_or_told};
+ghost use Rattle.race_free_check.specs.Deciding.{AreClausesOf, broken_in, all_small, decided, judged, second_place, small_or_told};
 
 use crate::apart::is_apart;
 use crate::events::events_count;
@@ -43,7 +43,7 @@ pub fn decide(alloc: Global, policy: &Policy) -> Result<RaceVerdict, RaceFault>
 fn all_small(alloc: Global, policy: &Policy, trials: &[TrialRef]) -> Result<(), RaceFault>
     requires policy { IsPolicy policy.now }
     requires clauses { AllByRecursion (AreClausesOf policy.now) trials.now }
-    ensures exact { Answers RaceFault.Memory result (counted policy.now trials.now) }
+    ensures exact { Answers RaceFault.Memory result (all_small policy.now trials.now) }
     ensures small { IsOk result → AllByRecursion (λ trial. is_small policy.now trial ≡ true) trials.now }
 {
     let mut left = trials;

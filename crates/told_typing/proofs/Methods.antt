@@ -16,7 +16,7 @@ use Rattle.bytecode_model.specs.declared.program.Program.{Program}
 use Rattle.bytecode_model.specs.Assigning.{assignable}
 use Rattle.bytecode_model.specs.Classes.{is_below}
 use Rattle.bytecode_model.specs.Makes.{local_after, stack_after, type_at}
-use Rattle.bytecode_model.specs.Place.{Place}
+use Rattle.bytecode_model.specs.InsnPlace.{InsnPlace}
 use Rattle.bytecode_model.specs.Rules.{Frames, catches_well, class_caught, covers, entry_locals, frame_of, goes_well, is_alone, is_handled, local_caught, locals_fit, row_failing, stack_fits, taken}
 use Rattle.bytecode_model.specs.Typed.{place_at, row_in}
 use Rattle.bytecode_model.specs.Wants.{takes}
@@ -74,7 +74,7 @@ module _ (program : Program) (own : ℕ) (class : LinkedClass) (method : Method)
   told_at : (at : ℕ) → frame_of told_frames at ≡ frame_told method (frame_of frames at)
   told_at at = frame_map (frame_told method) refl frames at
 
-  abbrev place : ℕ → Insn → Place
+  abbrev place : ℕ → Insn → InsnPlace
   place at insn = place_at program own class method at insn
 
   row_of : (at : ℕ) (insn : Insn) → slice_get method.insns at ≡ Some insn → row_failing frames (place at insn) (frame_of frames at) ≡ None

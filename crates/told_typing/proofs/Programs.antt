@@ -10,7 +10,7 @@ use Rattle.bytecode_model.specs.declared.program.LinkedClass.{LinkedClass}
 use Rattle.bytecode_model.specs.declared.program.Method.{Method}
 use Rattle.bytecode_model.specs.declared.program.Program.{Program}
 use Rattle.bytecode_model.specs.Rules.{Frames, frame_of, row_failing}
-use Rattle.bytecode_model.specs.Shape.{IsShaped, coded, has_code}
+use Rattle.bytecode_model.specs.Layout.{IsLaidOut, coded, has_code}
 use Rattle.bytecode_model.specs.Typed.{IsTyped, frames_in, frames_told, list_at, place_at, reached, reached_in, row_in, row_of_method}
 use Rattle.told_typing.specs.Laws.{ToldIsTyped}
 use Rattle.told_typing.specs.Told.{classes_told, frame_told, methods_told, told}
@@ -130,7 +130,7 @@ class_long (c ∷ classes) (frames ∷ told) (suc own) class e there =
 
 -- ---- the program
 
-module _ (program : Program) (typing : Typing) (typed : IsTyped program typing) (shaped : IsShaped program typing.frames) where
+module _ (program : Program) (typing : Typing) (typed : IsTyped program typing) (shaped : IsLaidOut program typing.frames) where
   met : (own index : ℕ) (class : LinkedClass) (method : Method) → slice_get program.classes own ≡ Some class → slice_get class.methods index ≡ Some method
       → (at : ℕ) → row_in program own class method (frames_in class.methods (frames_told typing own) index) at ≡ None
   met own index class method class_there there at =

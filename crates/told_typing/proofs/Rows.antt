@@ -6,12 +6,12 @@ use Rattle.cert_format.specs.declared.typing.FrameType.{FrameType}
 use Rattle.cert_format.specs.declared.typing.VType.{VType}
 use Rattle.cert_format.specs.declared.typing.VType.TheVariants as types
 use Rattle.insn_codec.specs.declared.shape.Heap.TheVariants as heap
-use Rattle.insn_codec.specs.declared.shape.Kind.TheVariants as kinds
+use Rattle.insn_codec.specs.declared.shape.ValueKind.TheVariants as kinds
 use Rattle.insn_codec.specs.declared.shape.Shape.{Shape}
 use Rattle.insn_codec.specs.declared.shape.Shape.TheVariants as shapes
 use Rattle.insn_codec.specs.Shapes.{shape_of}
 use Rattle.bytecode_model.specs.Makes.{below, changed, local_after, stack_after, stores, topmost, type_at, yields_of}
-use Rattle.bytecode_model.specs.Place.{Place, is_maker}
+use Rattle.bytecode_model.specs.InsnPlace.{InsnPlace, is_maker}
 use Rattle.bytecode_model.specs.Rules.{Depth, Entry, Local, Made, entry_locals, has_object, leaves_made, local_caught, locals_fit, made_well, taken, uses_local, when_thrown}
 use Rattle.bytecode_model.specs.Wants.{of_kind, takes}
 use Rattle.told_typing.specs.Told.{frame_trimmed, trimmed}
@@ -19,7 +19,7 @@ use Rattle.told_typing.proofs.Trimming.{at_trimmed, fit_trimmed, object_trimmed,
 
 -- ---- what is left behind
 
-yields_same : (place : Place) (locals taken : List VType) (shape : Shape) → yields_of place (trimmed locals) taken shape ≡ yields_of place locals taken shape
+yields_same : (place : InsnPlace) (locals taken : List VType) (shape : Shape) → yields_of place (trimmed locals) taken shape ≡ yields_of place locals taken shape
 yields_same place locals taken (shapes.Load kind slot) = ap (λ (t : VType). t ∷ []) (at_trimmed locals slot)
 yields_same place locals taken shapes.Nothing = refl
 yields_same place locals taken (shapes.Push n) = refl
@@ -37,11 +37,11 @@ yields_same place locals taken (shapes.Goto to) = refl
 yields_same place locals taken shapes.Switch = refl
 yields_same place locals taken (shapes.Heap what) = refl
 
-pub stack_same : (place : Place) (locals : List VType) (n : ℕ) (stack : List VType) → stack_after place (trimmed locals) n stack ≡ stack_after place locals n stack
+pub stack_same : (place : InsnPlace) (locals : List VType) (n : ℕ) (stack : List VType) → stack_after place (trimmed locals) n stack ≡ stack_after place locals n stack
 stack_same place locals n stack =
     ap (λ (made : List VType). map (changed place (topmost n stack)) (below n stack) ++ made) (yields_same place locals (topmost n stack) (shape_of place.insn))
 
-pub local_same : (place : Place) (locals taken : List VType) (j : ℕ) → local_after place (trimmed locals) taken j ≡ local_after place locals taken j
+pub local_same : (place : InsnPlace) (locals taken : List VType) (j : ℕ) → local_after place (trimmed locals) taken j ≡ local_after place locals taken j
 local_same place locals taken j = ap (λ (t : VType). cond (stores (shape_of place.insn) j) (type_at taken 0) (changed place taken t)) (at_trimmed locals j)
 
 pub caught_same : (locals : List VType) (j : ℕ) → local_caught (trimmed locals) j ≡ local_caught locals j
@@ -49,7 +49,7 @@ caught_same locals j = ap when_thrown (at_trimmed locals j)
 
 -- ---- the rules that are about the frame alone
 
-module _ (place : Place) (frame : FrameType) where
+module _ (place : InsnPlace) (frame : FrameType) where
   pub entry_trimmed : Entry place frame ≡ true → Entry place (frame_trimmed frame) ≡ true
   entry_trimmed e =
       let a = and_parts (nat_le (length (entry_locals place)) place.method.max_locals) (locals_fit place.program (type_at (entry_locals place)) 0 frame.locals && (length frame.stack == 0)) e in

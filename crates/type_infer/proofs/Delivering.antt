@@ -11,7 +11,7 @@ use Rattle.bytecode_model.specs.declared.program.Handler.{Handler}
 use Rattle.bytecode_model.specs.declared.program.Method.{Method}
 use Rattle.bytecode_model.specs.declared.program.Program.{Program}
 use Rattle.bytecode_model.specs.Order.{IsInOrder}
-use Rattle.bytecode_model.specs.Place.{Place}
+use Rattle.bytecode_model.specs.InsnPlace.{InsnPlace}
 use Rattle.bytecode_model.specs.Rules.{Frames, frame_of, covers}
 use Rattle.bytecode_model.specs.Typed.{place_at}
 use Rattle.type_infer.specs.Laws.{Laws}
@@ -29,17 +29,17 @@ module _ (scope : Scope) (ready : IsReady scope) where
       let some = ap (option_map (λ (insn : Insn). place_at scope.program scope.own scope.class scope.method to insn)) is in
       absurd cc
 
-  pub successor_there : (at : ℕ) (place : Place) (to : ℕ) → place_of scope at ≡ Some place → Contains (successors at place.insn) to → place_of scope to ≡ None → ⊥
+  pub successor_there : (at : ℕ) (place : InsnPlace) (to : ℕ) → place_of scope at ≡ Some place → Contains (successors at place.insn) to → place_of scope to ≡ None → ⊥
   successor_there at place to there c =
       let h = insn_there _ (slice_get scope.method.insns at) place there in
-      let insn : h.0 ≡ place.insn = ap (λ (p : Place). p.insn) h.2 in
+      let insn : h.0 ≡ place.insn = ap (λ (p : InsnPlace). p.insn) h.2 in
       place_there to (successor_within scope.method at place.insn to ready.sound (h.1 ∙ ap (λ (i : Insn). Some i) insn) c)
 
   pub handler_there : (handler : Handler) → Contains scope.method.handlers handler → place_of scope handler.at ≡ None → ⊥
   handler_there handler c = place_there handler.at (handler_within scope.method handler ready.sound c)
 
-module _ (scope : Scope) (laws : Laws scope.program) (old : State) (at : ℕ) (place : Place) (here : place_of scope at ≡ Some place) (low : FrameType) (is : frame_of old.frames at ≡ Some low)
-    (to : ℕ) (there : Place) (placed : place_of scope to ≡ Some there) (told : Option FrameType) where
+module _ (scope : Scope) (laws : Laws scope.program) (old : State) (at : ℕ) (place : InsnPlace) (here : place_of scope at ≡ Some place) (low : FrameType) (is : frame_of old.frames at ≡ Some low)
+    (to : ℕ) (there : InsnPlace) (placed : place_of scope to ≡ Some there) (told : Option FrameType) where
   pub put_kept : length old.frames ≡ length scope.method.insns → length old.marks ≡ length scope.method.insns
       → KeepsOld place (frame_of old.frames to) told → Grows scope.program old (put old to told)
   put_kept f m k =
@@ -69,8 +69,8 @@ module _ (scope : Scope) (laws : Laws scope.program) (old : State) (at : ℕ) (p
         let r = left_raised above row found in
         has_gone scope laws above old found to there placed (left_by place low) r.0 told r.1 at place low left_by here is refl
 
-module _ (scope : Scope) (laws : Laws scope.program) (old : State) (at : ℕ) (place : Place) (here : place_of scope at ≡ Some place) (low : FrameType) (is : frame_of old.frames at ≡ Some low)
-    (handler : Handler) (there : Place) (placed : place_of scope handler.at ≡ Some there) (told : Option FrameType) where
+module _ (scope : Scope) (laws : Laws scope.program) (old : State) (at : ℕ) (place : InsnPlace) (here : place_of scope at ≡ Some place) (low : FrameType) (is : frame_of old.frames at ≡ Some low)
+    (handler : Handler) (there : InsnPlace) (placed : place_of scope handler.at ≡ Some there) (told : Option FrameType) where
   -- ---- to a handler
 
   module _ (raised : RaisesThrown handler place low there (frame_of old.frames handler.at) told) (c : Contains scope.method.handlers handler) (covered : covers at handler ≡ true) where
@@ -101,15 +101,15 @@ module _ (scope : Scope) (laws : Laws scope.program) (at : ℕ) (old middle new 
   pub stays_over : StaysFound scope at old middle → StaysFound scope at middle new → StaysFound scope at old new
   stays_over first second above row found = second above row (first above row found)
 
-  pub sent_before : (to : ℕ) (left : Place → FrameType → Left) → IsSent scope at to left old middle → Grows scope.program middle new → IsSent scope at to left old new
+  pub sent_before : (to : ℕ) (left : InsnPlace → FrameType → Left) → IsSent scope at to left old middle → Grows scope.program middle new → IsSent scope at to left old new
   sent_before to left sent grows above row found = gone_grows scope laws middle new grows at to left (sent above row found)
 
-  pub sent_after : (to : ℕ) (left : Place → FrameType → Left) → StaysFound scope at old middle → IsSent scope at to left middle new → IsSent scope at to left old new
+  pub sent_after : (to : ℕ) (left : InsnPlace → FrameType → Left) → StaysFound scope at old middle → IsSent scope at to left middle new → IsSent scope at to left old new
   sent_after to left first sent above row found = sent above row (first above row found)
 
 -- ---- what a call sends
 
-module _ (scope : Scope) (laws : Laws scope.program) (place : Place) where
+module _ (scope : Scope) (laws : Laws scope.program) (place : InsnPlace) where
   -- all stays as it is
   pub sends_nothing : (may gone : Type 0) (state : State) → (may → gone) → Sends scope place.at may gone state state
   sends_nothing may gone state sent = record {
@@ -119,7 +119,7 @@ module _ (scope : Scope) (laws : Laws scope.program) (place : Place) where
   }
 
   -- an instruction that is not reached leaves and throws nothing
-  pub unreached : (to : ℕ) (left : Place → FrameType → Left) (state : State) → frame_of state.frames place.at ≡ None → IsSent scope place.at to left state state
+  pub unreached : (to : ℕ) (left : InsnPlace → FrameType → Left) (state : State) → frame_of state.frames place.at ≡ None → IsSent scope place.at to left state state
   unreached to left state none above row found unmarked from frame there is =
       let h : None ≡ Some frame = sym none ∙ is in
       absurd cc
@@ -144,7 +144,7 @@ module _ (scope : Scope) (laws : Laws scope.program) (place : Place) where
     behind may to among = may to (Contains-append_right xs ys to among)
 
   module _ (old : State) (here : place_of scope place.at ≡ Some place) (low : FrameType) (is : frame_of old.frames place.at ≡ Some low)
-      (frames : length old.frames ≡ length scope.method.insns) (marks : length old.marks ≡ length scope.method.insns) (there : Place) (told : Option FrameType) where
+      (frames : length old.frames ≡ length scope.method.insns) (marks : length old.marks ≡ length scope.method.insns) (there : InsnPlace) (told : Option FrameType) where
     pub left_sends : (to : ℕ) → place_of scope to ≡ Some there → KeepsOld place (frame_of old.frames to) told → RaisesLeft place low there (frame_of old.frames to) told
         → SendsTo scope place (to ∷ []) old (put old to told)
     left_sends to placed kept raised = record {
@@ -165,7 +165,7 @@ module _ (scope : Scope) (laws : Laws scope.program) (place : Place) where
 
 -- ---- all that an instruction leaves and throws
 
-module _ (scope : Scope) (laws : Laws scope.program) (at : ℕ) (place : Place) (there : place_of scope at ≡ Some place) (old second new : State)
+module _ (scope : Scope) (laws : Laws scope.program) (at : ℕ) (place : InsnPlace) (there : place_of scope at ≡ Some place) (old second new : State)
     (lefts : SendsTo scope place (successors place.at place.insn) old second) (throws : ThrowsToAll scope place second new) where
   same : place.at ≡ at
   same = (place_is scope at place there).2
@@ -178,7 +178,7 @@ module _ (scope : Scope) (laws : Laws scope.program) (at : ℕ) (place : Place) 
       subst (λ (n : ℕ). StaysFound scope n old new) same (stays_over scope laws place.at old second new (lefts.found (λ to among. among)) (throws.found tt))
 
   module _ (above : Frames) (row : RowIsMet scope above at) (found : AreFound scope above old) where
-    to_here : (to : ℕ) (left : Place → FrameType → Left) → IsSent scope place.at to left old new → HasGone scope new at to left
+    to_here : (to : ℕ) (left : InsnPlace → FrameType → Left) → IsSent scope place.at to left old new → HasGone scope new at to left
     to_here to left sent =
         subst (λ (n : ℕ). HasGone scope new n to left) same (sent above (subst (RowIsMet scope above) (sym same) row) found)
 
@@ -186,7 +186,7 @@ module _ (scope : Scope) (laws : Laws scope.program) (at : ℕ) (place : Place) 
     all_done = record {
       goes = λ other is to among.
           let one : place ≡ other = some_one place other (sym there ∙ is) in
-          let from = subst (λ (n : ℕ). Contains (successors n place.insn) to) (sym same) (subst (λ (p : Place). Contains (successors at p.insn) to) (sym one) among) in
+          let from = subst (λ (n : ℕ). Contains (successors n place.insn) to) (sym same) (subst (λ (p : InsnPlace). Contains (successors at p.insn) to) (sym one) among) in
           to_here to left_by (sent_before scope laws place.at old second new to left_by (lefts.sent (λ to among. among) to from) throws.grows);
       throws = λ handler among covered.
           to_here handler.at (thrown_to handler)

@@ -12,7 +12,7 @@ use Rattle.bytecode_model.specs.Sound.{IsSound, IsSoundClass, IsSoundMethod}
 use Rattle.bytecode_model.specs.Order.{IsInOrder}
 use Rattle.code_typing.specs.declared.fault.TypeFault.{TypeFault}
 use Rattle.bytecode_model.specs.Rules.{Frames}
-use Rattle.bytecode_model.specs.Shape.{has_code, coded}
+use Rattle.bytecode_model.specs.Layout.{has_code, coded}
 use Rattle.code_typing.specs.First.{first_row, method_fault, methods_fault, classes_fault, typing_fault}
 use Rattle.bytecode_model.specs.Typed.{IsTyped, row_in, list_at, frames_in, frames_told}
 use Rattle.type_infer.specs.declared.fault.InferFault.{InferFault}

@@ -25,7 +25,7 @@ use Rattle.bytecode_model.specs.Assigning.{assignable}
 use Rattle.bytecode_model.specs.Order.{IsInOrder}
 use Rattle.bytecode_model.specs.Makes.{type_at}
 use Rattle.code_typing.specs.Order.{IsFrameBelow, IsAloneMet, is_settled, is_settled_at, StackBelow}
-use Rattle.bytecode_model.specs.Place.{Place}
+use Rattle.bytecode_model.specs.InsnPlace.{InsnPlace}
 use Rattle.bytecode_model.specs.Rules.{Frames, frame_of, covers, class_caught, local_caught, is_alone, is_handled, goes_well, catches_well, Successor, Caught, Depth, Operand, Local, Made, made_well, rule_failing, row_failing}
 use Rattle.bytecode_model.specs.Typed.{place_at}
 use Rattle.type_infer.specs.Laws.{Laws}
@@ -45,12 +45,12 @@ after_entry : {A : Type 0} (b : Bool) (x : A) (rest : Option A) → cond b (Some
 after_entry true x rest e = absurd cc
 after_entry false x rest e = e
 
-pub record IsRowMet (frames : Frames) (place : Place) (frame : FrameType) : Type 0 where
+pub record IsRowMet (frames : Frames) (place : InsnPlace) (frame : FrameType) : Type 0 where
   pub alone : IsAloneMet place frame
   pub successor : Successor frames place frame ≡ true
   pub caught : Caught frames place frame ≡ true
 
-rules_met : (frames : Frames) (place : Place) (frame : FrameType) → rule_failing frames place frame ≡ None → IsRowMet frames place frame
+rules_met : (frames : Frames) (place : InsnPlace) (frame : FrameType) → rule_failing frames place frame ≡ None → IsRowMet frames place frame
 rules_met frames place frame e =
     let depth = passed (Depth place frame) 2 _ e in
     let operand = passed (Operand place frame) 3 _ depth.1 in
@@ -64,20 +64,20 @@ pub insn_there : {A B : Type 0} (f : A → B) (o : Option A) (y : B) → option_
 insn_there f None y e = absurd cc
 insn_there f (Some x) y e = (x, refl, cc)
 
-pub row_of : (scope : Scope) (frames : Frames) (at : ℕ) (place : Place) → RowIsMet scope frames at → place_of scope at ≡ Some place → row_failing frames place (frame_of frames at) ≡ None
+pub row_of : (scope : Scope) (frames : Frames) (at : ℕ) (place : InsnPlace) → RowIsMet scope frames at → place_of scope at ≡ Some place → row_failing frames place (frame_of frames at) ≡ None
 row_of scope frames at place row there =
     let h = insn_there _ (slice_get scope.method.insns at) place there in
     let insn = h.0 in
     let e : option_and_then (λ (i : Insn). row_failing frames (place_at scope.program scope.own scope.class scope.method at i) (frame_of frames at)) (Some insn) ≡ None = rw h.1 at row in
-    subst (λ (p : Place). row_failing frames p (frame_of frames at) ≡ None) h.2 e
+    subst (λ (p : InsnPlace). row_failing frames p (frame_of frames at) ≡ None) h.2 e
 
-pub row_met : (scope : Scope) (frames : Frames) (at : ℕ) (place : Place) (frame : FrameType) → RowIsMet scope frames at → place_of scope at ≡ Some place → frame_of frames at ≡ Some frame
+pub row_met : (scope : Scope) (frames : Frames) (at : ℕ) (place : InsnPlace) (frame : FrameType) → RowIsMet scope frames at → place_of scope at ≡ Some place → frame_of frames at ≡ Some frame
     → IsRowMet frames place frame
 row_met scope frames at place frame row there e =
     let h : row_failing frames place (Some frame) ≡ None = ap (row_failing frames place) (sym e) ∙ row_of scope frames at place row there in
     rules_met frames place frame (after_entry _ 1 _ h)
 
-made_settled : (place : Place) (frame : FrameType) (shape : Shape) → made_well place frame shape ≡ true → is_settled_at place frame shape ≡ true
+made_settled : (place : InsnPlace) (frame : FrameType) (shape : Shape) → made_well place frame shape ≡ true → is_settled_at place frame shape ≡ true
 made_settled place frame (shapes.Heap heap.New) h = h
 made_settled place frame (shapes.Heap (heap.Return None)) h = h
 made_settled place frame other h = refl
@@ -97,16 +97,16 @@ alone_is class (types.UninitThis ∷ []) h = absurd cc
 alone_is class (types.Uninit i ∷ []) h = absurd cc
 alone_is class (t ∷ u ∷ stack) h = absurd cc
 
-pub goes_below : (place : Place) (frame to : FrameType) → goes_well place frame to ≡ true → AreBelow place.program (left_by place frame) to
+pub goes_below : (place : InsnPlace) (frame to : FrameType) → goes_well place frame to ≡ true → AreBelow place.program (left_by place frame) to
 goes_below place frame to h =
     let parts = and_parts _ _ h in
     record { operands = parts.0; locals = locals_below place.program _ to.locals parts.1 }
 
-pub record IsCaughtBy (place : Place) (frame : FrameType) (handler : Handler) (to : FrameType) : Type 0 where
+pub record IsCaughtBy (place : InsnPlace) (frame : FrameType) (handler : Handler) (to : FrameType) : Type 0 where
   pub stack : to.stack ≡ types.Ref (class_caught handler) ∷ []
   pub below : AreBelow place.program (thrown_to handler place frame) to
 
-pub catches_below : (place : Place) (frame : FrameType) (handler : Handler) (to : FrameType) → ((t : VType) → assignable place.program t t ≡ true) → catches_well place frame handler to ≡ true
+pub catches_below : (place : InsnPlace) (frame : FrameType) (handler : Handler) (to : FrameType) → ((t : VType) → assignable place.program t t ≡ true) → catches_well place frame handler to ≡ true
     → IsCaughtBy place frame handler to
 catches_below place frame handler to reflexive h =
     let parts = and_parts _ _ h in
@@ -118,30 +118,30 @@ catches_below place frame handler to reflexive h =
 -- ---- a frame that is found
 
 -- It is below one at which the rules are met, and meets those that ask nothing of other instructions.
-pub record IsUnder (scope : Scope) (above : Frames) (at : ℕ) (place : Place) (low : FrameType) : Type 0 where
+pub record IsUnder (scope : Scope) (above : Frames) (at : ℕ) (place : InsnPlace) (low : FrameType) : Type 0 where
   pub high : FrameType
   pub there : frame_of above at ≡ Some high
   pub row : IsRowMet above place high
   pub below : IsFrameBelow scope.program low high
   pub alone : IsAloneMet place low
 
-pub place_is : (scope : Scope) (at : ℕ) (place : Place) → place_of scope at ≡ Some place → (place.program ≡ scope.program) × (place.method ≡ scope.method) × (place.at ≡ at)
+pub place_is : (scope : Scope) (at : ℕ) (place : InsnPlace) → place_of scope at ≡ Some place → (place.program ≡ scope.program) × (place.method ≡ scope.method) × (place.at ≡ at)
 place_is scope at place there =
     let h = insn_there _ (slice_get scope.method.insns at) place there in
-    (ap (λ (p : Place). p.program) (sym h.2), ap (λ (p : Place). p.method) (sym h.2), ap (λ (p : Place). p.at) (sym h.2))
+    (ap (λ (p : InsnPlace). p.program) (sym h.2), ap (λ (p : InsnPlace). p.method) (sym h.2), ap (λ (p : InsnPlace). p.at) (sym h.2))
 
 module _ (scope : Scope) (laws : Laws scope.program) (above : Frames) where
-  pub is_under : (at : ℕ) (place : Place) (low : FrameType) → RowIsMet scope above at → place_of scope at ≡ Some place → IsFound scope above at low → IsUnder scope above at place low
+  pub is_under : (at : ℕ) (place : InsnPlace) (low : FrameType) → RowIsMet scope above at → place_of scope at ≡ Some place → IsFound scope above at low → IsUnder scope above at place low
   is_under at place low row there f =
       let same : f.place ≡ place = some_one f.place place (sym f.placed ∙ there) in
       let program = place_is scope at place there in
       let met = row_met scope above at place f.high row there f.there in
       let settled : is_settled f.place f.high ≡ true =
-      subst (λ (p : Place). is_settled p f.high ≡ true) (sym same) (made_settled place f.high (shape_of place.insn) met.alone.made) in
+      subst (λ (p : InsnPlace). is_settled p f.high ≡ true) (sym same) (made_settled place f.high (shape_of place.insn) met.alone.made) in
       let below = f.below f.high (laws.itself f.high) settled in
       let here : IsFrameBelow place.program low f.high = subst (λ (p : Program). IsFrameBelow p low f.high) (sym program.0) below in
       let order = subst IsInOrder (sym program.0) laws.order in
-      let kept = subst (λ (p : Place). is_settled p low ≡ true) same f.settled in
+      let kept = subst (λ (p : InsnPlace). is_settled p low ≡ true) same f.settled in
       let within = subst (λ (m : Method). length low.locals ≤ m.max_locals) (sym program.1) f.within in
       record { high = f.high; there = f.there; row = met; below = below; alone = laws.alone place order low f.high here met.alone kept within }
 
@@ -157,7 +157,7 @@ module _ (scope : Scope) (laws : Laws scope.program) (above : Frames) where
     pub there : frame_of above to ≡ Some high
     pub below : AreBelow scope.program left high
 
-  pub left_fits : (at : ℕ) (place : Place) (low : FrameType) → place_of scope at ≡ Some place → IsUnder scope above at place low → (to : ℕ) → Contains (successors at place.insn) to
+  pub left_fits : (at : ℕ) (place : InsnPlace) (low : FrameType) → place_of scope at ≡ Some place → IsUnder scope above at place low → (to : ℕ) → Contains (successors at place.insn) to
       → Fits to (left_by place low)
   left_fits at place low there u to c =
       let p = place_is scope at place there in
@@ -178,7 +178,7 @@ module _ (scope : Scope) (laws : Laws scope.program) (above : Frames) where
   handled false roomy below there h c = absurd cc
 
   -- The handler has room for what is thrown there, which may stand in the place of its frame above.
-  pub record IsThrown (place : Place) (low : FrameType) (handler : Handler) : Type 0 where
+  pub record IsThrown (place : InsnPlace) (low : FrameType) (handler : Handler) : Type 0 where
     pub room : 1 ≤ place.method.max_stack
     pub class : is_below scope.program (class_caught handler) throwable ≡ true
     pub high : FrameType
@@ -186,7 +186,7 @@ module _ (scope : Scope) (laws : Laws scope.program) (above : Frames) where
     pub stack : high.stack ≡ types.Ref (class_caught handler) ∷ []
     pub below : AreBelow scope.program (thrown_to handler place low) high
 
-  pub thrown_fits : (at : ℕ) (place : Place) (low : FrameType) → place_of scope at ≡ Some place → IsUnder scope above at place low → (handler : Handler) → Contains scope.method.handlers handler
+  pub thrown_fits : (at : ℕ) (place : InsnPlace) (low : FrameType) → place_of scope at ≡ Some place → IsUnder scope above at place low → (handler : Handler) → Contains scope.method.handlers handler
       → covers at handler ≡ true → IsThrown place low handler
   thrown_fits at place low there u handler c covered =
       let p = place_is scope at place there in

@@ -22,7 +22,7 @@ use Rattle.bytecode_model.specs.declared.program.Program.{Program}
 use Rattle.bytecode_model.specs.Classes.{is_below}
 use Rattle.bytecode_model.specs.Makes.{type_at}
 use Rattle.code_typing.specs.Order.{IsFrameBelow, is_settled_at, StackBelow}
-use Rattle.bytecode_model.specs.Place.{Place, is_maker}
+use Rattle.bytecode_model.specs.InsnPlace.{InsnPlace, is_maker}
 use Rattle.bytecode_model.specs.Rules.{Frames, frame_of, covers, class_caught, entry_locals, is_alone, goes_well, catches_well, Successor, Caught, Entry, rule_failing, row_failing}
 use Rattle.bytecode_model.specs.Typed.{place_at}
 use Rattle.type_infer.specs.Laws.{Laws}
@@ -60,7 +60,7 @@ one_operand class (t ∷ []) n e = ap (λ (u : VType). is_alone class (u ∷ [])
 one_operand class (t ∷ u ∷ stack) n e = absurd (omega arith)
 
 -- a frame of Top but for what is thrown has no object
-thrown_settled : (place : Place) (class : List ℕ) (shape : Shape) → is_settled_at place (record { locals = []; stack = types.Ref class ∷ [] }) shape ≡ true
+thrown_settled : (place : InsnPlace) (class : List ℕ) (shape : Shape) → is_settled_at place (record { locals = []; stack = types.Ref class ∷ [] }) shape ≡ true
 thrown_settled place class (shapes.Heap heap.New) = refl
 thrown_settled place class (shapes.Heap (heap.Return None)) =
     elim (cases_Bool (is_maker place.method)) [
@@ -71,7 +71,7 @@ thrown_settled place class other = refl
 
 module _ (scope : Scope) (laws : Laws scope.program) (limit : ℕ) (above : Frames) (met : IsMetBy scope limit above) (state : State) (h : Holds scope limit above state)
     (over : (at : ℕ) → at < limit → is_marked state.marks at ≡ false) where
-  module _ (at : ℕ) (within : at < limit) (place : Place) (there : place_of scope at ≡ Some place) (low : FrameType) (is : frame_of state.frames at ≡ Some low) where
+  module _ (at : ℕ) (within : at < limit) (place : InsnPlace) (there : place_of scope at ≡ Some place) (low : FrameType) (is : frame_of state.frames at ≡ Some low) where
     under : IsUnder scope above at place low
     under = is_under scope laws above at place low (met.met at within) there (h.found.found at low is)
 
@@ -145,7 +145,7 @@ module _ (scope : Scope) (laws : Laws scope.program) (limit : ℕ) (above : Fram
           | inr later ↦ rw later rules
         ]
 
-  unreached : (at : ℕ) (place : Place) → place_of scope at ≡ Some place → frame_of state.frames at ≡ None → row_failing state.frames place None ≡ None
+  unreached : (at : ℕ) (place : InsnPlace) → place_of scope at ≡ Some place → frame_of state.frames at ≡ None → row_failing state.frames place None ≡ None
   unreached at place there none =
       elim (cases_Bool (place.at == 0)) [
         | inl first ↦
@@ -157,7 +157,7 @@ module _ (scope : Scope) (laws : Laws scope.program) (limit : ℕ) (above : Fram
         | inr later ↦ rw later refl
       ]
 
-  frame_row : (at : ℕ) → at < limit → (place : Place) → place_of scope at ≡ Some place → (o : Option FrameType) → frame_of state.frames at ≡ o → row_failing state.frames place o ≡ None
+  frame_row : (at : ℕ) → at < limit → (place : InsnPlace) → place_of scope at ≡ Some place → (o : Option FrameType) → frame_of state.frames at ≡ o → row_failing state.frames place o ≡ None
   frame_row at within place there None is = unreached at place there is
   frame_row at within place there (Some low) is = row at within place there low is
 
@@ -169,7 +169,7 @@ module _ (scope : Scope) (laws : Laws scope.program) (limit : ℕ) (above : Fram
       let there : place_of scope at ≡ Some place = ap (option_map (λ (i : Insn). place_at scope.program scope.own scope.class scope.method at i)) is in
       frame_row at within place there (frame_of state.frames at) refl
 
-  place_for : (at : ℕ) (low : FrameType) → frame_of state.frames at ≡ Some low → (place : Place) × (place_of scope at ≡ Some place)
+  place_for : (at : ℕ) (low : FrameType) → frame_of state.frames at ≡ Some low → (place : InsnPlace) × (place_of scope at ≡ Some place)
   place_for at low is = let f = h.found.found at low is in (f.place, f.placed)
 
   pub solution : IsSolution scope limit above state.frames

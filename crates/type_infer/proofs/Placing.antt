@@ -9,7 +9,7 @@ use Rattle.bytecode_model.specs.declared.program.Method.{Method}
 use Rattle.bytecode_model.specs.declared.program.Program.{Program}
 use Rattle.code_typing.specs.declared.fault.TypeFault.{TypeFault}
 use Rattle.bytecode_model.specs.Rules.{Frames}
-use Rattle.bytecode_model.specs.Shape.{has_code}
+use Rattle.bytecode_model.specs.Layout.{has_code}
 use Rattle.code_typing.specs.First.{first_row, method_fault, methods_fault, classes_fault, typing_fault}
 use Rattle.bytecode_model.specs.Typed.{row_in, list_at}
 use Rattle.type_infer.specs.Untyped.{HasPlace}

@@ -10,7 +10,7 @@ use Rattle.bytecode_model.specs.Assigning.{assignable}
 use Rattle.type_lattice.specs.Merging.{merged}
 use Rattle.bytecode_model.specs.Makes.{type_at}
 use Rattle.code_typing.specs.Order.{IsFrameBelow, is_settled}
-use Rattle.bytecode_model.specs.Place.{Place}
+use Rattle.bytecode_model.specs.InsnPlace.{InsnPlace}
 use Rattle.type_infer.specs.Solving.{Left, AreBelow, OldIsBelow, IsRaised, IsRaisedBy, IsKept, IsUnlessBelow, local_settled, operand_settled}
 use Rattle.type_infer.proofs.Below.{below_over, stack_height, stack_at, stack_below}
 use Rattle.type_infer.proofs.Settling.{local_above, operand_above, local_least, operand_least, are_settled}
@@ -26,14 +26,14 @@ pub record IsLeastAbove (program : Program) (old : Option FrameType) (left : Lef
   pub least_operands : (high : FrameType) → AreBelow program left high → OldIsBelow program old high → (j : ℕ) → assignable program (y j) (type_at high.stack j) ≡ true
 
 -- The frame has these types where none is an object that may not be found.
-pub record IsSettledOf (place : Place) (n : ℕ) (x y : ℕ → VType) (now : FrameType) : Type 0 where
+pub record IsSettledOf (place : InsnPlace) (n : ℕ) (x y : ℕ → VType) (now : FrameType) : Type 0 where
   pub height : length now.stack ≡ n
   pub locals : (j : ℕ) → type_at now.locals j ≡ local_settled place (shape_of place.insn) (x j)
   pub operands : (j : ℕ) → type_at now.stack j ≡ operand_settled place (shape_of place.insn) (y j)
   pub within : length now.locals ≤ place.method.max_locals
 
 -- What is known of the frame of these locals and operands, where no object is that may not be found.
-pub record IsSettledBy (place : Place) (locals operands : List VType) (told : Option FrameType) : Type 0 where
+pub record IsSettledBy (place : InsnPlace) (locals operands : List VType) (told : Option FrameType) : Type 0 where
   pub some : length locals ≤ place.method.max_locals → length operands ≤ place.method.max_stack → IsSome told
   pub within : IfSome told (λ (now : FrameType). length now.locals ≤ place.method.max_locals)
   pub height : IfSome told (λ (now : FrameType). length now.stack ≡ length operands)
@@ -46,7 +46,7 @@ some_of P (Some y) x e h =
     let same : y ≡ x = cc in
     subst P same h
 
-pub settled_of : (place : Place) (locals operands : List VType) (told : Option FrameType) (n : ℕ) (x y : ℕ → VType) (now : FrameType) → IsSettledBy place locals operands told → told ≡ Some now
+pub settled_of : (place : InsnPlace) (locals operands : List VType) (told : Option FrameType) (n : ℕ) (x y : ℕ → VType) (now : FrameType) → IsSettledBy place locals operands told → told ≡ Some now
     → length operands ≡ n → ((j : ℕ) → type_at locals j ≡ x j) → ((j : ℕ) → type_at operands j ≡ y j) → IsSettledOf place n x y now
 settled_of place locals operands told n x y now s e h l o = record {
   height = some_of _ told now e s.height ∙ h;
@@ -55,7 +55,7 @@ settled_of place locals operands told n x y now s e h l o = record {
   within = some_of _ told now e s.within;
 }
 
-module _ (place : Place) (reflexive : (t : VType) → assignable place.program t t ≡ true) where
+module _ (place : InsnPlace) (reflexive : (t : VType) → assignable place.program t t ≡ true) where
   module _ (transitive : (t u v : VType) → assignable place.program t u ≡ true → assignable place.program u v ≡ true → assignable place.program t v ≡ true) where
     module _ (old : Option FrameType) (left : Left) (x y : ℕ → VType) (now : FrameType) (l : IsLeastAbove place.program old left x y) (s : IsSettledOf place (length left.operands) x y now) where
       over_locals : (t : VType) (j : ℕ) → assignable place.program t (x j) ≡ true → assignable place.program t (type_at now.locals j) ≡ true
@@ -163,7 +163,7 @@ module _ (program : Program) (reflexive : (t : VType) → assignable program t t
 
 -- ---- a frame that is told
 
-module _ (place : Place) (reflexive : (t : VType) → assignable place.program t t ≡ true)
+module _ (place : InsnPlace) (reflexive : (t : VType) → assignable place.program t t ≡ true)
     (transitive : (t u v : VType) → assignable place.program t u ≡ true → assignable place.program u v ≡ true → assignable place.program t v ≡ true)
     (itself : (frame : FrameType) → IsFrameBelow place.program frame frame) where
   some_is : (o : Option FrameType) → IsSome o → (x : FrameType) × (o ≡ Some x)

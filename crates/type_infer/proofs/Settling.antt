@@ -13,7 +13,7 @@ use Rattle.insn_codec.specs.declared.shape.Shape.TheVariants as shapes
 use Rattle.bytecode_model.specs.Assigning.{assignable}
 use Rattle.bytecode_model.specs.Makes.{type_at, is_same_object}
 use Rattle.code_typing.specs.Order.{is_settled_at}
-use Rattle.bytecode_model.specs.Place.{Place, is_maker}
+use Rattle.bytecode_model.specs.InsnPlace.{InsnPlace, is_maker}
 use Rattle.bytecode_model.specs.Rules.{has_object}
 use Rattle.type_infer.specs.Solving.{unless, local_settled, operand_settled}
 
@@ -98,7 +98,7 @@ module _ (program : Program) (reflexive : (t : VType) → assignable program t t
 
   -- ---- before an instruction
 
-  module _ (place : Place) where
+  module _ (place : InsnPlace) where
     pub local_above : (shape : Shape) (t : VType) → assignable program t (local_settled place shape t) ≡ true
     local_above (shapes.Heap (heap.Return None)) t =
         elim (cases_Bool (is_maker place.method)) [
@@ -150,7 +150,7 @@ module _ (program : Program) (reflexive : (t : VType) → assignable program t t
 
 -- ---- what is settled
 
-module _ (place : Place) (now : FrameType) (x y : ℕ → VType) where
+module _ (place : InsnPlace) (now : FrameType) (x y : ℕ → VType) where
   false_not : (b : Bool) → b ≡ false → not b ≡ true
   false_not true e = absurd cc
   false_not false e = refl

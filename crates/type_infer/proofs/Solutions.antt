@@ -9,7 +9,7 @@ use Rattle.cert_format.specs.declared.typing.VType.{VType}
 use Rattle.bytecode_model.specs.declared.program.Program.{Program}
 use Rattle.bytecode_model.specs.Assigning.{assignable}
 use Rattle.bytecode_model.specs.Makes.{type_at}
-use Rattle.bytecode_model.specs.Place.{Place}
+use Rattle.bytecode_model.specs.InsnPlace.{InsnPlace}
 use Rattle.bytecode_model.specs.Rules.{Frames, frame_of, entry_locals, Entry, rule_failing, row_failing}
 use Rattle.type_infer.specs.Laws.{Laws}
 use Rattle.type_infer.specs.Solving.{Scope, State, place_of, is_marked, put, unmarked, AreFound, AreBelow, IsRaisedBy, HasCome, IsDone, Grows, Holds, IsMetBy, begun}
@@ -34,11 +34,11 @@ some_none x e = absurd cc
 -- ---- the begin
 
 module _ (scope : Scope) (laws : Laws scope.program) where
-  pub record IsEntered (above : Frames) (place : Place) : Type 0 where
+  pub record IsEntered (above : Frames) (place : InsnPlace) : Type 0 where
     pub fits : Fits scope laws above 0 (begun place)
     pub within : length (entry_locals place) ≤ place.method.max_locals
 
-  entered_from : (above : Frames) (place : Place) → place_of scope 0 ≡ Some place → (frame : Option FrameType) → frame_of above 0 ≡ frame → row_failing above place frame ≡ None → IsEntered above place
+  entered_from : (above : Frames) (place : InsnPlace) → place_of scope 0 ≡ Some place → (frame : Option FrameType) → frame_of above 0 ≡ frame → row_failing above place frame ≡ None → IsEntered above place
   entered_from above place there None is row =
       let at : place.at ≡ 0 = (place_is scope 0 place there).2 in
       let fails : row_failing above place None ≡ Some 1 = ap (λ (n : ℕ). if n == 0 then Some 1 else None) at in
@@ -58,7 +58,7 @@ module _ (scope : Scope) (laws : Laws scope.program) where
         within = leb-true (length (entry_locals place)) place.method.max_locals parts.0;
       }
 
-  pub entered : (limit : ℕ) (above : Frames) (place : Place) → IsMetBy scope limit above → place_of scope 0 ≡ Some place → IsEntered above place
+  pub entered : (limit : ℕ) (above : Frames) (place : InsnPlace) → IsMetBy scope limit above → place_of scope 0 ≡ Some place → IsEntered above place
   entered limit above place m there = entered_from above place there (frame_of above 0) refl (row_of scope above 0 place (m.met 0 m.some) there)
 
   -- before anything is found
@@ -88,7 +88,7 @@ module _ (scope : Scope) (laws : Laws scope.program) where
     };
   }
 
-  pub begun_holds : (limit : ℕ) (above : Frames) (place : Place) (told : Option FrameType) → place_of scope 0 ≡ Some place → IsEntered above place → IsRaisedBy place None (begun place) told
+  pub begun_holds : (limit : ℕ) (above : Frames) (place : InsnPlace) (told : Option FrameType) → place_of scope 0 ≡ Some place → IsEntered above place → IsRaisedBy place None (begun place) told
       → Holds scope limit above (put nothing 0 told)
   begun_holds limit above place told there entry raised =
       let found = none_found above in
@@ -100,7 +100,7 @@ module _ (scope : Scope) (laws : Laws scope.program) where
       some_none frame (sym (frame_of-replicate (length scope.method.insns) at) ∙ sym (put_unmarked nothing 0 told within at e).1 ∙ is) in
       record {
         found = put_found scope laws above nothing found 0 place there (begun place) entry.fits told r;
-        begun = λ other is. subst (λ (p : Place). HasCome scope.program (put nothing 0 told).frames 0 (begun p)) (some_one place other (sym there ∙ is)) come;
+        begun = λ other is. subst (λ (p : InsnPlace). HasCome scope.program (put nothing 0 told).frames 0 (begun p)) (some_one place other (sym there ∙ is)) come;
         done = λ at h. record {
           goes = λ other at_place to c e q frame is at_frame. absurd (absent at frame e at_frame);
           throws = λ handler c covered e q frame is at_frame. absurd (absent at frame e at_frame);

@@ -13,7 +13,7 @@ use Rattle.bytecode_model.specs.declared.program.Program.{Program}
 use Rattle.bytecode_model.specs.Assigning.{assignable}
 use Rattle.bytecode_model.specs.Makes.{type_at}
 use Rattle.code_typing.specs.Order.{IsFrameBelow, is_settled, StackBelow}
-use Rattle.bytecode_model.specs.Place.{Place}
+use Rattle.bytecode_model.specs.InsnPlace.{InsnPlace}
 use Rattle.bytecode_model.specs.Rules.{Frames, frame_of}
 use Rattle.type_infer.specs.Laws.{Laws}
 use Rattle.type_infer.specs.Solving.{Scope, State, place_of, put, is_marked, AreFound, IsFound, Left, AreBelow, OldIsBelow, IsRaisedBy, IsKept, IsOfHeight, HasCome, HasGone, IsDone, Grows}
@@ -23,7 +23,7 @@ use Rattle.type_infer.proofs.Lists.{frame_of-set_same, frame_of-set_other, is_ma
 
 -- ---- two lefts with the same types
 
-module _ (place : Place) (old : Option FrameType) (a b : Left) (operands : a.operands ≡ b.operands) (locals : (j : ℕ) → a.locals j ≡ b.locals j) where
+module _ (place : InsnPlace) (old : Option FrameType) (a b : Left) (operands : a.operands ≡ b.operands) (locals : (j : ℕ) → a.locals j ≡ b.locals j) where
   to_other : (program : Program) (frame : FrameType) → AreBelow program a frame → AreBelow program b frame
   to_other program frame h = record {
     operands = subst (λ (s : List VType). StackBelow program s frame.stack) operands h.operands;
@@ -124,7 +124,7 @@ module _ (program : Program) (itself : (frame : FrameType) → IsFrameBelow prog
         record { frame = up.0; there = up.1.0; below = below_over program transitive left h.frame up.0 h.below up.1.1 }
 
 module _ (scope : Scope) (laws : Laws scope.program) where
-  pub gone_grows : (old new : State) → Grows scope.program old new → (at to : ℕ) (left : Place → FrameType → Left) → HasGone scope old at to left → HasGone scope new at to left
+  pub gone_grows : (old new : State) → Grows scope.program old new → (at to : ℕ) (left : InsnPlace → FrameType → Left) → HasGone scope old at to left → HasGone scope new at to left
   gone_grows old new g at to left h e place frame there is =
       let before = g.unmarked at e in
       come_grows scope.program laws.itself laws.over laws.transitive old new g to (left place frame) (h before.0 place frame there (sym before.1 ∙ is))
@@ -137,12 +137,12 @@ module _ (scope : Scope) (laws : Laws scope.program) where
 
   -- ---- what comes to an instruction
 
-  pub is_place : (at : ℕ) (place : Place) → place_of scope at ≡ Some place → at < length scope.method.insns
+  pub is_place : (at : ℕ) (place : InsnPlace) → place_of scope at ≡ Some place → at < length scope.method.insns
   is_place at place e =
       let h = insn_there _ (slice_get scope.method.insns at) place e in
       slice_get_within scope.method.insns at h.0 h.1
 
-  module _ (above : Frames) (old : State) (found : AreFound scope above old) (to : ℕ) (place : Place) (there : place_of scope to ≡ Some place) (left : Left) (fits : Fits scope laws above to left) where
+  module _ (above : Frames) (old : State) (found : AreFound scope above old) (to : ℕ) (place : InsnPlace) (there : place_of scope to ≡ Some place) (left : Left) (fits : Fits scope laws above to left) where
     pub of_height : IsOfHeight (frame_of old.frames to) (length left.operands)
     of_height frame e =
         let f = found.found to frame e in
@@ -174,11 +174,11 @@ module _ (scope : Scope) (laws : Laws scope.program) where
                 let under = below_over scope.program laws.transitive left fits.high settled fits.below h in
                 let stands = λ (frame : FrameType) (e : frame_of old.frames to ≡ Some frame).
                 (found.found to frame e).below settled (subst (λ (f : FrameType). IsFrameBelow scope.program f settled) (sym (old_high frame e)) h)
-                (subst (λ (q : Place). is_settled q settled ≡ true) (sym (old_place frame e)) is) in
+                (subst (λ (q : InsnPlace). is_settled q settled ≡ true) (sym (old_place frame e)) is) in
                 let least = r.1.1.least settled is (subst (λ (q : Program). AreBelow q left settled) (sym p.0) under)
                 (subst (λ (q : Program). OldIsBelow q (frame_of old.frames to) settled) (sym p.0) stands) in
                 subst (λ (q : Program). IsFrameBelow q r.0 settled) p.0 least;
-            settled = r.1.1.settled (λ frame e. subst (λ (q : Place). is_settled q frame ≡ true) (old_place frame e) (found.found to frame e).settled);
+            settled = r.1.1.settled (λ frame e. subst (λ (q : InsnPlace). is_settled q frame ≡ true) (old_place frame e) (found.found to frame e).settled);
             within =
                 subst (λ (m : Method). length r.0.locals ≤ m.max_locals) p.1
                 (r.1.1.within (λ frame e. subst (λ (m : Method). length frame.locals ≤ m.max_locals) (sym p.1) (found.found to frame e).within));
@@ -198,13 +198,13 @@ module _ (scope : Scope) (laws : Laws scope.program) where
       }
 
       -- what an instruction left has come, unless its frame is raised by that
-      pub has_gone : (at : ℕ) (from : Place) (low : FrameType) (of : Place → FrameType → Left) → place_of scope at ≡ Some from → frame_of old.frames at ≡ Some low → of from low ≡ left
+      pub has_gone : (at : ℕ) (from : InsnPlace) (low : FrameType) (of : InsnPlace → FrameType → Left) → place_of scope at ≡ Some from → frame_of old.frames at ≡ Some low → of from low ≡ left
           → HasGone scope (put old to told) at to of
       has_gone at from low of p f is e other frame there' is' =
           let same = put_unmarked old to told (omega (arith, is_place to place there, found.marks)) at e in
           let one : from ≡ other = some_one from other (sym p ∙ there') in
           let two : low ≡ frame = some_one low frame (sym f ∙ sym same.1 ∙ is') in
-          subst (λ (q : Place). HasCome scope.program (put old to told).frames to (of q frame)) one
+          subst (λ (q : InsnPlace). HasCome scope.program (put old to told).frames to (of q frame)) one
           (subst (λ (g : FrameType). HasCome scope.program (put old to told).frames to (of from g)) two
           (subst (λ (l : Left). HasCome scope.program (put old to told).frames to l) (sym is) has_come))
 

@@ -19,9 +19,9 @@ use Rattle.bytecode_model.specs.Sound.{IsSoundMethod}
 use Rattle.bytecode_model.specs.Order.{IsInOrder}
 use Rattle.bytecode_model.specs.Makes.{type_at, is_same_object, local_after, stack_after}
 use Rattle.code_typing.specs.Order.{StackBelow, LocalsBelow, IsFrameBelow, is_settled}
-use Rattle.bytecode_model.specs.Place.{Place, is_maker}
+use Rattle.bytecode_model.specs.InsnPlace.{InsnPlace, is_maker}
 use Rattle.bytecode_model.specs.Rules.{Frames, frame_of, taken, entry_locals, covers, class_caught, local_caught}
-use Rattle.bytecode_model.specs.Shape.{has_code}
+use Rattle.bytecode_model.specs.Layout.{has_code}
 use Rattle.bytecode_model.specs.Typed.{row_in, place_at, list_at}
 use Rattle.bytecode_model.specs.Wants.{takes}
 use Rattle.type_infer.specs.Untyped.{AreMet}
@@ -36,7 +36,7 @@ pub record Scope : Type 0 where
   pub method : Method
 
 -- Its instruction of this index.
-abbrev pub place_of : Scope → ℕ → Option Place
+abbrev pub place_of : Scope → ℕ → Option InsnPlace
 place_of scope at = option_map (λ (insn : Insn). place_at scope.program scope.own scope.class scope.method at insn) (slice_get scope.method.insns at)
 
 -- The frames found so far, and for each instruction whether it is to be looked at.
@@ -63,11 +63,11 @@ abbrev pub unless : VType → VType → VType
 unless object t = if is_same_object object t then types.Top else t
 
 -- What a local, and what an operand, is before an instruction that may not find an object that is not made yet.
-abbrev pub local_settled : Place → Shape → VType → VType
+abbrev pub local_settled : InsnPlace → Shape → VType → VType
 local_settled place (shapes.Heap (heap.Return None)) t = if is_maker place.method then unless types.UninitThis t else t
 local_settled place other t = t
 
-abbrev pub operand_settled : Place → Shape → VType → VType
+abbrev pub operand_settled : InsnPlace → Shape → VType → VType
 operand_settled place (shapes.Heap heap.New) t = unless (types.Uninit place.at) t
 operand_settled place (shapes.Heap (heap.Return None)) t = if is_maker place.method then unless types.UninitThis t else t
 operand_settled place other t = t
@@ -87,7 +87,7 @@ abbrev pub OldIsBelow : Program → Option FrameType → FrameType → Type 0
 OldIsBelow program old to = (frame : FrameType) → old ≡ Some frame → IsFrameBelow program frame to
 
 -- The least frame above both what stands there and what comes, where some objects pass as Top alone.
-pub record IsRaised (place : Place) (old : Option FrameType) (left : Left) (now : FrameType) : Type 0 where
+pub record IsRaised (place : InsnPlace) (old : Option FrameType) (left : Left) (now : FrameType) : Type 0 where
   pub came : AreBelow place.program left now
   pub kept : OldIsBelow place.program old now
   pub least : (high : FrameType) → IsTrue (is_settled place high) → AreBelow place.program left high → OldIsBelow place.program old high → IsFrameBelow place.program now high
@@ -95,7 +95,7 @@ pub record IsRaised (place : Place) (old : Option FrameType) (left : Left) (now 
   pub within : ((frame : FrameType) → old ≡ Some frame → length frame.locals ≤ place.method.max_locals) → length now.locals ≤ place.method.max_locals
 
 -- Such a frame is the one that is told, or it stands there and none is told.
-abbrev pub IsRaisedBy : Place → Option FrameType → Left → Option FrameType → Type 0
+abbrev pub IsRaisedBy : InsnPlace → Option FrameType → Left → Option FrameType → Type 0
 IsRaisedBy place old left told = (now : FrameType) × ((option_or told old ≡ Some now) × IsRaised place old left now)
 
 -- What is told, the frame that stands there is below.
@@ -113,16 +113,16 @@ IsOfHeight old n = (frame : FrameType) → old ≡ Some frame → length frame.s
 -- ---- what flows
 
 -- What an instruction leaves for the next, what it throws to a handler, and what a method begins with.
-abbrev pub left_by : Place → FrameType → Left
+abbrev pub left_by : InsnPlace → FrameType → Left
 left_by place frame = record {
   locals = local_after place frame.locals (taken place frame);
   operands = stack_after place frame.locals (length (takes place)) frame.stack;
 }
 
-abbrev pub thrown_to : Handler → Place → FrameType → Left
+abbrev pub thrown_to : Handler → InsnPlace → FrameType → Left
 thrown_to handler place frame = record { locals = local_caught frame.locals; operands = types.Ref (class_caught handler) ∷ [] }
 
-abbrev pub begun : Place → Left
+abbrev pub begun : InsnPlace → Left
 begun place = record { locals = type_at (entry_locals place); operands = [] }
 
 -- The next instruction, where control can go on to it.
@@ -136,14 +136,14 @@ pub record HasCome (program : Program) (frames : Frames) (to : ℕ) (left : Left
   pub below : AreBelow program left frame
 
 -- What an instruction leaves has come to another, or the instruction is to be looked at again.
-abbrev pub HasGone : Scope → State → ℕ → ℕ → (Place → FrameType → Left) → Type 0
+abbrev pub HasGone : Scope → State → ℕ → ℕ → (InsnPlace → FrameType → Left) → Type 0
 HasGone scope state at to left =
-    is_marked state.marks at ≡ false → (place : Place) (frame : FrameType) → place_of scope at ≡ Some place → frame_of state.frames at ≡ Some frame
+    is_marked state.marks at ≡ false → (place : InsnPlace) (frame : FrameType) → place_of scope at ≡ Some place → frame_of state.frames at ≡ Some frame
     → HasCome scope.program state.frames to (left place frame)
 
 -- All that it leaves and throws has.
 pub record IsDone (scope : Scope) (state : State) (at : ℕ) : Type 0 where
-  pub goes : (place : Place) → place_of scope at ≡ Some place → (to : ℕ) → Contains (successors at place.insn) to → HasGone scope state at to left_by
+  pub goes : (place : InsnPlace) → place_of scope at ≡ Some place → (to : ℕ) → Contains (successors at place.insn) to → HasGone scope state at to left_by
   pub throws : (handler : Handler) → Contains scope.method.handlers handler → IsTrue (covers at handler) → HasGone scope state at handler.at (thrown_to handler)
 
 -- ---- below other frames
@@ -165,7 +165,7 @@ pub record IsMetBy (scope : Scope) (limit : ℕ) (above : Frames) : Type 0 where
 
 -- A frame that is found is below each one that has no object where a rule forbids it and is above the one there.
 pub record IsFound (scope : Scope) (above : Frames) (at : ℕ) (low : FrameType) : Type 0 where
-  pub place : Place
+  pub place : InsnPlace
   pub placed : place_of scope at ≡ Some place
   pub high : FrameType
   pub there : frame_of above at ≡ Some high
@@ -190,7 +190,7 @@ pub record Grows (program : Program) (old new : State) : Type 0 where
 abbrev pub StaysFound : Scope → ℕ → State → State → Type 0
 StaysFound scope at old new = (above : Frames) → RowIsMet scope above at → AreFound scope above old → AreFound scope above new
 
-abbrev pub IsSent : Scope → ℕ → ℕ → (Place → FrameType → Left) → State → State → Type 0
+abbrev pub IsSent : Scope → ℕ → ℕ → (InsnPlace → FrameType → Left) → State → State → Type 0
 IsSent scope at to left old new = (above : Frames) → RowIsMet scope above at → AreFound scope above old → HasGone scope new at to left
 
 -- ---- the whole
@@ -198,7 +198,7 @@ IsSent scope at to left old new = (above : Frames) → RowIsMet scope above at �
 -- What is known of the frames while the method is looked through.
 pub record Holds (scope : Scope) (limit : ℕ) (above : Frames) (state : State) : Type 0 where
   pub found : AreFound scope above state
-  pub begun : (place : Place) → place_of scope 0 ≡ Some place → HasCome scope.program state.frames 0 (begun place)
+  pub begun : (place : InsnPlace) → place_of scope 0 ≡ Some place → HasCome scope.program state.frames 0 (begun place)
   pub done : (at : ℕ) → at < limit → IsDone scope state at
 
 -- The frames meet the rules, and each is below the one there.

@@ -3,7 +3,7 @@
 ghost use Rattle.std.specs.Prelude.{◌≡◌, length, map, IfOk, IfErr};
 ghost use Rattle.std.specs.List.{AllByRecursion};
 ghost use Rattle.bytecode_model.specs.Sound.{IsSound, IsSoundClass};
-ghost use Rattle.bytecode_model.specs.Shape.{IsShaped};
+ghost use Rattle.bytecode_model.specs.Layout.{IsLaidOut};
 ghost use Rattle.bytecode_model.specs.Typed.{IsTyped};
 ghost use Rattle.type_infer.specs.Fits.{FitFrames, FitsTyping};
 ghost use Rattle.type_infer.specs.Shape.{class_shape};
@@ -55,7 +55,7 @@ fn class_frames(
 /// The frames of the program, which may fail the rules.
 fn program_frames(alloc: Global, program: &Indexed) -> Result<Typing, NoMemory>
     requires { IsSound program.now }
-    ensures shaped { IfOk result (λ typing. IsShaped program.now typing.frames) }
+    ensures shaped { IfOk result (λ typing. IsLaidOut program.now typing.frames) }
     ensures fits { IfOk result (λ typing. FitsTyping typing) }
     ensures solved { IfOk result (λ typing. ClassesAreSolved program.now 0 program.now.classes typing.frames) }
 {
@@ -117,7 +117,7 @@ pub fn infer(alloc: Global, program: &Indexed) -> Result<Typing, InferFault>
     // The rules are met.
     ensures typed { IfOk result (λ typing. IsTyped program.now typing) }
     // There is a frame, or none, for each instruction.
-    ensures shaped { IfOk result (λ typing. IsShaped program.now typing.frames) }
+    ensures shaped { IfOk result (λ typing. IsLaidOut program.now typing.frames) }
     // A certificate can tell each frame.
     ensures spelled { IfOk result (λ typing. FitsTyping typing) }
     // It is the least typing that meets the rules.

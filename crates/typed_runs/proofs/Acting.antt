@@ -12,7 +12,7 @@ use Rattle.insn_codec.specs.declared.insn.Insn.{Insn}
 use Rattle.insn_codec.specs.declared.shape.Heap.{Heap}
 use Rattle.insn_codec.specs.declared.shape.Heap.TheVariants as heap_shapes
 use Rattle.insn_codec.specs.declared.shape.How.{How}
-use Rattle.insn_codec.specs.declared.shape.Kind.{Kind}
+use Rattle.insn_codec.specs.declared.shape.ValueKind.{ValueKind}
 use Rattle.insn_codec.specs.declared.shape.Shape.{Shape}
 use Rattle.insn_codec.specs.declared.shape.Shape.TheVariants as shapes
 use Rattle.insn_codec.specs.Following.{Paired}
@@ -243,7 +243,7 @@ module _ (program : Program) (typing : Typing) (ok : IsTypedProgram program typi
 
   -- ---- returns
 
-  returns_fit : (kind : Option Kind) → shape_of r.stands.insn ≡ shapes.Heap (heap_shapes.Return kind) → IfThere Fits (returns program world acting kind)
+  returns_fit : (kind : Option ValueKind) → shape_of r.stands.insn ≡ shapes.Heap (heap_shapes.Return kind) → IfThere Fits (returns program world acting kind)
   returns_fit kind shape =
       let g = gives program typing ok machine.heap frame r kind shape in
       let held = all_given_up world.monitors number (option_to_list frame.lock) in

@@ -24,7 +24,7 @@ use Rattle.bytecode_model.specs.Described.{type_described}
 use Rattle.bytecode_model.specs.Heads.{desc_of, initialiser, is_abstract, is_static, main_desc, main_name, maker, takes_nothing}
 use Rattle.bytecode_model.specs.Operands.{place_of}
 use Rattle.bytecode_model.specs.SearchOrder.{Name}
-use Rattle.bytecode_model.specs.Shape.{has_code}
+use Rattle.bytecode_model.specs.Layout.{has_code}
 use Rattle.guest_heap.specs.declared.object.Object.{Object}
 use Rattle.guest_heap.specs.declared.object.Object.TheVariants as objects
 use Rattle.guest_heap.specs.declared.value.Value.{Value}

@@ -20,7 +20,7 @@ use Rattle.insn_codec.specs.Shapes.{shape_of}
 use Rattle.bytecode_model.specs.declared.program.Program.{Program}
 use Rattle.bytecode_model.specs.declared.program.Target.TheVariants as target
 use Rattle.bytecode_model.specs.Described.{arguments, result_type, type_described, types_at}
-use Rattle.bytecode_model.specs.Place.{desc_referred, has_receiver}
+use Rattle.bytecode_model.specs.InsnPlace.{desc_referred, has_receiver}
 use Rattle.bytecode_model.specs.SearchOrder.{Name}
 use Rattle.bytecode_model.specs.Targets.{Calls}
 use Rattle.bytecode_model.specs.Uses.{UsesAreShaped}

@@ -19,7 +19,7 @@ use Rattle.bytecode_model.specs.declared.program.Program.{Program}
 use Rattle.bytecode_model.specs.declared.program.Target.{Target}
 use Rattle.bytecode_model.specs.Described.{arguments, result_type, type_described, types_at}
 use Rattle.bytecode_model.specs.Heads.{is_static, maker, run_name, takes_nothing}
-use Rattle.bytecode_model.specs.Place.{desc_referred}
+use Rattle.bytecode_model.specs.InsnPlace.{desc_referred}
 use Rattle.bytecode_model.specs.Rules.{arguments_typed}
 use Rattle.bytecode_model.specs.SearchOrder.{Name}
 use Rattle.bytecode_model.specs.Uses.{UsesAreShaped}

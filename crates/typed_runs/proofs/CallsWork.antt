@@ -11,7 +11,7 @@ use Rattle.bytecode_model.specs.declared.program.Program.{Program}
 use Rattle.bytecode_model.specs.declared.program.Target.{Target}
 use Rattle.bytecode_model.specs.declared.program.Target.TheVariants as target
 use Rattle.bytecode_model.specs.Described.{result_type}
-use Rattle.bytecode_model.specs.Place.{has_receiver}
+use Rattle.bytecode_model.specs.InsnPlace.{has_receiver}
 use Rattle.bytecode_model.specs.SearchOrder.{Name}
 use Rattle.bytecode_model.specs.Targets.{Calls}
 use Rattle.bytecode_model.specs.Uses.{UsesAreShaped}

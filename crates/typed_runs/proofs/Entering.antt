@@ -16,7 +16,7 @@ use Rattle.bytecode_model.specs.declared.program.Program.{Program}
 use Rattle.bytecode_model.specs.Described.{arguments, result_type, type_described, types_at}
 use Rattle.bytecode_model.specs.Heads.{is_static, main_desc, takes_nothing}
 use Rattle.bytecode_model.specs.Makes.{type_at}
-use Rattle.bytecode_model.specs.Place.{is_maker}
+use Rattle.bytecode_model.specs.InsnPlace.{is_maker}
 use Rattle.bytecode_model.specs.Rules.{arguments_typed, locals_fit}
 use Rattle.bytecode_model.specs.SearchOrder.{Name}
 use Rattle.code_typing.specs.Moving.{padded}

@@ -28,7 +28,7 @@ use Rattle.bytecode_model.specs.Described.{type_described}
 use Rattle.bytecode_model.specs.Heads.{desc_of, is_static}
 use Rattle.bytecode_model.specs.Members.{in_class}
 use Rattle.bytecode_model.specs.Operands.{use_of}
-use Rattle.bytecode_model.specs.Place.{Place, class_referred, desc_referred, is_own_field}
+use Rattle.bytecode_model.specs.InsnPlace.{InsnPlace, class_referred, desc_referred, is_own_field}
 use Rattle.bytecode_model.specs.SearchOrder.{Name, is_one_of, search_order}
 use Rattle.bytecode_model.specs.Targets.{Names, UsesField, takes_class}
 use Rattle.bytecode_model.specs.Uses.{UsesAreShaped}
@@ -110,7 +110,7 @@ module _ (program : Program) (typing : Typing) (ok : IsTypedProgram program typi
   abbrev of_here : Value → VType → Bool
   of_here v t = holds program typing ok shaped world fit statics frame r v t
 
-  abbrev spot : Place
+  abbrev spot : InsnPlace
   spot = here program typing ok shaped world fit statics frame r
 
   abbrev Done : Worked → Type 0

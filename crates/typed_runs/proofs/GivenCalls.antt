@@ -21,7 +21,7 @@ use Rattle.bytecode_model.specs.Classes.{classes_of, is_below}
 use Rattle.bytecode_model.specs.Described.{result_type}
 use Rattle.bytecode_model.specs.Heads.{head_of, is_static, maker}
 use Rattle.bytecode_model.specs.Makes.{class_made, new_at}
-use Rattle.bytecode_model.specs.Place.{Place, calls_maker, class_referred, has_receiver}
+use Rattle.bytecode_model.specs.InsnPlace.{InsnPlace, calls_maker, class_referred, has_receiver}
 use Rattle.bytecode_model.specs.SearchOrder.{Name, is_one_of, search_order}
 use Rattle.bytecode_model.specs.Targets.{Calls}
 use Rattle.bytecode_model.specs.Uses.{UsesAreShaped}
@@ -88,7 +88,7 @@ module _ (program : Program) (typing : Typing) (ok : IsTypedProgram program typi
   abbrev called : Method
   called = u.declared.method
 
-  abbrev place : Place
+  abbrev place : InsnPlace
   place = spot program typing ok shaped machine.heap frame r how shape
 
   class_told : class_referred place ≡ u.told.class

@@ -26,7 +26,7 @@ use Rattle.bytecode_model.specs.Assigning.{assignable}
 use Rattle.bytecode_model.specs.Described.{result_type}
 use Rattle.bytecode_model.specs.Makes.{type_at, stores, changed, changed_by, local_after, topmost, below, yields, stack_after}
 use Rattle.bytecode_model.specs.Order.{IsInOrder}
-use Rattle.bytecode_model.specs.Place.{Place}
+use Rattle.bytecode_model.specs.InsnPlace.{InsnPlace}
 use Rattle.bytecode_model.specs.Rules.{goes_well, locals_fit, stack_fits, taken, Depth, Operand, Local}
 use Rattle.bytecode_model.specs.Wants.{takes}
 use Rattle.code_typing.specs.Moving.{padded, types_moved}
@@ -52,10 +52,10 @@ pub record HoldTypes (program : Program) (heap : List Object) (class : LinkedCla
   pub items_hold : Paired (fits_type program heap class method) items (reverse stack)
 
 -- the types of locals and operands behind an instruction
-abbrev pub locals_behind : Place → FrameType → ℕ → VType
+abbrev pub locals_behind : InsnPlace → FrameType → ℕ → VType
 locals_behind place type = local_after place type.locals (taken place type)
 
-abbrev pub stack_behind : Place → FrameType → List VType
+abbrev pub stack_behind : InsnPlace → FrameType → List VType
 stack_behind place type = stack_after place type.locals (length (takes place)) type.stack
 
 module _ (program : Program) (order : IsInOrder program) (heap : List Object) (class : LinkedClass) (method : Method) where
@@ -88,7 +88,7 @@ module _ (program : Program) (order : IsInOrder program) (heap : List Object) (c
       (subst (λ (n : ℕ). assignable program (from n) (type_at to j) ≡ true) same (fit_from from to 0 j e)) h
 
   -- what fits what an instruction leaves fits the frame type where control goes
-  pub hold_there : (place : Place) (type to : FrameType) (locals items : List Value) → place.program ≡ program → goes_well place type to ≡ true
+  pub hold_there : (place : InsnPlace) (type to : FrameType) (locals items : List Value) → place.program ≡ program → goes_well place type to ≡ true
       → HoldTypes program heap class method (locals_behind place type) (stack_behind place type) locals items
       → HoldTypes program heap class method (type_at to.locals) to.stack locals items
   hold_there place type to locals items same e h =
@@ -110,7 +110,7 @@ module _ (program : Program) (order : IsInOrder program) (heap : List Object) (c
 pub split_stack : (n : ℕ) (stack : List VType) → reverse stack ≡ reverse (topmost n stack) ++ reverse (below n stack)
 split_stack n stack = ap reverse (sym (take-append-drop (length stack - n) stack)) ∙ reverse-append (below n stack) (topmost n stack)
 
-module _ (program : Program) (heap : List Object) (place : Place) (type : FrameType) where
+module _ (program : Program) (heap : List Object) (place : InsnPlace) (type : FrameType) where
   abbrev fits_here : Value → VType → Bool
   fits_here v t = fits_type program heap place.class place.method v t
 

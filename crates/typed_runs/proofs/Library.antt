@@ -24,7 +24,7 @@ use Rattle.bytecode_model.specs.declared.program.Program.{Program}
 use Rattle.bytecode_model.specs.declared.program.Target.TheVariants as target
 use Rattle.bytecode_model.specs.Described.{arguments, result_type, type_described}
 use Rattle.bytecode_model.specs.Makes.{new_at}
-use Rattle.bytecode_model.specs.Place.{desc_referred, has_receiver}
+use Rattle.bytecode_model.specs.InsnPlace.{desc_referred, has_receiver}
 use Rattle.bytecode_model.specs.SearchOrder.{Name}
 use Rattle.bytecode_model.specs.Targets.{Calls}
 use Rattle.bytecode_model.specs.Uses.{UsesAreShaped}

@@ -33,7 +33,7 @@ use Rattle.bytecode_model.specs.Assigning.{assignable}
 use Rattle.bytecode_model.specs.Described.{Descriptor, arguments, type_described}
 use Rattle.bytecode_model.specs.Makes.{below, class_made, type_at}
 use Rattle.bytecode_model.specs.Operands.{use_of}
-use Rattle.bytecode_model.specs.Place.{Place, calls_maker, class_referred, desc_referred, has_receiver, name_referred}
+use Rattle.bytecode_model.specs.InsnPlace.{InsnPlace, calls_maker, class_referred, desc_referred, has_receiver, name_referred}
 use Rattle.bytecode_model.specs.Rules.{made_well, taken}
 use Rattle.bytecode_model.specs.SearchOrder.{Name}
 use Rattle.bytecode_model.specs.Targets.{Calls, Names, takes_class}
@@ -164,7 +164,7 @@ module _ (program : Program) (typing : Typing) (ok : IsTypedProgram program typi
 
 module _ (program : Program) (typing : Typing) (ok : IsTypedProgram program typing) (shaped : UsesAreShaped) (heap : List Object) (frame : Frame)
     (r : IsReady program typing heap frame) (how : How) (shape : shape_of r.stands.insn ≡ shapes.Heap (heaps.Call how)) where
-  abbrev pub spot : Place
+  abbrev pub spot : InsnPlace
   spot = stands_at r.stands
 
   abbrev pub of_here : Value → VType → Bool

@@ -10,8 +10,8 @@ use Rattle.cert_format.specs.declared.typing.Typing.{Typing}
 use Rattle.cert_format.specs.declared.typing.VType.{VType}
 use Rattle.cert_format.specs.declared.typing.VType.TheVariants as types
 use Rattle.insn_codec.specs.declared.shape.Heap.TheVariants as heap_shapes
-use Rattle.insn_codec.specs.declared.shape.Kind.{Kind}
-use Rattle.insn_codec.specs.declared.shape.Kind.TheVariants as kinds
+use Rattle.insn_codec.specs.declared.shape.ValueKind.{ValueKind}
+use Rattle.insn_codec.specs.declared.shape.ValueKind.TheVariants as kinds
 use Rattle.insn_codec.specs.declared.shape.Shape.{Shape}
 use Rattle.insn_codec.specs.declared.shape.Shape.TheVariants as shapes
 use Rattle.insn_codec.specs.Following.{Paired}
@@ -23,7 +23,7 @@ use Rattle.bytecode_model.specs.declared.program.Program.{Program}
 use Rattle.bytecode_model.specs.Described.{result_text, result_type, type_described}
 use Rattle.bytecode_model.specs.Assigning.{assignable}
 use Rattle.bytecode_model.specs.Makes.{below, call_yields, changed, yields, yields_of}
-use Rattle.bytecode_model.specs.Place.{desc_referred}
+use Rattle.bytecode_model.specs.InsnPlace.{desc_referred}
 use Rattle.bytecode_model.specs.Rules.{taken}
 use Rattle.bytecode_model.specs.Wants.{all_met, is_result_of, returns_well, takes, takes_of, to_result}
 use Rattle.guest_heap.specs.declared.frame.Frame.{Frame}
@@ -154,7 +154,7 @@ module _ (program : Program) (typing : Typing) (ok : IsTypedProgram program typi
 
   -- ---- a frame that returns
 
-  result_by : (heap : List Object) (class : LinkedClass) (method : Method) (k : Kind) (type : Option VType) (v : Value) (t : VType)
+  result_by : (heap : List Object) (class : LinkedClass) (method : Method) (k : ValueKind) (type : Option VType) (v : Value) (t : VType)
       → is_result_of (Some k) type ≡ true → option_map_or (λ (r : VType). assignable program t r) type false ≡ true
       → fits_type program heap class method v t ≡ true → ResultFits program heap type (Some v) × (fits k v ≡ true)
   result_by heap class method kinds.Int (Some types.Int) v t e f h =
@@ -169,7 +169,7 @@ module _ (program : Program) (typing : Typing) (ok : IsTypedProgram program typi
   none_returned (Some t) e = absurd cc
 
   -- What a return of this kind gives, and that it can be made.
-  pub record Gives (heap : List Object) (type : Option VType) (kind : Option Kind) (items : List Value) : Type 0 where
+  pub record ListedResult (heap : List Object) (type : Option VType) (kind : Option ValueKind) (items : List Value) : Type 0 where
     pub result : Option Value
     pub is : result_of kind items ≡ Some result
     pub fits_result : ResultFits program heap type result
@@ -179,17 +179,17 @@ module _ (program : Program) (typing : Typing) (ok : IsTypedProgram program typi
   some_result heap None v h = absurd h
   some_result heap (Some t) v h = refl
 
-  result_given : (k : Kind) (items : List Value) (v : Value) (rest : List Value) → items ≡ v ∷ rest → fits k v ≡ true
+  result_given : (k : ValueKind) (items : List Value) (v : Value) (rest : List Value) → items ≡ v ∷ rest → fits k v ≡ true
       → result_of (Some k) items ≡ Some (Some v)
   result_given k items v rest e h = rw (e, h) refl
 
-  can_by : (k : Kind) (items : List Value) (v : Value) (rest : List Value) (under : List Frame) → items ≡ v ∷ rest → fits k v ≡ true → HasRoom 1 under
+  can_by : (k : ValueKind) (items : List Value) (v : Value) (rest : List Value) (under : List Frame) → items ≡ v ∷ rest → fits k v ≡ true → HasRoom 1 under
       → CanReturn (Some k) items under
   can_by kinds.Int items v rest under e h room = (subst (HasOne IsNumber) (sym e) (number_is program v h), room)
   can_by kinds.Reference items v rest under e h room = (subst (HasOne IsReference) (sym e) (reference_is program v h), room)
 
   module _ (heap : List Object) (frame : Frame) (r : IsReady program typing heap frame) where
-    gives_none : shape_of r.stands.insn ≡ shapes.Heap (heap_shapes.Return None) → Gives heap (result_type r.stands.method.desc) None frame.stack.items
+    gives_none : shape_of r.stands.insn ≡ shapes.Heap (heap_shapes.Return None) → ListedResult heap (result_type r.stands.method.desc) None frame.stack.items
     gives_none shape =
         let place = stands_at r.stands in
         let well = (and_parts (all_met (takes place) (taken place r.stands.type)) (returns_well place (shape_of place.insn)) (rules program typing ok frame r.stands).operand).1 in
@@ -201,8 +201,8 @@ module _ (program : Program) (typing : Typing) (ok : IsTypedProgram program typi
           can = λ under waiting. subst (λ (t : Option VType). HasRoom (many_results t) under) none (has_room program typing ok heap (result_type r.stands.method.desc) under waiting);
         }
 
-    gives_one : (k : Kind) → shape_of r.stands.insn ≡ shapes.Heap (heap_shapes.Return (Some k))
-        → Gives heap (result_type r.stands.method.desc) (Some k) frame.stack.items
+    gives_one : (k : ValueKind) → shape_of r.stands.insn ≡ shapes.Heap (heap_shapes.Return (Some k))
+        → ListedResult heap (result_type r.stands.method.desc) (Some k) frame.stack.items
     gives_one k shape =
         let place = stands_at r.stands in
         let type = result_type r.stands.method.desc in
@@ -217,7 +217,7 @@ module _ (program : Program) (typing : Typing) (ok : IsTypedProgram program typi
               (subst (λ (n : ℕ). HasRoom n under) (some_result heap type one.value b.0) (has_room program typing ok heap type under waiting));
         }
 
-    pub gives : (kind : Option Kind) → shape_of r.stands.insn ≡ shapes.Heap (heap_shapes.Return kind)
-        → Gives heap (result_type r.stands.method.desc) kind frame.stack.items
+    pub gives : (kind : Option ValueKind) → shape_of r.stands.insn ≡ shapes.Heap (heap_shapes.Return kind)
+        → ListedResult heap (result_type r.stands.method.desc) kind frame.stack.items
     gives None shape = gives_none shape
     gives (Some k) shape = gives_one k shape

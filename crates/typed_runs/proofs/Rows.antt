@@ -18,7 +18,7 @@ use Rattle.bytecode_model.specs.declared.program.Method.{Method}
 use Rattle.bytecode_model.specs.declared.program.Program.{Program}
 use Rattle.bytecode_model.specs.declared.program.Target.{Target}
 use Rattle.bytecode_model.specs.Classes.{is_below}
-use Rattle.bytecode_model.specs.Place.{Place, target_or_none}
+use Rattle.bytecode_model.specs.InsnPlace.{InsnPlace, target_or_none}
 use Rattle.bytecode_model.specs.Rules.{
   Frames,
   frame_of,
@@ -55,7 +55,7 @@ use Rattle.typed_runs.proofs.Within.{among, successor_within}
 -- ---- the rules at a place
 
 -- the rules from 2 on
-pub record MeetsRules (frames : Frames) (place : Place) (type : FrameType) : Type 0 where
+pub record MeetsRules (frames : Frames) (place : InsnPlace) (type : FrameType) : Type 0 where
   pub depth : IsTrue (Depth place type)
   pub operand : IsTrue (Operand place type)
   pub local : IsTrue (Local place type)
@@ -63,7 +63,7 @@ pub record MeetsRules (frames : Frames) (place : Place) (type : FrameType) : Typ
   pub successor : IsTrue (Successor frames place type)
   pub caught : IsTrue (Caught frames place type)
 
-rules_met : (frames : Frames) (place : Place) (type : FrameType) → rule_failing frames place type ≡ None → MeetsRules frames place type
+rules_met : (frames : Frames) (place : InsnPlace) (type : FrameType) → rule_failing frames place type ≡ None → MeetsRules frames place type
 rules_met frames place type e =
     let depth = passed (Depth place type) 2 _ e in
     let operand = passed (Operand place type) 3 _ depth.1 in

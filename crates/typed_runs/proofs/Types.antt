@@ -9,8 +9,8 @@ use Rattle.cert_format.specs.declared.typing.VType.{VType}
 use Rattle.cert_format.specs.declared.typing.VType.TheVariants as types
 use Rattle.insn_codec.specs.declared.shape.Heap.{Heap}
 use Rattle.insn_codec.specs.declared.shape.Heap.TheVariants as heap
-use Rattle.insn_codec.specs.declared.shape.Kind.{Kind}
-use Rattle.insn_codec.specs.declared.shape.Kind.TheVariants as kinds
+use Rattle.insn_codec.specs.declared.shape.ValueKind.{ValueKind}
+use Rattle.insn_codec.specs.declared.shape.ValueKind.TheVariants as kinds
 use Rattle.insn_codec.specs.declared.shape.Shape.TheVariants as shapes
 use Rattle.insn_codec.specs.Following.{Respects}
 use Rattle.bytecode_model.specs.declared.program.LinkedClass.{LinkedClass}
@@ -20,7 +20,7 @@ use Rattle.bytecode_model.specs.Assigning.{assignable}
 use Rattle.bytecode_model.specs.Described.{type_described}
 use Rattle.bytecode_model.specs.Makes.{type_at, new_at, class_made, is_same_object, when_made, when_new, changed_by}
 use Rattle.bytecode_model.specs.Order.{IsInOrder}
-use Rattle.bytecode_model.specs.Place.{Place, calls_maker, class_referred}
+use Rattle.bytecode_model.specs.InsnPlace.{InsnPlace, calls_maker, class_referred}
 use Rattle.bytecode_model.specs.Rules.{when_thrown}
 use Rattle.bytecode_model.specs.SearchOrder.{Name}
 use Rattle.bytecode_model.specs.Wants.{of_kind, is_made, is_number as wants_number, is_reference as wants_reference}
@@ -212,7 +212,7 @@ module _ (program : Program) where
     pub wanted_made : (v : Value) (t : VType) → of v t ≡ true → is_made t ≡ true → is_reference v ≡ true
     wanted_made v t h e = wanted_reference v t h (made_wanted t e)
 
-    pub wanted_kind : (k : Kind) (v : Value) (t : VType) → of v t ≡ true → of_kind k t ≡ true → IsOf k v
+    pub wanted_kind : (k : ValueKind) (v : Value) (t : VType) → of v t ≡ true → of_kind k t ≡ true → IsOf k v
     wanted_kind kinds.Int v t h e = wanted_number v t h e
     wanted_kind kinds.Reference v t h e = wanted_reference v t h e
 
@@ -245,7 +245,7 @@ module _ (program : Program) where
 
   -- ---- calls of constructors, and `new`
 
-  module _ (place : Place) (objects : List Object) where
+  module _ (place : InsnPlace) (objects : List Object) where
     abbrev here : Value → VType → Bool
     here v t = fits_type program objects place.class place.method v t
 

@@ -24,7 +24,7 @@ use Rattle.bytecode_model.specs.Arrays.{is_array, array_of}
 use Rattle.bytecode_model.specs.Classes.{classes_of}
 use Rattle.bytecode_model.specs.Makes.{array_named, below, constant_type, made_by, new_at, new_in, yields_of}
 use Rattle.bytecode_model.specs.Operands.{use_of}
-use Rattle.bytecode_model.specs.Place.{Place, class_of}
+use Rattle.bytecode_model.specs.InsnPlace.{InsnPlace, class_of}
 use Rattle.bytecode_model.specs.Rules.{taken}
 use Rattle.bytecode_model.specs.SearchOrder.{Name}
 use Rattle.bytecode_model.specs.Targets.{Names, TakesClass, is_type, takes_array, takes_class}
@@ -90,7 +90,7 @@ new_is_of program heap object = own_class program (heap ++ object ∷ []) (class
 
 module _ (program : Program) (typing : Typing) (ok : IsTypedProgram program typing) (shaped : UsesAreShaped) (world : World)
     (fit : HeapFits program world.heap) (statics : StaticsFit program world.heap world.statics) (frame : Frame) (r : IsReady program typing world.heap frame) where
-  abbrev pub here : Place
+  abbrev pub here : InsnPlace
   here = stands_at r.stands
 
   abbrev pub taken_here : List VType

@@ -15,7 +15,7 @@ use Rattle.bytecode_model.specs.declared.program.Method.{Method}
 use Rattle.bytecode_model.specs.declared.program.Program.{Program}
 use Rattle.bytecode_model.specs.Described.{result_type}
 use Rattle.bytecode_model.specs.Makes.{below, type_at}
-use Rattle.bytecode_model.specs.Place.{Place, desc_referred}
+use Rattle.bytecode_model.specs.InsnPlace.{InsnPlace, desc_referred}
 use Rattle.bytecode_model.specs.Rules.{frame_of}
 use Rattle.bytecode_model.specs.Typed.{frames_in, frames_told, place_at}
 use Rattle.bytecode_model.specs.Wants.{takes}
@@ -37,7 +37,7 @@ pub record Stands (program : Program) (typing : Typing) (frame : Frame) : Type 0
   pub size : frame.stack.size ≡ method.max_stack
 
 -- its instruction in its place
-abbrev pub stands_at : {program : Program} {typing : Typing} {frame : Frame} → Stands program typing frame → Place
+abbrev pub stands_at : {program : Program} {typing : Typing} {frame : Frame} → Stands program typing frame → InsnPlace
 stands_at {program = program} {frame = frame} s = place_at program frame.class s.class s.method frame.at s.insn
 
 -- Each local is of its type. A frame has as many as its method says.

@@ -31,8 +31,7 @@ use Rattle.offset_patch.specs.Splicing.{grown, fronts_of, catching, operands_nee
 use Rattle.offset_patch.proofs.CodeFits.{room_is, pool_short, rows_short, written_is}
 use Rattle.offset_patch.proofs.InsnFits.{wants_there, parts_fit}
 use Rattle.class_weaving.proofs.CodeCases.{with_blocks, IsPut, put_cases}
-use Rattle.class_weaving.specs.declared.woven.WovenCode.{WovenCode}
-use Rattle.class_weaving.specs.Woven.{sites_of, locals_of, blocks_put}
+use Rattle.class_weaving.specs.Woven.{WovenCode, sites_of, locals_of, blocks_put}
 use Rattle.woven_linking.proofs.Aims.{LastAlone, spliced_aims, spliced_ends}
 use Rattle.class_weaving.proofs.Sites.{refs_fit}
 

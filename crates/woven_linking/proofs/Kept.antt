@@ -25,10 +25,9 @@ use Rattle.offset_patch.specs.Splicing.{wants_of}
 use Rattle.class_weaving.proofs.CodeCases.{code_cases}
 use Rattle.class_weaving.specs.State.{state_file}
 use Rattle.conspec_tree.specs.declared.types.Var.{Var}
-use Rattle.class_weaving.specs.declared.woven.WovenCode.{WovenCode}
 use Rattle.class_weaving.specs.declared.woven.Members.{Members}
 use Rattle.class_weaving.specs.declared.woven.Woven.{Woven}
-use Rattle.class_weaving.specs.Woven.{folded, sites_of, code_woven, first_code, attr_with, member_with, bare_put, code_put, body_woven, member_woven, members_woven, none_made, file_with, file_put, class_woven, classes_woven, state_put, woven}
+use Rattle.class_weaving.specs.Woven.{WovenCode, folded, sites_of, code_woven, first_code, attr_with, member_with, bare_put, code_put, body_woven, member_woven, members_woven, none_made, file_with, file_put, class_woven, classes_woven, state_put, woven}
 use Rattle.class_weaving.specs.Outcome.{Each, IsWovenAttr, IsWovenMember}
 
 -- ---- a pool that grew

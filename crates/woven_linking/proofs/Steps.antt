@@ -41,9 +41,8 @@ use Rattle.offset_patch.specs.Splicing.{part_of, fronts_of, put, parts_from, spl
 use Rattle.offset_patch.proofs.EntryFits.{wants_grow}
 use Rattle.offset_patch.proofs.InsnFits.{split_all, wants_there}
 use Rattle.offset_patch.proofs.Steady.{steady_wanted}
-use Rattle.class_weaving.specs.declared.woven.WovenCode.{WovenCode}
 use Rattle.class_weaving.specs.declared.woven.Members.{Members}
-use Rattle.class_weaving.specs.Woven.{is_woven, sites_of, locals_of, clients_from, blocks_put, code_woven, first_code, attr_with, member_with, bare_put, code_put, body_woven}
+use Rattle.class_weaving.specs.Woven.{WovenCode, is_woven, sites_of, locals_of, clients_from, blocks_put, code_woven, first_code, attr_with, member_with, bare_put, code_put, body_woven}
 use Rattle.class_weaving.specs.Outcome.{Each, way_out, at_fronts, own_handlers, handlers_with, wants_woven, insns_woven, stack_woven, locals_woven, handlers_woven, parts_named, refs_woven, IsWovenMethod}
 use Rattle.woven_linking.specs.Program.{HasRoom, MethodHasRoom}
 use Rattle.woven_linking.proofs.Again.{IsSoundCode, put_reads}

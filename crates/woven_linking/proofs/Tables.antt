@@ -5,7 +5,7 @@ use Rattle.std.specs.List.{AllByRecursion, position_from}
 use Rattle.std.proofs.lemmas.Bool.Decides.{nat_tests}
 use Rattle.mon_base.specs.Reading.{◌>>=◌}
 use Rattle.mon_base.proofs.Reading.{bind_ok, ok_is}
-use Rattle.class_codec.specs.declared.pool.Kind.TheVariants as kinds
+use Rattle.class_codec.specs.declared.pool.ConstKind.TheVariants as kinds
 use Rattle.class_codec.specs.declared.tree.ClassFile.{ClassFile}
 use Rattle.class_codec.specs.declared.tree.Const.{Const}
 use Rattle.class_codec.specs.declared.tree.TableEntry.{TableEntry}

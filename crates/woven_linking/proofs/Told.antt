@@ -25,10 +25,9 @@ use Rattle.bytecode_model.specs.declared.origin.Origin.{Origin}
 use Rattle.offset_patch.specs.declared.fault.SpliceFault.{SpliceFault}
 use Rattle.offset_patch.specs.Splicing.{part_of, fronts_from, aimed, put, parts_from, spliced, origin_of, part_origins, origins_of}
 use Rattle.class_weaving.proofs.CodeCases.{IsPut, code_cases}
-use Rattle.class_weaving.specs.declared.woven.WovenCode.{WovenCode}
 use Rattle.class_weaving.specs.declared.woven.Members.{Members}
 use Rattle.class_weaving.specs.declared.woven.Woven.{Woven}
-use Rattle.class_weaving.specs.Woven.{folded, is_woven, sites_of, clients_from, code_woven, first_code, bare_put, code_put, body_woven, member_woven, members_woven, none_made, file_with, file_put, class_woven, classes_woven, state_put}
+use Rattle.class_weaving.specs.Woven.{WovenCode, folded, is_woven, sites_of, clients_from, code_woven, first_code, bare_put, code_put, body_woven, member_woven, members_woven, none_made, file_with, file_put, class_woven, classes_woven, state_put}
 use Rattle.class_weaving.specs.Outcome.{Each, insns_woven}
 use Rattle.woven_linking.specs.Origins.{fronts_in, insn_woven, IsOfBlock, IsFrom, AreFrom, MethodIsFrom, with_code, ClassIsFrom, ClassesAreFrom, OriginsAreTrue}
 use Rattle.class_linking.proofs.Loop.{first_linked}

@@ -11,7 +11,7 @@ use Rattle.insn_codec.specs.declared.insn.Insn.{Insn}
 use Rattle.bytecode_model.specs.declared.program.Handler.{Handler}
 use Rattle.bytecode_model.specs.declared.program.Target.{Target}
 use Rattle.bytecode_model.specs.declared.program.Target.TheVariants as target
-use Rattle.bytecode_model.specs.Place.{Place}
+use Rattle.bytecode_model.specs.InsnPlace.{InsnPlace}
 use Rattle.bytecode_model.specs.Rules.{Caught, Entry, catches_well, frame_of, goes_well}
 use Rattle.bytecode_model.specs.Typed.{row_in}
 use Rattle.bytecode_model.proofs.Lists.{some_is}
@@ -74,7 +74,7 @@ module _ (t : Typed) (c : CallAt t) where
 
   module _ (k : ℕ) (item : Item) (e : slice_get (items t c) k ≡ Some item) (reached : IsReached item.role) (types : FrameType)
       (types_are : frame_at (told t c) (near t c) item.role ≡ Some types) where
-    abbrev place : Place
+    abbrev place : InsnPlace
     place = spot t c k item.insn
 
     begins : ((start t c + k) == 0) ≡ true → Entry place types ≡ true
@@ -122,7 +122,7 @@ module _ (t : Typed) (c : CallAt t) where
   item_row : (k : ℕ) (item : Item) → slice_get (items t c) k ≡ Some item → IsReached item.role → is_call item.insn ≡ false
       → JumpsWithin (length (items t c)) item.insn → row_in (b t).new (b t).own (b t).other (b t).made (woven t) (start t c + k) ≡ None
   item_row k item e reached other stays =
-      let place : Place = spot t c k item.insn in
+      let place : InsnPlace = spot t c k item.insn in
       let x : Insn = put (of.pool (b t)) (of.fronts (b t)) (start t c) c.insn item.insn in
       let r : Target = part_named (of.state (b t)) (ref t c) item.insn in
       let typed : ItemIsTyped (told t c) (near t c) (role_at (items t c)) k item place =
@@ -176,7 +176,7 @@ module _ (t : Typed) (c : CallAt t) where
       let passing : lets_pass (told t c).before ≡ true = passes_of (lets_pass (told t c).before) locked reached in
       let role : item.role ≡ roles.Call locked = ap (λ (x : Bool). cond x (roles.Call locked) roles.Unreached) passing in
       let m : ℕ = start t c + call in
-      let place : Place = q t c m in
+      let place : InsnPlace = q t c m in
       let typed : CallIsTyped (mode t c) (told t c) (near t c) locked place =
       calls_are_typed (mode t c) (told t c) (near t c) locked (fits t c) place (called_there t c m) (room t c) in
       let types_are : frame_at (told t c) (near t c) item.role ≡ Some typed.types = ap (frame_at (told t c) (near t c)) role ∙ typed.told in

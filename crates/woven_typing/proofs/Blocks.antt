@@ -22,7 +22,7 @@ use Rattle.bytecode_model.specs.declared.program.Program.{Program}
 use Rattle.bytecode_model.specs.declared.program.Target.{Target}
 use Rattle.bytecode_model.specs.Assigning.{assignable}
 use Rattle.bytecode_model.specs.Makes.{changed_by, local_after, stack_after, stores, type_at, when_made}
-use Rattle.bytecode_model.specs.Place.{Place, calls_maker}
+use Rattle.bytecode_model.specs.InsnPlace.{InsnPlace, calls_maker}
 use Rattle.bytecode_model.specs.Rules.{frame_of, goes_well, local_caught, locals_fit, stack_fits, taken, when_thrown}
 use Rattle.bytecode_model.specs.Wants.{takes}
 use Rattle.bytecode_model.proofs.Lists.{all_get, some_is}
@@ -89,7 +89,7 @@ module _ (P : ℕ → Bool) (pool : List Const) (fronts : List ℕ) (begin at : 
 -- ---- what is caught behind a call
 
 -- What stands for the type before it is made stands for it once it is.
-made_caught : (program : Program) (place : Place) (r u v : VType) → assignable program (when_thrown u) v ≡ true
+made_caught : (program : Program) (place : InsnPlace) (r u v : VType) → assignable program (when_thrown u) v ≡ true
     → assignable program (when_thrown (when_made place r u)) v ≡ true
 made_caught program place r types.UninitThis types.Top e = refl
 made_caught program place r types.UninitThis types.Int e = absurd cc

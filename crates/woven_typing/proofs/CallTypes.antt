@@ -14,12 +14,12 @@ use Rattle.insn_codec.specs.declared.shape.Shape.TheVariants as shapes
 use Rattle.insn_codec.specs.Shapes.{shape_of}
 use Rattle.bytecode_model.specs.Described.{arguments}
 use Rattle.bytecode_model.specs.Makes.{below, changed_by, class_made, is_same_object, local_after, stack_after, stores, topmost, type_at, when_called, when_made, yields_of}
-use Rattle.bytecode_model.specs.Place.{Place, calls_maker, desc_referred, has_receiver}
+use Rattle.bytecode_model.specs.InsnPlace.{InsnPlace, calls_maker, desc_referred, has_receiver}
 use Rattle.bytecode_model.specs.Rules.{taken}
 use Rattle.bytecode_model.specs.Wants.{call_takes, takes, takes_of, to_arguments, to_described, to_receiver}
 use Rattle.woven_typing.specs.Behind.{arguments_count, call_operands, count_of, count_taken, given, stack_behind, types_behind}
 
-module _ (place : Place) (how : How) (calls : shape_of place.insn ≡ shapes.Heap (heap.Call how)) where
+module _ (place : InsnPlace) (how : How) (calls : shape_of place.insn ≡ shapes.Heap (heap.Call how)) where
   pub takes_call : takes place ≡ call_takes place how
   takes_call = ap (takes_of place) calls
 

@@ -16,7 +16,7 @@ use Rattle.bytecode_model.specs.declared.program.Target.TheVariants as target
 use Rattle.bytecode_model.specs.Described.{arguments}
 use Rattle.bytecode_model.specs.Makes.{below, local_after, stack_after, topmost, when_called}
 use Rattle.bytecode_model.specs.Named.{IsListedCall}
-use Rattle.bytecode_model.specs.Place.{Place, desc_referred, has_receiver}
+use Rattle.bytecode_model.specs.InsnPlace.{InsnPlace, desc_referred, has_receiver}
 use Rattle.bytecode_model.specs.Rules.{taken}
 use Rattle.bytecode_model.specs.Wants.{all_met, returns_well, takes, to_receiver}
 use Rattle.conspec_tree.specs.declared.types.Kind.{Kind}
@@ -58,7 +58,7 @@ module _ (t : Typed) (c : CallAt t) where
   abbrev pub ref : Target
   ref = target.ApiMethod c.callee
 
-  abbrev pub p : Place
+  abbrev pub p : InsnPlace
   p = old t c.i c.insn ref
 
   abbrev pub clauses : Clauses
@@ -68,7 +68,7 @@ module _ (t : Typed) (c : CallAt t) where
   around = around_of (moved t) p c.types
 
   -- the call, at this index of the woven method
-  abbrev pub q : ℕ → Place
+  abbrev pub q : ℕ → InsnPlace
   q m = here t m (aim t c.insn) ref
 
   pub listed : IsListedCall (b t).old.listing (b t).class c.insn c.callee
@@ -117,7 +117,7 @@ module _ (t : Typed) (c : CallAt t) where
   told_after : IfSome clauses.after (λ x. TellsOf x listed.method)
   told_after = telling.told_of (b t).old.listing (b t).policy c.callee After listed.method (b t).tells listed.there
 
-  abbrev front : Place
+  abbrev front : InsnPlace
   front = q (moved t c.i)
 
   same_descriptor : desc_referred front ≡ listed.method.id.desc

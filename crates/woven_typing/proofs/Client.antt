@@ -18,7 +18,7 @@ use Rattle.bytecode_model.specs.declared.program.Program.{Program}
 use Rattle.bytecode_model.specs.declared.program.Target.{Target}
 use Rattle.bytecode_model.specs.declared.program.Target.TheVariants as target
 use Rattle.bytecode_model.specs.Makes.{stack_after}
-use Rattle.bytecode_model.specs.Place.{Place, target_or_none}
+use Rattle.bytecode_model.specs.InsnPlace.{InsnPlace, target_or_none}
 use Rattle.bytecode_model.specs.Rules.{Entry, Frames, Successor, frame_of, goes_well, is_alone, row_failing, stack_fits}
 use Rattle.bytecode_model.specs.Typed.{row_in, place_at}
 use Rattle.bytecode_model.specs.Wants.{takes}
@@ -88,10 +88,10 @@ module _ (t : Typed) where
   abbrev pub woven : Frames
   woven = frames_woven (of.client b) t.frames
 
-  abbrev pub here : ℕ → Insn → Target → Place
+  abbrev pub here : ℕ → Insn → Target → InsnPlace
   here at x r = record { program = b.new; own = b.own; class = b.other; method = b.made; at = at; insn = x; ref = r }
 
-  abbrev pub old : ℕ → Insn → Target → Place
+  abbrev pub old : ℕ → Insn → Target → InsnPlace
   old at x r = insn_place (of.client b) at x r
 
   -- the client's instruction, with its targets at their fronts
@@ -227,10 +227,10 @@ module _ (t : Typed) where
 
   module _ (i m : ℕ) (insn : Insn) (ref : Target) (there : slice_get b.method.insns i ≡ Some insn)
       (at_new : shape_of insn ≡ shapes.Heap heap.New → m ≡ moved i) (f : FrameType) (row : Passes t.frames (old i insn ref) f) where
-    abbrev p : Place
+    abbrev p : InsnPlace
     p = old i insn ref
 
-    abbrev q : Place
+    abbrev q : InsnPlace
     q = here m (aim insn) ref
 
     kept : IsKept moved p q

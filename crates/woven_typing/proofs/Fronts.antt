@@ -13,7 +13,7 @@ use Rattle.bytecode_model.specs.declared.program.Handler.{Handler}
 use Rattle.bytecode_model.specs.declared.program.Program.{Program}
 use Rattle.bytecode_model.specs.Assigning.{assignable}
 use Rattle.bytecode_model.specs.Makes.{below, local_after, stack_after, type_at}
-use Rattle.bytecode_model.specs.Place.{Place}
+use Rattle.bytecode_model.specs.InsnPlace.{InsnPlace}
 use Rattle.bytecode_model.specs.Rules.{Entry, catches_well, class_caught, entry_locals, goes_well, is_alone, local_caught, locals_fit, stack_fits, taken}
 use Rattle.bytecode_model.specs.Wants.{takes}
 use Rattle.conspec_tree.specs.declared.types.Phase.TheVariants.{Before}
@@ -58,7 +58,7 @@ module _ (f g : FrameType) (front : IsFrontOf f g) where
   locals_front program from e =
       ap (locals_fit program from 0) front.locals ∙ more_fit program from 0 f.locals front.more front.unknown e
 
-  pub goes_front : (place : Place) (frame : FrameType) → goes_well place frame f ≡ true → goes_well place frame g ≡ true
+  pub goes_front : (place : InsnPlace) (frame : FrameType) → goes_well place frame f ≡ true → goes_well place frame g ≡ true
   goes_front place frame e =
       let left : List VType = stack_after place frame.locals (length (takes place)) frame.stack in
       let parts = and_parts (stack_fits place.program left f.stack) (locals_fit place.program (local_after place frame.locals (taken place frame)) 0 f.locals) e in
@@ -66,7 +66,7 @@ module _ (f g : FrameType) (front : IsFrontOf f g) where
       (ap (stack_fits place.program left) front.stack ∙ parts.0)
       (locals_front place.program (local_after place frame.locals (taken place frame)) parts.1)
 
-  pub catches_front : (place : Place) (frame : FrameType) (handler : Handler) → catches_well place frame handler f ≡ true
+  pub catches_front : (place : InsnPlace) (frame : FrameType) (handler : Handler) → catches_well place frame handler f ≡ true
       → catches_well place frame handler g ≡ true
   catches_front place frame handler e =
       let parts = and_parts (is_alone (class_caught handler) f.stack) (locals_fit place.program (local_caught frame.locals) 0 f.locals) e in
@@ -74,7 +74,7 @@ module _ (f g : FrameType) (front : IsFrontOf f g) where
       (ap (is_alone (class_caught handler)) front.stack ∙ parts.0)
       (locals_front place.program (local_caught frame.locals) parts.1)
 
-  pub entry_front : (place : Place) → Entry place f ≡ true → Entry place g ≡ true
+  pub entry_front : (place : InsnPlace) → Entry place f ≡ true → Entry place g ≡ true
   entry_front place e =
       let few : Bool = nat_le (length (entry_locals place)) place.method.max_locals in
       let first = and_parts few (locals_fit place.program (type_at (entry_locals place)) 0 f.locals && (length f.stack == 0)) e in

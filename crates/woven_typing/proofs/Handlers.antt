@@ -15,7 +15,7 @@ use Rattle.bytecode_model.specs.declared.program.Target.{Target}
 use Rattle.bytecode_model.specs.declared.program.Target.TheVariants as target
 use Rattle.bytecode_model.specs.Classes.{is_below}
 use Rattle.bytecode_model.specs.Sound.{IsWithin}
-use Rattle.bytecode_model.specs.Place.{Place}
+use Rattle.bytecode_model.specs.InsnPlace.{InsnPlace}
 use Rattle.bytecode_model.specs.Rules.{Caught, catches_well, class_caught, covers, frame_of, is_alone, is_handled, local_caught, locals_fit}
 use Rattle.conspec_automaton.specs.Next.{has_clauses}
 use Rattle.offset_patch.specs.declared.block.Block.{Block}
@@ -146,7 +146,7 @@ module _ (t : Typed) (i k : ℕ) (insn : Insn) (ref : Target) (there : slice_get
   module _ (x : Insn) (r : Target) (f g : FrameType) (row : Passes t.frames (old t i insn ref) f)
       (caught : (to : List VType) → locals_fit (b t).new (local_caught (again t f).locals) 0 to ≡ true
       → locals_fit (b t).new (local_caught g.locals) 0 to ≡ true) where
-    abbrev spot : Place
+    abbrev spot : InsnPlace
     spot = here t (of.front (b t) i + k) x r
 
     -- What is caught of the client's instruction is caught of each instruction of its part.

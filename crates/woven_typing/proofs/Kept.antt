@@ -14,7 +14,7 @@ use Rattle.insn_codec.specs.Shapes.{shape_of}
 use Rattle.bytecode_model.specs.Assigning.{assignable}
 use Rattle.bytecode_model.specs.Described.{type_described}
 use Rattle.bytecode_model.specs.Makes.{type_at, new_at}
-use Rattle.bytecode_model.specs.Place.{Place, referred, class_referred, name_referred, desc_referred}
+use Rattle.bytecode_model.specs.InsnPlace.{InsnPlace, referred, class_referred, name_referred, desc_referred}
 use Rattle.woven_typing.specs.Renaming.{renamed}
 
 -- ---- shapes
@@ -32,7 +32,7 @@ retargeted to other = other
 
 -- The one place is that of the instruction of the other, which stands elsewhere in a method with as much room; a `new` stands where
 -- its index has moved to.
-pub record IsKept (moved : ℕ → ℕ) (p q : Place) : Type 0 where
+pub record IsKept (moved : ℕ → ℕ) (p q : InsnPlace) : Type 0 where
   pub once : (i j : ℕ) → moved i ≡ moved j → i ≡ j
   pub assigns : (t u : VType) → assignable p.program t u ≡ true → assignable q.program (renamed moved t) (renamed moved u) ≡ true
   pub own : q.own ≡ p.own
@@ -51,7 +51,7 @@ pub record IsKept (moved : ℕ → ℕ) (p q : Place) : Type 0 where
   pub reference : referred q ≡ referred p
   pub ref : q.ref ≡ p.ref
 
-module _ (moved : ℕ → ℕ) (p q : Place) (kept : IsKept moved p q) where
+module _ (moved : ℕ → ℕ) (p q : InsnPlace) (kept : IsKept moved p q) where
   pub same_class : class_referred q ≡ class_referred p
   same_class = ap (λ (r : Option MethodId). option_map_or (λ (id : MethodId). id.class) r []) kept.reference
 

@@ -23,7 +23,7 @@ use Rattle.bytecode_model.specs.declared.program.Program.{Program}
 use Rattle.bytecode_model.specs.Assigning.{assignable}
 use Rattle.bytecode_model.specs.Makes.{local_after, stack_after, type_at}
 use Rattle.bytecode_model.specs.Order.{IsInOrder}
-use Rattle.bytecode_model.specs.Place.{Place}
+use Rattle.bytecode_model.specs.InsnPlace.{InsnPlace}
 use Rattle.bytecode_model.specs.Rules.{goes_well, locals_fit, stack_fits, taken}
 use Rattle.bytecode_model.specs.Wants.{takes}
 use Rattle.block_template.specs.Frames.{frame, padded}
@@ -152,7 +152,7 @@ type_padded base locals j = by locals j (base - length locals)
     by (x ∷ xs) zero n = refl
     by (x ∷ xs) (suc j) n = by xs j n
 
-module _ (place : Place) (order : IsInOrder place.program) (base : ℕ) (behind to : FrameType)
+module _ (place : InsnPlace) (order : IsInOrder place.program) (base : ℕ) (behind to : FrameType)
     (stack : stack_fits place.program behind.stack to.stack ≡ true) (locals : locals_fit place.program (type_at behind.locals) 0 to.locals ≡ true) where
   abbrev left : FrameType
   left = frame (padded base behind.locals) behind.stack

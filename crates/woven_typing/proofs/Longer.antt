@@ -2,8 +2,8 @@
 use Rattle.std.proofs.Common.{◌≡◌, ℕ, ◌<◌, true, List, ◌++◌, length, Option, Some, None, refl, sym, ap, ◌∙◌}
 use Rattle.std.specs.Prelude.{slice_get}
 use Rattle.std.proofs.lemmas.Option.{slice_get_within}
-use Rattle.class_codec.specs.declared.pool.Kind.{Kind}
-use Rattle.class_codec.specs.declared.pool.Kind.TheVariants as kinds
+use Rattle.class_codec.specs.declared.pool.ConstKind.{ConstKind}
+use Rattle.class_codec.specs.declared.pool.ConstKind.TheVariants as kinds
 use Rattle.class_codec.specs.declared.tree.Const.{Const}
 use Rattle.class_codec.specs.declared.tree.Const.TheVariants as constants
 use Rattle.class_codec.specs.Fits.{IsNamed, FitsPool}
@@ -13,7 +13,7 @@ use Rattle.bytecode_model.proofs.Lists.{all_get}
 
 module _ (pool more : List Const) (fits : FitsPool pool) where
   -- the constant that an index names, of a kind
-  named_one : (kind : Kind) (i : ℕ) → names kind pool i ≡ true → (c : Const) × (slice_get pool i ≡ Some c) × (is_of kind c ≡ true)
+  named_one : (kind : ConstKind) (i : ℕ) → names kind pool i ≡ true → (c : Const) × (slice_get pool i ≡ Some c) × (is_of kind c ≡ true)
   unfolding names
   named_one kind i e = by (slice_get pool i) refl e
     where

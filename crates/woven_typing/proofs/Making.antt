@@ -7,7 +7,7 @@ use Rattle.insn_codec.specs.declared.shape.Shape.{Shape}
 use Rattle.insn_codec.specs.declared.shape.Shape.TheVariants as shapes
 use Rattle.bytecode_model.specs.declared.program.Target.{Target}
 use Rattle.bytecode_model.specs.Makes.{made_by}
-use Rattle.bytecode_model.specs.Place.{class_of}
+use Rattle.bytecode_model.specs.InsnPlace.{class_of}
 use Rattle.insn_codec.specs.Shapes.{shape_of}
 use Rattle.offset_patch.specs.declared.block.BlockInsn.{BlockInsn}
 use Rattle.offset_patch.specs.Splicing.{put}

@@ -15,7 +15,7 @@ use Rattle.bytecode_model.specs.declared.program.Method.{Method}
 use Rattle.bytecode_model.specs.declared.program.Program.{Program}
 use Rattle.bytecode_model.specs.Operands.{index_of}
 use Rattle.bytecode_model.specs.Rules.{Frames}
-use Rattle.bytecode_model.specs.Shape.{IsShaped, coded, has_code}
+use Rattle.bytecode_model.specs.Layout.{IsLaidOut, coded, has_code}
 use Rattle.bytecode_model.specs.Sound.{IsSoundClass, IsSoundMethod}
 use Rattle.bytecode_model.specs.Typed.{frames_in, frames_told, list_at}
 use Rattle.bytecode_model.proofs.Lists.{all_get}
@@ -320,7 +320,7 @@ module _ (old new : Program) (policy : Policy) (mode : Mode) (g : IsGiven old ne
       let rest : map (map length) told ≡ map (λ (c : LinkedClass). map (λ (m : Method). length m.insns) (coded c.methods)) olds = cc in
       rw (methods_shape start x 0 x.methods y.methods t each.0 here, classes_shape (start + 1) olds news told state none each.1 rest) refl
 
-  pub shaped : (typing : Typing) → IsShaped old typing.frames → IsShaped new (typing_of old policy mode typing).frames
+  pub shaped : (typing : Typing) → IsLaidOut old typing.frames → IsLaidOut new (typing_of old policy mode typing).frames
   shaped typing shape =
       classes_shape 0 old.classes g.woven.own typing.frames g.woven.state g.woven.last.methods all_alike shape
       ∙ ap (map (λ (c : LinkedClass). map (λ (m : Method). length m.insns) (coded c.methods))) (sym g.woven.are)

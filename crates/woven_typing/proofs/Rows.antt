@@ -8,8 +8,8 @@ use Rattle.cert_format.specs.declared.typing.FrameType.{FrameType}
 use Rattle.cert_format.specs.declared.typing.VType.{VType}
 use Rattle.cert_format.specs.declared.typing.VType.TheVariants as types
 use Rattle.insn_codec.specs.declared.shape.Heap.TheVariants as heap
-use Rattle.insn_codec.specs.declared.shape.Kind.{Kind}
-use Rattle.insn_codec.specs.declared.shape.Kind.TheVariants as kinds
+use Rattle.insn_codec.specs.declared.shape.ValueKind.{ValueKind}
+use Rattle.insn_codec.specs.declared.shape.ValueKind.TheVariants as kinds
 use Rattle.insn_codec.specs.declared.shape.Shape.{Shape}
 use Rattle.insn_codec.specs.declared.shape.Shape.TheVariants as shapes
 use Rattle.insn_codec.specs.Shapes.{shape_of}
@@ -20,7 +20,7 @@ use Rattle.bytecode_model.specs.Heads.{is_static, maker}
 use Rattle.bytecode_model.specs.Assigning.{assignable}
 use Rattle.bytecode_model.specs.Described.{type_described, result_type, arguments}
 use Rattle.bytecode_model.specs.Makes.{type_at, class_made, local_after, stack_after}
-use Rattle.bytecode_model.specs.Place.{Place, is_maker}
+use Rattle.bytecode_model.specs.InsnPlace.{InsnPlace, is_maker}
 use Rattle.bytecode_model.specs.Rules.{locals_fit, stack_fits, this_type, arguments_typed, entry_locals, Entry, Depth, taken, Operand, uses_local, Local, has_object, makes_receiver, leaves_made, made_well, Made, goes_well, class_caught, when_thrown, local_caught, is_reference_to, is_alone, catches_well}
 use Rattle.bytecode_model.specs.Wants.{Want, takes, all_met, of_kind, is_result_of, returns_well}
 use Rattle.woven_typing.specs.Renaming.{renamed, frame_renamed}
@@ -34,7 +34,7 @@ le_more a b c e le = grind (arith, nat_tests)
 pub lt_more : (a b c : ℕ) → nat_lt a b ≡ true → b ≤ c → nat_lt a c ≡ true
 lt_more a b c e le = grind (arith, nat_tests)
 
-module _ (moved : ℕ → ℕ) (p q : Place) (kept : IsKept moved p q) where
+module _ (moved : ℕ → ℕ) (p q : InsnPlace) (kept : IsKept moved p q) where
   abbrev new : VType → VType
   new t = renamed moved t
 
@@ -129,7 +129,7 @@ module _ (moved : ℕ → ℕ) (p q : Place) (kept : IsKept moved p q) where
 
   -- ---- 4: locals
 
-  local_met : (k : Kind) (locals : List VType) (slot : ℕ) → (nat_lt slot p.method.max_locals && of_kind k (type_at locals slot)) ≡ true
+  local_met : (k : ValueKind) (locals : List VType) (slot : ℕ) → (nat_lt slot p.method.max_locals && of_kind k (type_at locals slot)) ≡ true
       → (nat_lt slot q.method.max_locals && of_kind k (type_at (map new locals) slot)) ≡ true
   local_met k locals slot =
       and_kept (nat_lt slot p.method.max_locals) (of_kind k (type_at locals slot)) _ _

@@ -4,7 +4,7 @@ use Rattle.std.specs.Prelude.{IfSome, slice_get}
 use Rattle.std.specs.Option.{option_map_or}
 use Rattle.mon_base.specs.declared.method.MethodId.{MethodId}
 use Rattle.class_codec.specs.Pool.{reference_at}
-use Rattle.bytecode_model.specs.Place.{Place}
+use Rattle.bytecode_model.specs.InsnPlace.{InsnPlace}
 use Rattle.offset_patch.specs.declared.block.BlockInsn.{BlockInsn}
 use Rattle.offset_patch.specs.declared.block.BlockInsn.TheVariants.{Plain, Byte, Short, Local, Want, Jump, Call}
 use Rattle.offset_patch.specs.declared.block.PoolWant.{PoolWant}
@@ -20,7 +20,7 @@ use Rattle.woven_typing.proofs.Client.{Typed, b, here}
 
 module _ (t : Typed) (c : CallAt t) where
   -- the place of an instruction of the block
-  abbrev pub spot : ℕ → BlockInsn → Place
+  abbrev pub spot : ℕ → BlockInsn → InsnPlace
   spot k x =
       here t (of.front (b t) c.i + k) (put (of.pool (b t)) (of.fronts (b t)) (of.front (b t) c.i) c.insn x)
       (part_named (of.state (b t)) (ref t c) x)

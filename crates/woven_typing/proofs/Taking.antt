@@ -10,8 +10,8 @@ use Rattle.insn_codec.specs.declared.shape.Heap.{Heap}
 use Rattle.insn_codec.specs.declared.shape.Heap.TheVariants as heap
 use Rattle.insn_codec.specs.declared.shape.Item.{Item}
 use Rattle.insn_codec.specs.declared.shape.Item.TheVariants as items
-use Rattle.insn_codec.specs.declared.shape.Kind.{Kind}
-use Rattle.insn_codec.specs.declared.shape.Kind.TheVariants as kinds
+use Rattle.insn_codec.specs.declared.shape.ValueKind.{ValueKind}
+use Rattle.insn_codec.specs.declared.shape.ValueKind.TheVariants as kinds
 use Rattle.insn_codec.specs.declared.shape.Shape.{Shape}
 use Rattle.insn_codec.specs.declared.shape.Shape.TheVariants as shapes
 use Rattle.insn_codec.specs.Forms.{depth_of}
@@ -20,12 +20,12 @@ use Rattle.insn_codec.specs.declared.shape.How.{How}
 use Rattle.insn_codec.specs.declared.shape.How.TheVariants as hows
 use Rattle.bytecode_model.specs.Assigning.{assignable}
 use Rattle.bytecode_model.specs.Described.{type_described, result_type, result_text, arguments}
-use Rattle.bytecode_model.specs.Place.{Place, class_referred, desc_referred, calls_maker, is_own_field}
+use Rattle.bytecode_model.specs.InsnPlace.{InsnPlace, class_referred, desc_referred, calls_maker, is_own_field}
 use Rattle.bytecode_model.specs.Wants.{Want, anything, is_number, is_reference, is_made, is_array_type, is_this, of_kind, to_type, to_class, to_array, to_item, to_written, to_own, to_receiver, to_described, to_arguments, to_result, call_takes, heap_takes, takes_of, takes, all_met}
 use Rattle.woven_typing.specs.Renaming.{renamed}
 use Rattle.woven_typing.proofs.Kept.{IsKept, retargeted, same_class, same_name, same_desc, described_stays, or_kept, and_kept}
 
-module _ (moved : ℕ → ℕ) (p q : Place) (kept : IsKept moved p q) where
+module _ (moved : ℕ → ℕ) (p q : InsnPlace) (kept : IsKept moved p q) where
   -- What the one want is met by, the other is, renamed.
   abbrev pub WantKept : Want → Want → Type 0
   WantKept w v = (t : VType) → w t ≡ true → v (renamed moved t) ≡ true
@@ -86,7 +86,7 @@ module _ (moved : ℕ → ℕ) (p q : Place) (kept : IsKept moved p q) where
   this types.UninitThis e = refl
   this (types.Uninit i) e = absurd cc
 
-  pub kind : (k : Kind) → WantKept (of_kind k) (of_kind k)
+  pub kind : (k : ValueKind) → WantKept (of_kind k) (of_kind k)
   kind kinds.Int = number
   kind kinds.Reference = reference
 

@@ -8,7 +8,7 @@ use Rattle.insn_codec.specs.declared.insn.Insn.{Insn}
 use Rattle.bytecode_model.specs.declared.program.Target.{Target}
 use Rattle.bytecode_model.specs.declared.program.Target.TheVariants as target
 use Rattle.bytecode_model.specs.Makes.{type_at}
-use Rattle.bytecode_model.specs.Place.{Place}
+use Rattle.bytecode_model.specs.InsnPlace.{InsnPlace}
 use Rattle.bytecode_model.specs.Rules.{entry_locals, frame_of, locals_fit, row_failing}
 use Rattle.bytecode_model.specs.Typed.{place_at, row_in}
 use Rattle.conspec_automaton.specs.Next.{has_clauses}
@@ -60,7 +60,7 @@ module _ (t : Typed) where
     not_high f is first =
         let row = row_of t i insn ref f there names (frame_told i x framed ∙ is) in
         let entry = row.entry (eq-eqb i 0 first) in
-        let p : Place = old t i insn ref in
+        let p : InsnPlace = old t i insn ref in
         let few = and_parts (nat_le (length (entry_locals p)) (b t).method.max_locals) _ entry in
         let rest = and_parts (locals_fit (b t).old (type_at (entry_locals p)) 0 f.locals) (length f.stack == 0) few.1 in
         eqb-true (length f.stack) 0 rest.1
@@ -119,8 +119,8 @@ module _ (t : Typed) where
       client_row f is few =
           let row = row_of t i insn ref f there names (frame_told i x framed ∙ is) in
           let kept = kept_at t i m insn ref there (λ new. at) in
-          let p : Place = old t i insn ref in
-          let q : Place = here t m (aim t insn) ref in
+          let p : InsnPlace = old t i insn ref in
+          let q : InsnPlace = here t m (aim t insn) ref in
           row_here t m (aim t insn) ref (Some (again t f)) (insn_there (of.weaves (b t)) i 0 insn ref Call there names call)
           (ref_there (of.weaves (b t)) i 0 ref Call names call)
           (framed_so ∙ ap (λ (y : Option FrameType). option_map (frame_renamed (moved t)) (low (b t).method.max_stack y)) is

@@ -15,7 +15,7 @@ use Rattle.bytecode_model.specs.declared.program.Program.{Program}
 use Rattle.bytecode_model.specs.declared.program.Target.{Target}
 use Rattle.bytecode_model.specs.declared.program.Target.TheVariants as target
 use Rattle.bytecode_model.specs.Rules.{Frames, frame_of, row_failing}
-use Rattle.bytecode_model.specs.Shape.{IsShaped, coded, has_code}
+use Rattle.bytecode_model.specs.Layout.{IsLaidOut, coded, has_code}
 use Rattle.bytecode_model.specs.Typed.{IsTyped, frames_in, frames_told, list_at, place_at, reached, reached_in, row_in, row_of_method}
 use Rattle.conspec_automaton.specs.declared.policy.Policy.{Policy}
 use Rattle.conspec_automaton.specs.Next.{has_clauses}
@@ -137,7 +137,7 @@ module _ (old new : Program) (policy : Policy) (mode : Mode) (g : IsGiven old ne
 
   -- ---- the rows
 
-  module _ (typing : Typing) (typed : IsTyped old typing) (shape : IsShaped old typing.frames) where
+  module _ (typing : Typing) (typed : IsTyped old typing) (shape : IsLaidOut old typing.frames) where
     abbrev made_typing : Typing
     made_typing = typing_of old policy mode typing
 
@@ -196,7 +196,7 @@ woven_typed old new policy mode typing g typed shape =
 
 -- ---- which instructions have a frame
 
-module _ (old new : Program) (policy : Policy) (mode : Mode) (typing : Typing) (g : IsGiven old new policy mode) (shape : IsShaped old typing.frames)
+module _ (old new : Program) (policy : Policy) (mode : Mode) (typing : Typing) (g : IsGiven old new policy mode) (shape : IsLaidOut old typing.frames)
     (own index at : ℕ) (class : LinkedClass) (method : Method) (insn : Insn) (ref : Target)
     (there : IsInsnAt old own index at class method insn ref) where
   abbrev inside : at < length method.insns
@@ -267,7 +267,7 @@ module _ (old new : Program) (policy : Policy) (mode : Mode) (typing : Typing) (
       ∙ ap (option_map (frame_renamed (front_in (client_of old policy mode own class method)))) kept_is)
 
 -- one of a block
-module _ (old new : Program) (policy : Policy) (mode : Mode) (typing : Typing) (g : IsGiven old new policy mode) (shape : IsShaped old typing.frames)
+module _ (old new : Program) (policy : Policy) (mode : Mode) (typing : Typing) (g : IsGiven old new policy mode) (shape : IsLaidOut old typing.frames)
     (own index at : ℕ) (class : LinkedClass) (method : Method) (insn : Insn) (callee : ℕ)
     (there : IsInsnAt old own index at class method insn (target.ApiMethod callee)) (has : has_clauses policy callee ≡ true)
     (k : ℕ) (item : Item) (e : slice_get (items_of policy mode method.max_locals callee) k ≡ Some item) where

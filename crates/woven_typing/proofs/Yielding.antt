@@ -18,12 +18,12 @@ use Rattle.bytecode_model.specs.declared.program.Target.{Target}
 use Rattle.bytecode_model.specs.declared.program.Target.TheVariants as target
 use Rattle.bytecode_model.specs.Described.{type_described, result_type, result_text}
 use Rattle.bytecode_model.specs.Makes.{type_at, moved_from, constant_type, item_type, read_type, call_yields, heap_yields, yields_of, yields, class_made, is_same_object, when_made, when_new, when_called, changed_by, changed, stores, local_after, topmost, below, stack_after}
-use Rattle.bytecode_model.specs.Place.{Place, desc_referred, calls_maker}
+use Rattle.bytecode_model.specs.InsnPlace.{InsnPlace, desc_referred, calls_maker}
 use Rattle.woven_typing.specs.Renaming.{renamed}
 use Rattle.woven_typing.proofs.Kept.{IsKept, retargeted, same_class, same_desc, described_stays, type_renamed}
 use Rattle.woven_typing.proofs.Taking.{same_maker}
 
-module _ (moved : ℕ → ℕ) (p q : Place) (kept : IsKept moved p q) where
+module _ (moved : ℕ → ℕ) (p q : InsnPlace) (kept : IsKept moved p q) where
   abbrev new : VType → VType
   new t = renamed moved t
 

@@ -9,39 +9,39 @@ use Rattle.insn_codec.specs.declared.shape.Shape.TheVariants as shapes
 use Rattle.insn_codec.specs.Shapes.{shape_of}
 use Rattle.bytecode_model.specs.Described.{arguments, result_type}
 use Rattle.bytecode_model.specs.Makes.{below, call_yields, topmost, when_called}
-use Rattle.bytecode_model.specs.Place.{Place, desc_referred, has_receiver}
+use Rattle.bytecode_model.specs.InsnPlace.{InsnPlace, desc_referred, has_receiver}
 
 -- how many operands a call takes: its arguments, and its receiver
-abbrev pub arguments_count : Place → ℕ
+abbrev pub arguments_count : InsnPlace → ℕ
 arguments_count place = length (arguments (desc_referred place))
 
-abbrev pub count_called : Place → How → ℕ
+abbrev pub count_called : InsnPlace → How → ℕ
 count_called place how = if has_receiver how then arguments_count place + 1 else arguments_count place
 
 -- Nothing else is a call.
-abbrev pub count_of : Place → Shape → ℕ
+abbrev pub count_of : InsnPlace → Shape → ℕ
 count_of place (shapes.Heap (heap.Call how)) = count_called place how
 count_of place other = 0
 
-abbrev pub count_taken : Place → ℕ
+abbrev pub count_taken : InsnPlace → ℕ
 count_taken place = count_of place (shape_of place.insn)
 
 -- the operands that the call takes
-abbrev pub call_operands : Place → List VType → List VType
+abbrev pub call_operands : InsnPlace → List VType → List VType
 call_operands place stack = topmost (count_taken place) stack
 
 -- what becomes of types that stay: a constructor makes its receiver
-abbrev pub types_behind : Place → List VType → List VType → List VType
+abbrev pub types_behind : InsnPlace → List VType → List VType → List VType
 types_behind place operands stay = map (when_called place operands) stay
 
 -- what it gives
-abbrev pub given : Place → List VType
+abbrev pub given : InsnPlace → List VType
 given place = call_yields (result_type (desc_referred place))
 
-abbrev pub stack_behind : Place → List VType → List VType
+abbrev pub stack_behind : InsnPlace → List VType → List VType
 stack_behind place stack = types_behind place (call_operands place stack) (below (count_taken place) stack) ++ given place
 
-abbrev pub frame_behind : Place → FrameType → FrameType
+abbrev pub frame_behind : InsnPlace → FrameType → FrameType
 frame_behind place frame = record {
   locals = types_behind place (call_operands place frame.stack) frame.locals;
   stack = stack_behind place frame.stack;

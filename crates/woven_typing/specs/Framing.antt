@@ -10,9 +10,9 @@ use Rattle.bytecode_model.specs.declared.program.Method.{Method}
 use Rattle.bytecode_model.specs.declared.program.Program.{Program}
 use Rattle.bytecode_model.specs.declared.program.Target.{Target}
 use Rattle.bytecode_model.specs.declared.program.Target.TheVariants as target
-use Rattle.bytecode_model.specs.Place.{Place}
+use Rattle.bytecode_model.specs.InsnPlace.{InsnPlace}
 use Rattle.bytecode_model.specs.Rules.{Frames}
-use Rattle.bytecode_model.specs.Shape.{has_code}
+use Rattle.bytecode_model.specs.Layout.{has_code}
 use Rattle.bytecode_model.specs.Typed.{list_at}
 use Rattle.conspec_automaton.specs.declared.policy.Policy.{Policy}
 use Rattle.conspec_automaton.specs.Next.{has_clauses}
@@ -41,7 +41,7 @@ abbrev pub items_of : Policy → Mode → ℕ → ℕ → List Item
 items_of policy mode base callee = items mode (bools_of policy) base (clauses_of policy callee)
 
 -- the types before a call and behind it, where indices have become others
-abbrev pub around_of : (ℕ → ℕ) → Place → FrameType → Around
+abbrev pub around_of : (ℕ → ℕ) → InsnPlace → FrameType → Around
 around_of moved place frame = record {
   before = frame_renamed moved frame;
   after = frame_renamed moved (frame_behind place frame);
@@ -49,10 +49,10 @@ around_of moved place frame = record {
 }
 
 -- the types of an item, where the call has a frame
-abbrev pub item_framed : Clauses → (ℕ → ℕ) → Place → Option FrameType → Item → Option FrameType
+abbrev pub item_framed : Clauses → (ℕ → ℕ) → InsnPlace → Option FrameType → Item → Option FrameType
 item_framed clauses moved place frame item = option_and_then (λ f. frame_at clauses (around_of moved place f) item.role) frame
 
-abbrev pub block_framed : Policy → Mode → (ℕ → ℕ) → Place → ℕ → Option FrameType → Frames
+abbrev pub block_framed : Policy → Mode → (ℕ → ℕ) → InsnPlace → ℕ → Option FrameType → Frames
 block_framed policy mode moved place callee frame =
     map (item_framed (clauses_of policy callee) moved place frame) (items_of policy mode place.method.max_locals callee)
 
@@ -62,7 +62,7 @@ abbrev pub alone_framed : (ℕ → ℕ) → Option FrameType → Frames
 alone_framed moved frame = option_map (frame_renamed moved) frame ∷ []
 
 -- the frames of what stands for an instruction, by what its operand names
-abbrev pub part_framed : Policy → Mode → (ℕ → ℕ) → Place → Target → Option FrameType → Frames
+abbrev pub part_framed : Policy → Mode → (ℕ → ℕ) → InsnPlace → Target → Option FrameType → Frames
 part_framed policy mode moved place (target.ApiMethod callee) frame =
     if has_clauses policy callee then block_framed policy mode moved place callee frame else alone_framed moved frame
 part_framed policy mode moved place other frame = alone_framed moved frame
@@ -87,7 +87,7 @@ pub record Client : Type 0 where
   pub method : Method
 
 -- an instruction of it, and what its operand names
-abbrev pub insn_place : Client → ℕ → Insn → Target → Place
+abbrev pub insn_place : Client → ℕ → Insn → Target → InsnPlace
 insn_place client at insn ref = record {
   program = client.program;
   own = client.own;

@@ -12,7 +12,7 @@ use Rattle.bytecode_model.specs.declared.program.Target.TheVariants as target
 use Rattle.bytecode_model.specs.Named.{AreRightOperands}
 use Rattle.bytecode_model.specs.Order.{IsInOrder}
 use Rattle.bytecode_model.specs.Rules.{frame_of}
-use Rattle.bytecode_model.specs.Shape.{IsShaped}
+use Rattle.bytecode_model.specs.Layout.{IsLaidOut}
 use Rattle.bytecode_model.specs.Sound.{IsSound}
 use Rattle.bytecode_model.specs.Typed.{IsTyped, frames_in, frames_told, reached}
 use Rattle.conspec_automaton.specs.declared.policy.Policy.{Policy}
@@ -42,12 +42,12 @@ pub record IsGiven (old new : Program) (policy : Policy) (mode : Mode) : Type 0 
 -- Where the program is typed, the woven one is, by the frames that are told.
 pub record IsTypedSo (old new : Program) (policy : Policy) (mode : Mode) (typing : Typing) : Type 0 where
   pub typed : IsTyped new (typing_of old policy mode typing)
-  pub shaped : IsShaped new (typing_of old policy mode typing).frames
+  pub shaped : IsLaidOut new (typing_of old policy mode typing).frames
 
 abbrev pub WovenIsTyped : Type 0
 WovenIsTyped =
     (old new : Program) (policy : Policy) (mode : Mode) (typing : Typing) → IsGiven old new policy mode → IsTyped old typing
-    → IsShaped old typing.frames → IsTypedSo old new policy mode typing
+    → IsLaidOut old typing.frames → IsTypedSo old new policy mode typing
 
 -- ---- which instructions have a frame
 
@@ -80,7 +80,7 @@ pub record IsToldAs (new : Program) (typing : Typing) (own index at : ℕ) (fram
 -- An instruction without a block has its frame, renamed.
 abbrev pub ClientsAreTold : Type 0
 ClientsAreTold =
-    (old new : Program) (policy : Policy) (mode : Mode) (typing : Typing) → IsGiven old new policy mode → IsShaped old typing.frames
+    (old new : Program) (policy : Policy) (mode : Mode) (typing : Typing) → IsGiven old new policy mode → IsLaidOut old typing.frames
     → (own index at : ℕ) (class : LinkedClass) (method : Method) (insn : Insn) (ref : Target)
     → IsInsnAt old own index at class method insn ref → has_block policy ref ≡ false
     → IsToldAs new (typing_of old policy mode typing) own index (front policy mode method at)
@@ -89,7 +89,7 @@ ClientsAreTold =
 -- An instruction of a block has that of its role.
 abbrev pub BlocksAreTold : Type 0
 BlocksAreTold =
-    (old new : Program) (policy : Policy) (mode : Mode) (typing : Typing) → IsGiven old new policy mode → IsShaped old typing.frames
+    (old new : Program) (policy : Policy) (mode : Mode) (typing : Typing) → IsGiven old new policy mode → IsLaidOut old typing.frames
     → (own index at : ℕ) (class : LinkedClass) (method : Method) (insn : Insn) (callee : ℕ)
     → IsInsnAt old own index at class method insn (target.ApiMethod callee) → has_clauses policy callee ≡ true
     → (k : ℕ) (item : Item) → slice_get (items_of policy mode method.max_locals callee) k ≡ Some item
@@ -100,7 +100,7 @@ BlocksAreTold =
 -- It is reached exactly where the client's instruction is, and the role is.
 abbrev pub BlocksAreReachedSo : Type 0
 BlocksAreReachedSo =
-    (old new : Program) (policy : Policy) (mode : Mode) (typing : Typing) → IsGiven old new policy mode → IsShaped old typing.frames
+    (old new : Program) (policy : Policy) (mode : Mode) (typing : Typing) → IsGiven old new policy mode → IsLaidOut old typing.frames
     → (own index at : ℕ) (class : LinkedClass) (method : Method) (insn : Insn) (callee : ℕ)
     → IsInsnAt old own index at class method insn (target.ApiMethod callee) → has_clauses policy callee ≡ true
     → (k : ℕ) (item : Item) → slice_get (items_of policy mode method.max_locals callee) k ≡ Some item

@@ -11,7 +11,7 @@ use Rattle.insn_codec.specs.declared.insn.Insn.{Insn}
 use Rattle.insn_codec.specs.declared.shape.Heap.{Heap}
 use Rattle.insn_codec.specs.declared.shape.Heap.TheVariants as heap
 use Rattle.insn_codec.specs.declared.shape.How.{How}
-use Rattle.insn_codec.specs.declared.shape.Kind.{Kind}
+use Rattle.insn_codec.specs.declared.shape.ValueKind.{ValueKind}
 use Rattle.insn_codec.specs.declared.shape.Shape.{Shape}
 use Rattle.insn_codec.specs.declared.shape.Shape.TheVariants as shapes
 use Rattle.insn_codec.specs.Control.{jump_targets, next_of}
@@ -190,14 +190,14 @@ module _ (program : Program) (policy : Policy) (certificate : Certificate) (laws
     abbrev GivesClean : Option Value → Type 0
     GivesClean result = IfSome result (IsClean program)
 
-    result_clean : (kind : Option Kind) → IfThere GivesClean (result_of kind a.frame.stack.items)
+    result_clean : (kind : Option ValueKind) → IfThere GivesClean (result_of kind a.frame.stack.items)
     result_clean None = if_some GivesClean None tt
     result_clean (Some kind) =
         if_then GivesClean _ (slice_get a.frame.stack.items 0)
         (λ v e. if_either GivesClean (fits kind v) _ _ (if_some GivesClean (Some v) (all_get (IsClean program) a.frame.stack.items 0 v clean e))
         (if_none GivesClean))
 
-    returns_good : (kind : Option Kind) → Makes (returns program shared a kind)
+    returns_good : (kind : Option ValueKind) → Makes (returns program shared a kind)
     returns_good kind =
         let own = clean_list program a.frame.lock well.lock in
         let held = all_given_up machine.monitors a.number (option_to_list a.frame.lock) in

@@ -5,7 +5,7 @@ use Rattle.std.specs.Prelude.{◌==◌, ◌⊎◌, nat_lt, not}
 use Rattle.std.specs.Option.{option_map_or}
 use Rattle.std.proofs.lemmas.Bool.{and_parts, not-true}
 use Rattle.insn_codec.specs.declared.shape.Heap.TheVariants as heap
-use Rattle.insn_codec.specs.declared.shape.Kind.{Kind}
+use Rattle.insn_codec.specs.declared.shape.ValueKind.{ValueKind}
 use Rattle.insn_codec.specs.declared.shape.Shape.{Shape}
 use Rattle.insn_codec.specs.declared.shape.Shape.TheVariants as shapes
 use Rattle.bytecode_model.specs.declared.program.Target.{Target}
@@ -17,7 +17,7 @@ use Rattle.block_logic.specs.Rows.{Given, Nothing, Row, Rules, calls_of, granted
 use Rattle.block_logic.specs.Standing.{is_hold}
 use Rattle.block_logic.proofs.Owner.Rows.{Asks, gives_asks, leaves_is, one_row, where_so}
 
-loads_is : (shape : Shape) (slot : ℕ) → loaded shape ≡ Some slot → (kind : Kind) × (shape ≡ shapes.Load kind slot)
+loads_is : (shape : Shape) (slot : ℕ) → loaded shape ≡ Some slot → (kind : ValueKind) × (shape ≡ shapes.Load kind slot)
 loads_is (shapes.Load kind place) slot e = let same : place ≡ slot = cc in (kind, ap (shapes.Load kind) same)
 loads_is shape slot e = absurd cc
 
@@ -30,7 +30,7 @@ module _ (rules : Rules) (site : Site) (locked : Bool) (count : ℕ) (top : Bool
   pub record LoadsNext : Type 0 where
     pub bare : top ≡ false
     pub less : count < needs rules.policy site.method
-    pub kind : Kind
+    pub kind : ValueKind
     pub is : shape ≡ shapes.Load kind (site.base + count)
     pub asks : Asks r (Given (notes.Granted site locked (count + 1) false))
 

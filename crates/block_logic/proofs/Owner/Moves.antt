@@ -7,8 +7,8 @@ use Rattle.std.proofs.lemmas.Option.{cond_some}
 use Rattle.insn_codec.specs.declared.insn.Insn.{Insn}
 use Rattle.insn_codec.specs.declared.shape.Heap.{Heap}
 use Rattle.insn_codec.specs.declared.shape.Heap.TheVariants as heap
-use Rattle.insn_codec.specs.declared.shape.Kind.{Kind}
-use Rattle.insn_codec.specs.declared.shape.Kind.TheVariants as kinds
+use Rattle.insn_codec.specs.declared.shape.ValueKind.{ValueKind}
+use Rattle.insn_codec.specs.declared.shape.ValueKind.TheVariants as kinds
 use Rattle.insn_codec.specs.declared.shape.Relation.{Relation}
 use Rattle.insn_codec.specs.declared.shape.Two.TheVariants as two
 use Rattle.insn_codec.specs.declared.shape.Shape.{Shape}
@@ -34,11 +34,11 @@ use Rattle.guest_model.specs.Working.{worked}
 use Rattle.guest_model.proofs.Options.{and_then_of, map_of, some_is, unless_of}
 
 -- an operand of a kind
-pub record IsOperand (kind : Kind) (items : List Value) (i : ℕ) (v : Value) : Type 0 where
+pub record IsOperand (kind : ValueKind) (items : List Value) (i : ℕ) (v : Value) : Type 0 where
   pub there : slice_get items i ≡ Some v
   pub fit : fits kind v ≡ true
 
-operand_is : (kind : Kind) (items : List Value) (i : ℕ) (v : Value) → operand values_moved kind i items ≡ Some v → IsOperand kind items i v
+operand_is : (kind : ValueKind) (items : List Value) (i : ℕ) (v : Value) → operand values_moved kind i items ≡ Some v → IsOperand kind items i v
 operand_is kind items i v e =
     let o = and_then_of (of_kind values_moved kind) (slice_get items i) v e in
     let c = cond_some (fits kind o.0) o.0 v o.2 in
@@ -98,14 +98,14 @@ module _ (program : Program) (machine : Machine) (a : Acting) (change : Change) 
         let m = alone (shapes.Push n) is refl in
         left_alone (shapes.Push n) m.0 (a.frame.locals, values.Int n ∷ a.frame.stack.items) (a.frame.at + 1) m.1 refl m.2
 
-    pub loads : (kind : Kind) (slot : ℕ) → shape_of next.0 ≡ shapes.Load kind slot
+    pub loads : (kind : ValueKind) (slot : ℕ) → shape_of next.0 ≡ shapes.Load kind slot
         → (v : Value) × IsOperand kind a.frame.locals slot v × Behind (world_of machine) a.frame.locals (v ∷ a.frame.stack.items)
     loads kind slot is =
         let m = alone (shapes.Load kind slot) is refl in
         let l = map_of (λ (v : Value). (a.frame.locals, v ∷ a.frame.stack.items)) (operand values_moved kind slot a.frame.locals) m.0 m.1 in
         (l.0, operand_is kind a.frame.locals slot l.0 l.1, subst (λ (p : Moved Value). Behind (world_of machine) p.0 p.1) (sym l.2) m.2)
 
-    pub stores : (kind : Kind) (slot : ℕ) → shape_of next.0 ≡ shapes.Store kind slot
+    pub stores : (kind : ValueKind) (slot : ℕ) → shape_of next.0 ≡ shapes.Store kind slot
         → (v : Value) × (slice_get a.frame.stack.items 0 ≡ Some v) × (slot < length a.frame.locals)
         × Behind (world_of machine) (slice_set a.frame.locals slot v) (drop 1 a.frame.stack.items)
     stores kind slot is =

@@ -5,7 +5,7 @@ use Rattle.std.proofs.lemmas.Bool.{and_parts, not-true}
 use Rattle.api_listing.specs.declared.events.Event.{Event}
 use Rattle.insn_codec.specs.declared.insn.Insn.{Insn}
 use Rattle.insn_codec.specs.declared.shape.Heap.TheVariants as heap
-use Rattle.insn_codec.specs.declared.shape.Kind.{Kind}
+use Rattle.insn_codec.specs.declared.shape.ValueKind.{ValueKind}
 use Rattle.insn_codec.specs.declared.shape.Shape.{Shape}
 use Rattle.insn_codec.specs.declared.shape.Shape.TheVariants as shapes
 use Rattle.insn_codec.specs.Shapes.{shape_of}
@@ -45,7 +45,7 @@ use Rattle.block_logic.proofs.Steps.{ChangesOwner}
 
 -- ---- the rows
 
-stores_is : (shape : Shape) (slot : ℕ) → stored shape ≡ Some slot → (kind : Kind) × (shape ≡ shapes.Store kind slot)
+stores_is : (shape : Shape) (slot : ℕ) → stored shape ≡ Some slot → (kind : ValueKind) × (shape ≡ shapes.Store kind slot)
 stores_is (shapes.Store kind place) slot e = let same : place ≡ slot = cc in (kind, ap (shapes.Store kind) same)
 stores_is shape slot e = absurd cc
 
@@ -56,7 +56,7 @@ module _ (rules : Rules) (site : Site) (stage : ℕ) (kept top : Bool) (shape : 
     pub early : nat_lt stage 2 ≡ true
     pub loose : kept ≡ false
     pub bare : top ≡ false
-    pub kind : Kind
+    pub kind : ValueKind
     pub is : shape ≡ shapes.Store kind site.base
     pub asks : Asks r (Given (notes.Owed site stage true false))
 

@@ -58,7 +58,7 @@ pub fn write_item(
         Led::Null => Some(Outcome::Throws(Thrown::NullPointer)),
         Led::Array { at, desc, items } => {
             let Some(place) = place_among(items.len(), index) else {
-                return Some(Outcome::Throws(Thrown::Place));
+                return Some(Outcome::Throws(Thrown::Bounds));
             };
             if !may_hold(guest, heap, desc, value) {
                 return Some(Outcome::Throws(Thrown::Item));

@@ -13,7 +13,7 @@ use guest_heap::{Object, Stack, Value};
 use guest_model::Thrown;
 use guest_tables::{Guest, is_instance, new_of};
 use guest_work::{Comes, Outcome, name_named, operand_of, push_object, replace, truth};
-use insn_codec::Kind;
+use insn_codec::ValueKind;
 use mon_base::{List, NoMemory};
 use std::alloc::Global;
 
@@ -41,7 +41,7 @@ pub fn cast(guest: &Guest, target: &Target, heap: &List<Object>, stack: &Stack) 
         (λ (world : World). option_and_then (λ (name : Name). casts guest.now world name stack.now.items) (name_named target.now)) }
 {
     let name = name_named(target)?;
-    let value = operand_of(Kind::Reference, stack, 0)?;
+    let value = operand_of(ValueKind::Reference, stack, 0)?;
     if is_cast(guest, heap, value, name.as_slice()) {
         Some(Outcome::Goes)
     } else {
@@ -88,7 +88,7 @@ fn instance_told(
         ≡ comes (with_monitors (at heap.now statics stack.now) monitors) (drop 1 stack.now.items) result }
 {
     let name = name_named(target)?;
-    let value = operand_of(Kind::Reference, stack, 0)?;
+    let value = operand_of(ValueKind::Reference, stack, 0)?;
     let test = is_instance(guest, heap, value, name.as_slice());
     Some(Comes::Value(truth(test)))
 }

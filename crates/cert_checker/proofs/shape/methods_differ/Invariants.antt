@@ -1,6 +1,6 @@
 use Rattle.std.proofs.Common.{◌≡◌, ◌+◌, ◌≤◌, length, map}
 use Rattle.bytecode_model.specs.declared.program.Method.{Method}
-use Rattle.bytecode_model.specs.Shape.{coded}
+use Rattle.bytecode_model.specs.Layout.{coded}
 use Rattle.cert_checker.specs.Acceptance.{differ, methods_differ}
 use Rattle.cert_checker.proofs.shape.methods_differ.Given as goal
 

@@ -3,7 +3,7 @@ use Rattle.std.specs.Prelude.{◌&&◌}
 use Rattle.cert_format.specs.declared.typing.VType.{VType}
 use Rattle.code_typing.specs.Changing.{change_told}
 use Rattle.bytecode_model.specs.Makes.{yields}
-use Rattle.bytecode_model.specs.Place.{Place}
+use Rattle.bytecode_model.specs.InsnPlace.{InsnPlace}
 use Rattle.bytecode_model.specs.Rules.{stack_fits}
 use Rattle.code_typing.proofs.Fitting.{joined, too_short}
 use Rattle.code_typing.proofs.following.stack_takes.Goals as goal
@@ -19,7 +19,7 @@ returns-then-kept_fit c =
     let to = c.args.to.now in
     let n = length c.args.left.now.kept.now in
     let lower : stack_fits program kept (take n to) ≡ true =
-    ap (λ (p : Place). stack_fits p.program kept (take n to)) (sym c.place.view_is)
+    ap (λ (p : InsnPlace). stack_fits p.program kept (take n to)) (sym c.place.view_is)
     ∙ ap (stack_fits c.place.inside.program.now kept) (sym c.split_at.ensures.front) ∙ sym c.if-kept_fit.ensures in
     let parts = joined program (change_told c.args.left.now.change) c.args.left.now.kept.now pushed to in
     c.yields_fit.ensures ∙ ap (stack_fits program pushed) c.split_at.ensures.back
@@ -33,7 +33,7 @@ returns-else-kept_fit c =
     let to = c.args.to.now in
     let n = length c.args.left.now.kept.now in
     let lower : stack_fits program kept (take n to) ≡ false =
-    ap (λ (p : Place). stack_fits p.program kept (take n to)) (sym c.place.view_is)
+    ap (λ (p : InsnPlace). stack_fits p.program kept (take n to)) (sym c.place.view_is)
     ∙ ap (stack_fits c.place.inside.program.now kept) (sym c.split_at.ensures.front) ∙ sym c.if-kept_fit.ensures in
     let parts = joined program (change_told c.args.left.now.change) c.args.left.now.kept.now pushed to in
     c.if-kept_fit.false ∙ sym (parts ∙ ap (λ (b : Bool). b && stack_fits program pushed (drop n to)) lower)

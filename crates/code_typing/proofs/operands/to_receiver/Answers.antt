@@ -1,5 +1,5 @@
 use Rattle.std.proofs.Common.{◌≡◌, false, sym, ap, ◌∙◌}
-use Rattle.bytecode_model.specs.Place.{calls_maker}
+use Rattle.bytecode_model.specs.InsnPlace.{calls_maker}
 use Rattle.code_typing.proofs.operands.to_receiver.Goals as goal
 
 pub returns-else-to_referred : goal.returns-else-to_referred

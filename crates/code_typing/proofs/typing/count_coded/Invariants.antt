@@ -1,5 +1,5 @@
 use Rattle.std.proofs.Common.{◌≡◌, ◌+◌, ◌-◌, ◌≤◌, length, take}
-use Rattle.bytecode_model.specs.Shape.{coded}
+use Rattle.bytecode_model.specs.Layout.{coded}
 use Rattle.code_typing.proofs.typing.count_coded.Given as goal
 
 abbrev pub invariant-loop : goal.invariant-loop

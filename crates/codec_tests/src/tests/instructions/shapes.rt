@@ -3,7 +3,7 @@
 use insn_codec::opcodes::{
     ALOAD_3, ATHROW, DUP_X1, ICONST_M1, IFGT, INVOKESPECIAL, INVOKESTATIC, INVOKEVIRTUAL, ISUB,
 };
-use insn_codec::{Heap, How, Insn, Kind, Relation, Shape, StackForm, Two, depth_of, shape_of};
+use insn_codec::{Heap, How, Insn, Relation, Shape, StackForm, Two, ValueKind, depth_of, shape_of};
 use std::test::Fail;
 
 #[test]
@@ -13,7 +13,7 @@ fn shapes_of_plain_opcodes(rt: HostRuntime) -> Result<(), Fail> {
         matches!(
             shape_of(&Insn::Plain(ALOAD_3)),
             Shape::Load {
-                kind: Kind::Reference,
+                kind: ValueKind::Reference,
                 slot: 3
             }
         )

@@ -1,7 +1,7 @@
 use Rattle.std.proofs.Common.{rules, ◌≡◌, Some, sym, ◌∙◌, ap}
 use Rattle.std.proofs.lemmas.Bool.{lt-ltb}
 use Rattle.insn_codec.specs.Effect.{local}
-use Rattle.insn_codec.specs.declared.shape.Kind.TheVariants as kinds
+use Rattle.insn_codec.specs.declared.shape.ValueKind.TheVariants as kinds
 use Rattle.guest_heap.specs.declared.value.Value.TheVariants as values
 use Rattle.guest_frames.specs.Values.{values_moved}
 use Rattle.guest_frames.proofs.Locals.{inside}

@@ -2,7 +2,7 @@ use Rattle.std.proofs.Common.{Option, false, ap, ◌∙◌}
 use Rattle.std.specs.Prelude.{slice_get}
 use Rattle.std.specs.Option.{option_map_or}
 use Rattle.guest_model.specs.Answering.{answer_fits}
-use Rattle.guest_tables.specs.declared.library.Gives.{Gives}
+use Rattle.guest_tables.specs.declared.library.ListedResult.{ListedResult}
 use Rattle.guest_step.proofs.Given.{class_of_type}
 use Rattle.guest_step.proofs.fitting.fits_call.Goals as goal
 
@@ -12,8 +12,8 @@ result_takes-requires c = class_of_type (slice_get c.args.guest.now.listing.meth
 pub returns-in-Some : goal.returns-in-Some
 returns-in-Some c =
     c.result_takes.ensures
-    ∙ ap (λ (o : Option Gives). option_map_or (λ (r : Gives). answer_fits c.args.guest.now c.args.heap.now r.of c.args.receiver c.args.args.now c.args.answer.now) o false) c.in-Some.ensures
+    ∙ ap (λ (o : Option ListedResult). option_map_or (λ (r : ListedResult). answer_fits c.args.guest.now c.args.heap.now r.of c.args.receiver c.args.args.now c.args.answer.now) o false) c.in-Some.ensures
 
 pub returns-in-None : goal.returns-in-None
 returns-in-None c =
-    ap (λ (o : Option Gives). option_map_or (λ (r : Gives). answer_fits c.args.guest.now c.args.heap.now r.of c.args.receiver c.args.args.now c.args.answer.now) o false) c.in-None.ensures
+    ap (λ (o : Option ListedResult). option_map_or (λ (r : ListedResult). answer_fits c.args.guest.now c.args.heap.now r.of c.args.receiver c.args.args.now c.args.answer.now) o false) c.in-None.ensures

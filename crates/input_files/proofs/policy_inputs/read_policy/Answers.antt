@@ -2,7 +2,7 @@ use Rattle.std.proofs.Common.{List, ℕ, Result, subst}
 use Rattle.mon_store.specs.Store.{Files}
 use Rattle.input_files.specs.declared.files.Stop.{Stop}
 use Rattle.input_files.specs.declared.policy_inputs.PolicyInputs.{PolicyInputs}
-use Rattle.input_files.specs.Forms.{Gives, ReadsForm, Then}
+use Rattle.input_files.specs.Forms.{Yields, ReadsForm, Then}
 use Rattle.input_files.specs.Kinds.{policy_form, record_form}
 use Rattle.command_words.specs.Words.{NamedPolicy, policy_named}
 use Rattle.input_files.proofs.ReadFiles.{counted}
@@ -18,5 +18,5 @@ returns-clause-read g c =
     let last : List ℕ = g.S.Store.last c.read_over.new.store in
     let listing = c.in_ok-listing.listing in
     let result : Result PolicyInputs Stop = c.read_over.result in
-    let read = subst (λ (fs : Files). Then {B = PolicyInputs} (ReadsForm fs (counted begun now last) named.policy (policy_form listing)) (λ policy. Then (ReadsForm fs (counted begun now last) named.recorded (record_form listing)) (λ recorded. Gives (record { policy = policy; recorded = recorded }))) result) c.in_ok-listing.ensures.files c.read_over.ensures.read in
+    let read = subst (λ (fs : Files). Then {B = PolicyInputs} (ReadsForm fs (counted begun now last) named.policy (policy_form listing)) (λ policy. Then (ReadsForm fs (counted begun now last) named.recorded (record_form listing)) (λ recorded. Yields (record { policy = policy; recorded = recorded }))) result) c.in_ok-listing.ensures.files c.read_over.ensures.read in
     run_read_over files named (g.S.Store.faults c.args.store.now) begun now last c.in_ok-listing.ensures.faults listing c.in_ok-listing.ensures.form result read

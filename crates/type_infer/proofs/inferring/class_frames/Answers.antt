@@ -3,7 +3,7 @@ use Rattle.std.proofs.lemmas.Bool.{false≢true, lt-ltb}
 use Rattle.std.proofs.lemmas.Grind.{common_steps}
 use Rattle.std.proofs.lemmas.Slice.{first_rest}
 use Rattle.std.specs.List.{between}
-use Rattle.bytecode_model.specs.Shape.{has_code}
+use Rattle.bytecode_model.specs.Layout.{has_code}
 use Rattle.type_infer.specs.Solving.{IsSolved, MethodsAreSolved, scope_of}
 use Rattle.type_infer.proofs.Firsts.{no_methods}
 use Rattle.type_infer.proofs.Lists.{filled}

@@ -3,7 +3,7 @@ use Rattle.std.specs.List.{AllByRecursion}
 use Rattle.bytecode_model.specs.declared.program.Method.{Method}
 use Rattle.bytecode_model.specs.Sound.{IsSoundMethod}
 use Rattle.bytecode_model.specs.Rules.{Frames}
-use Rattle.bytecode_model.specs.Shape.{coded}
+use Rattle.bytecode_model.specs.Layout.{coded}
 use Rattle.type_infer.specs.Fits.{FitFrames}
 use Rattle.type_infer.specs.Shape.{class_shape}
 use Rattle.type_infer.specs.Solving.{MethodsAreSolved}

@@ -3,7 +3,7 @@ use Rattle.std.specs.List.{AllByRecursion}
 use Rattle.cert_format.specs.declared.typing.FrameType.{FrameType}
 use Rattle.bytecode_model.specs.Sound.{IsSoundClass}
 use Rattle.bytecode_model.specs.Rules.{Frames}
-use Rattle.bytecode_model.specs.Shape.{shape_of, program_shape}
+use Rattle.bytecode_model.specs.Layout.{layout_of, program_layout}
 use Rattle.type_infer.specs.Fits.{FitFrames}
 use Rattle.type_infer.specs.Shape.{class_shape}
 use Rattle.type_infer.specs.Solving.{ClassesAreSolved}
@@ -11,7 +11,7 @@ use Rattle.type_infer.proofs.inferring.program_frames.Given as goal
 
 abbrev pub invariant-loop-left : goal.invariant-loop-left
 invariant-loop-left l = record {
-  shaped : shape_of l.frames ++ map class_shape l.left ≡ program_shape l.fn.program;
+  shaped : layout_of l.frames ++ map class_shape l.left ≡ program_layout l.fn.program;
   fits : AllByRecursion (λ (methods : List (List (Option FrameType))). AllByRecursion FitFrames methods) l.frames;
   sound : AllByRecursion IsSoundClass l.left;
   count : l.own + length l.left ≡ length l.fn.program.classes;

@@ -2,7 +2,7 @@ use Rattle.std.proofs.Common.{◌≡◌, ◌≤◌, Some, length, subst, ap, ari
 use Rattle.bytecode_model.specs.declared.program.Program.{Program}
 use Rattle.bytecode_model.specs.Makes.{type_at}
 use Rattle.bytecode_model.specs.Order.{IsInOrder}
-use Rattle.bytecode_model.specs.Place.{Place}
+use Rattle.bytecode_model.specs.InsnPlace.{InsnPlace}
 use Rattle.type_infer.specs.Solving.{IsKept, IsRaisedBy, IsUnlessBelow, Left}
 use Rattle.type_infer.proofs.Raising.{IsSettledBy, merge_from, merged_kept, merged_told}
 use Rattle.type_infer.proofs.joining.merged.Goals as goal
@@ -18,7 +18,7 @@ returns c =
     let both : IsInOrder place.program
     → IsKept place.program (Some old) result × (length c.args.locals.now ≤ place.method.max_locals → length c.args.stack.now ≤ place.method.max_stack → IsRaisedBy place (Some old) left result)
     = λ order.
-    let program : c.place.inside.program.now ≡ place.program = ap (λ (p : Place). p.program) c.place.view_is in
+    let program : c.place.inside.program.now ≡ place.program = ap (λ (p : InsnPlace). p.program) c.place.view_is in
     let reflexive = c.assignable_is_an_order.ensures.reflexive place.program in
     let transitive = c.assignable_is_an_order.ensures.transitive place.program order in
     let itself = c.rows_follow_the_order.ensures.reflexive place.program in

@@ -4,7 +4,7 @@ use Rattle.std.proofs.lemmas.Option.{slice_get_within}
 use Rattle.std.specs.Option.{option_copied}
 use Rattle.cert_format.specs.declared.typing.FrameType.{FrameType}
 use Rattle.bytecode_model.specs.Order.{IsInOrder}
-use Rattle.bytecode_model.specs.Place.{Place}
+use Rattle.bytecode_model.specs.InsnPlace.{InsnPlace}
 use Rattle.bytecode_model.specs.Rules.{frame_of}
 use Rattle.type_infer.specs.Sending.{SendsTo}
 use Rattle.type_infer.specs.Solving.{State, IsKept, left_by, place_of}
@@ -28,7 +28,7 @@ returns-in_default-frame-clause-sends c ready =
     let work = c.args.work.now in
     let place = c.args.place.now in
     let laws = c.laws_hold.ensures scope.program ready.order in
-    let at : c.place-2.inside.at ≡ place.at = ap (λ (p : Place). p.at) c.place-2.view_is in
+    let at : c.place-2.inside.at ≡ place.at = ap (λ (p : InsnPlace). p.at) c.place-2.view_is in
     let none : frame_of work.frames place.at ≡ None = ap (frame_of work.frames) (sym at) ∙ sym c.frame.ensures ∙ ap option_copied c.in_default-frame.is in
     sends_nothing scope laws place _ _ work (λ may to among. unreached scope laws place to left_by work none)
 
@@ -39,7 +39,7 @@ returns-clause-sends c ready =
     let place = c.args.place.now in
     let low = c.in-Some-frame.frame.now in
     let told = c.in_ok-new.new in
-    let at : c.place-2.inside.at ≡ place.at = ap (λ (p : Place). p.at) c.place-2.view_is in
+    let at : c.place-2.inside.at ≡ place.at = ap (λ (p : InsnPlace). p.at) c.place-2.view_is in
     let is : frame_of work.frames place.at ≡ Some low = ap (frame_of work.frames) (sym at) ∙ sym c.frame.ensures ∙ ap option_copied c.in-Some-frame.is in
     let placed : place_of scope c.args.to ≡ Some c.in-Some.there = sym c.place.ensures ∙ c.in-Some.is in
     let kept = λ (order : IsInOrder place.program). subst (λ (o : Option FrameType). IsKept place.program o told) c.frame-2.ensures (c.in_ok-new.ensures.kept order) in

@@ -5,7 +5,7 @@ use Rattle.std.specs.Option.{option_copied}
 use Rattle.std.proofs.lemmas.Bool.{false≢true}
 use Rattle.cert_format.specs.declared.typing.FrameType.{FrameType}
 use Rattle.bytecode_model.specs.Order.{IsInOrder}
-use Rattle.bytecode_model.specs.Place.{Place}
+use Rattle.bytecode_model.specs.InsnPlace.{InsnPlace}
 use Rattle.bytecode_model.specs.Rules.{covers, frame_of}
 use Rattle.type_infer.specs.Sending.{ThrowsTo}
 use Rattle.type_infer.specs.Solving.{State, IsKept, place_of, thrown_to}
@@ -19,7 +19,7 @@ returns-then-not-covers-clause-sends c ready =
     let scope = c.args.body.now in
     let place = c.args.place.now in
     let handler = c.args.handler.now in
-    let at : c.place.inside.at ≡ place.at = ap (λ (p : Place). p.at) c.place.view_is in
+    let at : c.place.inside.at ≡ place.at = ap (λ (p : InsnPlace). p.at) c.place.view_is in
     let not_covered : covers place.at handler ≡ false = ap (λ (n : ℕ). covers n handler) (sym at) ∙ sym c.covers.ensures ∙ c.if-not-covers.true in
     sends_nothing scope (c.laws_hold.ensures scope.program ready.order) place _ _ c.args.work.now (λ among covered. absurd (false≢true (sym not_covered ∙ covered)))
 
@@ -36,7 +36,7 @@ returns-in_default-frame-clause-sends c ready =
     let place = c.args.place.now in
     let handler = c.args.handler.now in
     let laws = c.laws_hold.ensures scope.program ready.order in
-    let at : c.place.inside.at ≡ place.at = ap (λ (p : Place). p.at) c.place.view_is in
+    let at : c.place.inside.at ≡ place.at = ap (λ (p : InsnPlace). p.at) c.place.view_is in
     let none : frame_of work.frames place.at ≡ None = ap (frame_of work.frames) (sym at) ∙ sym c.frame.ensures ∙ ap option_copied c.in_default-frame.is in
     sends_nothing scope laws place _ _ work (λ among covered. unreached scope laws place handler.at (thrown_to handler) work none)
 
@@ -48,7 +48,7 @@ returns-clause-sends c ready =
     let handler = c.args.handler.now in
     let low = c.in-Some-frame.frame.now in
     let told = c.in_ok-new.new in
-    let at : c.place.inside.at ≡ place.at = ap (λ (p : Place). p.at) c.place.view_is in
+    let at : c.place.inside.at ≡ place.at = ap (λ (p : InsnPlace). p.at) c.place.view_is in
     let is : frame_of work.frames place.at ≡ Some low = ap (frame_of work.frames) (sym at) ∙ sym c.frame.ensures ∙ ap option_copied c.in-Some-frame.is in
     let placed : place_of scope handler.at ≡ Some c.in-Some.there = sym c.place-2.ensures ∙ c.in-Some.is in
     let kept = λ (order : IsInOrder place.program). subst (λ (o : Option FrameType). IsKept place.program o told) c.frame-2.ensures (c.in_ok-new.ensures.kept order) in

@@ -1,7 +1,7 @@
 use Rattle.std.proofs.Common.{◌≡◌, ◌⊎◌, true, ◌∷◌, [], List, inl, inr, subst, sym, ap, arith, rules}
 use Rattle.std.specs.Prelude.{Contains, filter}
 use Rattle.bytecode_model.specs.declared.program.Handler.{Handler}
-use Rattle.bytecode_model.specs.Place.{Place}
+use Rattle.bytecode_model.specs.InsnPlace.{InsnPlace}
 use Rattle.bytecode_model.specs.Rules.{covers}
 use Rattle.type_infer.specs.Solving.{IsSent, Scope, thrown_to}
 use Rattle.type_infer.proofs.Delivering.{stays_over, sent_before, sent_after}
@@ -17,7 +17,7 @@ loop-handler-init c =
     let table = c.body.inside.method.now.handlers in
     let told : table ≡ scope.method.handlers = ap (λ (s : Scope). s.method.handlers) c.body.view_is in
     let same : filter (covers place.at) near ≡ filter (covers place.at) table =
-    subst (λ (p : Place). filter (covers p.at) near ≡ filter (covers p.at) table) c.place.view_is c.near-near.ensures.covering in
+    subst (λ (p : InsnPlace). filter (covers p.at) near ≡ filter (covers p.at) table) c.place.view_is c.near-near.ensures.covering in
     record {
       each = search rules;
       among = λ handler among. subst (λ (hs : List Handler). Contains hs handler) told (c.near-near.ensures.among handler among);

@@ -2,7 +2,7 @@ use Rattle.std.proofs.Common.{◌≡◌, ℕ, List, Option, Some, None, map, sym
 use Rattle.std.specs.Prelude.{option_and_then}
 use Rattle.std.specs.Option.{option_copied}
 use Rattle.cert_format.specs.declared.typing.FrameType.{FrameType}
-use Rattle.bytecode_model.specs.Place.{Place}
+use Rattle.bytecode_model.specs.InsnPlace.{InsnPlace}
 use Rattle.block_template.specs.declared.item.Item.{Item}
 use Rattle.block_template.specs.declared.item.Role.{Role}
 use Rattle.block_template.specs.Blocks.{clauses_of}
@@ -13,7 +13,7 @@ use Rattle.woven_typing.specs.Pushed.{CallTypes}
 use Rattle.woven_typing.proofs.framing.put_block.Goals as goal
 
 -- The frames are told of the items of the block that begins at local 0.
-framed_so : (client : Client) (place : Place) (callee : ℕ) (items : List Item) (frame : Option FrameType)
+framed_so : (client : Client) (place : InsnPlace) (callee : ℕ) (items : List Item) (frame : Option FrameType)
     → items ≡ items_of client.policy client.mode 0 callee
     → block_framed client.policy client.mode (front_in client) place callee frame
     ≡ map (item_framed (clauses_of client.policy callee) (front_in client) place frame) items
@@ -28,7 +28,7 @@ none item = None
 pub returns-in-None : goal.returns-in-None
 returns-in-None c =
     let client : Client = c.args.client.now in
-    let place : Place = c.args.place.now in
+    let place : InsnPlace = c.args.place.now in
     let items : List Item = c.args.items.now in
     let same : block_framed client.policy client.mode (front_in client) place c.args.callee (option_copied c.args.frame)
     ≡ map none items =
@@ -39,7 +39,7 @@ returns-in-None c =
 pub returns-in_ok-call-in-Some : goal.returns-in_ok-call-in-Some
 returns-in_ok-call-in-Some c =
     let client : Client = c.args.client.now in
-    let place : Place = c.args.place.now in
+    let place : InsnPlace = c.args.place.now in
     let items : List Item = c.args.items.now in
     let call : CallTypes = c.in_ok-call-in-Some.call in
     let same : block_framed client.policy client.mode (front_in client) place c.args.callee (option_copied c.args.frame)

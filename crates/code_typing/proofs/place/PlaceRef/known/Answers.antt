@@ -2,7 +2,7 @@ use Rattle.std.proofs.Common.{◌≡◌, List, Option, Some, sym, ap, ◌∙◌}
 use Rattle.std.specs.Prelude.{option_copied, option_map, slice_get}
 use Rattle.insn_codec.specs.declared.insn.Insn.{Insn}
 use Rattle.bytecode_model.specs.declared.program.Target.{Target}
-use Rattle.bytecode_model.specs.Place.{Place, target_or_none}
+use Rattle.bytecode_model.specs.InsnPlace.{InsnPlace, target_or_none}
 use Rattle.bytecode_model.specs.Typed.{place_at}
 use Rattle.bytecode_model.proofs.Placing.{got}
 use Rattle.code_typing.proofs.place.PlaceRef.known.Goals as goal
@@ -11,7 +11,7 @@ pub returns : goal.returns
 returns c =
     let at = c.args.at in
     let method = c.args.method.now in
-    let seen : Option Target → Place = λ target. record {
+    let seen : Option Target → InsnPlace = λ target. record {
       program = c.args.program.now;
       own = c.args.own;
       class = c.args.class.now;

@@ -13,13 +13,13 @@ abbrev pub coded : List Method → List Method
 coded methods = filter has_code methods
 
 -- by class and method with code, the number of instructions
-abbrev pub program_shape : Program → List (List ℕ)
-program_shape program = map (λ (class : LinkedClass). map (λ (method : Method). length method.insns) (coded class.methods)) program.classes
+abbrev pub program_layout : Program → List (List ℕ)
+program_layout program = map (λ (class : LinkedClass). map (λ (method : Method). length method.insns) (coded class.methods)) program.classes
 
 -- the same of lists by class, method with code, and instruction
-abbrev pub shape_of : {A : Type 0} → List (List (List A)) → List (List ℕ)
-shape_of told = map (map length) told
+abbrev pub layout_of : {A : Type 0} → List (List (List A)) → List (List ℕ)
+layout_of told = map (map length) told
 
 -- What is told is of the program's shape.
-abbrev pub IsShaped : {A : Type 0} → Program → List (List (List A)) → Type 0
-IsShaped program told = shape_of told ≡ program_shape program
+abbrev pub IsLaidOut : {A : Type 0} → Program → List (List (List A)) → Type 0
+IsLaidOut program told = layout_of told ≡ program_layout program

@@ -15,7 +15,7 @@ use Rattle.bytecode_model.specs.Heads.{maker}
 use Rattle.bytecode_model.specs.Operands.{index_of}
 
 -- the instruction `insn` at the index `at` of a method of the class with the index `own`; `ref` is what its operand names
-pub record Place : Type 0 where
+pub record InsnPlace : Type 0 where
   pub program : Program
   pub own : ℕ
   pub class : LinkedClass
@@ -26,17 +26,17 @@ pub record Place : Type 0 where
 
 -- ---- what the operand names
 
-abbrev pub referred : Place → Option MethodId
+abbrev pub referred : InsnPlace → Option MethodId
 referred place = reference_at place.class.file.pool (index_of place.insn)
 
 -- the class, the name and the descriptor of the field or method that is referred to
-abbrev pub class_referred : Place → List ℕ
+abbrev pub class_referred : InsnPlace → List ℕ
 class_referred place = option_map_or (λ (id : MethodId). id.class) (referred place) []
 
-abbrev pub name_referred : Place → List ℕ
+abbrev pub name_referred : InsnPlace → List ℕ
 name_referred place = option_map_or (λ (id : MethodId). id.name) (referred place) []
 
-abbrev pub desc_referred : Place → List ℕ
+abbrev pub desc_referred : InsnPlace → List ℕ
 desc_referred place = option_map_or (λ (id : MethodId). id.desc) (referred place) []
 
 -- what is named, where something is
@@ -58,7 +58,7 @@ has_receiver hows.Static = false
 has_receiver hows.Interface = true
 
 -- a call of the method that makes an object, by whatever opcode
-abbrev pub calls_maker : Place → Bool
+abbrev pub calls_maker : InsnPlace → Bool
 calls_maker place = bytes_eq (name_referred place) maker
 
 -- a field that stands in the method's own class

@@ -1,5 +1,0 @@
-use Rattle.class_index.proofs.Declaring.{from_empty}
-use Rattle.class_index.proofs.declared.fields_of.Goals as goal
-
-pub returns : goal.returns
-returns c = λ q. from_empty c.new-found.result q _ _ c.new-found.ensures.empty (c.in_ok-add_fields.ensures q)
