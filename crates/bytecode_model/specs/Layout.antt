@@ -1,4 +1,4 @@
--- The shape of a program and of what is told of its instructions: how many instructions each method with code has.
+-- The layout of a program and of what is told of its instructions: how many instructions each method with code has.
 -- (docs/TYPING.md)
 use Rattle.std.specs.Prelude.{◌≡◌, ℕ, Bool, nat_lt, List, length, map, filter}
 use Rattle.bytecode_model.specs.declared.program.LinkedClass.{LinkedClass}
@@ -20,6 +20,6 @@ program_layout program = map (λ (class : LinkedClass). map (λ (method : Method
 abbrev pub layout_of : {A : Type 0} → List (List (List A)) → List (List ℕ)
 layout_of told = map (map length) told
 
--- What is told is of the program's shape.
+-- What is told is laid out as the program is.
 abbrev pub IsLaidOut : {A : Type 0} → Program → List (List (List A)) → Type 0
 IsLaidOut program told = layout_of told ≡ program_layout program

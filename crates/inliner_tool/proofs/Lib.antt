@@ -15,6 +15,7 @@ mod Names
 mod Spelled
 mod Expected
 mod Planned
+mod MadeOf
 pub mod CheckDecision
 pub mod InlineDecision
 mod Written

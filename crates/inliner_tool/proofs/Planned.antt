@@ -1,13 +1,12 @@
 -- The steps of a plan, of a program that links, is typed, and is woven in this mode.
 use Rattle.std.proofs.Common.{◌≡◌, length, Ok, Err, inl, inr, sym, subst}
 use Rattle.std.specs.List.{AllByRecursion}
+use Rattle.mon_base.proofs.Reading.{ok_is}
 use Rattle.api_listing.specs.declared.types.Listing.{Listing}
 use Rattle.block_logic.specs.Obeying.{FitsListing}
 use Rattle.block_template.specs.Blocks.{plan_of}
 use Rattle.bytecode_model.specs.declared.program.Program.{Program}
 use Rattle.bytecode_model.specs.Typed.{IsTyped}
-use Rattle.cert_format.specs.declared.certificate.Mode.{Mode}
-use Rattle.cert_format.specs.declared.typing.Typing.{Typing}
 use Rattle.class_weaving.specs.declared.woven.Woven.{Woven}
 use Rattle.class_weaving.specs.Woven.{woven}
 use Rattle.command_words.specs.InlineWords.{NamedInline}
@@ -51,7 +50,7 @@ module _ (named : NamedInline) (inputs : InlineInputs) (client : Program) (links
     fits_so result told = by gathers
       where
         by : Gathers named.weaving inputs.policy client (Ok given) → UnlessMemory (Plans named inputs) result
-        by (typing, typed, mode, chosen, same) =
+        by (typing, typed, (mode, chosen, same)) =
             let is : given ≡ record { client = client; typing = typing; policy = built inputs.policy; mode = mode } = ok_is Refusal given _ same in
             later (Equals (original inputs.listing inputs.classes named.main)) (Typed named inputs.policy) client links result
             (later (Types client) (Chosen named inputs.policy client) typing typed result
@@ -72,6 +71,6 @@ module _ (named : NamedInline) (inputs : InlineInputs) (client : Program) (links
     typed_so = by gathers
       where
         by : Gathers named.weaving inputs.policy client (Ok given) → IsTyped client given.typing × (mode_for named.weaving inputs.policy ≡ Ok given.mode)
-        by (typing, typed, mode, chosen, same) =
+        by (typing, typed, (mode, chosen, same)) =
             let is : given ≡ record { client = client; typing = typing; policy = built inputs.policy; mode = mode } = ok_is Refusal given _ same in
             (subst (λ (g : Given). IsTyped client g.typing) (sym is) typed, subst (λ (g : Given). mode_for named.weaving inputs.policy ≡ Ok g.mode) (sym is) (sym chosen))

@@ -23,6 +23,7 @@ ghost use Rattle.input_files.specs.Named.{IsListed};
 ghost use Rattle.mon_base.specs.Answer.{Answers};
 ghost use Rattle.output_files.specs.Outputs.{is_written, outputs_of};
 ghost use Rattle.told_typing.specs.Told.{FitsTyping, told};
+ghost use Rattle.woven_linking.specs.Program.{HaveRoom, program_with};
 ghost use Rattle.inliner_tool.specs.Expected.{IsExpected, WovenHasBlocks, WovenIsExpected};
 ghost use Rattle.inliner_tool.specs.Policy.{IsSoundFor};
 ghost use Rattle.inliner_tool.specs.Programs.{Equals, UnlessMemory};
@@ -56,6 +57,7 @@ use bytecode_model::{LinkedClass, Program, Side};
 use cert_checker::{Accepted, check};
 use cert_format::{CertLong, Certificate, Mode, Typing};
 use cert_maker::{make, woven_is_accepted};
+use class_codec::ClassFile;
 use class_linking::{linked_is_in_order, linked_operands_are_right, linked_programs_are_named};
 use class_weaving::Woven;
 use command_words::{InlineWords, Weaving};
@@ -153,7 +155,7 @@ pub fn plan(alloc: Global, inputs: InlineInputs, words: &InlineWords) -> Result<
 
 /// What is woven of inputs links to their program with its blocks, and is as is expected.
 fn woven_is_expected()
-    ensures blocks { WovenHasBlocks }
+    ensures links { WovenHasBlocks }
     ensures expected { WovenIsExpected }
 {
     plans_are_good();
@@ -285,9 +287,7 @@ fn rewoven(alloc: Global, words: &InlineWords, given: Given, made: Woven) -> Res
     } = given;
     let typing = typing_of(alloc, &client, &policy, mode, &before)?;
     drop(before);
-    let plan = PolicyPlan::new(&policy, mode);
-    let (woven, classes) = program_with(alloc, &plan, client, made.files)?;
-    let program = Indexed::new(alloc, woven)?;
+    let (program, classes) = relinked(alloc, &policy, mode, client, made.files)?;
     let certificate = certified(
         alloc,
         classes.as_slice(),
@@ -297,6 +297,27 @@ fn rewoven(alloc: Global, words: &InlineWords, given: Given, made: Woven) -> Res
         typing,
     )?;
     judged(alloc, words.folder, &policy, &program, &certificate)
+}
+
+/// The program that woven files link to, with an index of its classes, and the classes that it was woven of.
+fn relinked(
+    alloc: Global,
+    policy: &Policy,
+    mode: Mode,
+    client: Program,
+    files: List<ClassFile>,
+) -> Result<(Indexed, List<LinkedClass>), NoMemory>
+    requires policy { IsPolicy policy.now }
+    requires sound { IsSound client }
+    requires room { HaveRoom (plan_of policy.now mode) client.classes files }
+    requires order { IsInOrder (program_with (plan_of policy.now mode) client files) }
+    ensures is { IfOk result (λ made. made.0 ≡ program_with (plan_of policy.now mode) client files) }
+    ensures old { IfOk result (λ made. made.1 ≡ client.classes) }
+{
+    let plan = PolicyPlan::new(policy, mode);
+    let (woven, classes) = program_with(alloc, &plan, client, files)?;
+    let program = Indexed::new(alloc, woven)?;
+    Ok((program, classes))
 }
 
 /// The certificate of a woven program of these classes with these types.

@@ -2,10 +2,8 @@ use Rattle.std.proofs.Common.{◌≡◌, ◌∙◌, List, Ok, ap, subst, sym}
 use Rattle.bytecode_model.specs.declared.program.LinkedClass.{LinkedClass}
 use Rattle.bytecode_model.specs.declared.program.Program.{Program}
 use Rattle.bytecode_model.specs.Files.{unlinked}
-use Rattle.bytecode_model.specs.Order.{IsInOrder}
 use Rattle.bytecode_model.specs.Sound.{IsSound}
 use Rattle.block_logic.specs.Accepted.{IsAccepted}
-use Rattle.block_template.specs.Blocks.{Planned, plan_of}
 use Rattle.cert_checker.specs.Acceptance.{verdict}
 use Rattle.cert_checker.specs.Secure.{Secure}
 use Rattle.cert_format.specs.declared.certificate.Certificate.{Certificate}
@@ -13,12 +11,10 @@ use Rattle.cert_format.specs.declared.certificate.Mode.{Mode}
 use Rattle.cert_format.specs.declared.typing.Typing.{Typing}
 use Rattle.cert_format.specs.Fits.{CanSpell}
 use Rattle.cert_maker.specs.Noting.{certificate_of}
-use Rattle.class_weaving.specs.declared.woven.Woven.{Woven}
 use Rattle.command_words.specs.InlineWords.{inline_named}
 use Rattle.output_files.specs.Outputs.{is_written, outputs_of}
 use Rattle.std.specs.Prelude.{IfOk, true, length}
 use Rattle.told_typing.specs.Told.{FitsTyping, told}
-use Rattle.woven_linking.specs.Program.{HaveRoom, program_with}
 use Rattle.woven_typing.specs.Framing.{typing_of}
 use Rattle.inliner_tool.specs.declared.inline.Given.{Given}
 use Rattle.inliner_tool.specs.declared.inline.Ready.{Ready}
@@ -28,11 +24,6 @@ use Rattle.inliner_tool.specs.Weaving.{Accepts, certificate_for}
 use Rattle.inliner_tool.proofs.Blocks.{known_rewoven, remakes}
 use Rattle.inliner_tool.proofs.inline.rewoven.Goals as goal
 
--- what is made by this plan is the woven program
-made_by : (given : Given) (made : Woven) (plan : Planned) (program : Program) → plan ≡ record { policy = given.policy; mode = given.mode }
-    → program ≡ program_with (plan_of plan.policy plan.mode) given.client made.files → program ≡ woven_program given made
-made_by given made plan program is so = so ∙ ap (λ (p : Planned). program_with (plan_of p.policy p.mode) given.client made.files) is
-
 -- what is made of these types is the certificate of the program
 certificate_is : (given : Given) (program indexed : Program) (before : Typing) (classes : List LinkedClass) (certificate : Certificate)
     → before ≡ typing_of given.client given.policy given.mode given.typing → indexed ≡ program → classes ≡ given.client.classes
@@ -41,27 +32,18 @@ certificate_is given program indexed before classes certificate first same all i
     let typing : told indexed before ≡ told program (typing_of given.client given.policy given.mode given.typing) = ap (λ (p : Program). told p before) same ∙ ap (told program) first in
     is ∙ ap (λ (cs : List LinkedClass). certificate_of cs given.policy given.mode (told indexed before)) all ∙ ap (certificate_of given.client.classes given.policy given.mode) typing
 
-pub program_with-requires-clause-room : goal.program_with-requires-clause-room
-program_with-requires-clause-room c =
-    subst (λ (p : Planned). HaveRoom (plan_of p.policy p.mode) c.args.given.client.classes c.args.made.files) (sym c.new-plan.ensures.is) c.requires.expected.room
-
-pub new-requires : goal.new-requires
-new-requires c =
-    let same = made_by c.args.given c.args.made c.new-plan.result c.in_ok-woven.woven c.new-plan.ensures.is c.in_ok-woven.ensures.is in
-    (subst IsInOrder (sym same) c.requires.expected.order).ends
-
 pub judged-requires-clause-sound : goal.judged-requires-clause-sound
 judged-requires-clause-sound c =
-    let same = made_by c.args.given c.args.made c.new-plan.result c.in_ok-program.program c.new-plan.ensures.is (c.in_ok-program.ensures ∙ c.in_ok-woven.ensures.is) in
+    let same : c.in_ok-program.program ≡ woven_program c.args.given c.args.made = c.in_ok-program.ensures.is in
     subst IsSound (sym same) c.requires.expected.sound
 
 pub judged-requires-clause-accepted : goal.judged-requires-clause-accepted
 judged-requires-clause-accepted c =
     let given = c.args.given in
     let program = c.in_ok-program.program in
-    let same = made_by given c.args.made c.new-plan.result program c.new-plan.ensures.is (c.in_ok-program.ensures ∙ c.in_ok-woven.ensures.is) in
+    let same : c.in_ok-program.program ≡ woven_program c.args.given c.args.made = c.in_ok-program.ensures.is in
     let is = certificate_is given program c.program-2.result.now c.in_ok-typing.typing c.as_slice.result.now c.in_ok-certificate.certificate c.in_ok-typing.ensures c.program-2.ensures
-    (c.as_slice.ensures ∙ c.in_ok-woven.ensures.old) c.in_ok-certificate.ensures.is in
+    (c.as_slice.ensures ∙ c.in_ok-program.ensures.old) c.in_ok-certificate.ensures.is in
     let accepted = subst (λ (p : Program). IsAccepted p given.policy (certificate_for given p)) (sym same) c.requires.expected.accepted in
     subst (λ (x : Certificate). IsAccepted program given.policy x) (sym is) accepted
 
@@ -69,10 +51,10 @@ pub returns-clause-steps : goal.returns-clause-steps
 returns-clause-steps c =
     let given = c.args.given in
     let program = c.in_ok-program.program in
-    let same = made_by given c.args.made c.new-plan.result program c.new-plan.ensures.is (c.in_ok-program.ensures ∙ c.in_ok-woven.ensures.is) in
+    let same : c.in_ok-program.program ≡ woven_program c.args.given c.args.made = c.in_ok-program.ensures.is in
     let links : woven_links c.args.made.files given.client.listing c.args.words.now.main.now ≡ Ok program = c.requires.expected.links ∙ ap (λ (p : Program). Ok p) (sym same) in
     let is = certificate_is given program c.program-2.result.now c.in_ok-typing.typing c.as_slice.result.now c.in_ok-certificate.certificate c.in_ok-typing.ensures c.program-2.ensures
-    (c.as_slice.ensures ∙ c.in_ok-woven.ensures.old) c.in_ok-certificate.ensures.is in
+    (c.as_slice.ensures ∙ c.in_ok-program.ensures.old) c.in_ok-certificate.ensures.is in
     remakes c.args.words.now.main.now c.args.words.now.folder.now given c.args.made program links
     (subst (λ (x : Certificate). IsAccepted program given.policy x) is c.judged.ensures.accepted) c.judged.result
     (subst (λ (x : Certificate). Accepts c.args.words.now.folder.now given.policy program x c.judged.result) is c.judged.ensures.accepts)
@@ -82,10 +64,10 @@ returns-clause-rewoven c =
     let given = c.args.given in
     let expected = c.requires.expected in
     let program = c.in_ok-program.program in
-    let same = made_by given c.args.made c.new-plan.result program c.new-plan.ensures.is (c.in_ok-program.ensures ∙ c.in_ok-woven.ensures.is) in
+    let same : c.in_ok-program.program ≡ woven_program c.args.given c.args.made = c.in_ok-program.ensures.is in
     let links : woven_links c.args.made.files given.client.listing c.args.words.now.main.now ≡ Ok program = expected.links ∙ ap (λ (p : Program). Ok p) (sym same) in
     let is = certificate_is given program c.program-2.result.now c.in_ok-typing.typing c.as_slice.result.now c.in_ok-certificate.certificate c.in_ok-typing.ensures c.program-2.ensures
-    (c.as_slice.ensures ∙ c.in_ok-woven.ensures.old) c.in_ok-certificate.ensures.is in
+    (c.as_slice.ensures ∙ c.in_ok-program.ensures.old) c.in_ok-certificate.ensures.is in
     let back = subst (λ (p : Program). unlinked p ≡ c.args.made.files) (sym same) expected.back in
     let sound = subst IsSound (sym same) expected.sound in
     let spells = subst (λ (p : Program). FitsTyping (certificate_for given p).typing → is_written (certificate_for given p) ≡ true → CanSpell (length given.policy.vars) (certificate_for given p)) (sym same) expected.spells in

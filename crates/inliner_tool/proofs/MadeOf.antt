@@ -1,0 +1,50 @@
+-- What is woven of inputs is made of them.
+use Rattle.std.proofs.Common.{◌≡◌, ◌≤◌, length, Ok, sym, subst, ap, ◌∙◌}
+use Rattle.block_template.specs.Blocks.{plan_of}
+use Rattle.bytecode_model.specs.declared.program.Program.{Program}
+use Rattle.bytecode_model.specs.declared.program.Side.TheVariants.{Original}
+use Rattle.bytecode_model.specs.Layout.{IsLaidOut}
+use Rattle.bytecode_model.specs.Sound.{IsSound}
+use Rattle.bytecode_model.specs.Standing.{IsLinkedOf}
+use Rattle.bytecode_model.specs.Typed.{IsTyped}
+use Rattle.class_weaving.specs.declared.woven.Woven.{Woven}
+use Rattle.class_weaving.specs.Woven.{woven}
+use Rattle.command_words.specs.InlineWords.{NamedInline}
+use Rattle.conspec_automaton.specs.Sound.{IsPolicy, NamesMethods}
+use Rattle.conspec_parse.specs.Telling.{KindsAreTold, ResultsAreTold}
+use Rattle.input_files.specs.declared.inline_inputs.InlineInputs.{InlineInputs}
+use Rattle.input_files.specs.InlineInputs.{InlineSound}
+use Rattle.inliner_tool.specs.declared.inline.Given.{Given}
+use Rattle.inliner_tool.specs.Expected.{IsMadeOf}
+use Rattle.inliner_tool.specs.Weaving.{IsGathered, original}
+use Rattle.inliner_tool.proofs.Blocks.{few_woven, inputs_link}
+use Rattle.inliner_tool.proofs.Planned.{sound_for}
+
+module _ (inputs : InlineInputs) (client : Program) (given : Given) (gathered : IsGathered inputs.policy client given) where
+  pub listing_same : client.listing ≡ inputs.listing → given.client.listing ≡ inputs.listing
+  listing_same same = ap (λ (p : Program). p.listing) gathered.client ∙ same
+
+  pub client_links : (named : NamedInline) → original inputs.listing inputs.classes named.main ≡ Ok client → original inputs.listing inputs.classes named.main ≡ Ok given.client
+  client_links named links = links ∙ ap (λ (p : Program). Ok p) (sym gathered.client)
+
+  pub client_typed : IsTyped client given.typing → IsTyped given.client given.typing
+  client_typed typed = subst (λ (p : Program). IsTyped p given.typing) (sym gathered.client) typed
+
+  pub client_laid_out : IsLaidOut given.client given.typing.frames
+  client_laid_out = subst (λ (p : Program). IsLaidOut p given.typing.frames) (sym gathered.client) gathered.laid_out
+
+  pub made_of : KindsAreTold → ResultsAreTold → InlineSound inputs → (named : NamedInline) → original inputs.listing inputs.classes named.main ≡ Ok client
+      → IsSound client → IsLinkedOf Original inputs.listing named.main client → client.listing ≡ inputs.listing → IsPolicy given.policy × NamesMethods (length inputs.listing.methods) given.policy
+      → (made : Woven) → woven given.client (plan_of given.policy given.mode) given.policy.vars ≡ Ok made → IsMadeOf inputs named.main given made
+  made_of kinds results known named links sound stands same policies made weaves = record {
+    known = known;
+    links = inputs_link named inputs given.client (client_links named links);
+    sound = subst IsSound (sym gathered.client) sound;
+    stands = subst (IsLinkedOf Original inputs.listing named.main) (sym gathered.client) stands;
+    policy = gathered.policy;
+    kept = sound_for kinds results inputs known given.policy gathered.policy policies given.client.listing (listing_same same);
+    weaves = weaves;
+  }
+
+  pub few_made : length client.classes ≤ 1000 → (made : Woven) → woven given.client (plan_of given.policy given.mode) given.policy.vars ≡ Ok made → length made.files ≤ 1001
+  few_made few made weaves = few_woven given made (subst (λ (p : Program). length p.classes ≤ 1000) (sym gathered.client) few) weaves
