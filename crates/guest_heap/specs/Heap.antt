@@ -2,7 +2,6 @@
 use Rattle.std.specs.Prelude.{ℕ, ◌<◌, List, [], length, slice_get, slice_set}
 use Rattle.std.specs.Option.{option_map_or}
 use Rattle.guest_heap.specs.declared.value.Value.{Value}
-use Rattle.guest_heap.specs.declared.value.Value.TheVariants as values
 use Rattle.guest_heap.specs.declared.object.Object.{Object}
 use Rattle.guest_heap.specs.declared.object.Object.TheVariants as objects
 
@@ -20,10 +19,6 @@ with_places (objects.Text text) new = objects.Text text
 
 abbrev pub places_at : List Object → ℕ → List Value
 places_at heap at = option_map_or places_of (slice_get heap at) []
-
--- the field or item of an object, null where there is none
-abbrev pub value_at : List Object → ℕ → ℕ → Value
-value_at heap at place = option_map_or (λ (v : Value). v) (slice_get (places_at heap at) place) values.Null
 
 abbrev pub with_value : ℕ → Value → Object → Object
 with_value place value object = with_places object (slice_set (places_of object) place value)

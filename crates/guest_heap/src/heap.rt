@@ -1,19 +1,11 @@
 //! The heap: a list of objects, which only grows.
 
 ghost use Rattle.std.specs.Prelude.{◌≡◌, ◌∷◌, [], ◌++◌, ◌<◌, ◌^◌, ◌-◌, length, IfOk, OnOk, OnErr};
-ghost use Rattle.guest_heap.specs.Heap.{HasPlace, value_at, with_value_at, places_of, with_value};
+ghost use Rattle.guest_heap.specs.Heap.{HasPlace, with_value_at, places_of, with_value};
 
 use crate::object::Object;
 use crate::value::Value;
 use mon_base::{List, NoMemory};
-
-/// The field of an object, or the item of an array. It takes no memory.
-pub fn get(heap: &List<Object>, at: u32, place: usize) -> Value
-    requires { HasPlace heap.now at place }
-    ensures { result ≡ value_at heap.now at place }
-{
-    places(&heap.as_slice()[at as usize])[place]
-}
 
 /// Writes the field of an object, or the item of an array. It takes no memory.
 pub fn put(heap: &mut List<Object>, at: u32, place: usize, value: Value)

@@ -12,7 +12,7 @@ mod thread;
 mod value;
 
 pub use frame::{Frame, Frames};
-pub use heap::{get, new_object, places, put};
+pub use heap::{new_object, places, put};
 pub use object::{Monitor, Object};
 pub use stack::Stack;
 pub use thread::{Doing, Thread};

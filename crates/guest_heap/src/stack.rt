@@ -45,14 +45,6 @@ impl Stack {
         self.items.push(value).unwrap()
     }
 
-    /// Takes the top operand; `None` where there is none. It takes no memory.
-    pub fn pop(&mut self) -> Option<Value>
-        ensures top { result ≡ slice_get self.old.items 0 }
-        ensures left { self.new ≡ record { items = drop 1 self.old.items; size = self.old.size } }
-    {
-        self.items.pop()
-    }
-
     /// The operand at this depth, the top at 0; `None` where there are not so many. It takes no memory.
     pub fn get(&self, depth: u8) -> Option<Value>
         ensures there { result ≡ slice_get self.now.items depth }
