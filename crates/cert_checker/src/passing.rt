@@ -134,12 +134,12 @@ fn tests_pass(
 }
 
 /// Whether the note of the next instruction passes what is asked of it, and those that are jumped to what is asked of them.
-fn go_on_pass(
+fn go_on_pass<'a>(
     rules: &Rules<'_>,
     test: Test,
     told: &[Note],
-    past: &AskedRef<'_>,
-    jump: &AskedRef<'_>,
+    past: &AskedRef<'a>,
+    jump: &AskedRef<'a>,
     here: &Here<'_>,
 ) -> bool
     ensures { result ≡ go_on_pass (passes rules.now test) told.now (asked_lent past.now) (asked_lent jump.now) here.now }
