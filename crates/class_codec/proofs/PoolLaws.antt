@@ -1,6 +1,6 @@
 -- The constant pool is read exactly as it is spelled.
 use Rattle.std.proofs.Common.{◌≡◌, ℕ, zero, suc, ◌+◌, ◌<◌, ◌≤◌, Bool, true, false, cond, not, eqb, ltb, List, [], ◌∷◌, ◌++◌, length, Option, Some, None, Ok, refl, sym, ap, subst, ◌∙◌, append_assoc, arith, ℤ, FitsSigned}
-use Rattle.std.specs.Prelude.{nat_lt, position}
+use Rattle.std.specs.Prelude.{◌&&◌, nat_le, nat_lt, position}
 use Rattle.std.specs.Int.{w32, w64, cast_signed, cast_unsigned}
 use Rattle.std.specs.List.{flat_map, AllByRecursion, position_or_len}
 use Rattle.std.proofs.lemmas.Bool.{false≢true, eq-eqb, eqb-true, ltb-true, ltb-false, lt-ltb, le-ltb}
@@ -9,7 +9,7 @@ use Rattle.std.proofs.lemmas.Int.{of_z-to_z, to_z-of_z}
 use Rattle.std.proofs.lemmas.List.{length-append}
 use Rattle.mon_base.specs.Reading.{Place, IsBytes, ◌>>=◌}
 use Rattle.mon_base.proofs.Reading.{bind_ok, ok_is, need_holds, holds_need, after, Took, Took-then, IsTail, IsReader, then_from, then, said, last, done, guard, choose, refuse, spelled_where}
-use Rattle.mon_base.proofs.Readers.{checked, wrapped, pair_is, signed_fits, unsigned_fits}
+use Rattle.mon_base.proofs.Readers.{checked, wrapped, signed_fits, unsigned_fits}
 use Rattle.class_codec.specs.declared.fault.ClassFault.{ClassFault}
 use Rattle.class_codec.specs.declared.fault.ClassFault.TheVariants.{Index, Tag}
 use Rattle.class_codec.specs.declared.pool.ConstKind.{ConstKind}
@@ -20,8 +20,8 @@ use Rattle.class_codec.specs.Pool.{names}
 use Rattle.class_codec.specs.Spelling as spelling
 use Rattle.mon_base.specs.Widths.{IsU2, IsU8, u1, u2, u4, u8}
 use Rattle.class_codec.specs.Fits.{IsTextByte, FitsConst, is_second, takes_two, HasSeconds, IsNamed, FitsPool}
-use Rattle.class_codec.specs.Reading.{Read, u2_at, u4_at, is_no_text_byte, text_checked, text_at, pair_at, wide_at, payload_at, constant_at, place_at, places_at, index_checked, pair_checked, constant_checked, all_checked, pool_at}
-use Rattle.class_codec.proofs.Numbers.{u1_is, u2_is, u4_is, u8_is, rest_is}
+use Rattle.class_codec.specs.Reading.{Read, u2_at, u4_at, is_no_text_byte, text_checked, text_at, pair_at, wide_at, of_pair, payload_at, constant_at, place_at, places_at, index_checked, pair_checked, constant_checked, all_checked, pool_at}
+use Rattle.class_codec.proofs.Numbers.{u1_is, u2_is, u4_is, u8_is, rest_is, both_is}
 
 -- ---- texts
 
@@ -95,7 +95,7 @@ text_is = said (then {Fits = λ bytes. Unit {0} × AllByRecursion IsTextByte byt
 
 indices_are : IsReader pair_at (λ x. u2 x.0 ++ u2 x.1) (λ x. IsU2 x.0 × IsU2 x.1)
 unfolding pair_at
-indices_are = pair_is u2_is u2_is
+indices_are = both_is u2_is u2_is
 
 wide_is : (at left : ℕ) → IsReader (wide_at at left) u8 (λ n. (0 < left) × IsU8 n)
 unfolding wide_at
@@ -249,6 +249,31 @@ imethod_is = one_place (λ x. IMethod x.0 x.1) 11 indices_are (λ x. (refl, refl
 name_and_type_is : (left tag : ℕ) → tag ≡ 12 → IsPayload left tag (λ p. pair_at p >>= λ x. Ok (NameAndType x.0.0 x.0.1, x.1))
 name_and_type_is = one_place (λ x. NameAndType x.0 x.1) 12 indices_are (λ x. (refl, refl, refl, refl)) (λ x f. f) (λ x f. f) is_name_and_type
 
+-- the constants of two indices, by their tags
+abbrev IsOfPair : ℕ → ℕ → Type 0
+IsOfPair left tag = IsPayload left tag (λ p. pair_at p >>= λ x. Ok (of_pair tag x.0.0 x.0.1, x.1))
+
+last_pair : (left tag : ℕ) → tag ≡ 12 → IsOfPair left tag
+last_pair left tag t = rw t (name_and_type_is left 12 refl)
+
+third_pair : (left tag : ℕ) (is : Bool) → eqb tag 11 ≡ is → (is ≡ false → tag ≡ 12) → IsOfPair left tag
+third_pair left tag true t others = rw (eqb-true _ _ t) (imethod_is left 11 refl)
+third_pair left tag false t others = last_pair left tag (others refl)
+
+second_pair : (left tag : ℕ) (is : Bool) → eqb tag 10 ≡ is → (is ≡ false → eqb tag 11 ≡ false → tag ≡ 12) → IsOfPair left tag
+second_pair left tag true t others = rw (eqb-true _ _ t) (method_is left 10 refl)
+second_pair left tag false t others = third_pair left tag (eqb tag 11) refl (λ n11. others refl n11)
+
+first_pair : (left tag : ℕ) (is : Bool) → eqb tag 9 ≡ is → (is ≡ false → eqb tag 10 ≡ false → eqb tag 11 ≡ false → tag ≡ 12) → IsOfPair left tag
+first_pair left tag true t others = rw (eqb-true _ _ t) (field_is left 9 refl)
+first_pair left tag false t others = second_pair left tag (eqb tag 10) refl (λ n10 n11. others refl n10 n11)
+
+last_tag : (tag : ℕ) → (nat_le 9 tag && nat_le tag 12) ≡ true → eqb tag 9 ≡ false → eqb tag 10 ≡ false → eqb tag 11 ≡ false → tag ≡ 12
+last_tag tag t n9 n10 n11 = grind (arith, nat_tests)
+
+pair_constant_is : (left tag : ℕ) → (nat_le 9 tag && nat_le tag 12) ≡ true → IsOfPair left tag
+pair_constant_is left tag t = first_pair left tag (eqb tag 9) refl (λ n9 n10 n11. last_tag tag t n9 n10 n11)
+
 -- Every constant has one of the tags.
 record IsNoTag (tag : ℕ) : Type 0 where
   not_1 : eqb tag 1 ≡ false
@@ -258,13 +283,13 @@ record IsNoTag (tag : ℕ) : Type 0 where
   not_6 : eqb tag 6 ≡ false
   not_7 : eqb tag 7 ≡ false
   not_8 : eqb tag 8 ≡ false
-  not_9 : eqb tag 9 ≡ false
-  not_10 : eqb tag 10 ≡ false
-  not_11 : eqb tag 11 ≡ false
-  not_12 : eqb tag 12 ≡ false
+  no_pair : (nat_le 9 tag && nat_le tag 12) ≡ false
 
 apart : (tag k : ℕ) → eqb tag k ≡ false → k ≡ tag → ⊥
 apart tag k n e = false≢true (sym n ∙ eq-eqb tag k (sym e))
+
+outside : (tag k : ℕ) → 9 ≤ k → k ≤ 12 → (nat_le 9 tag && nat_le tag 12) ≡ false → k ≡ tag → ⊥
+outside tag k least most n e = grind (arith, nat_tests)
 
 none_has : (left tag : ℕ) → IsNoTag tag → (c : Const) → Stands left c → tag_of c ≡ tag → ⊥
 none_has left tag others (Utf8 bytes) f e = apart tag 1 others.not_1 e
@@ -274,10 +299,10 @@ none_has left tag others (Long n) f e = apart tag 5 others.not_5 e
 none_has left tag others (Double bits) f e = apart tag 6 others.not_6 e
 none_has left tag others (Class name) f e = apart tag 7 others.not_7 e
 none_has left tag others (Str bytes) f e = apart tag 8 others.not_8 e
-none_has left tag others (Field class name) f e = apart tag 9 others.not_9 e
-none_has left tag others (Method class name) f e = apart tag 10 others.not_10 e
-none_has left tag others (IMethod class name) f e = apart tag 11 others.not_11 e
-none_has left tag others (NameAndType name desc) f e = apart tag 12 others.not_12 e
+none_has left tag others (Field class name) f e = outside tag 9 (omega arith) (omega arith) others.no_pair e
+none_has left tag others (Method class name) f e = outside tag 10 (omega arith) (omega arith) others.no_pair e
+none_has left tag others (IMethod class name) f e = outside tag 11 (omega arith) (omega arith) others.no_pair e
+none_has left tag others (NameAndType name desc) f e = outside tag 12 (omega arith) (omega arith) others.no_pair e
 none_has left tag others Second f e = false≢true (sym f.first)
 
 payload_is : (at left tag : ℕ) → IsPayload left tag (payload_at at left tag)
@@ -290,11 +315,8 @@ payload_is at left tag =
     choose (eqb tag 6) (λ t. double_is at left tag (eqb-true _ _ t)) (λ n6.
     choose (eqb tag 7) (λ t. class_is left tag (eqb-true _ _ t)) (λ n7.
     choose (eqb tag 8) (λ t. str_is left tag (eqb-true _ _ t)) (λ n8.
-    choose (eqb tag 9) (λ t. field_is left tag (eqb-true _ _ t)) (λ n9.
-    choose (eqb tag 10) (λ t. method_is left tag (eqb-true _ _ t)) (λ n10.
-    choose (eqb tag 11) (λ t. imethod_is left tag (eqb-true _ _ t)) (λ n11.
-    choose (eqb tag 12) (λ t. name_and_type_is left tag (eqb-true _ _ t)) (λ n12.
-    refuse (λ _. Tag at tag) (λ c f k. none_has left tag (record { not_1 = n1; not_3 = n3; not_4 = n4; not_5 = n5; not_6 = n6; not_7 = n7; not_8 = n8; not_9 = n9; not_10 = n10; not_11 = n11; not_12 = n12 }) c f k.1))))))))))))
+    choose (nat_le 9 tag && nat_le tag 12) (λ t. pair_constant_is left tag t) (λ no_pair.
+    refuse (λ _. Tag at tag) (λ c f k. none_has left tag (record { not_1 = n1; not_3 = n3; not_4 = n4; not_5 = n5; not_6 = n6; not_7 = n7; not_8 = n8; no_pair = no_pair }) c f k.1)))))))))
 
 tag_small : (c : Const) → tag_of c < 256
 tag_small (Utf8 bytes) = omega arith

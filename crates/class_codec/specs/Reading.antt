@@ -57,6 +57,13 @@ counted_at item p = do
   count ← u2_at p
   counted item count.0 count.1
 
+-- one after the other
+unfoldable pub both_at : {X Y : Type 0} → (Place → Read X) → (Place → Read Y) → Place → Read (X × Y)
+both_at one other p = do
+  first ← one p
+  second ← other first.1
+  Ok ((first.0, second.0), second.1)
+
 -- ---- the constant pool
 
 abbrev pub is_no_text_byte : ℕ → Bool
@@ -75,10 +82,7 @@ text_at p = do
   Ok text
 
 unfoldable pub pair_at : Place → Read (ℕ × ℕ)
-pair_at p = do
-  first ← u2_at p
-  second ← u2_at first.1
-  Ok ((first.0, second.0), second.1)
+pair_at p = both_at u2_at u2_at p
 
 -- the eight bytes of a constant that begins at `at` and takes two places, with `left` places after its first
 unfoldable pub wide_at : ℕ → ℕ → Place → Read ℕ
@@ -104,10 +108,7 @@ payload_at at left tag p =
     else if tag == 6 then (wide_at at left p >>= λ n. Ok (constants.Double n.0, n.1))
     else if tag == 7 then (u2_at p >>= λ n. Ok (constants.Class n.0, n.1))
     else if tag == 8 then (u2_at p >>= λ n. Ok (constants.Str n.0, n.1))
-    else if tag == 9 then (pair_at p >>= λ n. Ok (constants.Field n.0.0 n.0.1, n.1))
-    else if tag == 10 then (pair_at p >>= λ n. Ok (constants.Method n.0.0 n.0.1, n.1))
-    else if tag == 11 then (pair_at p >>= λ n. Ok (constants.IMethod n.0.0 n.0.1, n.1))
-    else if tag == 12 then (pair_at p >>= λ n. Ok (constants.NameAndType n.0.0 n.0.1, n.1))
+    else if nat_le 9 tag && nat_le tag 12 then (pair_at p >>= λ n. Ok (of_pair tag n.0.0 n.0.1, n.1))
     else Err (Tag at tag)
 
 unfoldable pub constant_at : ℕ → Place → Read Const
@@ -199,9 +200,8 @@ contents_at pool name p = do
   stack ← u2_at p
   locals ← u2_at stack.1
   code ← instructions_at locals.1
-  table ← counted_at (table_entry_at pool) code.1
-  attrs ← counted_at (other_at pool) table.1
-  Ok (record { name = name; max_stack = stack.0; max_locals = locals.0; code = code.0; table = table.0; attrs = attrs.0 }, attrs.1)
+  lists ← both_at (counted_at (table_entry_at pool)) (counted_at (other_at pool)) code.1
+  Ok (record { name = name; max_stack = stack.0; max_locals = locals.0; code = code.0; table = lists.0.0; attrs = lists.0.1 }, lists.1)
 
 -- Code with this name, after the name: its contents end exactly at its length. Where the file ends before, they are
 -- read as far as it goes.
@@ -253,10 +253,8 @@ body_at minor pool p = do
   flags ← u2_at p
   this_class ← index_at kinds.Class pool flags.1
   super_class ← index_at kinds.Class pool this_class.1
-  interfaces ← counted_at (index_at kinds.Class pool) super_class.1
-  fields ← counted_at (member_at pool false) interfaces.1
-  methods ← counted_at (member_at pool true) fields.1
-  attrs ← counted_at (attribute_at pool false) methods.1
+  first ← both_at (counted_at (index_at kinds.Class pool)) (counted_at (member_at pool false)) super_class.1
+  second ← both_at (counted_at (member_at pool true)) (counted_at (attribute_at pool false)) first.1
   Ok (
     record {
       minor = minor;
@@ -264,12 +262,12 @@ body_at minor pool p = do
       flags = flags.0;
       this_class = this_class.0;
       super_class = super_class.0;
-      interfaces = interfaces.0;
-      fields = fields.0;
-      methods = methods.0;
-      attrs = attrs.0;
+      interfaces = first.0.0;
+      fields = first.0.1;
+      methods = second.0.0;
+      attrs = second.0.1;
     },
-    attrs.1,
+    second.1,
   )
 
 unfoldable pub file_at : Place → Read ClassFile

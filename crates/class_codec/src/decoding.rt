@@ -8,7 +8,7 @@ ghost use Rattle.class_codec.specs.Reading.{head_at, body_at, file_at, class_of}
 
 use crate::constants::pool;
 use crate::fault::ClassFault;
-use crate::items::counted;
+use crate::items::two_lists;
 use crate::place::{index, u2, u4};
 use crate::pool::ConstKind;
 use crate::tree::{ClassFile, Const};
@@ -49,10 +49,8 @@ fn body(
     let flags = u2(from)?;
     let this_class = index(ConstKind::Class, places, from)?;
     let super_class = index(ConstKind::Class, places, from)?;
-    let interfaces = counted(alloc, places, false, from)?;
-    let fields = counted(alloc, places, false, from)?;
-    let methods = counted(alloc, places, true, from)?;
-    let attrs = counted(alloc, places, false, from)?;
+    let (interfaces, fields) = two_lists(alloc, places, false, from)?;
+    let (methods, attrs) = two_lists(alloc, places, true, from)?;
     Ok(ClassFile {
         minor,
         pool,

@@ -3,7 +3,7 @@
 use mon_base::{Bytes, List};
 
 /// A place of the constant pool. Numbers of 16 bits are indices into the pool. (Section 4.4.)
-#[derive(Drop, PartialEq, Eq)]
+#[derive(Drop)]
 pub enum Const {
     /// Text, each byte of which is neither 0 nor in 0xF0 to 0xFF.
     Utf8(Bytes),
@@ -30,7 +30,7 @@ pub enum Const {
 }
 
 /// The code of a method. (Section 4.7.3.)
-#[derive(Drop, PartialEq, Eq)]
+#[derive(Drop)]
 pub struct Code {
     /// The index of the attribute's name. More than one constant may have the text `Code`.
     pub name: u16,
@@ -43,7 +43,7 @@ pub struct Code {
 
 /// An entry of an exception table: the code from byte `from` up to `to`, the handler's first byte, and the index of
 /// the class that is caught, or 0 for any.
-#[derive(Clone, Copy, PartialEq, Eq)]
+#[derive(Clone, Copy)]
 pub struct TableEntry {
     pub from: u16,
     pub to: u16,
@@ -52,14 +52,14 @@ pub struct TableEntry {
 }
 
 /// An attribute whose contents are kept as they are: the index of its name, and its bytes. (Section 4.7.)
-#[derive(Drop, PartialEq, Eq)]
+#[derive(Drop)]
 pub struct Other {
     pub name: u16,
     pub bytes: Bytes,
 }
 
 /// An attribute.
-#[derive(Drop, PartialEq, Eq)]
+#[derive(Drop)]
 pub enum Attr {
     Code(Code),
     Other(Other),
@@ -67,7 +67,7 @@ pub enum Attr {
 
 /// A field or a method: its flags, the indices of its name and its descriptor, and its attributes. (Sections 4.5
 /// and 4.6.)
-#[derive(Drop, PartialEq, Eq)]
+#[derive(Drop)]
 pub struct Member {
     pub flags: u16,
     pub name: u16,
@@ -76,7 +76,7 @@ pub struct Member {
 }
 
 /// A class file. (Section 4.1.)
-#[derive(Drop, PartialEq, Eq)]
+#[derive(Drop)]
 pub struct ClassFile {
     pub minor: u16,
     /// The constant pool, with one place for each index. Place 0, and the place after each Long or Double, is

@@ -12,7 +12,7 @@ use mon_base::BoxedList;
 ///
 /// Each form in which an instruction stands in the bytes is its own value: `Local` with `wide` stands after the opcode
 /// `wide`, and so does `Inc`.
-#[derive(PartialEq, Eq, Drop)]
+#[derive(Drop)]
 pub enum Insn {
     /// An opcode alone.
     Plain(u8),
@@ -93,7 +93,7 @@ impl Insn {
 }
 
 /// A key of a `lookupswitch` and its target.
-#[derive(Clone, Copy, PartialEq, Eq)]
+#[derive(Clone, Copy)]
 pub struct Case {
     pub key: i32,
     pub to: u32,

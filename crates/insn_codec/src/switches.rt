@@ -1,12 +1,13 @@
 //! Reading switches. (The Java Virtual Machine Specification, section 6.5.)
 
-ghost use Rattle.std.specs.Prelude.{◌≡◌, ◌+◌, ◌*◌, ◌<◌, ◌^◌, length, map, IfOk, OnOk};
+ghost use Rattle.std.specs.Prelude.{◌≡◌, ◌+◌, ◌*◌, ◌<◌, ◌^◌, ◌&&◌, length, map, IfOk, OnOk};
 ghost use Rattle.mon_base.specs.Reading.{counted};
 ghost use Rattle.insn_codec.specs.Spelling.{padding, size};
 ghost use Rattle.mon_base.specs.Answer.{Reads, ReadsAs};
 ghost use Rattle.insn_codec.specs.Reading.{all_zero, bounds_at, ranged_at, table_at, end_of};
 ghost use Rattle.insn_codec.specs.Reading.{far_at, case_at, ascend, count_at, cases_at, keyed_at, lookup_at};
 ghost use Rattle.insn_codec.specs.Targets.{finds};
+ghost use Rattle.insn_codec.specs.declared.insn.Insn.TheVariants as insns;
 
 use crate::fault::CodeFault;
 use crate::insn::{Case, Insn};
@@ -165,6 +166,13 @@ fn ascend(keys: &[Case]) -> bool
     true
 }
 
+/// Whether the padding is zero and the keys ascend.
+fn is_right(pad: &[u8], cases: &[Case]) -> bool
+    ensures { result ≡ (all_zero pad.now && ascend (map (λ one. one.key) cases.now)) }
+{
+    all_zero(pad) && ascend(cases)
+}
+
 /// The keys of the cases.
 fn keys_of(alloc: Global, cases: &[Case]) -> Result<List<i32>, NoMemory>
     ensures { IfOk result (λ keys. keys ≡ map (λ one. one.key) cases.now) }
@@ -185,6 +193,19 @@ fn targets_of(alloc: Global, cases: &[Case]) -> Result<List<u32>, NoMemory>
         targets.push(one.to)?;
     }
     Ok(targets)
+}
+
+/// The `lookupswitch` of the cases, whose other numbers go to `other`.
+fn switch_of(alloc: Global, other: u32, cases: &[Case]) -> Result<Insn, NoMemory>
+    ensures { IfOk result (λ insn. insn ≡ insns.Lookup other (map (λ one. one.key) cases.now) (map (λ one. one.to) cases.now)) }
+{
+    let keys = BoxedList::new(alloc, keys_of(alloc, cases)?)?;
+    let targets = BoxedList::new(alloc, targets_of(alloc, cases)?)?;
+    Ok(Insn::Lookup {
+        other,
+        keys,
+        targets,
+    })
 }
 
 /// How many keys a `lookupswitch` has.
@@ -234,18 +255,10 @@ fn keyed(
 {
     let other = targets.far(at, from)?;
     let all = cases(alloc, targets, at, from)?;
-    if !all_zero(pad) || !ascend(&all) {
+    if !is_right(pad, &all) {
         return Err(CodeFault::Form { at });
     }
-    let keys = keys_of(alloc, &all)?;
-    let keys = BoxedList::new(alloc, keys)?;
-    let targets = targets_of(alloc, &all)?;
-    let targets = BoxedList::new(alloc, targets)?;
-    Ok(Insn::Lookup {
-        other,
-        keys,
-        targets,
-    })
+    Ok(switch_of(alloc, other, &all)?)
 }
 
 /// `lookupswitch`, after its opcode.

@@ -125,10 +125,10 @@ fn is_written_as(alloc: Global, file: &ClassFile, bytes: &[u8]) -> bool {
     }
 }
 
-/// Whether a copy of the file is like it.
-fn is_copied(alloc: Global, file: &ClassFile) -> bool {
+/// Whether a copy of the file is written as the bytes.
+fn is_copied_as(alloc: Global, file: &ClassFile, bytes: &[u8]) -> bool {
     match file.copy(alloc) {
-        Ok(copy) => copy == *file,
+        Ok(copy) => is_written_as(alloc, &copy, bytes),
         Err(_) => false,
     }
 }
@@ -136,7 +136,7 @@ fn is_copied(alloc: Global, file: &ClassFile) -> bool {
 /// Whether the bytes are a class file that is written as it was, and is copied.
 fn goes_both_ways(alloc: Global, bytes: &[u8]) -> bool {
     match decode(alloc, bytes) {
-        Ok(file) => is_written_as(alloc, &file, bytes) && is_copied(alloc, &file),
+        Ok(file) => is_written_as(alloc, &file, bytes) && is_copied_as(alloc, &file, bytes),
         Err(_) => false,
     }
 }

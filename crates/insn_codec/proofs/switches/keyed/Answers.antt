@@ -3,10 +3,6 @@ use Rattle.std.proofs.lemmas.Grind.{common_steps}
 use Rattle.insn_codec.specs.Reading.{keyed_at}
 use Rattle.insn_codec.proofs.switches.keyed.Goals as goal
 
-pub returns-then-not-all_zero-clause-reads : goal.returns-then-not-all_zero-clause-reads
-unfolding keyed_at
-returns-then-not-all_zero-clause-reads c = grind (arith, common_steps)
-
 pub returns-clause-reads : goal.returns-clause-reads
 unfolding keyed_at
 returns-clause-reads c = grind (arith, common_steps)
