@@ -1,9 +1,9 @@
 -- What a told store answers follows from when each answer comes.
-use Rattle.std.proofs.Common.{◌≡◌, ◌⊎◌, ◌<◌, ◌≤◌, ◌+◌, ℕ, List, length, true, false, nat_le, Option, Some, None, Result, Ok, Err, IfSome, IsSomeAnd, IfOk, IsErrOf, inl, inr, refl, ap, subst, arith}
+use Rattle.std.proofs.Common.{◌≡◌, ◌⊎◌, ◌<◌, ◌≤◌, ◌+◌, ℕ, List, length, true, false, nat_le, Option, Some, None, Result, Ok, Err, IfSome, IsSomeAnd, IfOk, IsErrOf, inl, inr, refl, ap, subst, ◌∙◌, arith}
 use Rattle.std.proofs.lemmas.Bool.Decides.{nat_tests}
 use Rattle.mon_store.specs.Store.{Files, Rose, Caused, HasFile, OfFile, Lacks}
-use Rattle.mon_store.proofs.StoreLaws.{Rose-since}
-use Rattle.mon_store.specs.Read.{Answers, answer_for}
+use Rattle.mon_store.proofs.StoreLaws.{Rose-since, Caused-since}
+use Rattle.mon_store.specs.Read.{Answers, Asked, answer_for}
 use Rattle.mon_store.specs.declared.read.ReadFault.{ReadFault}
 use Rattle.mon_store.specs.declared.read.ReadFault.TheVariants.{Absent, Failed, TooLong, Memory}
 
@@ -100,3 +100,19 @@ Answers-after_size before now name size limit result first second third last sam
     let it = long len is in
     let past = it.0 in
     (omega arith, HasFile-no_longer before now name size limit len same has within_limit past it.1))
+
+-- what was asked of a store later was asked of it since the first count, whose files it had
+pub Asked-since : {X Y : Type 0} (old now new : Files) (first second third : ℕ) (last name : List ℕ)
+    (later : Result X ReadFault) (result : Result Y ReadFault)
+    → now ≡ old → first ≤ second
+    → (IsErrOf result Failed → IsErrOf later Failed) → (IsErrOf result Absent → IsErrOf later Absent)
+    → Asked now new second third last name later → Asked old new first third last name result
+Asked-since old now new first second third last name later result same le failed absent asked = record {
+  files = asked.files ∙ same;
+  faults = let since = asked.faults in omega arith;
+  failed = λ is. Caused-since first second third last name le (asked.failed (failed is));
+  absent = λ is. elim (asked.absent (absent is)) [
+    | inl caused ↦ inl (Caused-since first second third last name le caused)
+    | inr lacks ↦ inr (subst (λ (f : Files). Lacks f name) same lacks)
+  ];
+}

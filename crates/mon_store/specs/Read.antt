@@ -1,6 +1,6 @@
 -- What reading a whole file under a limit answers. (docs/PROMISES.md)
-use Rattle.std.specs.Prelude.{◌≡◌, ◌⊎◌, ℕ, List, length, take, nat_le, Option, Some, None, Result, Ok, Err, if◌then◌else◌}
-use Rattle.mon_store.specs.Store.{Files, OfFile}
+use Rattle.std.specs.Prelude.{◌≡◌, ◌⊎◌, ◌≤◌, ℕ, List, length, take, nat_le, Option, Some, None, Result, Ok, Err, IsErrOf, if◌then◌else◌}
+use Rattle.mon_store.specs.Store.{Files, Caused, OfFile, Lacks}
 use Rattle.mon_store.specs.declared.store.StoreFault.{StoreFault}
 use Rattle.mon_store.specs.declared.store.StoreFault.TheVariants as store
 use Rattle.mon_store.specs.declared.read.ReadFault.{ReadFault}
@@ -25,3 +25,10 @@ Answers (Some told) name limit result otherwise = (result ≡ answer_for (told n
 -- Where the files are told and one has this name, these bytes are its first.
 abbrev pub Begins : Files → List ℕ → List ℕ → Type 0
 Begins files name front = OfFile files name (λ bytes. front ≡ take (length front) bytes)
+
+-- What a store is asked leaves its files, and a fault has to show that it was counted, or that there is no such file.
+pub record Asked {X : Type 0} (old new : Files) (before now : ℕ) (last name : List ℕ) (result : Result X ReadFault) : Type 0 where
+  pub files : new ≡ old
+  pub faults : before ≤ now
+  pub failed : IsErrOf result read.Failed → Caused before now last name
+  pub absent : IsErrOf result read.Absent → Caused before now last name ⊎ Lacks old name

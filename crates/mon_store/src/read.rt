@@ -3,7 +3,7 @@
 ghost use Rattle.std.specs.Prelude.{◌≡◌, ◌⊎◌, ◌<◌, ◌≤◌, ◌+◌, ℕ, length, IfOk, IsErrOf};
 ghost use Rattle.mon_store.specs.declared.read.ReadFault.TheVariants.{Memory};
 ghost use Rattle.mon_store.specs.Store.{Rose, Caused, HasFile, OfFile, Lacks};
-ghost use Rattle.mon_store.specs.Read.{fault_of, Answers, Begins};
+ghost use Rattle.mon_store.specs.Read.{fault_of, Answers, Asked, Begins};
 
 use crate::store::{Store, StoreFault};
 use mon_base::{Bytes, NoMemory};
@@ -85,13 +85,8 @@ fn read_to_end<S: Store>(
 ) -> Result<Bytes, ReadFault>
     ensures ok { IfOk result (λ b. HasFile (S.files store.old) name.now (λ bytes. b ≡ bytes)) }
     ensures within { IfOk result (λ b. length b ≤ limit) }
-    ensures files { S.files store.new ≡ S.files store.old }
-    ensures faults { S.faults store.old ≤ S.faults store.new }
-    ensures failed { IsErrOf result ReadFault.Failed →
-        Caused (S.faults store.old) (S.faults store.new) (S.last store.new) name.now }
-    ensures absent { IsErrOf result ReadFault.Absent →
-        Caused (S.faults store.old) (S.faults store.new) (S.last store.new) name.now
-        ⊎ Lacks (S.files store.old) name.now }
+    ensures asked { Asked (S.files store.old) (S.files store.new)
+        (S.faults store.old) (S.faults store.new) (S.last store.new) name.now result }
     ensures too_long { (len : ℕ) → IsErrOf result (ReadFault.TooLong len) →
         (len ≡ limit + 1) × OfFile (S.files store.old) name.now (λ bytes. len ≤ length bytes) }
 {
@@ -121,13 +116,8 @@ fn read_piece<S: Store>(
         Begins (S.files store.old) name.now text.new }
     ensures end { IfOk result (λ n. n ≡ 0 → Begins (S.files store.old) name.now text.old →
         HasFile (S.files store.old) name.now (λ bytes. text.old ≡ bytes)) }
-    ensures files { S.files store.new ≡ S.files store.old }
-    ensures faults { S.faults store.old ≤ S.faults store.new }
-    ensures failed { IsErrOf result ReadFault.Failed →
-        Caused (S.faults store.old) (S.faults store.new) (S.last store.new) name.now }
-    ensures absent { IsErrOf result ReadFault.Absent →
-        Caused (S.faults store.old) (S.faults store.new) (S.last store.new) name.now
-        ⊎ Lacks (S.files store.old) name.now }
+    ensures asked { Asked (S.files store.old) (S.files store.new)
+        (S.faults store.old) (S.faults store.new) (S.last store.new) name.now result }
     ensures never_too_long { (len : ℕ) → IsErrOf result (ReadFault.TooLong len) → ⊥ }
 {
     let mut buffer = [0u8; PIECE];

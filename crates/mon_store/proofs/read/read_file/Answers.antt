@@ -19,4 +19,4 @@ returns-clause-exact g c =
     (g.S.Store.faults c.args.store.now) (g.S.Store.faults c.size.new.self) (g.S.Store.faults c.read_to_end.new.store)
     (g.S.Store.last c.read_to_end.new.store)
     size.files size.faults size.ok c.if-size-limit.false
-    rest.ok rest.within rest.failed rest.absent rest.too_long
+    rest.ok rest.within rest.asked.failed rest.asked.absent rest.too_long
