@@ -140,12 +140,9 @@ fn frame(
 ) -> Result<FrameType, CertForm>
     ensures { Uses result (frame_at table.now.names.now used.old from.old) used.new from.new }
 {
-    let locals = locals(alloc, table, used, from)?;
+    let locals = SharedList::new(alloc, locals(alloc, table, used, from)?)?;
     let stack = types(alloc, table, used, from)?;
-    Ok(FrameType {
-        locals: SharedList::new(alloc, locals)?,
-        stack,
-    })
+    Ok(FrameType { locals, stack })
 }
 
 /// The frame and the note of an instruction that is reached.

@@ -1,8 +1,9 @@
 //! Reading notes.
 
+ghost use Rattle.std.specs.Prelude.{◌≡◌, []};
 ghost use Rattle.mon_base.specs.Reading.{counted};
-ghost use Rattle.mon_base.specs.Answer.{Reads};
-ghost use Rattle.cert_format.specs.Reading.{term_at, term_of_kind, terms_at, phase_at, site_at};
+ghost use Rattle.mon_base.specs.Answer.{Reads, ReadsAs};
+ghost use Rattle.cert_format.specs.Reading.{pair_at, term_at, term_of_kind, terms_at, phase_at, site_at};
 ghost use Rattle.cert_format.specs.Reading.{held_at, granted_at, owed_at, stop_at, note_of_kind, note_at, free_at};
 
 use crate::fault::CertForm;
@@ -17,13 +18,13 @@ fn term_of_kind(at: u64, kind: u8, from: &mut Cursor) -> Result<Term, CertForm>
     ensures { Reads CertForm.Memory result (term_of_kind at kind from.old) from.new }
 {
     match kind {
-        0 => Ok(Term::Const(i4(from)?)),
-        1 => Ok(Term::Var(u1(from)?)),
+        0 => i4(from).map(Term::Const),
+        1 => u1(from).map(Term::Var),
         2 => {
             let var = u1(from)?;
             Ok(Term::VarAdd(var, i4(from)?))
         }
-        3 => Ok(Term::Arg(u1(from)?)),
+        3 => u1(from).map(Term::Arg),
         4 => Ok(Term::Result),
         5 => Ok(Term::Lock),
         _ => Err(CertForm::Form { at }),
@@ -43,15 +44,39 @@ fn term(from: &mut Cursor) -> Result<Term, CertForm>
 /// How many terms there is room for at most before they are read.
 const MOST_TERMS: usize = 256;
 
+/// Reads that many terms onto the list, which has none.
+fn fill(terms: &mut List<Term>, count: u32, from: &mut Cursor) -> Result<(), CertForm>
+    requires { terms.old ≡ [] }
+    ensures { ReadsAs CertForm.Memory (λ _. terms.new) result (counted term_at count from.old) from.new }
+{
+    for _ in 0..count {
+        let next = term(from)?;
+        terms.push(next)?;
+    }
+    Ok(())
+}
+
 /// That many terms.
 fn several_terms(alloc: Global, count: u32, from: &mut Cursor) -> Result<List<Term>, CertForm>
     ensures { Reads CertForm.Memory result (counted term_at count from.old) from.new }
 {
     let mut terms = List::with_room(alloc, (count as usize).min(MOST_TERMS))?;
-    for _ in 0..count {
-        terms.push(term(from)?)?;
-    }
+    fill(&mut terms, count, from)?;
     Ok(terms)
+}
+
+/// The terms of the stack, which one byte counts, and those of the map, one for each variable.
+#[tactic(auto, unfolding(crate::specs::Reading::pair_at))]
+fn stack_and_map(
+    alloc: Global,
+    vars: u32,
+    from: &mut Cursor,
+) -> Result<(List<Term>, List<Term>), CertForm>
+    ensures { Reads CertForm.Memory result (pair_at terms_at (counted term_at vars) from.old) from.new }
+{
+    let stack = terms(alloc, from)?;
+    let map = several_terms(alloc, vars, from)?;
+    Ok((stack, map))
 }
 
 /// The terms that one byte counts.
@@ -101,8 +126,7 @@ fn held(alloc: Global, vars: u32, from: &mut Cursor) -> Result<Note, CertForm>
     let site = site(from)?;
     let failed = u1(from)?;
     let holding = u1(from)?;
-    let terms = terms(alloc, from)?;
-    let map = several_terms(alloc, vars, from)?;
+    let (terms, map) = stack_and_map(alloc, vars, from)?;
     Ok(Note::Held {
         site,
         failed,
@@ -169,7 +193,7 @@ fn note_of_kind(
 {
     match kind {
         0 => Ok(Note::Free),
-        1 => Ok(Note::Taking(site(from)?)),
+        1 => site(from).map(Note::Taking),
         2 => held(alloc, vars, from),
         3 => granted(from),
         4 => owed(from),
