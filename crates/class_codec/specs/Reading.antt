@@ -2,7 +2,7 @@
 -- (The Java Virtual Machine Specification, chapter 4)
 use Rattle.std.specs.Prelude.{ℕ, zero, suc, ◌+◌, ◌==◌, ◌||◌, ◌&&◌, Bool, true, false, List, [], ◌∷◌, length, position, Option, Some, None, ok_or, Result, Ok, Err, nat_lt, nat_le, if◌then◌else◌}
 use Rattle.std.specs.Int.{w32, w64, cast_signed}
-use Rattle.mon_base.specs.Reading.{Place, part, bytes_at, number_at, ◌>>=◌, need, counted, whole}
+use Rattle.mon_base.specs.Reading.{Place, part, bytes_at, number_at, ◌>>=◌, need, counted}
 use Rattle.class_codec.specs.declared.fault.ClassFault.{ClassFault}
 use Rattle.class_codec.specs.declared.fault.ClassFault.TheVariants.{Magic, Version, Short, Tail, Tag, Index, TooLong}
 use Rattle.class_codec.specs.declared.pool.ConstKind.{ConstKind}
@@ -276,8 +276,15 @@ file_at p = do
   pool ← pool_at minor.1
   body_at minor.0 pool.0 pool.1
 
+-- what was read up to a place, if nothing is left there
+abbrev pub up_to_end : {X : Type 0} → Place → X → Result X ClassFault
+up_to_end p read = do
+  end ← need (length p.rest == 0) (Tail p.at)
+  Ok read
+
 -- All the bytes are read, if they are no more than 1,048,576.
 unfoldable pub class_of : List ℕ → Result ClassFile ClassFault
 class_of bytes = do
   short ← need (nat_le (length bytes) 1048576) (TooLong (length bytes))
-  whole file_at (λ p. Tail p.at) bytes
+  file ← file_at (record { at = 0; rest = bytes })
+  up_to_end file.1 file.0

@@ -50,10 +50,7 @@ impl Copied for TableEntry {
 impl Copied for Const {
     fn copy(&self, alloc: Global) -> Result<Const, NoMemory> {
         match self {
-            Const::Utf8(text) => {
-                let text = text.copy(alloc)?;
-                Ok(Const::Utf8(text))
-            }
+            Const::Utf8(text) => text.copy(alloc).map(Const::Utf8),
             Const::Integer(n) => Ok(Const::Integer(*n)),
             Const::Float(bits) => Ok(Const::Float(*bits)),
             Const::Long(n) => Ok(Const::Long(*n)),
@@ -82,8 +79,8 @@ impl Copied for Other {
 impl Copied for Attr {
     fn copy(&self, alloc: Global) -> Result<Attr, NoMemory> {
         match self {
-            Attr::Code(code) => Ok(Attr::Code(copy_code(alloc, code)?)),
-            Attr::Other(other) => Ok(Attr::Other(other.copy(alloc)?)),
+            Attr::Code(code) => copy_code(alloc, code).map(Attr::Code),
+            Attr::Other(other) => other.copy(alloc).map(Attr::Other),
         }
     }
 }
