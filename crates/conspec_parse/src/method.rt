@@ -1,8 +1,9 @@
 //! Which listed method a clause is for.
 
-ghost use Rattle.std.specs.Prelude.{◌≡◌, ◌<◌, ◌≤◌, ◌^◌, ◌++◌, length, Ok, IfOk, OnOk};
+ghost use Rattle.std.specs.Prelude.{◌≡◌, ◌<◌, ◌≤◌, ◌^◌, ◌++◌, length, true, Ok, IfOk, OnOk};
 ghost use Rattle.mon_base.specs.Answer.{Answers, AnswersAs};
-ghost use Rattle.conspec_parse.specs.Methods.{desc_of, index_at, listed_method, method_at};
+ghost use Rattle.mon_base.specs.Reading.{◌>>=◌ as ◌then◌};
+ghost use Rattle.conspec_parse.specs.Methods.{desc_of, index_at, listed_method, method_at, signature_at};
 ghost use Rattle.std.specs.List.{flat_map};
 
 use crate::fault::PolicyFault;
@@ -89,6 +90,19 @@ fn found_method(
     index_at(methods, clauses, phase, at, signature, &desc)
 }
 
+/// The tokens behind the method that stands first, whose names are judged.
+fn behind_method<'a>(
+    alloc: Global,
+    vars: &[Var],
+    tokens: &'a [Token],
+) -> Result<&'a [Token], PolicyFault>
+    ensures { AnswersAs PolicyFault.Memory (λ rest. rest.now) result
+        (signature_at true vars.now tokens.now then λ read. Ok read.1) }
+{
+    let (_, rest) = signature_at(alloc, true, vars, tokens)?;
+    Ok(rest)
+}
+
 /// The listed method with this signature, which stands first, by its index, and the tokens behind it.
 fn listed_method<'a>(
     alloc: Global,
@@ -107,7 +121,7 @@ fn listed_method<'a>(
 {
     let at = front_at(tokens);
     let method = found_method(alloc, methods, clauses, phase, returned, at, loose)?;
-    let (_, rest) = signature_at(alloc, true, vars, tokens)?;
+    let rest = behind_method(alloc, vars, tokens)?;
     Ok((method, rest))
 }
 
@@ -135,7 +149,7 @@ pub fn method_at<'a>(
         }
         Err(PolicyFault::Memory) => Err(PolicyFault::Memory),
         Err(fault) => {
-            signature_at(alloc, true, vars, tokens)?;
+            behind_method(alloc, vars, tokens)?;
             Err(fault)
         }
     }

@@ -1,6 +1,6 @@
 //! The types that a policy names, as descriptors say them.
 
-ghost use Rattle.std.specs.Prelude.{◌≡◌, codes, IfOk};
+ghost use Rattle.std.specs.Prelude.{◌≡◌, codes, option_map, IfOk};
 ghost use Rattle.mon_base.specs.Answer.{AnswersAs};
 ghost use Rattle.conspec_parse.specs.Types.{
   judged_name,
@@ -54,24 +54,34 @@ fn type_named(alloc: Global, desc: &str, kind: Option<Kind>) -> Result<TypeName,
     Ok(TypeName { desc, kind })
 }
 
+/// The descriptor and the kind of the type that the first token is, where it is a keyword.
+fn keyword_type(tokens: &[Token]) -> Option<(&'static str, Option<Kind>)>
+    ensures { option_map (λ t. type_named t.0.now t.1) result ≡ plain_type tokens.now }
+{
+    if is_next("void", tokens) {
+        Some(("V", None))
+    } else if is_next("int", tokens) {
+        Some(("I", Some(Kind::Int)))
+    } else if is_next("boolean", tokens) {
+        Some(("Z", Some(Kind::Bool)))
+    } else if is_next("byte", tokens) {
+        Some(("B", Some(Kind::Byte)))
+    } else if is_next("short", tokens) {
+        Some(("S", Some(Kind::Short)))
+    } else if is_next("char", tokens) {
+        Some(("C", Some(Kind::Char)))
+    } else {
+        None
+    }
+}
+
 /// The type that the first token is, where it is a keyword.
 fn plain_type(alloc: Global, tokens: &[Token]) -> Result<Option<TypeName>, NoMemory>
     ensures { IfOk result (λ t. t ≡ plain_type tokens.now) }
 {
-    if is_next("void", tokens) {
-        Ok(Some(type_named(alloc, "V", None)?))
-    } else if is_next("int", tokens) {
-        Ok(Some(type_named(alloc, "I", Some(Kind::Int))?))
-    } else if is_next("boolean", tokens) {
-        Ok(Some(type_named(alloc, "Z", Some(Kind::Bool))?))
-    } else if is_next("byte", tokens) {
-        Ok(Some(type_named(alloc, "B", Some(Kind::Byte))?))
-    } else if is_next("short", tokens) {
-        Ok(Some(type_named(alloc, "S", Some(Kind::Short))?))
-    } else if is_next("char", tokens) {
-        Ok(Some(type_named(alloc, "C", Some(Kind::Char))?))
-    } else {
-        Ok(None)
+    match keyword_type(tokens) {
+        Some((desc, kind)) => type_named(alloc, desc, kind).map(Some),
+        None => Ok(None),
     }
 }
 
