@@ -1,7 +1,8 @@
-use Rattle.std.proofs.Common.{[], ℤ, pos, List, map, ap, ◌∙◌, arith}
+use Rattle.std.proofs.Common.{◌^◌, [], ℤ, pos, List, map, ap, ◌∙◌, arith}
 use Rattle.std.specs.Prelude.{◌-ℤ◌, flat_map}
 use Rattle.std.proofs.lemmas.Int.{ints}
 use Rattle.std.proofs.lemmas.List.{take_all}
+use Rattle.race_free_check.proofs.Bounded.{small_at}
 use Rattle.race_free_check.proofs.Grown.{listed_more}
 use Rattle.race_free_check.proofs.numbers.differences.Goals as goal
 
@@ -14,3 +15,11 @@ loop-mark-preserved c = record {
 
 pub returns-clause-is : goal.returns-clause-is
 returns-clause-is c = c.loop-mark.invariant.is ∙ ap (λ (ns : List ℤ). flat_map (λ n. map (λ k. n -ℤ k) c.args.shifts.now) ns) (take_all c.loop-mark.mark-index c.args.marks.now c.loop-mark-test.false)
+
+pub add_lessened-requires-clause-mark : goal.add_lessened-requires-clause-mark
+add_lessened-requires-clause-mark c =
+    let small = small_at (2 ^ 31) c.args.marks.now c.loop-mark.mark-index (pos 0) c.requires.marks c.loop-mark-test.true in
+    record { low = omega (arith, ints, small.low); high = omega (arith, ints, small.high) }
+
+pub returns-clause-small : goal.returns-clause-small
+returns-clause-small c = c.loop-mark.invariant.small
