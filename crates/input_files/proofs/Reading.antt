@@ -1,19 +1,22 @@
 -- Where the reading of the files of a command stops.
-use Rattle.std.proofs.Common.{ℕ, ◌≤◌, List, length, Result, Ok, Err, refl, inl, inr, ⊎_elim}
+use Rattle.std.proofs.Common.{ℕ, ◌≤◌, List, length, Result, Ok, Err, subst, inl, inr, ⊎_elim}
 use Rattle.mon_store.specs.Store.{Files}
 use Rattle.api_listing.specs.declared.types.Listing.{Listing}
 use Rattle.cert_format.specs.declared.certificate.Certificate.{Certificate}
 use Rattle.conspec_tree.specs.declared.types.PolicyTree.{PolicyTree}
 use Rattle.input_files.specs.declared.files.Stop.{Stop}
 use Rattle.input_files.specs.declared.named.ReadClasses.{ReadClasses as Classes}
-use Rattle.input_files.specs.Forms.{IsRead, ReadsForm, Then, Yields}
+use Rattle.input_files.specs.Forms.{Count, Form, IsRead, ReadsForm, Then, Yields}
 use Rattle.input_files.specs.InlineInputs.{ReadsInline}
 use Rattle.command_words.specs.InlineWords.{NamedInline}
 use Rattle.command_words.specs.ReplayWords.{NamedReplay}
 use Rattle.event_record.specs.declared.reading.Record.{Record}
 use Rattle.input_files.specs.ReplayInputs.{ReadsReplay}
 use Rattle.input_files.specs.CheckInputs.{ReadsCheck}
-use Rattle.input_files.specs.Named.{ReadsClasses, AreClasses}
+use Rattle.input_files.specs.Named.{ReadsClasses, ReadsBefore}
+use Rattle.input_files.specs.declared.check_inputs.CheckInputs.{CheckInputs}
+use Rattle.input_files.specs.declared.race_inputs.RaceInputs.{RaceInputs}
+use Rattle.input_files.specs.declared.replay_inputs.ReplayInputs.{ReplayInputs}
 use Rattle.input_files.specs.PolicyInputs.{ReadsPolicy}
 use Rattle.input_files.specs.declared.policy_inputs.PolicyInputs.{PolicyInputs}
 use Rattle.input_files.specs.RaceInputs.{ReadsRace}
@@ -22,24 +25,31 @@ use Rattle.command_words.specs.Words.{NamedCheck, NamedPolicy, NamedRace}
 use Rattle.input_files.proofs.ReadFiles.{counted, stops_since}
 use Rattle.input_files.proofs.ClassFiles.{among_since}
 
-module _ (files : Files) (named : NamedCheck) (first begun now : ℕ) (last : List ℕ) (le : first ≤ begun) (listing : Listing) (listed : IsRead files named.listing listing_form (Ok listing)) where
-  pub policy_stops : (stop : Stop) → ReadsForm files (counted begun now last) named.policy (policy_form listing) (Err stop) → ReadsCheck files (counted first now last) named (Err stop)
-  policy_stops stop form = inr (listing, listed, inl (stops_since files (policy_form listing) named.policy first begun now last stop le form))
+-- What stops a later call that reads a file, and then class files, stops the calls since the first.
+pub before_since : {A B : Type 0} (files : Files) (form : Form A) (name : List ℕ) (names : List (List ℕ)) (whole : A → Classes → B) (first begun now : ℕ) (last : List ℕ) (stop : Stop) → first ≤ begun
+    → ReadsBefore files (counted begun now last) name form names (Err stop)
+    → Then {B = B} (ReadsForm files (counted first now last) name form) (λ a. Then (ReadsClasses files (counted first now last) names) (λ classes. Yields (whole a classes))) (Err stop)
+before_since files form name names whole first begun now last stop le read =
+    ⊎_elim
+    (λ stops. inl (stops_since files form name first begun now last stop le stops))
+    (λ more. inr (more.0, more.1, ⊎_elim (λ among. inl (among_since files names first begun now last stop le among)) (λ none. absurd none.2) more.2)) read
 
-  pub certificate_stops : (policy : PolicyTree) → IsRead files named.policy (policy_form listing) (Ok policy) → (stop : Stop)
-      → ReadsForm files (counted begun now last) named.certificate (certificate_form (length policy.vars)) (Err stop) → ReadsCheck files (counted first now last) named (Err stop)
-  certificate_stops policy has stop form =
-      inr (listing, listed, inr (policy, has, inl (stops_since files (certificate_form (length policy.vars)) named.certificate first begun now last stop le form)))
+-- the class files at which the reading of a file and of class files stops
+pub behind_stops : {A : Type 0} (files : Files) (form : Form A) (name : List ℕ) (names : List (List ℕ)) (first begun now : ℕ) (last : List ℕ) (stop : Stop) → first ≤ begun → (a : A) → IsRead files name form (Ok a)
+    → ReadsClasses files (counted begun now last) names (Err stop) → ReadsBefore files (counted first now last) name form names (Err stop)
+behind_stops files form name names first begun now last stop le a has reads = inr (a, has, inl (among_since files names first begun now last stop le reads))
 
-  pub classes_stop : (policy : PolicyTree) → IsRead files named.policy (policy_form listing) (Ok policy) → (certificate : Certificate) → IsRead files named.certificate (certificate_form (length policy.vars)) (Ok certificate) → (stop : Stop)
-      → ReadsClasses files (counted begun now last) named.classes (Err stop) → ReadsCheck files (counted first now last) named (Err stop)
-  classes_stop policy has certificate certified stop reads =
-      inr (listing, listed, inr (policy, has, inr (certificate, certified, inl (among_since files named.classes first begun now last stop le reads))))
+-- ---- check
 
-  pub all_read : (policy : PolicyTree) → IsRead files named.policy (policy_form listing) (Ok policy) → (certificate : Certificate) → IsRead files named.certificate (certificate_form (length policy.vars)) (Ok certificate)
-      → (classes : Classes) → AreClasses files named.classes classes.files classes.total
-      → ReadsCheck files (counted first now last) named (Ok (record { listing = listing; policy = policy; certificate = certificate; classes = classes }))
-  all_read policy has certificate certified classes read = (listing, listed, (policy, has, (certificate, certified, (classes, read, refl))))
+pub check_stops : (files : Files) (named : NamedCheck) (count : Count) (inputs : RaceInputs) → ReadsRace files count (record { policy = named.policy; listing = named.listing }) (Ok inputs)
+    → (first begun now : ℕ) (last : List ℕ) (stop : Stop) → first ≤ begun
+    → ReadsBefore files (counted begun now last) named.certificate (certificate_form (length inputs.policy.vars)) named.classes (Err stop) → ReadsCheck files (counted first now last) named (Err stop)
+check_stops files named count inputs read first begun now last stop le over =
+    let form = subst (λ (i : RaceInputs). ReadsBefore files (counted begun now last) named.certificate (certificate_form (length i.policy.vars)) named.classes (Err stop)) read.2.2 over in
+    let whole : Certificate → Classes → CheckInputs = λ certificate classes. record { listing = read.0; policy = read.2.0; certificate = certificate; classes = classes } in
+    inr (read.0, read.1, inr (read.2.0, read.2.1, before_since files (certificate_form (length read.2.0.vars)) named.certificate named.classes whole first begun now last stop le form))
+
+-- ---- policy
 
 module _ (files : Files) (named : NamedPolicy) (first begun now : ℕ) (last : List ℕ) (le : first ≤ begun) (listing : Listing) (listed : IsRead files named.listing listing_form (Ok listing)) where
   pub run_stops_over : (stop : Stop)
@@ -75,16 +85,18 @@ pub race_policy_stops : (files : Files) (named : NamedRace) (first begun now : �
 race_policy_stops files named first begun now last le listing listed stop form =
     inr (listing, listed, inl (stops_since files (policy_form listing) named.policy first begun now last stop le form))
 
-pub inline_stops : (files : Files) (named : NamedInline) (first begun now : ℕ) (last : List ℕ) → first ≤ begun → (listing : Listing) → IsRead files named.listing listing_form (Ok listing)
-    → (policy : PolicyTree) → IsRead files named.policy (policy_form listing) (Ok policy) → (stop : Stop)
+-- ---- inline
+
+pub inline_stops : (files : Files) (named : NamedInline) (count : Count) (inputs : RaceInputs) → ReadsRace files count (record { policy = named.policy; listing = named.listing }) (Ok inputs)
+    → (first begun now : ℕ) (last : List ℕ) (stop : Stop) → first ≤ begun
     → ReadsClasses files (counted begun now last) named.classes (Err stop) → ReadsInline files (counted first now last) named (Err stop)
-inline_stops files named first begun now last le listing listed policy has stop reads =
-    inr (listing, listed, inr (policy, has, inl (among_since files named.classes first begun now last stop le reads)))
+inline_stops files named count inputs read first begun now last stop le reads =
+    inr (read.0, read.1, inr (read.2.0, read.2.1, inl (among_since files named.classes first begun now last stop le reads)))
 
-module _ (files : Files) (named : NamedReplay) (first begun now : ℕ) (last : List ℕ) (le : first ≤ begun) (listing : Listing) (listed : IsRead files named.listing listing_form (Ok listing)) where
-  pub run_stops : (stop : Stop) → ReadsForm files (counted begun now last) named.recorded (record_form listing) (Err stop) → ReadsReplay files (counted first now last) named (Err stop)
-  run_stops stop form = inr (listing, listed, inl (stops_since files (record_form listing) named.recorded first begun now last stop le form))
+-- ---- replay
 
-  pub program_stops : (recorded : Record) → IsRead files named.recorded (record_form listing) (Ok recorded) → (stop : Stop)
-      → ReadsClasses files (counted begun now last) named.classes (Err stop) → ReadsReplay files (counted first now last) named (Err stop)
-  program_stops recorded has stop reads = inr (listing, listed, inr (recorded, has, inl (among_since files named.classes first begun now last stop le reads)))
+pub replay_stops : (files : Files) (named : NamedReplay) (first begun now : ℕ) (last : List ℕ) → first ≤ begun → (listing : Listing) → IsRead files named.listing listing_form (Ok listing) → (stop : Stop)
+    → ReadsBefore files (counted begun now last) named.recorded (record_form listing) named.classes (Err stop) → ReadsReplay files (counted first now last) named (Err stop)
+replay_stops files named first begun now last le listing listed stop over =
+    let whole : Record → Classes → ReplayInputs = λ recorded classes. record { listing = listing; recorded = recorded; classes = classes } in
+    inr (listing, listed, before_since files (record_form listing) named.recorded named.classes whole first begun now last stop le over)

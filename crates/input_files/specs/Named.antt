@@ -11,7 +11,7 @@ use Rattle.conspec_tree.specs.declared.types.PolicyTree.{PolicyTree}
 use Rattle.conspec_parse.specs.Meaning.{SpellsPolicy}
 use Rattle.conspec_tree.specs.Tree.{IsPolicyTree}
 use Rattle.input_files.specs.declared.named.ReadClasses.{ReadClasses as Classes}
-use Rattle.input_files.specs.Forms.{Count, IsNoMemory, IsRead, ReadsForm}
+use Rattle.input_files.specs.Forms.{Count, Form, IsNoMemory, IsRead, ReadsForm, Then, Yields}
 use Rattle.input_files.specs.Kinds.{class_form}
 
 -- ---- class files
@@ -39,6 +39,13 @@ abbrev pub ReadsClasses : Files → Count → List (List ℕ) → Result Classes
 ReadsClasses files count names (Ok classes) = AreClasses files names classes.files classes.total
 ReadsClasses files count names (Err Memory) = Unit {0}
 ReadsClasses files count names (Err stop) = StopsAmong files count names stop
+
+-- one more file, and then class files
+abbrev pub ReadsBefore : {A : Type 0} → Files → Count → List ℕ → Form A → List (List ℕ) → Result (A × Classes) Stop → Type 0
+ReadsBefore files count name form names =
+    Then (ReadsForm files count name form) (λ a.
+    Then (ReadsClasses files count names) (λ classes.
+    Yields (a, classes)))
 
 -- ---- how calls report
 

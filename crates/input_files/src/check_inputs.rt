@@ -2,12 +2,17 @@
 //! ends the reading.
 
 ghost use Rattle.std.specs.Prelude.{◌≡◌, ◌≤◌, IfOk};
+ghost use Rattle.std.specs.List.{AllByRecursion};
+ghost use Rattle.class_codec.specs.Fits.{CanSpell};
 ghost use Rattle.input_files.specs.Forms.{since};
 ghost use Rattle.input_files.specs.CheckInputs.{AreSound, ReadsCheck};
+ghost use Rattle.input_files.specs.Kinds.{certificate_form};
+ghost use Rattle.input_files.specs.Named.{ReadsBefore};
 ghost use Rattle.command_words.specs.Words.{check_named};
 
 use crate::files::Stop;
-use crate::named::{ReadClasses, certificate_of, classes_of, listing_of, policy_of};
+use crate::named::{ReadClasses, certificate_of, classes_of};
+use crate::race_inputs::listed_policy;
 use api_listing::Listing;
 use cert_format::Certificate;
 use command_words::CheckWords;
@@ -24,6 +29,24 @@ pub struct CheckInputs {
     pub classes: ReadClasses,
 }
 
+/// Reads the certificate, for a policy of so many variables, and then the classes.
+fn certified<S: Store>(
+    alloc: Global,
+    store: &mut S,
+    words: &CheckWords,
+    vars: u32,
+) -> Result<(Certificate, ReadClasses), Stop>
+    ensures read { ReadsBefore (S.files store.old) (since (S.faults store.old) (S.faults store.new) (S.last store.new))
+        (check_named words.now).certificate (certificate_form vars) (check_named words.now).classes result }
+    ensures fits { IfOk result (λ r. AllByRecursion CanSpell r.1.files) }
+    ensures files { S.files store.new ≡ S.files store.old }
+    ensures faults { S.faults store.old ≤ S.faults store.new }
+{
+    let certificate = certificate_of(alloc, store, words.certificate, vars)?;
+    let classes = classes_of(alloc, store, words.classes)?;
+    Ok((certificate, classes))
+}
+
 /// Reads the files of a check in their order: listing, policy, certificate, classes.
 pub fn read_check<S: Store>(
     alloc: Global,
@@ -36,14 +59,12 @@ pub fn read_check<S: Store>(
     ensures files { S.files store.new ≡ S.files store.old }
     ensures faults { S.faults store.old ≤ S.faults store.new }
 {
-    let listing = listing_of(alloc, store, words.listing)?;
-    let policy = policy_of(alloc, store, words.policy, &listing)?;
-    let vars = policy.vars.len() as u32;
-    let certificate = certificate_of(alloc, store, words.certificate, vars)?;
-    let classes = classes_of(alloc, store, words.classes)?;
+    let inputs = listed_policy(alloc, store, words.listing, words.policy)?;
+    let vars = inputs.policy.vars.len() as u32;
+    let (certificate, classes) = certified(alloc, store, words, vars)?;
     Ok(CheckInputs {
-        listing,
-        policy,
+        listing: inputs.listing,
+        policy: inputs.policy,
         certificate,
         classes,
     })

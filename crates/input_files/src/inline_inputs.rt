@@ -6,7 +6,8 @@ ghost use Rattle.input_files.specs.InlineInputs.{InlineSound, ReadsInline};
 ghost use Rattle.command_words.specs.InlineWords.{inline_named};
 
 use crate::files::Stop;
-use crate::named::{ReadClasses, classes_of, listing_of, policy_of};
+use crate::named::{ReadClasses, classes_of};
+use crate::race_inputs::listed_policy;
 use api_listing::Listing;
 use command_words::InlineWords;
 use conspec_tree::PolicyTree;
@@ -33,12 +34,11 @@ pub fn read_inline<S: Store>(
     ensures files { S.files store.new ≡ S.files store.old }
     ensures faults { S.faults store.old ≤ S.faults store.new }
 {
-    let listing = listing_of(alloc, store, words.listing)?;
-    let policy = policy_of(alloc, store, words.policy, &listing)?;
+    let inputs = listed_policy(alloc, store, words.listing, words.policy)?;
     let classes = classes_of(alloc, store, words.classes)?;
     Ok(InlineInputs {
-        listing,
-        policy,
+        listing: inputs.listing,
+        policy: inputs.policy,
         classes,
     })
 }

@@ -3,7 +3,7 @@
 ghost use Rattle.std.specs.Prelude.{◌≡◌, ◌≤◌, IfOk};
 ghost use Rattle.conspec_tree.specs.Tree.{IsPolicyTree};
 ghost use Rattle.input_files.specs.Forms.{since};
-ghost use Rattle.input_files.specs.RaceInputs.{ReadsRace};
+ghost use Rattle.input_files.specs.RaceInputs.{RaceSound, ReadsRace};
 ghost use Rattle.command_words.specs.Words.{race_named};
 
 use crate::files::Stop;
@@ -11,6 +11,7 @@ use crate::named::{listing_of, policy_of};
 use api_listing::Listing;
 use command_words::RaceWords;
 use conspec_tree::PolicyTree;
+use mon_base::Bytes;
 use mon_store::Store;
 use std::alloc::Global;
 
@@ -19,6 +20,24 @@ use std::alloc::Global;
 pub struct RaceInputs {
     pub listing: Listing,
     pub policy: PolicyTree,
+}
+
+/// Reads a listing, and then a policy over it.
+pub fn listed_policy<S: Store>(
+    alloc: Global,
+    store: &mut S,
+    listing: &Bytes,
+    policy: &Bytes,
+) -> Result<RaceInputs, Stop>
+    ensures read { ReadsRace (S.files store.old) (since (S.faults store.old) (S.faults store.new) (S.last store.new))
+        (record { policy = policy.now; listing = listing.now }) result }
+    ensures sound { IfOk result RaceSound }
+    ensures files { S.files store.new ≡ S.files store.old }
+    ensures faults { S.faults store.old ≤ S.faults store.new }
+{
+    let listing = listing_of(alloc, store, listing)?;
+    let policy = policy_of(alloc, store, policy, &listing)?;
+    Ok(RaceInputs { listing, policy })
 }
 
 /// Reads the files of a policy by itself in their order: listing, policy.
@@ -33,7 +52,5 @@ pub fn read_race<S: Store>(
     ensures files { S.files store.new ≡ S.files store.old }
     ensures faults { S.faults store.old ≤ S.faults store.new }
 {
-    let listing = listing_of(alloc, store, words.listing)?;
-    let policy = policy_of(alloc, store, words.policy, &listing)?;
-    Ok(RaceInputs { listing, policy })
+    listed_policy(alloc, store, words.listing, words.policy)
 }

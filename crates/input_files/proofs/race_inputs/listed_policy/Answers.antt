@@ -3,16 +3,16 @@ use Rattle.std.proofs.lemmas.Result.{err_from_is_err_and}
 use Rattle.mon_store.specs.Store.{Files}
 use Rattle.input_files.specs.Forms.{ReadsForm}
 use Rattle.input_files.specs.Kinds.{policy_form}
-use Rattle.command_words.specs.Words.{NamedRace, race_named}
+use Rattle.command_words.specs.Words.{NamedRace}
 use Rattle.input_files.proofs.ReadFiles.{counted}
 use Rattle.input_files.proofs.Reading.{race_policy_stops}
-use Rattle.input_files.proofs.race_inputs.read_race.Goals as goal
+use Rattle.input_files.proofs.race_inputs.listed_policy.Goals as goal
 
 pub returns-in_err-policy-clause-read : goal.returns-in_err-policy-clause-read
 returns-in_err-policy-clause-read g c =
     let p = err_from_is_err_and c.from_residual-in_err-policy.result c.from_residual-in_err-policy.ensures.1 in
     let files : Files = g.S.Store.files c.args.store.now in
-    let named : NamedRace = race_named c.args.words.now in
+    let named : NamedRace = record { policy = c.args.policy.now; listing = c.args.listing.now } in
     let begun : ℕ = g.S.Store.faults c.listing_of.new.store in
     let now : ℕ = g.S.Store.faults c.policy_of.new.store in
     let last : List ℕ = g.S.Store.last c.policy_of.new.store in
