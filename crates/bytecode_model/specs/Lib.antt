@@ -11,6 +11,7 @@ pub mod Conditions
 pub mod Operands
 pub mod Starts
 pub mod Files
+pub mod Copying
 pub mod ByName
 pub mod Places
 pub mod Sound

@@ -1,7 +1,10 @@
 //! Equal copies of programs and their parts.
 
-ghost use Rattle.std.specs.Prelude.{◌≡◌, IfOk};
+ghost use Rattle.std.specs.Prelude.{◌≡◌, IfOk, OnOk};
+ghost use Rattle.insn_codec.specs.declared.insn.Insn.TheVariants.{Table, Lookup};
+ghost use Rattle.bytecode_model.specs.Copying.{codeless};
 
+use crate::exception_table::Handlers;
 use crate::program::{Handler, LinkedClass, Method, Program};
 use api_listing::{ListedClass, ListedMethod, Listing};
 use class_codec::{Copied, copy_list};
@@ -31,8 +34,8 @@ impl Copied for LinkedClass {
     fn copy(&self, alloc: Global) -> Result<LinkedClass, NoMemory> {
         let name = self.name.copy(alloc)?;
         let parent = self.parent.copy(alloc)?;
-        let file = self.file.copy(alloc)?;
         let methods = copy_list(alloc, &self.methods)?;
+        let file = self.file.copy(alloc)?;
         Ok(LinkedClass {
             name,
             parent,
@@ -44,22 +47,37 @@ impl Copied for LinkedClass {
 
 impl Copied for Method {
     fn copy(&self, alloc: Global) -> Result<Method, NoMemory> {
-        let name = self.name.copy(alloc)?;
-        let desc = self.desc.copy(alloc)?;
-        let insns = copy_insns(alloc, self.insns.as_slice())?;
-        let refs = copy_list(alloc, &self.refs)?;
-        let handlers = self.handlers.copy(alloc)?;
-        Ok(Method {
-            flags: self.flags,
-            name,
-            desc,
-            max_stack: self.max_stack,
-            max_locals: self.max_locals,
-            insns,
-            refs,
-            handlers,
-        })
+        let mut copy = copy_codeless(alloc, self)?;
+        put_code(alloc, self, &mut copy)?;
+        Ok(copy)
     }
+}
+
+/// The method without its instructions, operands and handlers.
+fn copy_codeless(alloc: Global, method: &Method) -> Result<Method, NoMemory>
+    ensures { IfOk result (λ copy. copy ≡ codeless method.now) }
+{
+    Ok(Method {
+        flags: method.flags,
+        name: method.name.copy(alloc)?,
+        desc: method.desc.copy(alloc)?,
+        max_stack: method.max_stack,
+        max_locals: method.max_locals,
+        insns: List::new(alloc),
+        refs: List::new(alloc),
+        handlers: Handlers::none(alloc),
+    })
+}
+
+/// Puts in the instructions, operands and handlers of the method.
+fn put_code(alloc: Global, method: &Method, copy: &mut Method) -> Result<(), NoMemory>
+    requires { copy.old ≡ codeless method.now }
+    ensures { OnOk result (copy.new ≡ method.now) }
+{
+    copy.insns = copy_insns(alloc, method.insns.as_slice())?;
+    copy.refs = copy_list(alloc, &method.refs)?;
+    copy.handlers = method.handlers.copy(alloc)?;
+    Ok(())
 }
 
 impl Copied for Handler {
@@ -127,21 +145,36 @@ pub fn copy_insn(alloc: Global, insn: &Insn) -> Result<Insn, NoMemory>
             other,
             low,
             targets,
-        } => Ok(Insn::Table {
-            other: *other,
-            low: *low,
-            targets: copy_targets(alloc, targets.as_slice())?,
-        }),
+        } => copy_table(alloc, *other, *low, targets.as_slice()),
         Insn::Lookup {
             other,
             keys,
             targets,
-        } => Ok(Insn::Lookup {
-            other: *other,
-            keys: copy_keys(alloc, keys.as_slice())?,
-            targets: copy_targets(alloc, targets.as_slice())?,
-        }),
+        } => copy_lookup(alloc, *other, keys.as_slice(), targets.as_slice()),
     }
+}
+
+fn copy_table(alloc: Global, other: u32, low: i32, targets: &[u32]) -> Result<Insn, NoMemory>
+    ensures { IfOk result (λ copy. copy ≡ Table other low targets.now) }
+{
+    let targets = copy_targets(alloc, targets)?;
+    Ok(Insn::Table {
+        other,
+        low,
+        targets,
+    })
+}
+
+fn copy_lookup(alloc: Global, other: u32, keys: &[i32], targets: &[u32]) -> Result<Insn, NoMemory>
+    ensures { IfOk result (λ copy. copy ≡ Lookup other keys.now targets.now) }
+{
+    let keys = copy_keys(alloc, keys)?;
+    let targets = copy_targets(alloc, targets)?;
+    Ok(Insn::Lookup {
+        other,
+        keys,
+        targets,
+    })
 }
 
 fn copy_targets(alloc: Global, targets: &[u32]) -> Result<BoxedList<u32>, NoMemory>
