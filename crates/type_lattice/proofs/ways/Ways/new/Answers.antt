@@ -1,5 +1,6 @@
-use Rattle.std.proofs.Common.{ℕ, List, length, Option, ap, ◌∙◌, arith}
-use Rattle.type_lattice.specs.Ways.{parents_of}
+use Rattle.std.proofs.Common.{◌≡◌, ℕ, List, length, Option, ap, sym, subst, inl, inr, ◌∙◌, arith}
+use Rattle.std.proofs.lemmas.Bool.{cases_lt}
+use Rattle.type_lattice.specs.Ways.{IsKnown, parents_of}
 use Rattle.type_lattice.proofs.Ascending.{unknown_parents, parents-length}
 use Rattle.type_lattice.proofs.Filling.{begun_unknown, all_known}
 use Rattle.type_lattice.proofs.ways.Ways.new.Goals as goal
@@ -10,6 +11,22 @@ loop-start-init c = record {
   of = ap parents_of c.in_ok-items.ensures ∙ unknown_parents c.args.parents.now;
   known = λ at less. absurd (omega arith);
 }
+
+pub loop-start-preserved : goal.loop-start-preserved
+loop-start-preserved c =
+    let start = c.loop-start.start in
+    let later = c.add_way.new.items.items in
+    record {
+      begun = c.in_ok-add_way.ensures.begun;
+      of = c.in_ok-add_way.ensures.of ∙ c.loop-start.invariant.of;
+      known = λ at less.
+          elim (cases_lt at start) [
+            | inl below ↦ c.in_ok-add_way.ensures.keeps at (c.loop-start.invariant.known at below)
+            | inr above ↦
+                let same : start ≡ at = omega (arith, less, above) in
+                subst (IsKnown later) same c.in_ok-add_way.ensures.adds
+          ];
+    }
 
 pub invariant_of-result : goal.invariant_of-result
 invariant_of-result c =
