@@ -1,6 +1,6 @@
 use Rattle.std.proofs.Common.{◌≡◌, ◌∙◌, ◌+◌, ◌++◌, ◌∷◌, [], Some, length, take, refl, sym, ap}
 use Rattle.std.specs.Prelude.{filter, slice_get}
-use Rattle.std.proofs.lemmas.List.{take_more}
+use Rattle.std.proofs.lemmas.List.{take_all, take_more}
 use Rattle.std.proofs.lemmas.Option.{slice_get_read}
 use Rattle.bytecode_model.specs.declared.program.Handler.{Handler}
 use Rattle.bytecode_model.specs.Rules.{covers}
@@ -24,3 +24,7 @@ loop-handler-preserved c =
           (c.in_ok-add_handler.ensures at) (before.listed at)
           ∙ ap (filter (covers at)) more;
     }
+
+pub returns : goal.returns
+returns c at =
+    c.loop-handler.invariant.listed at ∙ ap (filter (covers at)) (take_all c.loop-handler.handler-index c.args.table.now c.loop-handler-test.false)
