@@ -4,7 +4,7 @@
 ghost use Rattle.std.specs.Prelude.{◌≡◌, option_copied};
 ghost use Rattle.cert_format.specs.declared.typing.VType.TheVariants.{UninitThis, Uninit};
 ghost use Rattle.insn_codec.specs.Shapes.{shape_of};
-ghost use Rattle.bytecode_model.specs.Makes.{is_same_object, made_by, new_at};
+ghost use Rattle.bytecode_model.specs.Makes.{is_same_object, made_by, new_at, new_in};
 ghost use Rattle.bytecode_model.specs.InsnPlace.{target_or_none};
 ghost use Rattle.bytecode_model.specs.Rules.{has_object};
 
@@ -12,7 +12,7 @@ use crate::kinds::is_this;
 use crate::targets::class_of;
 use bytecode_model::{Method, Target};
 use cert_format::VType;
-use insn_codec::{Heap, Shape, shape_of};
+use insn_codec::{Heap, Insn, Shape, shape_of};
 
 fn made_by<'a>(shape: Shape, target: Option<&'a Target>) -> &'a [u8]
     ensures { result.now ≡ made_by shape (target_or_none (option_copied target.entry)) }
@@ -27,13 +27,26 @@ fn made_by<'a>(shape: Shape, target: Option<&'a Target>) -> &'a [u8]
 pub fn new_at<'a>(method: &'a Method, i: u32) -> &'a [u8]
     ensures { result.now ≡ new_at method.now i }
 {
-    let Some(insn) = method.insns.as_slice().get(i as usize) else {
-        return b"".as_slice();
-    };
-    let Some(target) = method.refs.as_slice().get(i as usize) else {
-        return b"".as_slice();
-    };
-    made_by(shape_of(insn), Some(target))
+    let at = i as usize;
+    new_in(
+        method.insns.as_slice().get(at),
+        method.refs.as_slice().get(at),
+    )
+}
+
+/// The class of the instruction with this target, if it is a `new`.
+fn new_in<'a>(insn: Option<&Insn>, target: Option<&'a Target>) -> &'a [u8]
+    ensures { result.now ≡ new_in (option_copied insn.entry) (option_copied target.entry) }
+{
+    match insn {
+        Some(insn) => {
+            match target {
+                Some(_) => made_by(shape_of(insn), target),
+                None => b"".as_slice(),
+            }
+        }
+        None => b"".as_slice(),
+    }
 }
 
 /// Whether the types are of one object that is not made yet.
