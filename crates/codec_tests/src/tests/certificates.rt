@@ -2,7 +2,7 @@
 
 use crate::bytes_of;
 use cert_format::{
-    CertForm, Certificate, FrameType, Mode, Name, Note, Phase8, Term, Typing, VType, decode, encode,
+    CertForm, Certificate, FrameType, Mode, Note, Phase8, Term, Typing, VType, decode, encode,
 };
 use mon_base::List;
 use std::alloc::{AllocError, Global};
@@ -115,52 +115,63 @@ fn known_certificates_both_ways(rt: HostRuntime) -> Result<(), Fail> {
     Ok(())
 }
 
-/// The certificate of the lines, for a policy of two variables.
-fn certificate_of(alloc: Global, lines: &[&str]) -> Result<Certificate, Fail> {
-    let bytes = bytes_of(alloc, lines)?;
-    match decode(alloc, &bytes, 2) {
-        Ok(certificate) => Ok(certificate),
-        Err(_) => Err("the bytes are a certificate".into()),
-    }
-}
-
 #[test]
 fn first_certificate(rt: HostRuntime) -> Result<(), Fail> {
-    let certificate = certificate_of(rt.alloc(), &FIRST)?;
-    assert!(rt; certificate.mode == Mode::Release);
-    assert!(rt; certificate.notes.len() == 2);
-    let local = VType::Ref(Name::from_slice(rt.alloc(), b"[Ljava/lang/String;".as_slice())?);
-    assert!(rt; has_one_local(&certificate.typing, &local));
+    let bytes = bytes_of(rt.alloc(), &FIRST)?;
+    assert!(rt; are_first(rt.alloc(), &bytes));
     Ok(())
 }
 
-/// Whether there are two classes, and each frame of the first has this in its first local.
-fn has_one_local(typing: &Typing, local: &VType) -> bool {
+/// Whether the bytes are the first certificate.
+fn are_first(alloc: Global, bytes: &[u8]) -> bool {
+    match decode(alloc, bytes, 2) {
+        Ok(certificate) => is_first(&certificate),
+        Err(_) => false,
+    }
+}
+
+/// Whether this is the first certificate.
+fn is_first(certificate: &Certificate) -> bool {
+    certificate.mode == Mode::Release
+        && certificate.notes.len() == 2
+        && has_one_local(&certificate.typing)
+}
+
+/// Whether there are two classes, and each frame of the first has an array of strings in its first local.
+fn has_one_local(typing: &Typing) -> bool {
     let Some(class) = typing.frames.as_slice().first() else {
         return false;
     };
     for method in class.as_slice() {
-        if !begin_with(method.as_slice(), local) {
+        if !begin_with_strings(method.as_slice()) {
             return false;
         }
     }
     typing.frames.len() == 2
 }
 
-/// Whether each frame is there, with this in its first local and no stack.
-fn begin_with(frames: &[Option<FrameType>], local: &VType) -> bool {
+/// Whether each frame is there, with an array of strings in its first local and no stack.
+fn begin_with_strings(frames: &[Option<FrameType>]) -> bool {
     for frame in frames {
-        if !begins_with(frame, local) {
+        if !begins_with_strings(frame) {
             return false;
         }
     }
     true
 }
 
-fn begins_with(frame: &Option<FrameType>, local: &VType) -> bool {
+fn begins_with_strings(frame: &Option<FrameType>) -> bool {
     match frame {
-        Some(frame) => frame.locals.as_slice().first() == Some(local) && frame.stack.is_empty(),
+        Some(frame) => are_strings(frame.locals.as_slice().first()) && frame.stack.is_empty(),
         None => false,
+    }
+}
+
+/// Whether this is there, and is the type of an array of strings.
+fn are_strings(local: Option<&VType>) -> bool {
+    match local {
+        Some(VType::Ref(name)) => name.as_slice() == b"[Ljava/lang/String;".as_slice(),
+        _ => false,
     }
 }
 
@@ -198,10 +209,22 @@ fn is_known(note: &Note) -> bool {
 
 #[test]
 fn notes_of_each_kind(rt: HostRuntime) -> Result<(), Fail> {
-    let certificate = certificate_of(rt.alloc(), &WIDE)?;
-    assert!(rt; certificate.mode == Mode::Hold);
-    assert!(rt; begin_with_known_ones(certificate.notes.as_slice()));
+    let bytes = bytes_of(rt.alloc(), &WIDE)?;
+    assert!(rt; are_wide(rt.alloc(), &bytes));
     Ok(())
+}
+
+/// Whether the bytes are the certificate of each type, note and term.
+fn are_wide(alloc: Global, bytes: &[u8]) -> bool {
+    match decode(alloc, bytes, 2) {
+        Ok(certificate) => is_wide(&certificate),
+        Err(_) => false,
+    }
+}
+
+/// Whether this is the certificate of each type, note and term.
+fn is_wide(certificate: &Certificate) -> bool {
+    certificate.mode == Mode::Hold && begin_with_known_ones(certificate.notes.as_slice())
 }
 
 /// Whether the first method of the first class has eight notes, which are those that were spelled.

@@ -159,24 +159,30 @@ fn known_files_both_ways(rt: HostRuntime) -> Result<(), Fail> {
     Ok(())
 }
 
-/// The class file of the lines.
-fn file_of(alloc: Global, lines: &[&str]) -> Result<ClassFile, Fail> {
-    let bytes = bytes_of(alloc, lines)?;
-    match decode(alloc, &bytes) {
-        Ok(file) => Ok(file),
-        Err(_) => Err("the bytes are a class file".into()),
+#[test]
+fn small_file(rt: HostRuntime) -> Result<(), Fail> {
+    let bytes = bytes_of(rt.alloc(), &SMALL)?;
+    assert!(rt; are_small(rt.alloc(), &bytes));
+    Ok(())
+}
+
+/// Whether the bytes are the small file.
+fn are_small(alloc: Global, bytes: &[u8]) -> bool {
+    match decode(alloc, bytes) {
+        Ok(file) => is_small(&file),
+        Err(_) => false,
     }
 }
 
-#[test]
-fn small_file(rt: HostRuntime) -> Result<(), Fail> {
-    let file = file_of(rt.alloc(), &SMALL)?;
-    assert!(rt; file.minor == 0 && file.flags == 0x21);
-    assert!(rt; file.this_class == 2 && file.super_class == 4);
-    assert!(rt; file.methods.len() == 1);
-    assert!(rt; is_named(file.pool.as_slice(), file.this_class));
-    assert!(rt; are_main(file.methods.as_slice()));
-    Ok(())
+/// Whether this is the small file.
+fn is_small(file: &ClassFile) -> bool {
+    file.minor == 0
+        && file.flags == 0x21
+        && file.this_class == 2
+        && file.super_class == 4
+        && file.methods.len() == 1
+        && is_named(file.pool.as_slice(), file.this_class)
+        && are_main(file.methods.as_slice())
 }
 
 /// Whether this is the class in the pool of the small file.
@@ -222,12 +228,25 @@ fn is_code(attribute: &Attr) -> bool {
 
 #[test]
 fn constants_of_each_kind(rt: HostRuntime) -> Result<(), Fail> {
-    let file = file_of(rt.alloc(), &WIDE)?;
-    assert!(rt; file.pool.len() == 15);
-    assert!(rt; are_of_each_kind(file.pool.as_slice()));
-    assert!(rt; refers_to_a_field(file.pool.as_slice()));
-    assert!(rt; reference_at(file.pool.as_slice(), 11).is_none());
+    let bytes = bytes_of(rt.alloc(), &WIDE)?;
+    assert!(rt; are_wide(rt.alloc(), &bytes));
     Ok(())
+}
+
+/// Whether the bytes are the wide class.
+fn are_wide(alloc: Global, bytes: &[u8]) -> bool {
+    match decode(alloc, bytes) {
+        Ok(file) => is_wide(file.pool.as_slice()),
+        Err(_) => false,
+    }
+}
+
+/// Whether this is the pool of the wide class.
+fn is_wide(pool: &[Const]) -> bool {
+    pool.len() == 15
+        && are_of_each_kind(pool)
+        && refers_to_a_field(pool)
+        && reference_at(pool, 11).is_none()
 }
 
 /// Whether each constant is the one of its place in the wide class.
