@@ -1,3 +1,4 @@
+pub mod Variables
 pub mod Folding
 pub mod FirstCode
 pub mod Sites
