@@ -11,3 +11,4 @@ mod Asks
 mod Runs
 mod Standing
 mod Initialisers
+mod Writing

@@ -1,6 +1,7 @@
 pub mod Turns
 pub mod Built
 pub mod InFrame
+pub mod Writing
 pub mod Start
 pub mod Ending
 pub mod Fitting
