@@ -212,16 +212,20 @@ fn granted_row<'a>(
 ) -> Option<RowRef<'a>>
     ensures { option_map row_lent result ≡ granted_row rules.now site locked count top shape target.now }
 {
-    if !top && loads_next(rules.policy, site, count, shape) {
+    if top {
+        return if locked && leaves(shape) {
+            granted(site, false, usize::from(count), false)
+        } else {
+            None
+        };
+    }
+    if loads_next(rules.policy, site, count, shape) {
         return granted(site, locked, usize::from(count) + 1, false);
     }
-    if locked && !top && pushes_state(shape, target) {
+    if locked && pushes_state(shape, target) {
         return granted(site, locked, usize::from(count), true);
     }
-    if locked && top && leaves(shape) {
-        return granted(site, false, usize::from(count), false);
-    }
-    if !top && is_ready(rules, site, locked, count) && calls_of(site, shape, target) {
+    if is_ready(rules, site, locked, count) && calls_of(site, shape, target) {
         return Some(RowRef::Calls {
             past: returned(rules, site),
             thrown: thrown(rules, site),
