@@ -20,7 +20,7 @@ use Rattle.class_codec.specs.Spelling as spelling
 use Rattle.mon_base.specs.Widths.{IsU2, IsU4, u2, u4}
 use Rattle.class_codec.specs.Fits.{IsIndex, FitsBlock, FitCounted, FitsTableEntry, FitsOther, FitsAttr, FitsMember, is_read_as_code}
 use Rattle.class_codec.specs.Reading.{other_at, caught_at, table_entry_at, code_len_at, instructions_at, contents_at, code_at, named_at, attribute_at, member_at}
-use Rattle.class_codec.proofs.Numbers.{u2_is, u4_is, rest_is, block_is, index_is, counted_is, both_is}
+use Rattle.class_codec.proofs.Numbers.{u2_is, u4_is, rest_is, block_is, index_is, counted_is}
 
 pub other_is : (pool : List Const) → IsReader (other_at pool) spelling.other (FitsOther pool)
 unfolding other_at
@@ -84,11 +84,12 @@ unfolding contents_at
 contents_is pool name = said (then {known = λ c. c.name ≡ name} _ u2_is (λ c. c.max_stack) (λ c k. tt)
     (λ stack k. then _ u2_is (λ c. c.max_locals) (λ c k. tt)
     (λ locals k. then _ instructions_is (λ c. c.code) (λ c k. tt)
-    (λ code k. wrapped {A = Code}
-    (λ lists. record { name = name; max_stack = stack; max_locals = locals; code = code; table = lists.0; attrs = lists.1 })
-    (both_is (counted_is (table_entry_is pool)) (counted_is (other_is pool)))
-    (λ lists f k. (refl, f, (((refl, refl), refl), refl)))
-    (λ c f k. ((c.table, c.attrs), rw (← k.0.0.0, ← k.0.0.1, ← k.0.1, ← k.1) refl, f, tt))))))
+    (λ code k. then _ (counted_is (table_entry_is pool)) (λ c. c.table) (λ c k. tt)
+    (λ table k. wrapped {A = Code}
+    (λ attrs. record { name = name; max_stack = stack; max_locals = locals; code = code; table = table; attrs = attrs })
+    (counted_is (other_is pool))
+    (λ attrs f k. (refl, f, ((((refl, refl), refl), refl), refl)))
+    (λ c f k. (c.attrs, rw (← k.0.0.0.0, ← k.0.0.0.1, ← k.0.0.1, ← k.0.1, ← k.1) refl, f, tt)))))))
     (λ c f k. (record { max_stack = f.0; max_locals = f.1.0; some = f.1.1.0.0; short = f.1.1.0.1; table = f.1.1.1.0; attrs = f.1.1.1.1 }, k))
     (λ c f k. ((f.max_stack, (f.max_locals, ((f.some, f.short), (f.table, f.attrs)))), k))
 

@@ -1,11 +1,11 @@
 -- Class files are read exactly as they are spelled.
-use Rattle.std.proofs.Common.{◌≡◌, ℕ, ◌<◌, ◌≤◌, true, false, List, [], ◌∷◌, ◌++◌, length, Result, Ok, Err, refl, sym, ap, subst, ◌∙◌, append_assoc, arith}
+use Rattle.std.proofs.Common.{◌≡◌, ℕ, ◌<◌, ◌≤◌, true, false, List, [], ◌∷◌, ◌++◌, length, Result, Ok, Err, refl, sym, ap, subst, ◌∙◌, arith}
 use Rattle.std.specs.Prelude.{◌==◌, nat_le, IfOk}
 use Rattle.std.proofs.lemmas.Bool.{false≢true}
 use Rattle.std.proofs.lemmas.Bool.Decides.{nat_tests}
 use Rattle.mon_base.specs.Reading.{IsBytes, ◌>>=◌, need, whole}
 use Rattle.mon_base.specs.Answer.{Answers}
-use Rattle.mon_base.proofs.Reading.{need_ok, ok_is, IsTail, IsReader, then, then_same, done, said, spelled_where, whole_takes, whole_again}
+use Rattle.mon_base.proofs.Reading.{need_ok, ok_is, IsTail, IsReader, then, then_same, done, said, whole_takes, whole_again}
 use Rattle.mon_base.proofs.Readers.{wrapped}
 use Rattle.class_codec.specs.declared.fault.ClassFault.{ClassFault}
 use Rattle.class_codec.specs.declared.fault.ClassFault.TheVariants.{Magic, Version, Tail, TooLong, Memory}
@@ -17,7 +17,7 @@ use Rattle.class_codec.specs.Spelling as spelling
 use Rattle.mon_base.specs.Widths.{IsU2, u2, u4}
 use Rattle.class_codec.specs.Fits.{IsIndex, FitCounted, FitsAttr, FitsMember, CanSpell, SpellsClass}
 use Rattle.class_codec.specs.Reading.{u2_at, head_at, body_at, file_at, class_of}
-use Rattle.class_codec.proofs.Numbers.{u2_is, u4_is, index_is, counted_is, both_is}
+use Rattle.class_codec.proofs.Numbers.{u2_is, u4_is, index_is, counted_is}
 use Rattle.class_codec.proofs.PoolLaws.{IsPool, pool_is, whole_pool, pool_whole}
 use Rattle.class_codec.proofs.AttributeLaws.{attribute_is, member_is}
 
@@ -44,30 +44,22 @@ record FitsBody (pool : List Const) (f : ClassFile) : Type 0 where
   methods : FitCounted (FitsMember pool true) f.methods
   attrs : FitCounted (FitsAttr pool false) f.attrs
 
--- the lists by twos, as they are read
-abbrev by_twos : ClassFile → List ℕ
-by_twos f = (spelling.with_count u2 f.interfaces ++ spelling.with_count spelling.member f.fields)
-    ++ (spelling.with_count spelling.member f.methods ++ spelling.with_count spelling.attribute f.attrs)
-
-by_twos_is : (f : ClassFile) → u2 f.flags ++ (u2 f.this_class ++ (u2 f.super_class ++ by_twos f)) ≡ spelling.body f
-by_twos_is f = ap (λ (lists : List ℕ). u2 f.flags ++ (u2 f.this_class ++ (u2 f.super_class ++ lists)))
-    (append_assoc (spelling.with_count u2 f.interfaces) (spelling.with_count spelling.member f.fields) (spelling.with_count spelling.member f.methods ++ spelling.with_count spelling.attribute f.attrs))
-
 body_is : (minor : ℕ) (pool : List Const)
     → IsTail (body_at minor pool) spelling.body (FitsBody pool) (λ f. (Unit {0} × (f.minor ≡ minor)) × (f.pool ≡ pool))
 unfolding body_at
-body_is minor pool = spelled_where {spell = λ f. u2 f.flags ++ (u2 f.this_class ++ (u2 f.super_class ++ by_twos f))} (said (then {known = λ f. (Unit {0} × (f.minor ≡ minor)) × (f.pool ≡ pool)} _ u2_is (λ f. f.flags) (λ f k. tt)
+body_is minor pool = said (then {known = λ f. (Unit {0} × (f.minor ≡ minor)) × (f.pool ≡ pool)} _ u2_is (λ f. f.flags) (λ f k. tt)
     (λ flags k. then _ (index_is kinds.Class pool) (λ f. f.this_class) (λ f k. tt)
     (λ this k. then _ (index_is kinds.Class pool) (λ f. f.super_class) (λ f k. tt)
-    (λ super k. then _ (both_is (counted_is (index_is kinds.Class pool)) (counted_is (member_is pool false))) (λ f. (f.interfaces, f.fields)) (λ f k. tt)
-    (λ first k. wrapped {A = ClassFile}
-    (λ second. record { minor = minor; pool = pool; flags = flags; this_class = this; super_class = super; interfaces = first.0; fields = first.1; methods = second.0; attrs = second.1 })
-    (both_is (counted_is (member_is pool true)) (counted_is (attribute_is pool false)))
-    (λ second f k. (refl, f, ((((((tt, refl), refl), refl), refl), refl), refl)))
-    (λ f h k. ((f.methods, f.attrs), rw (← k.0.0.0.0.0.1, ← k.0.0.0.0.1, ← k.0.0.0.1, ← k.0.0.1, ← k.0.1, ← k.1) refl, h, tt)))))))
-    (λ f h k. (record { flags = h.0; this_class = h.1.0; super_class = h.1.1.0; interfaces = h.1.1.1.0.0; fields = h.1.1.1.0.1; methods = h.1.1.1.1.0; attrs = h.1.1.1.1.1 }, k))
-    (λ f h k. ((h.flags, (h.this_class, (h.super_class, ((h.interfaces, h.fields), (h.methods, h.attrs))))), k)))
-    (λ f h k. by_twos_is f)
+    (λ super k. then _ (counted_is (index_is kinds.Class pool)) (λ f. f.interfaces) (λ f k. tt)
+    (λ interfaces k. then _ (counted_is (member_is pool false)) (λ f. f.fields) (λ f k. tt)
+    (λ fields k. then _ (counted_is (member_is pool true)) (λ f. f.methods) (λ f k. tt)
+    (λ methods k. wrapped {A = ClassFile}
+    (λ attrs. record { minor = minor; pool = pool; flags = flags; this_class = this; super_class = super; interfaces = interfaces; fields = fields; methods = methods; attrs = attrs })
+    (counted_is (attribute_is pool false))
+    (λ attrs f k. (refl, f, ((((((((tt, refl), refl), refl), refl), refl), refl), refl), refl)))
+    (λ f h k. (f.attrs, rw (← k.0.0.0.0.0.0.0.1, ← k.0.0.0.0.0.0.1, ← k.0.0.0.0.0.1, ← k.0.0.0.0.1, ← k.0.0.0.1, ← k.0.0.1, ← k.0.1, ← k.1) refl, h, tt)))))))))
+    (λ f h k. (record { flags = h.0; this_class = h.1.0; super_class = h.1.1.0; interfaces = h.1.1.1.0; fields = h.1.1.1.1.0; methods = h.1.1.1.1.1.0; attrs = h.1.1.1.1.1.1 }, k))
+    (λ f h k. ((h.flags, (h.this_class, (h.super_class, (h.interfaces, (h.fields, (h.methods, h.attrs)))))), k))
 
 -- ---- the file
 

@@ -1,8 +1,8 @@
 -- Numbers, byte strings and indices are read exactly as they are spelled.
-use Rattle.std.proofs.Common.{◌≡◌, ℕ, ◌<◌, true, List, ◌++◌, length}
+use Rattle.std.proofs.Common.{◌≡◌, ℕ, ◌<◌, true, List, length}
 use Rattle.mon_base.specs.Reading.{Place, need}
 use Rattle.mon_base.proofs.Reading.{IsTail, IsReader, need_holds, holds_need, then, said, last, items, number_is, bytes_is, text_is, one, two, four, eight}
-use Rattle.mon_base.proofs.Readers.{checked, pair_is}
+use Rattle.mon_base.proofs.Readers.{checked}
 use Rattle.class_codec.specs.declared.fault.ClassFault.TheVariants.{Short, Index}
 use Rattle.class_codec.specs.declared.pool.ConstKind.{ConstKind}
 use Rattle.class_codec.specs.declared.tree.Const.{Const}
@@ -10,7 +10,7 @@ use Rattle.class_codec.specs.Pool.{names}
 use Rattle.class_codec.specs.Spelling as spelling
 use Rattle.mon_base.specs.Widths.{IsU2, IsU4, IsU8, u1, u2, u4, u8}
 use Rattle.class_codec.specs.Fits.{IsIndex, FitsBlock, FitCounted}
-use Rattle.class_codec.specs.Reading.{Read, u1_at, u2_at, u4_at, u8_at, taken_at, block_at, index_at, counted_at, both_at}
+use Rattle.class_codec.specs.Reading.{Read, u1_at, u2_at, u4_at, u8_at, taken_at, block_at, index_at, counted_at}
 
 pub u1_is : IsReader u1_at u1 (λ n. n < 256)
 unfolding u1_at
@@ -55,10 +55,3 @@ unfolding counted_at
 counted_is is = said (then {known = λ _. Unit {0}} _ u2_is length (λ a k. tt) (λ n k. last (items is n)))
     (λ a f k. (record { count = f.0; each = f.1 }, tt))
     (λ a f k. ((f.count, f.each), tt))
-
--- one after the other
-pub both_is : {A B : Type 0} {first : Place → Read A} {second : Place → Read B} {spell_a : A → List ℕ} {spell_b : B → List ℕ} {Fits_a : A → Type 0} {Fits_b : B → Type 0}
-    → IsReader first spell_a Fits_a → IsReader second spell_b Fits_b
-    → IsReader (both_at first second) (λ x. spell_a x.0 ++ spell_b x.1) (λ x. Fits_a x.0 × Fits_b x.1)
-unfolding both_at
-both_is first_is second_is = pair_is first_is second_is

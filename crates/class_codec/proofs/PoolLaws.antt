@@ -9,7 +9,7 @@ use Rattle.std.proofs.lemmas.Int.{of_z-to_z, to_z-of_z}
 use Rattle.std.proofs.lemmas.List.{length-append}
 use Rattle.mon_base.specs.Reading.{Place, IsBytes, ◌>>=◌}
 use Rattle.mon_base.proofs.Reading.{bind_ok, ok_is, need_holds, holds_need, after, Took, Took-then, IsTail, IsReader, then_from, then, said, last, done, guard, choose, refuse, spelled_where}
-use Rattle.mon_base.proofs.Readers.{checked, wrapped, signed_fits, unsigned_fits}
+use Rattle.mon_base.proofs.Readers.{checked, wrapped, pair_is, signed_fits, unsigned_fits}
 use Rattle.class_codec.specs.declared.fault.ClassFault.{ClassFault}
 use Rattle.class_codec.specs.declared.fault.ClassFault.TheVariants.{Index, Tag}
 use Rattle.class_codec.specs.declared.pool.ConstKind.{ConstKind}
@@ -21,7 +21,7 @@ use Rattle.class_codec.specs.Spelling as spelling
 use Rattle.mon_base.specs.Widths.{IsU2, IsU8, u1, u2, u4, u8}
 use Rattle.class_codec.specs.Fits.{IsTextByte, FitsConst, is_second, takes_two, HasSeconds, IsNamed, FitsPool}
 use Rattle.class_codec.specs.Reading.{Read, u2_at, u4_at, is_no_text_byte, text_checked, text_at, pair_at, wide_at, of_pair, payload_at, constant_at, place_at, places_at, index_checked, pair_checked, constant_checked, all_checked, pool_at}
-use Rattle.class_codec.proofs.Numbers.{u1_is, u2_is, u4_is, u8_is, rest_is, both_is}
+use Rattle.class_codec.proofs.Numbers.{u1_is, u2_is, u4_is, u8_is, rest_is}
 
 -- ---- texts
 
@@ -95,7 +95,7 @@ text_is = said (then {Fits = λ bytes. Unit {0} × AllByRecursion IsTextByte byt
 
 indices_are : IsReader pair_at (λ x. u2 x.0 ++ u2 x.1) (λ x. IsU2 x.0 × IsU2 x.1)
 unfolding pair_at
-indices_are = both_is u2_is u2_is
+indices_are = pair_is u2_is u2_is
 
 wide_is : (at left : ℕ) → IsReader (wide_at at left) u8 (λ n. (0 < left) × IsU8 n)
 unfolding wide_at

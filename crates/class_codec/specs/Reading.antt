@@ -2,7 +2,7 @@
 -- (The Java Virtual Machine Specification, chapter 4)
 use Rattle.std.specs.Prelude.{ℕ, zero, suc, ◌+◌, ◌==◌, ◌||◌, ◌&&◌, Bool, true, false, List, [], ◌∷◌, length, position, Option, Some, None, ok_or, Result, Ok, Err, nat_lt, nat_le, if◌then◌else◌}
 use Rattle.std.specs.Int.{w32, w64, cast_signed}
-use Rattle.mon_base.specs.Reading.{Place, part, bytes_at, number_at, ◌>>=◌, need, counted}
+use Rattle.mon_base.specs.Reading.{Place, part, bytes_at, number_at, ◌>>=◌, need, counted, whole}
 use Rattle.class_codec.specs.declared.fault.ClassFault.{ClassFault}
 use Rattle.class_codec.specs.declared.fault.ClassFault.TheVariants.{Magic, Version, Short, Tail, Tag, Index, TooLong}
 use Rattle.class_codec.specs.declared.pool.ConstKind.{ConstKind}
@@ -57,13 +57,6 @@ counted_at item p = do
   count ← u2_at p
   counted item count.0 count.1
 
--- one after the other
-unfoldable pub both_at : {X Y : Type 0} → (Place → Read X) → (Place → Read Y) → Place → Read (X × Y)
-both_at one other p = do
-  first ← one p
-  second ← other first.1
-  Ok ((first.0, second.0), second.1)
-
 -- ---- the constant pool
 
 abbrev pub is_no_text_byte : ℕ → Bool
@@ -82,7 +75,10 @@ text_at p = do
   Ok text
 
 unfoldable pub pair_at : Place → Read (ℕ × ℕ)
-pair_at p = both_at u2_at u2_at p
+pair_at p = do
+  first ← u2_at p
+  second ← u2_at first.1
+  Ok ((first.0, second.0), second.1)
 
 -- the eight bytes of a constant that begins at `at` and takes two places, with `left` places after its first
 unfoldable pub wide_at : ℕ → ℕ → Place → Read ℕ
@@ -200,8 +196,9 @@ contents_at pool name p = do
   stack ← u2_at p
   locals ← u2_at stack.1
   code ← instructions_at locals.1
-  lists ← both_at (counted_at (table_entry_at pool)) (counted_at (other_at pool)) code.1
-  Ok (record { name = name; max_stack = stack.0; max_locals = locals.0; code = code.0; table = lists.0.0; attrs = lists.0.1 }, lists.1)
+  table ← counted_at (table_entry_at pool) code.1
+  attrs ← counted_at (other_at pool) table.1
+  Ok (record { name = name; max_stack = stack.0; max_locals = locals.0; code = code.0; table = table.0; attrs = attrs.0 }, attrs.1)
 
 -- Code with this name, after the name: its contents end exactly at its length. Where the file ends before, they are
 -- read as far as it goes.
@@ -253,8 +250,10 @@ body_at minor pool p = do
   flags ← u2_at p
   this_class ← index_at kinds.Class pool flags.1
   super_class ← index_at kinds.Class pool this_class.1
-  first ← both_at (counted_at (index_at kinds.Class pool)) (counted_at (member_at pool false)) super_class.1
-  second ← both_at (counted_at (member_at pool true)) (counted_at (attribute_at pool false)) first.1
+  interfaces ← counted_at (index_at kinds.Class pool) super_class.1
+  fields ← counted_at (member_at pool false) interfaces.1
+  methods ← counted_at (member_at pool true) fields.1
+  attrs ← counted_at (attribute_at pool false) methods.1
   Ok (
     record {
       minor = minor;
@@ -262,12 +261,12 @@ body_at minor pool p = do
       flags = flags.0;
       this_class = this_class.0;
       super_class = super_class.0;
-      interfaces = first.0.0;
-      fields = first.0.1;
-      methods = second.0.0;
-      attrs = second.0.1;
+      interfaces = interfaces.0;
+      fields = fields.0;
+      methods = methods.0;
+      attrs = attrs.0;
     },
-    second.1,
+    attrs.1,
   )
 
 unfoldable pub file_at : Place → Read ClassFile
@@ -276,15 +275,8 @@ file_at p = do
   pool ← pool_at minor.1
   body_at minor.0 pool.0 pool.1
 
--- what was read up to a place, if nothing is left there
-abbrev pub up_to_end : {X : Type 0} → Place → X → Result X ClassFault
-up_to_end p read = do
-  end ← need (length p.rest == 0) (Tail p.at)
-  Ok read
-
 -- All the bytes are read, if they are no more than 1,048,576.
 unfoldable pub class_of : List ℕ → Result ClassFile ClassFault
 class_of bytes = do
   short ← need (nat_le (length bytes) 1048576) (TooLong (length bytes))
-  file ← file_at (record { at = 0; rest = bytes })
-  up_to_end file.1 file.0
+  whole file_at (λ p. Tail p.at) bytes

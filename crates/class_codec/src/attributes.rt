@@ -7,7 +7,7 @@ ghost use Rattle.class_codec.specs.Reading.{instructions_at, contents_at, code_a
 ghost use Rattle.class_codec.specs.declared.pool.ConstKind.TheVariants as kinds;
 
 use crate::fault::ClassFault;
-use crate::items::{Item, counted, two_lists};
+use crate::items::{Item, counted};
 use crate::place::{block, index, taken, u2, u4};
 use crate::pool::{ConstKind, names, names_code};
 use crate::tree::{Attr, Code, Const, Member, Other, TableEntry};
@@ -148,7 +148,8 @@ fn contents(alloc: Global, pool: &[Const], name: u16, from: &mut Cursor) -> Resu
     let max_stack = u2(from)?;
     let max_locals = u2(from)?;
     let code = Bytes::from_slice(alloc, instructions(from)?)?;
-    let (table, attrs) = two_lists(alloc, pool, false, from)?;
+    let table = counted(alloc, pool, false, from)?;
+    let attrs = counted(alloc, pool, false, from)?;
     Ok(Code {
         name,
         max_stack,

@@ -50,7 +50,7 @@ fn first_wrong(text: &[u8]) -> Option<usize>
 }
 
 /// Two indices.
-#[tactic(auto, unfolding(crate::specs::Reading::pair_at, crate::specs::Reading::both_at))]
+#[tactic(auto, unfolding(crate::specs::Reading::pair_at))]
 fn pair(from: &mut Cursor) -> Result<(u16, u16), ClassFault>
     ensures reads { Reads ClassFault.Memory result (pair_at from.old) from.new }
     ensures moves { OnOk result (from.new.at ≡ from.old.at + 4) }

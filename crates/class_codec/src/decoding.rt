@@ -4,11 +4,11 @@ ghost use Rattle.std.specs.Prelude.{◌≡◌, ◌<◌, ◌≤◌, length, Ok, E
 ghost use Rattle.class_codec.specs.declared.fault.ClassFault.TheVariants.{TooLong};
 ghost use Rattle.class_codec.specs.Fits.{SpellsClass};
 ghost use Rattle.mon_base.specs.Answer.{Reads, Answers};
-ghost use Rattle.class_codec.specs.Reading.{head_at, body_at, file_at, up_to_end, class_of};
+ghost use Rattle.class_codec.specs.Reading.{head_at, body_at, file_at, class_of};
 
 use crate::constants::pool;
 use crate::fault::ClassFault;
-use crate::items::two_lists;
+use crate::items::counted;
 use crate::place::{index, u2, u4};
 use crate::pool::ConstKind;
 use crate::tree::{ClassFile, Const};
@@ -49,8 +49,10 @@ fn body(
     let flags = u2(from)?;
     let this_class = index(ConstKind::Class, places, from)?;
     let super_class = index(ConstKind::Class, places, from)?;
-    let (interfaces, fields) = two_lists(alloc, places, false, from)?;
-    let (methods, attrs) = two_lists(alloc, places, true, from)?;
+    let interfaces = counted(alloc, places, false, from)?;
+    let fields = counted(alloc, places, false, from)?;
+    let methods = counted(alloc, places, true, from)?;
+    let attrs = counted(alloc, places, false, from)?;
     Ok(ClassFile {
         minor,
         pool,
@@ -86,19 +88,12 @@ fn all(alloc: Global, bytes: &[u8]) -> Result<ClassFile, ClassFault>
     }
     let mut from = Cursor::new(bytes);
     let file = class_file(alloc, &mut from)?;
-    up_to_end(file, &from)
-}
-
-/// What was read, if no byte is left.
-fn up_to_end<T: Drop>(item: T, from: &Cursor) -> Result<T, ClassFault>
-    ensures { Answers ClassFault.Memory result (up_to_end from.now item) }
-{
     if !from.is_at_end() {
         return Err(ClassFault::Tail {
             at: from.position(),
         });
     }
-    Ok(item)
+    Ok(file)
 }
 
 /// The class file that the bytes are. The faults are those of [`ClassFault`], the first in the order of reading.

@@ -1,9 +1,9 @@
 //! Items that are counted: two bytes of count, and the items.
 
-ghost use Rattle.std.specs.Prelude.{◌≡◌, [], false};
+ghost use Rattle.std.specs.Prelude.{◌≡◌, []};
 ghost use Rattle.mon_base.specs.Reading.{counted};
 ghost use Rattle.mon_base.specs.Answer.{Reads, ReadsAs};
-ghost use Rattle.class_codec.specs.Reading.{both_at, counted_at};
+ghost use Rattle.class_codec.specs.Reading.{counted_at};
 
 use crate::fault::ClassFault;
 use crate::place::u2;
@@ -45,22 +45,6 @@ pub fn counted<T: Item>(
     let count = u2(from)?;
     let items = several(alloc, pool, of_method, count, from)?;
     Ok(List::from_vec(items))
-}
-
-/// Two lists, one after the other. A method has the items of the first, if `of_method` says so, and none of the second.
-#[tactic(auto, unfolding(crate::specs::Reading::both_at))]
-pub fn two_lists<T: Item, U: Item>(
-    alloc: Global,
-    pool: &[Const],
-    of_method: bool,
-    from: &mut Cursor,
-) -> Result<(List<T>, List<U>), ClassFault>
-    ensures { Reads ClassFault.Memory result
-        (both_at (counted_at (T.item_at pool.now of_method)) (counted_at (U.item_at pool.now false)) from.old) from.new }
-{
-    let first = counted(alloc, pool, of_method, from)?;
-    let second = counted(alloc, pool, false, from)?;
-    Ok((first, second))
 }
 
 /// Reads that many items onto the list, which has none.

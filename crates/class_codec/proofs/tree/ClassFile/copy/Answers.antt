@@ -1,4 +1,4 @@
-use Rattle.std.proofs.Common.{rules, refl}
+use Rattle.std.proofs.Common.{refl}
 use Rattle.class_codec.proofs.tree.ClassFile.copy.Goals as goal
 
 pub returns : goal.returns
