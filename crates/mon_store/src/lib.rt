@@ -24,6 +24,3 @@ pub use outputs::{Output, WriteFault, write_all};
 pub use read::{ReadFault, read_file};
 pub use sink::{Sink, SinkFault};
 pub use store::{Store, StoreFault};
-
-#[cfg(test)]
-mod tests;

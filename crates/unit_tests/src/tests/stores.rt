@@ -1,10 +1,10 @@
 //! One use of each public call, and a store that fails at each of its calls in turn.
 
-use crate::{
+use mon_base::{Bytes, List, NoMemory};
+use mon_store::{
     DirStore, MemSink, MemStore, OutSink, Output, ReadFault, Sink, SinkFault, Store, StoreFault,
     WriteFault, names_differ, read_file, write_all,
 };
-use mon_base::{Bytes, List, NoMemory};
 use std::alloc::Global;
 use std::process::Abort;
 use std::test::Fail;

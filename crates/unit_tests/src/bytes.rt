@@ -2,7 +2,7 @@
 
 ghost use Rattle.std.specs.Prelude.{◌≡◌, ◌++◌, ◌<◌, IfOk, OnOk};
 ghost use Rattle.std.specs.List.{flat_map};
-ghost use Rattle.codec_tests.specs.Digits.{digit, spelled};
+ghost use Rattle.unit_tests.specs.Digits.{digit, spelled};
 
 use std::alloc::{AllocError, Global};
 

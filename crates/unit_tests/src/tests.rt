@@ -5,3 +5,4 @@ mod class_files;
 mod instructions;
 mod listings;
 mod records;
+mod stores;

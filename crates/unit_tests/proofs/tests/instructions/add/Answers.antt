@@ -1,7 +1,7 @@
 use Rattle.std.proofs.Common.{◌+◌, sym, refl}
 use Rattle.insn_codec.specs.Spelling.{size, len_from}
 use Rattle.insn_codec.proofs.Sequence.{len_on}
-use Rattle.codec_tests.proofs.tests.instructions.add.Goals as goal
+use Rattle.unit_tests.proofs.tests.instructions.add.Goals as goal
 
 pub returns-clause-len : goal.returns-clause-len
 returns-clause-len c =

@@ -1,6 +1,6 @@
 use Rattle.std.proofs.Common.{◌≡◌, ◌++◌, length}
-use Rattle.codec_tests.specs.Digits.{spelled}
-use Rattle.codec_tests.proofs.bytes.push_line.Given as goal
+use Rattle.unit_tests.specs.Digits.{spelled}
+use Rattle.unit_tests.proofs.bytes.push_line.Given as goal
 
 abbrev pub invariant-loop-left : goal.invariant-loop-left
 invariant-loop-left l = l.bytes.items ++ spelled l.left ≡ l.fn.bytes.items ++ spelled l.line
