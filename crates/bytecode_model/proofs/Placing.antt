@@ -1,10 +1,8 @@
 -- Places of names in a map: of each name the first counts.
-use Rattle.std.proofs.Common.{◌≡◌, ℕ, ◌+◌, Bool, true, false, cond, List, [], ◌∷◌, Option, Some, None, refl, sym, ap, ◌∙◌, ◌||◌, ◌++◌, ◌<◌, ◌≤◌, length, get_or, arith, add-one}
-use denote.Ref.{Bor}
-use Rattle.std.specs.Prelude.{bytes_eq, find, MatchOption, IfSome, Vec}
-use Rattle.std.proofs.lemmas.Option.{slice_get_past, slice_get_read}
-use Rattle.std.specs.List.{position_from, list_any, slice_get, HoldsAt}
-use Rattle.std.specs.Option.{option_or, option_map, is_some, option_and_then, option_copied}
+use Rattle.std.proofs.Common.{◌≡◌, ℕ, ◌+◌, Bool, true, false, cond, List, [], ◌∷◌, Option, Some, None, refl, sym, ap, ◌∙◌, ◌||◌, ◌++◌, length, arith, add-one}
+use Rattle.std.specs.Prelude.{bytes_eq, find, Vec}
+use Rattle.std.specs.List.{position_from, list_any, slice_get}
+use Rattle.std.specs.Option.{option_or, option_map, is_some, option_and_then}
 use Rattle.std.specs.BTreeMap.{BTreeMap}
 use Rattle.std.specs.Global.{Global}
 use Rattle.std.proofs.lemmas.Bool.{false≢true}
@@ -64,11 +62,6 @@ find_at test (x ∷ xs) = by (test x) (find_at test xs ∙ sym (at_front x xs (p
   by : (b : Bool) → find test xs ≡ option_and_then (slice_get (x ∷ xs)) (position_from test 1 xs) → cond b (Some x) (find test xs) ≡ option_and_then (slice_get (x ∷ xs)) (cond b (Some 0) (position_from test 1 xs))
   by true e = refl
   by false e = e
-
--- what a look-up by index gives
-pub got : {X : Type 0} (r : Option (Bor X)) (xs : List X) (i : ℕ) → MatchOption r (length xs ≤ i) (λ x. (i < length xs) × HoldsAt (λ y. x.now ≡ y) xs i) → IfSome r (λ x. x.now ≡ get_or xs i x.now) → option_copied r ≡ slice_get xs i
-got None xs i past h = sym (slice_get_past xs i past)
-got (Some x) xs i m h = sym (slice_get_read xs (length xs) i x.now refl m.0 h)
 
 -- one item behind the others
 pub place_pushed : {X : Type 0} (test : X → Bool) (xs : List X) (i n : ℕ) (x : X) → n ≡ i + length xs

@@ -15,6 +15,7 @@ mod flags;
 mod heads;
 mod laws;
 mod lending;
+mod literals;
 mod member_code;
 mod members;
 mod nested;
@@ -33,6 +34,7 @@ pub use flags::{is_abstract, is_interface, is_native, is_static, is_synchronized
 pub use heads::head_of;
 pub use laws::uses_are_shaped;
 pub use lending::{TypeRef, lend, own};
+pub use literals::Literals;
 pub use member_code::{code_of, has_its_code};
 pub use members::{Found, MemberKind};
 pub use nested::{behind_first, list_at};

@@ -1,9 +1,7 @@
 pub mod Aside
 pub mod Declaring
-pub mod Leaving
 pub mod Numbering
 pub mod Owning
-pub mod Putting
 pub mod Reaching
 pub mod Sharing
 pub mod Versions

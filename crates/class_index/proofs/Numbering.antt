@@ -17,7 +17,7 @@ use Rattle.bytecode_model.specs.Members.{in_class}
 use Rattle.bytecode_model.proofs.Lists.{some_is}
 use Rattle.bytecode_model.proofs.Names.{id_cmp-is, same_id}
 use Rattle.bytecode_model.proofs.Placing.{same_name, test_cases}
-use Rattle.class_index.specs.Arrays.{has_number}
+use Rattle.mon_base.specs.Persistent.{has_number}
 use Rattle.class_index.specs.Nearest.{Numbers, ByClass, member_number, own_of, AreNumbers}
 
 -- ---- numbers

@@ -12,6 +12,7 @@ use Rattle.api_listing.specs.Nearest.{class_named, interfaces_of, names_of, upwa
 use Rattle.api_listing.specs.Seen.{has_name}
 use Rattle.bytecode_model.specs.ByName.{noted}
 use Rattle.bytecode_model.specs.SearchOrder.{interfaces_from, search_order}
+use Rattle.mon_base.proofs.Lists.{get_kept, get_pushed}
 use Rattle.bytecode_model.proofs.Lists.{some_is}
 use Rattle.bytecode_model.proofs.Placing.{same_name}
 use Rattle.bytecode_model.proofs.Upwards.{up_from}
@@ -19,20 +20,6 @@ use Rattle.class_index.specs.declared.library.Above.{Above}
 use Rattle.class_index.specs.declared.library.Shared.{Shared}
 use Rattle.class_index.specs.Library.{may_own, owners_up, AreQuiet, IsShared, AreShared}
 use Rattle.class_index.proofs.Aside.{quiet_aside}
-
--- ---- lists
-
-pub get_pushed : {X : Type 0} (xs : List X) (x : X) (i : ℕ) → i ≡ length xs → slice_get (xs ++ x ∷ []) i ≡ Some x
-get_pushed [] x i is = rw is refl
-get_pushed (y ∷ xs) x zero is = absurd (omega (arith, is))
-get_pushed (y ∷ xs) x (suc i) is =
-    let less : i ≡ length xs = omega (arith, is) in
-    get_pushed xs x i less
-
-pub get_kept : {X : Type 0} (xs ys : List X) (i : ℕ) (x : X) → slice_get xs i ≡ Some x → slice_get (xs ++ ys) i ≡ Some x
-get_kept [] ys i x there = absurd cc
-get_kept (y ∷ xs) ys zero x there = there
-get_kept (y ∷ xs) ys (suc i) x there = get_kept xs ys i x there
 
 module _ (owners : BTreeSet (List ℕ)) (classes : List ListedClass) where
   abbrev order_of : List ListedClass → List (List ℕ)

@@ -12,12 +12,12 @@ use Rattle.bytecode_model.specs.Members.{first_found, in_class}
 use Rattle.bytecode_model.specs.SearchOrder.{superclasses}
 use Rattle.bytecode_model.proofs.Lists.{some_is}
 use Rattle.bytecode_model.proofs.Placing.{same_name}
-use Rattle.class_index.specs.Arrays.{item_at, has_number, Keeps, PutsEach}
+use Rattle.mon_base.specs.Persistent.{item_at, has_number, Keeps, PutsEach}
 use Rattle.class_index.specs.Nearest.{Numbers, item_tells, Tells, IsVersion, AreVersions}
-use Rattle.class_index.specs.declared.arrays.Halves.{Halves}
+use Rattle.mon_base.specs.declared.persistent.Halves.{Halves}
 use Rattle.class_index.specs.declared.nearest.Version.{Version}
 use Rattle.class_index.specs.declared.nearest.Versions.{Versions}
-use Rattle.class_index.proofs.Putting.{keeps_item, zeros}
+use Rattle.mon_base.proofs.Putting.{keeps_item, zeros}
 use Rattle.class_index.proofs.Reaching.{named_is, up_front}
 
 module _ (look : MethodId → Option Found) (numbers : Numbers) (classes : List ListedClass) where

@@ -17,8 +17,8 @@ use Rattle.bytecode_model.specs.declared.members.MemberKind.TheVariants as kinds
 use Rattle.bytecode_model.specs.ByName.{noted}
 use Rattle.bytecode_model.specs.Members.{first_found, in_class}
 use Rattle.bytecode_model.specs.SearchOrder.{Name}
-use Rattle.class_index.specs.Arrays.{item_at, has_number}
-use Rattle.class_index.specs.declared.arrays.Halves.{Halves}
+use Rattle.mon_base.specs.Persistent.{item_at, has_number}
+use Rattle.mon_base.specs.declared.persistent.Halves.{Halves}
 use Rattle.class_index.specs.declared.nearest.Version.{Version}
 use Rattle.class_index.specs.declared.nearest.Versions.{Versions}
 

@@ -3,7 +3,8 @@
 ghost use Rattle.std.specs.Prelude.{◌≡◌, ◌++◌, IfOk, OnOk};
 ghost use Rattle.bytecode_model.specs.Heads.{heads_of};
 
-use api_listing::ListedClass;
+use crate::classes::Classes;
+use api_listing::{ListedClass, Listing};
 use bytecode_model::{copy_classes, head_of};
 use class_codec::ClassFile;
 use mon_base::{List, NoMemory};
@@ -32,17 +33,17 @@ fn add_heads(
     Ok(())
 }
 
-/// The classes, and then the others.
-pub fn copy_both(
+/// The classes of a listing, and then the others.
+pub fn all_classes(
     alloc: Global,
-    classes: &[ListedClass],
+    listing: &Listing,
     others: &[ListedClass],
-) -> Result<List<ListedClass>, NoMemory>
-    ensures { IfOk result (λ all. all ≡ classes.now ++ others.now) }
+) -> Result<Classes, NoMemory>
+    ensures { IfOk result (λ classes. classes ≡ listing.now.classes ++ others.now) }
 {
-    let mut all = copy_classes(alloc, classes)?;
+    let mut all = copy_classes(alloc, listing.classes.as_slice())?;
     add_classes(alloc, &mut all, others)?;
-    Ok(all)
+    Classes::new(alloc, all)
 }
 
 /// Adds the others behind the classes.

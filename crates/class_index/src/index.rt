@@ -18,13 +18,11 @@ ghost use Rattle.class_index.specs.Nearest.{AreVersions};
 
 use crate::classes::Classes;
 use crate::declared::{first_declared, listed_methods, owners_of};
-use crate::heads::copy_both;
 use crate::library::{Shared, owners_above, shared_of};
-use crate::literals::Literals;
 use crate::members::member_of;
 use crate::nearest::{Nearest, nearest_of};
 use api_listing::{ListedClass, ListedMethod, Listing, is_built_in};
-use bytecode_model::{Found, MemberKind, is_text};
+use bytecode_model::{Found, Literals, MemberKind, is_text};
 use class_codec::ClassFile;
 use mon_base::{Bytes, List, MethodId, NoMemory};
 use std::alloc::Global;
@@ -37,10 +35,10 @@ use std::marker::Model;
 pub struct Index<'a> {
     files: &'a [ClassFile],
     listing: &'a Listing,
-    classes: Classes,
+    classes: &'a Classes,
+    literals: &'a Literals,
     members: Members,
     library: Library,
-    literals: Literals,
 }
 
 /// What is declared, and which class declares it nearest.
@@ -67,36 +65,38 @@ impl<'a> Model for Index<'a> {
 
     ghost view = { λ i. record { files = i.files.now; listing = i.listing.now } };
 
-    ghost invariant = { λ i. IsIndex i.files.now i.listing.now i.classes i.members.methods i.members.fields
-        i.members.near_methods i.members.near_fields i.library.methods i.library.owners i.library.shared i.literals };
+    ghost invariant = { λ i. IsIndex i.files.now i.listing.now i.classes.now i.members.methods i.members.fields
+        i.members.near_methods i.members.near_fields i.library.methods i.library.owners i.library.shared i.literals.now };
 }
 
 impl<'a> Index<'a> {
-    /// The index of the files, with what they say of their classes, and the listing.
+    /// The index of the files and the listing, with what the files say of their classes, all classes, and the literals of
+    /// the files.
     pub fn new(
         alloc: Global,
         files: &'a [ClassFile],
-        heads: &[ListedClass],
         listing: &'a Listing,
+        heads: &[ListedClass],
+        classes: &'a Classes,
+        literals: &'a Literals,
     ) -> Result<Index<'a>, NoMemory>
         requires count { length files.now ≤ 1001 }
         requires fits { AllByRecursion CanSpell files.now }
         requires heads { heads.now ≡ heads_of files.now }
+        requires classes { classes.now ≡ all_classes listing.now files.now }
+        requires literals { literals.now ≡ literals_of files.now }
         requires listed { IsFew listing.now }
         ensures { IfOk result (λ index. index ≡ record { files = files.now; listing = listing.now }) }
     {
-        let all = copy_both(alloc, listing.classes.as_slice(), heads)?;
-        let classes = Classes::new(alloc, all)?;
-        let literals = Literals::new(alloc, files)?;
-        let library = library_of(alloc, &classes, heads, listing.methods.as_slice())?;
-        let members = members_of(alloc, &classes, files, listing)?;
+        let library = library_of(alloc, classes, heads, listing.methods.as_slice())?;
+        let members = members_of(alloc, classes, files, listing)?;
         Ok(Index {
             files,
             listing,
             classes,
+            literals,
             members,
             library,
-            literals,
         })
     }
 
@@ -114,7 +114,7 @@ impl<'a> Index<'a> {
     {
         let above = owners_above(
             alloc,
-            &self.classes,
+            self.classes,
             &self.library.owners,
             &self.library.shared,
             name,
@@ -129,7 +129,7 @@ impl<'a> Index<'a> {
         let members = &self.members;
         let found = member_of(
             alloc,
-            &self.classes,
+            self.classes,
             &members.methods,
             &members.near_methods,
             id,
@@ -144,7 +144,7 @@ impl<'a> Index<'a> {
         let members = &self.members;
         let found = member_of(
             alloc,
-            &self.classes,
+            self.classes,
             &members.fields,
             &members.near_fields,
             id,
@@ -168,21 +168,6 @@ impl<'a> Index<'a> {
             Ok(place) => Ok(place),
             Err(_) => Err(NoMemory),
         }
-    }
-
-    /// The texts of the string constants of the files, each once, in order.
-    pub fn into_literals(self) -> List<Bytes>
-        ensures { result ≡ literals_of self.entry.files }
-    {
-        let Index {
-            files,
-            listing,
-            classes,
-            members,
-            library,
-            literals,
-        } = self;
-        literals.into_list()
     }
 }
 

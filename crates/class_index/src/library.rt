@@ -4,6 +4,7 @@
 
 ghost use Rattle.std.specs.Prelude.{◌≡◌, ◌+◌, ◌++◌, ◌∷◌, [], ℕ, List, length, IfOk, IfSome, OnOk};
 ghost use Rattle.std.specs.List.{filter};
+ghost use Rattle.api_listing.specs.declared.types.ListedClass.{ListedClass};
 ghost use Rattle.bytecode_model.specs.SearchOrder.{search_order};
 ghost use Rattle.class_index.specs.Library.{may_own, owners_up, AreQuiet, AreShared, IsShared, Owners};
 
@@ -41,13 +42,20 @@ pub fn shared_of(
     ensures { IfOk result (AreShared owners.now classes.now) }
 {
     let quiet = quiet_of(alloc, classes, owners, given)?;
-    let mut shared = Shared {
+    let mut shared = nothing_shared(alloc, quiet);
+    add_given(alloc, classes, owners, &mut shared, given)?;
+    Ok(shared)
+}
+
+/// No lists yet, with these quiet interfaces.
+fn nothing_shared(alloc: Global, quiet: BTreeSet<Bytes>) -> Shared
+    ensures { (owners : Owners) (classes : List ListedClass) → AreQuiet owners classes quiet → AreShared owners classes result }
+{
+    Shared {
         places: BTreeMap::new(alloc),
         lists: List::new(alloc),
         quiet,
-    };
-    add_given(alloc, classes, owners, &mut shared, given)?;
-    Ok(shared)
+    }
 }
 
 /// Adds which list is that of each of the given classes.

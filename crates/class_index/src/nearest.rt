@@ -11,7 +11,6 @@ ghost use Rattle.bytecode_model.specs.SearchOrder.{superclasses};
 ghost use Rattle.class_index.specs.Index.{found_in};
 ghost use Rattle.class_index.specs.Nearest.{member_number, AreNumbers, AreOwn, AreVersions, IsVersion, Numbers};
 
-use crate::arrays::{Halves, depth_of, item_at, put_each};
 use crate::classes::Classes;
 use crate::members::found_at;
 use crate::numbers::{ByClass, Numbers, by_class, member_number, numbers_of, own_of, reference};
@@ -20,6 +19,7 @@ use crate::search::add_copy;
 use api_listing::ListedClass;
 use bytecode_model::{ByName, Found, MemberKind, copy_class, note, noted};
 use class_codec::{ClassFile, Const};
+use mon_base::persistent::{Halves, depth_of, item_at, put_each};
 use mon_base::{Bytes, List, MethodId, NoMemory};
 use std::alloc::Global;
 use std::collections::{BTreeMap, BTreeSet};

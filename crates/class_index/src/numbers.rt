@@ -4,7 +4,7 @@ ghost use Rattle.std.specs.Prelude.{◌≡◌, ◌==◌, ◌||◌, ◌&&◌, [],
 ghost use Rattle.std.specs.Ordering.{is_eq};
 ghost use Rattle.mon_base.specs.declared.method.MethodId.{MethodId};
 ghost use Rattle.api_listing.specs.Seen.{id_cmp};
-ghost use Rattle.class_index.specs.Arrays.{has_number};
+ghost use Rattle.mon_base.specs.Persistent.{has_number};
 ghost use Rattle.class_index.specs.Nearest.{field_reference, member_number, method_reference, own_of, reference, AreNumbers, AreOwn};
 
 use crate::members::id_of;

@@ -1,4 +1,5 @@
 pub mod Beginning
+pub mod Leaving
 pub mod ClassLoop
 pub mod Loop
 pub mod Sound

@@ -1,4 +1,5 @@
 pub mod Fault
+pub mod Heights
 pub mod ClassConditions
 pub mod Operands
 pub mod Known

@@ -24,10 +24,11 @@ ghost use Rattle.bytecode_model.specs.Conditions.{
 ghost use Rattle.class_linking.specs.ClassConditions.{class_linked, classes_linked};
 
 use crate::fault::LinkFault;
+use crate::heights::Heads;
 use api_listing::{ListedClass, class_name};
 use bytecode_model::{Side, head_of, is_static, is_text};
 use class_codec::{ClassFile, Const, Member};
-use class_index::{Heads, add_name};
+use class_index::add_name;
 use mon_base::{Bytes, NoMemory};
 use std::alloc::Global;
 use std::collections::BTreeSet;

@@ -8,6 +8,7 @@
 mod class_conditions;
 mod fault;
 mod handlers;
+mod heights;
 mod known;
 mod laws;
 mod linking;

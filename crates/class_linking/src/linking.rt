@@ -5,8 +5,9 @@ ghost use Rattle.std.specs.List.{AllByRecursion};
 ghost use Rattle.class_codec.specs.Fits.{CanSpell};
 ghost use Rattle.api_listing.specs.Listing.{IsFew, SpellsListing};
 ghost use Rattle.mon_base.specs.Answer.{Answers, Fails};
-ghost use Rattle.bytecode_model.specs.Heads.{heads_of, is_member, main_name, main_desc};
+ghost use Rattle.bytecode_model.specs.Heads.{head_of, heads_of, is_member, main_name, main_desc};
 ghost use Rattle.bytecode_model.specs.Named.{AreRightOperands};
+ghost use Rattle.bytecode_model.specs.Operands.{literals_of};
 ghost use Rattle.bytecode_model.specs.Order.{IsInOrder};
 ghost use Rattle.bytecode_model.specs.Sound.{IsSoundMethod, IsSound};
 ghost use Rattle.bytecode_model.specs.Standing.{IsLinkedOf};
@@ -17,14 +18,15 @@ ghost use Rattle.bytecode_model.specs.Files.{max_files, unlinked};
 
 use crate::class_conditions::classes_linked;
 use crate::fault::LinkFault;
+use crate::heights::Heads;
 use crate::laws::{linked_is_in_order, linked_operands_are_right, linked_programs_are_named};
 use crate::methods::methods_linked;
 use api_listing::{ListedClass, Listing};
 use bytecode_model::{
-    LinkedClass, Method, Program, Side, class_at, copy_class, is_static, is_text, text_at,
+    LinkedClass, Literals, Method, Program, Side, class_at, copy_class, is_static, is_text, text_at,
 };
 use class_codec::{ClassFile, Const, Member};
-use class_index::{Heads, Index, heads_of};
+use class_index::{Index, all_classes, heads_of};
 use mon_base::{Bytes, List, NoMemory};
 use std::alloc::Global;
 use std::collections::VecDeque;
@@ -173,10 +175,30 @@ fn members(
     ensures answers { Answers LinkFault.Memory result (members_of files.now listing.now) }
     ensures sound { IfOk result (λ members. AllByRecursion (AllByRecursion IsSoundMethod) members.0) }
 {
-    let index = Index::new(alloc, files, heads, listing)?;
-    let methods = each_linked(alloc, &index, files);
-    let literals = index.into_literals();
-    Ok((methods?, literals))
+    let literals = Literals::new(alloc, files)?;
+    let methods = methods_of(alloc, files, heads, &literals, listing)?;
+    Ok((methods, literals.into_list()))
+}
+
+/// The methods of each of the files.
+fn methods_of(
+    alloc: Global,
+    files: &[ClassFile],
+    heads: &[ListedClass],
+    literals: &Literals,
+    listing: &Listing,
+) -> Result<List<List<Method>>, LinkFault>
+    requires count { length files.now ≤ 1001 }
+    requires fits { AllByRecursion CanSpell files.now }
+    requires heads { heads.now ≡ heads_of files.now }
+    requires literals { literals.now ≡ literals_of files.now }
+    requires listed { IsFew listing.now }
+    ensures answers { Answers LinkFault.Memory result (each_linked files.now listing.now files.now) }
+    ensures sound { IfOk result (AllByRecursion (AllByRecursion IsSoundMethod)) }
+{
+    let classes = all_classes(alloc, listing, heads)?;
+    let index = Index::new(alloc, files, listing, heads, &classes, literals)?;
+    each_linked(alloc, &index, files)
 }
 
 /// What each of some of the files links to.
@@ -246,14 +268,22 @@ fn class_with(
 ) -> Result<LinkedClass, NoMemory>
     ensures { IfOk result (λ class. class ≡ class_with file methods) }
 {
-    let name = copy_class(alloc, file.pool.as_slice(), file.this_class)?;
-    let parent = copy_class(alloc, file.pool.as_slice(), file.super_class)?;
+    let (name, parent) = class_names(alloc, &file)?;
     Ok(LinkedClass {
         name,
         parent,
         file,
         methods,
     })
+}
+
+/// The names of the file's class and of its superclass.
+fn class_names(alloc: Global, file: &ClassFile) -> Result<(Bytes, Bytes), NoMemory>
+    ensures { IfOk result (λ names. (names.0 ≡ (head_of file.now).name) × (names.1 ≡ (head_of file.now).parent)) }
+{
+    let name = copy_class(alloc, file.pool.as_slice(), file.this_class)?;
+    let parent = copy_class(alloc, file.pool.as_slice(), file.super_class)?;
+    Ok((name, parent))
 }
 
 /// The class and the method, by their indices, that a program begins with.

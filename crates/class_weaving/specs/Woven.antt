@@ -59,11 +59,16 @@ pub record WovenCode : Type 0 where
   pub entries : List Const
   pub origins : List Origin
 
+-- a code with its blocks, where there is room for them
+abbrev pub with_blocks : List ℕ → ℕ → List Const → Method → Code → ℕ → List (Option Block) → Spliced WovenCode
+with_blocks class number pool method code locals sites = do
+  new ← code_spliced class number (grown pool sites) method code locals sites
+  Ok (record { code = new; entries = grown pool sites; origins = origins_of sites })
+
 abbrev pub blocks_put : Plan → List ℕ → ℕ → List Const → Method → Code → List (Option Block) → Spliced WovenCode
 blocks_put plan class number pool method code sites = do
   fits ← room class number code (locals_of plan method)
-  new ← code_spliced class number (grown pool sites) method code (locals_of plan method) sites
-  Ok (record { code = new; entries = grown pool sites; origins = origins_of sites })
+  with_blocks class number pool method code (locals_of plan method) sites
 
 -- A method without a block stays as it is. The locals of a block stand behind the client's.
 abbrev pub code_woven : Plan → List ℕ → ℕ → List Const → Method → Code → Spliced WovenCode

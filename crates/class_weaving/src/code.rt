@@ -9,7 +9,7 @@ ghost use Rattle.bytecode_model.specs.Sound.{IsSoundMethod};
 ghost use Rattle.mon_base.specs.Answer.{AnswersAs};
 ghost use Rattle.offset_patch.specs.Fits.{IsSite};
 ghost use Rattle.class_weaving.specs.Known.{AreMade};
-ghost use Rattle.class_weaving.specs.Woven.{is_woven, sites_of, most_locals, locals_of, clients_from, blocks_put, code_woven};
+ghost use Rattle.class_weaving.specs.Woven.{is_woven, sites_of, most_locals, locals_of, clients_from, with_blocks, blocks_put, code_woven};
 
 use bytecode_model::{Method, Origin, Target};
 use class_codec::{Code, copy_list};
@@ -72,7 +72,38 @@ fn blocks_put<P: Planner>(
     let locals = most_locals(planner, method.refs.as_slice())?;
     room(alloc, class, number, code, locals)?;
     let sites = sites_of(alloc, planner, code.max_locals, method.refs.as_slice())?;
-    let sites = sites.as_slice();
+    with_blocks(
+        alloc,
+        class,
+        number,
+        entries,
+        method,
+        code,
+        locals,
+        sites.as_slice(),
+    )
+}
+
+/// The code with its blocks, for which there is room, and from where each instruction is.
+fn with_blocks(
+    alloc: Global,
+    class: &Bytes,
+    number: u32,
+    entries: &mut Entries,
+    method: &Method,
+    code: &Code,
+    locals: u32,
+    sites: &[Option<Block>],
+) -> Result<(Code, List<Origin>), SpliceFault>
+    requires method { IsSoundMethod method.now }
+    requires each { length sites.now ≡ length method.now.insns }
+    requires sites { AllByRecursion IsSite sites.now }
+    requires room { code.now.max_stack + 3 < 2 ^ 16 }
+    requires slots { code.now.max_locals + locals < 2 ^ 16 }
+    ensures is { AnswersAs SpliceFault.Memory (λ made. record { code = made.0; entries = entries.new; origins = made.1 }) result
+        (with_blocks class.now number entries.old method.now code.now locals sites.now) }
+    ensures pool { OnOk result (length entries.new < 2 ^ 16) }
+{
     let code = splice(alloc, class, number, entries, method, code, locals, sites)?;
     let origins = origins_of(alloc, sites)?;
     Ok((code, origins))

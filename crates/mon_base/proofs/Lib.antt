@@ -4,3 +4,4 @@ pub mod Readers
 pub mod Loop
 pub mod Lists
 pub mod Answering
+pub mod Putting

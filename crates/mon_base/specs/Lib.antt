@@ -4,3 +4,4 @@ pub mod Answer
 pub mod Widths
 pub mod Popping
 pub mod Lending
+pub mod Persistent

@@ -1,5 +1,5 @@
-//! The ground of conspecj: byte strings, lists, the names of methods, numbers as text, and
-//! readers of bytes.
+//! The ground of conspecj: byte strings, lists, persistent arrays, the names of methods, numbers as text, and readers of
+//! bytes.
 //!
 //! Every other crate is written over these types. A contract sees a [`Bytes`] as the list of its bytes and a
 //! [`List`] as the list of its items, so definitions speak of trees that hold them directly.
@@ -12,6 +12,7 @@ mod list;
 mod memory;
 mod method;
 mod number;
+pub mod persistent;
 mod room;
 mod shared_list;
 

@@ -70,11 +70,15 @@ fn push_items_merged(
     }
 }
 
-/// Of two arrays of these items.
-fn arrays_merged(alloc: Global, program: &Indexed, a: &[u8], b: &[u8]) -> Result<Bytes, NoMemory>
-    ensures { IfOk result (λ name. name ≡ arrays_merged program.now object a.now b.now) }
+/// Appends the merge of two arrays of these items.
+fn push_arrays_merged(
+    out: &mut Bytes,
+    program: &Indexed,
+    a: &[u8],
+    b: &[u8],
+) -> Result<(), NoMemory>
+    ensures { OnOk result (out.new ≡ out.old ++ arrays_merged program.now object a.now b.now) }
 {
-    let mut out = Bytes::new(alloc);
     let mut otherwise = OBJECT;
     let mut a = a;
     let mut b = b;
@@ -84,7 +88,15 @@ fn arrays_merged(alloc: Global, program: &Indexed, a: &[u8], b: &[u8]) -> Result
         a = x;
         b = y;
     }
-    push_items_merged(&mut out, program, otherwise, a, b)?;
+    push_items_merged(out, program, otherwise, a, b)
+}
+
+/// Of two arrays of these items.
+fn arrays_merged(alloc: Global, program: &Indexed, a: &[u8], b: &[u8]) -> Result<Bytes, NoMemory>
+    ensures { IfOk result (λ name. name ≡ arrays_merged program.now object a.now b.now) }
+{
+    let mut out = Bytes::new(alloc);
+    push_arrays_merged(&mut out, program, a, b)?;
     Ok(out)
 }
 

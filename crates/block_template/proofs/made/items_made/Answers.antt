@@ -2,7 +2,8 @@ use Rattle.std.proofs.Common.{◌∙◌, ap, sym}
 use Rattle.std.specs.BTreeMap.{get}
 use Rattle.std.specs.Option.{option_or}
 use Rattle.std.specs.Ordering.{nat_cmp}
-use Rattle.bytecode_model.proofs.Lists.{front_is, none_left, or_none}
+use Rattle.mon_base.proofs.Lists.{front_is}
+use Rattle.bytecode_model.proofs.Lists.{none_left, or_none}
 use Rattle.block_template.specs.Made.{known_items}
 use Rattle.block_template.proofs.Making.{method_goes_on, none_made}
 use Rattle.block_template.proofs.made.items_made.Goals as goal

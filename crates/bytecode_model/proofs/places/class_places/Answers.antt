@@ -2,7 +2,8 @@ use Rattle.std.proofs.Common.{arith}
 use Rattle.std.specs.Prelude.{bytes_eq}
 use Rattle.api_listing.specs.declared.types.ListedClass.{ListedClass}
 use Rattle.bytecode_model.proofs.ByName.{none_noted}
-use Rattle.bytecode_model.proofs.Lists.{front_is, rest_length, none_left}
+use Rattle.mon_base.proofs.Lists.{front_is}
+use Rattle.bytecode_model.proofs.Lists.{rest_length, none_left}
 use Rattle.bytecode_model.proofs.Placing.{place_goes_on, place_is_done}
 use Rattle.bytecode_model.proofs.places.class_places.Goals as goal
 

@@ -2,7 +2,8 @@ use Rattle.std.proofs.Common.{◌∙◌, sym, ap}
 use Rattle.std.specs.Prelude.{bytes_eq, option_and_then}
 use Rattle.std.specs.List.{slice_get}
 use Rattle.api_listing.specs.declared.types.ListedClass.{ListedClass}
-use Rattle.bytecode_model.proofs.Placing.{find_at, got}
+use Rattle.mon_base.proofs.Lists.{got}
+use Rattle.bytecode_model.proofs.Placing.{find_at}
 use Rattle.bytecode_model.proofs.places.placed_class.Goals as goal
 
 pub returns-in-None : goal.returns-in-None

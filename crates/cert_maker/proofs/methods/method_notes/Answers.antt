@@ -1,4 +1,4 @@
-use Rattle.bytecode_model.proofs.Lists.{front_is}
+use Rattle.mon_base.proofs.Lists.{front_is}
 use Rattle.cert_maker.proofs.Framed.{parts_step}
 use Rattle.cert_maker.proofs.methods.method_notes.Goals as goal
 

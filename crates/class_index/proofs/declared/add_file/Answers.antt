@@ -3,7 +3,8 @@ use Rattle.std.specs.Option.{option_or}
 use Rattle.bytecode_model.specs.Heads.{class_at}
 use Rattle.class_index.specs.Index.{found_in}
 use Rattle.bytecode_model.specs.Members.{members_of, members_from, member_declared, first_of}
-use Rattle.bytecode_model.proofs.Lists.{front_is, rest_length, none_left}
+use Rattle.mon_base.proofs.Lists.{front_is}
+use Rattle.bytecode_model.proofs.Lists.{rest_length, none_left}
 use Rattle.class_index.proofs.Declaring.{goes_on, is_done}
 use Rattle.class_index.proofs.declared.add_file.Goals as goal
 

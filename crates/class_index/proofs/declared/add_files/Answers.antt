@@ -1,7 +1,8 @@
 use Rattle.std.proofs.Common.{ap, arith}
 use Rattle.class_codec.specs.Fits.{CanSpell}
 use Rattle.bytecode_model.specs.Members.{given_from, file_members}
-use Rattle.bytecode_model.proofs.Lists.{front_is, others_fit, rest_length, none_left}
+use Rattle.mon_base.proofs.Lists.{front_is}
+use Rattle.bytecode_model.proofs.Lists.{others_fit, rest_length, none_left}
 use Rattle.class_index.proofs.Declaring.{goes_on, is_done}
 use Rattle.class_index.proofs.declared.add_files.Goals as goal
 

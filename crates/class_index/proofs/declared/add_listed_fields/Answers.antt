@@ -2,7 +2,8 @@ use Rattle.std.proofs.Common.{◌∷◌, [], true, ap, arith}
 use Rattle.bytecode_model.specs.declared.members.Found.{Found}
 use Rattle.bytecode_model.specs.declared.program.Target.TheVariants as target
 use Rattle.bytecode_model.specs.Members.{Declared, listed_fields_from}
-use Rattle.bytecode_model.proofs.Lists.{front_is, rest_length, none_left}
+use Rattle.mon_base.proofs.Lists.{front_is}
+use Rattle.bytecode_model.proofs.Lists.{rest_length, none_left}
 use Rattle.class_index.proofs.Declaring.{goes_on, is_done}
 use Rattle.class_index.proofs.declared.add_listed_fields.Goals as goal
 

@@ -1,7 +1,8 @@
 use Rattle.std.proofs.Common.{ℕ, List, ◌∷◌, [], false, get_or, ap, map, arith}
 use denote.Ref.{Bor}
 use Rattle.bytecode_model.specs.Members.{rows_from, row_declared}
-use Rattle.bytecode_model.proofs.Lists.{front_at, rest_length, none_left}
+use Rattle.mon_base.proofs.Lists.{front_at}
+use Rattle.bytecode_model.proofs.Lists.{rest_length, none_left}
 use Rattle.class_index.proofs.Declaring.{goes_on, is_done}
 use Rattle.class_index.proofs.declared.add_rows.Goals as goal
 

@@ -2,7 +2,7 @@ use Rattle.std.proofs.Common.{◌≡◌, ◌∙◌, ◌≤◌, length, ap, sym, 
 use Rattle.std.specs.List.{slice_get}
 use Rattle.bytecode_model.specs.ByName.{noted}
 use Rattle.bytecode_model.proofs.Lists.{some_is}
-use Rattle.bytecode_model.proofs.Placing.{got}
+use Rattle.mon_base.proofs.Lists.{got}
 use Rattle.class_index.specs.Library.{owners_up, AreShared, Owners}
 use Rattle.class_index.proofs.Sharing.{read_there}
 use Rattle.class_index.proofs.library.known_above.Goals as goal

@@ -1,6 +1,6 @@
 use Rattle.std.proofs.Common.{◌≡◌, ◌∙◌, suc, ap, refl, arith}
 use Rattle.bytecode_model.specs.Members.{in_class}
-use Rattle.class_index.specs.Arrays.{has_number}
+use Rattle.mon_base.specs.Persistent.{has_number}
 use Rattle.class_index.specs.Index.{found_in}
 use Rattle.class_index.specs.declared.nearest.Version.{Version}
 use Rattle.class_index.specs.declared.nearest.Versions.{Versions}

@@ -5,8 +5,8 @@ use Rattle.api_listing.specs.Nearest.{names_of}
 use Rattle.bytecode_model.specs.declared.members.Found.{Found}
 use Rattle.bytecode_model.specs.Members.{first_found, in_class}
 use Rattle.bytecode_model.specs.SearchOrder.{superclasses}
-use Rattle.bytecode_model.proofs.Placing.{got}
-use Rattle.class_index.specs.Arrays.{item_at}
+use Rattle.mon_base.proofs.Lists.{got}
+use Rattle.mon_base.specs.Persistent.{item_at}
 use Rattle.class_index.specs.Nearest.{member_number, AreVersions, Numbers}
 use Rattle.class_index.proofs.Sharing.{read_there}
 use Rattle.class_index.proofs.Versions.{declares}

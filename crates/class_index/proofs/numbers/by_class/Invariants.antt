@@ -4,7 +4,7 @@ use Rattle.std.specs.BTreeMap.{is_at}
 use Rattle.std.specs.Map.{lookup}
 use Rattle.mon_base.specs.declared.method.MethodId.{MethodId}
 use Rattle.api_listing.specs.Seen.{id_cmp}
-use Rattle.class_index.specs.Arrays.{has_number}
+use Rattle.mon_base.specs.Persistent.{has_number}
 use Rattle.class_index.specs.Nearest.{member_number, own_of}
 use Rattle.class_index.proofs.numbers.by_class.Given as goal
 

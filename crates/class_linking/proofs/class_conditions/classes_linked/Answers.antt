@@ -7,7 +7,8 @@ use Rattle.bytecode_model.specs.Heads.{head_of}
 use Rattle.mon_base.specs.Answer.{Fails}
 use Rattle.class_linking.specs.declared.fault.LinkFault.TheVariants as faults
 use Rattle.class_linking.specs.ClassConditions.{class_linked}
-use Rattle.bytecode_model.proofs.Lists.{front_is, none_left}
+use Rattle.mon_base.proofs.Lists.{front_is}
+use Rattle.bytecode_model.proofs.Lists.{none_left}
 use Rattle.class_linking.proofs.ClassLoop.{class_goes_on, class_ends, class_done}
 use Rattle.class_linking.proofs.class_conditions.classes_linked.Goals as goal
 

@@ -1,6 +1,7 @@
 use Rattle.std.proofs.Common.{◌+◌, ℕ}
 use Rattle.std.proofs.lemmas.Result.{err_from_is_err_and}
-use Rattle.bytecode_model.proofs.Lists.{front_at, none_left}
+use Rattle.mon_base.proofs.Lists.{front_at}
+use Rattle.bytecode_model.proofs.Lists.{none_left}
 use Rattle.class_linking.proofs.Loop.{goes_on, ends, is_done}
 use Rattle.class_codec.specs.declared.tree.TableEntry.{TableEntry}
 use Rattle.class_linking.specs.Handlers.{handler_linked}

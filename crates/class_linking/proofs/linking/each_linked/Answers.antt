@@ -1,6 +1,7 @@
 use Rattle.std.proofs.Common.{◌+◌, ℕ}
 use Rattle.std.proofs.lemmas.Result.{err_from_is_err_and}
-use Rattle.bytecode_model.proofs.Lists.{front_is, others_fit, none_left, all_push}
+use Rattle.mon_base.proofs.Lists.{front_is}
+use Rattle.bytecode_model.proofs.Lists.{others_fit, none_left, all_push}
 use Rattle.class_linking.proofs.Loop.{goes_on, ends, is_done}
 use Rattle.std.specs.List.{AllByRecursion}
 use Rattle.class_codec.specs.Fits.{CanSpell}

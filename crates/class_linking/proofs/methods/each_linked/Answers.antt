@@ -1,6 +1,7 @@
 use Rattle.std.proofs.Common.{true, arith}
 use Rattle.std.proofs.lemmas.Result.{err_from_is_err_and}
-use Rattle.bytecode_model.proofs.Lists.{front_is, others_fit, rest_length, none_left, all_push}
+use Rattle.mon_base.proofs.Lists.{front_is}
+use Rattle.bytecode_model.proofs.Lists.{others_fit, rest_length, none_left, all_push}
 use Rattle.class_linking.proofs.Loop.{goes_on, ends, is_done}
 use Rattle.class_codec.specs.Fits.{FitsMember}
 use Rattle.class_linking.specs.Linking.{method_linked}

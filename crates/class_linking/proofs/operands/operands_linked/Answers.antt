@@ -1,7 +1,8 @@
 use Rattle.std.proofs.Common.{arith}
 use Rattle.std.proofs.lemmas.Result.{err_from_is_err_and}
 use Rattle.class_linking.specs.Operands.{operand_at}
-use Rattle.bytecode_model.proofs.Lists.{front_is, rest_length, none_left}
+use Rattle.mon_base.proofs.Lists.{front_is}
+use Rattle.bytecode_model.proofs.Lists.{rest_length, none_left}
 use Rattle.class_linking.proofs.Loop.{goes_on, ends, is_done}
 use Rattle.class_linking.proofs.operands.operands_linked.Goals as goal
 

@@ -1,4 +1,5 @@
-use Rattle.bytecode_model.proofs.Lists.{front_is, others_fit}
+use Rattle.mon_base.proofs.Lists.{front_is}
+use Rattle.bytecode_model.proofs.Lists.{others_fit}
 use Rattle.class_codec.specs.Fits.{CanSpell}
 use Rattle.class_text.specs.Shown.{class_shown}
 use Rattle.class_text.proofs.Loop.{goes_on_there}

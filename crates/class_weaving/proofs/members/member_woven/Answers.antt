@@ -4,7 +4,7 @@ use Rattle.std.specs.Prelude.{option_copied, slice_get}
 use Rattle.class_codec.specs.declared.tree.Attr.{Attr}
 use Rattle.class_codec.specs.declared.tree.Code.{Code}
 use Rattle.bytecode_model.specs.declared.program.Method.{Method}
-use Rattle.bytecode_model.proofs.Placing.{got}
+use Rattle.mon_base.proofs.Lists.{got}
 use Rattle.mon_base.specs.Answer.{AnswersAs}
 use Rattle.offset_patch.specs.declared.fault.SpliceFault.TheVariants.{Memory}
 use Rattle.class_weaving.specs.Woven.{body_woven, first_code}

@@ -1,6 +1,7 @@
 use Rattle.std.proofs.Common.{[], sym, ◌∙◌, arith}
 use Rattle.bytecode_model.specs.Makes.{type_at}
-use Rattle.bytecode_model.proofs.Lists.{front_is, rest_length}
+use Rattle.mon_base.proofs.Lists.{front_is}
+use Rattle.bytecode_model.proofs.Lists.{rest_length}
 use Rattle.code_typing.proofs.LocalsOver.{one_fits}
 use Rattle.code_typing.proofs.entry.are_top.Goals as goal
 

@@ -1,5 +1,5 @@
 use Rattle.std.proofs.Common.{sym, ◌∙◌}
-use Rattle.bytecode_model.proofs.Lists.{front_is}
+use Rattle.mon_base.proofs.Lists.{front_is}
 use Rattle.code_typing.proofs.StacksOver.{both_fit}
 use Rattle.code_typing.proofs.following.all_fit.Goals as goal
 

@@ -1,7 +1,7 @@
 use Rattle.std.proofs.Common.{sym, ap, ◌∙◌}
 use Rattle.cert_format.specs.declared.typing.VType.{VType}
 use Rattle.bytecode_model.specs.Assigning.{assignable}
-use Rattle.bytecode_model.proofs.Lists.{front_is}
+use Rattle.mon_base.proofs.Lists.{front_is}
 use Rattle.code_typing.specs.Changing.{change_told}
 use Rattle.code_typing.proofs.StacksOver.{one_fits}
 use Rattle.code_typing.proofs.following.changed_fit.Goals as goal

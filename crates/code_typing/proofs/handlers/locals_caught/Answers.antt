@@ -2,7 +2,8 @@ use Rattle.std.proofs.Common.{sym, ap, ◌∙◌, arith}
 use Rattle.cert_format.specs.declared.typing.VType.{VType}
 use Rattle.bytecode_model.specs.Assigning.{assignable}
 use Rattle.bytecode_model.specs.Rules.{local_caught}
-use Rattle.bytecode_model.proofs.Lists.{front_is, rest_length}
+use Rattle.mon_base.proofs.Lists.{front_is}
+use Rattle.bytecode_model.proofs.Lists.{rest_length}
 use Rattle.code_typing.proofs.LocalsOver.{one_fits}
 use Rattle.code_typing.proofs.handlers.locals_caught.Goals as goal
 

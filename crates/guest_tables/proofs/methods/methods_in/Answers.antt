@@ -1,7 +1,8 @@
 use Rattle.std.proofs.Common.{◌&&◌, arith}
 use Rattle.std.specs.Prelude.{bytes_eq}
 use Rattle.bytecode_model.specs.declared.program.Method.{Method}
-use Rattle.bytecode_model.proofs.Lists.{front_is, rest_length, none_left}
+use Rattle.mon_base.proofs.Lists.{front_is}
+use Rattle.bytecode_model.proofs.Lists.{rest_length, none_left}
 use Rattle.bytecode_model.proofs.Placing.{place_goes_on, place_is_done}
 use Rattle.guest_tables.proofs.Naming.{no_method}
 use Rattle.guest_tables.proofs.methods.methods_in.Goals as goal

@@ -2,7 +2,7 @@ use Rattle.std.proofs.Common.{◌≡◌, ◌∙◌, List, Option, Some, None, ap
 use Rattle.std.specs.Prelude.{slice_get, option_copied, option_and_then}
 use Rattle.bytecode_model.specs.declared.program.LinkedClass.{LinkedClass}
 use Rattle.bytecode_model.specs.declared.program.Method.{Method}
-use Rattle.bytecode_model.proofs.Placing.{got}
+use Rattle.mon_base.proofs.Lists.{got}
 use Rattle.guest_threads.proofs.frames.method_at.Goals as goal
 
 pub returns-in_default : goal.returns-in_default

@@ -2,7 +2,7 @@ use Rattle.std.proofs.Common.{Option, Some, sym, ap, ◌∙◌}
 use denote.Ref.{Bor}
 use Rattle.std.specs.Prelude.{option_copied, option_map}
 use Rattle.api_listing.specs.declared.types.ListedClass.{ListedClass}
-use Rattle.bytecode_model.proofs.Placing.{got}
+use Rattle.mon_base.proofs.Lists.{got}
 use Rattle.type_lattice.proofs.hierarchy.name_at.Goals as goal
 
 pub returns-in-Some : goal.returns-in-Some

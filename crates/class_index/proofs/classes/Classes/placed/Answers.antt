@@ -5,7 +5,8 @@ use Rattle.api_listing.specs.declared.types.ListedClass.{ListedClass}
 use Rattle.api_listing.specs.Nearest.{class_named}
 use Rattle.bytecode_model.specs.ByName.{noted}
 use Rattle.bytecode_model.specs.Places.{class_place}
-use Rattle.bytecode_model.proofs.Placing.{find_at, got}
+use Rattle.mon_base.proofs.Lists.{got}
+use Rattle.bytecode_model.proofs.Placing.{find_at}
 use Rattle.class_index.proofs.classes.Classes.placed.Goals as goal
 
 pub returns : goal.returns

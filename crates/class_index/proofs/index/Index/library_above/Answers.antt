@@ -11,7 +11,7 @@ returns c id =
     let given = c.self.inside in
     let name = c.args.name.now in
     let above = c.in_ok-above.above in
-    let names = search_order given.classes name in
+    let names = search_order given.classes.now name in
     ap (λ (g : Given). overrides_in g.listing id above) (sym c.self.view_is) ∙ ap (overrides_in given.listing.now id) c.in_ok-above.ensures
     ∙ owners_suffice given.library.owners given.listing.now names c.self.invariant.owned id
     ∙ ap (λ cs. overrides_in given.listing.now id (search_order cs name)) c.self.invariant.all

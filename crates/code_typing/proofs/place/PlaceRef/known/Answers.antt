@@ -4,7 +4,7 @@ use Rattle.insn_codec.specs.declared.insn.Insn.{Insn}
 use Rattle.bytecode_model.specs.declared.program.Target.{Target}
 use Rattle.bytecode_model.specs.InsnPlace.{InsnPlace, target_or_none}
 use Rattle.bytecode_model.specs.Typed.{place_at}
-use Rattle.bytecode_model.proofs.Placing.{got}
+use Rattle.mon_base.proofs.Lists.{got}
 use Rattle.code_typing.proofs.place.PlaceRef.known.Goals as goal
 
 pub returns : goal.returns

@@ -1,4 +1,0 @@
-use Rattle.class_index.proofs.arrays.+put.Given as goal
-
-abbrev pub decreases-put : goal.decreases-put
-decreases-put l = l.depth

@@ -1,5 +1,0 @@
-use Rattle.std.proofs.Common.{◌≡◌, ◌^◌}
-use Rattle.class_index.proofs.arrays.depth_of.Given as goal
-
-abbrev pub invariant-loop-depth : goal.invariant-loop-depth
-invariant-loop-depth l = l.size ≡ 2 ^ l.depth

@@ -1,8 +1,0 @@
-use Rattle.class_index.specs.Heights.{AreHeights, LeavesAfter}
-use Rattle.class_index.proofs.heights.add_heights.Given as goal
-
-abbrev pub invariant-loop : goal.invariant-loop
-invariant-loop l = record {
-  known : AreHeights l.heights l.classes;
-  leaves : LeavesAfter l.classes l.at l.height;
-}

@@ -1,5 +1,0 @@
-use Rattle.class_index.proofs.Leaving.{Gone}
-use Rattle.class_index.proofs.heights.height_of.Given as goal
-
-abbrev pub invariant-loop-steps : goal.invariant-loop-steps
-invariant-loop-steps l = Gone l.classes l.name l.at l.steps
