@@ -24,6 +24,7 @@ ghost use Rattle.mon_base.specs.Answer.{Answers};
 ghost use Rattle.output_files.specs.Outputs.{is_written, outputs_of};
 ghost use Rattle.told_typing.specs.Told.{FitsTyping, told};
 ghost use Rattle.woven_linking.specs.Program.{HaveRoom, program_with};
+ghost use Rattle.woven_typing.specs.Framing.{typing_of};
 ghost use Rattle.inliner_tool.specs.Expected.{IsExpected, WovenHasBlocks, WovenIsExpected};
 ghost use Rattle.inliner_tool.specs.Policy.{IsSoundFor};
 ghost use Rattle.inliner_tool.specs.Programs.{Equals, UnlessMemory};
@@ -281,22 +282,38 @@ fn rewoven(alloc: Global, words: &InlineWords, given: Given, made: Woven) -> Res
 {
     let Given {
         client,
-        typing: before,
+        typing,
         policy,
         mode,
     } = given;
-    let typing = typing_of(alloc, &client, &policy, mode, &before)?;
-    drop(before);
-    let (program, classes) = relinked(alloc, &policy, mode, client, made.files)?;
-    let certificate = certified(
-        alloc,
-        classes.as_slice(),
-        &policy,
-        mode,
-        program.program(),
-        typing,
-    )?;
+    let (program, certificate) = remade(alloc, &policy, mode, client, typing, made.files)?;
     judged(alloc, words.folder, &policy, &program, &certificate)
+}
+
+/// The program that the woven files of a client with these types link to, and its certificate.
+fn remade(
+    alloc: Global,
+    policy: &Policy,
+    mode: Mode,
+    client: Program,
+    before: Typing,
+    files: List<ClassFile>,
+) -> Result<(Indexed, Certificate), NoMemory>
+    requires policy { IsPolicy policy.now }
+    requires sound { IsSound client }
+    requires room { HaveRoom (plan_of policy.now mode) client.classes files }
+    requires order { IsInOrder (program_with (plan_of policy.now mode) client files) }
+    ensures program { IfOk result (λ made. made.0 ≡ program_with (plan_of policy.now mode) client files) }
+    ensures certificate { IfOk result (λ made. made.1
+        ≡ certificate_of client.classes policy.now mode (told made.0 (typing_of client policy.now mode before))) }
+    ensures fits { IfOk result (λ made. FitsTyping made.1.typing) }
+{
+    let typing = typing_of(alloc, &client, policy, mode, &before)?;
+    drop(before);
+    let (program, classes) = relinked(alloc, policy, mode, client, files)?;
+    let classes = classes.as_slice();
+    let certificate = certified(alloc, classes, policy, mode, program.program(), typing)?;
+    Ok((program, certificate))
 }
 
 /// The program that woven files link to, with an index of its classes, and the classes that it was woven of.

@@ -1,5 +1,4 @@
-use Rattle.std.proofs.Common.{◌≡◌, ◌∙◌, List, Ok, ap, subst, sym}
-use Rattle.bytecode_model.specs.declared.program.LinkedClass.{LinkedClass}
+use Rattle.std.proofs.Common.{◌≡◌, ◌∙◌, Ok, ap, subst, sym}
 use Rattle.bytecode_model.specs.declared.program.Program.{Program}
 use Rattle.bytecode_model.specs.Files.{unlinked}
 use Rattle.bytecode_model.specs.Sound.{IsSound}
@@ -8,15 +7,11 @@ use Rattle.cert_checker.specs.Acceptance.{verdict}
 use Rattle.cert_checker.specs.Secure.{Secure}
 use Rattle.cert_format.specs.declared.certificate.Certificate.{Certificate}
 use Rattle.cert_format.specs.declared.certificate.Mode.{Mode}
-use Rattle.cert_format.specs.declared.typing.Typing.{Typing}
 use Rattle.cert_format.specs.Fits.{CanSpell}
-use Rattle.cert_maker.specs.Noting.{certificate_of}
 use Rattle.command_words.specs.InlineWords.{inline_named}
 use Rattle.output_files.specs.Outputs.{is_written, outputs_of}
 use Rattle.std.specs.Prelude.{IfOk, true, length}
-use Rattle.told_typing.specs.Told.{FitsTyping, told}
-use Rattle.woven_typing.specs.Framing.{typing_of}
-use Rattle.inliner_tool.specs.declared.inline.Given.{Given}
+use Rattle.told_typing.specs.Told.{FitsTyping}
 use Rattle.inliner_tool.specs.declared.inline.Ready.{Ready}
 use Rattle.inliner_tool.specs.Expected.{woven_program}
 use Rattle.inliner_tool.specs.Programs.{woven_links}
@@ -24,26 +19,17 @@ use Rattle.inliner_tool.specs.Weaving.{Accepts, certificate_for}
 use Rattle.inliner_tool.proofs.Blocks.{known_rewoven, remakes}
 use Rattle.inliner_tool.proofs.inline.rewoven.Goals as goal
 
--- what is made of these types is the certificate of the program
-certificate_is : (given : Given) (program indexed : Program) (before : Typing) (classes : List LinkedClass) (certificate : Certificate)
-    → before ≡ typing_of given.client given.policy given.mode given.typing → indexed ≡ program → classes ≡ given.client.classes
-    → certificate ≡ certificate_of classes given.policy given.mode (told indexed before) → certificate ≡ certificate_for given program
-certificate_is given program indexed before classes certificate first same all is =
-    let typing : told indexed before ≡ told program (typing_of given.client given.policy given.mode given.typing) = ap (λ (p : Program). told p before) same ∙ ap (told program) first in
-    is ∙ ap (λ (cs : List LinkedClass). certificate_of cs given.policy given.mode (told indexed before)) all ∙ ap (certificate_of given.client.classes given.policy given.mode) typing
-
 pub judged-requires-clause-sound : goal.judged-requires-clause-sound
 judged-requires-clause-sound c =
-    let same : c.in_ok-program.program ≡ woven_program c.args.given c.args.made = c.in_ok-program.ensures.is in
+    let same : c.in_ok-program.program ≡ woven_program c.args.given c.args.made = c.in_ok-program.ensures.program in
     subst IsSound (sym same) c.requires.expected.sound
 
 pub judged-requires-clause-accepted : goal.judged-requires-clause-accepted
 judged-requires-clause-accepted c =
     let given = c.args.given in
     let program = c.in_ok-program.program in
-    let same : c.in_ok-program.program ≡ woven_program c.args.given c.args.made = c.in_ok-program.ensures.is in
-    let is = certificate_is given program c.program-2.result.now c.in_ok-typing.typing c.as_slice.result.now c.in_ok-certificate.certificate c.in_ok-typing.ensures c.program-2.ensures
-    (c.as_slice.ensures ∙ c.in_ok-program.ensures.old) c.in_ok-certificate.ensures.is in
+    let same : c.in_ok-program.program ≡ woven_program c.args.given c.args.made = c.in_ok-program.ensures.program in
+    let is : c.in_ok-program.certificate ≡ certificate_for given program = c.in_ok-program.ensures.certificate in
     let accepted = subst (λ (p : Program). IsAccepted p given.policy (certificate_for given p)) (sym same) c.requires.expected.accepted in
     subst (λ (x : Certificate). IsAccepted program given.policy x) (sym is) accepted
 
@@ -51,10 +37,9 @@ pub returns-clause-steps : goal.returns-clause-steps
 returns-clause-steps c =
     let given = c.args.given in
     let program = c.in_ok-program.program in
-    let same : c.in_ok-program.program ≡ woven_program c.args.given c.args.made = c.in_ok-program.ensures.is in
+    let same : c.in_ok-program.program ≡ woven_program c.args.given c.args.made = c.in_ok-program.ensures.program in
     let links : woven_links c.args.made.files given.client.listing c.args.words.now.main.now ≡ Ok program = c.requires.expected.links ∙ ap (λ (p : Program). Ok p) (sym same) in
-    let is = certificate_is given program c.program-2.result.now c.in_ok-typing.typing c.as_slice.result.now c.in_ok-certificate.certificate c.in_ok-typing.ensures c.program-2.ensures
-    (c.as_slice.ensures ∙ c.in_ok-program.ensures.old) c.in_ok-certificate.ensures.is in
+    let is : c.in_ok-program.certificate ≡ certificate_for given program = c.in_ok-program.ensures.certificate in
     remakes c.args.words.now.main.now c.args.words.now.folder.now given c.args.made program links
     (subst (λ (x : Certificate). IsAccepted program given.policy x) is c.judged.ensures.accepted) c.judged.result
     (subst (λ (x : Certificate). Accepts c.args.words.now.folder.now given.policy program x c.judged.result) is c.judged.ensures.accepts)
@@ -64,17 +49,16 @@ returns-clause-rewoven c =
     let given = c.args.given in
     let expected = c.requires.expected in
     let program = c.in_ok-program.program in
-    let same : c.in_ok-program.program ≡ woven_program c.args.given c.args.made = c.in_ok-program.ensures.is in
+    let same : c.in_ok-program.program ≡ woven_program c.args.given c.args.made = c.in_ok-program.ensures.program in
     let links : woven_links c.args.made.files given.client.listing c.args.words.now.main.now ≡ Ok program = expected.links ∙ ap (λ (p : Program). Ok p) (sym same) in
-    let is = certificate_is given program c.program-2.result.now c.in_ok-typing.typing c.as_slice.result.now c.in_ok-certificate.certificate c.in_ok-typing.ensures c.program-2.ensures
-    (c.as_slice.ensures ∙ c.in_ok-program.ensures.old) c.in_ok-certificate.ensures.is in
+    let is : c.in_ok-program.certificate ≡ certificate_for given program = c.in_ok-program.ensures.certificate in
     let back = subst (λ (p : Program). unlinked p ≡ c.args.made.files) (sym same) expected.back in
     let sound = subst IsSound (sym same) expected.sound in
     let spells = subst (λ (p : Program). FitsTyping (certificate_for given p).typing → is_written (certificate_for given p) ≡ true → CanSpell (length given.policy.vars) (certificate_for given p)) (sym same) expected.spells in
     known_rewoven (inline_named c.args.words.now) given c.args.made program links back sound
     (subst (λ (x : Certificate). IsAccepted program given.policy x) is c.judged.ensures.accepted)
     (subst (λ (m : Mode). Secure m program given.policy) (ap (λ (x : Certificate). x.mode) is) c.judged.ensures.secure)
-    (spells (subst (λ (x : Certificate). FitsTyping x.typing) is c.in_ok-certificate.ensures.fits)) c.judged.result
+    (spells (subst (λ (x : Certificate). FitsTyping x.typing) is c.in_ok-program.ensures.fits)) c.judged.result
     (subst (λ (x : Certificate). IfOk c.judged.result (λ (ready : Ready). verdict program given.policy x ≡ Ok ready.accepted)) is c.judged.ensures.verdict)
     (subst (λ (x : Certificate). IfOk c.judged.result (λ (ready : Ready). is_written x ≡ true)) is c.judged.ensures.written)
     (subst (λ (x : Certificate). IfOk c.judged.result (λ (ready : Ready). ready.outputs ≡ outputs_of c.args.words.now.folder.now program x)) is c.judged.ensures.outputs)
