@@ -25,6 +25,7 @@ ghost use Rattle.block_template.specs.Blocks.{
   with_handler,
 };
 ghost use Rattle.block_template.specs.declared.item.Item.{Item as SpecItem};
+ghost use Rattle.block_template.specs.Parts.{loads};
 ghost use Rattle.block_template.specs.Pushing.{bools_in};
 ghost use Rattle.block_template.specs.Room.{IsRoomy, IsShort};
 
@@ -118,16 +119,34 @@ fn put_front(
     requires short { IsShort base clause.now }
     ensures { OnOk result (items.new ≡ items.old ++ front mode (bools_in vars.now) base (Some clause.now)) }
 {
+    let mut last = List::new(alloc);
+    put_loads(&mut last, is_locked(mode), base, clause.args.as_slice())?;
+    put_asked(alloc, items, mode, vars, base, clause, last.as_slice())
+}
+
+/// The arguments are kept, and the check is made; behind it they are loaded.
+fn put_asked(
+    alloc: Global,
+    items: &mut List<Item>,
+    mode: Mode,
+    vars: &[Var],
+    base: u16,
+    clause: &Clause,
+    last: &[Item],
+) -> Result<(), NoMemory>
+    requires arguments { base + length clause.now.args < 2 ^ 16 }
+    requires short { IsShort base clause.now }
+    requires last { last.now ≡ loads (is_locked mode) base 0 clause.now.args }
+    ensures { OnOk result (items.new ≡ items.old ++ front mode (bools_in vars.now) base (Some clause.now)) }
+{
     let arguments = clause.args.as_slice();
     let at = arguments.len() as u32;
-    let mut loads = List::new(alloc);
-    put_loads(&mut loads, is_locked(mode), base, arguments)?;
     put_save(items, base, arguments)?;
     match mode {
-        Mode::Release => put_released(alloc, items, vars, base, at, clause, loads.as_slice()),
+        Mode::Release => put_released(alloc, items, vars, base, at, clause, last),
         Mode::Hold => {
             put_lock(items, Phase::Before)?;
-            put_checked(items, vars, base, at + 2, clause, loads.as_slice())
+            put_checked(items, vars, base, at + 2, clause, last)
         }
     }
 }

@@ -5,7 +5,7 @@ ghost use Rattle.std.specs.List.{AllByRecursion};
 ghost use Rattle.class_codec.specs.Fits.{CanSpell};
 ghost use Rattle.api_listing.specs.Listing.{IsFew, SpellsListing};
 ghost use Rattle.mon_base.specs.Answer.{Answers, Fails};
-ghost use Rattle.bytecode_model.specs.Heads.{head_of, heads_of, is_member, main_name, main_desc};
+ghost use Rattle.bytecode_model.specs.Heads.{all_classes, head_of, heads_of, is_member, main_name, main_desc};
 ghost use Rattle.bytecode_model.specs.Named.{AreRightOperands};
 ghost use Rattle.bytecode_model.specs.Operands.{literals_of};
 ghost use Rattle.bytecode_model.specs.Order.{IsInOrder};
@@ -26,7 +26,7 @@ use bytecode_model::{
     LinkedClass, Literals, Method, Program, Side, class_at, copy_class, is_static, is_text, text_at,
 };
 use class_codec::{ClassFile, Const, Member};
-use class_index::{Index, all_classes, heads_of};
+use class_index::{Classes, Index, all_classes, heads_of};
 use mon_base::{Bytes, List, NoMemory};
 use std::alloc::Global;
 use std::collections::VecDeque;
@@ -155,8 +155,36 @@ fn members_checked(
     ensures sound { IfOk result (λ members. AllByRecursion (AllByRecursion IsSoundMethod) members.0) }
     ensures fails { IfErr result (λ fault. (main : List ℕ) → Fails LinkFault.Memory fault (assembled files.now listing.now main side)) }
 {
-    let heads = Heads::new(alloc, heads_of(alloc, files)?)?;
-    classes_linked(alloc, side, &heads, listing.classes.as_slice(), files)?;
+    let heads = heads(alloc, files)?;
+    members_under(alloc, files, &heads, listing, side)
+}
+
+/// The classes of the files.
+fn heads(alloc: Global, files: &[ClassFile]) -> Result<Heads, NoMemory>
+    ensures { IfOk result (λ heads. heads ≡ heads_of files.now) }
+{
+    let list = heads_of(alloc, files)?;
+    Heads::new(alloc, list)
+}
+
+/// The members of the files that have these classes, where each class meets its conditions.
+fn members_under(
+    alloc: Global,
+    files: &[ClassFile],
+    heads: &Heads,
+    listing: &Listing,
+    side: Side,
+) -> Result<Members, LinkFault>
+    requires few { length files.now ≤ 1001 }
+    requires fits { AllByRecursion CanSpell files.now }
+    requires heads { heads.now ≡ heads_of files.now }
+    requires listed { IsFew listing.now }
+    ensures classes { IfOk result (λ members. classes_linked side (heads_of files.now) listing.now.classes files.now ≡ Ok tt) }
+    ensures members { IfOk result (λ members. members_of files.now listing.now ≡ Ok members) }
+    ensures sound { IfOk result (λ members. AllByRecursion (AllByRecursion IsSoundMethod) members.0) }
+    ensures fails { IfErr result (λ fault. (main : List ℕ) → Fails LinkFault.Memory fault (assembled files.now listing.now main side)) }
+{
+    classes_linked(alloc, side, heads, listing.classes.as_slice(), files)?;
     let members = members(alloc, files, heads.as_slice(), listing)?;
     Ok(members)
 }
@@ -197,7 +225,28 @@ fn methods_of(
     ensures sound { IfOk result (AllByRecursion (AllByRecursion IsSoundMethod)) }
 {
     let classes = all_classes(alloc, listing, heads)?;
-    let index = Index::new(alloc, files, listing, heads, &classes, literals)?;
+    methods_among(alloc, files, heads, &classes, literals, listing)
+}
+
+/// The same, where these are all classes.
+fn methods_among(
+    alloc: Global,
+    files: &[ClassFile],
+    heads: &[ListedClass],
+    classes: &Classes,
+    literals: &Literals,
+    listing: &Listing,
+) -> Result<List<List<Method>>, LinkFault>
+    requires count { length files.now ≤ 1001 }
+    requires fits { AllByRecursion CanSpell files.now }
+    requires heads { heads.now ≡ heads_of files.now }
+    requires classes { classes.now ≡ all_classes listing.now files.now }
+    requires literals { literals.now ≡ literals_of files.now }
+    requires listed { IsFew listing.now }
+    ensures answers { Answers LinkFault.Memory result (each_linked files.now listing.now files.now) }
+    ensures sound { IfOk result (AllByRecursion (AllByRecursion IsSoundMethod)) }
+{
+    let index = Index::new(alloc, files, listing, heads, classes, literals)?;
     each_linked(alloc, &index, files)
 }
 

@@ -7,11 +7,12 @@ ghost use Rattle.insn_codec.specs.Fits as insns;
 ghost use Rattle.insn_codec.specs.Reading.{code_of};
 ghost use Rattle.insn_codec.specs.Spelling.{len_from, starts_of};
 ghost use Rattle.mon_base.specs.Answer.{Answers, TellsFault};
-ghost use Rattle.bytecode_model.specs.Heads.{all_classes, head_of};
+ghost use Rattle.bytecode_model.specs.Heads.{all_classes, desc_of, head_of, name_of};
 ghost use Rattle.bytecode_model.specs.SearchOrder.{search_order};
 ghost use Rattle.class_index.specs.Library.{OverridesAs};
 ghost use Rattle.bytecode_model.specs.Sound.{IsSoundMethod};
 ghost use Rattle.class_linking.specs.Handlers.{handlers_linked};
+ghost use Rattle.class_linking.specs.declared.fault.LinkFault.TheVariants as faults;
 ghost use Rattle.class_linking.specs.Known.{AreRemembered};
 ghost use Rattle.class_linking.specs.Linking.{bare, with_code, code_told, read_of, code_linked, method_linked, methods_linked};
 
@@ -91,16 +92,10 @@ fn method_linked(
 {
     let pool = file.pool.as_slice();
     if !is_allowed(alloc, pool, member)? {
-        return Err(LinkFault::Method {
-            class: class.copy(alloc)?,
-            name: copy_text(alloc, pool, member.name)?,
-        });
+        return Err(left_out(alloc, class, pool, member));
     }
     if overrides(alloc, index, order, class, pool, member)? {
-        return Err(LinkFault::Overrides {
-            class: class.copy(alloc)?,
-            name: copy_text(alloc, pool, member.name)?,
-        });
+        return Err(overriding(alloc, class, pool, member));
     }
     match code_of(member.attrs.as_slice()) {
         Some(code) => code_linked(alloc, index, file, class, known, method, member, code),
@@ -111,15 +106,59 @@ fn method_linked(
     }
 }
 
+/// A method of this class that is none of the subset.
+fn left_out(alloc: Global, class: &Bytes, pool: &[Const], member: &Member) -> LinkFault
+    ensures { TellsFault LinkFault.Memory result (faults.Method class.now (name_of pool.now member.now)) }
+{
+    match names_of(alloc, class, pool, member) {
+        Ok((class, name)) => LinkFault::Method { class, name },
+        Err(NoMemory) => LinkFault::Memory,
+    }
+}
+
+/// A method of this class that overrides one of the library.
+fn overriding(alloc: Global, class: &Bytes, pool: &[Const], member: &Member) -> LinkFault
+    ensures { TellsFault LinkFault.Memory result (faults.Overrides class.now (name_of pool.now member.now)) }
+{
+    match names_of(alloc, class, pool, member) {
+        Ok((class, name)) => LinkFault::Overrides { class, name },
+        Err(NoMemory) => LinkFault::Memory,
+    }
+}
+
+/// The names of a class and of its method.
+fn names_of(
+    alloc: Global,
+    class: &Bytes,
+    pool: &[Const],
+    member: &Member,
+) -> Result<(Bytes, Bytes), NoMemory>
+    ensures { IfOk result (λ names. names ≡ (class.now, name_of pool.now member.now)) }
+{
+    let class = class.copy(alloc)?;
+    let name = copy_text(alloc, pool, member.name)?;
+    Ok((class, name))
+}
+
+/// The name and the descriptor of a method.
+fn texts_of(alloc: Global, pool: &[Const], member: &Member) -> Result<(Bytes, Bytes), NoMemory>
+    ensures { IfOk result (λ texts. texts ≡ (name_of pool.now member.now, desc_of pool.now member.now)) }
+{
+    let name = copy_text(alloc, pool, member.name)?;
+    let desc = copy_text(alloc, pool, member.desc)?;
+    Ok((name, desc))
+}
+
 /// A method without code.
 fn bare(alloc: Global, file: &ClassFile, member: &Member) -> Result<Method, NoMemory>
     ensures is { IfOk result (λ method. method ≡ bare file.now member.now) }
     ensures sound { IfOk result IsSoundMethod }
 {
+    let (name, desc) = texts_of(alloc, file.pool.as_slice(), member)?;
     Ok(Method {
         flags: member.flags,
-        name: copy_text(alloc, file.pool.as_slice(), member.name)?,
-        desc: copy_text(alloc, file.pool.as_slice(), member.desc)?,
+        name,
+        desc,
         max_stack: 0,
         max_locals: 0,
         insns: List::new(alloc),
@@ -188,10 +227,11 @@ fn with_code(
 ) -> Result<Method, NoMemory>
     ensures { IfOk result (λ method. method ≡ with_code file.now member.now code.now insns refs handlers) }
 {
+    let (name, desc) = texts_of(alloc, file.pool.as_slice(), member)?;
     Ok(Method {
         flags: member.flags,
-        name: copy_text(alloc, file.pool.as_slice(), member.name)?,
-        desc: copy_text(alloc, file.pool.as_slice(), member.desc)?,
+        name,
+        desc,
         max_stack: code.max_stack,
         max_locals: code.max_locals,
         insns,

@@ -4,7 +4,7 @@ use Rattle.mon_base.specs.Answer.{Fails}
 use Rattle.class_linking.specs.ClassConditions.{classes_linked}
 use Rattle.class_linking.specs.declared.fault.LinkFault.TheVariants as faults
 use Rattle.class_linking.proofs.Whole.{asked, ends_classes, ends_members}
-use Rattle.class_linking.proofs.linking.members_checked.Goals as goal
+use Rattle.class_linking.proofs.linking.members_under.Goals as goal
 
 pub returns-in_err-classes_linked-clause-fails : goal.returns-in_err-classes_linked-clause-fails
 returns-in_err-classes_linked-clause-fails c =
@@ -12,10 +12,9 @@ returns-in_err-classes_linked-clause-fails c =
     let listing = c.args.listing.now in
     let side = c.args.side in
     let e = c.in_err-classes_linked.field-0.0 in
-    let heads = c.in_ok-heads.ensures ∙ c.in_ok-heads_of.ensures in
-    let told = subst (λ own. Fails faults.Memory e (classes_linked side c.in_ok-heads.heads own files)) c.as_slice.ensures c.in_err-classes_linked.ensures in
-    let fails = subst (λ hs. Fails faults.Memory e (classes_linked side hs listing.classes files)) heads told in
-    let p = err_from_is_err_and c.from_residual-in_err-classes_linked.result c.from_residual-in_err-classes_linked.ensures.1 in
+    let told = subst (λ own. Fails faults.Memory e (classes_linked side c.args.heads.now own files)) c.as_slice.ensures c.in_err-classes_linked.ensures in
+    let fails = subst (λ hs. Fails faults.Memory e (classes_linked side hs listing.classes files)) c.requires.heads told in
+    let p = err_from_is_err_and c.from_residual.result c.from_residual.ensures.1 in
     rw (p.1, p.2) (λ main. ends_classes files listing main side e fails)
 
 pub returns-in_err-members-clause-fails : goal.returns-in_err-members-clause-fails
@@ -24,9 +23,9 @@ returns-in_err-members-clause-fails c =
     let listing = c.args.listing.now in
     let side = c.args.side in
     let e = c.in_err-members.field-0.0 in
-    let sound = asked side files listing.classes _ _ _ _ _ c.in_ok-heads.ensures c.in_ok-heads_of.ensures refl c.as_slice.ensures refl c.in_ok-classes_linked.ensures in
+    let sound = asked side files listing.classes _ _ _ _ _ c.requires.heads refl refl c.as_slice.ensures refl c.in_ok-classes_linked.ensures in
     let p = err_from_is_err_and c.from_residual-in_err-members.result c.from_residual-in_err-members.ensures.1 in
     rw (p.1, p.2) (λ main. ends_members files listing main side e sound c.in_err-members.ensures.answers)
 
 pub returns-clause-classes : goal.returns-clause-classes
-returns-clause-classes c = asked c.args.side c.args.files.now c.args.listing.now.classes _ _ _ _ _ c.in_ok-heads.ensures c.in_ok-heads_of.ensures refl c.as_slice.ensures refl c.in_ok-classes_linked.ensures
+returns-clause-classes c = asked c.args.side c.args.files.now c.args.listing.now.classes _ _ _ _ _ c.requires.heads refl refl c.as_slice.ensures refl c.in_ok-classes_linked.ensures
