@@ -68,6 +68,11 @@ Gathers weaving policy client =
     Then (Types client) (λ typing. Then (Equals (mode_for weaving policy)) (λ mode.
     Equals (Ok (record { client = client; typing = typing; policy = built policy; mode = mode }))))
 
+-- The same, before the program is put to it.
+abbrev pub GathersBoth : Weaving → PolicyTree → Program → Step (Typing × (Policy × Mode)) → Type 0
+GathersBoth weaving policy client =
+    Then (Types client) (λ typing. Then (Equals (mode_for weaving policy)) (λ mode. Equals (Ok (typing, (built policy, mode)))))
+
 -- It is this program, with types of its layout, and this policy, in a mode in which that is promised.
 pub record IsGathered (tree : PolicyTree) (program : Program) (given : Given) : Type 0 where
   pub client : given.client ≡ program

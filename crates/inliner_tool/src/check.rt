@@ -1,8 +1,9 @@
 //! The command `check`: its inputs, what they link to, and what is answered.
 
-ghost use Rattle.std.specs.Prelude.{◌≡◌, ◌≤◌, IfOk, IsTrue};
+ghost use Rattle.std.specs.Prelude.{◌≡◌, ◌≤◌, IfOk, IsTrue, Ok};
 ghost use Rattle.block_logic.specs.Meaning.{Promised};
 ghost use Rattle.conspec_automaton.specs.Building.{built};
+ghost use Rattle.bytecode_model.specs.declared.program.Program.{Program};
 ghost use Rattle.bytecode_model.specs.Sound.{IsSound};
 ghost use Rattle.command_words.specs.Words.{Check, check_named};
 ghost use Rattle.inliner_tool.specs.Answers.{EndsWell, Is, stopped};
@@ -15,9 +16,11 @@ ghost use Rattle.inliner_tool.specs.Check.{
   is_hold,
   is_judged,
   label_for,
+  linked_answer,
   program_answer,
 };
 ghost use Rattle.inliner_tool.specs.CheckDecision.{CheckDecides};
+ghost use Rattle.inliner_tool.specs.Programs.{Equals, Step, UnlessMemory};
 ghost use Rattle.inliner_tool.specs.Tool.{CarriesOut, Holds, IsAnswer};
 ghost use Rattle.input_files.specs.CheckInputs.{AreSound};
 ghost use Rattle.input_files.specs.Forms.{since};
@@ -67,8 +70,34 @@ fn check_answer(alloc: Global, inputs: CheckInputs, main: &Bytes) -> Answer
         certificate,
         classes,
     } = inputs;
-    match program_of(alloc, listing, classes, main, Side::Inlined) {
-        Ok(program) => program_answer(alloc, &program, &policy, &certificate),
+    let linked = program_of(alloc, listing, classes, main, Side::Inlined);
+    let answer = linked_answer(alloc, linked, &policy, &certificate);
+    drop(certificate);
+    drop(policy);
+    answer
+}
+
+/// What is answered to a check of what class files link to.
+fn linked_answer(
+    alloc: Global,
+    linked: Result<Indexed, Refusal>,
+    policy: &PolicyTree,
+    certificate: &Certificate,
+) -> Answer
+    requires sound { IfOk linked IsSound }
+    requires listed { IfOk linked (λ program. IsListed program.listing) }
+    requires policy { IfOk linked (λ program. IsPolicyOf program.listing policy.now) }
+    ensures is { (step : Step Program) → UnlessMemory (Equals step) linked
+        → Is result (linked_answer policy.now certificate.now step) }
+    ensures checked { EndsWell result
+        → (program : Program) × ((linked ≡ Ok program) × ProgramIsChecked policy.now certificate.now program) }
+{
+    match linked {
+        Ok(program) => {
+            let answer = program_answer(alloc, &program, policy, certificate);
+            drop(program);
+            answer
+        }
         Err(refusal) => refused(refusal),
     }
 }

@@ -7,6 +7,7 @@ ghost use Rattle.api_listing.specs.Listing.{IsFew};
 ghost use Rattle.block_logic.specs.Accepted.{IsAccepted};
 ghost use Rattle.block_logic.specs.Meaning.{Promised};
 ghost use Rattle.block_template.specs.Blocks.{plan_of};
+ghost use Rattle.bytecode_model.specs.Layout.{IsLaidOut};
 ghost use Rattle.bytecode_model.specs.Order.{IsInOrder};
 ghost use Rattle.bytecode_model.specs.Sound.{IsSound};
 ghost use Rattle.cert_checker.specs.Acceptance.{verdict};
@@ -31,6 +32,7 @@ ghost use Rattle.inliner_tool.specs.Programs.{Equals, UnlessMemory};
 ghost use Rattle.inliner_tool.specs.Weaving.{
   Accepts,
   Gathers,
+  GathersBoth,
   IsGathered,
   IsPlanned,
   IsRewoven,
@@ -147,8 +149,14 @@ pub fn plan(alloc: Global, inputs: InlineInputs, words: &InlineWords) -> Result<
         classes,
     } = inputs;
     let client = program_of(alloc, listing, classes, words.main, Side::Original)?;
-    let given = given_of(alloc, words.weaving, &policy, client)?;
-    let made = woven(alloc, &given.client, &given.policy, given.mode)?;
+    let given = given_of(alloc, words.weaving, policy, client)?;
+    let made = match woven(alloc, &given.client, &given.policy, given.mode) {
+        Ok(made) => made,
+        Err(refusal) => {
+            drop(given);
+            return Err(refusal);
+        }
+    };
     kinds_are_told();
     woven_is_expected();
     rewoven(alloc, words, given, made)
@@ -178,24 +186,59 @@ fn woven_is_expected()
 fn given_of(
     alloc: Global,
     weaving: Weaving,
-    tree: &PolicyTree,
+    tree: PolicyTree,
     client: Indexed,
 ) -> Result<Given, Refusal>
     requires sound { IsSound client }
     requires order { IsInOrder client }
-    ensures gathers { UnlessMemory (Gathers weaving tree.now client) result }
-    ensures gathered { IfOk result (IsGathered tree.now client) }
-    ensures sound { IfOk result (λ given. (listing : Listing) → IsPolicyTree listing tree.now
+    ensures gathers { UnlessMemory (Gathers weaving tree client) result }
+    ensures gathered { IfOk result (IsGathered tree client) }
+    ensures sound { IfOk result (λ given. (listing : Listing) → IsPolicyTree listing tree
         → IsPolicy given.policy × NamesMethods (length listing.methods) given.policy) }
 {
-    let typing = types_of(alloc, &client)?;
-    let (policy, mode) = chosen(alloc, weaving, tree)?;
-    Ok(Given {
+    let gathered = gathered(alloc, weaving, &tree, &client);
+    drop(tree);
+    match gathered {
+        Ok((typing, chosen)) => Ok(given_with(client, typing, chosen)),
+        Err(refusal) => {
+            drop(client);
+            Err(refusal)
+        }
+    }
+}
+
+/// The program with its types, and the policy in its mode.
+fn given_with(client: Indexed, typing: Typing, chosen: (Policy, Mode)) -> Given
+    ensures { result ≡ record { client = client; typing = typing; policy = chosen.0; mode = chosen.1 } }
+{
+    let (policy, mode) = chosen;
+    Given {
         client: client.into_program(),
         typing,
         policy,
         mode,
-    })
+    }
+}
+
+/// The types of the program, and the policy in its mode.
+fn gathered(
+    alloc: Global,
+    weaving: Weaving,
+    tree: &PolicyTree,
+    client: &Indexed,
+) -> Result<(Typing, (Policy, Mode)), Refusal>
+    requires sound { IsSound client.now }
+    requires order { IsInOrder client.now }
+    ensures gathers { UnlessMemory (GathersBoth weaving tree.now client.now) result }
+    ensures laid_out { IfOk result (λ r. IsLaidOut client.now r.0.frames) }
+    ensures policy { IfOk result (λ r. r.1.0 ≡ built tree.now) }
+    ensures promised { IfOk result (λ r. Promised r.1.1 r.1.0) }
+    ensures sound { IfOk result (λ r. (listing : Listing) → IsPolicyTree listing tree.now
+        → IsPolicy r.1.0 × NamesMethods (length listing.methods) r.1.0) }
+{
+    let typing = types_of(alloc, client)?;
+    let chosen = chosen(alloc, weaving, tree)?;
+    Ok((typing, chosen))
 }
 
 /// The policy, and the mode in which it is woven, where that is built.
@@ -280,23 +323,62 @@ fn rewoven(alloc: Global, words: &InlineWords, given: Given, made: Woven) -> Res
     ensures steps { UnlessMemory (Remakes (inline_named words.now).main (inline_named words.now).folder given made) result }
     ensures rewoven { IfOk result (λ ready. IsRewoven (inline_named words.now) given made.files ready) }
 {
-    let Given {
-        client,
-        typing,
-        policy,
-        mode,
-    } = given;
-    let (program, certificate) = remade(alloc, &policy, mode, client, typing, made.files)?;
-    judged(alloc, words.folder, &policy, &program, &certificate)
+    match typing_of(
+        alloc,
+        &given.client,
+        &given.policy,
+        given.mode,
+        &given.typing,
+    ) {
+        Ok(typing) => retyped(alloc, words, given, typing, made),
+        Err(NoMemory) => {
+            drop(made);
+            drop(given);
+            Err(Refusal::Memory)
+        }
+    }
 }
 
-/// The program that the woven files of a client with these types link to, and its certificate.
+/// The same, where these are the types of what is woven.
+fn retyped(
+    alloc: Global,
+    words: &InlineWords,
+    given: Given,
+    typing: Typing,
+    made: Woven,
+) -> Result<Ready, Refusal>
+    requires few { IsFew given.client.listing }
+    requires listed { IsListed given.client.listing }
+    requires policy { IsSoundFor given.client.listing given.policy }
+    requires promised { Promised given.mode given.policy }
+    requires count { length made.files ≤ 1001 }
+    requires fits { AllByRecursion CanSpell made.files }
+    requires expected { IsExpected (inline_named words.now).main given made }
+    requires typing { typing ≡ typing_of given.client given.policy given.mode given.typing }
+    ensures steps { UnlessMemory (Remakes (inline_named words.now).main (inline_named words.now).folder given made) result }
+    ensures rewoven { IfOk result (λ ready. IsRewoven (inline_named words.now) given made.files ready) }
+{
+    let Given {
+        client,
+        policy,
+        mode,
+        ..
+    } = given;
+    let (program, certificate) = remade(alloc, &policy, mode, client, typing, made.files)?;
+    let ready = judged(alloc, words.folder, &policy, &program, &certificate);
+    drop(certificate);
+    drop(program);
+    drop(policy);
+    ready
+}
+
+/// The program that the woven files of a client link to, and its certificate, which tells these types.
 fn remade(
     alloc: Global,
     policy: &Policy,
     mode: Mode,
     client: Program,
-    before: Typing,
+    typing: Typing,
     files: List<ClassFile>,
 ) -> Result<(Indexed, Certificate), NoMemory>
     requires policy { IsPolicy policy.now }
@@ -304,16 +386,20 @@ fn remade(
     requires room { HaveRoom (plan_of policy.now mode) client.classes files }
     requires order { IsInOrder (program_with (plan_of policy.now mode) client files) }
     ensures program { IfOk result (λ made. made.0 ≡ program_with (plan_of policy.now mode) client files) }
-    ensures certificate { IfOk result (λ made. made.1
-        ≡ certificate_of client.classes policy.now mode (told made.0 (typing_of client policy.now mode before))) }
+    ensures certificate { IfOk result (λ made. made.1 ≡ certificate_of client.classes policy.now mode (told made.0 typing)) }
     ensures fits { IfOk result (λ made. FitsTyping made.1.typing) }
 {
-    let typing = typing_of(alloc, &client, policy, mode, &before)?;
-    drop(before);
     let (program, classes) = relinked(alloc, policy, mode, client, files)?;
-    let classes = classes.as_slice();
-    let certificate = certified(alloc, classes, policy, mode, program.program(), typing)?;
-    Ok((program, certificate))
+    let old = classes.as_slice();
+    let certificate = certified(alloc, old, policy, mode, program.program(), typing);
+    drop(classes);
+    match certificate {
+        Ok(certificate) => Ok((program, certificate)),
+        Err(NoMemory) => {
+            drop(program);
+            Err(NoMemory)
+        }
+    }
 }
 
 /// The program that woven files link to, with an index of its classes, and the classes that it was woven of.

@@ -24,7 +24,11 @@ pub fn answer_policy<S: Store>(alloc: Global, words: &PolicyWords, store: &mut S
     ensures faults { S.faults store.old ≤ S.faults store.new }
 {
     match read_policy(alloc, store, words) {
-        Ok(inputs) => policy_answer(alloc, &inputs),
+        Ok(inputs) => {
+            let answer = policy_answer(alloc, &inputs);
+            drop(inputs);
+            answer
+        }
         Err(stop) => stopped(stop),
     }
 }

@@ -27,7 +27,11 @@ pub fn answer_race<S: Store>(alloc: Global, words: &RaceWords, store: &mut S) ->
     ensures faults { S.faults store.old ≤ S.faults store.new }
 {
     match read_race(alloc, store, words) {
-        Ok(inputs) => race_answer(alloc, &inputs),
+        Ok(inputs) => {
+            let answer = race_answer(alloc, &inputs);
+            drop(inputs);
+            answer
+        }
         Err(stop) => stopped(stop),
     }
 }

@@ -4,11 +4,11 @@ ghost use Rattle.std.specs.Prelude.{◌≡◌, ◌≤◌, IfOk};
 ghost use Rattle.command_words.specs.ReplayWords.{replay_named};
 ghost use Rattle.command_words.specs.Words.{Replay};
 ghost use Rattle.guest_model.specs.Ready.{IsReady};
-ghost use Rattle.inliner_tool.specs.Programs.{Equals, UnlessMemory};
+ghost use Rattle.inliner_tool.specs.Programs.{Equals, Types, UnlessMemory};
 ghost use Rattle.inliner_tool.specs.Replay.{Tells, end_told, run_text, steps_told};
 ghost use Rattle.inliner_tool.specs.ReplayDecision.{ReplayDecides};
 ghost use Rattle.inliner_tool.specs.Tool.{CarriesOut, IsAnswer};
-ghost use Rattle.input_files.specs.Forms.{since};
+ghost use Rattle.input_files.specs.Forms.{Then, since};
 ghost use Rattle.input_files.specs.ReplayInputs.{ReplaySound};
 
 use crate::answer::{Answer, refused, stopped};
@@ -55,8 +55,23 @@ fn told(alloc: Global, inputs: ReplayInputs, main: &Bytes) -> Result<Bytes, Refu
         classes,
     } = inputs;
     let program = program_of(alloc, listing, classes, main, Side::Inlined)?;
-    types_of(alloc, &program)?;
-    steps_told(alloc, program, recorded.steps.as_slice())
+    let told = typed_told(alloc, program, recorded.steps.as_slice());
+    drop(recorded);
+    told
+}
+
+/// What is told of the run that these steps are, of a program that has types.
+fn typed_told(alloc: Global, program: Indexed, steps: &[Step]) -> Result<Bytes, Refusal>
+    requires { IsReady program }
+    ensures { UnlessMemory (Then (Types program) (λ typing. Equals (steps_told program steps.now))) result }
+{
+    match types_of(alloc, &program) {
+        Ok(_) => steps_told(alloc, program, steps),
+        Err(refusal) => {
+            drop(program);
+            Err(refusal)
+        }
+    }
 }
 
 /// What is told of the run that these steps are.
@@ -65,7 +80,9 @@ fn steps_told(alloc: Global, program: Indexed, steps: &[Step]) -> Result<Bytes, 
     ensures { UnlessMemory (Equals (steps_told program steps.now)) result }
 {
     let guest = Guest::new(alloc, program)?;
-    run_told(alloc, &guest, steps)
+    let told = run_told(alloc, &guest, steps);
+    drop(guest);
+    told
 }
 
 /// What is told of the run that these steps are of the guest's program.
@@ -73,7 +90,9 @@ fn run_told(alloc: Global, guest: &Guest, steps: &[Step]) -> Result<Bytes, Refus
     ensures { UnlessMemory (Equals (steps_told guest.now steps.now)) result }
 {
     let run = replay(alloc, guest, steps)?;
-    Ok(run_text(alloc, guest, steps.len() as u64, &run)?)
+    let text = run_text(alloc, guest, steps.len() as u64, &run);
+    drop(run);
+    Ok(text?)
 }
 
 /// The lines of the events of a run of so many steps, and its end line.

@@ -29,7 +29,11 @@ pub fn answer_show<S: Store>(alloc: Global, words: &ShowWords, store: &mut S) ->
     ensures faults { S.faults store.old ≤ S.faults store.new }
 {
     match read_show(alloc, store, words) {
-        Ok(inputs) => show_answer(alloc, &inputs),
+        Ok(inputs) => {
+            let answer = show_answer(alloc, &inputs);
+            drop(inputs);
+            answer
+        }
         Err(stop) => stopped(stop),
     }
 }

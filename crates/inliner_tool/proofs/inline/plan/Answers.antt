@@ -14,36 +14,35 @@ returns-in_err-given-clause-plans c =
     let p = err_from_is_err_and c.from_residual-in_err-given.result c.from_residual-in_err-given.ensures.1 in
     rw (p.1, p.2) (given_fails (inline_named c.args.words.now) c.args.inputs c.in_ok-client.client c.in_ok-client.ensures.is c.in_err-given.field-0.0 c.in_err-given.ensures.gathers)
 
-pub returns-in_err-made-clause-plans : goal.returns-in_err-made-clause-plans
-returns-in_err-made-clause-plans c =
-    let p = err_from_is_err_and c.from_residual-in_err-made.result c.from_residual-in_err-made.ensures.1 in
-    rw (p.1, p.2) (plan_fails (inline_named c.args.words.now) c.args.inputs c.in_ok-client.client c.in_ok-client.ensures.is c.in_ok-given.given c.in_ok-given.ensures.gathers c.in_err-made.field-0.0 c.in_err-made.ensures.is)
+pub returns-in-Err-clause-plans : goal.returns-in-Err-clause-plans
+returns-in-Err-clause-plans c =
+    plan_fails (inline_named c.args.words.now) c.args.inputs c.in_ok-client.client c.in_ok-client.ensures.is c.in_ok-given.given c.in_ok-given.ensures.gathers c.in-Err.refusal c.in-Err.ensures.is
 
 pub rewoven-requires-clause-policy : goal.rewoven-requires-clause-policy
 rewoven-requires-clause-policy c =
     let of = made_of c.args.inputs c.in_ok-client.client c.in_ok-given.given c.in_ok-given.ensures.gathered c.kinds_are_told.ensures.arguments c.kinds_are_told.ensures.results c.requires (inline_named c.args.words.now)
     (sym c.in_ok-client.ensures.is) c.in_ok-client.ensures.sound c.in_ok-client.ensures.links c.in_ok-client.ensures.listing (c.in_ok-given.ensures.sound c.args.inputs.listing c.requires.policy.sound)
-    c.in_ok-made.made c.in_ok-made.ensures.exact in
+    c.in-Ok.made c.in-Ok.ensures.exact in
     of.kept
 
 pub rewoven-requires-clause-expected : goal.rewoven-requires-clause-expected
 rewoven-requires-clause-expected c =
     let of = made_of c.args.inputs c.in_ok-client.client c.in_ok-given.given c.in_ok-given.ensures.gathered c.kinds_are_told.ensures.arguments c.kinds_are_told.ensures.results c.requires (inline_named c.args.words.now)
     (sym c.in_ok-client.ensures.is) c.in_ok-client.ensures.sound c.in_ok-client.ensures.links c.in_ok-client.ensures.listing (c.in_ok-given.ensures.sound c.args.inputs.listing c.requires.policy.sound)
-    c.in_ok-made.made c.in_ok-made.ensures.exact in
+    c.in-Ok.made c.in-Ok.ensures.exact in
     let typed = client_typed c.args.inputs c.in_ok-client.client c.in_ok-given.given c.in_ok-given.ensures.gathered
     (typed_so (inline_named c.args.words.now) c.args.inputs c.in_ok-client.client c.in_ok-client.ensures.is c.in_ok-given.given c.in_ok-given.ensures.gathers).0 in
     let laid_out = client_laid_out c.args.inputs c.in_ok-client.client c.in_ok-given.given c.in_ok-given.ensures.gathered in
-    c.woven_is_expected.ensures.expected c.args.inputs (inline_named c.args.words.now).main c.in_ok-given.given c.in_ok-made.made of typed laid_out c.in_ok-made.ensures.fits
-    (few_made c.args.inputs c.in_ok-client.client c.in_ok-given.given c.in_ok-given.ensures.gathered c.in_ok-client.ensures.few c.in_ok-made.made c.in_ok-made.ensures.exact)
+    c.woven_is_expected.ensures.expected c.args.inputs (inline_named c.args.words.now).main c.in_ok-given.given c.in-Ok.made of typed laid_out c.in-Ok.ensures.fits
+    (few_made c.args.inputs c.in_ok-client.client c.in_ok-given.given c.in_ok-given.ensures.gathered c.in_ok-client.ensures.few c.in-Ok.made c.in-Ok.ensures.exact)
 
 pub rewoven-requires-clause-count : goal.rewoven-requires-clause-count
 rewoven-requires-clause-count c =
-    few_made c.args.inputs c.in_ok-client.client c.in_ok-given.given c.in_ok-given.ensures.gathered c.in_ok-client.ensures.few c.in_ok-made.made c.in_ok-made.ensures.exact
+    few_made c.args.inputs c.in_ok-client.client c.in_ok-given.given c.in_ok-given.ensures.gathered c.in_ok-client.ensures.few c.in-Ok.made c.in-Ok.ensures.exact
 
 pub returns-clause-plans : goal.returns-clause-plans
 returns-clause-plans c =
-    plan_goes (inline_named c.args.words.now) c.args.inputs c.in_ok-client.client c.in_ok-client.ensures.is c.in_ok-given.given c.in_ok-given.ensures.gathers c.in_ok-made.made c.in_ok-made.ensures.is
+    plan_goes (inline_named c.args.words.now) c.args.inputs c.in_ok-client.client c.in_ok-client.ensures.is c.in_ok-given.given c.in_ok-given.ensures.gathers c.in-Ok.made c.in-Ok.ensures.is
     c.rewoven.result c.rewoven.ensures.steps
 
 pub returns-clause-planned : goal.returns-clause-planned
@@ -55,8 +54,8 @@ returns-clause-planned c =
     let gathered = c.in_ok-given.ensures.gathered in
     let of = made_of c.args.inputs c.in_ok-client.client c.in_ok-given.given c.in_ok-given.ensures.gathered c.kinds_are_told.ensures.arguments c.kinds_are_told.ensures.results c.requires (inline_named c.args.words.now)
     (sym c.in_ok-client.ensures.is) c.in_ok-client.ensures.sound c.in_ok-client.ensures.links c.in_ok-client.ensures.listing (c.in_ok-given.ensures.sound c.args.inputs.listing c.requires.policy.sound)
-    c.in_ok-made.made c.in_ok-made.ensures.exact in
+    c.in-Ok.made c.in-Ok.ensures.exact in
     let so = typed_so (inline_named c.args.words.now) c.args.inputs c.in_ok-client.client c.in_ok-client.ensures.is c.in_ok-given.given c.in_ok-given.ensures.gathers in
-    planned named inputs given c.in_ok-made.made (client_links inputs client given gathered named (sym c.in_ok-client.ensures.is)) (client_typed inputs client given gathered so.0) gathered.policy so.1
-    (listing_same inputs client given gathered c.in_ok-client.ensures.listing) c.in_ok-made.ensures.exact
-    (c.woven_is_expected.ensures.links inputs named.main given c.in_ok-made.made of) c.rewoven.result c.rewoven.ensures.rewoven
+    planned named inputs given c.in-Ok.made (client_links inputs client given gathered named (sym c.in_ok-client.ensures.is)) (client_typed inputs client given gathered so.0) gathered.policy so.1
+    (listing_same inputs client given gathered c.in_ok-client.ensures.listing) c.in-Ok.ensures.exact
+    (c.woven_is_expected.ensures.links inputs named.main given c.in-Ok.made of) c.rewoven.result c.rewoven.ensures.rewoven

@@ -12,24 +12,34 @@ use Rattle.command_words.specs.InlineWords.{inline_named}
 use Rattle.output_files.specs.Outputs.{is_written, outputs_of}
 use Rattle.std.specs.Prelude.{IfOk, true, length}
 use Rattle.told_typing.specs.Told.{FitsTyping}
+use Rattle.cert_format.specs.declared.typing.Typing.{Typing}
+use Rattle.cert_maker.specs.Noting.{certificate_of}
+use Rattle.told_typing.specs.Told.{told}
+use Rattle.woven_typing.specs.Framing.{typing_of}
+use Rattle.inliner_tool.specs.declared.inline.Given.{Given}
 use Rattle.inliner_tool.specs.declared.inline.Ready.{Ready}
 use Rattle.inliner_tool.specs.Expected.{woven_program}
 use Rattle.inliner_tool.specs.Programs.{woven_links}
 use Rattle.inliner_tool.specs.Weaving.{Accepts, certificate_for}
 use Rattle.inliner_tool.proofs.Blocks.{known_rewoven, remakes}
-use Rattle.inliner_tool.proofs.inline.rewoven.Goals as goal
+use Rattle.inliner_tool.proofs.inline.retyped.Goals as goal
 
-pub judged-requires-clause-sound : goal.judged-requires-clause-sound
-judged-requires-clause-sound c =
+told_so : (given : Given) (program : Program) (typing : Typing) → typing ≡ typing_of given.client given.policy given.mode given.typing
+    → (certificate : Certificate) → certificate ≡ certificate_of given.client.classes given.policy given.mode (told program typing) → certificate ≡ certificate_for given program
+told_so given program typing is certificate made =
+    made ∙ ap (λ (t : Typing). certificate_of given.client.classes given.policy given.mode (told program t)) is
+
+pub judged-ready-requires-clause-sound : goal.judged-ready-requires-clause-sound
+judged-ready-requires-clause-sound c =
     let same : c.in_ok-program.program ≡ woven_program c.args.given c.args.made = c.in_ok-program.ensures.program in
     subst IsSound (sym same) c.requires.expected.sound
 
-pub judged-requires-clause-accepted : goal.judged-requires-clause-accepted
-judged-requires-clause-accepted c =
+pub judged-ready-requires-clause-accepted : goal.judged-ready-requires-clause-accepted
+judged-ready-requires-clause-accepted c =
     let given = c.args.given in
     let program = c.in_ok-program.program in
     let same : c.in_ok-program.program ≡ woven_program c.args.given c.args.made = c.in_ok-program.ensures.program in
-    let is : c.in_ok-program.certificate ≡ certificate_for given program = c.in_ok-program.ensures.certificate in
+    let is : c.in_ok-program.certificate ≡ certificate_for given program = told_so c.args.given program c.args.typing c.requires.typing c.in_ok-program.certificate c.in_ok-program.ensures.certificate in
     let accepted = subst (λ (p : Program). IsAccepted p given.policy (certificate_for given p)) (sym same) c.requires.expected.accepted in
     subst (λ (x : Certificate). IsAccepted program given.policy x) (sym is) accepted
 
@@ -39,10 +49,10 @@ returns-clause-steps c =
     let program = c.in_ok-program.program in
     let same : c.in_ok-program.program ≡ woven_program c.args.given c.args.made = c.in_ok-program.ensures.program in
     let links : woven_links c.args.made.files given.client.listing c.args.words.now.main.now ≡ Ok program = c.requires.expected.links ∙ ap (λ (p : Program). Ok p) (sym same) in
-    let is : c.in_ok-program.certificate ≡ certificate_for given program = c.in_ok-program.ensures.certificate in
+    let is : c.in_ok-program.certificate ≡ certificate_for given program = told_so c.args.given program c.args.typing c.requires.typing c.in_ok-program.certificate c.in_ok-program.ensures.certificate in
     remakes c.args.words.now.main.now c.args.words.now.folder.now given c.args.made program links
-    (subst (λ (x : Certificate). IsAccepted program given.policy x) is c.judged.ensures.accepted) c.judged.result
-    (subst (λ (x : Certificate). Accepts c.args.words.now.folder.now given.policy program x c.judged.result) is c.judged.ensures.accepts)
+    (subst (λ (x : Certificate). IsAccepted program given.policy x) is c.judged-ready.ensures.accepted) c.judged-ready.result
+    (subst (λ (x : Certificate). Accepts c.args.words.now.folder.now given.policy program x c.judged-ready.result) is c.judged-ready.ensures.accepts)
 
 pub returns-clause-rewoven : goal.returns-clause-rewoven
 returns-clause-rewoven c =
@@ -51,14 +61,14 @@ returns-clause-rewoven c =
     let program = c.in_ok-program.program in
     let same : c.in_ok-program.program ≡ woven_program c.args.given c.args.made = c.in_ok-program.ensures.program in
     let links : woven_links c.args.made.files given.client.listing c.args.words.now.main.now ≡ Ok program = expected.links ∙ ap (λ (p : Program). Ok p) (sym same) in
-    let is : c.in_ok-program.certificate ≡ certificate_for given program = c.in_ok-program.ensures.certificate in
+    let is : c.in_ok-program.certificate ≡ certificate_for given program = told_so c.args.given program c.args.typing c.requires.typing c.in_ok-program.certificate c.in_ok-program.ensures.certificate in
     let back = subst (λ (p : Program). unlinked p ≡ c.args.made.files) (sym same) expected.back in
     let sound = subst IsSound (sym same) expected.sound in
     let spells = subst (λ (p : Program). FitsTyping (certificate_for given p).typing → is_written (certificate_for given p) ≡ true → CanSpell (length given.policy.vars) (certificate_for given p)) (sym same) expected.spells in
     known_rewoven (inline_named c.args.words.now) given c.args.made program links back sound
-    (subst (λ (x : Certificate). IsAccepted program given.policy x) is c.judged.ensures.accepted)
-    (subst (λ (m : Mode). Secure m program given.policy) (ap (λ (x : Certificate). x.mode) is) c.judged.ensures.secure)
-    (spells (subst (λ (x : Certificate). FitsTyping x.typing) is c.in_ok-program.ensures.fits)) c.judged.result
-    (subst (λ (x : Certificate). IfOk c.judged.result (λ (ready : Ready). verdict program given.policy x ≡ Ok ready.accepted)) is c.judged.ensures.verdict)
-    (subst (λ (x : Certificate). IfOk c.judged.result (λ (ready : Ready). is_written x ≡ true)) is c.judged.ensures.written)
-    (subst (λ (x : Certificate). IfOk c.judged.result (λ (ready : Ready). ready.outputs ≡ outputs_of c.args.words.now.folder.now program x)) is c.judged.ensures.outputs)
+    (subst (λ (x : Certificate). IsAccepted program given.policy x) is c.judged-ready.ensures.accepted)
+    (subst (λ (m : Mode). Secure m program given.policy) (ap (λ (x : Certificate). x.mode) is) c.judged-ready.ensures.secure)
+    (spells (subst (λ (x : Certificate). FitsTyping x.typing) is c.in_ok-program.ensures.fits)) c.judged-ready.result
+    (subst (λ (x : Certificate). IfOk c.judged-ready.result (λ (ready : Ready). verdict program given.policy x ≡ Ok ready.accepted)) is c.judged-ready.ensures.verdict)
+    (subst (λ (x : Certificate). IfOk c.judged-ready.result (λ (ready : Ready). is_written x ≡ true)) is c.judged-ready.ensures.written)
+    (subst (λ (x : Certificate). IfOk c.judged-ready.result (λ (ready : Ready). ready.outputs ≡ outputs_of c.args.words.now.folder.now program x)) is c.judged-ready.ensures.outputs)
