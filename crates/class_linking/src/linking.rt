@@ -225,7 +225,9 @@ fn methods_of(
     ensures sound { IfOk result (AllByRecursion (AllByRecursion IsSoundMethod)) }
 {
     let classes = all_classes(alloc, listing, heads)?;
-    methods_among(alloc, files, heads, &classes, literals, listing)
+    let methods = methods_among(alloc, files, heads, &classes, literals, listing);
+    drop(classes);
+    methods
 }
 
 /// The same, where these are all classes.
@@ -247,7 +249,9 @@ fn methods_among(
     ensures sound { IfOk result (AllByRecursion (AllByRecursion IsSoundMethod)) }
 {
     let index = Index::new(alloc, files, listing, heads, classes, literals)?;
-    each_linked(alloc, &index, files)
+    let methods = each_linked(alloc, &index, files);
+    drop(index);
+    methods
 }
 
 /// What each of some of the files links to.

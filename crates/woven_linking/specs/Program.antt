@@ -26,18 +26,22 @@ use Rattle.class_weaving.specs.Woven.{is_woven, sites_of, locals_of, woven}
 
 -- ---- a method
 
--- the method with these blocks, which name constants of the pool; conspec/State is the class of the index `state`
-abbrev pub with_blocks : Plan → ℕ → List Const → Method → List (Option Block) → Method
-with_blocks plan state pool method sites = record {
+-- the method with these blocks, which use so many more locals and name constants of the pool; conspec/State is the class of the
+-- index `state`
+abbrev pub with_sites : ℕ → ℕ → List Const → Method → List (Option Block) → Method
+with_sites locals state pool method sites = record {
   flags = method.flags;
   name = method.name;
   desc = method.desc;
   max_stack = method.max_stack + operands_needed;
-  max_locals = method.max_locals + locals_of plan method;
+  max_locals = method.max_locals + locals;
   insns = spliced pool method.insns sites;
   refs = parts_named state method.refs sites;
   handlers = handlers_with sites method.handlers;
 }
+
+abbrev pub with_blocks : Plan → ℕ → List Const → Method → List (Option Block) → Method
+with_blocks plan state pool method sites = with_sites (locals_of plan method) state pool method sites
 
 -- A method without a block stays as it is.
 abbrev pub method_with : Plan → ℕ → List Const → Method → Method

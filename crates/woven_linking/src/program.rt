@@ -1,9 +1,14 @@
 //! The program that woven class files link to, made of the program that was woven.
 
-ghost use Rattle.std.specs.Prelude.{◌≡◌, ◌<◌, ◌≤◌, ◌^◌, IfOk, OnOk, length, map, true};
+ghost use Rattle.std.specs.Prelude.{◌≡◌, ◌<◌, ◌≤◌, ◌+◌, ◌^◌, IfOk, Ok, OnOk, length, map, true};
 ghost use Rattle.std.specs.List.{AllByRecursion};
 ghost use Rattle.bytecode_model.specs.Sound.{IsSound, IsSoundClass, IsSoundMethod};
+ghost use Rattle.bytecode_model.specs.Heads.{class_at};
+ghost use Rattle.class_weaving.specs.Outcome.{handlers_with, parts_named};
 ghost use Rattle.class_weaving.specs.Woven.{is_woven, sites_of};
+ghost use Rattle.offset_patch.specs.Entries.{IsThere};
+ghost use Rattle.offset_patch.specs.Fits.{IsSite};
+ghost use Rattle.offset_patch.specs.Splicing.{count_of, fronts_of, operands_needed, spliced, wants_of};
 ghost use Rattle.woven_linking.specs.Program.{
   ClassHasRoom,
   HasRoom,
@@ -15,15 +20,17 @@ ghost use Rattle.woven_linking.specs.Program.{
   program_with,
   state_with,
   with_blocks,
+  with_sites,
 };
 
 use crate::handlers::handlers_with;
 use crate::operands::parts_named;
-use bytecode_model::{Handlers, LinkedClass, Method, Program, copy_class};
-use class_codec::{ClassFile, Copied};
+use bytecode_model::{Handlers, LinkedClass, Method, Program, Target, copy_class};
+use class_codec::{ClassFile, Const, Copied};
 use class_weaving::{is_woven, most_locals, sites_of};
-use mon_base::{List, NoMemory};
-use offset_patch::{Entries, OPERANDS, Planner, fronts_of, parts};
+use insn_codec::Insn;
+use mon_base::{Bytes, List, NoMemory};
+use offset_patch::{Block, Entries, OPERANDS, Planner, fronts_of, parts};
 use std::alloc::Global;
 use std::collections::VecDeque;
 
@@ -90,15 +97,44 @@ fn classes_with<P: Planner>(
 fn state_with(alloc: Global, file: ClassFile) -> Result<LinkedClass, NoMemory>
     ensures { IfOk result (λ class. class ≡ state_with file) }
 {
-    let pool = file.pool.as_slice();
-    let name = copy_class(alloc, pool, file.this_class)?;
-    let parent = copy_class(alloc, pool, file.super_class)?;
-    Ok(LinkedClass {
-        name,
-        parent,
-        file,
-        methods: List::new(alloc),
-    })
+    let names = names_in(alloc, &file);
+    class_of(names, file, List::new(alloc))
+}
+
+/// The names of the file's class and of its superclass.
+fn names_in(alloc: Global, file: &ClassFile) -> Result<(Bytes, Bytes), NoMemory>
+    ensures { IfOk result (λ names. names ≡ (class_at file.now.pool file.now.this_class, class_at file.now.pool file.now.super_class)) }
+{
+    let name = copy_class(alloc, file.pool.as_slice(), file.this_class)?;
+    let parent = copy_class(alloc, file.pool.as_slice(), file.super_class)?;
+    Ok((name, parent))
+}
+
+/// The class of these names, with its file and its methods.
+fn class_of(
+    names: Result<(Bytes, Bytes), NoMemory>,
+    file: ClassFile,
+    methods: List<Method>,
+) -> Result<LinkedClass, NoMemory>
+    ensures { IfOk result (λ class. names ≡ Ok (class.name, class.parent)
+        × ((class.file ≡ file) × (class.methods ≡ methods))) }
+{
+    match names {
+        Ok(names) => {
+            let (name, parent) = names;
+            Ok(LinkedClass {
+                name,
+                parent,
+                file,
+                methods,
+            })
+        }
+        Err(NoMemory) => {
+            drop(methods);
+            drop(file);
+            Err(NoMemory)
+        }
+    }
 }
 
 /// The class with its woven file, whose constants serve its methods and are given back.
@@ -114,17 +150,38 @@ fn class_with<P: Planner>(
     ensures { IfOk result (λ class. class ≡ class_with (P.plan planner.now) state old.now file) }
 {
     let mut file = file;
-    let mut entries = Entries::new(file.pool);
+    let (methods, pool) = methods_over(alloc, planner, state, old, file.pool)?;
+    file.pool = pool;
+    class_of(names_of(alloc, old), file, methods)
+}
+
+/// The names of the class and of its superclass.
+fn names_of(alloc: Global, class: &LinkedClass) -> Result<(Bytes, Bytes), NoMemory>
+    ensures { IfOk result (λ names. names ≡ (class.now.name, class.now.parent)) }
+{
+    let name = class.name.copy(alloc)?;
+    let parent = class.parent.copy(alloc)?;
+    Ok((name, parent))
+}
+
+/// The methods of a class over the constants of its woven file, which are given back.
+fn methods_over<P: Planner>(
+    alloc: Global,
+    planner: &P,
+    state: u32,
+    old: &LinkedClass,
+    pool: List<Const>,
+) -> Result<(List<Method>, List<Const>), NoMemory>
+    requires few { length pool < 2 ^ 16 }
+    requires sound { IsSoundClass old.now }
+    requires room { AllByRecursion (MethodHasRoom (P.plan planner.now) pool) old.now.methods }
+    ensures methods { IfOk result (λ made. made.0 ≡ map (method_with (P.plan planner.now) state pool) old.now.methods) }
+    ensures pool { IfOk result (λ made. made.1 ≡ pool) }
+{
+    let mut entries = Entries::new(pool);
     let methods = methods_with(alloc, planner, state, &mut entries, old.methods.as_slice())?;
-    file.pool = entries.into_list(alloc)?;
-    let name = old.name.copy(alloc)?;
-    let parent = old.parent.copy(alloc)?;
-    Ok(LinkedClass {
-        name,
-        parent,
-        file,
-        methods,
-    })
+    let pool = entries.into_list(alloc)?;
+    Ok((methods, pool))
 }
 
 /// The methods of a class, of whose constants there are few.
@@ -190,15 +247,33 @@ fn with_blocks<P: Planner>(
 {
     let locals = most_locals(planner, old.refs.as_slice())? as u16;
     let sites = sites_of(alloc, planner, old.max_locals, old.refs.as_slice())?;
-    let sites = sites.as_slice();
+    with_sites(alloc, state, entries, old, locals, sites.as_slice())
+}
+
+/// The method with these blocks, which use so many more locals.
+fn with_sites(
+    alloc: Global,
+    state: u32,
+    entries: &mut Entries,
+    old: &Method,
+    locals: u16,
+    sites: &[Option<Block>],
+) -> Result<Method, NoMemory>
+    requires few { length entries.old < 2 ^ 16 }
+    requires sound { IsSoundMethod old.now }
+    requires stack { old.now.max_stack + operands_needed < 2 ^ 16 }
+    requires locals { old.now.max_locals + locals < 2 ^ 16 }
+    requires count { count_of sites.now < 2 ^ 16 }
+    requires there { AllByRecursion (IsThere entries.old) (wants_of sites.now) }
+    requires sites { AllByRecursion IsSite sites.now }
+    ensures is { IfOk result (λ method. method ≡ with_sites locals state entries.old old.now sites.now) }
+    ensures kept { OnOk result (entries.new ≡ entries.old) }
+{
     let fronts = fronts_of(alloc, sites)?;
     let fronts = fronts.as_slice();
-    let insns = parts(alloc, entries, fronts, old.insns.as_slice(), sites)?;
-    let refs = parts_named(alloc, state, old.refs.as_slice(), sites)?;
-    let handlers = handlers_with(alloc, fronts, sites, old.handlers.as_slice())?;
-    let name = old.name.copy(alloc)?;
-    let desc = old.desc.copy(alloc)?;
-    let handlers = Handlers::new(alloc, handlers)?;
+    let (insns, refs) = body_with(alloc, state, entries, fronts, old, sites)?;
+    let handlers = own_and_moved(alloc, fronts, old, sites)?;
+    let (name, desc) = texts_of(alloc, old)?;
     Ok(Method {
         flags: old.flags,
         name,
@@ -209,4 +284,53 @@ fn with_blocks<P: Planner>(
         refs,
         handlers,
     })
+}
+
+/// The instructions with these blocks, and what the operands name.
+fn body_with(
+    alloc: Global,
+    state: u32,
+    entries: &mut Entries,
+    fronts: &[u32],
+    old: &Method,
+    sites: &[Option<Block>],
+) -> Result<(List<Insn>, List<Target>), NoMemory>
+    requires few { length entries.old < 2 ^ 16 }
+    requires sound { IsSoundMethod old.now }
+    requires count { count_of sites.now < 2 ^ 16 }
+    requires there { AllByRecursion (IsThere entries.old) (wants_of sites.now) }
+    requires sites { AllByRecursion IsSite sites.now }
+    requires fronts { fronts.now ≡ fronts_of sites.now }
+    ensures insns { IfOk result (λ body. body.0 ≡ spliced entries.old old.now.insns sites.now) }
+    ensures refs { IfOk result (λ body. body.1 ≡ parts_named state old.now.refs sites.now) }
+    ensures kept { OnOk result (entries.new ≡ entries.old) }
+{
+    let insns = parts(alloc, entries, fronts, old.insns.as_slice(), sites)?;
+    let refs = parts_named(alloc, state, old.refs.as_slice(), sites)?;
+    Ok((insns, refs))
+}
+
+/// The handlers of these blocks, and then those of the method.
+fn own_and_moved(
+    alloc: Global,
+    fronts: &[u32],
+    old: &Method,
+    sites: &[Option<Block>],
+) -> Result<Handlers, NoMemory>
+    requires count { count_of sites.now < 2 ^ 16 }
+    requires sites { AllByRecursion IsSite sites.now }
+    requires fronts { fronts.now ≡ fronts_of sites.now }
+    ensures { IfOk result (λ handlers. handlers ≡ handlers_with sites.now old.now.handlers) }
+{
+    let list = handlers_with(alloc, fronts, sites, old.handlers.as_slice())?;
+    Handlers::new(alloc, list)
+}
+
+/// The name and the descriptor of a method.
+fn texts_of(alloc: Global, method: &Method) -> Result<(Bytes, Bytes), NoMemory>
+    ensures { IfOk result (λ texts. texts ≡ (method.now.name, method.now.desc)) }
+{
+    let name = method.name.copy(alloc)?;
+    let desc = method.desc.copy(alloc)?;
+    Ok((name, desc))
 }
