@@ -62,16 +62,19 @@ mode_for weavings.Hold policy = Ok modes.Hold
 mode_for weavings.Release policy = releasing policy
 mode_for weavings.Auto policy = releasing policy
 
--- What is to be woven: the program, which is typed, and the policy in its mode.
+-- The types of the program, which is typed, and the policy in its mode, put together so.
+abbrev pub GathersAs : {A : Type 0} → (Typing → Policy → Mode → A) → Weaving → PolicyTree → Program → Step A → Type 0
+GathersAs together weaving policy client =
+    Then (Types client) (λ typing. Then (Equals (mode_for weaving policy)) (λ mode. Equals (Ok (together typing (built policy) mode))))
+
+-- What is to be woven: the program with its types, and the policy in its mode.
 abbrev pub Gathers : Weaving → PolicyTree → Program → Step Given → Type 0
-Gathers weaving policy client =
-    Then (Types client) (λ typing. Then (Equals (mode_for weaving policy)) (λ mode.
-    Equals (Ok (record { client = client; typing = typing; policy = built policy; mode = mode }))))
+Gathers weaving tree client =
+    GathersAs (λ typing policy mode. record { client = client; typing = typing; policy = policy; mode = mode }) weaving tree client
 
 -- The same, before the program is put to it.
 abbrev pub GathersBoth : Weaving → PolicyTree → Program → Step (Typing × (Policy × Mode)) → Type 0
-GathersBoth weaving policy client =
-    Then (Types client) (λ typing. Then (Equals (mode_for weaving policy)) (λ mode. Equals (Ok (typing, (built policy, mode)))))
+GathersBoth = GathersAs (λ typing policy mode. (typing, (policy, mode)))
 
 -- It is this program, with types of its layout, and this policy, in a mode in which that is promised.
 pub record IsGathered (tree : PolicyTree) (program : Program) (given : Given) : Type 0 where

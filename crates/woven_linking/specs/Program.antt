@@ -40,6 +40,7 @@ with_sites locals state pool method sites = record {
   handlers = handlers_with sites method.handlers;
 }
 
+-- the same, with as many more locals as the plan asks for
 abbrev pub with_blocks : Plan → ℕ → List Const → Method → List (Option Block) → Method
 with_blocks plan state pool method sites = with_sites (locals_of plan method) state pool method sites
 
