@@ -53,6 +53,9 @@ class ClassFile:
     def method_ref(self, owner, name, desc):
         return self.member(10, owner, name, desc)
 
+    def interface_ref(self, owner, name, desc):
+        return self.member(11, owner, name, desc)
+
     def interface(self, name):
         self.interfaces.append(self.type(name))
 

@@ -1,5 +1,30 @@
-//! Class files of version 49 that a Java compiler wrote (ecj 3.32, `-source 1.5 -target 1.5`), from the sources in this
-//! crate's data/.
+//! Class files of version 49: two that were written by hand, and four that a Java compiler wrote (ecj 3.32, `-source 1.5
+//! -target 1.5`), from the sources in this crate's data/. tests/bytes reads these lines, too.
+
+/// A class `a/E` with an empty `main`.
+pub const SMALL: [&str; 9] = [
+    "cafebabe00000031",
+    "0008010003612f45",
+    "0700010100106a6176612f6c616e672f4f626a656374",
+    "070003",
+    "0100046d61696e010016285b4c6a6176612f6c616e672f537472696e673b2956010004436f6465",
+    "002100020004000000000001",
+    "0009000500060001",
+    "00070000000d0000000100000001b100000000",
+    "0000",
+];
+
+/// A class with a constant of each kind, an interface, and a field.
+pub const WIDE: [&str; 8] = [
+    "cafebabe00000031000f",
+    "010003612f45",
+    "070001",
+    "01000149",
+    "03ffffffff043fc00000",
+    "0580000000000000000640091eb851eb851f",
+    "0800010c00010003090002000b0a0002000b0b0002000b",
+    "002100020002000100020001000000010003000000000000",
+];
 
 pub const COUNTER: [&str; 15] = [
     "cafebabe000000310034070002010007436f756e7465720700040100106a6176612f6c616e672f4f626a6563740700060100126a6176612f6c616e67",
