@@ -1,5 +1,5 @@
-//! Tests of stores and sinks, and of the crates that read and write bytes and texts: class files, the codes of methods,
-//! certificates, listings and records; and the bytes that they begin with, as tests write them.
+//! Tests of what no command shows: stores and sinks, copies of class files, and records that are written; and the bytes that they
+//! begin with, as tests write them.
 #![tactic(auto)]
 
 mod bytes;

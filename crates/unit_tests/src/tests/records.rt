@@ -1,7 +1,7 @@
-//! Records over a small listing: what is read of each line. What is no record is refused in tests/texts, through the built
-//! program.
+//! Records that are written, over a small listing, which no command does. What is read of a record, and what is none, is told in
+//! tests/texts, tests/policies and tests/replay, through the built program.
 
-mod lines;
+mod answers;
 mod writing;
 
 ghost use Rattle.std.specs.Prelude.{◌<◌, ◌^◌, length, IfOk};
@@ -9,7 +9,6 @@ ghost use Rattle.std.specs.Prelude.{◌<◌, ◌^◌, length, IfOk};
 use api_listing::Listing;
 use event_record::{Record, read_record};
 use listing_text::read;
-use mon_base::{Bytes, NoMemory};
 use std::alloc::Global;
 use std::test::Fail;
 
@@ -35,17 +34,4 @@ pub fn record_of(alloc: Global, text: &[u8]) -> Result<Record, Fail> {
         Ok(record) => Ok(record),
         Err(_) => Err("the text is a record".into()),
     }
-}
-
-/// The line before the end line.
-fn with_end(alloc: Global, line: &str) -> Result<Bytes, NoMemory> {
-    let mut text = Bytes::from_slice(alloc, line.as_bytes())?;
-    text.extend(b"\nend running 0\n")?;
-    Ok(text)
-}
-
-/// The record of one line before the end line.
-pub fn record_with(alloc: Global, line: &str) -> Result<Record, Fail> {
-    let text = with_end(alloc, line)?;
-    record_of(alloc, text.as_slice())
 }

@@ -1,6 +1,6 @@
 //! Records that are written: how steps are joined, each answer, each end, and a run that is read again.
 
-use super::{lines, listing, record_of};
+use super::{answers, listing, record_of};
 use api_listing::{ApiAnswer, ApiValue, Event};
 use event_record::{EndLine, Line, record_text};
 use guest_model::{Choice, Step};
@@ -75,14 +75,14 @@ fn no_steps_are_joined_over_an_event(rt: HostRuntime) -> Result<(), Fail> {
 /// A plain step of the thread 7, the answer of the line in this place, and a plain step.
 fn put_answer(lines: &mut List<Line>, alloc: Global, place: usize) -> Result<(), NoMemory> {
     go(lines, 7, 1)?;
-    let answer = lines::answer(alloc, place)?;
+    let answer = answers::answer(alloc, place)?;
     lines.push(line(7, Choice::Answer(answer), None))?;
     go(lines, 7, 1)
 }
 
 /// Their text, with the line of the answer.
 fn text_around(alloc: Global, words: &str) -> Result<Bytes, NoMemory> {
-    let mut text = lines::bytes(alloc, b"go 7 1\n")?;
+    let mut text = answers::bytes(alloc, b"go 7 1\n")?;
     text.extend(words.as_bytes())?;
     text.extend(b"\ngo 7 1\nend running 3\n")?;
     Ok(text)
@@ -98,7 +98,7 @@ fn is_written_as(alloc: Global, place: usize, words: &str) -> Result<bool, Fail>
 
 #[test]
 fn answers_stand_between_plain_steps(rt: HostRuntime) -> Result<(), Fail> {
-    for (place, words) in lines::ANSWERS.iter().enumerate() {
+    for (place, words) in answers::ANSWERS.iter().enumerate() {
         assert!(&rt; is_written_as(rt.alloc(), place, words)?, "{words}");
     }
     Ok(())
@@ -143,7 +143,7 @@ fn put_number_call(lines: &mut List<Line>, alloc: Global) -> Result<(), NoMemory
 /// The arguments of a call, a number and a text.
 fn put_args(args: &mut List<ApiValue>, alloc: Global) -> Result<(), NoMemory> {
     args.push(ApiValue::Int(-5))?;
-    args.push(ApiValue::Text(lines::bytes(alloc, b"hi")?))
+    args.push(ApiValue::Text(answers::bytes(alloc, b"hi")?))
 }
 
 /// A call with arguments.
@@ -160,7 +160,7 @@ fn put_text_call(lines: &mut List<Line>, alloc: Global) -> Result<(), NoMemory> 
 
 /// An exception, and an answer that is nothing.
 fn put_throw(lines: &mut List<Line>, alloc: Global) -> Result<(), NoMemory> {
-    let broken = lines::bytes(alloc, b"api/Broken")?;
+    let broken = answers::bytes(alloc, b"api/Broken")?;
     let thrown = Event::Except {
         thread: 1,
         method: 3,
