@@ -5,7 +5,7 @@ use crate::typing::Typing;
 use mon_base::List;
 
 /// How blocks use the lock.
-#[derive(Clone, Copy, Debug, PartialEq, Eq)]
+#[derive(Clone, Copy)]
 pub enum Mode {
     /// A block holds the lock over the call.
     Hold,

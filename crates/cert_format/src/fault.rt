@@ -9,7 +9,7 @@ use std::alloc::{AllocError, AllocFailed};
 use thiserror::Error;
 
 /// Why bytes are no certificate.
-#[derive(Clone, Copy, Debug, PartialEq, Eq, Error)]
+#[derive(Clone, Copy, Debug, Error)]
 pub enum CertForm {
     /// What stands here fits none, the first in the order of reading. `at` counts the bytes before it.
     #[error("no certificate from {at} on")]

@@ -3,7 +3,7 @@
 use mon_base::List;
 
 /// The event that a clause is about: before a call, after its return, or after its exception.
-#[derive(Clone, Copy, PartialEq, Eq)]
+#[derive(Clone, Copy)]
 pub enum Phase8 {
     Before,
     After,
@@ -11,7 +11,7 @@ pub enum Phase8 {
 }
 
 /// What a block is about: a method by its place in the listing, the phase, and the first local that the block may use.
-#[derive(Clone, Copy, PartialEq, Eq)]
+#[derive(Clone, Copy)]
 pub struct Site {
     pub method: u16,
     pub phase: Phase8,
@@ -19,7 +19,7 @@ pub struct Site {
 }
 
 /// A number on the stack, or the value that a field has, told by numbers that stood when the lock was taken.
-#[derive(Clone, Copy, PartialEq, Eq)]
+#[derive(Clone, Copy)]
 pub enum Term {
     /// This number.
     Const(i32),

@@ -8,7 +8,7 @@ use std::alloc::{AllocError, AllocFailed};
 use thiserror::Error;
 
 /// What is wrong with the bytes, the first in the order of reading. `at` counts the bytes of the file before it.
-#[derive(Clone, Copy, Debug, PartialEq, Eq, Error)]
+#[derive(Clone, Copy, Debug, Error)]
 pub enum ClassFault {
     /// The file does not begin with 0xCAFEBABE.
     #[error("no class file")]

@@ -8,7 +8,7 @@ use std::alloc::{AllocError, AllocFailed};
 use thiserror::Error;
 
 /// What is wrong with the text. `line` counts from 1.
-#[derive(Clone, Copy, Debug, PartialEq, Eq, Error)]
+#[derive(Clone, Copy, Debug, Error)]
 pub enum RecordFault {
     /// The first line that has no form of a record, that brings the steps above 1,000,000, that stands behind the end line,
     /// or that has no newline behind it; or the line behind the last, where there is no end line.

@@ -12,7 +12,7 @@ use thiserror::Error;
 ///
 /// `Opcode`, `Cut`, `LeftOut` and `Form` are the first in the order of reading. `Target` comes only where there is
 /// none of these, and `End` only where there is no `Target` either.
-#[derive(Clone, Copy, Debug, PartialEq, Eq, Error)]
+#[derive(Clone, Copy, Debug, Error)]
 pub enum CodeFault {
     /// The opcode stands in no code of version 49.
     #[error("opcode {op} at {at}")]
@@ -62,7 +62,7 @@ impl<T: Drop> From<AllocFailed<T>> for CodeFault {
 }
 
 /// Why instructions cannot be written as the code of a method.
-#[derive(Clone, Copy, Debug, PartialEq, Eq, Error)]
+#[derive(Clone, Copy, Debug, Error)]
 pub enum CodeOverflow {
     /// The code has this many bytes, more than 65,535.
     #[error("{value} bytes of code")]

@@ -9,7 +9,7 @@ use thiserror::Error;
 
 /// What is wrong with the text: that of the first line that is wrong, and there the first of these. `line` counts
 /// from 1.
-#[derive(Clone, Copy, Debug, PartialEq, Eq, Error)]
+#[derive(Clone, Copy, Debug, Error)]
 pub enum ListFault {
     /// The line has none of the five forms, or it is the last and has no newline behind it.
     #[error("line {line} has no form of a listing")]
