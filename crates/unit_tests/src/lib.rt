@@ -1,5 +1,5 @@
-//! Tests of what no command shows: stores and sinks, copies of class files, and records that are written; and the bytes that they
-//! begin with, as tests write them.
+//! Tests of what no command shows: stores and sinks in memory, copies of class files, and records that are written; and the bytes
+//! that they begin with, as tests write them.
 #![tactic(auto)]
 
 mod bytes;

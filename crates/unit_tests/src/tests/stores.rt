@@ -1,12 +1,12 @@
-//! One use of each public call, and a store that fails at each of its calls in turn.
+//! A store and a sink in memory, which fail at each of their calls in turn. Real files and standard output are those of the built
+//! program, in tests/commands.
 
 use mon_base::{Bytes, List, NoMemory};
 use mon_store::{
-    DirStore, MemSink, MemStore, OutSink, Output, ReadFault, Sink, SinkFault, Store, StoreFault,
-    WriteFault, names_differ, read_file, write_all,
+    MemSink, MemStore, Output, ReadFault, Sink, SinkFault, Store, StoreFault, WriteFault,
+    names_differ, read_file, write_all,
 };
 use std::alloc::Global;
-use std::process::Abort;
 use std::test::Fail;
 
 /// Each file's bytes behind its name.
@@ -254,63 +254,4 @@ fn a_sink_takes_what_it_does_not_fail_at(rt: HostRuntime) -> Result<(), Fail> {
     assert!(rt; sink.put(b"three").is_ok());
     assert!(rt; sink.text().as_slice() == b"one three".as_slice());
     Ok(())
-}
-
-#[test]
-fn real_files_are_written_and_read_back(rt: HostRuntime) -> Result<(), Fail> {
-    let mut store = DirStore::new(&rt);
-    is_written_anew(&rt, rt.alloc(), &mut store)?;
-    others_fail(&rt, rt.alloc(), &mut store)
-}
-
-/// A file is written twice, and read under two limits.
-fn is_written_anew(rt: &impl Abort, alloc: Global, store: &mut impl Store) -> Result<(), Fail> {
-    let name = Bytes::from_slice(alloc, b"out/deep/er/file")?;
-    assert!(rt; store.write(&name, &[5u8; 5000]).is_ok());
-    assert!(rt; store.write(&name, b"written anew").is_ok());
-    assert!(rt; store.size(&name) == Ok(12));
-    assert!(rt; holds(alloc, store, &name, b"written anew"));
-    let fault = read_file(alloc, store, &name, 11).err();
-    assert!(rt; fault == Some(ReadFault::TooLong { len: 12 }));
-    Ok(())
-}
-
-/// Whether the file, read under its length, holds these bytes.
-fn holds(alloc: Global, store: &mut impl Store, name: &Bytes, bytes: &[u8]) -> bool {
-    match read_file(alloc, store, name, bytes.len() as u64) {
-        Ok(read) => read.as_slice() == bytes,
-        Err(_) => false,
-    }
-}
-
-/// There is no file of one name, a folder of another, and the last is no text.
-fn others_fail(rt: &impl Abort, alloc: Global, store: &mut impl Store) -> Result<(), Fail> {
-    assert!(rt; size_of(alloc, store, b"out/none")? == Err(StoreFault::Absent));
-    assert!(rt; put(alloc, store, b"out/deep")? == Err(StoreFault::Failed));
-    assert!(rt; size_of(alloc, store, &[0xff])? == Err(StoreFault::Failed));
-    Ok(())
-}
-
-fn size_of(
-    alloc: Global,
-    store: &mut impl Store,
-    name: &[u8],
-) -> Result<Result<u64, StoreFault>, NoMemory> {
-    let name = Bytes::from_slice(alloc, name)?;
-    Ok(store.size(&name))
-}
-
-fn put(
-    alloc: Global,
-    store: &mut impl Store,
-    name: &[u8],
-) -> Result<Result<(), StoreFault>, NoMemory> {
-    let name = Bytes::from_slice(alloc, name)?;
-    Ok(store.write(&name, b"no file"))
-}
-
-#[test]
-fn standard_output_takes_a_text(rt: HostRuntime) {
-    let mut sink = OutSink::new(&rt);
-    assert!(rt; sink.put(b"a line\n").is_ok());
 }
