@@ -40,13 +40,18 @@ def library(name):
     return f"{TOP}/crates/{name}/{LIBRARIES}/{name}.rlib"
 
 
+def kit_words(name, root):
+    """The words for a command of the checker over the kit's standard library alone, for a crate with this root file."""
+    found = ["--crate-name", name, root, "--links", f"{name}="]
+    found += ["--antt-project", f"{KIT}/rattle/logic/antt-project.json", "--logic-built", f"{KIT}/logic_built"]
+    return [*found, "-L", f"dependency={KIT}/rlibs", "--extern", f"std={KIT}/rlibs/std.rlib"]
+
+
 def words(name):
     """The words for a command of the checker in the folder of the crate, over the built libraries below it."""
     rows = named()
-    found = ["--crate-name", name, "src/main.rt" if is_program(name) else "src/lib.rt", "--links", f"{name}="]
-    found += ["--antt-project", f"{KIT}/rattle/logic/antt-project.json", "--logic-built", f"{KIT}/logic_built"]
-    found += ["-L", f"dependency={KIT}/rlibs"]
-    for low in ["std", *rows[name]]:
+    found = kit_words(name, "src/main.rt" if is_program(name) else "src/lib.rt")
+    for low in rows[name]:
         found += ["--extern", f"{low}={library(low) if low in rows else f'{KIT}/rlibs/{low}.rlib'}"]
     for low in sorted(below(name)):
         found += ["-L", f"dependency={os.path.dirname(library(low))}"]
